@@ -1,0 +1,4 @@
+pub mod TextLemmas
+pub mod ClusterLemmas
+pub mod EventLemmas
+pub mod SwapLemmas

@@ -1,0 +1,11 @@
+//! What a line of text and its listeners share: places in a text, events, and the traits that hear them.
+#![tactic(auto)]
+
+pub mod layout;
+pub mod listeners;
+pub mod motion;
+pub mod places;
+
+pub use layout::GraphemeClusterMode;
+pub use listeners::{ChangeListener, DeleteListener, Direction, NoListener, Refusal};
+pub use motion::RepeatCount;

@@ -1,0 +1,23 @@
+//! Places in a text, in bytes.
+ghost use Rattle.std.specs.Prelude.{◌≡◌, ◌≤◌, IfSome};
+ghost use Rattle.std.specs.Str.{IsCharBoundary};
+ghost use Rattle.rl_base.specs.Clusters.{prev_pos};
+
+use crate::motion::RepeatCount;
+use unicode_segmentation::UnicodeSegmentation;
+
+/// The byte place before the last `n` grapheme clusters (UAX #29) of what stands before `pos`, or before
+/// all of them where there are fewer. None at the start and for `n` = 0.
+pub fn prev_pos(text: &str, pos: usize, n: RepeatCount) -> Option<usize>
+    requires { IsCharBoundary text.now pos }
+    ensures value { result ≡ prev_pos text.now pos n }
+    ensures before { IfSome result (λ place. place ≤ pos) }
+    ensures boundary { IfSome result (IsCharBoundary text.now) }
+{
+    if n == 0 || pos == 0 {
+        return None;
+    }
+    let mut clusters = text[..pos].graphemes(true);
+    let _ = clusters.nth_back(usize::from(n) - 1);
+    Some(clusters.as_str().len())
+}
