@@ -1,0 +1,4 @@
+pub mod EditLemmas
+pub mod PlanLemmas
+pub mod RecordLemmas
+pub mod UndoLemmas

@@ -1,0 +1,60 @@
+-- What an edit does: its steps, each one event and the cursor after it, the cursor at the end, and its answer.
+use Rattle.std.specs.Prelude.{◌≡◌, ℕ, List, [], ◌∷◌, ◌++◌, Option, Some, option_and_then, ◌⊎◌}
+use Rattle.rl_base.specs.Event.{Event, apply}
+use Rattle.rl_base.specs.declared.listeners.Refusal.{Refusal}
+use Rattle.rl_base.specs.declared.listeners.Refusal.TheVariants.{NoMemory}
+use Rattle.rl_line.specs.Line.{Line, stepped}
+
+-- an event, and the cursor after it
+abbrev pub Step : Type 0
+Step = Event × ℕ
+
+pub record Plan (A : Type 0) : Type 0 where
+  pub steps : List Step
+  pub cursor : ℕ
+  pub answer : A
+
+-- no step
+abbrev pub nothing : {A : Type 0} → Line → A → Plan A
+nothing line answer = record { steps = []; cursor = line.cursor; answer = answer }
+
+-- one step, which leaves the cursor at its place
+abbrev pub single : {A : Type 0} → Event → ℕ → A → Plan A
+single event cursor answer = record { steps = (event, cursor) ∷ []; cursor = cursor; answer = answer }
+
+-- the line after the steps, where each event fits its text
+abbrev pub after : List Step → Line → Option Line
+after [] line = Some line
+after (s ∷ ss) line = option_and_then (λ text. after ss (stepped line text s.1)) (apply s.0 line.text)
+
+-- the refusals of a listener, and want of memory, of which the listener hears nothing
+abbrev pub or_no_memory : {L : Type 0} → (L → Event → Refusal → L → Type 0) → L → Event → Refusal → L → Type 0
+or_no_memory refused before event r now = ((r ≡ NoMemory) × (now ≡ before)) ⊎ refused before event r now
+
+module _ {L : Type 0} (step : L → Event → L) where
+  -- the listener after the events of the steps
+  abbrev pub heard : List Step → L → L
+  heard [] l = l
+  heard (s ∷ ss) l = heard ss (step l s.0)
+
+  -- the steps were taken: the line and the listener went through the same events
+  pub record Taken (steps : List Step) (old new : Line) (before now : L) : Type 0 where
+    pub line : after steps old ≡ Some new
+    pub listener : now ≡ heard steps before
+
+  -- the whole plan was carried out
+  pub record Done {A : Type 0} (plan : Plan A) (old new : Line) (before now : L) (answer : A) : Type 0 where
+    pub last : Line
+    pub taken : Taken plan.steps old last before now
+    pub line : new ≡ record last { cursor = plan.cursor }
+    pub answered : answer ≡ plan.answer
+
+  -- the first steps were taken, and the next one was refused
+  pub record Halted {A : Type 0} (refused : L → Event → Refusal → L → Type 0) (plan : Plan A) (old new : Line) (before now : L) (r : Refusal) : Type 0 where
+    pub first : List Step
+    pub next : Step
+    pub others : List Step
+    pub split : plan.steps ≡ first ++ next ∷ others
+    pub middle : L
+    pub taken : Taken first old new before middle
+    pub cause : refused middle next.0 r now

@@ -1,0 +1,9 @@
+//! A line of text with a cursor, whose edits are told to a listener, and the record that undoes them.
+#![tactic(auto)]
+
+mod change;
+pub mod line_buffer;
+pub mod undo;
+
+pub use line_buffer::{LineBuffer, MAX_LINE};
+pub use undo::Changeset;

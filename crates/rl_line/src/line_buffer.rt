@@ -1,0 +1,256 @@
+//! The line: its text, its cursor, and the few steps through which every change of its text goes.
+ghost use Rattle.std.specs.Prelude.{◌≡◌, ℕ, [], ◌∷◌, ◌^◌, ◌<◌, ◌≤◌, ◌↔◌, false, map, length, slice_range, encode_utf8, IsTrue, IsSome, IfOk, IfErr, OnOk, OnErr};
+ghost use Rattle.std.specs.Str.{IsCharBoundary, IsUtf8};
+ghost use Rattle.std.specs.String.{string_bytes};
+ghost use Rattle.std.specs.List.{insert_slice, remove_range};
+ghost use Rattle.rl_base.specs.Event.{InsertChar, InsertStr, Delete};
+ghost use Rattle.rl_base.specs.declared.listeners.Refusal.TheVariants.{NoMemory};
+ghost use Rattle.rl_line.specs.Line.{stepped};
+ghost use Rattle.rl_line.specs.Plan.{Taken, or_no_memory};
+ghost use Rattle.rl_line.specs.Record.{entry_of};
+ghost use Rattle.rl_line.specs.Undo.{line_back};
+
+mod edits;
+
+use crate::change::{Change, greatest_len_back, take_back};
+use rl_base::{ChangeListener, DeleteListener, Direction, Refusal};
+use std::alloc::Global;
+use std::fmt;
+use std::marker::Model;
+
+/// The length in bytes that a line of an editor is made for.
+pub const MAX_LINE: usize = 4096;
+
+/// A text, a cursor in it, and a limit on the text's length, all in bytes.
+///
+/// The cursor always stands between two characters, at most at the end, and the text is never longer than
+/// the limit. Only `insert` asks whether a text gets too long: where the line may not grow, it is not made
+/// longer than the limit. Whatever else makes the text longer raises the limit.
+#[derive(Drop)]
+pub struct LineBuffer {
+    buf: String,
+    pos: usize,
+    limit: usize,
+    can_growth: bool,
+}
+
+impl Model for LineBuffer {
+    ghost use Rattle.rl_line.specs.Line.{Line, IsLine};
+    ghost use Rattle.std.specs.String.{string_bytes};
+
+    ghost Value = { Line };
+
+    ghost view = { λ b. record { text = string_bytes b.buf; cursor = b.pos; limit = b.limit; grow = b.can_growth } };
+
+    ghost invariant = { λ b. IsLine (string_bytes b.buf) b.pos b.limit };
+}
+
+impl fmt::Debug for LineBuffer {
+    fn fmt<W: fmt::Write>(&self, f: &mut fmt::Formatter<W>) -> fmt::Result {
+        let buf = self.as_str();
+        let pos = self.pos();
+        write!(f, "LineBuffer {{ buf: {buf:?}, pos: {pos} }}")
+    }
+}
+
+impl LineBuffer {
+    /// An empty line of that limit, with room for as many bytes, that may not grow.
+    pub fn with_capacity(alloc: Global, capacity: usize) -> Result<Self, Refusal>
+        ensures ok { IfOk result (λ line. line ≡ record { text = []; cursor = 0; limit = capacity; grow = false }) }
+        ensures err { IfErr result (λ r. r ≡ NoMemory) }
+    {
+        match String::with_capacity(alloc, capacity) {
+            Ok(buf) => Ok(LineBuffer {
+                buf,
+                pos: 0,
+                limit: capacity,
+                can_growth: false,
+            }),
+            Err(_) => Err(Refusal::NoMemory),
+        }
+    }
+
+    /// The line, with leave to grow past its limit, or without.
+    pub fn can_growth(self, can_growth: bool) -> Self
+        ensures { result ≡ record self { grow = can_growth } }
+    {
+        let mut line = self;
+        line.can_growth = can_growth;
+        line
+    }
+
+    /// The text.
+    pub fn as_str(&self) -> &str
+        ensures { result.now ≡ self.now.text }
+    {
+        self.buf.as_str()
+    }
+
+    /// The text, with the line used up.
+    pub fn into_string(self) -> String
+        ensures { string_bytes result ≡ self.text }
+    {
+        let LineBuffer {
+            buf,
+            pos: _,
+            limit: _,
+            can_growth: _,
+        } = self;
+        buf
+    }
+
+    /// The byte place of the cursor.
+    pub fn pos(&self) -> usize
+        ensures place { result ≡ self.now.cursor }
+        ensures boundary { IsCharBoundary self.now.text result }
+        ensures utf8 { IsUtf8 self.now.text }
+        ensures fits { result < 2 ^ 63 }
+    {
+        self.pos
+    }
+
+    /// The length of the text, in bytes.
+    pub fn len(&self) -> usize
+        ensures len { result ≡ length self.now.text }
+        ensures fits { result < 2 ^ 63 }
+    {
+        self.buf.len()
+    }
+
+    /// The limit on the text's length, in bytes.
+    pub fn limit(&self) -> usize
+        ensures limit { result ≡ self.now.limit }
+        ensures within { length self.now.text ≤ result }
+    {
+        self.limit
+    }
+
+    /// Whether there is no text.
+    pub fn is_empty(&self) -> bool
+        ensures { IsTrue result ↔ (self.now.text ≡ []) }
+    {
+        self.buf.is_empty()
+    }
+
+    /// Whether the cursor stands at the end of the text.
+    pub fn is_cursor_at_end(&self) -> bool
+        ensures { IsTrue result ↔ (self.now.cursor ≡ length self.now.text) }
+    {
+        self.pos == self.buf.len()
+    }
+
+    /// Moves the cursor to a byte place, which `as_str().is_char_boundary` tests.
+    pub fn set_pos(&mut self, pos: usize)
+        requires { IsCharBoundary self.old.text pos }
+        ensures { self.new ≡ record self.old { cursor = pos } }
+    {
+        self.pos = pos;
+    }
+
+    // One step: finds room, reports, and then puts a text in, which can't fail any more.
+    #[tactic(auto, using(rl_base::proofs::EventLemmas::fitting))]
+    fn put_str<L: ChangeListener>(
+        &mut self,
+        idx: usize,
+        text: &str,
+        cursor: usize,
+        listener: &mut L,
+    ) -> Result<(), Refusal>
+        requires place { IsCharBoundary self.old.text idx }
+        requires boundary { IsCharBoundary (insert_slice self.old.text idx text.now) cursor }
+        ensures taken { OnOk result (Taken L.step ((InsertStr idx text.now, cursor) ∷ []) self.old self.new listener.old listener.new) }
+        ensures line { OnOk result (self.new ≡ stepped self.old (insert_slice self.old.text idx text.now) cursor) }
+        ensures kept { OnErr result (self.new ≡ self.old) }
+        ensures cause { IfErr result (λ r. or_no_memory L.refused listener.old (InsertStr idx text.now) r listener.new) }
+    {
+        if self.buf.reserve(text.len()).is_err() {
+            return Err(Refusal::NoMemory);
+        }
+        listener.insert_str(idx, text)?;
+        match self.buf.insert_str(idx, text) {
+            Ok(()) => {}
+            Err(_) => unreachable!(),
+        }
+        self.pos = cursor;
+        self.limit = self.limit.max(self.buf.len());
+        Ok(())
+    }
+
+    // The same step with one character.
+    #[tactic(auto, using(rl_base::proofs::EventLemmas::fitting))]
+    fn put_char<L: ChangeListener>(
+        &mut self,
+        idx: usize,
+        c: char,
+        cursor: usize,
+        listener: &mut L,
+    ) -> Result<(), Refusal>
+        requires place { IsCharBoundary self.old.text idx }
+        requires boundary { IsCharBoundary (insert_slice self.old.text idx (encode_utf8 c)) cursor }
+        ensures taken { OnOk result (Taken L.step ((InsertChar idx c, cursor) ∷ []) self.old self.new listener.old listener.new) }
+        ensures line { OnOk result (self.new ≡ stepped self.old (insert_slice self.old.text idx (encode_utf8 c)) cursor) }
+        ensures kept { OnErr result (self.new ≡ self.old) }
+        ensures cause { IfErr result (λ r. or_no_memory L.refused listener.old (InsertChar idx c) r listener.new) }
+    {
+        if self.buf.reserve(c.len_utf8()).is_err() {
+            return Err(Refusal::NoMemory);
+        }
+        listener.insert_char(idx, c)?;
+        match self.buf.insert(idx, c) {
+            Ok(()) => {}
+            Err(_) => unreachable!(),
+        }
+        self.pos = cursor;
+        self.limit = self.limit.max(self.buf.len());
+        Ok(())
+    }
+
+    // One step: reports what is to go, and then takes it out. It needs no room.
+    #[tactic(auto, using(rl_base::proofs::EventLemmas::fitting))]
+    fn take_out<L: DeleteListener>(
+        &mut self,
+        from: usize,
+        to: usize,
+        dir: Direction,
+        listener: &mut L,
+    ) -> Result<(), Refusal>
+        requires order { from ≤ to }
+        requires start { IsCharBoundary self.old.text from }
+        requires end { IsCharBoundary self.old.text to }
+        ensures taken { OnOk result (Taken L.step ((Delete from (slice_range self.old.text from to) dir, from) ∷ []) self.old self.new listener.old listener.new) }
+        ensures line { OnOk result (self.new ≡ stepped self.old (remove_range self.old.text from to) from) }
+        ensures kept { OnErr result (self.new ≡ self.old) }
+        ensures cause { IfErr result (λ r. L.refused listener.old (Delete from (slice_range self.old.text from to) dir) r listener.new) }
+    {
+        listener.delete(from, &self.buf.as_str()[from..to], dir)?;
+        match self.buf.replace_range(from..to, "") {
+            Ok(()) => {}
+            Err(_) => unreachable!(),
+        }
+        self.pos = from;
+        Ok(())
+    }
+
+    // Goes back over the changes, the last first. It finds the room for the longest text on the way before it changes anything.
+    pub(crate) fn take_back_all(&mut self, changes: &[Change]) -> Result<(), Refusal>
+        requires { IsSome (line_back (map entry_of changes.now) self.old) }
+        ensures ok { OnOk result (line_back (map entry_of changes.now) self.old ≡ Some self.new) }
+        ensures err { IfErr result (λ r. (r ≡ NoMemory) × (self.new ≡ self.old)) }
+    {
+        let len = self.buf.len();
+        let greatest = match greatest_len_back(changes, len) {
+            Some(greatest) => greatest,
+            None => return Err(Refusal::NoMemory),
+        };
+        if self.buf.reserve(greatest.saturating_sub(len)).is_err() {
+            return Err(Refusal::NoMemory);
+        }
+        let mut left = changes.len();
+        while left > 0 {
+            left -= 1;
+            self.pos = take_back(&mut self.buf, &changes[left]);
+            self.limit = self.limit.max(self.buf.len());
+        }
+        Ok(())
+    }
+}
