@@ -1,4 +1,5 @@
 pub mod EditLemmas
+pub mod OriginLemmas
 pub mod PlanLemmas
 pub mod RecordLemmas
 pub mod UndoLemmas

@@ -36,6 +36,10 @@ inverse-inverse (Replaced i s t) = refl
 pub undoes-inverse : (e : Entry) (x y : List ℕ) → IsUtf8 y → apply (event_of (inverse e)) y ≡ Some x → apply (event_of e) x ≡ Some y
 undoes-inverse e x y u h = ap (λ k. apply (event_of k) x) (sym (inverse-inverse e)) ∙ inverse-undoes (inverse e) y x u h
 
+pub replay-IsUtf8 : (es : List Entry) (x y : List ℕ) → IsUtf8 x → replay_entries es x ≡ Some y → IsUtf8 y
+replay-IsUtf8 [] x y u h = let e : x ≡ y = cc in subst IsUtf8 e u
+replay-IsUtf8 (e ∷ es) x y u h = let p = through (replay_entries es) (apply (event_of e) x) y h in replay-IsUtf8 es p.0 y (apply-IsUtf8 (event_of e) x p.0 u p.1) p.2
+
 pub unwind-IsUtf8 : (es : List Entry) (y x : List ℕ) → IsUtf8 y → unwind es y ≡ Some x → IsUtf8 x
 unwind-IsUtf8 [] y x u h = let e : y ≡ x = cc in subst IsUtf8 e u
 unwind-IsUtf8 (e ∷ es) y x u h =

@@ -1,0 +1,22 @@
+use Rattle.std.proofs.Common.{arith, ◌≡◌, ◌+◌, ◌∙◌, ◌++◌, ◌∷◌, [], true, ap}
+use Rattle.std.proofs.lemmas.Grind.{take_at_read}
+use Rattle.std.proofs.lemmas.List.{take_all}
+use Rattle.std.specs.Prelude.{is_ok}
+use Rattle.rl_session.specs.declared.session.Command.TheVariants.{SetPos}
+use Rattle.rl_session.proofs.SessionLemmas.{Run-none, Run-more, run_replays}
+use Rattle.rl_session.proofs.session.Session.run.Goals as goal
+
+pub loop-command-preserved : goal.loop-command-preserved
+loop-command-preserved c =
+    let pushed : is_ok c.push.result ≡ true = c.if-is_err.ensures.negation in
+    let items : c.push.new.self.items ≡ c.loop-command.replies.items ++ c.apply-reply.result ∷ [] = rw pushed at c.push.ensures.items in
+    let len = rw pushed at c.push.ensures.len in
+    record {
+      run = rw (items, (take_at_read c.args.commands.now c.loop-command.command-index (SetPos 0) c.loop-command-test.true).1)
+          (Run-more _ _ _ _ _ c.loop-command.self _ c.loop-command.invariant.run c.apply-reply.ensures.step);
+      count = len ∙ ap (λ n. n + 1) c.loop-command.invariant.count;
+      room = omega (arith, c.loop-command.invariant.room, c.push.ensures.capacity);
+    }
+
+pub returns-clause-replays : goal.returns-clause-replays
+returns-clause-replays c = λ start. run_replays start _ _ _ _ c.loop-command.invariant.run

@@ -1,0 +1,5 @@
+use Rattle.rl_session.proofs.SessionLemmas.{each_row}
+use Rattle.rl_session.proofs.session.each_row_replays.Goals as goal
+
+pub returns : goal.returns
+returns c = each_row

@@ -1,0 +1,52 @@
+-- What each command does.
+use Rattle.std.specs.Prelude.{◌≡◌, ℕ, Bool}
+use Rattle.std.specs.Str.{IsCharBoundary}
+use Rattle.rl_base.specs.Event.{Event}
+use Rattle.rl_base.specs.declared.listeners.Refusal.{Refusal}
+use Rattle.rl_base.specs.declared.listeners.Refusal.TheVariants as why
+use Rattle.rl_line.specs.Plan.{Plan, Done, Halted}
+use Rattle.rl_line.specs.Edits.{insert_plan, backspace_plan}
+use Rattle.rl_line.specs.Record.{Record, record_step}
+use Rattle.rl_line.specs.Undo.{Undone}
+use Rattle.rl_session.specs.declared.session.Command.{Command}
+use Rattle.rl_session.specs.declared.session.Command.TheVariants.{SetPos, Insert, Backspace, Undo}
+use Rattle.rl_session.specs.declared.session.Fault.TheVariants.{NoMemory, BadPlace}
+use Rattle.rl_session.specs.declared.session.Reply.{Reply}
+use Rattle.rl_session.specs.declared.session.Reply.TheVariants as says
+use Rattle.rl_session.specs.State.{State}
+
+-- the record refuses for want of memory alone, and stays as it was then
+abbrev pub out_of_memory : Record → Event → Refusal → Record → Type 0
+out_of_memory r _ refusal now = (refusal ≡ why.NoMemory) × (now ≡ r)
+
+-- nothing but the line and the record may have changed
+abbrev pub KeepsSettings : State → State → Type 0
+KeepsSettings old new = new ≡ record old { line = new.line; changes = new.changes }
+
+-- an edit was done
+pub record Edited {A : Type 0} (plan : Plan A) (old new : State) (answer : A) : Type 0 where
+  pub done : Done record_step plan old.line new.line old.changes new.changes answer
+  pub settings : KeepsSettings old new
+
+-- an edit was refused for want of memory, after its first steps
+pub record Refused {A : Type 0} (plan : Plan A) (old new : State) : Type 0 where
+  pub halted : Halted record_step out_of_memory plan old.line new.line old.changes new.changes why.NoMemory
+  pub settings : KeepsSettings old new
+
+-- an undo was done
+pub record TookBack (n : ℕ) (old new : State) (answer : Bool) : Type 0 where
+  pub undone : Undone n old.changes new.changes old.line new.line answer
+  pub settings : KeepsSettings old new
+
+-- from old, the command may have this reply and lead to new
+abbrev pub Step : State → Command → Reply → State → Type 0
+Step old (SetPos q) says.Done new = IsCharBoundary old.line.text q × (new ≡ record old { line = record old.line { cursor = q } })
+Step old (SetPos q) (says.Refused BadPlace) new = (¬ (IsCharBoundary old.line.text q)) × (new ≡ old)
+Step old (Insert c n) (says.Inserted a) new = Edited (insert_plan old.line c n) old new a
+Step old (Insert c n) (says.Refused NoMemory) new = Refused (insert_plan old.line c n) old new
+Step old (Backspace n) (says.Answer a) new = Edited (backspace_plan old.line n) old new a
+Step old (Backspace n) (says.Refused NoMemory) new = Refused (backspace_plan old.line n) old new
+Step old (Undo n) (says.Answer a) new = TookBack n old new a
+Step old (Undo n) (says.Refused NoMemory) new = new ≡ old
+-- no other reply comes
+Step _ _ _ _ = ⊥

@@ -1,0 +1,68 @@
+-- Runs of a session, and the texts that its line held on the way.
+use Rattle.std.specs.Prelude.{◌≡◌, ℕ, List, [], ◌∷◌, ◌++◌, map, drop, reverse, Option, Some, None}
+use Rattle.rl_base.specs.Event.{Event, apply}
+use Rattle.rl_line.specs.Plan.{Step as PlanStep}
+use Rattle.rl_line.specs.Edits.{insert_plan, backspace_plan}
+use Rattle.rl_line.specs.Record.{Entry, event_of, inverse}
+use Rattle.rl_line.specs.Undo.{kept_by}
+use Rattle.rl_session.specs.declared.session.Command.{Command}
+use Rattle.rl_session.specs.declared.session.Command.TheVariants.{Insert, Backspace, Undo}
+use Rattle.rl_session.specs.declared.session.Fault.TheVariants.{NoMemory}
+use Rattle.rl_session.specs.declared.session.Reply.{Reply}
+use Rattle.rl_session.specs.declared.session.Reply.TheVariants as says
+use Rattle.rl_session.specs.State.{State}
+use Rattle.rl_session.specs.Commands.{Step}
+
+-- the texts after each of these events, from the text before, as far as they fit
+abbrev pub texts_after : List Event → List ℕ → List (List ℕ)
+texts_after [] text = []
+texts_after (e ∷ es) text = elim (apply e text) [ None ↦ [] | Some next ↦ next ∷ texts_after es next ]
+
+-- the texts after each of these steps of an edit
+abbrev pub texts_of_steps : List PlanStep → List ℕ → List (List ℕ)
+texts_of_steps steps text = texts_after (map (λ (s : PlanStep). s.0) steps) text
+
+-- the texts after each of these entries was taken back, the last first
+abbrev pub texts_back : List Entry → List ℕ → List (List ℕ)
+texts_back entries text = texts_after (map (λ (e : Entry). event_of (inverse e)) (reverse entries)) text
+
+-- the texts that a row held: after each step that was taken, or after each entry that was taken back
+abbrev pub held_in : (old : State) (command : Command) (reply : Reply) (new : State) → Step old command reply new → List (List ℕ)
+held_in old (Insert c n) (says.Inserted a) new s = texts_of_steps (insert_plan old.line c n).steps old.line.text
+held_in old (Insert c n) (says.Refused NoMemory) new s = texts_of_steps s.halted.first old.line.text
+held_in old (Backspace n) (says.Answer a) new s = texts_of_steps (backspace_plan old.line n).steps old.line.text
+held_in old (Backspace n) (says.Refused NoMemory) new s = texts_of_steps s.halted.first old.line.text
+held_in old (Undo n) (says.Answer a) new s = texts_back (drop (kept_by n old.changes) old.changes.recorded) old.line.text
+held_in _ _ _ _ _ = []
+
+-- a command of a run with its reply, and the states around it
+pub record Row : Type 0 where
+  pub before : State
+  pub command : Command
+  pub reply : Reply
+  pub after : State
+  pub step : Step before command reply after
+
+abbrev pub held : Row → List (List ℕ)
+held row = held_in row.before row.command row.reply row.after row.step
+
+abbrev pub held_of : List Row → List (List ℕ)
+held_of [] = []
+held_of (row ∷ rows) = held row ++ held_of rows
+
+-- the rows lead from old to new, each from where the one before it ended
+abbrev pub Leads : State → List Row → State → Type 0
+Leads old [] new = new ≡ old
+Leads old (row ∷ rows) new = (row.before ≡ old) × Leads row.after rows new
+
+-- the commands, one after another, had these replies
+pub record Run (old : State) (commands : List Command) (replies : List Reply) (new : State) : Type 0 where
+  pub rows : List Row
+  pub leads : Leads old rows new
+  pub asked : map (λ (row : Row). row.command) rows ≡ commands
+  pub answered : map (λ (row : Row). row.reply) rows ≡ replies
+
+-- the fact holds of the state after each row
+abbrev pub AfterEach : (State → Type 0) → List Row → Type 0
+AfterEach P [] = Unit {0}
+AfterEach P (row ∷ rows) = P row.after × AfterEach P rows
