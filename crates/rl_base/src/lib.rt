@@ -5,6 +5,8 @@ pub mod layout;
 pub mod listeners;
 pub mod motion;
 pub mod places;
+#[cfg(test)]
+mod tests;
 
 pub use layout::GraphemeClusterMode;
 pub use listeners::{ChangeListener, DeleteListener, Direction, NoListener, Refusal};

@@ -1,8 +1,7 @@
 -- The plans of the edits, by their cases. The lemmas name each number of the code by a variable and an
 -- equation, so that they fit what the code computed.
-use Rattle.std.proofs.Common.{◌≡◌, ℕ, ◌+◌, ◌*◌, Bool, true, false, List, zero, suc, length, length-append, take, slice_range, Some, None, refl, arith}
+use Rattle.std.proofs.Common.{◌≡◌, ℕ, ◌+◌, ◌*◌, Bool, true, false, List, zero, suc, length, length-append, slice_range, Some, None, refl, arith}
 use Rattle.std.specs.Prelude.{Option, encode_utf8, ◌==◌}
-use Rattle.rl_base.specs.Clusters.{prev_pos}
 use Rattle.rl_base.specs.declared.listeners.Direction.TheVariants.{Backward}
 use Rattle.rl_base.specs.Event.{Delete}
 use Rattle.rl_line.specs.Line.{Line}

@@ -1,5 +1,5 @@
 -- The record of a line leads back to the same text, whatever was done.
-use Rattle.std.proofs.Common.{◌≡◌, ℕ, Bool, List, [], ◌∷◌, length, take, drop, Option, Some, refl, sym, ap, subst, ◌∙◌}
+use Rattle.std.proofs.Common.{◌≡◌, ℕ, Bool, List, [], ◌∷◌, take, drop, Option, Some, sym, ap, subst, ◌∙◌}
 use Rattle.std.proofs.lemmas.List.{take-append-drop}
 use Rattle.std.specs.Prelude.{option_and_then, IsSome}
 use Rattle.std.specs.Str.{IsUtf8}
@@ -8,8 +8,8 @@ use Rattle.rl_base.specs.Event.{Event, apply}
 use Rattle.rl_base.proofs.SwapLemmas.{apply-IsUtf8}
 use Rattle.rl_line.specs.Line.{Line, stepped}
 use Rattle.rl_line.specs.Plan.{Step, Plan, after, heard, Taken, Done, Halted}
-use Rattle.rl_line.specs.Record.{Entry, Record, event_of, inverse, record_step, unwind}
-use Rattle.rl_line.specs.Undo.{line_back, cursor_back, kept_by, Undone}
+use Rattle.rl_line.specs.Record.{Record, record_step, unwind}
+use Rattle.rl_line.specs.Undo.{kept_by, Undone}
 use Rattle.rl_line.proofs.RecordLemmas.{through, record_step-unwind, unwind-append, unwind-last, unwind-IsUtf8}
 use Rattle.rl_line.proofs.UndoLemmas.{line_back-text}
 
@@ -58,3 +58,14 @@ Kept-Undone n r now old new a u h d =
           ∙ sym (ap (λ e. unwind e old.text) (sym (take-append-drop k es)) ∙ unwind-append (take k es) (drop k es) old.text ∙ ap (option_and_then (unwind (take k es))) last.1);
       utf8 = subst IsUtf8 (sym text) (unwind-IsUtf8 (drop k es) old.text last.0 u last.1);
     }
+
+-- so the record can be unwound from the line's text again, after an edit and after an undo
+pub unwinds-Done : {A : Type 0} (plan : Plan A) (old new : Line) (r now : Record) (a : A) → IsUtf8 old.text → IsSome (unwind r.recorded old.text)
+    → Done record_step plan old new r now a → IsSome (unwind now.recorded new.text)
+unwinds-Done plan old new r now a u h d = subst IsSome (sym (Kept-Done plan r now old new a u d).origin_is) h
+
+pub unwinds-Undone : (n : ℕ) (r now : Record) (old new : Line) (a : Bool) → IsUtf8 old.text → IsSome (unwind r.recorded old.text) → Undone n r now old new a
+    → IsSome (unwind now.recorded new.text)
+unwinds-Undone n r now old new a u h d = subst IsSome (sym (Kept-Undone n r now old new a u h d).origin_is) h
+
+pub ruleset unwinding = (unwinds-Done, unwinds-Undone)

@@ -1,13 +1,13 @@
 -- A line that goes back over its recorded changes.
-use Rattle.std.proofs.Common.{◌≡◌, ℕ, ◌+◌, ◌-◌, ◌<◌, ◌≤◌, zero, suc, List, [], ◌∷◌, ◌++◌, length, take, drop, get_or, map, Option, Some, None, refl, sym, ap, subst, ◌∙◌, arith, add-one, take_all, drop-cons, append-nil, length-append, take_at, drop_at}
+use Rattle.std.proofs.Common.{◌≡◌, ℕ, ◌+◌, ◌<◌, ◌≤◌, zero, suc, List, [], ◌∷◌, ◌++◌, length, take, drop, get_or, map, Option, Some, None, refl, sym, ap, subst, ◌∙◌, arith, add-one, take_all, drop-cons}
 use Rattle.std.proofs.lemmas.Grind.{take_at_read}
-use Rattle.std.proofs.lemmas.List.{map-append, drop_all, length-take-le}
-use Rattle.std.specs.Prelude.{option_and_then, IsSome, max}
+use Rattle.std.proofs.lemmas.List.{map-append, drop_all}
+use Rattle.std.specs.Prelude.{option_and_then, IsSome}
 use Rattle.rl_base.specs.Event.{apply}
 use Rattle.rl_line.specs.declared.change.Change.{Change}
 use Rattle.rl_line.specs.Line.{Line, stepped}
 use Rattle.rl_line.specs.Record.{Entry, entry_of, event_of, inverse, unwind}
-use Rattle.rl_line.specs.Undo.{cursor_back, line_back, length_back, length_back_over, greatest_back_over}
+use Rattle.rl_line.specs.Undo.{cursor_back, line_back, length_back_over, greatest_back_over}
 use Rattle.rl_line.proofs.RecordLemmas.{through, IsSome-through, unwind-last}
 
 -- one entry back

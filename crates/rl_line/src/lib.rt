@@ -3,6 +3,8 @@
 
 mod change;
 pub mod line_buffer;
+#[cfg(test)]
+mod tests;
 pub mod undo;
 
 pub use line_buffer::{LineBuffer, MAX_LINE};

@@ -1,5 +1,5 @@
 -- What holds whatever a command answered, and how a run goes on.
-use Rattle.std.proofs.Common.{List, [], ◌∷◌, ◌++◌, Result, Ok, Err, ◌≡◌, ◌∙◌, ap, map, refl, subst, sym, append_assoc, append-nil, inl, inr, ◌⊎◌}
+use Rattle.std.proofs.Common.{List, [], ◌∷◌, ◌++◌, Result, Ok, Err, ◌≡◌, ◌∙◌, ap, map, refl, subst, sym, append_assoc, append-nil, inl, inr}
 use Rattle.std.proofs.lemmas.List.{map-append}
 use Rattle.std.proofs.lemmas.Str.{IsCharBoundary-start, IsUtf8-nil}
 use Rattle.std.specs.Prelude.{ℕ, Bool, false, max, length, option_and_then, IsSome, Some, IfOk, IfErr}
@@ -11,7 +11,7 @@ use Rattle.rl_base.specs.declared.listeners.Refusal.TheVariants as why
 use Rattle.rl_line.specs.Line.{Line, stepped}
 use Rattle.rl_line.specs.Plan.{Plan, after, Done, Halted, or_no_memory}
 use Rattle.rl_line.specs.Edits.{insert_str_plan}
-use Rattle.rl_line.specs.Record.{Record, record_step, unwind}
+use Rattle.rl_line.specs.Record.{Record, record_step}
 use Rattle.rl_line.specs.Undo.{Undone}
 use Rattle.rl_line.proofs.OriginLemmas.{Kept, Kept-Done, Kept-Halted, Kept-Undone}
 use Rattle.rl_line.proofs.RecordLemmas.{unwind-replay, replay-unwind, replay-IsUtf8}
@@ -21,7 +21,7 @@ use Rattle.rl_session.specs.declared.session.Fault.TheVariants.{NoMemory, BadPla
 use Rattle.rl_session.specs.declared.session.Reply.{Reply}
 use Rattle.rl_session.specs.declared.session.Reply.TheVariants as says
 use Rattle.rl_session.specs.State.{State, Replays, Follows}
-use Rattle.rl_session.specs.Commands.{Step, Edited, Refused, TookBack, out_of_memory}
+use Rattle.rl_session.specs.Commands.{Step, out_of_memory}
 use Rattle.rl_session.specs.Run.{Row, held, held_of, Leads, Run, AfterEach}
 
 -- a text that goes into an empty line

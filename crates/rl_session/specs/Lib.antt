@@ -1,3 +1,9 @@
 pub mod State
 pub mod Commands
 pub mod Run
+pub mod Grammar
+pub mod Reads
+pub mod Lines
+pub mod Print
+pub mod Script
+pub mod Progress

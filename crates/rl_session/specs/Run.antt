@@ -1,5 +1,5 @@
 -- Runs of a session, and the texts that its line held on the way.
-use Rattle.std.specs.Prelude.{◌≡◌, ℕ, List, [], ◌∷◌, ◌++◌, map, drop, reverse, Option, Some, None}
+use Rattle.std.specs.Prelude.{◌≡◌, ℕ, List, [], ◌∷◌, ◌++◌, map, drop, reverse, Some, None}
 use Rattle.rl_base.specs.Event.{Event, apply}
 use Rattle.rl_line.specs.Plan.{Step as PlanStep}
 use Rattle.rl_line.specs.Edits.{insert_plan, backspace_plan}

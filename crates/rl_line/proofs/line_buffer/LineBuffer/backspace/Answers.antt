@@ -1,6 +1,5 @@
-use Rattle.std.proofs.Common.{rules, sym, ap, ◌∙◌, ◌≡◌, Some, None}
+use Rattle.std.proofs.Common.{rules}
 use Rattle.std.proofs.lemmas.Result.{err_from_is_err_and}
-use Rattle.rl_base.specs.Clusters.{prev_pos}
 use Rattle.rl_line.proofs.EditLemmas.{delete_back_plan-nothing, delete_back_plan-some}
 use Rattle.rl_line.proofs.PlanLemmas.{Done-nothing, Done-single, Halted-single}
 use Rattle.rl_line.proofs.line_buffer.LineBuffer.backspace.Goals as goal

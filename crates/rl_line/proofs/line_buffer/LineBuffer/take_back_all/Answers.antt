@@ -1,8 +1,8 @@
-use Rattle.std.proofs.Common.{arith, ◌≡◌, ◌+◌, ◌-◌, ◌<◌, ◌≤◌, length, map, drop, refl, sym, ap, subst, ◌∙◌}
+use Rattle.std.proofs.Common.{arith, ◌≡◌, ◌+◌, ◌-◌, ◌<◌, length, map, drop, refl, sym, ap, subst, ◌∙◌}
 use Rattle.std.specs.String.{string_bytes, string_len}
 use Rattle.rl_line.specs.Line.{Line}
 use Rattle.rl_line.specs.Record.{entry_of}
-use Rattle.rl_line.specs.Undo.{length_back, length_back_over, greatest_back_over}
+use Rattle.rl_line.specs.Undo.{length_back, length_back_over}
 use Rattle.std.proofs.lemmas.List.{drop-map}
 use Rattle.rl_line.proofs.UndoLemmas.{IsBack, IsBack-fits, IsBack-next, entries_from, length_back_over-within}
 use Rattle.rl_line.proofs.line_buffer.LineBuffer.take_back_all.Goals as goal

@@ -1,9 +1,8 @@
 use Rattle.std.proofs.Common.{arith, ◌≡◌, ◌+◌, ◌∙◌, ◌++◌, ◌∷◌, [], true, ap}
 use Rattle.std.proofs.lemmas.Grind.{take_at_read}
-use Rattle.std.proofs.lemmas.List.{take_all}
 use Rattle.std.specs.Prelude.{is_ok}
 use Rattle.rl_session.specs.declared.session.Command.TheVariants.{SetPos}
-use Rattle.rl_session.proofs.SessionLemmas.{Run-none, Run-more, run_replays}
+use Rattle.rl_session.proofs.SessionLemmas.{Run-more, run_replays}
 use Rattle.rl_session.proofs.session.Session.run.Goals as goal
 
 pub loop-command-preserved : goal.loop-command-preserved

@@ -1,0 +1,135 @@
+-- How the lines of a script part it, and how what is written for them joins.
+use Rattle.std.proofs.Common.{◌≡◌, ◌≢◌, ℕ, length, List, [], ◌∷◌, ◌++◌, Option, ◌<◌, arith, refl, sym, ap, subst, ◌∙◌, append_assoc, append-nil, true, false}
+use Rattle.std.specs.Prelude.{◌==◌}
+use Rattle.std.proofs.lemmas.Bool.Decides.{nat_tests}
+use borrow.Author.Tests.{eqb-true}
+use Rattle.std.proofs.KnownBytes.{Appends-trans, Appends-nil, Consumes-trans}
+use Rattle.std.specs.Io.KnownBytes.{Appends, Consumes, IsAtEnd}
+use Rattle.rl_session.specs.State.{State}
+use Rattle.rl_session.specs.Lines.{lines_of, onto, HasNoNewline}
+use Rattle.rl_session.specs.Script.{LineOut, begun, Outputs, Ran}
+use Rattle.rl_session.specs.Progress.{Took, Runs}
+
+not_ten : (b : ℕ) → b ≢ 10 → (b == 10) ≡ false
+not_ten b h = grind (arith, nat_tests)
+
+-- a line that a newline ends
+pub lines_of-ended : (line rest : List ℕ) → HasNoNewline line → lines_of (line ++ 10 ∷ rest) ≡ line ∷ lines_of rest
+lines_of-ended [] rest h = refl
+lines_of-ended (b ∷ bs) rest h = rw (not_ten b h.0) (ap (onto b) (lines_of-ended bs rest h.1))
+
+-- a line that the end of the script ends
+pub lines_of-last : (b : ℕ) (bs : List ℕ) → HasNoNewline (b ∷ bs) → lines_of (b ∷ bs) ≡ (b ∷ bs) ∷ []
+lines_of-last b [] h = rw (not_ten b h.0) refl
+lines_of-last b (c ∷ cs) h = rw (not_ten b h.0) (ap (onto b) (lines_of-last c cs h.1))
+
+pub HasNoNewline-more : (bs : List ℕ) (b : ℕ) → HasNoNewline bs → b ≢ 10 → HasNoNewline (bs ++ b ∷ [])
+HasNoNewline-more [] b h n = (n, tt)
+HasNoNewline-more (c ∷ cs) b h n = (h.0, HasNoNewline-more cs b h.1 n)
+
+pub Outputs-append : (xs ys : List (List ℕ)) (old mid new : State) (first others : List ℕ)
+    → Outputs old xs first mid → Outputs mid ys others new → Outputs old (xs ++ ys) (first ++ others) new
+Outputs-append [] ys old mid new first others h k =
+    subst (λ s. Outputs s ys (first ++ others) new) h.1 (subst (λ (o : List ℕ). Outputs mid ys o new) (sym (ap (λ l. l ++ others) h.0)) k)
+Outputs-append (x ∷ xs) ys old mid new first others h k =
+    (h.0, h.1, h.2 ++ others, ap (λ l. l ++ others) h.3 ∙ append_assoc h.1 h.2 others, h.4, Outputs-append xs ys h.0 mid new h.2 others h.5 k)
+
+pub Took-none : (old : State) (part : List ℕ) (held : Option (List ℕ)) → Took old part [] held held old part
+Took-none old part held = record { lines = []; out = []; split = λ more. refl; outputs = (refl, refl); written = Appends-nil held }
+
+-- one byte more of a line
+pub Took-byte : (old : State) (part : List ℕ) (b : ℕ) (held : Option (List ℕ)) → Took old part (b ∷ []) held held old (part ++ b ∷ [])
+Took-byte old part b held = record {
+  lines = [];
+  out = [];
+  split = λ more. ap lines_of (sym (append_assoc part (b ∷ []) more));
+  outputs = (refl, refl);
+  written = Appends-nil held;
+}
+
+pub Took-trans : (old mid new : State) (part part' part'' bytes bytes' : List ℕ) (a b c : Option (List ℕ))
+    → Took old part bytes a b mid part' → Took mid part' bytes' b c new part'' → Took old part (bytes ++ bytes') a c new part''
+Took-trans old mid new part part' part'' bytes bytes' a b c h k = record {
+  lines = h.lines ++ k.lines;
+  out = h.out ++ k.out;
+  split = λ more.
+      ap (λ l. lines_of (part ++ l)) (append_assoc bytes bytes' more)
+      ∙ h.split (bytes' ++ more)
+      ∙ ap (λ l. h.lines ++ l) (k.split more)
+      ∙ sym (append_assoc h.lines k.lines (lines_of (part'' ++ more)));
+  outputs = Outputs-append h.lines k.lines old mid new h.out k.out h.outputs k.outputs;
+  written = Appends-trans a b c h.out k.out h.written k.written;
+}
+
+-- a line that a newline ended was run and written
+pub Took-line : (old new : State) (line out : List ℕ) (a b : Option (List ℕ)) → HasNoNewline line → LineOut old line out new → Appends a b out
+    → Took old line (10 ∷ []) a b new []
+Took-line old new line out a b h k w = record {
+  lines = line ∷ [];
+  out = out;
+  split = λ more. lines_of-ended line more h;
+  outputs = (new, out, [], sym (append-nil out), k, (refl, refl));
+  written = w;
+}
+
+-- more was read, and taken
+pub Runs-more : (left mid leaves held holds now_holds : Option (List ℕ)) (now new : State) (part part' bytes : List ℕ)
+    → Runs left mid held holds now part → Consumes mid leaves bytes → Took now part bytes holds now_holds new part' → Runs left leaves held now_holds new part'
+Runs-more left mid leaves held holds now_holds now new part part' bytes h r k = record {
+  input = h.input ++ bytes;
+  read = Consumes-trans left mid leaves h.input bytes h.read r;
+  took = Took-trans (begun []) now new [] part part' h.input bytes held holds now_holds h.took k;
+}
+
+-- the script ended behind a newline, or was empty
+pub Ran-end : (left mid leaves held holds : Option (List ℕ)) (now : State) (part : List ℕ)
+    → Runs left mid held holds now part → part ≡ [] → Consumes mid leaves [] → IsAtEnd leaves → Ran left leaves held holds
+Ran-end left mid leaves held holds now part h e r end =
+    let all : lines_of h.input ≡ h.took.lines =
+    ap lines_of (sym (append-nil h.input)) ∙ h.took.split [] ∙ ap (λ l. h.took.lines ++ lines_of (l ++ [])) e ∙ append-nil h.took.lines in
+    record {
+      input = h.input;
+      output = h.took.out;
+      last = now;
+      read = subst (λ l. Consumes left leaves l) (append-nil h.input) (Consumes-trans left mid leaves h.input [] h.read r);
+      ended = end;
+      written = h.took.written;
+      outputs = subst (λ ls. Outputs (begun []) ls h.took.out now) (sym all) h.took.outputs;
+    }
+
+-- the script ended within a line, which was then run
+pub Ran-last : (left mid leaves held holds now_holds : Option (List ℕ)) (now new : State) (part : List ℕ)
+    → Runs left mid held holds now part → HasNoNewline part → (part ≡ [] → ⊥) → Consumes mid leaves [] → IsAtEnd leaves
+    → Took now part (10 ∷ []) holds now_holds new [] → Ran left leaves held now_holds
+Ran-last left mid leaves held holds now_holds now new [] h n e r end k = absurd (e refl)
+Ran-last left mid leaves held holds now_holds now new (b ∷ bs) h n e r end k =
+    let part = b ∷ bs in
+    let whole : h.took.lines ++ k.lines ≡ lines_of h.input =
+    sym (
+    ap lines_of (sym (append-nil h.input))
+    ∙ h.took.split []
+    ∙ ap (λ l. h.took.lines ++ lines_of l) (append-nil part)
+    ∙ ap (λ ls. h.took.lines ++ ls) (lines_of-last b bs n ∙ sym (lines_of-ended part [] n) ∙ k.split [] ∙ append-nil k.lines)
+    ) in
+    record {
+      input = h.input;
+      output = h.took.out ++ k.out;
+      last = new;
+      read = subst (λ l. Consumes left leaves l) (append-nil h.input) (Consumes-trans left mid leaves h.input [] h.read r);
+      ended = end;
+      written = Appends-trans held holds now_holds h.took.out k.out h.took.written k.written;
+      outputs = subst (λ ls. Outputs (begun []) ls (h.took.out ++ k.out) new) whole
+          (Outputs-append h.took.lines k.lines (begun []) now new h.took.out k.out h.took.outputs k.outputs);
+    }
+
+-- what `is_empty` says of the elements
+pub is_nil : (xs : List ℕ) (n : ℕ) → n ≡ length xs → (n == 0) ≡ true → xs ≡ []
+is_nil [] n e h = refl
+is_nil (x ∷ xs) n e h = let none : n ≡ 0 = eqb-true n 0 h in absurd (omega arith)
+
+pub not_nil : (xs : List ℕ) (n : ℕ) → n ≡ length xs → (n == 0) ≡ false → xs ≡ [] → ⊥
+not_nil xs n e h nil = let gone : (0 == 0) ≡ false = subst (λ k. (k == 0) ≡ false) (e ∙ ap length nil) h in cc
+
+pub some_length : (xs : List ℕ) → (xs ≡ [] → ⊥) → 0 < length xs
+some_length [] h = absurd (h refl)
+some_length (x ∷ xs) h = omega arith

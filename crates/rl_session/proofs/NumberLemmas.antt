@@ -1,0 +1,97 @@
+-- What is no number, and how a number's digits go on.
+use Rattle.std.proofs.Common.{arith, ◌≡◌, ◌≢◌, ℕ, suc, ◌+◌, ◌-◌, ◌*◌, ◌^◌, ◌<◌, ◌≤◌, Bool, true, false, List, [], ◌∷◌, length, get_or, drop, Some, None, refl, sym, ap, subst, ◌∙◌}
+use Rattle.std.specs.Prelude.{◌&&◌, ◌==◌, nat_lt, nat_le, if◌then◌else◌}
+use native.Mathlib.Nat.{pow-le-pow_right}
+use Rattle.std.proofs.lemmas.Bool.Decides.{nat_tests}
+use Rattle.std.proofs.lemmas.List.{at_drop_more}
+use Rattle.rl_session.proofs.PartLemmas.{Lacks}
+use Rattle.rl_session.specs.Grammar.{are_digits, value_from, number_of}
+
+middle_false : (a b c : Bool) → b ≡ false → (a && (b && c)) ≡ false
+middle_false true b c h = rw h refl
+middle_false false b c h = refl
+
+last_false : (a b c : Bool) → c ≡ false → (a && (b && c)) ≡ false
+last_false true true c h = h
+last_false true false c h = refl
+last_false false b c h = refl
+
+above : (n g : ℕ) → g < n → nat_le n g ≡ false
+above n g h = grind (arith, nat_tests)
+
+within : (n g : ℕ) → n ≤ g → nat_le n g ≡ true
+within n g h = grind (arith, nat_tests)
+
+positive : (n : ℕ) → 0 < n → nat_lt 0 n ≡ true
+positive n h = grind (arith, nat_tests)
+
+grows : (n : ℕ) (ds : List ℕ) → n ≤ value_from n ds
+grows n [] = omega arith
+grows n (d ∷ ds) = let more : n * 10 + (d - 48) ≤ value_from (n * 10 + (d - 48)) ds = grows (n * 10 + (d - 48)) ds in omega arith
+
+pub number-nothing : (g : ℕ) (bs : List ℕ) → bs ≡ [] → None ≡ number_of g bs
+unfolding number_of
+number-nothing g bs h = rw h refl
+
+pub number-bad : (g i : ℕ) (bs : List ℕ) → i < length bs → are_digits (drop i bs) ≡ are_digits bs
+    → (nat_le 48 (get_or bs i 0) && nat_le (get_or bs i 0) 57) ≡ false → None ≡ number_of g bs
+unfolding number_of
+number-bad g i bs h all bad =
+    let none : are_digits bs ≡ false = sym all ∙ at_drop_more are_digits bs i 0 h ∙ ap (λ t. t && are_digits (drop (i + 1) bs)) bad in
+    rw (middle_false (nat_lt 0 (length bs)) (are_digits bs) (nat_le (value_from 0 bs) g) none) refl
+
+pub number-great : (g i v : ℕ) (bs : List ℕ) → i < length bs → value_from v (drop i bs) ≡ value_from 0 bs
+    → g < v * 10 + (get_or bs i 0 - 48) → None ≡ number_of g bs
+unfolding number_of
+number-great g i v bs h all great =
+    let on : value_from v (drop i bs) ≡ value_from (v * 10 + (get_or bs i 0 - 48)) (drop (i + 1) bs) = at_drop_more (value_from v) bs i 0 h in
+    let more : v * 10 + (get_or bs i 0 - 48) ≤ value_from (v * 10 + (get_or bs i 0 - 48)) (drop (i + 1) bs) = grows _ (drop (i + 1) bs) in
+    let past : g < value_from 0 bs = omega arith in
+    rw (last_false (nat_lt 0 (length bs)) (are_digits bs) (nat_le (value_from 0 bs) g) (above _ g past)) refl
+
+pub number-whole : (g v : ℕ) (bs : List ℕ) → 0 < length bs → are_digits bs ≡ true → v ≡ value_from 0 bs → v ≤ g → Some v ≡ number_of g bs
+unfolding number_of
+number-whole g v bs some all is fits =
+    let fits' : nat_le (value_from 0 bs) g ≡ true = within _ g (omega arith) in
+    let some' : nat_lt 0 (length bs) ≡ true = positive _ some in
+    rw (some', all, fits') (ap (λ n. Some n) is)
+
+nonzero : (n : ℕ) → (suc n == 0) ≡ true → ⊥
+nonzero n h = grind (arith, nat_tests)
+
+right : (a b : Bool) → (a && b) ≡ true → b ≡ true
+right true b h = h
+right false b h = absurd cc
+
+digit-no_space : (b : ℕ) (more : Bool) → ((nat_le 48 b && nat_le b 57) && more) ≡ true → b ≢ 32
+digit-no_space b more h e = let none : false ≡ true = subst (λ x. ((nat_le 48 x && nat_le x 57) && more) ≡ true) e h in absurd cc
+
+pub is_nil : (xs : List ℕ) → (length xs == 0) ≡ true → xs ≡ []
+is_nil [] h = refl
+is_nil (x ∷ xs) h = absurd (nonzero (length xs) h)
+
+pub some_length : (xs : List ℕ) → (length xs == 0) ≡ false → 0 < length xs
+some_length [] h = absurd cc
+some_length (x ∷ xs) h = omega arith
+
+-- the digits of a number have no space
+both : (a b c : Bool) (v n : ℕ) → (if a && (b && c) then Some v else None) ≡ Some n → b ≡ true
+both true true c v n h = refl
+both true false c v n h = absurd cc
+both false b c v n h = absurd cc
+
+pub digits-no_space : (bytes : List ℕ) → are_digits bytes ≡ true → Lacks 32 bytes
+digits-no_space [] h = tt
+digits-no_space (b ∷ bs) h = (digit-no_space b (are_digits bs) h, digits-no_space bs (right (nat_le 48 b && nat_le b 57) (are_digits bs) h))
+
+pub number-no_space : (g n : ℕ) (bytes : List ℕ) → number_of g bytes ≡ Some n → Lacks 32 bytes
+unfolding number_of
+number-no_space g n bytes h =
+    digits-no_space bytes (both (nat_lt 0 (length bytes)) (are_digits bytes) (nat_le (value_from 0 bytes) g) (value_from 0 bytes) n h)
+
+-- the value of six hexadecimal digits at most
+pub hex-small : (k n : ℕ) → k < 6 → n < 16 ^ k → n < 1048576
+hex-small k n h p = let m : 16 ^ k ≤ 16 ^ 5 = (let one : 0 < 16 = omega arith in let le : k ≤ 5 = omega arith in pow-le-pow_right one le) in omega arith
+
+pub not_nil : (xs : List ℕ) → (length xs == 0) ≡ false → xs ≢ []
+not_nil xs h e = let no : true ≡ false = subst (λ l. (length l == 0) ≡ false) e h in absurd cc

@@ -1,0 +1,12 @@
+use Rattle.std.proofs.Common.{sym}
+use Rattle.rl_session.specs.Grammar.{pos, back, undo}
+use Rattle.rl_session.proofs.grammar.command.Goals as goal
+
+pub returns-in_ok-number-in-pos : goal.returns-in_ok-number-in-pos
+returns-in_ok-number-in-pos c = rw c.in-pos.is (pos (sym c.in_ok-number-in-pos.ensures.value))
+
+pub returns-in_ok-count-in-back : goal.returns-in_ok-count-in-back
+returns-in_ok-count-in-back c = rw c.in-back.is (back (sym c.in_ok-count-in-back.ensures))
+
+pub returns-in_ok-count-in-undo : goal.returns-in_ok-count-in-undo
+returns-in_ok-count-in-undo c = rw c.in-undo.is (undo (sym c.in_ok-count-in-undo.ensures))

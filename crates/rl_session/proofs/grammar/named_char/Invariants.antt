@@ -1,0 +1,9 @@
+use Rattle.std.proofs.Common.{◌≡◌, ◌<◌, ◌^◌, drop}
+use Rattle.rl_session.specs.Grammar.{hex_from}
+use Rattle.rl_session.proofs.grammar.named_char.Given as goal
+
+abbrev pub invariant-loop-b : goal.invariant-loop-b
+invariant-loop-b l = record {
+  value : hex_from l.value (drop l.b-index l.b-items) ≡ hex_from 0 l.b-items;
+  small : l.value < 16 ^ l.b-index;
+}

@@ -1,0 +1,14 @@
+use Rattle.std.proofs.Common.{length}
+use Rattle.std.specs.Str.{IsUtf8}
+use Rattle.std.specs.String.{string_bytes}
+use Rattle.rl_session.specs.Reads.{Begins}
+use Rattle.rl_session.proofs.grammar.unescape.Given as goal
+
+abbrev pub invariant-loop-plain : goal.invariant-loop-plain
+invariant-loop-plain l = record {
+  read : Begins l.escaped (string_bytes l.text) l.rest;
+  utf8 : IsUtf8 l.rest;
+}
+
+abbrev pub decreases-loop-plain : goal.decreases-loop-plain
+decreases-loop-plain l = length l.rest

@@ -1,0 +1,5 @@
+use Rattle.rl_session.proofs.PrintLemmas.{escaped-read}
+use Rattle.rl_session.proofs.laws.escapes_are_read.Goals as goal
+
+pub returns : goal.returns
+returns c = λ t u. escaped-read t

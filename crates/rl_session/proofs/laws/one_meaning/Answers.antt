@@ -1,0 +1,5 @@
+use Rattle.rl_session.proofs.WordLemmas.{Means-one}
+use Rattle.rl_session.proofs.laws.one_meaning.Goals as goal
+
+pub returns : goal.returns
+returns c = Means-one

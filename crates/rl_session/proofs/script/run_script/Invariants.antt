@@ -1,0 +1,11 @@
+use Rattle.std.proofs.Common.{◌≡◌, length}
+use Rattle.rl_session.specs.Lines.{HasNoNewline}
+use Rattle.rl_session.specs.Progress.{Runs}
+use Rattle.rl_session.proofs.script.run_script.Given as goal
+
+abbrev pub invariant-loop : goal.invariant-loop
+invariant-loop g l = record {
+  runs : Runs (g.R.Read.remaining l.fn.reader) (g.R.Read.remaining l.reader) (g.W.Write.contents l.fn.writer) (g.W.Write.contents l.writer) l.session l.part.items;
+  clean : HasNoNewline l.part.items;
+  block : length l.block ≡ 4096;
+}

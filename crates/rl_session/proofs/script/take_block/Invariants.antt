@@ -1,0 +1,10 @@
+use Rattle.std.proofs.Common.{take}
+use Rattle.rl_session.specs.Lines.{HasNoNewline}
+use Rattle.rl_session.specs.Progress.{Took}
+use Rattle.rl_session.proofs.script.take_block.Given as goal
+
+abbrev pub invariant-loop-b : goal.invariant-loop-b
+invariant-loop-b g l = record {
+  took : Took l.fn.session l.fn.part.items (take l.b-index l.block) (g.W.Write.contents l.fn.writer) (g.W.Write.contents l.writer) l.session l.part.items;
+  clean : HasNoNewline l.part.items;
+}

@@ -1,0 +1,100 @@
+//! What is printed for a reply.
+ghost use Rattle.std.specs.Prelude.{◌≡◌, ◌≤◌, ◌<◌, OnOk, ◌++◌, true, take, drop, length, slice_index};
+ghost use Rattle.std.specs.Fmt.{decimal};
+ghost use Rattle.rl_session.specs.Print.{reply_word, is_special, escaped, escape, printed};
+
+use crate::session::{Fault, Reply, Session};
+use std::alloc::AllocError;
+
+// Adds the number's decimal digits.
+fn add_number(out: &mut Vec<u8>, n: usize) -> Result<(), AllocError>
+    ensures { OnOk result (out.new.items ≡ out.old.items ++ decimal n) }
+{
+    let alloc = *out.allocator();
+    let digits = n.to_string(alloc)?;
+    out.extend_from_slice(digits.as_bytes())
+}
+
+// The word for a reply.
+fn reply_word(reply: Reply) -> &'static str
+    ensures { result.now ≡ reply_word reply }
+{
+    match reply {
+        Reply::Done => "ok",
+        Reply::Answer(true) => "true",
+        Reply::Answer(false) => "false",
+        Reply::Inserted(Some(true)) => "true",
+        Reply::Inserted(Some(false)) => "false",
+        Reply::Inserted(None) => "none",
+        Reply::Refused(Fault::NoMemory) => "refused:1",
+        Reply::Refused(Fault::BadPlace) => "refused:2",
+    }
+}
+
+// Whether the byte is printed by two.
+fn is_special(b: u8) -> bool
+    ensures { result ≡ is_special b }
+{
+    b == b'\\' || b == b'\n' || b == b'\r' || b == b'\t'
+}
+
+// The two bytes that such a byte is printed by.
+fn escape(b: u8) -> &'static [u8]
+    requires { is_special b ≡ true }
+    ensures { result.now ≡ escape b }
+{
+    match b {
+        b'\\' => b"\\\\",
+        b'\n' => b"\\n",
+        b'\r' => b"\\r",
+        _ => b"\\t",
+    }
+}
+
+// How many bytes from the front on are printed as they are.
+fn plain_len(text: &[u8]) -> usize
+    ensures within { result ≤ length text.now }
+    ensures plain { escaped text.now ≡ take result text.now ++ escaped (drop result text.now) }
+    ensures stops { result < length text.now → is_special (slice_index text.now result) ≡ true }
+{
+    for (i, b) in text.iter().enumerate() {
+        if is_special(*b) {
+            return i;
+        }
+    }
+    text.len()
+}
+
+// Adds the text, escaped.
+fn add_escaped(out: &mut Vec<u8>, text: &[u8]) -> Result<(), AllocError>
+    ensures { OnOk result (out.new.items ≡ out.old.items ++ escaped text.now) }
+{
+    let mut rest = text;
+    while !rest.is_empty() {
+        let count = plain_len(rest);
+        out.extend_from_slice(&rest[..count])?;
+        if count == rest.len() {
+            return Ok(());
+        }
+        out.extend_from_slice(escape(rest[count]))?;
+        rest = &rest[count + 1..];
+    }
+    Ok(())
+}
+
+/// Adds the line that is printed for a reply: the reply, the cursor and the text of the session.
+pub(crate) fn add_printed(
+    out: &mut Vec<u8>,
+    reply: Reply,
+    session: &Session,
+) -> Result<(), AllocError>
+    ensures { OnOk result (out.new.items ≡ out.old.items ++ printed reply session.now) }
+{
+    let line = session.line();
+    out.extend_from_slice(reply_word(reply).as_bytes())?;
+    out.extend_from_slice(b" ")?;
+    add_number(out, line.pos())?;
+    out.extend_from_slice(b" ")?;
+    add_escaped(out, line.as_str().as_bytes())?;
+    out.extend_from_slice(b"\n")
+}
