@@ -1,15 +1,16 @@
 -- Steps of an iterator that shows what it has left, and the bytes of lists of pieces.
-use Rattle.std.proofs.Common.{true, ◌≡◌, ℕ, ◌+◌, ◌-◌, ◌≤◌, List, [], ◌∷◌, ◌++◌, map, reverse, length, take, drop, slice_range, Option, Some, None, refl, sym, ap, ◌∙◌, arith, append_assoc, length-append}
+use Rattle.std.proofs.Common.{true, ◌≡◌, ℕ, ◌+◌, ◌-◌, ◌≤◌, List, [], ◌∷◌, ◌++◌, map, reverse, length, take, drop, slice_range, Option, Some, None, refl, sym, ap, subst, ◌∙◌, arith, append_assoc, length-append}
 use Rattle.std.proofs.lemmas.Bool.Decides.{nat_tests}
 use Rattle.std.proofs.lemmas.List.{reverse-append, reverse-reverse, take-append-drop, drop_at, drop_all, length-map, length_push}
+use Rattle.std.proofs.lemmas.Str.{IsCharBoundary-at_seam, IsCharBoundary-from_rest}
 use Rattle.std.proofs.lemmas.List.Folds.{concat-append}
 use Rattle.std.specs.Iterator.{Yields, SkipsThenYields, YieldsFirstBy}
 use Rattle.std.specs.List.{concat}
-use Rattle.std.specs.Str.{IsUtf8}
+use Rattle.std.specs.Str.{IsCharBoundary, IsUtf8}
 use Rattle.unicode_segmentation.specs.Grapheme.{is_grapheme_break}
 use Rattle.unicode_segmentation.specs.Segments.{GivesLast}
 use Rattle.unicode_segmentation.proofs.SegmentsLemmas.{concat-segments}
-use Rattle.rl_base.specs.Clusters.{clusters, bytes_in, prev_pos}
+use Rattle.rl_base.specs.Clusters.{clusters, bytes_in, next_pos, prev_pos}
 
 -- an iterator whose steps take from the front of the list that `shown` reads of its state
 module _ {S A B : Type 0} (steps : S → Option A → S → Type 0) (view : A → B) (shown : S → List B) (gives : (s t : S) (r : Option A) → steps s r t → YieldsFirstBy view shown s r t) where
@@ -31,6 +32,11 @@ module _ {S A B : Type 0} (steps : S → Option A → S → Type 0) (view : A �
       let len : length (front ++ view x ∷ []) ≡ n + 1 = omega (arith, h.2, length_push front (view x), length-map h.0 view) in
       sym (ap (drop (n + 1)) split ∙ drop_at (front ++ view x ∷ []) (shown u) (n + 1) len)
 
+-- what one step leaves
+pub shown_past_first : {S A B : Type 0} (view : A → B) (shown : S → List B) (s t : S) (r : Option A) → YieldsFirstBy view shown s r t → shown t ≡ drop 1 (shown s)
+shown_past_first view shown s t None h = h.1 ∙ sym (ap (drop 1) h.0)
+shown_past_first view shown s t (Some x) h = sym (ap (drop 1) h)
+
 -- a step from the back is a step from the front of the list in reverse
 pub first_from_last : {S A B : Type 0} (view : A → B) (left : S → List B) (s t : S) (r : Option A) → GivesLast view left s r t → YieldsFirstBy view (λ s. reverse (left s)) s r t
 first_from_last view left s t None h = (ap reverse h.0, ap reverse h.1)
@@ -44,6 +50,12 @@ bytes_in-reverse [] = refl
 bytes_in-reverse (x ∷ xs) =
     ap bytes_in (reverse-append (x ∷ []) xs) ∙ bytes_in-append (reverse xs) (x ∷ [])
     ∙ (omega (arith, bytes_in-reverse xs, bytes_in-append (x ∷ []) [], bytes_in-append (x ∷ []) xs))
+
+-- the pieces that `nth` leaves follow those that it passed
+pub pieces_past : (left pieces : List (List ℕ)) (n m : ℕ) → left ≡ drop (m + 1) pieces → m ≡ n - 1 → (n ≡ 0 → ⊥) → pieces ≡ take n pieces ++ left
+pieces_past left pieces n m e same some =
+    let count : m + 1 ≡ n = omega arith in
+    sym (ap (λ l. take n pieces ++ l) (e ∙ ap (λ k. drop k pieces) count) ∙ take-append-drop n pieces)
 
 -- the pieces in front of the last n, where those were taken from the back
 pub front_of_pieces : (left pieces : List (List ℕ)) (n m : ℕ) → reverse left ≡ drop (m + 1) (reverse pieces) → m ≡ n - 1 → (n ≡ 0 → ⊥)
@@ -59,9 +71,21 @@ front_of_pieces left pieces n m e same some =
 pub concat-clusters : (text : List ℕ) → IsUtf8 text → concat (clusters text) ≡ text
 concat-clusters text u = concat-segments (is_grapheme_break true) text u
 
+pub next_pos-some : (text : List ℕ) (pos n : ℕ) → (n ≡ 0 → ⊥) → (pos ≡ length text → ⊥) → next_pos text pos n ≡ Some (pos + bytes_in (take n (clusters (drop pos text))))
+next_pos-some text pos n some inside = grind (arith, nat_tests)
+
 pub prev_pos-some : (text : List ℕ) (pos n : ℕ) → (n ≡ 0 → ⊥) → (pos ≡ 0 → ⊥) → prev_pos text pos n ≡ Some (pos - bytes_in (take n (reverse (clusters (take pos text)))))
 prev_pos-some text pos n some inside = grind (arith, nat_tests)
+
+pub bytes_in-clusters : (text : List ℕ) → IsUtf8 text → bytes_in (clusters text) ≡ length text
+bytes_in-clusters text u = ap length (concat-clusters text u)
 
 -- `&text[..n]`
 pub slice_range-front : (n : ℕ) (text : List ℕ) → slice_range text 0 n ≡ take n text
 slice_range-front n text = let same : n - 0 ≡ n = omega arith in ap (λ m. take m text) same
+
+-- what stands behind a place is cut where a text begins
+pub IsCharBoundary-before_rest : (text : List ℕ) (pos place : ℕ) (front rest : List ℕ) → pos ≤ length text → drop pos text ≡ front ++ rest → place ≡ pos + length front
+    → IsUtf8 rest → IsCharBoundary text place
+IsCharBoundary-before_rest text pos place front rest within e same u =
+    subst (IsCharBoundary text) (sym same) (IsCharBoundary-from_rest text pos (length front) within (IsCharBoundary-at_seam (drop pos text) front rest e u))

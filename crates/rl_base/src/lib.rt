@@ -10,4 +10,4 @@ mod tests;
 
 pub use layout::GraphemeClusterMode;
 pub use listeners::{ChangeListener, DeleteListener, Direction, NoListener, Refusal};
-pub use motion::RepeatCount;
+pub use motion::{Anchor, At, CharSearch, Movement, RepeatCount, Word};

@@ -2,3 +2,80 @@
 
 /// How often a motion or an edit is repeated (GNU readline's numeric argument).
 pub type RepeatCount = u16;
+
+/// What counts as a word. A grapheme cluster belongs to words or does not, as a whole.
+#[derive(Clone, Copy, Debug, Eq, PartialEq)]
+pub enum Word {
+    /// Clusters without a blank (vi's WORD, readline's `unix-word-rubout`).
+    Big,
+    /// Clusters of letters and numbers (readline's `forward-word`).
+    Emacs,
+    /// Letters, numbers and the underscore; other clusters that are no blanks make words of their own (vi's word).
+    Vi,
+}
+
+/// Where a motion to the next word stops.
+#[derive(Clone, Copy, Debug, Eq, PartialEq)]
+pub enum At {
+    /// At a word's first cluster (vi's `w`).
+    Start,
+    /// At a word's last cluster (vi's `e`); for `Word::Emacs` behind it.
+    BeforeEnd,
+    /// Behind a word (readline's `forward-word`).
+    AfterEnd,
+}
+
+/// Where a text is put, relative to the cursor.
+#[derive(Clone, Copy, Debug, Eq, PartialEq)]
+pub enum Anchor {
+    /// Behind the cursor (vi's `p`).
+    After,
+    /// Before the cursor (vi's `P`).
+    Before,
+}
+
+/// A search for a character.
+#[derive(Clone, Copy, Debug, Eq, PartialEq)]
+pub enum CharSearch {
+    /// Ahead, to the character (vi's `f`).
+    Forward(char),
+    /// Ahead, to the character before it (vi's `t`).
+    ForwardBefore(char),
+    /// Back, to the character (vi's `F`).
+    Backward(char),
+    /// Back, to the place behind the character (vi's `T`).
+    BackwardAfter(char),
+}
+
+/// Where a motion goes, or what an edit covers.
+#[derive(Clone, Debug, Drop, Eq, PartialEq)]
+pub enum Movement {
+    /// The cursor's line (vi's `dd`).
+    WholeLine,
+    /// The start of the line (readline's `beginning-of-line`, vi's `0`).
+    BeginningOfLine,
+    /// The end of the line (readline's `end-of-line`, vi's `$`).
+    EndOfLine,
+    /// Back by words (readline's `backward-word`, vi's `b`).
+    BackwardWord(RepeatCount, Word),
+    /// Ahead by words (readline's `forward-word`, vi's `w` and `e`).
+    ForwardWord(RepeatCount, At, Word),
+    /// To a character (vi's `f`, `t`, `F` and `T`).
+    ViCharSearch(RepeatCount, CharSearch),
+    /// To the first character that is not blank (vi's `^`).
+    ViFirstPrint,
+    /// Back by grapheme clusters (readline's `backward-char`, vi's `h`).
+    BackwardChar(RepeatCount),
+    /// Ahead by grapheme clusters (readline's `forward-char`, vi's `l`).
+    ForwardChar(RepeatCount),
+    /// Up by lines (readline's `previous-screen-line`, vi's `k`).
+    LineUp(RepeatCount),
+    /// Down by lines (readline's `next-screen-line`, vi's `j`).
+    LineDown(RepeatCount),
+    /// The whole text.
+    WholeBuffer,
+    /// The start of the text (vi's `gg`).
+    BeginningOfBuffer,
+    /// The end of the text (vi's `G`).
+    EndOfBuffer,
+}

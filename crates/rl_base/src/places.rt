@@ -1,10 +1,36 @@
 //! Places in a text, in bytes.
 ghost use Rattle.std.specs.Prelude.{◌≡◌, ◌≤◌, IfSome};
 ghost use Rattle.std.specs.Str.{IsCharBoundary};
-ghost use Rattle.rl_base.specs.Clusters.{prev_pos};
+ghost use Rattle.rl_base.specs.Clusters.{next_pos, prev_pos};
 
 use crate::motion::RepeatCount;
 use unicode_segmentation::UnicodeSegmentation;
+
+mod classes;
+mod hits;
+#[cfg(test)]
+mod tests;
+mod words;
+
+pub use classes::is_alphanumeric;
+pub use hits::{find_place, search};
+pub use words::{next_word, prev_word};
+
+/// The byte place past the first `n` grapheme clusters (UAX #29) of what stands from `pos` on, or past
+/// all of them where there are fewer. None at the end and for `n` = 0.
+pub fn next_pos(text: &str, pos: usize, n: RepeatCount) -> Option<usize>
+    requires { IsCharBoundary text.now pos }
+    ensures value { result ≡ next_pos text.now pos n }
+    ensures ahead { IfSome result (λ place. pos ≤ place) }
+    ensures boundary { IfSome result (IsCharBoundary text.now) }
+{
+    if n == 0 || pos == text.len() {
+        return None;
+    }
+    let mut clusters = text[pos..].graphemes(true);
+    let _ = clusters.nth(usize::from(n) - 1);
+    Some(text.len() - clusters.as_str().len())
+}
 
 /// The byte place before the last `n` grapheme clusters (UAX #29) of what stands before `pos`, or before
 /// all of them where there are fewer. None at the start and for `n` = 0.

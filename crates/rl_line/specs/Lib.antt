@@ -1,5 +1,6 @@
 pub mod Line
 pub mod Plan
+pub mod Motions
 pub mod Edits
 pub mod Record
 pub mod Undo

@@ -11,6 +11,7 @@ ghost use Rattle.rl_line.specs.Record.{entry_of};
 ghost use Rattle.rl_line.specs.Undo.{line_back};
 
 mod edits;
+mod motions;
 
 use crate::change::{Change, greatest_len_back, take_back};
 use rl_base::{ChangeListener, DeleteListener, Direction, Refusal};

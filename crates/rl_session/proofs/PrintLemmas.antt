@@ -1,5 +1,6 @@
 -- What is written for a text is read as that text.
-use Rattle.std.proofs.Common.{arith, ◌≡◌, ℕ, List, ◌<◌, [], ◌∷◌, ◌++◌, Some, refl, subst, inl, inr}
+use Rattle.std.specs.Prelude.{◌==◌, ◌&&◌, if◌then◌else◌}
+use Rattle.std.proofs.Common.{arith, ◌≡◌, ◌≢◌, ℕ, Bool, true, false, List, ◌<◌, [], ◌∷◌, ◌++◌, Some, refl, subst, inl, inr}
 use Rattle.std.proofs.lemmas.Bool.Decides.{eqb_tells}
 use Rattle.std.proofs.lemmas.Str.{encode_ascii}
 use Rattle.rl_session.specs.Grammar.{letter_of, Spells, letter, nothing, plain, escape}
@@ -8,19 +9,25 @@ use Rattle.rl_session.specs.Print.{escape as escape_of, escaped}
 by_letter : (b c : ℕ) (bytes text : List ℕ) → c < 128 → letter_of b ≡ Some c → Spells bytes text → Spells (92 ∷ b ∷ bytes) (c ∷ text)
 by_letter b c bytes text small is s = subst (λ l. Spells (92 ∷ b ∷ bytes) (l ++ text)) (encode_ascii c small) (escape (letter is) s)
 
-byte-read : (b : ℕ) (bytes text : List ℕ) → Spells bytes text → Spells (escape_of b ++ bytes) (b ∷ text)
-byte-read b bytes text s =
+space-read : (spaces : Bool) (b : ℕ) (bytes text : List ℕ) → b ≢ 92 → Spells bytes text
+    → Spells ((if spaces && (b == 32) then 92 ∷ 115 ∷ [] else b ∷ []) ++ bytes) (b ∷ text)
+space-read false b bytes text n s = plain n s
+space-read true b bytes text n s =
+    elim (eqb_tells b 32) [ inl p ↦ rw p.1 (by_letter 115 32 bytes text (omega arith) refl s) | inr p ↦ rw p.0 (plain n s) ]
+
+byte-read : (spaces : Bool) (b : ℕ) (bytes text : List ℕ) → Spells bytes text → Spells (escape_of spaces b ++ bytes) (b ∷ text)
+byte-read spaces b bytes text s =
     elim (eqb_tells b 92) [
       | inl p ↦ rw p.1 (by_letter 92 92 bytes text (omega arith) refl s)
       | inr p ↦ elim (eqb_tells b 10) [
         | inl q ↦ rw q.1 (by_letter 110 10 bytes text (omega arith) refl s)
         | inr q ↦ elim (eqb_tells b 13) [
           | inl u ↦ rw u.1 (by_letter 114 13 bytes text (omega arith) refl s)
-          | inr u ↦ elim (eqb_tells b 9) [ inl v ↦ rw v.1 (by_letter 116 9 bytes text (omega arith) refl s) | inr v ↦ rw (p.0, q.0, u.0, v.0) (plain p.1 s) ]
+          | inr u ↦ elim (eqb_tells b 9) [ inl v ↦ rw v.1 (by_letter 116 9 bytes text (omega arith) refl s) | inr v ↦ rw (p.0, q.0, u.0, v.0) (space-read spaces b bytes text p.1 s) ]
         ]
       ]
     ]
 
-pub escaped-read : (t : List ℕ) → Spells (escaped t) t
-escaped-read [] = nothing
-escaped-read (b ∷ bs) = byte-read b (escaped bs) bs (escaped-read bs)
+pub escaped-read : (spaces : Bool) (t : List ℕ) → Spells (escaped spaces t) t
+escaped-read spaces [] = nothing
+escaped-read spaces (b ∷ bs) = byte-read spaces b (escaped spaces bs) bs (escaped-read spaces bs)

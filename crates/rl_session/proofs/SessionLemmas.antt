@@ -2,13 +2,14 @@
 use Rattle.std.proofs.Common.{List, [], ◌∷◌, ◌++◌, Result, Ok, Err, ◌≡◌, ◌∙◌, ap, map, refl, subst, sym, append_assoc, append-nil, inl, inr}
 use Rattle.std.proofs.lemmas.List.{map-append}
 use Rattle.std.proofs.lemmas.Str.{IsCharBoundary-start, IsUtf8-nil}
-use Rattle.std.specs.Prelude.{ℕ, Bool, false, max, length, option_and_then, IsSome, Some, IfOk, IfErr}
+use Rattle.std.specs.Prelude.{ℕ, Bool, Option, None, false, max, length, option_and_then, IsSome, Some, IfOk, IfErr}
 use Rattle.std.specs.Str.{IsUtf8}
 use Rattle.rl_base.specs.Event.{Event, InsertStr, apply}
 use Rattle.rl_base.proofs.EventLemmas.{apply-InsertStr}
 use Rattle.rl_base.specs.declared.listeners.Refusal.{Refusal}
 use Rattle.rl_base.specs.declared.listeners.Refusal.TheVariants as why
 use Rattle.rl_line.specs.Line.{Line, stepped}
+use Rattle.rl_line.specs.Motions.{Moved}
 use Rattle.rl_line.specs.Plan.{Plan, after, Done, Halted, or_no_memory}
 use Rattle.rl_line.specs.Edits.{insert_str_plan}
 use Rattle.rl_line.specs.Record.{Record, record_step}
@@ -16,12 +17,12 @@ use Rattle.rl_line.specs.Undo.{Undone}
 use Rattle.rl_line.proofs.OriginLemmas.{Kept, Kept-Done, Kept-Halted, Kept-Undone}
 use Rattle.rl_line.proofs.RecordLemmas.{unwind-replay, replay-unwind, replay-IsUtf8}
 use Rattle.rl_session.specs.declared.session.Command.{Command}
-use Rattle.rl_session.specs.declared.session.Command.TheVariants.{SetPos, Insert, Backspace, Undo}
+use Rattle.rl_session.specs.declared.session.Command.TheVariants.{SetPos, Move, Insert, Delete, Backspace, Undo}
 use Rattle.rl_session.specs.declared.session.Fault.TheVariants.{NoMemory, BadPlace}
 use Rattle.rl_session.specs.declared.session.Reply.{Reply}
 use Rattle.rl_session.specs.declared.session.Reply.TheVariants as says
 use Rattle.rl_session.specs.State.{State, Replays, Follows}
-use Rattle.rl_session.specs.Commands.{Step, out_of_memory}
+use Rattle.rl_session.specs.Commands.{Step, destination, out_of_memory}
 use Rattle.rl_session.specs.Run.{Row, held, held_of, Leads, Run, AfterEach}
 
 -- a text that goes into an empty line
@@ -40,6 +41,12 @@ put_first step line new limit text b n a u e d =
 same_Kept : (r : Record) (line : Line) → IsUtf8 line.text → Kept r r line line
 same_Kept r line u = record { origin_is = refl; utf8 = u }
 
+-- a motion leaves the text
+pub Kept-Moved : (place : Option ℕ) (r now : Record) (old new : Line) (a : Bool) → IsUtf8 old.text → now ≡ r → Moved place old new a → Kept r now old new
+Kept-Moved None r now old new a u e m = subst (λ (l : Line). Kept r now old l) (sym m.1) (subst (λ (k : Record). Kept r k old old) (sym e) (same_Kept r old u))
+Kept-Moved (Some place) r now old new a u e m =
+    subst (λ (l : Line). Kept r now old l) (sym m.1) (subst (λ (k : Record). Kept r k old (record old { cursor = place })) (sym e) (record { origin_is = refl; utf8 = u }))
+
 not_heard : (m : Record) (e : Event) (w : Refusal) (k : Record) → out_of_memory m e w k → k ≡ m
 not_heard m e w k h = h.1
 
@@ -47,10 +54,10 @@ either : (m : Record) (e : Event) (w : Refusal) (k : Record) → or_no_memory ou
 either m e w k h = elim h [ inl p ↦ p.1 | inr p ↦ p.1 ]
 
 -- an edit that may also be refused by the line itself
-pub Kept-edit : {A : Type 0} (plan : Plan A) (r now : Record) (old new : Line) (result : Result A Refusal) → IsUtf8 old.text
-    → IfOk result (λ a. Done record_step plan old new r now a) → IfErr result (λ w. Halted record_step (or_no_memory out_of_memory) plan old new r now w) → Kept r now old new
-Kept-edit plan r now old new (Ok a) u d h = Kept-Done plan r now old new a u d
-Kept-edit plan r now old new (Err w) u d h = Kept-Halted _ plan r now old new w either u h
+pub Kept-edit : {A B : Type 0} (plan : Plan A) (shown : B → A) (r now : Record) (old new : Line) (result : Result B Refusal) → IsUtf8 old.text
+    → IfOk result (λ b. Done record_step plan old new r now (shown b)) → IfErr result (λ w. Halted record_step (or_no_memory out_of_memory) plan old new r now w) → Kept r now old new
+Kept-edit plan shown r now old new (Ok b) u d h = Kept-Done plan r now old new (shown b) u d
+Kept-edit plan shown r now old new (Err w) u d h = Kept-Halted _ plan r now old new w either u h
 
 -- an edit that only its listener may refuse
 pub Kept-deletion : {A : Type 0} (plan : Plan A) (r now : Record) (old new : Line) (result : Result A Refusal) → IsUtf8 old.text
@@ -72,8 +79,11 @@ Kept-Step : (old : State) (command : Command) (reply : Reply) (new : State) → 
 Kept-Step old (SetPos q) says.Done new s u f =
     subst (λ (n : State). Kept old.changes n.changes old.line n.line) (sym s.1) (record { origin_is = refl; utf8 = u })
 Kept-Step old (SetPos q) (says.Refused BadPlace) new s u f = subst (λ (n : State). Kept old.changes n.changes old.line n.line) (sym s.1) (same_Kept old.changes old.line u)
+Kept-Step old (Move m) (says.Answer a) new s u f = Kept-Moved (destination old.line m) old.changes new.changes old.line new.line a u (ap (λ (n : State). n.changes) s.others) s.moved
 Kept-Step old (Insert c n) (says.Inserted a) new s u f = Kept-Done _ old.changes new.changes old.line new.line a u s.done
 Kept-Step old (Insert c n) (says.Refused NoMemory) new s u f = Kept-Halted _ _ old.changes new.changes old.line new.line _ not_heard u s.halted
+Kept-Step old (Delete n) (says.Text t) new s u f = Kept-Done _ old.changes new.changes old.line new.line _ u s.done
+Kept-Step old (Delete n) (says.Refused NoMemory) new s u f = Kept-Halted _ _ old.changes new.changes old.line new.line _ not_heard u s.halted
 Kept-Step old (Backspace n) (says.Answer a) new s u f = Kept-Done _ old.changes new.changes old.line new.line a u s.done
 Kept-Step old (Backspace n) (says.Refused NoMemory) new s u f = Kept-Halted _ _ old.changes new.changes old.line new.line _ not_heard u s.halted
 Kept-Step old (Undo n) (says.Answer a) new s u f = Kept-Undone n old.changes new.changes old.line new.line a u f s.undone

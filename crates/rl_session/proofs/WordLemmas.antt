@@ -4,9 +4,11 @@ use Rattle.std.specs.Prelude.{codes, encode_utf8, ◌==◌, MatchOption, IfOk, R
 use Rattle.std.specs.Str.{IsUtf8}
 use Rattle.std.proofs.lemmas.Bool.Decides.{nat_tests}
 use Rattle.std.proofs.lemmas.Str.{encode_same}
-use Rattle.rl_session.specs.declared.session.Command.TheVariants.{SetPos, Insert, Backspace, Undo}
-use Rattle.rl_session.specs.Grammar.{Meaning, NewText, Do, number_of, SpellsChar, Says, no_text, text, pos, ins, back, undo, word, rest, Means, MeansNothing}
-use Rattle.rl_session.specs.Reads.{SpellsNoChar, SaysNothing, SaysNoCommand}
+use Rattle.rl_session.specs.declared.session.Command.TheVariants.{SetPos, Move, Insert, Delete, Backspace, Undo}
+use Rattle.rl_base.specs.declared.motion.Movement.{Movement}
+use Rattle.rl_base.specs.declared.motion.Movement.TheVariants.{BackwardChar, ForwardChar}
+use Rattle.rl_session.specs.Grammar.{Meaning, NewText, Do, number_of, SpellsChar, Names, bchar, fchar, Says, no_text, text, pos, move, ins, del, back, undo, word, rest, Means, MeansNothing}
+use Rattle.rl_session.specs.Reads.{SpellsNoChar, NamesNothing, SaysNothing, SaysNoCommand}
 use Rattle.rl_session.proofs.NumberLemmas.{number-no_space}
 use Rattle.rl_session.proofs.PartLemmas.{Lacks, Lacks-none, same_parts}
 use Rattle.rl_session.proofs.SpellingLemmas.{Spells-one}
@@ -31,6 +33,21 @@ word-whole (x ∷ xs) h = rw (other x 32 h.0) (ap (λ l. x ∷ l) (word-whole xs
 pub rest-none : (xs : List ℕ) → Lacks 32 xs → rest xs ≡ None
 rest-none [] h = refl
 rest-none (x ∷ xs) h = rw (other x 32 h.0) (rest-none xs h.1)
+
+-- a movement
+
+-- what is found for the parts is found for the bytes
+pub split-named : (named xs ys : List ℕ) (found : Option Movement) → named ≡ xs ++ 32 ∷ ys → Lacks 32 xs
+    → MatchOption found (NamesNothing xs (Some ys)) (λ movement. Names xs (Some ys) movement)
+    → MatchOption found (NamesNothing (word named) (rest named)) (λ movement. Names (word named) (rest named) movement)
+split-named named xs ys None is h k = λ movement s. k movement (rw (ap word is ∙ word-before xs ys h, ap rest is ∙ rest-behind xs ys h) at s)
+split-named named xs ys (Some movement) is h k = rw (ap word is ∙ word-before xs ys h, ap rest is ∙ rest-behind xs ys h) k
+
+no_movement : {word : List ℕ} {movement : Movement} → Names word None movement → ⊥
+no_movement s = elim s [ ]
+
+pub no_space-named : (named : List ℕ) → Lacks 32 named → NamesNothing (word named) (rest named)
+no_space-named named h movement s = no_movement (subst (λ given. Names (word named) given movement) (rest-none named h) s)
 
 -- an insertion
 
@@ -94,15 +111,21 @@ inserts_same {given = given} {c = c} {d = d} {m = m} {n = n} p q =
     let spelled : encode_utf8 c ≡ encode_utf8 d = Spells-one q.escaped (encode_utf8 c) (encode_utf8 d) (rw parts.1 at p.char.1) q.char.1 in
     ((encode_same c d [] [] (ap (λ l. l ++ []) spelled)).0, count)
 
+Names-one : {word : List ℕ} {given : Option (List ℕ)} {m n : Movement} → Names word given m → Names word given n → m ≡ n
+Names-one (bchar p) (bchar q) = ap (λ x. BackwardChar x) (some_same _ p q)
+Names-one (fchar p) (fchar q) = ap (λ x. ForwardChar x) (some_same _ p q)
+
 Says-one : {word : List ℕ} {given : Option (List ℕ)} {m n : Meaning} → Says word given m → Says word given n → m ≡ n
 Says-one no_text no_text = refl
 Says-one (text {bytes = bytes} {text = t} p) (text {text = u} q) = ap (λ x. NewText x) (Spells-one bytes t u p q)
 Says-one (pos p) (pos q) = ap (λ x. Do (SetPos x)) (some_same _ p q)
+Says-one (move p) (move q) = ap (λ x. Do (Move x)) (Names-one p q)
 Says-one (ins digits p s) t =
     let a = inserts (ins digits p s) in
     let b = inserts t in
     let same = inserts_same a.3 b.3 in
     a.2 ∙ rw (same.0, same.1) refl ∙ sym b.2
+Says-one (del p) (del q) = ap (λ x. Do (Delete x)) (some_same _ p q)
 Says-one (back p) (back q) = ap (λ x. Do (Backspace x)) (some_same _ p q)
 Says-one (undo p) (undo q) = ap (λ x. Do (Undo x)) (some_same _ p q)
 

@@ -3,7 +3,9 @@ use Rattle.std.specs.Prelude.{◌≡◌, ◌≢◌, ℕ, ◌+◌, ◌-◌, ◌*�
 use Rattle.std.specs.Char.{IsScalar}
 use Rattle.std.specs.Str.{IsUtf8}
 use Rattle.rl_session.specs.declared.session.Command.{Command}
-use Rattle.rl_session.specs.declared.session.Command.TheVariants.{SetPos, Insert, Backspace, Undo}
+use Rattle.rl_session.specs.declared.session.Command.TheVariants.{SetPos, Move, Insert, Delete, Backspace, Undo}
+use Rattle.rl_base.specs.declared.motion.Movement.{Movement}
+use Rattle.rl_base.specs.declared.motion.Movement.TheVariants.{BackwardChar, ForwardChar}
 
 -- a line gives a new text, or a command
 pub data Meaning : Type 0 where
@@ -71,16 +73,6 @@ pub data Spells : List ℕ → List ℕ → Type 0 where
 abbrev pub SpellsChar : List ℕ → ℕ → Type 0
 SpellsChar bytes c = IsScalar c × Spells bytes (encode_utf8 c)
 
--- the words, each with what it wants behind it: None where no space follows, or Some of what stands behind the space
-pub data Says : List ℕ → Option (List ℕ) → Meaning → Type 0 where
-  no_text : Says (codes "text") None (NewText [])
-  text : {bytes text : List ℕ} → Spells bytes text → Says (codes "text") (Some bytes) (NewText text)
-  pos : {digits : List ℕ} {place : ℕ} → number_of (2 ^ 64 - 1) digits ≡ Some place → Says (codes "pos") (Some digits) (Do (SetPos place))
-  ins : (digits : List ℕ) {bytes : List ℕ} {c n : ℕ} → number_of 65535 digits ≡ Some n → SpellsChar bytes c
-      → Says (codes "ins") (Some (digits ++ codes " " ++ bytes)) (Do (Insert c n))
-  back : {digits : List ℕ} {n : ℕ} → number_of 65535 digits ≡ Some n → Says (codes "back") (Some digits) (Do (Backspace n))
-  undo : {digits : List ℕ} {n : ℕ} → number_of 65535 digits ≡ Some n → Says (codes "undo") (Some digits) (Do (Undo n))
-
 -- a line's first word: what stands before the first space
 abbrev pub word : List ℕ → List ℕ
 word [] = []
@@ -90,6 +82,23 @@ word (b ∷ bs) = if b == 32 then [] else b ∷ word bs
 abbrev pub rest : List ℕ → Option (List ℕ)
 rest [] = None
 rest (b ∷ bs) = if b == 32 then Some bs else rest bs
+
+-- the words for movements, each with what it wants behind it
+pub data Names : List ℕ → Option (List ℕ) → Movement → Type 0 where
+  bchar : {digits : List ℕ} {n : ℕ} → number_of 65535 digits ≡ Some n → Names (codes "bchar") (Some digits) (BackwardChar n)
+  fchar : {digits : List ℕ} {n : ℕ} → number_of 65535 digits ≡ Some n → Names (codes "fchar") (Some digits) (ForwardChar n)
+
+-- the words, each with what it wants behind it: None where no space follows, or Some of what stands behind the space
+pub data Says : List ℕ → Option (List ℕ) → Meaning → Type 0 where
+  no_text : Says (codes "text") None (NewText [])
+  text : {bytes text : List ℕ} → Spells bytes text → Says (codes "text") (Some bytes) (NewText text)
+  pos : {digits : List ℕ} {place : ℕ} → number_of (2 ^ 64 - 1) digits ≡ Some place → Says (codes "pos") (Some digits) (Do (SetPos place))
+  move : {bytes : List ℕ} {movement : Movement} → Names (word bytes) (rest bytes) movement → Says (codes "move") (Some bytes) (Do (Move movement))
+  ins : (digits : List ℕ) {bytes : List ℕ} {c n : ℕ} → number_of 65535 digits ≡ Some n → SpellsChar bytes c
+      → Says (codes "ins") (Some (digits ++ codes " " ++ bytes)) (Do (Insert c n))
+  del : {digits : List ℕ} {n : ℕ} → number_of 65535 digits ≡ Some n → Says (codes "del") (Some digits) (Do (Delete n))
+  back : {digits : List ℕ} {n : ℕ} → number_of 65535 digits ≡ Some n → Says (codes "back") (Some digits) (Do (Backspace n))
+  undo : {digits : List ℕ} {n : ℕ} → number_of 65535 digits ≡ Some n → Says (codes "undo") (Some digits) (Do (Undo n))
 
 -- what a line, without its newline, means
 abbrev pub Means : List ℕ → Meaning → Type 0

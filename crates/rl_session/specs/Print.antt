@@ -1,10 +1,11 @@
 -- What is printed for a reply.
-use Rattle.std.specs.Prelude.{ℕ, ◌==◌, Bool, ◌||◌, true, false, List, [], ◌∷◌, ◌++◌, Some, None, codes, if◌then◌else◌}
+use Rattle.std.specs.Prelude.{ℕ, ◌==◌, Bool, ◌||◌, ◌&&◌, true, false, List, [], ◌∷◌, ◌++◌, Some, None, codes, if◌then◌else◌}
 use Rattle.std.specs.Fmt.{decimal}
+use Rattle.std.specs.String.{string_bytes}
 use Rattle.rl_session.specs.State.{State}
 use Rattle.rl_session.specs.declared.session.Fault.TheVariants.{NoMemory, BadPlace}
 use Rattle.rl_session.specs.declared.session.Reply.{Reply}
-use Rattle.rl_session.specs.declared.session.Reply.TheVariants.{Done, Answer, Inserted, Refused}
+use Rattle.rl_session.specs.declared.session.Reply.TheVariants.{Done, Answer, Inserted, Text, Refused}
 
 -- the word for a reply; a refusal has its fault's number
 abbrev pub reply_word : Reply → List ℕ
@@ -14,29 +15,37 @@ reply_word (Answer false) = codes "false"
 reply_word (Inserted (Some true)) = codes "true"
 reply_word (Inserted (Some false)) = codes "false"
 reply_word (Inserted None) = codes "none"
+reply_word (Text (Some _)) = codes "text:"
+reply_word (Text None) = codes "none"
 reply_word (Refused NoMemory) = codes "refused:1"
 reply_word (Refused BadPlace) = codes "refused:2"
 
--- backslash, newline, carriage return and tab
-abbrev pub is_special : ℕ → Bool
-is_special b = (b == 92) || ((b == 10) || ((b == 13) || (b == 9)))
+-- backslash, newline, carriage return and tab, and in a text among words also the space
+abbrev pub is_special : Bool → ℕ → Bool
+is_special spaces b = (b == 92) || ((b == 10) || ((b == 13) || ((b == 9) || (spaces && (b == 32)))))
 
--- those four are printed by two bytes each, any other byte as it is
-abbrev pub escape : ℕ → List ℕ
-escape b =
+-- those are printed by two bytes each, any other byte as it is
+abbrev pub escape : Bool → ℕ → List ℕ
+escape spaces b =
     if b == 92 then 92 ∷ 92 ∷ []
     else if b == 10 then 92 ∷ 110 ∷ []
     else if b == 13 then 92 ∷ 114 ∷ []
     else if b == 9 then 92 ∷ 116 ∷ []
+    else if spaces && (b == 32) then 92 ∷ 115 ∷ []
     else b ∷ []
 
-abbrev pub escaped : List ℕ → List ℕ
-escaped [] = []
-escaped (b ∷ bs) = escape b ++ escaped bs
+abbrev pub escaped : Bool → List ℕ → List ℕ
+escaped spaces [] = []
+escaped spaces (b ∷ bs) = escape spaces b ++ escaped spaces bs
+
+-- the text that a reply hands out, printed as one word
+abbrev pub handed_text : Reply → List ℕ
+handed_text (Text (Some t)) = escaped true (string_bytes t)
+handed_text _ = []
 
 -- the reply, the cursor and the text, parted by spaces, in one line
 abbrev pub printed : Reply → State → List ℕ
-printed reply s = reply_word reply ++ (32 ∷ (decimal s.line.cursor ++ (32 ∷ (escaped s.line.text ++ 10 ∷ []))))
+printed reply s = reply_word reply ++ (handed_text reply ++ (32 ∷ (decimal s.line.cursor ++ (32 ∷ (escaped false s.line.text ++ 10 ∷ [])))))
 
 -- what is printed for a line that means nothing
 abbrev pub bad_line : List ℕ

@@ -4,7 +4,8 @@ use Rattle.std.specs.Char.{IsScalar}
 use Rattle.std.specs.String.{string_bytes}
 use Rattle.rl_session.specs.declared.grammar.ScriptLine.{ScriptLine}
 use Rattle.rl_session.specs.declared.grammar.ScriptLine.TheVariants as made
-use Rattle.rl_session.specs.Grammar.{Meaning, NewText, Do, Escapes, Spells, SpellsChar, Says}
+use Rattle.rl_session.specs.Grammar.{Meaning, NewText, Do, Escapes, Spells, SpellsChar, Names, Says}
+use Rattle.rl_base.specs.declared.motion.Movement.{Movement}
 use Rattle.rl_session.specs.declared.session.Command.{Command}
 
 -- what a line of the program means
@@ -38,6 +39,10 @@ BeginsChar bytes c others = IsScalar c × Begins bytes (encode_utf8 c) others
 -- the bytes stand for no single character
 abbrev pub SpellsNoChar : List ℕ → Type 0
 SpellsNoChar bytes = (c : ℕ) → SpellsChar bytes c → ⊥
+
+-- the word names no movement with what stands behind it
+abbrev pub NamesNothing : List ℕ → Option (List ℕ) → Type 0
+NamesNothing word given = (movement : Movement) → Names word given movement → ⊥
 
 -- the word says nothing with what stands behind it
 abbrev pub SaysNothing : List ℕ → Option (List ℕ) → Type 0

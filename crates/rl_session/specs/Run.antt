@@ -2,11 +2,11 @@
 use Rattle.std.specs.Prelude.{◌≡◌, ℕ, List, [], ◌∷◌, ◌++◌, map, drop, reverse, Some, None}
 use Rattle.rl_base.specs.Event.{Event, apply}
 use Rattle.rl_line.specs.Plan.{Step as PlanStep}
-use Rattle.rl_line.specs.Edits.{insert_plan, backspace_plan}
+use Rattle.rl_line.specs.Edits.{insert_plan, delete_plan, backspace_plan}
 use Rattle.rl_line.specs.Record.{Entry, event_of, inverse}
 use Rattle.rl_line.specs.Undo.{kept_by}
 use Rattle.rl_session.specs.declared.session.Command.{Command}
-use Rattle.rl_session.specs.declared.session.Command.TheVariants.{Insert, Backspace, Undo}
+use Rattle.rl_session.specs.declared.session.Command.TheVariants.{Insert, Delete, Backspace, Undo}
 use Rattle.rl_session.specs.declared.session.Fault.TheVariants.{NoMemory}
 use Rattle.rl_session.specs.declared.session.Reply.{Reply}
 use Rattle.rl_session.specs.declared.session.Reply.TheVariants as says
@@ -30,6 +30,8 @@ texts_back entries text = texts_after (map (λ (e : Entry). event_of (inverse e)
 abbrev pub held_in : (old : State) (command : Command) (reply : Reply) (new : State) → Step old command reply new → List (List ℕ)
 held_in old (Insert c n) (says.Inserted a) new s = texts_of_steps (insert_plan old.line c n).steps old.line.text
 held_in old (Insert c n) (says.Refused NoMemory) new s = texts_of_steps s.halted.first old.line.text
+held_in old (Delete n) (says.Text t) new s = texts_of_steps (delete_plan old.line n).steps old.line.text
+held_in old (Delete n) (says.Refused NoMemory) new s = texts_of_steps s.halted.first old.line.text
 held_in old (Backspace n) (says.Answer a) new s = texts_of_steps (backspace_plan old.line n).steps old.line.text
 held_in old (Backspace n) (says.Refused NoMemory) new s = texts_of_steps s.halted.first old.line.text
 held_in old (Undo n) (says.Answer a) new s = texts_back (drop (kept_by n old.changes) old.changes.recorded) old.line.text

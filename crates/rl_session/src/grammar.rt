@@ -2,10 +2,11 @@
 ghost use Rattle.std.specs.Prelude.{◌≡◌, ◌<◌, ◌≤◌, ℕ, Some, None, IfSome, IfOk, MatchOption, codes, ◌∷◌};
 ghost use Rattle.std.specs.Str.{IsUtf8};
 ghost use Rattle.std.specs.String.{string_bytes};
-ghost use Rattle.rl_session.specs.Grammar.{Do, number_of, letter_of, hex_digit, NamesChar, Spells, SpellsChar, Says, Means, MeansNothing};
-ghost use Rattle.rl_session.specs.Reads.{BeginsEscape, BeginsNoEscape, BeginsChar, SpellsNothing, SpellsNoChar, SaysNothing, SaysNoCommand, meaning_of};
+ghost use Rattle.rl_session.specs.Grammar.{Do, number_of, letter_of, hex_digit, NamesChar, Spells, SpellsChar, word, rest, Names, Says, Means, MeansNothing};
+ghost use Rattle.rl_session.specs.Reads.{BeginsEscape, BeginsNoEscape, BeginsChar, SpellsNothing, SpellsNoChar, NamesNothing, SaysNothing, SaysNoCommand, meaning_of};
 
 use crate::session::Command;
+use rl_base::Movement;
 use std::alloc::{AllocError, Global};
 
 /// What a line says.
@@ -166,6 +167,27 @@ fn insertion(given: &str) -> Option<Command>
     Some(Command::Insert(c, n))
 }
 
+// The movement of a word and of what stands behind its space.
+fn counted_movement(word: &str, given: &str) -> Option<Movement>
+    ensures { MatchOption result (NamesNothing word.now (Some given.now)) (λ movement. Names word.now (Some given.now) movement) }
+{
+    match word {
+        "bchar" => Some(Movement::BackwardChar(count(given)?)),
+        "fchar" => Some(Movement::ForwardChar(count(given)?)),
+        _ => None,
+    }
+}
+
+// The movement that the bytes name.
+fn movement(named: &str) -> Option<Movement>
+    ensures { MatchOption result (NamesNothing (word named.now) (rest named.now)) (λ movement. Names (word named.now) (rest named.now) movement) }
+{
+    match named.split_once(' ') {
+        Some((word, given)) => counted_movement(word, given),
+        None => None,
+    }
+}
+
 // The command of a word and of what stands behind its space.
 fn command(word: &str, given: &str) -> Option<Command>
     ensures { MatchOption result (SaysNoCommand word.now given.now)
@@ -173,7 +195,9 @@ fn command(word: &str, given: &str) -> Option<Command>
 {
     match word {
         "pos" => Some(Command::SetPos(number(given, usize::MAX)?)),
+        "move" => Some(Command::Move(movement(given)?)),
         "ins" => insertion(given),
+        "del" => Some(Command::Delete(count(given)?)),
         "back" => Some(Command::Backspace(count(given)?)),
         "undo" => Some(Command::Undo(count(given)?)),
         _ => None,

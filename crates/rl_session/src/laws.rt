@@ -1,12 +1,12 @@
 //! Laws of scripts, which hold of the definitions alone.
-ghost use Rattle.std.specs.Prelude.{◌≡◌, ℕ, List};
+ghost use Rattle.std.specs.Prelude.{◌≡◌, ℕ, Bool, List};
 ghost use Rattle.std.specs.Str.{IsUtf8};
 ghost use Rattle.rl_session.specs.Grammar.{Meaning, Means, Spells};
 ghost use Rattle.rl_session.specs.Print.{escaped};
 
-/// What is printed for a text is read as that text again.
+/// What is printed for a text, also for one that a reply hands out, is read as that text again.
 pub fn escapes_are_read()
-    ensures { (t : List ℕ) → IsUtf8 t → Spells (escaped t) t }
+    ensures { (spaces : Bool) (t : List ℕ) → IsUtf8 t → Spells (escaped spaces t) t }
 {}
 
 /// A line has one meaning at most.

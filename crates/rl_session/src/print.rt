@@ -1,7 +1,7 @@
 //! What is printed for a reply.
 ghost use Rattle.std.specs.Prelude.{◌≡◌, ◌≤◌, ◌<◌, OnOk, ◌++◌, true, take, drop, length, slice_index};
 ghost use Rattle.std.specs.Fmt.{decimal};
-ghost use Rattle.rl_session.specs.Print.{reply_word, is_special, escaped, escape, printed};
+ghost use Rattle.rl_session.specs.Print.{reply_word, handed_text, is_special, escaped, escape, printed};
 
 use crate::session::{Fault, Reply, Session};
 use std::alloc::AllocError;
@@ -16,8 +16,8 @@ fn add_number(out: &mut Vec<u8>, n: usize) -> Result<(), AllocError>
 }
 
 // The word for a reply.
-fn reply_word(reply: Reply) -> &'static str
-    ensures { result.now ≡ reply_word reply }
+fn reply_word(reply: &Reply) -> &'static str
+    ensures { result.now ≡ reply_word reply.now }
 {
     match reply {
         Reply::Done => "ok",
@@ -26,39 +26,42 @@ fn reply_word(reply: Reply) -> &'static str
         Reply::Inserted(Some(true)) => "true",
         Reply::Inserted(Some(false)) => "false",
         Reply::Inserted(None) => "none",
+        Reply::Text(Some(_)) => "text:",
+        Reply::Text(None) => "none",
         Reply::Refused(Fault::NoMemory) => "refused:1",
         Reply::Refused(Fault::BadPlace) => "refused:2",
     }
 }
 
-// Whether the byte is printed by two.
-fn is_special(b: u8) -> bool
-    ensures { result ≡ is_special b }
+// Whether the byte is printed by two; a space is, where texts stand between words.
+fn is_special(b: u8, spaces: bool) -> bool
+    ensures { result ≡ is_special spaces b }
 {
-    b == b'\\' || b == b'\n' || b == b'\r' || b == b'\t'
+    b == b'\\' || b == b'\n' || b == b'\r' || b == b'\t' || (spaces && b == b' ')
 }
 
 // The two bytes that such a byte is printed by.
 fn escape(b: u8) -> &'static [u8]
-    requires { is_special b ≡ true }
-    ensures { result.now ≡ escape b }
+    requires { is_special true b ≡ true }
+    ensures { result.now ≡ escape true b }
 {
     match b {
         b'\\' => b"\\\\",
         b'\n' => b"\\n",
         b'\r' => b"\\r",
-        _ => b"\\t",
+        b'\t' => b"\\t",
+        _ => b"\\s",
     }
 }
 
 // How many bytes from the front on are printed as they are.
-fn plain_len(text: &[u8]) -> usize
+fn plain_len(text: &[u8], spaces: bool) -> usize
     ensures within { result ≤ length text.now }
-    ensures plain { escaped text.now ≡ take result text.now ++ escaped (drop result text.now) }
-    ensures stops { result < length text.now → is_special (slice_index text.now result) ≡ true }
+    ensures plain { escaped spaces text.now ≡ take result text.now ++ escaped spaces (drop result text.now) }
+    ensures stops { result < length text.now → is_special spaces (slice_index text.now result) ≡ true }
 {
     for (i, b) in text.iter().enumerate() {
-        if is_special(*b) {
+        if is_special(*b, spaces) {
             return i;
         }
     }
@@ -66,12 +69,12 @@ fn plain_len(text: &[u8]) -> usize
 }
 
 // Adds the text, escaped.
-fn add_escaped(out: &mut Vec<u8>, text: &[u8]) -> Result<(), AllocError>
-    ensures { OnOk result (out.new.items ≡ out.old.items ++ escaped text.now) }
+fn add_escaped(out: &mut Vec<u8>, text: &[u8], spaces: bool) -> Result<(), AllocError>
+    ensures { OnOk result (out.new.items ≡ out.old.items ++ escaped spaces text.now) }
 {
     let mut rest = text;
     while !rest.is_empty() {
-        let count = plain_len(rest);
+        let count = plain_len(rest, spaces);
         out.extend_from_slice(&rest[..count])?;
         if count == rest.len() {
             return Ok(());
@@ -82,19 +85,30 @@ fn add_escaped(out: &mut Vec<u8>, text: &[u8]) -> Result<(), AllocError>
     Ok(())
 }
 
+// Adds the reply: its word, and the text that it hands out.
+fn add_reply(out: &mut Vec<u8>, reply: &Reply) -> Result<(), AllocError>
+    ensures { OnOk result (out.new.items ≡ out.old.items ++ (reply_word reply.now ++ handed_text reply.now)) }
+{
+    out.extend_from_slice(reply_word(reply).as_bytes())?;
+    match reply {
+        Reply::Text(Some(text)) => add_escaped(out, text.as_bytes(), true),
+        _ => Ok(()),
+    }
+}
+
 /// Adds the line that is printed for a reply: the reply, the cursor and the text of the session.
 pub(crate) fn add_printed(
     out: &mut Vec<u8>,
-    reply: Reply,
+    reply: &Reply,
     session: &Session,
 ) -> Result<(), AllocError>
-    ensures { OnOk result (out.new.items ≡ out.old.items ++ printed reply session.now) }
+    ensures { OnOk result (out.new.items ≡ out.old.items ++ printed reply.now session.now) }
 {
     let line = session.line();
-    out.extend_from_slice(reply_word(reply).as_bytes())?;
+    add_reply(out, reply)?;
     out.extend_from_slice(b" ")?;
     add_number(out, line.pos())?;
     out.extend_from_slice(b" ")?;
-    add_escaped(out, line.as_str().as_bytes())?;
+    add_escaped(out, line.as_str().as_bytes(), false)?;
     out.extend_from_slice(b"\n")
 }

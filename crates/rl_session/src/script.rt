@@ -52,9 +52,9 @@ fn begin(alloc: Global, text: &str) -> Result<Session, Fault>
 }
 
 // Prints a reply, with what the session then holds.
-fn answer(session: &Session, reply: Reply, out: &mut Vec<u8>) -> Result<(), ScriptFault>
+fn answer(session: &Session, reply: &Reply, out: &mut Vec<u8>) -> Result<(), ScriptFault>
     requires { out.old.items ≡ [] }
-    ensures ok { OnOk result (out.new.items ≡ printed reply session.now) }
+    ensures ok { OnOk result (out.new.items ≡ printed reply.now session.now) }
     ensures err { IfErr result (λ f. f ≡ ScriptFault.NoMemory) }
 {
     match add_printed(out, reply, session) {
@@ -77,9 +77,9 @@ fn renew(
     match begin(alloc, text) {
         Ok(new) => {
             *session = new;
-            answer(session, Reply::Done, out)
+            answer(session, &Reply::Done, out)
         }
-        Err(fault) => answer(session, Reply::Refused(fault), out),
+        Err(fault) => answer(session, &Reply::Refused(fault), out),
     }
 }
 
@@ -90,7 +90,7 @@ fn obey(session: &mut Session, command: &Command, out: &mut Vec<u8>) -> Result<(
     ensures err { IfErr result (λ f. f ≡ ScriptFault.NoMemory) }
 {
     let reply = session.apply(command);
-    answer(session, reply, out)
+    answer(session, &reply, out)
 }
 
 // Runs one line, and leaves in `out` what is printed for it.

@@ -7,19 +7,23 @@ ghost use Rattle.rl_session.specs.Run.{Run, AfterEach, held_of};
 ghost use Rattle.rl_session.specs.declared.session.Command.{Command};
 ghost use Rattle.rl_session.specs.declared.session.Reply.{Reply};
 
-use rl_base::{GraphemeClusterMode, NoListener, RepeatCount};
+use rl_base::{GraphemeClusterMode, Movement, NoListener, RepeatCount};
 use rl_line::{Changeset, LineBuffer};
 use std::alloc::Global;
 use std::marker::Model;
 use thiserror::Error;
 
 /// What a session is asked to do. Places are byte places.
-#[derive(Clone, Copy, Debug, PartialEq, Eq)]
+#[derive(Debug, Drop, PartialEq, Eq)]
 pub enum Command {
     /// Moves the cursor to a place.
     SetPos(usize),
+    /// Moves the cursor by a movement. For now those by clusters move it, and the others answer false.
+    Move(Movement),
     /// Inserts a character at the cursor, so many times.
     Insert(char, RepeatCount),
+    /// Deletes so many grapheme clusters from the cursor on.
+    Delete(RepeatCount),
     /// Deletes so many grapheme clusters before the cursor.
     Backspace(RepeatCount),
     /// Undoes so many changes.
@@ -38,7 +42,7 @@ pub enum Fault {
 }
 
 /// What a session answers.
-#[derive(Clone, Copy, Debug, PartialEq, Eq)]
+#[derive(Debug, Drop, PartialEq, Eq)]
 pub enum Reply {
     /// It is done.
     Done,
@@ -46,6 +50,8 @@ pub enum Reply {
     Answer(bool),
     /// Whether the cursor was at the end, or None where nothing went in.
     Inserted(Option<bool>),
+    /// The text that was deleted, or None where there was none.
+    Text(Option<String>),
     /// It was refused.
     Refused(Fault),
 }
@@ -142,12 +148,32 @@ impl Session {
         }
     }
 
+    fn move_by(&mut self, movement: &Movement) -> Reply
+        ensures { Step self.old (Command.Move movement.now) result self.new }
+    {
+        match movement {
+            Movement::BackwardChar(n) => Reply::Answer(self.line.move_backward(*n)),
+            Movement::ForwardChar(n) => Reply::Answer(self.line.move_forward(*n)),
+            _ => Reply::Answer(false),
+        }
+    }
+
     fn insert(&mut self, c: char, n: RepeatCount) -> Reply
         ensures { Step self.old (Command.Insert c n) result self.new }
     {
         let _text = self.line.as_str();
         match self.line.insert(c, n, &mut self.changes) {
             Ok(answer) => Reply::Inserted(answer),
+            Err(_) => Reply::Refused(Fault::NoMemory),
+        }
+    }
+
+    fn delete(&mut self, n: RepeatCount) -> Reply
+        ensures { Step self.old (Command.Delete n) result self.new }
+    {
+        let _text = self.line.as_str();
+        match self.line.delete(n, &mut self.changes) {
+            Ok(text) => Reply::Text(text),
             Err(_) => Reply::Refused(Fault::NoMemory),
         }
     }
@@ -175,11 +201,13 @@ impl Session {
     fn obey(&mut self, command: &Command) -> Reply
         ensures { Step self.old command.now result self.new }
     {
-        match *command {
-            Command::SetPos(pos) => self.set_pos(pos),
-            Command::Insert(c, n) => self.insert(c, n),
-            Command::Backspace(n) => self.backspace(n),
-            Command::Undo(n) => self.undo(n),
+        match command {
+            Command::SetPos(pos) => self.set_pos(*pos),
+            Command::Move(movement) => self.move_by(movement),
+            Command::Insert(c, n) => self.insert(*c, *n),
+            Command::Delete(n) => self.delete(*n),
+            Command::Backspace(n) => self.backspace(*n),
+            Command::Undo(n) => self.undo(*n),
         }
     }
 

@@ -2,14 +2,14 @@
 use crate::run_script;
 use crate::script::ScriptFault;
 use crate::session::{Command, Fault, Reply, Session};
-use rl_base::GraphemeClusterMode;
+use rl_base::{GraphemeClusterMode, Movement};
 use std::io;
 use std::io::{Read, Write};
 use std::test::Fail;
 
 #[test]
 fn scripts_print(rt: HostRuntime) -> Result<(), Fail> {
-    let rows: [(&str, &[u8], &[u8]); 8] = [
+    let rows: [(&str, &[u8], &[u8]); 9] = [
         (
             "an insertion inside the text is undone",
             b"text ab\npos 1\nins 1 c\nundo 1\n",
@@ -46,6 +46,11 @@ fn scripts_print(rt: HostRuntime) -> Result<(), Fail> {
             b"text ae\\u{301}\nback 0\nback 1\nback 9\nback 1\nundo 9\n",
             b"ok 4 ae\xcc\x81\nfalse 4 ae\xcc\x81\ntrue 1 a\ntrue 0 \nfalse 0 \ntrue 4 ae\xcc\x81\n",
         ),
+        (
+            "deleted text is handed out as one word, and the cursor moves by clusters",
+            b"text a b\npos 0\ndel 2\ndel 0\nmove fchar 1\nmove bchar 1\nmove bchar 1\nundo 1\n",
+            b"ok 3 a b\nok 0 a b\ntext:a\\s 0 b\nnone 0 b\ntrue 1 b\ntrue 0 b\nfalse 0 b\ntrue 2 a b\n",
+        ),
     ];
     for (what, script, wanted) in rows {
         let mut reader = script;
@@ -62,7 +67,7 @@ fn scripts_print(rt: HostRuntime) -> Result<(), Fail> {
 
 #[test]
 fn malformed_lines_print_bad(rt: HostRuntime) -> Result<(), Fail> {
-    let rows: [(&str, &[u8]); 26] = [
+    let rows: [(&str, &[u8]); 32] = [
         ("an empty line", b""),
         ("two spaces", b"ins  1 a"),
         ("a space behind", b"undo 1 "),
@@ -89,6 +94,12 @@ fn malformed_lines_print_bad(rt: HostRuntime) -> Result<(), Fail> {
         ("two characters", b"ins 1 ab"),
         ("no character", b"ins 1 "),
         ("no space before the character", b"ins 1"),
+        ("no movement", b"move"),
+        ("an empty movement", b"move "),
+        ("an unknown movement", b"move up 1"),
+        ("a movement without its count", b"move bchar"),
+        ("a space behind a movement", b"move fchar 1 "),
+        ("no count to delete", b"del"),
     ];
     for (what, line) in rows {
         let mut script = Vec::new(rt.alloc());

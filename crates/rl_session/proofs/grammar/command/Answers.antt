@@ -1,5 +1,5 @@
 use Rattle.std.proofs.Common.{sym}
-use Rattle.rl_session.specs.Grammar.{pos, back, undo}
+use Rattle.rl_session.specs.Grammar.{pos, move, del, back, undo}
 use Rattle.rl_session.proofs.grammar.command.Goals as goal
 
 pub returns-in_ok-number-in-pos : goal.returns-in_ok-number-in-pos
@@ -10,3 +10,9 @@ returns-in_ok-count-in-back c = rw c.in-back.is (back (sym c.in_ok-count-in-back
 
 pub returns-in_ok-count-in-undo : goal.returns-in_ok-count-in-undo
 returns-in_ok-count-in-undo c = rw c.in-undo.is (undo (sym c.in_ok-count-in-undo.ensures))
+
+pub returns-in_ok-movement-in-move : goal.returns-in_ok-movement-in-move
+returns-in_ok-movement-in-move c = rw c.in-move.is (move c.in_ok-movement-in-move.ensures)
+
+pub returns-in_ok-count-in-del : goal.returns-in_ok-count-in-del
+returns-in_ok-count-in-del c = rw c.in-del.is (del (sym c.in_ok-count-in-del.ensures))

@@ -2,4 +2,4 @@ use Rattle.rl_session.proofs.PrintLemmas.{escaped-read}
 use Rattle.rl_session.proofs.laws.escapes_are_read.Goals as goal
 
 pub returns : goal.returns
-returns c = λ t u. escaped-read t
+returns c = λ spaces t u. escaped-read spaces t

@@ -3,4 +3,4 @@ use Rattle.rl_session.specs.Print.{escaped}
 use Rattle.rl_session.proofs.print.plain_len.Given as goal
 
 abbrev pub invariant-loop-i : goal.invariant-loop-i
-invariant-loop-i l = escaped l.text ≡ take l.i l.text ++ escaped (drop l.i l.text)
+invariant-loop-i l = escaped l.spaces l.text ≡ take l.i l.text ++ escaped l.spaces (drop l.i l.text)

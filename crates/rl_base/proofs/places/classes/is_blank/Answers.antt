@@ -1,0 +1,6 @@
+use Rattle.std.proofs.Common.{◌∙◌}
+use Rattle.unicode.proofs.PropsStdLemmas.{is_white_space-std}
+use Rattle.rl_base.proofs.places.classes.is_blank.Goals as goal
+
+pub returns : goal.returns
+returns c = c.is_whitespace.ensures ∙ is_white_space-std c.args.c

@@ -1,0 +1,33 @@
+use Rattle.std.proofs.Common.{◌<◌, ◌+◌, sym, ◌∙◌, arith}
+use Rattle.std.proofs.lemmas.Str.{IsUtf8-past_char}
+use Rattle.rl_base.proofs.SearchLemmas.{left_within, char_places-first_at, search-hit, search-miss, nothing_left}
+use Rattle.rl_base.proofs.places.hits.nth_hit.Goals as goal
+
+pub overflow_add-hit : goal.overflow_add-hit
+overflow_add-hit c = omega (arith, c.loop-place.invariant.within, c.in-Some.ensures.steps.0)
+
+pub loop-place-preserved-then-c-wanted : goal.loop-place-preserved-then-c-wanted
+loop-place-preserved-then-c-wanted c =
+    let i = c.loop-place.invariant in
+    let step = c.in-Some.ensures.steps in
+    let some : 0 < c.loop-place.left = omega arith in
+    record {
+      text = IsUtf8-past_char _ _ c.in-Some.c i.text step.1;
+      within = left_within _ _ _ _ _ _ c.in-Some.c i.within step.1 step.2;
+      found = sym (search-hit c.args.wanted (c.args.start + c.in-Some.place) c.in-Some.c c.loop-place.hit _ _ _
+          (char_places-first_at _ _ _ _ _ c.in-Some.c i.text step.1 (omega (arith, step.2)) (omega (arith, step.0))) c.if-c-wanted.true some) ∙ i.found;
+    }
+
+pub loop-place-preserved : goal.loop-place-preserved
+loop-place-preserved c =
+    let i = c.loop-place.invariant in
+    let step = c.in-Some.ensures.steps in
+    record {
+      text = IsUtf8-past_char _ _ c.in-Some.c i.text step.1;
+      within = left_within _ _ _ _ _ _ c.in-Some.c i.within step.1 step.2;
+      found = sym (search-miss c.args.wanted (c.args.start + c.in-Some.place) c.in-Some.c c.loop-place.hit _ _ _
+          (char_places-first_at _ _ _ _ _ c.in-Some.c i.text step.1 (omega (arith, step.2)) (omega (arith, step.0))) c.if-c-wanted.false) ∙ i.found;
+    }
+
+pub returns-in-None : goal.returns-in-None
+returns-in-None c = sym (nothing_left c.args.wanted c.loop-place.hit c.loop-place.left _ _ c.in-None.ensures.steps.0) ∙ c.loop-place.invariant.found

@@ -1,0 +1,35 @@
+use Rattle.std.proofs.Common.{◌<◌, sym, ◌∙◌, arith, rules}
+use Rattle.std.proofs.lemmas.Str.{IsUtf8-encode}
+use Rattle.std.specs.Prelude.{encode_utf8}
+use Rattle.std.specs.Str.{IsUtf8}
+use Rattle.unicode_segmentation.proofs.TextLemmas.{IsUtf8-before}
+use Rattle.rl_base.proofs.SearchLemmas.{char_places-last_at, search_back-hit, search_back-miss, nothing_left_back}
+use Rattle.rl_base.proofs.places.hits.nth_hit_back.Goals as goal
+
+pub loop-place-preserved-then-c-wanted : goal.loop-place-preserved-then-c-wanted
+loop-place-preserved-then-c-wanted c =
+    let i = c.loop-place.invariant in
+    let step = c.in-Some.ensures.steps in
+    let some : 0 < c.loop-place.left = omega arith in
+    let one : IsUtf8 (encode_utf8 c.in-Some.c) = IsUtf8-encode c.in-Some.c (search rules) in
+    let rest = IsUtf8-before _ _ _ i.text one step.1.0 in
+    record {
+      text = rest;
+      found = sym (search_back-hit c.args.wanted c.in-Some.place c.in-Some.c c.loop-place.hit _ _ _
+          (char_places-last_at _ _ _ _ _ c.in-Some.c rest one step.1.0 step.0 step.1.1) c.if-c-wanted.true some) ∙ i.found;
+    }
+
+pub loop-place-preserved : goal.loop-place-preserved
+loop-place-preserved c =
+    let i = c.loop-place.invariant in
+    let step = c.in-Some.ensures.steps in
+    let one : IsUtf8 (encode_utf8 c.in-Some.c) = IsUtf8-encode c.in-Some.c (search rules) in
+    let rest = IsUtf8-before _ _ _ i.text one step.1.0 in
+    record {
+      text = rest;
+      found = sym (search_back-miss c.args.wanted c.in-Some.place c.in-Some.c c.loop-place.hit _ _ _
+          (char_places-last_at _ _ _ _ _ c.in-Some.c rest one step.1.0 step.0 step.1.1) c.if-c-wanted.false) ∙ i.found;
+    }
+
+pub returns-in-None : goal.returns-in-None
+returns-in-None c = sym (nothing_left_back c.args.wanted c.loop-place.hit c.loop-place.left _ _ c.in-None.ensures.steps.1.0) ∙ c.loop-place.invariant.found

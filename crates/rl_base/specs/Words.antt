@@ -1,0 +1,117 @@
+-- What a cluster is to each sense of a word, and where word motions stop.
+use Rattle.std.specs.Prelude.{ℕ, ◌+◌, length, zero, suc, Bool, true, false, not, ◌&&◌, ◌||◌, ◌==◌, List, [], ◌∷◌, map, take, drop, reverse, slice_get, Option, Some, None, unwrap_or, if◌then◌else◌}
+use Rattle.std.specs.List.{list_all, list_any, zip, filter_map, last_or}
+use Rattle.std.specs.Option.{option_map, option_or}
+use Rattle.std.specs.Str.{chars}
+use Rattle.unicode.specs.Binary.{is_alphabetic, is_white_space}
+use Rattle.unicode.specs.GeneralCategory.{general_category}
+use Rattle.ucd_category.specs.declared.GeneralCategory.{GeneralCategory}
+use Rattle.ucd_category.specs.declared.GeneralCategory.TheVariants.{DecimalNumber, LetterNumber, OtherNumber}
+use Rattle.unicode_segmentation.specs.Segments.{with_offsets}
+use Rattle.rl_base.specs.Clusters.{clusters}
+use Rattle.rl_base.specs.declared.motion.At.{At}
+use Rattle.rl_base.specs.declared.motion.At.TheVariants.{Start, BeforeEnd, AfterEnd}
+use Rattle.rl_base.specs.declared.motion.Word.{Word}
+use Rattle.rl_base.specs.declared.motion.Word.TheVariants.{Big, Emacs, Vi}
+
+-- a number, by its general category
+abbrev pub is_number : GeneralCategory → Bool
+is_number DecimalNumber = true
+is_number LetterNumber = true
+is_number OtherNumber = true
+is_number _ = false
+
+-- Alphabetic, or a number
+abbrev pub is_alphanumeric : ℕ → Bool
+is_alphanumeric c = is_alphabetic c || is_number (general_category c)
+
+-- every character of the cluster is alphanumeric
+abbrev pub all_alphanumeric : List ℕ → Bool
+all_alphanumeric cluster = list_all is_alphanumeric (chars cluster)
+
+-- a character of the cluster is White_Space
+abbrev pub has_blank : List ℕ → Bool
+has_blank cluster = list_any is_white_space (chars cluster)
+
+-- the cluster "_"
+abbrev pub is_underscore : List ℕ → Bool
+is_underscore (b ∷ []) = b == 95
+is_underscore _ = false
+
+-- the cluster belongs to words of the sense
+abbrev pub is_word : Word → List ℕ → Bool
+is_word Big cluster = not (has_blank cluster)
+is_word Emacs cluster = all_alphanumeric cluster
+is_word Vi cluster = is_underscore cluster || all_alphanumeric cluster
+
+-- the cluster neither belongs to a Vi word nor holds a blank
+abbrev pub is_other : List ℕ → Bool
+is_other cluster = not (is_word Vi cluster) && not (has_blank cluster)
+
+-- a word starts at y, which follows x
+abbrev pub starts : Word → List ℕ → List ℕ → Bool
+starts Vi x y = (not (is_word Vi x) && is_word Vi y) || (not (is_other x) && is_other y)
+starts sense x y = not (is_word sense x) && is_word sense y
+
+-- a word ends with x, which y follows
+abbrev pub ends : Word → List ℕ → List ℕ → Bool
+ends Vi x y = (is_word Vi x && not (is_word Vi y)) || (is_other x && not (is_other y))
+ends sense x y = is_word sense x && not (is_word sense y)
+
+-- a cluster, with its place
+abbrev pub PlacedCluster : Type 0
+PlacedCluster = ℕ × List ℕ
+
+-- the clusters of a text, each with its place
+abbrev pub placed_clusters : List ℕ → List PlacedCluster
+placed_clusters text = with_offsets 0 (clusters text)
+
+-- each element with the one after it
+abbrev pub neighbors : {X : Type 0} → List X → List (X × X)
+neighbors xs = zip xs (drop 1 xs)
+
+-- where a motion stops between x and y, the cluster after it, if it does
+abbrev pub stop_between : At → Word → PlacedCluster × PlacedCluster → Option ℕ
+stop_between Start sense (x, y) = if starts sense x.1 y.1 then Some y.0 else None
+stop_between AfterEnd sense (x, y) = if ends sense x.1 y.1 then Some y.0 else None
+stop_between BeforeEnd Emacs (x, y) = if ends Emacs x.1 y.1 then Some y.0 else None
+stop_between BeforeEnd sense (x, y) = if ends sense x.1 y.1 then Some x.0 else None
+
+-- all places where a motion over the clusters stops
+abbrev pub stops : At → Word → List PlacedCluster → List ℕ
+stops at sense pieces = filter_map (stop_between at sense) (neighbors pieces)
+
+-- the n-th element, counted from 1
+abbrev pub nth : ℕ → List ℕ → Option ℕ
+nth zero xs = None
+nth (suc n) xs = slice_get xs n
+
+-- the n-th start of a word from the back, or 0; none at the start of the text
+abbrev pub prev_word : List ℕ → ℕ → Word → ℕ → Option ℕ
+prev_word text pos sense n =
+    if pos == 0 then None
+    else Some (unwrap_or (nth n (reverse (stops Start sense (placed_clusters (take pos text))))) 0)
+
+-- the place of the last cluster, if it is not the first
+abbrev pub last_place : List ℕ → Option ℕ
+last_place text = last_or None (map (λ piece. piece.0) (drop 1 (placed_clusters text)))
+
+-- where a motion ends that finds fewer stops than were asked for
+abbrev pub last_stop : At → Word → ℕ → List ℕ → Option ℕ
+last_stop AfterEnd sense n text = Some (length text)
+last_stop at Emacs n text = Some (length text)
+last_stop at sense zero text = None
+last_stop at sense (suc n) text = last_place text
+
+-- the clusters that a motion looks at: one to the last cluster of a word leaves out the first
+abbrev pub looked_at : At → List PlacedCluster → List PlacedCluster
+looked_at BeforeEnd pieces = drop 1 pieces
+looked_at at pieces = pieces
+
+-- the n-th stop in the text, or where the motion ends instead
+abbrev pub next_stop : At → Word → ℕ → List ℕ → Option ℕ
+next_stop at sense n text = option_or (nth n (stops at sense (looked_at at (placed_clusters text)))) (last_stop at sense n text)
+
+-- the same from the place on; none at the end of the text
+abbrev pub next_word : List ℕ → ℕ → At → Word → ℕ → Option ℕ
+next_word text pos at sense n = if pos == length text then None else option_map (λ stop. pos + stop) (next_stop at sense n (drop pos text))

@@ -1,0 +1,82 @@
+//! What a grapheme cluster is to each sense of a word.
+ghost use Rattle.std.specs.Prelude.{◌≡◌, List, ℕ};
+ghost use Rattle.unicode.specs.Binary.{is_white_space};
+ghost use Rattle.rl_base.specs.Words.{is_alphanumeric, has_blank, all_alphanumeric, starts, ends};
+ghost use Rattle.rl_base.specs.Classes.{class_of};
+
+use crate::motion::Word;
+use unicode::properties::{GeneralCategory, is_alphabetic};
+
+/// What a cluster is to a sense of a word. A word goes on for as long as its clusters are of one class.
+#[derive(Clone, Copy, Eq, PartialEq)]
+pub enum Class {
+    /// Belongs to words of the sense.
+    Member,
+    /// Belongs to vi's words of other clusters.
+    Other,
+    /// Belongs to no word.
+    Outside,
+}
+
+/// Whether the character is Alphabetic or a number (general category Nd, Nl or No).
+pub fn is_alphanumeric(c: char) -> bool
+    ensures { result ≡ is_alphanumeric c }
+{
+    if c.is_ascii() {
+        return c.is_ascii_alphanumeric();
+    }
+    is_alphabetic(c)
+        || matches!(
+            GeneralCategory::for_char(c),
+            GeneralCategory::DecimalNumber
+                | GeneralCategory::LetterNumber
+                | GeneralCategory::OtherNumber
+        )
+}
+
+// The standard library has the same property without a search in a table.
+fn is_blank(c: char) -> bool
+    ensures { result ≡ is_white_space c }
+{
+    c.is_whitespace()
+}
+
+fn has_blank(cluster: &str) -> bool
+    ensures { result ≡ has_blank cluster.now }
+{
+    cluster.chars().any(is_blank)
+}
+
+fn all_alphanumeric(cluster: &str) -> bool
+    ensures { result ≡ all_alphanumeric cluster.now }
+{
+    cluster.chars().all(is_alphanumeric)
+}
+
+/// What the cluster is to the sense of a word.
+pub fn class_of(sense: Word, cluster: &str) -> Class
+    ensures { result ≡ class_of sense cluster.now }
+{
+    match sense {
+        Word::Big if has_blank(cluster) => Class::Outside,
+        Word::Big => Class::Member,
+        Word::Emacs | Word::Vi if all_alphanumeric(cluster) => Class::Member,
+        Word::Vi if cluster == "_" => Class::Member,
+        Word::Vi if !has_blank(cluster) => Class::Other,
+        Word::Emacs | Word::Vi => Class::Outside,
+    }
+}
+
+/// Whether a word starts at a cluster of the class `next`, which follows one of the class `last`.
+pub fn starts(last: Class, next: Class) -> bool
+    ensures { (sense : Word) (x y : List ℕ) → last ≡ class_of sense x → next ≡ class_of sense y → result ≡ starts sense x y }
+{
+    next != Class::Outside && last != next
+}
+
+/// Whether a word ends with a cluster of the class `last`, which one of the class `next` follows.
+pub fn ends(last: Class, next: Class) -> bool
+    ensures { (sense : Word) (x y : List ℕ) → last ≡ class_of sense x → next ≡ class_of sense y → result ≡ ends sense x y }
+{
+    last != Class::Outside && last != next
+}

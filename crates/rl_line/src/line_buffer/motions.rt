@@ -1,0 +1,114 @@
+//! The motions of a line: each moves the cursor to a place, if there is one, and changes nothing else.
+ghost use Rattle.std.specs.Prelude.{◌≡◌, ◌↔◌, length, IfSome, IsTrue};
+ghost use Rattle.std.specs.Str.{IsCharBoundary};
+ghost use Rattle.rl_base.specs.Clusters.{next_pos, prev_pos};
+ghost use Rattle.rl_base.specs.Words.{next_word, prev_word};
+ghost use Rattle.rl_base.specs.Search.{find_place};
+ghost use Rattle.rl_line.specs.Motions.{Moved, unless_there, IsEndOfInput};
+
+#[cfg(test)]
+mod tests;
+
+use crate::line_buffer::LineBuffer;
+use rl_base::places::{find_place, next_pos, next_word, prev_pos, prev_word};
+use rl_base::{At, CharSearch, RepeatCount, Word};
+
+impl LineBuffer {
+    /// Whether nothing but blanks stands from the cursor on.
+    pub fn is_end_of_input(&self) -> bool
+        ensures { IsTrue result ↔ IsEndOfInput self.now }
+    {
+        self.pos >= self.buf.as_str().trim_end().len()
+    }
+
+    /// The byte place past the next `n` grapheme clusters, or past all of them where there are fewer. None
+    /// at the end and for `n` = 0.
+    pub fn next_pos(&self, n: RepeatCount) -> Option<usize>
+        ensures place { result ≡ next_pos self.now.text self.now.cursor n }
+        ensures boundary { IfSome result (IsCharBoundary self.now.text) }
+    {
+        next_pos(self.as_str(), self.pos(), n)
+    }
+
+    // Moves the cursor to the place, if there is one. Answers whether there is.
+    fn move_to_place(&mut self, place: Option<usize>) -> bool
+        requires { IfSome place (IsCharBoundary self.old.text) }
+        ensures { Moved place self.old self.new result }
+    {
+        match place {
+            Some(place) => {
+                self.pos = place;
+                true
+            }
+            None => false,
+        }
+    }
+
+    /// Moves back by `n` grapheme clusters, or to the start (GNU readline: backward-char). Answers whether
+    /// there was one.
+    pub fn move_backward(&mut self, n: RepeatCount) -> bool
+        ensures { Moved (prev_pos self.old.text self.old.cursor n) self.old self.new result }
+    {
+        let place = prev_pos(self.as_str(), self.pos(), n);
+        self.move_to_place(place)
+    }
+
+    /// Moves ahead by `n` grapheme clusters, or to the end (GNU readline: forward-char). Answers whether
+    /// there was one.
+    pub fn move_forward(&mut self, n: RepeatCount) -> bool
+        ensures { Moved (next_pos self.old.text self.old.cursor n) self.old self.new result }
+    {
+        let place = self.next_pos(n);
+        self.move_to_place(place)
+    }
+
+    /// Moves to the start of the text. Answers whether the cursor was elsewhere.
+    pub fn move_buffer_start(&mut self) -> bool
+        ensures { Moved (unless_there self.old 0) self.old self.new result }
+    {
+        if self.pos == 0 {
+            return false;
+        }
+        self.pos = 0;
+        true
+    }
+
+    /// Moves to the end of the text. Answers whether the cursor was elsewhere.
+    pub fn move_buffer_end(&mut self) -> bool
+        ensures { Moved (unless_there self.old (length self.old.text)) self.old self.new result }
+    {
+        let end = self.buf.len();
+        if self.pos == end {
+            return false;
+        }
+        self.pos = end;
+        true
+    }
+
+    /// Moves back to the `n`-th start of a word, or to the text's start (GNU readline: backward-word).
+    /// Answers whether the cursor was not at the start.
+    pub fn move_to_prev_word(&mut self, word: Word, n: RepeatCount) -> bool
+        ensures { Moved (prev_word self.old.text self.old.cursor word n) self.old self.new result }
+    {
+        let place = prev_word(self.as_str(), self.pos(), word, n);
+        self.move_to_place(place)
+    }
+
+    /// Moves ahead to the `n`-th start or end of a word (GNU readline: forward-word). Answers whether there
+    /// is a place to go to.
+    pub fn move_to_next_word(&mut self, at: At, word: Word, n: RepeatCount) -> bool
+        ensures { Moved (next_word self.old.text self.old.cursor at word n) self.old self.new result }
+    {
+        let place = next_word(self.as_str(), self.pos(), at, word, n);
+        self.move_to_place(place)
+    }
+
+    /// Moves to the `n`-th hit of a search for a character, or to the farthest (GNU readline:
+    /// character-search). Answers whether there is one.
+    pub fn move_to(&mut self, cs: CharSearch, n: RepeatCount) -> bool
+        ensures { Moved (find_place self.old.text self.old.cursor cs n) self.old self.new result }
+    {
+        let place = find_place(self.as_str(), self.pos(), cs, n);
+        self.move_to_place(place)
+    }
+}

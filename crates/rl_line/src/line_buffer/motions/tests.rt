@@ -1,0 +1,299 @@
+//! Motions with places that were worked out by hand.
+use crate::{LineBuffer, MAX_LINE};
+use rl_base::CharSearch::{Backward, BackwardAfter, Forward, ForwardBefore};
+use rl_base::{At, CharSearch, NoListener, RepeatCount, Word};
+use std::alloc::Global;
+use std::process::Abort;
+use std::test::Fail;
+
+// A motion of a line, as a value of a table.
+#[derive(Clone, Copy)]
+enum Motion {
+    Back(RepeatCount),
+    Ahead(RepeatCount),
+    ToStart,
+    ToEnd,
+    PrevWord(Word, RepeatCount),
+    NextWord(At, Word, RepeatCount),
+    To(CharSearch, RepeatCount),
+}
+
+fn go(line: &mut LineBuffer, motion: Motion) -> bool {
+    match motion {
+        Motion::Back(n) => line.move_backward(n),
+        Motion::Ahead(n) => line.move_forward(n),
+        Motion::ToStart => line.move_buffer_start(),
+        Motion::ToEnd => line.move_buffer_end(),
+        Motion::PrevWord(word, n) => line.move_to_prev_word(word, n),
+        Motion::NextWord(at, word, n) => line.move_to_next_word(at, word, n),
+        Motion::To(cs, n) => line.move_to(cs, n),
+    }
+}
+
+// A line that holds the text, with the cursor at the place.
+fn line_of(rt: &impl Abort, alloc: Global, text: &str, pos: usize) -> Result<LineBuffer, Fail> {
+    let mut line = LineBuffer::with_capacity(alloc, MAX_LINE)?;
+    for c in text.chars() {
+        line.insert(c, 1, &mut NoListener)?;
+    }
+    assert!(rt; line.as_str().is_char_boundary(pos), "{pos} is a place");
+    line.set_pos(pos);
+    Ok(line)
+}
+
+// Goes again and again: to each place in turn, and then nowhere.
+fn goes(
+    rt: &impl Abort,
+    alloc: Global,
+    what: &str,
+    text: &str,
+    pos: usize,
+    motion: Motion,
+    places: &[usize],
+) -> Result<(), Fail> {
+    let mut line = line_of(rt, alloc, text, pos)?;
+    for place in places {
+        assert!(rt; go(&mut line, motion), "{what}: to {place}");
+        assert_eq!(rt; line.pos(), *place, "{what}");
+    }
+    let last = line.pos();
+    assert!(rt; !go(&mut line, motion), "{what}: no further than {last}");
+    assert_eq!(rt; line.pos(), last, "{what}: it stays");
+    assert_eq!(rt; line.as_str(), text, "{what}: so does the text");
+    Ok(())
+}
+
+#[test]
+fn motions_repeated(rt: HostRuntime) -> Result<(), Fail> {
+    let beta = "alpha ,beta/rho; mu";
+    let marks = "\u{f6}\u{332}g\u{308}";
+    let rows: [(&str, &str, usize, Motion, &[usize]); 15] = [
+        ("clusters ahead", marks, 0, Motion::Ahead(1), &[4, 7]),
+        ("clusters back", marks, 7, Motion::Back(1), &[4, 0]),
+        ("no cluster", marks, 0, Motion::Ahead(0), &[]),
+        ("the start", "αß", 2, Motion::ToStart, &[0]),
+        ("the end", "αß", 2, Motion::ToEnd, &[4]),
+        (
+            "vi words back",
+            beta,
+            19,
+            Motion::PrevWord(Word::Vi, 1),
+            &[17, 15, 12, 11, 7, 6, 0],
+        ),
+        (
+            "big words back",
+            beta,
+            19,
+            Motion::PrevWord(Word::Big, 1),
+            &[17, 6, 0],
+        ),
+        (
+            "vi starts",
+            beta,
+            0,
+            Motion::NextWord(At::Start, Word::Vi, 1),
+            &[6, 7, 11, 12, 15, 17, 18],
+        ),
+        (
+            "big starts",
+            beta,
+            0,
+            Motion::NextWord(At::Start, Word::Big, 1),
+            &[6, 17, 18],
+        ),
+        (
+            "vi ends",
+            beta,
+            0,
+            Motion::NextWord(At::BeforeEnd, Word::Vi, 1),
+            &[4, 6, 10, 11, 14, 15, 18],
+        ),
+        (
+            "big ends",
+            beta,
+            0,
+            Motion::NextWord(At::BeforeEnd, Word::Big, 1),
+            &[4, 15, 18],
+        ),
+        (
+            "a letter with a mark is no vi letter",
+            "ae\u{301}b",
+            0,
+            Motion::NextWord(At::Start, Word::Vi, 1),
+            &[1, 4],
+        ),
+        (
+            "no start for no count",
+            "a/b",
+            0,
+            Motion::NextWord(At::Start, Word::Vi, 0),
+            &[],
+        ),
+        (
+            "no hit for no count",
+            "abb",
+            0,
+            Motion::To(ForwardBefore('b'), 0),
+            &[],
+        ),
+        ("no hit", "αßγδε", 2, Motion::To(Forward('x'), 1), &[]),
+    ];
+    for (what, text, pos, motion, places) in rows {
+        goes(&rt, rt.alloc(), what, text, pos, motion, places)?;
+    }
+    Ok(())
+}
+
+#[test]
+fn motions_once(rt: HostRuntime) -> Result<(), Fail> {
+    let greek = "αßγδε";
+    let rows = [
+        (
+            "two vi words back",
+            "a/b",
+            3,
+            Motion::PrevWord(Word::Vi, 2),
+            1,
+        ),
+        (
+            "an emacs word back",
+            "a ß  c",
+            6,
+            Motion::PrevWord(Word::Emacs, 1),
+            2,
+        ),
+        (
+            "behind two emacs words",
+            "a ß  c",
+            1,
+            Motion::NextWord(At::AfterEnd, Word::Emacs, 2),
+            7,
+        ),
+        (
+            "behind an emacs word",
+            "a ß  c",
+            0,
+            Motion::NextWord(At::AfterEnd, Word::Emacs, 1),
+            1,
+        ),
+        (
+            "an emacs start",
+            "a ß  c",
+            2,
+            Motion::NextWord(At::Start, Word::Emacs, 1),
+            6,
+        ),
+        (
+            "two vi starts",
+            "a/b",
+            0,
+            Motion::NextWord(At::Start, Word::Vi, 2),
+            2,
+        ),
+        (
+            "a vi start too many",
+            "a/b",
+            0,
+            Motion::NextWord(At::Start, Word::Vi, 3),
+            2,
+        ),
+        (
+            "many vi starts too many",
+            "a/b",
+            0,
+            Motion::NextWord(At::Start, Word::Vi, 65535),
+            2,
+        ),
+        (
+            "behind no word",
+            "a/b",
+            0,
+            Motion::NextWord(At::AfterEnd, Word::Vi, 0),
+            3,
+        ),
+        (
+            "before the next character",
+            "abb",
+            0,
+            Motion::To(ForwardBefore('b'), 1),
+            0,
+        ),
+        (
+            "into a cluster",
+            "e\u{301}xe\u{301}",
+            0,
+            Motion::To(Forward('\u{301}'), 1),
+            5,
+        ),
+        (
+            "the farthest hit",
+            greek,
+            2,
+            Motion::To(Forward('ε'), 10),
+            8,
+        ),
+        (
+            "before a hit",
+            greek,
+            2,
+            Motion::To(ForwardBefore('ε'), 1),
+            6,
+        ),
+        ("past a hit", greek, 8, Motion::To(BackwardAfter('ß'), 1), 4),
+        ("back to a hit", greek, 8, Motion::To(Backward('ß'), 1), 2),
+        ("a marked letter back", "ag\u{308}", 4, Motion::Back(1), 1),
+        ("a marked letter ahead", "ag\u{308}", 1, Motion::Ahead(1), 4),
+    ];
+    for (what, text, pos, motion, place) in rows {
+        let mut line = line_of(&rt, rt.alloc(), text, pos)?;
+        assert!(rt; go(&mut line, motion), "{what}");
+        assert_eq!(rt; line.pos(), place, "{what}");
+        assert_eq!(rt; line.as_str(), text, "{what}: the text stays");
+    }
+    Ok(())
+}
+
+#[test]
+fn ends_of_input(rt: HostRuntime) -> Result<(), Fail> {
+    for (text, pos, want) in [
+        ("ab \u{3000}", 1, false),
+        ("ab \u{3000}", 2, true),
+        ("ab \u{3000}", 6, true),
+        ("", 0, true),
+        (" ", 0, true),
+    ] {
+        let line = line_of(&rt, rt.alloc(), text, pos)?;
+        assert_eq!(rt; line.is_end_of_input(), want, "{text:?} at {pos}");
+    }
+    Ok(())
+}
+
+#[test]
+fn deletions_answer_their_text(rt: HostRuntime) -> Result<(), Fail> {
+    for (text, pos, n, gone, left) in [
+        ("αß", 2, 1, Some("ß"), "α"),
+        ("αß", 0, 65535, Some("αß"), ""),
+        ("ae\u{301}b", 1, 1, Some("e\u{301}"), "ab"),
+        ("αß", 2, 0, None, "αß"),
+        ("αß", 4, 1, None, "αß"),
+    ] {
+        let mut line = line_of(&rt, rt.alloc(), text, pos)?;
+        let answer = line.delete(n, &mut NoListener)?;
+        match answer {
+            Some(answer) => assert_eq!(rt;
+                Some(answer.as_str()),
+                gone,
+                "{text} at {pos}, {n} times"
+            ),
+            None => assert_eq!(rt; None, gone, "{text} at {pos}, {n} times"),
+        }
+        assert_eq!(rt; line.as_str(), left, "{text} at {pos}, {n} times");
+        assert_eq!(rt; line.pos(), pos, "{text} at {pos}, {n} times");
+    }
+    let mut line = line_of(&rt, rt.alloc(), "αßγ", 6)?;
+    assert!(rt; line.as_str().is_char_boundary(2) && line.as_str().is_char_boundary(4));
+    line.delete_range(2..4, &mut NoListener)?;
+    assert_eq!(rt; line.as_str(), "αγ");
+    assert_eq!(rt; line.pos(), 2);
+    Ok(())
+}
