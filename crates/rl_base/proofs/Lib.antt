@@ -1,4 +1,6 @@
 pub mod TextLemmas
+pub mod WidthLemmas
+pub mod LineLemmas
 pub mod ClusterLemmas
 pub mod WordLemmas
 pub mod ClassLemmas

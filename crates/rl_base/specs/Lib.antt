@@ -1,4 +1,6 @@
 pub mod Text
+pub mod Widths
+pub mod Lines
 pub mod Clusters
 pub mod Words
 pub mod Classes

@@ -1,4 +1,5 @@
 pub mod EditLemmas
+pub mod LineMotionLemmas
 pub mod OriginLemmas
 pub mod PlanLemmas
 pub mod RecordLemmas

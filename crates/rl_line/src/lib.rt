@@ -3,6 +3,7 @@
 
 mod change;
 pub mod line_buffer;
+mod lines;
 #[cfg(test)]
 mod tests;
 pub mod undo;

@@ -11,6 +11,9 @@ ghost use Rattle.rl_line.specs.Record.{entry_of};
 ghost use Rattle.rl_line.specs.Undo.{line_back};
 
 mod edits;
+mod line_motions;
+#[cfg(test)]
+mod line_tests;
 mod motions;
 
 use crate::change::{Change, greatest_len_back, take_back};

@@ -7,7 +7,7 @@ ghost use Rattle.rl_base.specs.Search.{find_place};
 ghost use Rattle.rl_line.specs.Motions.{Moved, unless_there, IsEndOfInput};
 
 #[cfg(test)]
-mod tests;
+pub(super) mod tests;
 
 use crate::line_buffer::LineBuffer;
 use rl_base::places::{find_place, next_pos, next_word, prev_pos, prev_word};
@@ -31,7 +31,7 @@ impl LineBuffer {
     }
 
     // Moves the cursor to the place, if there is one. Answers whether there is.
-    fn move_to_place(&mut self, place: Option<usize>) -> bool
+    pub(super) fn move_to_place(&mut self, place: Option<usize>) -> bool
         requires { IfSome place (IsCharBoundary self.old.text) }
         ensures { Moved place self.old self.new result }
     {

@@ -31,7 +31,12 @@ fn go(line: &mut LineBuffer, motion: Motion) -> bool {
 }
 
 // A line that holds the text, with the cursor at the place.
-fn line_of(rt: &impl Abort, alloc: Global, text: &str, pos: usize) -> Result<LineBuffer, Fail> {
+pub(crate) fn line_of(
+    rt: &impl Abort,
+    alloc: Global,
+    text: &str,
+    pos: usize,
+) -> Result<LineBuffer, Fail> {
     let mut line = LineBuffer::with_capacity(alloc, MAX_LINE)?;
     for c in text.chars() {
         line.insert(c, 1, &mut NoListener)?;

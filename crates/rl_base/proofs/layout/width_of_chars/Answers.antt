@@ -1,0 +1,17 @@
+use Rattle.std.proofs.Common.{arith}
+use Rattle.std.proofs.lemmas.Str.{IsUtf8-past_char}
+use Rattle.rl_base.proofs.WidthLemmas.{columns-char, columns-none}
+use Rattle.rl_base.proofs.layout.width_of_chars.Goals as goal
+
+pub loop-c-preserved : goal.loop-c-preserved
+loop-c-preserved c =
+    let i = c.loop-c.invariant in
+    let step = c.in-Some.ensures.steps in
+    record {
+      text = IsUtf8-past_char _ _ c.in-Some.c i.text step.0;
+      small = omega (arith, c.saturating_add-total.ensures);
+      columns = omega (arith, columns-char _ _ c.in-Some.c c.loop-c.total i.text step.0, c.saturating_add-total.ensures, c.char_columns.ensures.value, i.columns);
+    }
+
+pub returns : goal.returns
+returns c = omega (arith, columns-none _ c.in-None.ensures.steps.0.0, c.loop-c.invariant.columns, c.loop-c.invariant.small)

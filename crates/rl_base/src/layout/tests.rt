@@ -1,0 +1,60 @@
+//! Widths and positions with answers from outside.
+use crate::{GraphemeClusterMode, Layout, Position, Unit};
+use std::test::Fail;
+
+const MODES: [GraphemeClusterMode; 3] = [
+    GraphemeClusterMode::Unicode,
+    GraphemeClusterMode::WcWidth,
+    GraphemeClusterMode::NoZwj,
+];
+
+#[test]
+fn widths(rt: HostRuntime) {
+    let rows: [(&str, [Unit; 3]); 6] = [
+        ("", [0, 0, 0]),
+        ("ab", [2, 2, 2]),
+        ("\u{6f22}a", [3, 3, 3]),
+        ("\u{1f44b}\u{1f3ff}", [2, 4, 2]),
+        ("\u{1f469}\u{200d}\u{1f680}", [2, 4, 4]),
+        ("\u{2764}\u{fe0f}", [2, 1, 2]),
+    ];
+    for (text, wants) in rows {
+        for (mode, want) in MODES.into_iter().zip(wants) {
+            assert_eq!(rt; mode.width(text), want, "{text} in {mode:?}");
+            assert_eq!(rt;
+                Layout::new(mode).width(text),
+                want,
+                "{text} in a layout, {mode:?}"
+            );
+        }
+    }
+}
+
+#[test]
+fn widths_are_cut(rt: HostRuntime) -> Result<(), Fail> {
+    let text = "a".repeat(rt.alloc(), 70_000)?;
+    for mode in MODES {
+        assert_eq!(rt;
+            mode.width(text.as_str()),
+            65535,
+            "70000 letters in {mode:?}"
+        );
+    }
+    Ok(())
+}
+
+#[test]
+fn positions_are_ordered_by_row(rt: HostRuntime) {
+    let rows = [((9, 0), (0, 1)), ((0, 0), (1, 0)), ((65535, 1), (0, 2))];
+    for ((col, row), (later_col, later_row)) in rows {
+        let position = Position { col, row };
+        let later = Position {
+            col: later_col,
+            row: later_row,
+        };
+        assert!(rt; position < later, "{position:?} before {later:?}");
+        assert!(rt; later > position, "{later:?} after {position:?}");
+        assert!(rt; position != later, "{position:?} is not {later:?}");
+    }
+    assert_eq!(rt; Position::default(), Position { col: 0, row: 0 }, "default");
+}
