@@ -1,5 +1,5 @@
 -- The line that a place lies in, from the newlines next to it, and the lines above and below.
-use Rattle.std.proofs.Common.{Option, Some, None, slice_get, slice_range, ◌≡◌, ◌≢◌, ℕ, zero, suc, ◌+◌, ◌-◌, ◌<◌, ◌≤◌, Bool, true, false, cond, List, [], ◌∷◌, ◌++◌, length, get_or, take, drop, All, count_by, refl, sym, ap, ap₂, subst, ◌∙◌, arith, eqb, ne_eqb, append_assoc, append-nil, length-append}
+use Rattle.std.proofs.Common.{Some, None, slice_get, slice_range, ◌≡◌, ◌≢◌, ℕ, zero, suc, ◌+◌, ◌-◌, ◌<◌, ◌≤◌, Bool, true, false, cond, List, [], ◌∷◌, ◌++◌, length, get_or, take, drop, All, count_by, refl, sym, ap, ap₂, subst, ◌∙◌, arith, eqb, ne_eqb, append_assoc, append-nil, length-append}
 use Rattle.std.proofs.lemmas.List.{take_at, get_or_at, get_or-drop, get_or-take, length-drop, length-take-le, take-append-drop, drop_more, take_all}
 use Rattle.std.proofs.lemmas.List.Splits.{slice_split-cons_yes, slice_split-cons_no, slice_split_none, slice_split_at, length-slice_split}
 use Rattle.std.proofs.lemmas.List.Sums.{sum_by-cons, sum_by-append}
