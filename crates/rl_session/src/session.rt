@@ -161,6 +161,7 @@ impl Session {
     fn insert(&mut self, c: char, n: RepeatCount) -> Reply
         ensures { Step self.old (Command.Insert c n) result self.new }
     {
+        // Each edit and undo looks at the text first: so its proof knows that this is UTF-8.
         let _text = self.line.as_str();
         match self.line.insert(c, n, &mut self.changes) {
             Ok(answer) => Reply::Inserted(answer),
