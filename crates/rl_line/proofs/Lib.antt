@@ -1,4 +1,5 @@
 pub mod EditLemmas
+pub mod KillLemmas
 pub mod LineMotionLemmas
 pub mod OriginLemmas
 pub mod PlanLemmas

@@ -5,7 +5,7 @@ use Rattle.std.specs.Option.{option_map}
 use Rattle.std.specs.declared.ops.Range.{Range}
 use Rattle.rl_base.specs.Lines.{is_newline, lines, last_line, line_number, start_of_line, end_of_line, text_of_line, place_of_column}
 use Rattle.rl_base.specs.declared.layout.Layout.{Layout}
-use Rattle.rl_base.proofs.LineLemmas.{count_of_lines, count-parts, number-within, start-zero, go_up, go_down, at_last, text-between}
+use Rattle.rl_base.proofs.LineLemmas.{count_of_lines, count-parts, number-within, start-zero, go_up, go_down, at_last, text-between, lies}
 use Rattle.rl_line.specs.LineMotions.{line_above, line_below, range_of_line, column_above, column_below, columns_before, place_in_line, place_above, place_below}
 
 -- from the start of the line i above line k one line further up
@@ -40,32 +40,39 @@ went_down text k i stop within e some =
       line = down.line ∙ same;
     }
 
-line_above-some : (text : List ℕ) (pos n : ℕ) → (line_number text pos ≡ 0 → ⊥) → line_above text pos n ≡ Some (line_number text pos - max n 1)
-line_above-some text pos n some = ap (λ (b : Bool). cond b None (Some (line_number text pos - max n 1))) (ne_eqb _ 0 some)
+-- whether a line follows that of the place, by the end of its text
+pub no_line_below : (text : List ℕ) (pos stop : ℕ) → stop ≡ end_of_line text (line_number text pos) → stop ≡ length text → eqb (count_by is_newline (drop pos text)) 0 ≡ true
+no_line_below text pos stop e end =
+    let none : count_by is_newline (drop pos text) ≡ 0 = omega (arith, at_last text (line_number text pos) stop (number-within text pos) e end, count-parts text pos) in
+    ap (λ (n : ℕ). eqb n 0) none
 
-line_below-some : (text : List ℕ) (pos n : ℕ) → (count_by is_newline (drop pos text) ≡ 0 → ⊥) → line_below text pos n ≡ Some (min (last_line text) (line_number text pos + max n 1))
-line_below-some text pos n some = ap (λ (b : Bool). cond b None (Some (min (last_line text) (line_number text pos + max n 1)))) (ne_eqb _ 0 some)
+pub a_line_below : (text : List ℕ) (pos stop : ℕ) → stop ≡ end_of_line text (line_number text pos) → (stop ≡ length text → ⊥) → eqb (count_by is_newline (drop pos text)) 0 ≡ false
+a_line_below text pos stop e some =
+    let k = line_number text pos in
+    let down = went_down text k 0 stop (omega (arith, number-within text pos, count_of_lines text)) (e ∙ ap (end_of_line text) (omega arith)) some in
+    ne_eqb _ 0 (λ none. absurd (omega (arith, down.within, count-parts text pos)))
 
 abbrev pub from_to : ℕ → ℕ → Range ℕ
 from_to start stop = record { start = start; end = stop }
 
-pub above-found : (text : List ℕ) (pos n start stop j : ℕ) → (line_number text pos ≡ 0 → ⊥) → j ≡ line_number text pos - max n 1 → start ≡ start_of_line text j → stop ≡ end_of_line text j
+pub above-found : (text : List ℕ) (pos n start stop : ℕ) → (line_number text pos ≡ 0 → ⊥) → start ≡ start_of_line text (line_number text pos - max n 1) → stop ≡ end_of_line text (line_number text start)
     → Some (from_to start stop) ≡ option_map (range_of_line text) (line_above text pos n)
-above-found text pos n start stop j some same e f =
-    let is : from_to start stop ≡ range_of_line text j = ap₂ from_to e f in
-    ap Some (is ∙ ap (range_of_line text) same) ∙ sym (ap (option_map (range_of_line text)) (line_above-some text pos n some))
+above-found text pos n start stop some e f =
+    let j = line_number text pos - max n 1 in
+    let number : line_number text start ≡ j = ap (line_number text) e ∙ (lies text j (omega (arith, number-within text pos))).number_start in
+    let is : from_to start stop ≡ range_of_line text j = ap₂ from_to e (f ∙ ap (end_of_line text) number) in
+    ap Some is ∙ sym (ap (λ (b : Bool). option_map (range_of_line text) (cond b None (Some j))) (ne_eqb _ 0 some))
 
-pub below-found : (text : List ℕ) (pos n start stop j : ℕ) → (count_by is_newline (drop pos text) ≡ 0 → ⊥) → j ≡ min (last_line text) (line_number text pos + max n 1) → start ≡ start_of_line text j → stop ≡ end_of_line text j
+pub below-none : (text : List ℕ) (pos n : ℕ) → eqb (count_by is_newline (drop pos text)) 0 ≡ true → None ≡ option_map (range_of_line text) (line_below text pos n)
+below-none text pos n none = sym (ap (λ (b : Bool). option_map (range_of_line text) (cond b None (Some (min (last_line text) (line_number text pos + max n 1))))) none)
+
+pub below-found : (text : List ℕ) (pos n start stop : ℕ) → eqb (count_by is_newline (drop pos text)) 0 ≡ false → stop ≡ end_of_line text (min (last_line text) (line_number text pos + max n 1)) → start ≡ start_of_line text (line_number text stop)
     → Some (from_to start stop) ≡ option_map (range_of_line text) (line_below text pos n)
-below-found text pos n start stop j some same e f =
-    let is : from_to start stop ≡ range_of_line text j = ap₂ from_to e f in
-    ap Some (is ∙ ap (range_of_line text) same) ∙ sym (ap (option_map (range_of_line text)) (line_below-some text pos n some))
-
--- the line ends where the text does, so that no newline follows
-pub below-none : (text : List ℕ) (pos n stop : ℕ) → stop ≡ end_of_line text (line_number text pos) → stop ≡ length text → line_below text pos n ≡ None
-below-none text pos n stop e end =
-    let none : count_by is_newline (drop pos text) ≡ 0 = omega (arith, at_last text (line_number text pos) stop (number-within text pos) e end, count-parts text pos) in
-    ap (λ (c : ℕ). cond (eqb c 0) None (Some (min (last_line text) (line_number text pos + max n 1)))) none
+below-found text pos n start stop some e f =
+    let j = min (last_line text) (line_number text pos + max n 1) in
+    let number : line_number text stop ≡ j = ap (line_number text) e ∙ (lies text j (omega (arith, count_of_lines text))).number_stop in
+    let is : from_to start stop ≡ range_of_line text j = ap₂ from_to (f ∙ ap (start_of_line text) number) e in
+    ap Some is ∙ sym (ap (λ (b : Bool). option_map (range_of_line text) (cond b None (Some j))) some)
 
 pub above-within : (text : List ℕ) (pos n : ℕ) → IfSome (line_above text pos n) (λ j. j < length (lines text))
 above-within text pos n = from (eqb (line_number text pos) 0)

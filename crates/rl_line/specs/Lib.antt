@@ -2,6 +2,8 @@ pub mod Line
 pub mod Plan
 pub mod Motions
 pub mod LineMotions
+pub mod Ranges
 pub mod Edits
+pub mod Kills
 pub mod Record
 pub mod Undo

@@ -22,6 +22,10 @@ nothing line answer = record { steps = []; cursor = line.cursor; answer = answer
 abbrev pub single : {A : Type 0} → Event → ℕ → A → Plan A
 single event cursor answer = record { steps = (event, cursor) ∷ []; cursor = cursor; answer = answer }
 
+-- the same steps, with another answer
+abbrev pub answering : {A B : Type 0} → B → Plan A → Plan B
+answering answer plan = record { steps = plan.steps; cursor = plan.cursor; answer = answer }
+
 -- the line after the steps, where each event fits its text
 abbrev pub after : List Step → Line → Option Line
 after [] line = Some line

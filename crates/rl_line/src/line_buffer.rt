@@ -11,12 +11,15 @@ ghost use Rattle.rl_line.specs.Record.{entry_of};
 ghost use Rattle.rl_line.specs.Undo.{line_back};
 
 mod edits;
+mod kills;
 mod line_motions;
 #[cfg(test)]
 mod line_tests;
 mod motions;
+mod ranges;
 
 use crate::change::{Change, greatest_len_back, take_back};
+pub use kills::kill_agrees_with_copy;
 use rl_base::{ChangeListener, DeleteListener, Direction, Refusal};
 use std::alloc::Global;
 use std::fmt;

@@ -12,7 +12,8 @@ use Rattle.rl_base.specs.declared.motion.Movement.TheVariants.{BackwardChar, For
 use Rattle.rl_line.specs.Line.{Line}
 use Rattle.rl_line.specs.Motions.{Moved}
 use Rattle.rl_line.specs.Plan.{Plan, Done, Halted}
-use Rattle.rl_line.specs.Edits.{insert_plan, delete_plan, backspace_plan}
+use Rattle.rl_line.specs.Edits.{insert_plan}
+use Rattle.rl_line.specs.Kills.{delete_plan, kill_plan}
 use Rattle.rl_line.specs.Record.{Record, record_step}
 use Rattle.rl_line.specs.Undo.{Undone}
 use Rattle.rl_session.specs.declared.session.Command.{Command}
@@ -65,8 +66,8 @@ Step old (Insert c n) (says.Inserted a) new = Edited (insert_plan old.line c n) 
 Step old (Insert c n) (says.Refused NoMemory) new = Refused (insert_plan old.line c n) old new
 Step old (Delete n) (says.Text t) new = Edited (delete_plan old.line n) old new (option_map string_bytes t)
 Step old (Delete n) (says.Refused NoMemory) new = Refused (delete_plan old.line n) old new
-Step old (Backspace n) (says.Answer a) new = Edited (backspace_plan old.line n) old new a
-Step old (Backspace n) (says.Refused NoMemory) new = Refused (backspace_plan old.line n) old new
+Step old (Backspace n) (says.Answer a) new = Edited (kill_plan old.line (BackwardChar n)) old new a
+Step old (Backspace n) (says.Refused NoMemory) new = Refused (kill_plan old.line (BackwardChar n)) old new
 Step old (Undo n) (says.Answer a) new = TookBack n old new a
 Step old (Undo n) (says.Refused NoMemory) new = new ≡ old
 -- no other reply comes

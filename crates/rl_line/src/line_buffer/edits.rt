@@ -1,15 +1,12 @@
-//! The edits of a line, each generic over the listener that it tells.
-ghost use Rattle.std.specs.Prelude.{◌≡◌, ◌+◌, ◌*◌, ◌≤◌, ◌∷◌, [], length, slice_range, encode_utf8, IfOk, IfErr, OnOk, OnErr};
+//! The edits that put a text in, or take a given range out, each generic over the listener that it tells.
+ghost use Rattle.std.specs.Prelude.{◌≡◌, ◌+◌, ◌*◌, ◌≤◌, ◌∷◌, [], length, encode_utf8, IfOk, IfErr, OnOk, OnErr};
 ghost use Rattle.std.specs.Str.{IsCharBoundary};
-ghost use Rattle.std.specs.Option.{option_map};
 ghost use Rattle.std.specs.String.{string_bytes};
-ghost use Rattle.rl_base.specs.declared.listeners.Refusal.TheVariants.{NoMemory};
 ghost use Rattle.std.specs.List.{insert_slice};
 ghost use Rattle.rl_line.specs.Plan.{Taken, Done, Halted, or_no_memory};
-ghost use Rattle.rl_line.specs.Edits.{too_long, copies_of, insert_event, insert_plan, insert_str_plan, delete_range_plan, delete_plan, backspace_plan};
+ghost use Rattle.rl_line.specs.Edits.{too_long, copies_of, insert_event, insert_plan, insert_str_plan, delete_range_plan};
 
 use crate::line_buffer::LineBuffer;
-use rl_base::places::prev_pos;
 use rl_base::{ChangeListener, DeleteListener, Direction, Refusal, RepeatCount};
 use std::alloc::{AllocError, Global};
 use std::ops::Range;
@@ -114,61 +111,5 @@ impl LineBuffer {
         ensures halted { IfErr result (λ r. Halted L.step L.refused (delete_range_plan self.old range.start range.end) self.old self.new listener.old listener.new r) }
     {
         self.take_out(range.start, range.end, Direction::Forward, listener)
-    }
-
-    /// Deletes the next `n` grapheme clusters (GNU readline: delete-char), and answers their text, or None
-    /// where there is none. The answer is copied before the listener hears of it: refused, it leaves the
-    /// line as it was.
-    pub fn delete<L: DeleteListener>(
-        &mut self,
-        n: RepeatCount,
-        listener: &mut L,
-    ) -> Result<Option<String>, Refusal>
-        ensures done { IfOk result (λ answer. Done L.step (delete_plan self.old n) self.old self.new listener.old listener.new (option_map string_bytes answer)) }
-        ensures halted { IfErr result (λ r. Halted L.step (or_no_memory L.refused) (delete_plan self.old n) self.old self.new listener.old listener.new r) }
-    {
-        let at = self.pos();
-        match self.next_pos(n) {
-            Some(end) => {
-                let gone = self.copied(at, end)?;
-                self.take_out(at, end, Direction::Forward, listener)?;
-                Ok(Some(gone))
-            }
-            None => Ok(None),
-        }
-    }
-
-    // A copy of what stands between two places.
-    fn copied(&self, from: usize, to: usize) -> Result<String, Refusal>
-        requires order { from ≤ to }
-        requires start { IsCharBoundary self.now.text from }
-        requires end { IsCharBoundary self.now.text to }
-        ensures ok { IfOk result (λ copy. string_bytes copy ≡ slice_range self.now.text from to) }
-        ensures err { IfErr result (λ r. r ≡ NoMemory) }
-    {
-        match String::from_str(*self.buf.allocator(), &self.as_str()[from..to]) {
-            Ok(copy) => Ok(copy),
-            Err(_) => Err(Refusal::NoMemory),
-        }
-    }
-
-    /// Deletes the last `n` grapheme clusters before the cursor (GNU readline: backward-delete-char).
-    /// Answers whether there was one. It takes no memory; where its listener refuses, the line stays as it was.
-    pub fn backspace<L: DeleteListener>(
-        &mut self,
-        n: RepeatCount,
-        listener: &mut L,
-    ) -> Result<bool, Refusal>
-        ensures done { IfOk result (λ answer. Done L.step (backspace_plan self.old n) self.old self.new listener.old listener.new answer) }
-        ensures halted { IfErr result (λ r. Halted L.step L.refused (backspace_plan self.old n) self.old self.new listener.old listener.new r) }
-    {
-        let end = self.pos();
-        match prev_pos(self.as_str(), end, n) {
-            Some(from) => {
-                self.take_out(from, end, Direction::Backward, listener)?;
-                Ok(true)
-            }
-            None => Ok(false),
-        }
     }
 }

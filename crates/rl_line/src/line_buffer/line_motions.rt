@@ -10,18 +10,6 @@ use crate::lines::{end_of_line, line_above, line_below, place_of_column, start_o
 use rl_base::{Layout, RepeatCount, Unit};
 
 impl LineBuffer {
-    // Moves the cursor to the place. Answers whether it was elsewhere.
-    fn move_elsewhere(&mut self, place: usize) -> bool
-        requires { IsCharBoundary self.old.text place }
-        ensures { Moved (unless_there self.old place) self.old self.new result }
-    {
-        if self.pos == place {
-            return false;
-        }
-        self.pos = place;
-        true
-    }
-
     /// Moves to the start of the cursor's line. Answers whether the cursor was elsewhere.
     pub fn move_home(&mut self) -> bool
         ensures { Moved (unless_there self.old (home self.old)) self.old self.new result }

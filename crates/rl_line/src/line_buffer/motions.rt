@@ -44,6 +44,17 @@ impl LineBuffer {
         }
     }
 
+    // Moves the cursor to the place. Answers whether it was elsewhere.
+    pub(super) fn move_elsewhere(&mut self, place: usize) -> bool
+        requires { IsCharBoundary self.old.text place }
+        ensures { Moved (unless_there self.old place) self.old self.new result }
+    {
+        if self.pos == place {
+            return false;
+        }
+        self.move_to_place(Some(place))
+    }
+
     /// Moves back by `n` grapheme clusters, or to the start (GNU readline: backward-char). Answers whether
     /// there was one.
     pub fn move_backward(&mut self, n: RepeatCount) -> bool
@@ -66,23 +77,17 @@ impl LineBuffer {
     pub fn move_buffer_start(&mut self) -> bool
         ensures { Moved (unless_there self.old 0) self.old self.new result }
     {
-        if self.pos == 0 {
-            return false;
-        }
-        self.pos = 0;
-        true
+        // So the proof knows that this is UTF-8, and its start a boundary.
+        let _text = self.as_str();
+        self.move_elsewhere(0)
     }
 
     /// Moves to the end of the text. Answers whether the cursor was elsewhere.
     pub fn move_buffer_end(&mut self) -> bool
         ensures { Moved (unless_there self.old (length self.old.text)) self.old self.new result }
     {
-        let end = self.buf.len();
-        if self.pos == end {
-            return false;
-        }
-        self.pos = end;
-        true
+        let end = self.len();
+        self.move_elsewhere(end)
     }
 
     /// Moves back to the `n`-th start of a word, or to the text's start (GNU readline: backward-word).

@@ -1,6 +1,6 @@
 use Rattle.std.proofs.Common.{rules, refl, inl, inr}
 use Rattle.std.proofs.lemmas.Result.{err_from_is_err_and}
-use Rattle.rl_line.proofs.EditLemmas.{delete_ahead_plan-nothing, delete_ahead_plan-some}
+use Rattle.rl_line.proofs.KillLemmas.{delete_plan-nothing, delete_plan-some}
 use Rattle.rl_line.proofs.PlanLemmas.{Done-nothing, Done-single, Halted-single}
 use Rattle.rl_line.proofs.line_buffer.LineBuffer.delete.Goals as goal
 
@@ -8,19 +8,19 @@ pub returns-in_err-gone-in-Some-clause-halted : goal.returns-in_err-gone-in-Some
 returns-in_err-gone-in-Some-clause-halted g c =
     let p = err_from_is_err_and c.from_residual.result c.from_residual.ensures.1 in
     rw (p.1, p.2) (Halted-single _ _ _ _ _ _ _ _ _ _ _ (inl (c.in_err-gone-in-Some.ensures.err, refl)) refl
-    (delete_ahead_plan-some c.args.self.now _ c.pos-at.result c.in-Some.end _ (search rules) (search rules) refl))
+    (delete_plan-some c.args.self.now c.args.n c.in-Some.range _ c.in-Some.ensures.value refl))
 
 pub returns-in_err-take_out-in-Some-clause-halted : goal.returns-in_err-take_out-in-Some-clause-halted
 returns-in_err-take_out-in-Some-clause-halted g c =
     let p = err_from_is_err_and c.from_residual-in_err-take_out-in-Some.result c.from_residual-in_err-take_out-in-Some.ensures.1 in
     rw (p.1, p.2) (Halted-single _ _ _ _ _ _ _ _ _ _ _ (inr c.in_err-take_out-in-Some.ensures.cause) c.in_err-take_out-in-Some.ensures.kept
-    (delete_ahead_plan-some c.args.self.now _ _ _ _ (search rules) (search rules) refl))
+    (delete_plan-some c.args.self.now c.args.n c.in-Some.range _ c.in-Some.ensures.value refl))
 
 pub returns-in_ok-take_out-in-Some-clause-done : goal.returns-in_ok-take_out-in-Some-clause-done
 returns-in_ok-take_out-in-Some-clause-done g c =
     Done-single _ _ _ _ _ _ _ _ _ c.in_ok-take_out-in-Some.ensures.taken (search rules)
-    (delete_ahead_plan-some c.args.self.now _ _ _ _ (search rules) (search rules) (search rules))
+    (delete_plan-some c.args.self.now c.args.n c.in-Some.range _ c.in-Some.ensures.value (search rules))
 
 pub returns-in-None-clause-done : goal.returns-in-None-clause-done
 returns-in-None-clause-done g c =
-    Done-nothing _ _ c.args.self.now _ _ (delete_ahead_plan-nothing c.args.self.now _ (search rules))
+    Done-nothing _ _ c.args.self.now _ _ (delete_plan-nothing c.args.self.now c.args.n c.in-None.ensures.value)

@@ -1,5 +1,5 @@
-use Rattle.std.proofs.lemmas.Str.{IsCharBoundary-start, IsUtf8-string_bytes}
+use Rattle.std.proofs.lemmas.Str.{IsCharBoundary-start}
 use Rattle.rl_line.proofs.line_buffer.LineBuffer.move_buffer_start.Goals as goal
 
-pub invariant_of-self : goal.invariant_of-self
-invariant_of-self c = record { at_boundary = IsCharBoundary-start _ (IsUtf8-string_bytes c.self.inside.buf); within = c.self.invariant.within }
+pub move_elsewhere-requires : goal.move_elsewhere-requires
+move_elsewhere-requires c = rw (← c.as_str-text.ensures) (IsCharBoundary-start _ c.as_str-text.utf8)

@@ -1,0 +1,71 @@
+-- The plans of killing and deleting by a movement, by their cases.
+use Rattle.std.proofs.Common.{◌≡◌, ◌∷◌, [], ℕ, Bool, true, false, List, Some, None, refl, sym, ap, subst, ◌∙◌}
+use Rattle.std.proofs.lemmas.Option.{same_Some}
+use Rattle.std.proofs.lemmas.Result.{IfOk-weaker, IfErr-weaker}
+use Rattle.std.specs.Prelude.{Option, Result, IfOk, IfErr}
+use Rattle.std.specs.Option.{option_map}
+use Rattle.std.specs.declared.ops.Range.{Range}
+use Rattle.rl_base.specs.Event.{Event, Delete, Start, Stop}
+use Rattle.rl_base.specs.declared.listeners.Direction.{Direction}
+use Rattle.rl_base.specs.declared.listeners.Direction.TheVariants.{Forward}
+use Rattle.rl_base.specs.declared.motion.Movement.{Movement}
+use Rattle.rl_base.specs.declared.motion.Movement.TheVariants.{WholeLine, BeginningOfLine, EndOfLine, BackwardWord, ForwardWord, ViCharSearch, ViFirstPrint, BackwardChar, ForwardChar, LineUp, LineDown, WholeBuffer, BeginningOfBuffer, EndOfBuffer}
+use Rattle.rl_line.specs.Line.{Line}
+use Rattle.rl_line.specs.Plan.{nothing, single, answering}
+use Rattle.rl_line.specs.Ranges.{covered, killed}
+use Rattle.rl_line.specs.Kills.{Told, delete_plan, is_exact, kill_plan, removal, side_of, text_in}
+
+pub kill_plan-nothing : (line : Line) (mvt : Movement) → None ≡ killed line mvt → kill_plan line mvt ≡ nothing line false
+kill_plan-nothing line mvt e = rw (← e) refl
+
+pub kill_plan-some : (line : Line) (mvt : Movement) (r : Range ℕ) (side : Direction) → Some r ≡ killed line mvt → side ≡ side_of mvt
+    → kill_plan line mvt ≡ single (Delete r.start (text_in line r) side) r.start true
+kill_plan-some line mvt r side e f = rw (← e, f) refl
+
+pub delete_plan-nothing : (line : Line) (n : ℕ) → None ≡ covered line (ForwardChar n) → delete_plan line n ≡ nothing line None
+delete_plan-nothing line n e = ap (λ (o : Option (Range ℕ)). answering (option_map (text_in line) o) (removal line o Forward)) (sym e)
+
+pub delete_plan-some : (line : Line) (n : ℕ) (r : Range ℕ) (gone : List ℕ) → Some r ≡ covered line (ForwardChar n) → gone ≡ text_in line r
+    → delete_plan line n ≡ single (Delete r.start (text_in line r) Forward) r.start (Some gone)
+delete_plan-some line n r gone e f =
+    ap (λ (o : Option (Range ℕ)). answering (option_map (text_in line) o) (removal line o Forward)) (sym e)
+    ∙ ap (λ (t : List ℕ). single (Delete r.start (text_in line r) Forward) r.start (Some t)) (sym f)
+
+module _ {L : Type 0} (step : L → Event → L) (before first last now : L) (start : first ≡ step before Start) (stop : now ≡ step last Stop) where
+  Told-between : (by_characters : Bool) (P : L → L → Type 0) → by_characters ≡ false → P first last → Told step by_characters P before now
+  Told-between by_characters P e h = rw e record { last = last; inside = subst (λ (l : L). P l last) start h; ended = stop }
+
+  pub Told-ok : {A E : Type 0} (by_characters : Bool) (r : Result A E) (P : L → L → A → Type 0) → by_characters ≡ false
+      → IfOk r (λ a. P first last a) → IfOk r (λ a. Told step by_characters (λ b n. P b n a) before now)
+  Told-ok by_characters r P e = IfOk-weaker r _ _ (λ a. Told-between by_characters (λ b n. P b n a) e)
+
+  pub Told-err : {A E : Type 0} (by_characters : Bool) (r : Result A E) (P : L → L → E → Type 0) → by_characters ≡ false
+      → IfErr r (λ x. P first last x) → IfErr r (λ x. Told step by_characters (λ b n. P b n x) before now)
+  Told-err by_characters r P e = IfErr-weaker r _ _ (λ x. Told-between by_characters (λ b n. P b n x) e)
+
+-- what can't be inside can't be told
+pub Told-never : {L : Type 0} (step : L → Event → L) (by_characters : Bool) (P : L → L → Type 0) (before now : L) → ((b n : L) → P b n → ⊥) → Told step by_characters P before now → ⊥
+Told-never step true P before now never h = never before now h
+Told-never step false P before now never h = never _ _ h.inside
+
+pub killed-exact : (line : Line) (mvt : Movement) → is_exact mvt ≡ true → killed line mvt ≡ covered line mvt
+killed-exact line WholeLine e = absurd (cc e)
+killed-exact line BeginningOfLine e = absurd (cc e)
+killed-exact line EndOfLine e = absurd (cc e)
+killed-exact line (BackwardWord n word) e = refl
+killed-exact line (ForwardWord n at word) e = refl
+killed-exact line (ViCharSearch n cs) e = refl
+killed-exact line ViFirstPrint e = absurd (cc e)
+killed-exact line (BackwardChar n) e = refl
+killed-exact line (ForwardChar n) e = refl
+killed-exact line (LineUp n) e = refl
+killed-exact line (LineDown n) e = refl
+killed-exact line WholeBuffer e = refl
+killed-exact line BeginningOfBuffer e = refl
+killed-exact line EndOfBuffer e = refl
+
+-- the step of a removal carries the text that a copy of the same range has
+pub removal-text : (line : Line) (o : Option (Range ℕ)) (side : Direction) (s : List ℕ) → option_map (text_in line) o ≡ Some s
+    → (place : ℕ) × ((removal line o side).steps ≡ (Delete place s side, place) ∷ [])
+removal-text line None side s e = absurd (cc e)
+removal-text line (Some r) side s e = (r.start, ap (λ t. (Delete r.start t side, r.start) ∷ []) (same_Some _ _ e))

@@ -1,0 +1,74 @@
+-- What copying, deleting and killing by a movement do.
+use Rattle.std.specs.Prelude.{◌≡◌, ℕ, Bool, true, false, List, slice_range, Option, Some, None}
+use Rattle.std.specs.Option.{option_map}
+use Rattle.std.specs.declared.ops.Range.{Range}
+use Rattle.rl_base.specs.Event.{Event, Delete, Start, Stop}
+use Rattle.rl_base.specs.declared.listeners.Direction.{Direction}
+use Rattle.rl_base.specs.declared.listeners.Direction.TheVariants.{Forward, Backward}
+use Rattle.rl_base.specs.declared.motion.CharSearch.{CharSearch}
+use Rattle.rl_base.specs.declared.motion.CharSearch.TheVariants as to
+use Rattle.rl_base.specs.declared.motion.Movement.{Movement}
+use Rattle.rl_base.specs.declared.motion.Movement.TheVariants.{WholeLine, BeginningOfLine, EndOfLine, BackwardWord, ViCharSearch, ViFirstPrint, BackwardChar, ForwardChar, BeginningOfBuffer}
+use Rattle.rl_line.specs.Line.{Line}
+use Rattle.rl_line.specs.Plan.{Plan, nothing, single, answering}
+use Rattle.rl_line.specs.Ranges.{covered, killed}
+
+-- the text of a range
+abbrev pub text_in : Line → Range ℕ → List ℕ
+text_in line r = slice_range line.text r.start r.end
+
+-- what a movement copies
+abbrev pub copied : Line → Movement → Option (List ℕ)
+copied line mvt = option_map (text_in line) (covered line mvt)
+
+-- the side of the cursor that a search, and a movement, takes text from
+abbrev pub side_of_search : CharSearch → Direction
+side_of_search (to.Backward _) = Backward
+side_of_search (to.BackwardAfter _) = Backward
+side_of_search _ = Forward
+
+abbrev pub side_of : Movement → Direction
+side_of BeginningOfLine = Backward
+side_of (BackwardWord _ _) = Backward
+side_of (ViCharSearch _ cs) = side_of_search cs
+side_of (BackwardChar _) = Backward
+side_of BeginningOfBuffer = Backward
+side_of _ = Forward
+
+-- the movements that kill exactly what they copy
+abbrev pub is_exact : Movement → Bool
+is_exact WholeLine = false
+is_exact BeginningOfLine = false
+is_exact EndOfLine = false
+is_exact ViFirstPrint = false
+is_exact _ = true
+
+-- a range goes, if there is one, and the cursor is at its start. The answer: was there one?
+abbrev pub removal : Line → Option (Range ℕ) → Direction → Plan Bool
+removal line None side = nothing line false
+removal line (Some r) side = single (Delete r.start (text_in line r) side) r.start true
+
+-- what a movement kills goes
+abbrev pub kill_plan : Line → Movement → Plan Bool
+kill_plan line mvt = removal line (killed line mvt) (side_of mvt)
+
+-- the same, and the answer is the text that goes
+abbrev pub delete_plan : Line → ℕ → Plan (Option (List ℕ))
+delete_plan line n = answering (copied line (ForwardChar n)) (kill_plan line (ForwardChar n))
+
+-- characters are killed one by one, which is told as deletions and not as kills
+abbrev pub is_by_characters : Movement → Bool
+is_by_characters (BackwardChar _) = true
+is_by_characters (ForwardChar _) = true
+is_by_characters _ = false
+
+-- a listener heard the start of a kill, then what P says of it, then the end of the kill
+pub record Between {L : Type 0} (step : L → Event → L) (P : L → L → Type 0) (before now : L) : Type 0 where
+  pub last : L
+  pub inside : P (step before Start) last
+  pub ended : now ≡ step last Stop
+
+-- what a listener heard of a kill in which P says what it heard of the deletion
+abbrev pub Told : {L : Type 0} → (L → Event → L) → Bool → (L → L → Type 0) → L → L → Type 0
+Told step true P = P
+Told step false P = Between step P

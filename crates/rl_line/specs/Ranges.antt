@@ -1,0 +1,92 @@
+-- What each movement covers: the one table that copying and killing share, with the exceptions of killing beside it.
+use Rattle.std.specs.Prelude.{ℕ, ◌+◌, ◌-◌, ◌==◌, nat_le, min, count_by, List, length, drop, Option, Some, None, option_and_then, if◌then◌else◌}
+use Rattle.std.specs.Char.{len_utf8}
+use Rattle.std.specs.Option.{option_map, option_or}
+use Rattle.std.specs.declared.ops.Range.{Range}
+use Rattle.rl_base.specs.Clusters.{next_pos, prev_pos}
+use Rattle.rl_base.specs.Lines.{is_newline, last_line, line_number, start_of_line, end_of_line}
+use Rattle.rl_base.specs.Search.{chosen_hit}
+use Rattle.rl_base.specs.Words.{next_word, prev_word}
+use Rattle.rl_base.specs.declared.motion.At.TheVariants.{Start}
+use Rattle.rl_base.specs.declared.motion.CharSearch.{CharSearch}
+use Rattle.rl_base.specs.declared.motion.CharSearch.TheVariants.{Forward, ForwardBefore, Backward, BackwardAfter}
+use Rattle.rl_base.specs.declared.motion.Movement.{Movement}
+use Rattle.rl_base.specs.declared.motion.Movement.TheVariants.{WholeLine, BeginningOfLine, EndOfLine, BackwardWord, ForwardWord, ViCharSearch, ViFirstPrint, BackwardChar, ForwardChar, LineUp, LineDown, WholeBuffer, BeginningOfBuffer, EndOfBuffer}
+use Rattle.rl_base.specs.declared.motion.Word.TheVariants.{Big}
+use Rattle.rl_line.specs.Line.{Line}
+use Rattle.rl_line.specs.LineMotions.{home, line_end}
+
+abbrev pub between : ℕ → ℕ → Range ℕ
+between i j = record { start = i; end = j }
+
+-- none where there is nothing between the places
+abbrev pub unless_empty : ℕ → ℕ → Option (Range ℕ)
+unless_empty i j = if i == j then None else Some (between i j)
+
+-- from a place to the cursor, and from the cursor to a place, if there is one
+abbrev pub from_place : Line → Option ℕ → Option (Range ℕ)
+from_place line place = option_map (λ q. between q line.cursor) place
+
+abbrev pub to_place : Line → Option ℕ → Option (Range ℕ)
+to_place line place = option_map (λ q. between line.cursor q) place
+
+-- between the cursor and a hit: with the hit's character for Forward and Backward, else without it
+abbrev pub to_hit : CharSearch → ℕ → ℕ → Range ℕ
+to_hit (Forward c) pos hit = between pos (hit + len_utf8 c)
+to_hit (ForwardBefore _) pos hit = between pos hit
+to_hit (Backward _) pos hit = between hit pos
+to_hit (BackwardAfter c) pos hit = between (hit + len_utf8 c) pos
+
+-- from the place of the first character that is not blank, where that is not behind the cursor
+abbrev pub from_first_print : List ℕ → ℕ → Option (Range ℕ)
+from_first_print text pos =
+    if pos == 0 then None
+    else option_and_then (λ q. if nat_le q pos then Some (between q pos) else None) (next_word text 0 Start Big 1)
+
+-- behind the newline of line k; of the last, which has none, the end of the text
+abbrev pub behind_line : List ℕ → ℕ → ℕ
+behind_line text k = min (end_of_line text k + 1) (length text)
+
+-- the cursor's line with the n lines above it; none on the first line
+abbrev pub lines_up : List ℕ → ℕ → ℕ → Option (Range ℕ)
+lines_up text pos n =
+    let k = line_number text pos in
+    if k == 0 then None else Some (between (start_of_line text (k - n)) (behind_line text k))
+
+-- the cursor's line with the n lines below it, and the newline above it; none without a newline from the cursor on
+abbrev pub lines_down : List ℕ → ℕ → ℕ → Option (Range ℕ)
+lines_down text pos n =
+    let k = line_number text pos in
+    if count_by is_newline (drop pos text) == 0 then None
+    else Some (between (start_of_line text k - 1) (behind_line text (min (last_line text) (k + n))))
+
+-- what a movement covers, and copies
+abbrev pub covered : Line → Movement → Option (Range ℕ)
+covered line WholeLine = unless_empty (home line) (line_end line)
+covered line BeginningOfLine = unless_empty (home line) line.cursor
+covered line EndOfLine = unless_empty line.cursor (line_end line)
+covered line (BackwardWord n word) = from_place line (prev_word line.text line.cursor word n)
+covered line (ForwardWord n at word) = to_place line (next_word line.text line.cursor at word n)
+covered line (ViCharSearch n cs) = option_map (to_hit cs line.cursor) (chosen_hit line.text line.cursor cs n)
+covered line ViFirstPrint = from_first_print line.text line.cursor
+covered line (BackwardChar n) = from_place line (prev_pos line.text line.cursor n)
+covered line (ForwardChar n) = to_place line (next_pos line.text line.cursor n)
+covered line (LineUp n) = lines_up line.text line.cursor n
+covered line (LineDown n) = lines_down line.text line.cursor n
+covered line WholeBuffer = unless_empty 0 (length line.text)
+covered line BeginningOfBuffer = unless_empty 0 line.cursor
+covered line EndOfBuffer = unless_empty line.cursor (length line.text)
+
+-- the newline at the end of a line's text, which only the last line has not
+abbrev pub newline_at : List ℕ → ℕ → Option (Range ℕ)
+newline_at text stop = if stop == length text then None else Some (between stop (stop + 1))
+
+-- what a movement kills: what it covers, but for these
+abbrev pub killed : Line → Movement → Option (Range ℕ)
+-- of an empty line, and at the end of a line, the newline goes
+killed line WholeLine = option_or (covered line WholeLine) (newline_at line.text (line_end line))
+killed line EndOfLine = option_or (covered line EndOfLine) (newline_at line.text (line_end line))
+-- at the start of a line, the cluster before it, which is a newline or ends with one
+killed line BeginningOfLine = option_or (covered line BeginningOfLine) (covered line (BackwardChar 1))
+killed line ViFirstPrint = None
+killed line mvt = covered line mvt

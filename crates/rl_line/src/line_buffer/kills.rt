@@ -1,0 +1,241 @@
+//! Copying, deleting and killing by a movement.
+ghost use Rattle.std.specs.Prelude.{◌≡◌, ◌≤◌, ◌↔◌, ◌∷◌, [], ℕ, List, true, Some, None, slice_range, IfOk, IfErr, IsSome};
+ghost use Rattle.std.specs.Str.{IsCharBoundary};
+ghost use Rattle.std.specs.Option.{option_map};
+ghost use Rattle.std.specs.String.{string_bytes};
+ghost use Rattle.rl_base.specs.Event.{Delete};
+ghost use Rattle.rl_base.specs.declared.listeners.Refusal.TheVariants.{NoMemory};
+ghost use Rattle.rl_base.specs.declared.motion.Movement.{Movement};
+ghost use Rattle.rl_base.specs.declared.motion.Movement.TheVariants.{BeginningOfLine, EndOfLine, BackwardWord, ForwardWord, ViCharSearch, BackwardChar, BeginningOfBuffer, EndOfBuffer};
+ghost use Rattle.rl_line.specs.Line.{Line};
+ghost use Rattle.rl_line.specs.Plan.{Done, Halted, or_no_memory};
+ghost use Rattle.rl_line.specs.Kills.{Told, copied, delete_plan, is_by_characters, is_exact, kill_plan, side_of};
+
+#[cfg(test)]
+mod tests;
+
+use crate::line_buffer::LineBuffer;
+use rl_base::{At, CharSearch, DeleteListener, Direction, Movement, Refusal, RepeatCount, Word};
+
+impl LineBuffer {
+    /// Copies what a movement covers, or answers None where that is nothing. The line stays as it is.
+    pub fn copy(&self, mvt: &Movement) -> Result<Option<String>, Refusal>
+        ensures ok { IfOk result (λ answer. option_map string_bytes answer ≡ copied self.now mvt.now) }
+        ensures err { IfErr result (λ r. r ≡ NoMemory) }
+    {
+        match self.covered(mvt) {
+            Some(range) => Ok(Some(self.text_between(range.start, range.end)?)),
+            None => Ok(None),
+        }
+    }
+
+    // A copy of what stands between two places.
+    fn text_between(&self, from: usize, to: usize) -> Result<String, Refusal>
+        requires order { from ≤ to }
+        requires start { IsCharBoundary self.now.text from }
+        requires end { IsCharBoundary self.now.text to }
+        ensures ok { IfOk result (λ copy. string_bytes copy ≡ slice_range self.now.text from to) }
+        ensures err { IfErr result (λ r. r ≡ NoMemory) }
+    {
+        match String::from_str(*self.buf.allocator(), &self.as_str()[from..to]) {
+            Ok(copy) => Ok(copy),
+            Err(_) => Err(Refusal::NoMemory),
+        }
+    }
+
+    /// Deletes the next `n` grapheme clusters (GNU readline: delete-char), and answers their text, or None
+    /// where there is none. The answer is copied before the listener hears of it: refused, it leaves the
+    /// line as it was.
+    pub fn delete<L: DeleteListener>(
+        &mut self,
+        n: RepeatCount,
+        listener: &mut L,
+    ) -> Result<Option<String>, Refusal>
+        ensures done { IfOk result (λ answer. Done L.step (delete_plan self.old n) self.old self.new listener.old listener.new (option_map string_bytes answer)) }
+        ensures halted { IfErr result (λ r. Halted L.step (or_no_memory L.refused) (delete_plan self.old n) self.old self.new listener.old listener.new r) }
+    {
+        match self.covered(&Movement::ForwardChar(n)) {
+            Some(range) => {
+                let gone = self.text_between(range.start, range.end)?;
+                self.take_out(range.start, range.end, Direction::Forward, listener)?;
+                Ok(Some(gone))
+            }
+            None => Ok(None),
+        }
+    }
+
+    // Deletes what a movement kills, if anything. Answers whether there was something.
+    fn delete_by<L: DeleteListener>(
+        &mut self,
+        mvt: &Movement,
+        listener: &mut L,
+    ) -> Result<bool, Refusal>
+        ensures done { IfOk result (λ answer. Done L.step (kill_plan self.old mvt.now) self.old self.new listener.old listener.new answer) }
+        ensures halted { IfErr result (λ r. Halted L.step L.refused (kill_plan self.old mvt.now) self.old self.new listener.old listener.new r) }
+    {
+        match self.killed(mvt) {
+            Some(range) => {
+                self.take_out(range.start, range.end, side_of(mvt), listener)?;
+                Ok(true)
+            }
+            None => Ok(false),
+        }
+    }
+
+    /// Kills by a movement: what it covers; for the whole line and its end, where that is nothing, the
+    /// line's newline; for its beginning, where that is nothing, the cluster before it; to the first print
+    /// place nothing. Answers whether there was something. But by characters, the listener hears the start
+    /// of a kill first and its end last, also where nothing was killed or it refused. It takes no memory;
+    /// where its listener refuses, the line stays as it was.
+    pub fn kill<L: DeleteListener>(
+        &mut self,
+        mvt: &Movement,
+        listener: &mut L,
+    ) -> Result<bool, Refusal>
+        ensures done { IfOk result (λ answer. Told L.step (is_by_characters mvt.now) (λ before now. Done L.step (kill_plan self.old mvt.now) self.old self.new before now answer) listener.old listener.new) }
+        ensures halted { IfErr result (λ r. Told L.step (is_by_characters mvt.now) (λ before now. Halted L.step L.refused (kill_plan self.old mvt.now) self.old self.new before now r) listener.old listener.new) }
+    {
+        if is_by_characters(mvt) {
+            return self.delete_by(mvt, listener);
+        }
+        listener.start_killing();
+        let answer = self.delete_by(mvt, listener);
+        listener.stop_killing();
+        answer
+    }
+
+    /// Deletes the last `n` grapheme clusters before the cursor (GNU readline: backward-delete-char).
+    /// Answers whether there was one. It takes no memory; where its listener refuses, the line stays as it was.
+    pub fn backspace<L: DeleteListener>(
+        &mut self,
+        n: RepeatCount,
+        listener: &mut L,
+    ) -> Result<bool, Refusal>
+        ensures done { IfOk result (λ answer. Done L.step (kill_plan self.old (BackwardChar n)) self.old self.new listener.old listener.new answer) }
+        ensures halted { IfErr result (λ r. Halted L.step L.refused (kill_plan self.old (BackwardChar n)) self.old self.new listener.old listener.new r) }
+    {
+        self.delete_by(&Movement::BackwardChar(n), listener)
+    }
+
+    /// Deletes from the cursor to the end of its line, or the newline where the cursor is there (GNU
+    /// readline: kill-line). Answers whether the cursor was before the end of the text. It takes no memory;
+    /// where its listener refuses, the line stays as it was.
+    pub fn kill_line<L: DeleteListener>(&mut self, listener: &mut L) -> Result<bool, Refusal>
+        ensures done { IfOk result (λ answer. Done L.step (kill_plan self.old EndOfLine) self.old self.new listener.old listener.new answer) }
+        ensures halted { IfErr result (λ r. Halted L.step L.refused (kill_plan self.old EndOfLine) self.old self.new listener.old listener.new r) }
+    {
+        self.delete_by(&Movement::EndOfLine, listener)
+    }
+
+    /// Deletes from the cursor to the end of the text. Answers whether the cursor was before that. It takes
+    /// no memory; where its listener refuses, the line stays as it was.
+    pub fn kill_buffer<L: DeleteListener>(&mut self, listener: &mut L) -> Result<bool, Refusal>
+        ensures done { IfOk result (λ answer. Done L.step (kill_plan self.old EndOfBuffer) self.old self.new listener.old listener.new answer) }
+        ensures halted { IfErr result (λ r. Halted L.step L.refused (kill_plan self.old EndOfBuffer) self.old self.new listener.old listener.new r) }
+    {
+        self.delete_by(&Movement::EndOfBuffer, listener)
+    }
+
+    /// Deletes from the start of the cursor's line to the cursor, or the cluster before it where the cursor
+    /// is there (GNU readline: unix-line-discard). Answers whether the cursor was behind the start of the
+    /// text. It takes no memory; where its listener refuses, the line stays as it was.
+    pub fn discard_line<L: DeleteListener>(&mut self, listener: &mut L) -> Result<bool, Refusal>
+        ensures done { IfOk result (λ answer. Done L.step (kill_plan self.old BeginningOfLine) self.old self.new listener.old listener.new answer) }
+        ensures halted { IfErr result (λ r. Halted L.step L.refused (kill_plan self.old BeginningOfLine) self.old self.new listener.old listener.new r) }
+    {
+        self.delete_by(&Movement::BeginningOfLine, listener)
+    }
+
+    /// Deletes from the start of the text to the cursor. Answers whether the cursor was behind that. It takes
+    /// no memory; where its listener refuses, the line stays as it was.
+    pub fn discard_buffer<L: DeleteListener>(&mut self, listener: &mut L) -> Result<bool, Refusal>
+        ensures done { IfOk result (λ answer. Done L.step (kill_plan self.old BeginningOfBuffer) self.old self.new listener.old listener.new answer) }
+        ensures halted { IfErr result (λ r. Halted L.step L.refused (kill_plan self.old BeginningOfBuffer) self.old self.new listener.old listener.new r) }
+    {
+        self.delete_by(&Movement::BeginningOfBuffer, listener)
+    }
+
+    /// Deletes from the `n`-th start of a word before the cursor, or the text's start, to the cursor (GNU
+    /// readline: backward-kill-word, unix-word-rubout). Answers whether the cursor was behind the start. It
+    /// takes no memory; where its listener refuses, the line stays as it was.
+    pub fn delete_prev_word<L: DeleteListener>(
+        &mut self,
+        word: Word,
+        n: RepeatCount,
+        listener: &mut L,
+    ) -> Result<bool, Refusal>
+        ensures done { IfOk result (λ answer. Done L.step (kill_plan self.old (BackwardWord n word)) self.old self.new listener.old listener.new answer) }
+        ensures halted { IfErr result (λ r. Halted L.step L.refused (kill_plan self.old (BackwardWord n word)) self.old self.new listener.old listener.new r) }
+    {
+        self.delete_by(&Movement::BackwardWord(n, word), listener)
+    }
+
+    /// Deletes from the cursor to the `n`-th start or end of a word (GNU readline: kill-word). Answers whether
+    /// there is such a place. It takes no memory; where its listener refuses, the line stays as it was.
+    pub fn delete_word<L: DeleteListener>(
+        &mut self,
+        at: At,
+        word: Word,
+        n: RepeatCount,
+        listener: &mut L,
+    ) -> Result<bool, Refusal>
+        ensures done { IfOk result (λ answer. Done L.step (kill_plan self.old (ForwardWord n at word)) self.old self.new listener.old listener.new answer) }
+        ensures halted { IfErr result (λ r. Halted L.step L.refused (kill_plan self.old (ForwardWord n at word)) self.old self.new listener.old listener.new r) }
+    {
+        self.delete_by(&Movement::ForwardWord(n, at, word), listener)
+    }
+
+    /// Deletes between the cursor and the `n`-th hit of a search, or the farthest, with the hit's character
+    /// for `Forward` and `Backward` (vi's `df`, `dt`, `dF` and `dT`). Answers whether there is one. It takes
+    /// no memory; where its listener refuses, the line stays as it was.
+    pub fn delete_to<L: DeleteListener>(
+        &mut self,
+        cs: CharSearch,
+        n: RepeatCount,
+        listener: &mut L,
+    ) -> Result<bool, Refusal>
+        ensures done { IfOk result (λ answer. Done L.step (kill_plan self.old (ViCharSearch n cs)) self.old self.new listener.old listener.new answer) }
+        ensures halted { IfErr result (λ r. Halted L.step L.refused (kill_plan self.old (ViCharSearch n cs)) self.old self.new listener.old listener.new r) }
+    {
+        self.delete_by(&Movement::ViCharSearch(n, cs), listener)
+    }
+}
+
+// The side of the cursor that a movement takes text from.
+fn side_of(mvt: &Movement) -> Direction
+    ensures { result ≡ side_of mvt.now }
+{
+    match mvt {
+        Movement::BeginningOfLine
+        | Movement::BackwardWord(_, _)
+        | Movement::ViCharSearch(_, CharSearch::Backward(_) | CharSearch::BackwardAfter(_))
+        | Movement::BackwardChar(_)
+        | Movement::BeginningOfBuffer => Direction::Backward,
+        Movement::WholeLine
+        | Movement::EndOfLine
+        | Movement::ForwardWord(_, _, _)
+        | Movement::ViCharSearch(_, CharSearch::Forward(_) | CharSearch::ForwardBefore(_))
+        | Movement::ViFirstPrint
+        | Movement::ForwardChar(_)
+        | Movement::LineUp(_)
+        | Movement::LineDown(_)
+        | Movement::WholeBuffer
+        | Movement::EndOfBuffer => Direction::Forward,
+    }
+}
+
+fn is_by_characters(mvt: &Movement) -> bool
+    ensures { result ≡ is_by_characters mvt.now }
+{
+    matches!(mvt, Movement::BackwardChar(_) | Movement::ForwardChar(_))
+}
+
+/// By every movement that kills exactly what it copies, that is all but those to the ends of a line, over
+/// it, and to the first print place, a kill answers true exactly where there is something to copy, and then
+/// reports that text and nothing else.
+pub fn kill_agrees_with_copy()
+    ensures answer { (line : Line) (mvt : Movement) → is_exact mvt ≡ true → ((kill_plan line mvt).answer ≡ true) ↔ IsSome (copied line mvt) }
+    ensures text { (line : Line) (mvt : Movement) (s : List ℕ) → is_exact mvt ≡ true → copied line mvt ≡ Some s
+        → (place : ℕ) × ((kill_plan line mvt).steps ≡ (Delete place s (side_of mvt), place) ∷ []) }
+    ensures nothing { (line : Line) (mvt : Movement) → is_exact mvt ≡ true → copied line mvt ≡ None → (kill_plan line mvt).steps ≡ [] }
+{}

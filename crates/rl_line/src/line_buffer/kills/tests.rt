@@ -1,0 +1,463 @@
+//! Copies, deletions and kills with answers that were worked out by hand.
+ghost use Rattle.std.specs.Prelude.{◌≡◌, ◌+◌, false, true, length, min};
+ghost use Rattle.rl_base.specs.Event.{InsertChar, InsertStr, Delete, Replace, Start, Stop};
+ghost use Rattle.rl_base.specs.declared.listeners.Refusal.TheVariants.{Listener};
+
+use crate::LineBuffer;
+use crate::line_buffer::motions::tests::line_of;
+use rl_base::CharSearch::{Backward, BackwardAfter, Forward, ForwardBefore};
+use rl_base::{
+    At, CharSearch, DeleteListener, Direction, Movement, NoListener, Refusal, RepeatCount, Word,
+};
+use std::alloc::Global;
+use std::process::Abort;
+use std::test::Fail;
+
+// Hears the starts and ends of kills, and the last deletion; or refuses each deletion.
+#[derive(Drop)]
+struct Heard {
+    refuses: bool,
+    starts: u16,
+    stops: u16,
+    deletions: u16,
+    place: usize,
+    len: usize,
+    side: Direction,
+}
+
+impl DeleteListener for Heard {
+    ghost step = { λ h e. elim e [
+      | InsertChar _ _ ↦ h
+      | InsertStr _ _ ↦ h
+      | Delete i s side ↦ record h { deletions = min (h.deletions + 1) 65535; place = i; len = length s; side = side }
+      | Replace _ _ _ ↦ h
+      | Start ↦ record h { starts = min (h.starts + 1) 65535 }
+      | Stop ↦ record h { stops = min (h.stops + 1) 65535 }
+    ] };
+
+    ghost refused = { λ h _ r now. (h.refuses ≡ true) × (r ≡ Listener) × (now ≡ h) };
+
+    fn start_killing(&mut self) {
+        self.starts = self.starts.saturating_add(1);
+    }
+
+    fn delete(&mut self, idx: usize, string: &str, dir: Direction) -> Result<(), Refusal> {
+        if self.refuses {
+            return Err(Refusal::Listener);
+        }
+        self.deletions = self.deletions.saturating_add(1);
+        self.place = idx;
+        self.len = string.len();
+        self.side = dir;
+        Ok(())
+    }
+
+    fn stop_killing(&mut self) {
+        self.stops = self.stops.saturating_add(1);
+    }
+}
+
+fn listener(refuses: bool) -> Heard {
+    Heard {
+        refuses,
+        starts: 0,
+        stops: 0,
+        deletions: 0,
+        place: 0,
+        len: 0,
+        side: Direction::Forward,
+    }
+}
+
+// What the listener heard of, in the text before.
+fn text_at<'a>(text: &'a str, heard: &Heard) -> Option<&'a str> {
+    text.get(heard.place..heard.place.saturating_add(heard.len))
+}
+
+// A call that deletes, as a value of a table.
+#[derive(Drop)]
+enum Call {
+    Backspace(RepeatCount),
+    KillLine,
+    KillBuffer,
+    DiscardLine,
+    DiscardBuffer,
+    PrevWord(Word, RepeatCount),
+    NextWord(At, Word, RepeatCount),
+    To(CharSearch, RepeatCount),
+    Kill(Movement),
+}
+
+fn make(line: &mut LineBuffer, call: &Call, heard: &mut Heard) -> Result<bool, Refusal> {
+    match call {
+        Call::Backspace(n) => line.backspace(*n, heard),
+        Call::KillLine => line.kill_line(heard),
+        Call::KillBuffer => line.kill_buffer(heard),
+        Call::DiscardLine => line.discard_line(heard),
+        Call::DiscardBuffer => line.discard_buffer(heard),
+        Call::PrevWord(word, n) => line.delete_prev_word(*word, *n, heard),
+        Call::NextWord(at, word, n) => line.delete_word(*at, *word, *n, heard),
+        Call::To(cs, n) => line.delete_to(*cs, *n, heard),
+        Call::Kill(mvt) => line.kill(mvt, heard),
+    }
+}
+
+// On that text, the call deletes that, if anything, and its listener hears of nothing else.
+fn deletes(
+    rt: &impl Abort,
+    alloc: Global,
+    text: &str,
+    pos: usize,
+    call: &Call,
+    gone: Option<(usize, &str, Direction)>,
+) -> Result<(), Fail> {
+    let mut line = line_of(rt, alloc, text, pos)?;
+    let mut heard = listener(false);
+    let answer = make(&mut line, call, &mut heard)?;
+    assert_eq!(rt; answer, gone.is_some(), "{text:?} at {pos}");
+    let told = u16::from(matches!(call, Call::Kill(_)));
+    assert_eq!(rt;
+        (heard.starts, heard.deletions, heard.stops),
+        (told, u16::from(answer), told),
+        "{text:?} at {pos}"
+    );
+    let (place, left) = match gone {
+        Some((place, deleted, side)) => {
+            assert_eq!(rt; text_at(text, &heard), Some(deleted), "{text:?} at {pos}");
+            assert_eq!(rt;
+                (heard.place, heard.side),
+                (place, side),
+                "{text:?} at {pos}"
+            );
+            (place, text.len().saturating_sub(deleted.len()))
+        }
+        None => (pos, text.len()),
+    };
+    assert_eq!(rt;
+        (line.pos(), line.len()),
+        (place, left),
+        "{text:?} at {pos}"
+    );
+    Ok(())
+}
+
+#[test]
+fn deletions(rt: HostRuntime) -> Result<(), Fail> {
+    let ahead = Direction::Forward;
+    let back = Direction::Backward;
+    let greek = "αßγδε";
+    let words = "a ß  c";
+    let (big, emacs) = (Word::Big, Word::Emacs);
+    // a text, the cursor, a call, and the place, the text and the side of what it deletes, if anything
+    let rows = [
+        (
+            "αß\nγδ 12\nε f4",
+            7,
+            Call::KillLine,
+            Some((7, "δ 12", ahead)),
+        ),
+        ("αß\nγ\nε f4", 7, Call::KillLine, Some((7, "\n", ahead))),
+        ("αß\nγε f4", 7, Call::KillLine, Some((7, "ε f4", ahead))),
+        ("αß\nγ", 7, Call::KillLine, None),
+        ("αß\nc γδε", 9, Call::DiscardLine, Some((5, "c γ", back))),
+        ("αß\nδε", 5, Call::DiscardLine, Some((4, "\n", back))),
+        ("αßδε", 4, Call::DiscardLine, Some((0, "αß", back))),
+        ("δε", 0, Call::DiscardLine, None),
+        ("a\r\nb", 3, Call::DiscardLine, Some((1, "\r\n", back))),
+        ("a\n\nb", 3, Call::DiscardLine, Some((2, "\n", back))),
+        (greek, 6, Call::KillLine, Some((6, "δε", ahead))),
+        ("αßγ", 4, Call::DiscardLine, Some((0, "αß", back))),
+        ("αß", 2, Call::Backspace(1), Some((0, "α", back))),
+        ("aß", 3, Call::Backspace(9), Some((0, "aß", back))),
+        ("αß", 0, Call::Backspace(1), None),
+        ("a\nß\nc", 2, Call::KillBuffer, Some((2, "ß\nc", ahead))),
+        ("a\n", 2, Call::KillBuffer, None),
+        ("a\nb", 2, Call::DiscardBuffer, Some((0, "a\n", back))),
+        ("b", 0, Call::DiscardBuffer, None),
+        (words, 6, Call::PrevWord(big, 1), Some((2, "ß  ", back))),
+        (words, 6, Call::PrevWord(big, 2), Some((0, "a ß  ", back))),
+        (words, 0, Call::PrevWord(big, 1), None),
+        (
+            words,
+            1,
+            Call::NextWord(At::AfterEnd, emacs, 1),
+            Some((1, " ß", ahead)),
+        ),
+        (
+            words,
+            2,
+            Call::NextWord(At::Start, emacs, 1),
+            Some((2, "ß  ", ahead)),
+        ),
+        (words, 7, Call::NextWord(At::Start, emacs, 1), None),
+        (
+            greek,
+            2,
+            Call::To(ForwardBefore('ε'), 1),
+            Some((2, "ßγδ", ahead)),
+        ),
+        (
+            greek,
+            2,
+            Call::To(Forward('ε'), 1),
+            Some((2, "ßγδε", ahead)),
+        ),
+        (
+            greek,
+            8,
+            Call::To(BackwardAfter('α'), 1),
+            Some((2, "ßγδ", back)),
+        ),
+        (greek, 8, Call::To(Backward('ß'), 1), Some((2, "ßγδ", back))),
+        (greek, 8, Call::To(Backward('x'), 1), None),
+        (
+            "ab",
+            1,
+            Call::To(BackwardAfter('a'), 1),
+            Some((1, "", back)),
+        ),
+        (
+            "ab",
+            2,
+            Call::Kill(Movement::ViCharSearch(1, BackwardAfter('b'))),
+            Some((2, "", back)),
+        ),
+        (
+            "ab\ncd",
+            4,
+            Call::Kill(Movement::WholeLine),
+            Some((3, "cd", ahead)),
+        ),
+        ("ab\n", 3, Call::Kill(Movement::WholeLine), None),
+        (
+            "ab\n\ncd",
+            3,
+            Call::Kill(Movement::WholeLine),
+            Some((3, "\n", ahead)),
+        ),
+        ("ab", 1, Call::Kill(Movement::ViFirstPrint), None),
+        (
+            "a\nb\nc",
+            2,
+            Call::Kill(Movement::LineDown(0)),
+            Some((1, "\nb\n", ahead)),
+        ),
+        (
+            "a\nb\nc",
+            2,
+            Call::Kill(Movement::LineUp(1)),
+            Some((0, "a\nb\n", ahead)),
+        ),
+        ("c", 0, Call::Kill(Movement::LineUp(1)), None),
+    ];
+    for (text, pos, call, gone) in rows {
+        deletes(&rt, rt.alloc(), text, pos, &call, gone)?;
+    }
+    Ok(())
+}
+
+#[test]
+fn copies(rt: HostRuntime) -> Result<(), Fail> {
+    let three = "ab\ncd ef\ngh";
+    let rows = [
+        (three, 5, Movement::WholeLine, Some("cd ef")),
+        (three, 5, Movement::BeginningOfLine, Some("cd")),
+        (three, 5, Movement::EndOfLine, Some(" ef")),
+        (three, 5, Movement::BackwardWord(1, Word::Emacs), Some("cd")),
+        (
+            three,
+            5,
+            Movement::ForwardWord(1, At::AfterEnd, Word::Emacs),
+            Some(" ef"),
+        ),
+        (
+            three,
+            5,
+            Movement::ViCharSearch(1, ForwardBefore('h')),
+            Some(" ef\ng"),
+        ),
+        (
+            three,
+            5,
+            Movement::ViCharSearch(1, Forward('h')),
+            Some(" ef\ngh"),
+        ),
+        (
+            three,
+            5,
+            Movement::ViCharSearch(1, BackwardAfter('b')),
+            Some("\ncd"),
+        ),
+        (
+            three,
+            5,
+            Movement::ViCharSearch(1, Backward('b')),
+            Some("b\ncd"),
+        ),
+        (three, 5, Movement::ViFirstPrint, Some("cd")),
+        (three, 5, Movement::BackwardChar(2), Some("cd")),
+        (three, 5, Movement::ForwardChar(2), Some(" e")),
+        (three, 5, Movement::LineUp(1), Some("ab\ncd ef\n")),
+        (three, 5, Movement::LineUp(0), Some("cd ef\n")),
+        (three, 5, Movement::LineDown(1), Some("\ncd ef\ngh")),
+        (three, 5, Movement::LineDown(0), Some("\ncd ef\n")),
+        (three, 1, Movement::LineDown(0), Some("ab\n")),
+        (three, 1, Movement::LineUp(1), None),
+        (three, 9, Movement::LineDown(1), None),
+        (three, 9, Movement::LineUp(65535), Some(three)),
+        (three, 5, Movement::WholeBuffer, Some(three)),
+        (three, 5, Movement::BeginningOfBuffer, Some("ab\ncd")),
+        (three, 5, Movement::EndOfBuffer, Some(" ef\ngh")),
+        ("  ab", 1, Movement::ViFirstPrint, None),
+        (" ab", 1, Movement::ViFirstPrint, Some("")),
+        ("ab", 2, Movement::ViFirstPrint, Some("b")),
+        ("a", 1, Movement::ViFirstPrint, None),
+        (
+            "ab",
+            1,
+            Movement::ViCharSearch(1, BackwardAfter('a')),
+            Some(""),
+        ),
+        ("ab\n\ncd", 3, Movement::WholeLine, None),
+        ("a\nb", 2, Movement::LineUp(0), Some("b")),
+        ("a\nb\nc", 2, Movement::LineUp(1), Some("a\nb\n")),
+        (
+            "text",
+            4,
+            Movement::ViCharSearch(2, Backward('t')),
+            Some("text"),
+        ),
+        ("text", 4, Movement::EndOfLine, None),
+        ("text", 4, Movement::LineUp(1), None),
+        ("text", 4, Movement::WholeLine, Some("text")),
+    ];
+    for (text, pos, mvt, want) in &rows {
+        let line = line_of(&rt, rt.alloc(), text, *pos)?;
+        let copy = line.copy(mvt)?;
+        assert_eq!(rt; copy.as_deref(), *want, "{mvt:?} of {text:?} at {pos}");
+    }
+    Ok(())
+}
+
+// Each movement with that count.
+fn movements(n: RepeatCount) -> [Movement; 31] {
+    [
+        Movement::WholeLine,
+        Movement::BeginningOfLine,
+        Movement::EndOfLine,
+        Movement::BackwardWord(n, Word::Big),
+        Movement::BackwardWord(n, Word::Emacs),
+        Movement::BackwardWord(n, Word::Vi),
+        Movement::ForwardWord(n, At::Start, Word::Big),
+        Movement::ForwardWord(n, At::Start, Word::Emacs),
+        Movement::ForwardWord(n, At::Start, Word::Vi),
+        Movement::ForwardWord(n, At::BeforeEnd, Word::Big),
+        Movement::ForwardWord(n, At::BeforeEnd, Word::Emacs),
+        Movement::ForwardWord(n, At::BeforeEnd, Word::Vi),
+        Movement::ForwardWord(n, At::AfterEnd, Word::Big),
+        Movement::ForwardWord(n, At::AfterEnd, Word::Emacs),
+        Movement::ForwardWord(n, At::AfterEnd, Word::Vi),
+        Movement::ViCharSearch(n, Forward('a')),
+        Movement::ViCharSearch(n, ForwardBefore('a')),
+        Movement::ViCharSearch(n, Backward('\u{301}')),
+        Movement::ViCharSearch(n, BackwardAfter('\u{301}')),
+        Movement::ViCharSearch(n, Forward('\n')),
+        Movement::ViCharSearch(n, ForwardBefore('\n')),
+        Movement::ViCharSearch(n, Backward('\n')),
+        Movement::ViCharSearch(n, BackwardAfter('\n')),
+        Movement::ViFirstPrint,
+        Movement::BackwardChar(n),
+        Movement::ForwardChar(n),
+        Movement::LineUp(n),
+        Movement::LineDown(n),
+        Movement::WholeBuffer,
+        Movement::BeginningOfBuffer,
+        Movement::EndOfBuffer,
+    ]
+}
+
+// The movements that may kill where there is nothing to copy, or the other way.
+fn may_differ(mvt: &Movement) -> bool {
+    matches!(
+        mvt,
+        Movement::WholeLine
+            | Movement::BeginningOfLine
+            | Movement::EndOfLine
+            | Movement::ViFirstPrint
+    )
+}
+
+#[test]
+fn kills_delete_what_copies_hold(rt: HostRuntime) -> Result<(), Fail> {
+    let awkward = "e\u{301}\r\n\u{1f468}\u{200d}\u{1f469} a\n";
+    let mut compared: u16 = 0;
+    for pos in (0..=awkward.len()).filter(|pos| awkward.is_char_boundary(*pos)) {
+        for n in [0, 1, 2, 65535] {
+            for mvt in &movements(n) {
+                let mut line = line_of(&rt, rt.alloc(), awkward, pos)?;
+                let copy = line.copy(mvt)?;
+                let mut heard = listener(false);
+                let killed = line.kill(mvt, &mut heard)?;
+                if copy.is_some() == killed {
+                    compared = compared.saturating_add(1);
+                    if let Some(copy) = copy {
+                        assert_eq!(rt;
+                            text_at(awkward, &heard),
+                            Some(copy.as_str()),
+                            "{mvt:?} at {pos}"
+                        );
+                        assert_eq!(rt; line.len() + copy.len(), awkward.len(), "{mvt:?} at {pos}");
+                    }
+                } else {
+                    assert!(rt;
+                        may_differ(mvt),
+                        "{mvt:?} at {pos}: {killed}, where a copy is {copy:?}"
+                    );
+                }
+            }
+        }
+    }
+    assert!(rt; compared > 1000, "only {compared} kills were compared");
+    Ok(())
+}
+
+#[test]
+fn refused_kills_leave_the_line(rt: HostRuntime) -> Result<(), Fail> {
+    for (mvt, told) in [
+        (Movement::WholeLine, 1),
+        (Movement::BackwardWord(1, Word::Emacs), 1),
+        (Movement::LineUp(0), 1),
+        (Movement::BackwardChar(1), 0),
+        (Movement::ForwardChar(1), 0),
+    ] {
+        let mut line = line_of(&rt, rt.alloc(), "a\nb c", 3)?;
+        let mut heard = listener(true);
+        assert_eq!(rt;
+            line.kill(&mvt, &mut heard),
+            Err(Refusal::Listener),
+            "{mvt:?}"
+        );
+        assert_eq!(rt; (heard.starts, heard.stops), (told, told), "{mvt:?}");
+        assert_eq!(rt; line.as_str(), "a\nb c", "{mvt:?}");
+        assert_eq!(rt; line.pos(), 3, "{mvt:?}");
+    }
+    Ok(())
+}
+
+// The contracts rule out a refusal: it takes no memory, and this listener refuses nothing.
+fn kill_unheard(line: &mut LineBuffer, mvt: &Movement) -> bool {
+    match line.kill(mvt, &mut NoListener) {
+        Ok(answer) => answer,
+        Err(_) => unreachable!(),
+    }
+}
+
+#[test]
+fn nothing_is_on_an_empty_line(rt: HostRuntime) -> Result<(), Fail> {
+    for mvt in &movements(1) {
+        let mut line = line_of(&rt, rt.alloc(), "", 0)?;
+        assert!(rt; line.copy(mvt)?.is_none(), "a copy by {mvt:?}");
+        assert!(rt; !kill_unheard(&mut line, mvt), "a kill by {mvt:?}");
+    }
+    Ok(())
+}

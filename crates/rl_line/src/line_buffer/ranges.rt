@@ -1,0 +1,182 @@
+//! What each movement covers, for copying and killing.
+ghost use Rattle.std.specs.Prelude.{◌≡◌, ◌≢◌, ◌+◌, ◌≤◌, length, min, IfSome};
+ghost use Rattle.std.specs.Option.{option_map};
+ghost use Rattle.std.specs.Str.{IsCharBoundary};
+ghost use Rattle.rl_base.specs.Search.{chosen_hit};
+ghost use Rattle.rl_line.specs.LineMotions.{line_end};
+ghost use Rattle.rl_line.specs.Ranges.{covered, from_first_print, killed, lines_down, lines_up, newline_at, to_hit, unless_empty};
+
+use crate::line_buffer::LineBuffer;
+use crate::lines::{end_below, end_of_line, start_above, start_of_line};
+use rl_base::places::{next_pos, next_word, prev_pos, prev_word, search};
+use rl_base::{At, CharSearch, Movement, RepeatCount, Word};
+use std::ops::Range;
+
+impl LineBuffer {
+    // What the movement covers.
+    pub(super) fn covered(&self, mvt: &Movement) -> Option<Range<usize>>
+        ensures value { result ≡ covered self.now mvt.now }
+        ensures order { IfSome result (λ r. r.start ≤ r.end) }
+        ensures start { IfSome result (λ r. IsCharBoundary self.now.text r.start) }
+        ensures end { IfSome result (λ r. IsCharBoundary self.now.text r.end) }
+    {
+        let text = self.as_str();
+        let at = self.pos();
+        match mvt {
+            Movement::WholeLine => {
+                self.unless_empty(start_of_line(text, at), end_of_line(text, at))
+            }
+            Movement::BeginningOfLine => self.unless_empty(start_of_line(text, at), at),
+            Movement::EndOfLine => self.unless_empty(at, end_of_line(text, at)),
+            Movement::BackwardWord(n, word) => Some(prev_word(text, at, *word, *n)?..at),
+            Movement::ForwardWord(n, stop, word) => {
+                Some(at..next_word(text, at, *stop, *word, *n)?)
+            }
+            Movement::ViCharSearch(n, cs) => to_hit(text, at, *cs, *n),
+            Movement::ViFirstPrint => from_first_print(text, at),
+            Movement::BackwardChar(n) => Some(prev_pos(text, at, *n)?..at),
+            Movement::ForwardChar(n) => Some(at..next_pos(text, at, *n)?),
+            Movement::LineUp(n) => lines_up(text, at, *n),
+            Movement::LineDown(n) => lines_down(text, at, *n),
+            Movement::WholeBuffer => self.unless_empty(0, text.len()),
+            Movement::BeginningOfBuffer => self.unless_empty(0, at),
+            Movement::EndOfBuffer => self.unless_empty(at, text.len()),
+        }
+    }
+
+    // What the movement kills.
+    pub(super) fn killed(&self, mvt: &Movement) -> Option<Range<usize>>
+        ensures value { result ≡ killed self.now mvt.now }
+        ensures order { IfSome result (λ r. r.start ≤ r.end) }
+        ensures start { IfSome result (λ r. IsCharBoundary self.now.text r.start) }
+        ensures end { IfSome result (λ r. IsCharBoundary self.now.text r.end) }
+    {
+        match mvt {
+            Movement::WholeLine | Movement::EndOfLine => match self.covered(mvt) {
+                Some(range) => Some(range),
+                None => self.newline(),
+            },
+            Movement::BeginningOfLine => match self.covered(mvt) {
+                Some(range) => Some(range),
+                None => self.covered(&Movement::BackwardChar(1)),
+            },
+            Movement::ViFirstPrint => None,
+            Movement::BackwardWord(_, _)
+            | Movement::ForwardWord(_, _, _)
+            | Movement::ViCharSearch(_, _)
+            | Movement::BackwardChar(_)
+            | Movement::ForwardChar(_)
+            | Movement::LineUp(_)
+            | Movement::LineDown(_)
+            | Movement::WholeBuffer
+            | Movement::BeginningOfBuffer
+            | Movement::EndOfBuffer => self.covered(mvt),
+        }
+    }
+
+    // The newline at the end of the cursor's line, if it has one.
+    fn newline(&self) -> Option<Range<usize>>
+        ensures value { result ≡ newline_at self.now.text (line_end self.now) }
+        ensures order { IfSome result (λ r. r.start ≤ r.end) }
+        ensures start { IfSome result (λ r. IsCharBoundary self.now.text r.start) }
+        ensures end { IfSome result (λ r. IsCharBoundary self.now.text r.end) }
+    {
+        let text = self.as_str();
+        let stop = end_of_line(text, self.pos());
+        if stop == text.len() {
+            return None;
+        }
+        Some(stop..stop + 1)
+    }
+
+    // A range of the text, unless it is empty.
+    fn unless_empty(&self, start: usize, end: usize) -> Option<Range<usize>>
+        requires order { start ≤ end }
+        requires start { IsCharBoundary self.now.text start }
+        requires end { IsCharBoundary self.now.text end }
+        ensures value { result ≡ unless_empty start end }
+        ensures order { IfSome result (λ r. r.start ≤ r.end) }
+        ensures start { IfSome result (λ r. IsCharBoundary self.now.text r.start) }
+        ensures end { IfSome result (λ r. IsCharBoundary self.now.text r.end) }
+    {
+        if start == end {
+            return None;
+        }
+        Some(start..end)
+    }
+}
+
+// Between the cursor and a hit.
+fn to_hit(text: &str, at: usize, cs: CharSearch, n: RepeatCount) -> Option<Range<usize>>
+    requires { IsCharBoundary text.now at }
+    ensures value { result ≡ option_map (to_hit cs at) (chosen_hit text.now at cs n) }
+    ensures order { IfSome result (λ r. r.start ≤ r.end) }
+    ensures start { IfSome result (λ r. IsCharBoundary text.now r.start) }
+    ensures end { IfSome result (λ r. IsCharBoundary text.now r.end) }
+{
+    let hit = search(text, at, cs, n)?;
+    Some(match cs {
+        CharSearch::Forward(c) => at..hit + c.len_utf8(),
+        CharSearch::ForwardBefore(_) => at..hit,
+        CharSearch::Backward(_) => hit..at,
+        CharSearch::BackwardAfter(c) => hit + c.len_utf8()..at,
+    })
+}
+
+fn from_first_print(text: &str, at: usize) -> Option<Range<usize>>
+    requires { IsCharBoundary text.now at }
+    ensures value { result ≡ from_first_print text.now at }
+    ensures order { IfSome result (λ r. r.start ≤ r.end) }
+    ensures start { IfSome result (λ r. IsCharBoundary text.now r.start) }
+    ensures end { IfSome result (λ r. IsCharBoundary text.now r.end) }
+{
+    if at == 0 {
+        return None;
+    }
+    let start = next_word(text, 0, At::Start, Word::Big, 1)?;
+    if start > at {
+        return None;
+    }
+    Some(start..at)
+}
+
+// The line of a place and `n` lines above it, with their newlines.
+fn lines_up(text: &str, at: usize, n: RepeatCount) -> Option<Range<usize>>
+    requires { IsCharBoundary text.now at }
+    ensures value { result ≡ lines_up text.now at n }
+    ensures order { IfSome result (λ r. r.start ≤ r.end) }
+    ensures start { IfSome result (λ r. IsCharBoundary text.now r.start) }
+    ensures end { IfSome result (λ r. IsCharBoundary text.now r.end) }
+{
+    if start_of_line(text, at) == 0 {
+        return None;
+    }
+    let stop = end_of_line(text, at);
+    Some(start_above(text, at, n)..behind_newline(text, stop))
+}
+
+// The line of a place and `n` lines below it, with their newlines and the one above.
+fn lines_down(text: &str, at: usize, n: RepeatCount) -> Option<Range<usize>>
+    requires { IsCharBoundary text.now at }
+    ensures value { result ≡ lines_down text.now at n }
+    ensures order { IfSome result (λ r. r.start ≤ r.end) }
+    ensures start { IfSome result (λ r. IsCharBoundary text.now r.start) }
+    ensures end { IfSome result (λ r. IsCharBoundary text.now r.end) }
+{
+    if end_of_line(text, at) == text.len() {
+        return None;
+    }
+    let start = start_of_line(text, at).saturating_sub(1);
+    Some(start..behind_newline(text, end_below(text, at, n)))
+}
+
+// Behind the newline at the end of a line's text, if it has one.
+fn behind_newline(text: &str, stop: usize) -> usize
+    requires end { IsCharBoundary text.now stop }
+    requires below { stop ≢ length text.now → IsCharBoundary text.now (stop + 1) }
+    ensures value { result ≡ min (stop + 1) (length text.now) }
+    ensures behind { stop ≤ result }
+    ensures boundary { IsCharBoundary text.now result }
+{
+    if stop == text.len() { stop } else { stop + 1 }
+}
