@@ -1,19 +1,45 @@
 -- The plans of the edits, by their cases. The lemmas name each number of the code by a variable and an
 -- equation, so that they fit what the code computed.
-use Rattle.std.proofs.Common.{◌≡◌, ℕ, ◌+◌, ◌*◌, Bool, true, false, List, zero, suc, length, length-append, Some, None, refl, arith}
-use Rattle.std.specs.Prelude.{encode_utf8, ◌==◌}
-use Rattle.rl_line.specs.Line.{Line}
-use Rattle.rl_line.specs.Plan.{nothing, single}
-use Rattle.rl_line.specs.Edits.{too_long, copies_of, insert_event, insert_plan}
+use Rattle.std.proofs.Common.{◌≡◌, ℕ, ◌+◌, ◌-◌, ◌*◌, ◌<◌, Bool, true, false, List, zero, suc, length, length-append, take, slice_range, Some, None, refl, sym, ap, ◌∙◌, append-nil, arith, lt-ltb}
+use Rattle.std.specs.List.{repeat, remove_range}
+use Rattle.std.specs.Prelude.{encode_utf8, ◌==◌, ◌||◌}
+use Rattle.rl_base.specs.Event.{InsertStr, Delete}
+use Rattle.rl_base.specs.declared.listeners.Direction.TheVariants.{Forward}
+use Rattle.rl_base.specs.Text.{greatest_boundary}
+use Rattle.rl_line.specs.Line.{Line, stepped}
+use Rattle.rl_line.specs.Plan.{nothing, single, followed_by}
+use Rattle.rl_line.specs.Edits.{too_long, cut_to_limit, insert_event, insert_plan, yank_plan, yank_pop_plan}
 
-pub insert_plan-too_long : (line : Line) (c n more : ℕ) → more ≡ length (encode_utf8 c) * n → too_long line (length line.text + more) ≡ true
+pub too_long-past : (line : Line) (n : ℕ) → line.grow ≡ false → line.limit < n → too_long line n ≡ true
+too_long-past line n e h = rw (e, lt-ltb line.limit n h) refl
+
+pub cut_to_limit-past : (line : Line) (s : List ℕ) (kept : ℕ) → line.grow ≡ false → line.limit < length s → greatest_boundary s line.limit ≡ kept → cut_to_limit line s ≡ take kept s
+cut_to_limit-past line s kept e h is = rw (too_long-past line (length s) e h, is) refl
+
+pub insert_plan-too_long : (line : Line) (c n more : ℕ) → more ≡ length (encode_utf8 c) → too_long line (length line.text + more * n) ≡ true
     → insert_plan line c n ≡ nothing line None
 insert_plan-too_long line c n more e h = rw (← e, h) refl
 
-pub insert_plan-some : (line : Line) (c n more p end : ℕ) (a : Bool) → more ≡ length (encode_utf8 c) * n → p ≡ line.cursor → end ≡ line.cursor + more
-    → a ≡ (line.cursor == length line.text) → too_long line (length line.text + more) ≡ false → insert_plan line c n ≡ single (insert_event p c n) end (Some a)
-insert_plan-some line c n more p end a e at to is short = rw (at, to, is, ← e, short) refl
+pub insert_plan-some : (line : Line) (c n more : ℕ) (a : Bool) → more ≡ length (encode_utf8 c) → a ≡ (line.cursor == length line.text) → too_long line (length line.text + more * n) ≡ false
+    → insert_plan line c n ≡ single (insert_event line.cursor c n) (line.cursor + length (encode_utf8 c) * n) (Some a)
+insert_plan-some line c n more a e is short = rw (is, ← e, short) refl
 
-pub length-copies_of : (s : List ℕ) (n : ℕ) → length (copies_of s n) ≡ length s * n
-length-copies_of s zero = omega arith
-length-copies_of s (suc n) = omega (arith, length-append (copies_of s n) s, length-copies_of s n)
+pub yank_plan-nothing : (line : Line) (s : List ℕ) (n : ℕ) → ((length s == 0) || too_long line (length line.text + length s * n)) ≡ true
+    → yank_plan line s n ≡ nothing line None
+yank_plan-nothing line s n e = rw e refl
+
+pub yank_plan-some : (line : Line) (s : List ℕ) (n : ℕ) (a : Bool) → a ≡ (line.cursor == length line.text)
+    → (length s == 0) ≡ false → too_long line (length line.text + length s * n) ≡ false
+    → yank_plan line s n ≡ single (InsertStr line.cursor (repeat n s)) (line.cursor + length s * n) (Some a)
+yank_plan-some line s n a is some short = rw (is, some, short) refl
+
+pub yank_pop_plan-is : (line mid : Line) (z p from : ℕ) (s : List ℕ) → p ≡ line.cursor → from ≡ p - z → mid ≡ stepped line (remove_range line.text from p) from
+    → yank_pop_plan line z s ≡ followed_by (Delete from (slice_range line.text from p) Forward) from (yank_plan mid s 1)
+yank_pop_plan-is line mid z p from s at to e = rw (e, to, at) refl
+
+pub length-repeat : (n : ℕ) (s : List ℕ) → length (repeat n s) ≡ length s * n
+length-repeat zero s = omega arith
+length-repeat (suc n) s = omega (arith, length-append s (repeat n s), length-repeat n s)
+
+pub repeat-one : (s : List ℕ) → repeat 1 s ≡ s
+repeat-one s = append-nil s

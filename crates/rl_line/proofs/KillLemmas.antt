@@ -12,8 +12,8 @@ use Rattle.rl_base.specs.declared.motion.Movement.{Movement}
 use Rattle.rl_base.specs.declared.motion.Movement.TheVariants.{WholeLine, BeginningOfLine, EndOfLine, BackwardWord, ForwardWord, ViCharSearch, ViFirstPrint, BackwardChar, ForwardChar, LineUp, LineDown, WholeBuffer, BeginningOfBuffer, EndOfBuffer}
 use Rattle.rl_line.specs.Line.{Line}
 use Rattle.rl_line.specs.Plan.{nothing, single, answering}
-use Rattle.rl_line.specs.Ranges.{covered, killed}
-use Rattle.rl_line.specs.Kills.{Told, delete_plan, is_exact, kill_plan, removal, side_of, text_in}
+use Rattle.rl_line.specs.Ranges.{covered, killed, text_in}
+use Rattle.rl_line.specs.Kills.{Told, delete_plan, is_exact, kill_plan, removal, side_of}
 
 pub kill_plan-nothing : (line : Line) (mvt : Movement) → None ≡ killed line mvt → kill_plan line mvt ≡ nothing line false
 kill_plan-nothing line mvt e = rw (← e) refl

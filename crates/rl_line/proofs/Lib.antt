@@ -4,4 +4,5 @@ pub mod LineMotionLemmas
 pub mod OriginLemmas
 pub mod PlanLemmas
 pub mod RecordLemmas
+pub mod TranspositionLemmas
 pub mod UndoLemmas

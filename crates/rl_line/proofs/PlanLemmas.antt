@@ -1,12 +1,26 @@
 -- How the steps of a plan are put together.
-use Rattle.std.proofs.Common.{◌≡◌, ℕ, List, [], ◌∷◌, Some, refl, sym, ap, ◌∙◌}
+use Rattle.std.proofs.Common.{◌≡◌, ℕ, List, [], ◌∷◌, ◌++◌, Option, Some, None, refl, sym, ap, subst, append_assoc, ◌∙◌}
 use Rattle.std.specs.Prelude.{option_and_then}
 use Rattle.rl_base.specs.Event.{Event, apply}
 use Rattle.rl_base.specs.declared.listeners.Refusal.{Refusal}
 use Rattle.rl_line.specs.Line.{Line, stepped}
-use Rattle.rl_line.specs.Plan.{Step, Plan, nothing, single, Taken, Done, Halted}
+use Rattle.rl_line.specs.Plan.{Step, Plan, nothing, single, answering, followed_by, after, heard, Taken, Done, Halted}
+
+after-append : (xs ys : List Step) (old mid : Line) → after xs old ≡ Some mid → after (xs ++ ys) old ≡ after ys mid
+after-append [] ys old mid e = ap (option_and_then (after ys)) e
+after-append (x ∷ xs) ys old mid e = through (apply x.0 old.text) (λ text. after-append xs ys (stepped old text x.1) mid) e
+  where
+    through : (o : Option (List ℕ)) → ((text : List ℕ) → after xs (stepped old text x.1) ≡ Some mid → after (xs ++ ys) (stepped old text x.1) ≡ after ys mid)
+        → option_and_then (λ text. after xs (stepped old text x.1)) o ≡ Some mid
+        → option_and_then (λ text. after (xs ++ ys) (stepped old text x.1)) o ≡ after ys mid
+    through None go e = cc
+    through (Some text) go e = go text e
 
 module _ {L : Type 0} (step : L → Event → L) where
+  heard-append : (xs ys : List Step) (l : L) → heard step (xs ++ ys) l ≡ heard step ys (heard step xs l)
+  heard-append [] ys l = refl
+  heard-append (x ∷ xs) ys l = heard-append xs ys (step l x.0)
+
   pub Taken-nil : (line : Line) (b : L) → Taken step [] line line b b
   Taken-nil line b = record { line = refl; listener = refl }
 
@@ -14,6 +28,13 @@ module _ {L : Type 0} (step : L → Event → L) where
       → n ≡ step b s.0 → Taken step (s ∷ []) old new b n
   Taken-one s text old new b n fits e f =
       record { line = ap (option_and_then (λ t. Some (stepped old t s.1))) fits ∙ ap Some (sym e); listener = f }
+
+  pub Taken-append : (xs ys : List Step) (old mid new : Line) (b m n : L) → Taken step xs old mid b m → Taken step ys mid new m n
+      → Taken step (xs ++ ys) old new b n
+  Taken-append xs ys old mid new b m n s t = record {
+    line = after-append xs ys old mid s.line ∙ t.line;
+    listener = t.listener ∙ ap (heard step ys) s.listener ∙ sym (heard-append xs ys b);
+  }
 
   pub Done-nothing : {A : Type 0} (plan : Plan A) (line : Line) (b : L) (a : A) → plan ≡ nothing line a → Done step plan line line b b a
   Done-nothing plan line b a e = record {
@@ -31,6 +52,35 @@ module _ {L : Type 0} (step : L → Event → L) where
     line = rw e (ap (λ k. record new { cursor = k }) at);
     answered = rw e refl;
   }
+
+  -- all steps of a plan
+  pub Done-steps : {A : Type 0} (plan : Plan A) (steps : List Step) (old new : Line) (b n : L) → Taken step steps old new b n → plan.steps ≡ steps → new.cursor ≡ plan.cursor
+      → Done step plan old new b n plan.answer
+  Done-steps plan steps old new b n t e at =
+      record { last = new; taken = subst (λ ss. Taken step ss old new b n) (sym e) t; line = ap (λ k. record new { cursor = k }) at; answered = refl }
+
+  -- no step, but the cursor moved
+  pub Done-moved : {A : Type 0} (plan : Plan A) (line new : Line) (b : L) (cursor : ℕ) (a : A) → new ≡ record line { cursor = cursor } → plan ≡ record { steps = []; cursor = cursor; answer = a }
+      → Done step plan line new b b a
+  Done-moved plan line new b cursor a moved e = record {
+    last = line;
+    taken = rw e (Taken-nil line b);
+    line = rw e moved;
+    answered = rw e refl;
+  }
+
+  pub Done-answering : {A B : Type 0} (plan : Plan A) (old new : Line) (b n : L) (a : A) (other : B) → Done step plan old new b n a → Done step (answering other plan) old new b n other
+  Done-answering plan old new b n a other d = record { last = d.last; taken = d.taken; line = d.line; answered = refl }
+
+  -- a step, and then all of a plan
+  pub Done-followed : {A : Type 0} (whole plan : Plan A) (event : Event) (cursor : ℕ) (old mid new : Line) (b m n : L) (a : A)
+      → Taken step ((event, cursor) ∷ []) old mid b m → Done step plan mid new m n a → whole ≡ followed_by event cursor plan → Done step whole old new b n a
+  Done-followed whole plan event cursor old mid new b m n a t d e = subst (λ p. Done step p old new b n a) (sym e) (record {
+    last = d.last;
+    taken = Taken-append ((event, cursor) ∷ []) plan.steps old mid d.last b m n t d.taken;
+    line = d.line;
+    answered = d.answered;
+  })
 
   module _ (refused : L → Event → Refusal → L → Type 0) where
     -- the first step was refused
@@ -50,3 +100,62 @@ module _ {L : Type 0} (step : L → Event → L) where
         → refused b event r n → new ≡ old → plan ≡ single event cursor a → Halted step refused plan old new b n r
     Halted-single plan event cursor old new b n a r cause same e =
         Halted-at_first plan (event, cursor) [] old new b n r (ap (λ (p : Plan _). p.steps) e) same cause
+
+    -- the first steps were taken, and the next was refused
+    pub Halted-after : {A : Type 0} (plan : Plan A) (first others : List Step) (s : Step) (old mid new : Line) (b m n : L) (r : Refusal)
+        → refused m s.0 r n → new ≡ mid → Taken step first old mid b m → plan.steps ≡ first ++ s ∷ others → Halted step refused plan old new b n r
+    Halted-after plan first others s old mid new b m n r cause same t e = record {
+      first = first;
+      next = s;
+      others = others;
+      split = e;
+      middle = m;
+      taken = subst (λ l. Taken step first old l b m) (sym same) t;
+      cause = cause;
+    }
+
+    -- the step before a plan was refused
+    pub Halted-before : {A : Type 0} (whole plan : Plan A) (event : Event) (cursor : ℕ) (old new : Line) (b n : L) (r : Refusal)
+        → refused b event r n → new ≡ old → whole ≡ followed_by event cursor plan → Halted step refused whole old new b n r
+    Halted-before whole plan event cursor old new b n r cause same e =
+        Halted-at_first whole (event, cursor) plan.steps old new b n r (ap (λ (p : Plan _). p.steps) e) same cause
+
+    -- a step, and then some of a plan
+    pub Halted-followed : {A : Type 0} (whole plan : Plan A) (event : Event) (cursor : ℕ) (old mid new : Line) (b m n : L) (r : Refusal)
+        → Taken step ((event, cursor) ∷ []) old mid b m → Halted step refused plan mid new m n r → whole ≡ followed_by event cursor plan
+        → Halted step refused whole old new b n r
+    Halted-followed whole plan event cursor old mid new b m n r t h e = record {
+      first = (event, cursor) ∷ h.first;
+      next = h.next;
+      others = h.others;
+      split = ap (λ (p : Plan _). p.steps) e ∙ ap (λ ss. (event, cursor) ∷ ss) h.split;
+      middle = h.middle;
+      taken = Taken-append ((event, cursor) ∷ []) h.first old mid new b m h.middle t h.taken;
+      cause = h.cause;
+    }
+
+    -- some of the first steps were taken, which are those of a plan
+    pub Halted-front : {A B : Type 0} (whole : Plan A) (plan : Plan B) (more : List Step) (old new : Line) (b n : L) (r : Refusal)
+        → Halted step refused plan old new b n r → whole.steps ≡ plan.steps ++ more → Halted step refused whole old new b n r
+    Halted-front whole plan more old new b n r h e = record {
+      first = h.first;
+      next = h.next;
+      others = h.others ++ more;
+      split = e ∙ ap (λ ss. ss ++ more) h.split ∙ append_assoc h.first (h.next ∷ h.others) more;
+      middle = h.middle;
+      taken = h.taken;
+      cause = h.cause;
+    }
+
+    -- some steps, and then some of a plan
+    pub Halted-behind : {A B : Type 0} (whole : Plan A) (plan : Plan B) (first : List Step) (old mid new : Line) (b m n : L) (r : Refusal)
+        → Taken step first old mid b m → Halted step refused plan mid new m n r → whole.steps ≡ first ++ plan.steps → Halted step refused whole old new b n r
+    Halted-behind whole plan first old mid new b m n r t h e = record {
+      first = first ++ h.first;
+      next = h.next;
+      others = h.others;
+      split = e ∙ ap (λ ss. first ++ ss) h.split ∙ sym (append_assoc first h.first (h.next ∷ h.others));
+      middle = h.middle;
+      taken = Taken-append first h.first old mid new b m h.middle t h.taken;
+      cause = h.cause;
+    }

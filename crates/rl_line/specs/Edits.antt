@@ -1,22 +1,21 @@
 -- The plans of the edits that put a text in, or take a given range out.
-use Rattle.std.specs.Prelude.{ℕ, ◌+◌, ◌*◌, Bool, not, ◌==◌, ◌&&◌, nat_lt, List, [], ◌++◌, length, slice_range, encode_utf8, Option, Some, None, if◌then◌else◌, zero, suc}
-use Rattle.rl_base.specs.Event.{Event, InsertChar, InsertStr, Delete}
+use Rattle.std.specs.Prelude.{ℕ, ◌+◌, ◌-◌, ◌*◌, Bool, not, ◌==◌, ◌&&◌, ◌||◌, nat_lt, List, length, take, slice_range, min, encode_utf8, Option, Some, None, if◌then◌else◌}
+use Rattle.std.specs.List.{repeat, remove_range}
+use Rattle.rl_base.specs.Event.{Event, InsertChar, InsertStr, Delete, Replace}
+use Rattle.rl_base.specs.Text.{greatest_boundary}
 use Rattle.rl_base.specs.declared.listeners.Direction.TheVariants.{Forward}
-use Rattle.rl_line.specs.Line.{Line}
-use Rattle.rl_line.specs.Plan.{Plan, nothing, single}
+use Rattle.std.specs.declared.ops.Range.{Range}
+use Rattle.rl_line.specs.Line.{Line, stepped}
+use Rattle.rl_line.specs.Ranges.{between, text_in}
+use Rattle.rl_line.specs.Plan.{Plan, nothing, single, followed_by}
 
 -- a length that the line may not have: it may not grow, and the length is past its limit
 abbrev pub too_long : Line → ℕ → Bool
 too_long line n = not line.grow && nat_lt line.limit n
 
--- s, n times
-abbrev pub copies_of : List ℕ → ℕ → List ℕ
-copies_of s zero = []
-copies_of s (suc n) = copies_of s n ++ s
-
 -- a character goes in at i, n times; once it is told as a character, else as a text
 abbrev pub insert_event : ℕ → ℕ → ℕ → Event
-insert_event i c n = if n == 1 then InsertChar i c else InsertStr i (copies_of (encode_utf8 c) n)
+insert_event i c n = if n == 1 then InsertChar i c else InsertStr i (repeat n (encode_utf8 c))
 
 -- n times c goes in at the cursor, which goes past it, unless that is too long. The answer: was the cursor at the end?
 abbrev pub insert_plan : Line → ℕ → ℕ → Plan (Option Bool)
@@ -33,3 +32,36 @@ insert_str_plan line i s = single (InsertStr i s) line.cursor (i == length line.
 -- i..j goes, and the cursor is at i
 abbrev pub delete_range_plan : Line → ℕ → ℕ → Plan (Unit {0})
 delete_range_plan line i j = single (Delete i (slice_range line.text i j) Forward) i tt
+
+-- n times s goes in at the cursor, which goes past it, unless s is empty or that is too long. The answer: was the cursor at the end?
+abbrev pub yank_plan : Line → List ℕ → ℕ → Plan (Option Bool)
+yank_plan line s n =
+    let more = length s * n in
+    if (length s == 0) || too_long line (length line.text + more)
+    then nothing line None
+    else single (InsertStr line.cursor (repeat n s)) (line.cursor + more) (Some (line.cursor == length line.text))
+
+-- the z bytes before the cursor go, and then s is yanked
+abbrev pub yank_pop_plan : Line → ℕ → List ℕ → Plan (Option Bool)
+yank_pop_plan line z s =
+    let from = line.cursor - z in
+    followed_by (Delete from (slice_range line.text from line.cursor) Forward) from
+    (yank_plan (stepped line (remove_range line.text from line.cursor) from) s 1)
+
+-- s takes the place of i..j, and the cursor is behind it
+abbrev pub replace_plan : Line → ℕ → ℕ → List ℕ → Plan (Unit {0})
+replace_plan line i j s = single (Replace i (slice_range line.text i j) s) (i + length s) tt
+
+-- a range goes, which leaves the cursor at p, and then s comes in at its place, which leaves it at q
+abbrev pub exchange_plan : Line → Range ℕ → ℕ → List ℕ → ℕ → Plan (Unit {0})
+exchange_plan line r p s q = followed_by (Delete r.start (text_in line r) Forward) p (single (InsertStr r.start s) q tt)
+
+-- as much of s as the line may hold
+abbrev pub cut_to_limit : Line → List ℕ → List ℕ
+cut_to_limit line s = if too_long line (length s) then take (greatest_boundary s line.limit) s else s
+
+-- as much of s as the line may hold takes the place of the text, and the cursor is at q, or at the end
+abbrev pub update_plan : Line → List ℕ → ℕ → Plan (Unit {0})
+update_plan line s q =
+    let cut = cut_to_limit line s in
+    exchange_plan line (between 0 (length line.text)) 0 cut (min q (length cut))

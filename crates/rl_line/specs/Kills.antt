@@ -1,5 +1,5 @@
 -- What copying, deleting and killing by a movement do.
-use Rattle.std.specs.Prelude.{◌≡◌, ℕ, Bool, true, false, List, slice_range, Option, Some, None}
+use Rattle.std.specs.Prelude.{◌≡◌, ℕ, Bool, true, false, List, Option, Some, None}
 use Rattle.std.specs.Option.{option_map}
 use Rattle.std.specs.declared.ops.Range.{Range}
 use Rattle.rl_base.specs.Event.{Event, Delete, Start, Stop}
@@ -11,11 +11,7 @@ use Rattle.rl_base.specs.declared.motion.Movement.{Movement}
 use Rattle.rl_base.specs.declared.motion.Movement.TheVariants.{WholeLine, BeginningOfLine, EndOfLine, BackwardWord, ViCharSearch, ViFirstPrint, BackwardChar, ForwardChar, BeginningOfBuffer}
 use Rattle.rl_line.specs.Line.{Line}
 use Rattle.rl_line.specs.Plan.{Plan, nothing, single, answering}
-use Rattle.rl_line.specs.Ranges.{covered, killed}
-
--- the text of a range
-abbrev pub text_in : Line → Range ℕ → List ℕ
-text_in line r = slice_range line.text r.start r.end
+use Rattle.rl_line.specs.Ranges.{covered, killed, text_in}
 
 -- what a movement copies
 abbrev pub copied : Line → Movement → Option (List ℕ)

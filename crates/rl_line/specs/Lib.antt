@@ -5,5 +5,6 @@ pub mod LineMotions
 pub mod Ranges
 pub mod Edits
 pub mod Kills
+pub mod Transpositions
 pub mod Record
 pub mod Undo

@@ -22,6 +22,10 @@ nothing line answer = record { steps = []; cursor = line.cursor; answer = answer
 abbrev pub single : {A : Type 0} → Event → ℕ → A → Plan A
 single event cursor answer = record { steps = (event, cursor) ∷ []; cursor = cursor; answer = answer }
 
+-- a step, and then a plan
+abbrev pub followed_by : {A : Type 0} → Event → ℕ → Plan A → Plan A
+followed_by event cursor plan = record plan { steps = (event, cursor) ∷ plan.steps }
+
 -- the same steps, with another answer
 abbrev pub answering : {A B : Type 0} → B → Plan A → Plan B
 answering answer plan = record { steps = plan.steps; cursor = plan.cursor; answer = answer }

@@ -1,5 +1,5 @@
 -- What each movement covers: the one table that copying and killing share, with the exceptions of killing beside it.
-use Rattle.std.specs.Prelude.{ℕ, ◌+◌, ◌-◌, ◌==◌, nat_le, min, count_by, List, length, drop, Option, Some, None, option_and_then, if◌then◌else◌}
+use Rattle.std.specs.Prelude.{ℕ, ◌+◌, ◌-◌, ◌==◌, nat_le, min, count_by, List, length, drop, slice_range, Option, Some, None, option_and_then, if◌then◌else◌}
 use Rattle.std.specs.Char.{len_utf8}
 use Rattle.std.specs.Option.{option_map, option_or}
 use Rattle.std.specs.declared.ops.Range.{Range}
@@ -18,6 +18,10 @@ use Rattle.rl_line.specs.LineMotions.{home, line_end}
 
 abbrev pub between : ℕ → ℕ → Range ℕ
 between i j = record { start = i; end = j }
+
+-- the text of a range
+abbrev pub text_in : Line → Range ℕ → List ℕ
+text_in line r = slice_range line.text r.start r.end
 
 -- none where there is nothing between the places
 abbrev pub unless_empty : ℕ → ℕ → Option (Range ℕ)

@@ -32,8 +32,8 @@ pub(crate) fn take_back(text: &mut String, change: &Change) -> usize
     }
 }
 
-// Puts a part in the place of another, where there is room for the text that this makes. Answers the part's end.
-fn swap_in(text: &mut String, from: usize, to: usize, part: &str) -> usize
+/// Puts a part in the place of another, where there is room for the text that this makes. Answers the part's end.
+pub(crate) fn swap_in(text: &mut String, from: usize, to: usize, part: &str) -> usize
     requires order { from ≤ to }
     requires start { IsCharBoundary (string_bytes text.old) from }
     requires end { IsCharBoundary (string_bytes text.old) to }

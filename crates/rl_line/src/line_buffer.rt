@@ -1,9 +1,9 @@
 //! The line: its text, its cursor, and the few steps through which every change of its text goes.
-ghost use Rattle.std.specs.Prelude.{◌≡◌, ℕ, [], ◌∷◌, ◌^◌, ◌<◌, ◌≤◌, ◌↔◌, false, map, length, slice_range, encode_utf8, IsTrue, IsSome, IfOk, IfErr, OnOk, OnErr};
+ghost use Rattle.std.specs.Prelude.{◌≡◌, ℕ, [], ◌∷◌, ◌+◌, ◌^◌, ◌<◌, ◌≤◌, ◌↔◌, false, map, length, slice_range, encode_utf8, IsTrue, IsSome, IfOk, IfErr, OnOk, OnErr};
 ghost use Rattle.std.specs.Str.{IsCharBoundary, IsUtf8};
 ghost use Rattle.std.specs.String.{string_bytes};
-ghost use Rattle.std.specs.List.{insert_slice, remove_range};
-ghost use Rattle.rl_base.specs.Event.{InsertChar, InsertStr, Delete};
+ghost use Rattle.std.specs.List.{insert_slice, remove_range, replace_range};
+ghost use Rattle.rl_base.specs.Event.{InsertChar, InsertStr, Delete, Replace};
 ghost use Rattle.rl_base.specs.declared.listeners.Refusal.TheVariants.{NoMemory};
 ghost use Rattle.rl_line.specs.Line.{stepped};
 ghost use Rattle.rl_line.specs.Plan.{Taken, or_no_memory};
@@ -17,13 +17,15 @@ mod line_motions;
 mod line_tests;
 mod motions;
 mod ranges;
+mod transpositions;
 
-use crate::change::{Change, greatest_len_back, take_back};
+use crate::change::{Change, greatest_len_back, swap_in, take_back};
 pub use kills::kill_agrees_with_copy;
 use rl_base::{ChangeListener, DeleteListener, Direction, Refusal};
 use std::alloc::Global;
 use std::fmt;
 use std::marker::Model;
+use std::ops::Range;
 
 /// The length in bytes that a line of an editor is made for.
 pub const MAX_LINE: usize = 4096;
@@ -212,29 +214,77 @@ impl LineBuffer {
         Ok(())
     }
 
-    // One step: reports what is to go, and then takes it out. It needs no room.
+    // One step: finds room, reports, and then puts a text in the place of another, which can't fail any more.
     #[tactic(auto, using(rl_base::proofs::EventLemmas::fitting))]
+    fn put_instead<L: ChangeListener>(
+        &mut self,
+        range: Range<usize>,
+        text: &str,
+        listener: &mut L,
+    ) -> Result<(), Refusal>
+        requires order { range.start ≤ range.end }
+        requires start { IsCharBoundary self.old.text range.start }
+        requires end { IsCharBoundary self.old.text range.end }
+        ensures taken { OnOk result (Taken L.step ((Replace range.start (slice_range self.old.text range.start range.end) text.now, range.start + length text.now) ∷ []) self.old self.new listener.old listener.new) }
+        ensures line { OnOk result (self.new ≡ stepped self.old (replace_range self.old.text range.start range.end text.now) (range.start + length text.now)) }
+        ensures kept { OnErr result (self.new ≡ self.old) }
+        ensures cause { IfErr result (λ r. or_no_memory L.refused listener.old (Replace range.start (slice_range self.old.text range.start range.end) text.now) r listener.new) }
+    {
+        let (from, to) = (range.start, range.end);
+        let more = text.len().saturating_sub(to - from);
+        if self.buf.reserve(more).is_err() {
+            return Err(Refusal::NoMemory);
+        }
+        listener.replace(from, &self.buf.as_str()[from..to], text)?;
+        self.pos = swap_in(&mut self.buf, from, to, text);
+        self.limit = self.limit.max(self.buf.len());
+        Ok(())
+    }
+
+    // One step: reports what is to go, and then takes it out, which leaves the cursor at its start. It needs no room.
     fn take_out<L: DeleteListener>(
         &mut self,
-        from: usize,
-        to: usize,
+        range: Range<usize>,
         dir: Direction,
         listener: &mut L,
     ) -> Result<(), Refusal>
-        requires order { from ≤ to }
-        requires start { IsCharBoundary self.old.text from }
-        requires end { IsCharBoundary self.old.text to }
-        ensures taken { OnOk result (Taken L.step ((Delete from (slice_range self.old.text from to) dir, from) ∷ []) self.old self.new listener.old listener.new) }
-        ensures line { OnOk result (self.new ≡ stepped self.old (remove_range self.old.text from to) from) }
+        requires order { range.start ≤ range.end }
+        requires start { IsCharBoundary self.old.text range.start }
+        requires end { IsCharBoundary self.old.text range.end }
+        ensures taken { OnOk result (Taken L.step ((Delete range.start (slice_range self.old.text range.start range.end) dir, range.start) ∷ []) self.old self.new listener.old listener.new) }
+        ensures line { OnOk result (self.new ≡ stepped self.old (remove_range self.old.text range.start range.end) range.start) }
         ensures kept { OnErr result (self.new ≡ self.old) }
-        ensures cause { IfErr result (λ r. L.refused listener.old (Delete from (slice_range self.old.text from to) dir) r listener.new) }
+        ensures cause { IfErr result (λ r. L.refused listener.old (Delete range.start (slice_range self.old.text range.start range.end) dir) r listener.new) }
     {
+        let start = range.start;
+        self.take_out_before(range, dir, start, listener)
+    }
+
+    // The same step, which leaves the cursor at a place.
+    #[tactic(auto, using(rl_base::proofs::EventLemmas::fitting))]
+    fn take_out_before<L: DeleteListener>(
+        &mut self,
+        range: Range<usize>,
+        dir: Direction,
+        cursor: usize,
+        listener: &mut L,
+    ) -> Result<(), Refusal>
+        requires order { range.start ≤ range.end }
+        requires start { IsCharBoundary self.old.text range.start }
+        requires end { IsCharBoundary self.old.text range.end }
+        requires boundary { IsCharBoundary (remove_range self.old.text range.start range.end) cursor }
+        ensures taken { OnOk result (Taken L.step ((Delete range.start (slice_range self.old.text range.start range.end) dir, cursor) ∷ []) self.old self.new listener.old listener.new) }
+        ensures line { OnOk result (self.new ≡ stepped self.old (remove_range self.old.text range.start range.end) cursor) }
+        ensures kept { OnErr result (self.new ≡ self.old) }
+        ensures cause { IfErr result (λ r. L.refused listener.old (Delete range.start (slice_range self.old.text range.start range.end) dir) r listener.new) }
+    {
+        let (from, to) = (range.start, range.end);
         listener.delete(from, &self.buf.as_str()[from..to], dir)?;
         match self.buf.replace_range(from..to, "") {
             Ok(()) => {}
             Err(_) => unreachable!(),
         }
-        self.pos = from;
+        self.pos = cursor;
         Ok(())
     }
 

@@ -1,60 +1,74 @@
 //! The edits that put a text in, or take a given range out, each generic over the listener that it tells.
-ghost use Rattle.std.specs.Prelude.{◌≡◌, ◌+◌, ◌*◌, ◌≤◌, ◌∷◌, [], length, encode_utf8, IfOk, IfErr, OnOk, OnErr};
+ghost use Rattle.std.specs.Prelude.{◌≡◌, ◌+◌, ◌*◌, ◌-◌, ◌≤◌, ◌∷◌, [], length, encode_utf8, IfOk, IfErr, OnOk, OnErr};
 ghost use Rattle.std.specs.Str.{IsCharBoundary};
-ghost use Rattle.std.specs.String.{string_bytes};
-ghost use Rattle.std.specs.List.{insert_slice};
+ghost use Rattle.std.specs.List.{insert_slice, remove_range, replace_range, repeat};
+ghost use Rattle.rl_base.specs.Event.{InsertStr};
+ghost use Rattle.rl_line.specs.Line.{stepped};
 ghost use Rattle.rl_line.specs.Plan.{Taken, Done, Halted, or_no_memory};
-ghost use Rattle.rl_line.specs.Edits.{too_long, copies_of, insert_event, insert_plan, insert_str_plan, delete_range_plan};
+ghost use Rattle.rl_line.specs.Edits.{too_long, insert_event, insert_plan, insert_str_plan, yank_plan, yank_pop_plan, exchange_plan, cut_to_limit, update_plan, replace_plan, delete_range_plan};
+
+#[cfg(test)]
+mod tests;
 
 use crate::line_buffer::LineBuffer;
 use rl_base::{ChangeListener, DeleteListener, Direction, Refusal, RepeatCount};
-use std::alloc::{AllocError, Global};
 use std::ops::Range;
 
-// The text, n times.
-fn repeated(alloc: Global, text: &str, n: RepeatCount) -> Result<String, AllocError>
-    ensures { IfOk result (λ copies. string_bytes copies ≡ copies_of text.now n) }
-{
-    let mut copies = String::new(alloc);
-    for _i in 0..n {
-        copies.push_str(text)?;
-    }
-    Ok(copies)
-}
-
 impl LineBuffer {
-    // Whether the text may not get that many bytes longer.
-    fn is_too_long(&self, more: usize) -> bool
-        ensures { result ≡ too_long self.now (length self.now.text + more) }
+    // Whether n texts of that length are too many for the text.
+    fn is_too_long(&self, len: usize, n: RepeatCount) -> bool
+        ensures { result ≡ too_long self.now (length self.now.text + len * n) }
     {
-        !self.can_growth && self.limit - self.buf.len() < more
+        if self.can_growth {
+            return false;
+        }
+        let room = self.limit - self.buf.len();
+        match len.checked_mul(usize::from(n)) {
+            Some(more) => room < more,
+            None => true,
+        }
     }
 
-    // One step: a character, n times.
-    fn put_chars<L: ChangeListener>(
+    // One step: a text at the cursor, n times.
+    fn put_copies<L: ChangeListener>(
         &mut self,
-        idx: usize,
-        c: char,
+        text: &str,
         n: RepeatCount,
-        cursor: usize,
         listener: &mut L,
     ) -> Result<(), Refusal>
-        requires place { IsCharBoundary self.old.text idx }
-        requires past { cursor ≡ idx + length (encode_utf8 c) * n }
-        ensures taken { OnOk result (Taken L.step ((insert_event idx c n, cursor) ∷ []) self.old self.new listener.old listener.new) }
-        ensures cursor { OnOk result (self.new.cursor ≡ cursor) }
+        ensures taken { OnOk result (Taken L.step ((InsertStr self.old.cursor (repeat n text.now), self.old.cursor + length text.now * n) ∷ []) self.old self.new listener.old listener.new) }
+        ensures cursor { OnOk result (self.new.cursor ≡ self.old.cursor + length text.now * n) }
         ensures kept { OnErr result (self.new ≡ self.old) }
-        ensures cause { IfErr result (λ r. or_no_memory L.refused listener.old (insert_event idx c n) r listener.new) }
+        ensures cause { IfErr result (λ r. or_no_memory L.refused listener.old (InsertStr self.old.cursor (repeat n text.now)) r listener.new) }
     {
+        let at = self.pos();
         if n == 1 {
-            return self.put_char(idx, c, cursor, listener);
+            return self.put_str(at, text, at + text.len(), listener);
         }
-        let mut bytes = [0; 4];
-        let alloc = *self.buf.allocator();
-        match repeated(alloc, c.encode_utf8(&mut bytes), n) {
-            Ok(text) => self.put_str(idx, text.as_str(), cursor, listener),
+        match text.repeat(*self.buf.allocator(), usize::from(n)) {
+            Ok(copies) => self.put_str(at, copies.as_str(), at + copies.len(), listener),
             Err(_) => Err(Refusal::NoMemory),
         }
+    }
+
+    // One step: a character at the cursor, n times.
+    fn put_chars<L: ChangeListener>(
+        &mut self,
+        c: char,
+        n: RepeatCount,
+        listener: &mut L,
+    ) -> Result<(), Refusal>
+        ensures taken { OnOk result (Taken L.step ((insert_event self.old.cursor c n, self.old.cursor + length (encode_utf8 c) * n) ∷ []) self.old self.new listener.old listener.new) }
+        ensures cursor { OnOk result (self.new.cursor ≡ self.old.cursor + length (encode_utf8 c) * n) }
+        ensures kept { OnErr result (self.new ≡ self.old) }
+        ensures cause { IfErr result (λ r. or_no_memory L.refused listener.old (insert_event self.old.cursor c n) r listener.new) }
+    {
+        if n == 1 {
+            let at = self.pos();
+            return self.put_char(at, c, at + c.len_utf8(), listener);
+        }
+        let mut bytes = [0; 4];
+        self.put_copies(c.encode_utf8(&mut bytes), n, listener)
     }
 
     /// Inserts `c` at the cursor, `n` times, and moves the cursor past it (GNU readline: self-insert).
@@ -69,14 +83,119 @@ impl LineBuffer {
         ensures done { IfOk result (λ answer. Done L.step (insert_plan self.old c n) self.old self.new listener.old listener.new answer) }
         ensures halted { IfErr result (λ r. Halted L.step (or_no_memory L.refused) (insert_plan self.old c n) self.old self.new listener.old listener.new r) }
     {
-        let more = c.len_utf8() * usize::from(n);
-        if self.is_too_long(more) {
+        if self.is_too_long(c.len_utf8(), n) {
             return Ok(None);
         }
-        let at = self.pos();
-        let at_end = at == self.len();
-        self.put_chars(at, c, n, at + more, listener)?;
+        let at_end = self.pos() == self.len();
+        self.put_chars(c, n, listener)?;
         Ok(Some(at_end))
+    }
+
+    /// Inserts a text at the cursor, `n` times, and moves the cursor past it (GNU readline: yank). Answers
+    /// whether the cursor was at the end, or None where there is nothing to insert or the text would get too
+    /// long. Refused, it leaves the line as it was.
+    pub fn yank<L: ChangeListener>(
+        &mut self,
+        text: &str,
+        n: RepeatCount,
+        listener: &mut L,
+    ) -> Result<Option<bool>, Refusal>
+        ensures done { IfOk result (λ answer. Done L.step (yank_plan self.old text.now n) self.old self.new listener.old listener.new answer) }
+        ensures halted { IfErr result (λ r. Halted L.step (or_no_memory L.refused) (yank_plan self.old text.now n) self.old self.new listener.old listener.new r) }
+    {
+        if text.is_empty() || self.is_too_long(text.len(), n) {
+            return Ok(None);
+        }
+        let at_end = self.pos() == self.len();
+        self.put_copies(text, n, listener)?;
+        Ok(Some(at_end))
+    }
+
+    /// Takes out the `yank_size` bytes before the cursor, which were yanked last, and inserts another text
+    /// there (GNU readline: yank-pop). Answers whether the cursor was at the end then, or None where there is
+    /// nothing to insert or the text would get too long. Refused, it leaves the line as it was, or with the
+    /// bytes taken out.
+    pub fn yank_pop<L: ChangeListener>(
+        &mut self,
+        yank_size: usize,
+        text: &str,
+        listener: &mut L,
+    ) -> Result<Option<bool>, Refusal>
+        requires size { yank_size ≤ self.old.cursor }
+        requires place { IsCharBoundary self.old.text (self.old.cursor - yank_size) }
+        ensures done { IfOk result (λ answer. Done L.step (yank_pop_plan self.old yank_size text.now) self.old self.new listener.old listener.new answer) }
+        ensures halted { IfErr result (λ r. Halted L.step (or_no_memory L.refused) (yank_pop_plan self.old yank_size text.now) self.old self.new listener.old listener.new r) }
+    {
+        let end = self.pos();
+        self.take_out(end - yank_size..end, Direction::Forward, listener)?;
+        self.yank(text, 1, listener)
+    }
+
+    // Two steps: a range is taken out, which leaves the cursor at `between`, and then a text is put in at its place.
+    pub(super) fn exchange<L: ChangeListener>(
+        &mut self,
+        range: Range<usize>,
+        between: usize,
+        text: &str,
+        cursor: usize,
+        listener: &mut L,
+    ) -> Result<(), Refusal>
+        requires order { range.start ≤ range.end }
+        requires start { IsCharBoundary self.old.text range.start }
+        requires end { IsCharBoundary self.old.text range.end }
+        requires between { IsCharBoundary (remove_range self.old.text range.start range.end) between }
+        requires boundary { IsCharBoundary (replace_range self.old.text range.start range.end text.now) cursor }
+        ensures taken { OnOk result (Taken L.step (exchange_plan self.old range between text.now cursor).steps self.old self.new listener.old listener.new) }
+        ensures line { OnOk result (self.new ≡ stepped (stepped self.old (remove_range self.old.text range.start range.end) between) (replace_range self.old.text range.start range.end text.now) cursor) }
+        ensures halted { IfErr result (λ r. Halted L.step (or_no_memory L.refused) (exchange_plan self.old range between text.now cursor) self.old self.new listener.old listener.new r) }
+    {
+        let idx = range.start;
+        self.take_out_before(range, Direction::Forward, between, listener)?;
+        self.put_str(idx, text, cursor, listener)
+    }
+
+    /// Puts a text in the place of the line's, with the cursor at a byte place of it. Where the line may not
+    /// grow, it takes no more of the text than its limit allows, up to a character's end, and the cursor is
+    /// at its end at most. Refused, it leaves the line as it was, or empty.
+    pub fn update<L: ChangeListener>(
+        &mut self,
+        text: &str,
+        pos: usize,
+        listener: &mut L,
+    ) -> Result<(), Refusal>
+        requires { IsCharBoundary text.now pos }
+        ensures done { IfOk result (λ answer. Done L.step (update_plan self.old text.now pos) self.old self.new listener.old listener.new answer) }
+        ensures halted { IfErr result (λ r. Halted L.step (or_no_memory L.refused) (update_plan self.old text.now pos) self.old self.new listener.old listener.new r) }
+    {
+        let cut = self.cut_to_limit(text);
+        let all = 0..self.as_str().len();
+        self.exchange(all, 0, cut, pos.min(cut.len()), listener)
+    }
+
+    // As much of a text as the line may hold.
+    fn cut_to_limit<'a>(&self, text: &'a str) -> &'a str
+        ensures { result.now ≡ cut_to_limit self.now text.now }
+    {
+        if self.can_growth || text.len() <= self.limit {
+            return text;
+        }
+        &text[..text.floor_char_boundary(self.limit)]
+    }
+
+    /// Puts a text in the place of a range, and moves the cursor behind it. Refused, it leaves the line as it was.
+    pub fn replace<L: ChangeListener>(
+        &mut self,
+        range: Range<usize>,
+        text: &str,
+        listener: &mut L,
+    ) -> Result<(), Refusal>
+        requires order { range.start ≤ range.end }
+        requires start { IsCharBoundary self.old.text range.start }
+        requires end { IsCharBoundary self.old.text range.end }
+        ensures done { IfOk result (λ answer. Done L.step (replace_plan self.old range.start range.end text.now) self.old self.new listener.old listener.new answer) }
+        ensures halted { IfErr result (λ r. Halted L.step (or_no_memory L.refused) (replace_plan self.old range.start range.end text.now) self.old self.new listener.old listener.new r) }
+    {
+        self.put_instead(range, text, listener)
     }
 
     /// Inserts a text at a byte place, and leaves the cursor at its own. Answers whether the place was the
@@ -110,6 +229,6 @@ impl LineBuffer {
         ensures done { IfOk result (λ answer. Done L.step (delete_range_plan self.old range.start range.end) self.old self.new listener.old listener.new answer) }
         ensures halted { IfErr result (λ r. Halted L.step L.refused (delete_range_plan self.old range.start range.end) self.old self.new listener.old listener.new r) }
     {
-        self.take_out(range.start, range.end, Direction::Forward, listener)
+        self.take_out(range, Direction::Forward, listener)
     }
 }

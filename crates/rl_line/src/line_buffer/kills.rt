@@ -1,5 +1,5 @@
 //! Copying, deleting and killing by a movement.
-ghost use Rattle.std.specs.Prelude.{◌≡◌, ◌≤◌, ◌↔◌, ◌∷◌, [], ℕ, List, true, Some, None, slice_range, IfOk, IfErr, IsSome};
+ghost use Rattle.std.specs.Prelude.{◌≡◌, ◌≤◌, ◌↔◌, ◌∷◌, [], ℕ, List, true, Some, None, IfOk, IfErr, IsSome};
 ghost use Rattle.std.specs.Str.{IsCharBoundary};
 ghost use Rattle.std.specs.Option.{option_map};
 ghost use Rattle.std.specs.String.{string_bytes};
@@ -10,12 +10,14 @@ ghost use Rattle.rl_base.specs.declared.motion.Movement.TheVariants.{BeginningOf
 ghost use Rattle.rl_line.specs.Line.{Line};
 ghost use Rattle.rl_line.specs.Plan.{Done, Halted, or_no_memory};
 ghost use Rattle.rl_line.specs.Kills.{Told, copied, delete_plan, is_by_characters, is_exact, kill_plan, side_of};
+ghost use Rattle.rl_line.specs.Ranges.{text_in};
 
 #[cfg(test)]
 mod tests;
 
 use crate::line_buffer::LineBuffer;
 use rl_base::{At, CharSearch, DeleteListener, Direction, Movement, Refusal, RepeatCount, Word};
+use std::ops::Range;
 
 impl LineBuffer {
     /// Copies what a movement covers, or answers None where that is nothing. The line stays as it is.
@@ -24,20 +26,23 @@ impl LineBuffer {
         ensures err { IfErr result (λ r. r ≡ NoMemory) }
     {
         match self.covered(mvt) {
-            Some(range) => Ok(Some(self.text_between(range.start, range.end)?)),
+            Some(range) => Ok(Some(self.text_of(&range)?)),
             None => Ok(None),
         }
     }
 
-    // A copy of what stands between two places.
-    fn text_between(&self, from: usize, to: usize) -> Result<String, Refusal>
-        requires order { from ≤ to }
-        requires start { IsCharBoundary self.now.text from }
-        requires end { IsCharBoundary self.now.text to }
-        ensures ok { IfOk result (λ copy. string_bytes copy ≡ slice_range self.now.text from to) }
+    // A copy of the text of a range.
+    pub(super) fn text_of(&self, range: &Range<usize>) -> Result<String, Refusal>
+        requires order { range.now.start ≤ range.now.end }
+        requires start { IsCharBoundary self.now.text range.now.start }
+        requires end { IsCharBoundary self.now.text range.now.end }
+        ensures ok { IfOk result (λ copy. string_bytes copy ≡ text_in self.now range.now) }
         ensures err { IfErr result (λ r. r ≡ NoMemory) }
     {
-        match String::from_str(*self.buf.allocator(), &self.as_str()[from..to]) {
+        match String::from_str(
+            *self.buf.allocator(),
+            &self.as_str()[range.start..range.end],
+        ) {
             Ok(copy) => Ok(copy),
             Err(_) => Err(Refusal::NoMemory),
         }
@@ -56,8 +61,8 @@ impl LineBuffer {
     {
         match self.covered(&Movement::ForwardChar(n)) {
             Some(range) => {
-                let gone = self.text_between(range.start, range.end)?;
-                self.take_out(range.start, range.end, Direction::Forward, listener)?;
+                let gone = self.text_of(&range)?;
+                self.take_out(range, Direction::Forward, listener)?;
                 Ok(Some(gone))
             }
             None => Ok(None),
@@ -75,7 +80,7 @@ impl LineBuffer {
     {
         match self.killed(mvt) {
             Some(range) => {
-                self.take_out(range.start, range.end, side_of(mvt), listener)?;
+                self.take_out(range, side_of(mvt), listener)?;
                 Ok(true)
             }
             None => Ok(false),

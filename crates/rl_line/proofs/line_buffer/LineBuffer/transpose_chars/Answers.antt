@@ -1,0 +1,6 @@
+use Rattle.rl_line.proofs.PlanLemmas.{Done-nothing}
+use Rattle.rl_line.proofs.TranspositionLemmas.{transpose_chars-nothing}
+use Rattle.rl_line.proofs.line_buffer.LineBuffer.transpose_chars.Goals as goal
+
+pub returns-in-None-clause-done : goal.returns-in-None-clause-done
+returns-in-None-clause-done g c = Done-nothing _ _ c.args.self.now _ _ (transpose_chars-nothing c.args.self.now c.in-None.ensures.value)

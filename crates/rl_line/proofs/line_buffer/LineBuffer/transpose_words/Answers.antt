@@ -1,0 +1,11 @@
+use Rattle.std.proofs.Common.{rules, refl, sym, ap, subst, ◌∙◌}
+use Rattle.rl_line.specs.Plan.{Done, Plan}
+use Rattle.rl_line.specs.Transpositions.{only_move}
+use Rattle.rl_line.proofs.PlanLemmas.{Done-moved}
+use Rattle.rl_line.proofs.TranspositionLemmas.{transpose-stays}
+use Rattle.rl_line.proofs.line_buffer.LineBuffer.transpose_words.Goals as goal
+
+pub returns-then-not-are_two-clause-done : goal.returns-then-not-are_two-clause-done
+returns-then-not-are_two-clause-done g c =
+    Done-moved _ _ c.args.self.now _ _ c.first_word-first.result.end _ c.set_pos.ensures
+    (transpose-stays c.args.self.now c.args.n _ _ c.first_word-first.ensures.value c.second_word-second.ensures.value (search rules))

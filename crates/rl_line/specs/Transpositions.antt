@@ -1,0 +1,86 @@
+-- Exchanging two clusters, and two words.
+use Rattle.std.specs.Prelude.{ℕ, ◌+◌, Bool, true, false, not, ◌==◌, ◌&&◌, nat_lt, nat_le, List, [], ◌∷◌, length, Option, Some, None, option_and_then, unwrap_or, if◌then◌else◌}
+use Rattle.std.specs.List.{remove_range}
+use Rattle.std.specs.Option.{option_map}
+use Rattle.std.specs.declared.ops.Range.{Range}
+use Rattle.rl_base.specs.Clusters.{clusters, next_pos, prev_pos}
+use Rattle.rl_base.specs.Event.{InsertStr, Delete}
+use Rattle.rl_base.specs.Words.{next_word, prev_word}
+use Rattle.rl_base.specs.declared.listeners.Direction.TheVariants.{Forward}
+use Rattle.rl_base.specs.declared.motion.At.TheVariants.{AfterEnd}
+use Rattle.rl_base.specs.declared.motion.Word.TheVariants.{Emacs}
+use Rattle.rl_line.specs.Line.{Line}
+use Rattle.rl_line.specs.Plan.{Plan, nothing, single, followed_by, answering}
+use Rattle.rl_line.specs.Ranges.{between, text_in}
+
+-- where two clusters meet: at the cursor, or at the end of the text before the last cluster; none in a text of fewer than two
+abbrev pub meeting_place : Line → Option ℕ
+meeting_place line =
+    if nat_lt (length (clusters line.text)) 2 then None
+    else if line.cursor == length line.text then prev_pos line.text line.cursor 1 else Some line.cursor
+
+-- the place of the cluster before it, and the range of the one behind it, if there are both
+abbrev pub clusters_around : List ℕ → ℕ → Option (ℕ × Range ℕ)
+clusters_around text q =
+    option_and_then (λ front. option_map (λ stop. (front, between q stop)) (next_pos text q 1)) (prev_pos text q 1)
+
+-- the end of the cluster at a place, or the place itself at the end of the text
+abbrev pub end_of_cluster : List ℕ → ℕ → ℕ
+end_of_cluster text pos = unwrap_or (next_pos text pos 1) pos
+
+-- a range goes, and comes in at a place in front of it, and the cursor goes behind the cluster that follows it there
+abbrev pub pull_back_plan : Line → ℕ → Range ℕ → Plan (Unit {0})
+pull_back_plan line front behind =
+    let moved = text_in line behind in
+    let stop = length moved + end_of_cluster (remove_range line.text behind.start behind.end) front in
+    followed_by (Delete behind.start moved Forward) behind.start (single (InsertStr front moved) stop tt)
+
+-- that, if there are two clusters. The answer: were there two?
+abbrev pub pulled_back : Line → Option (ℕ × Range ℕ) → Plan Bool
+pulled_back line None = nothing line false
+pulled_back line (Some (front, behind)) = answering true (pull_back_plan line front behind)
+
+-- of two clusters that meet, the one behind is pulled back in front of the other
+abbrev pub transpose_chars_plan : Line → Plan Bool
+transpose_chars_plan line = pulled_back line (option_and_then (clusters_around line.text) (meeting_place line))
+
+-- n Emacs words ahead or back, or the place itself where no motion leads on
+abbrev pub word_end : List ℕ → ℕ → ℕ → ℕ
+word_end text pos n = unwrap_or (next_word text pos AfterEnd Emacs n) pos
+
+abbrev pub word_start : List ℕ → ℕ → ℕ → ℕ
+word_start text pos n = unwrap_or (prev_word text pos Emacs n) pos
+
+-- the second word ends n words ahead of the cursor, and the first begins n words before it
+abbrev pub second_word : Line → ℕ → Range ℕ
+second_word line n =
+    let stop = word_end line.text line.cursor n in between (word_start line.text stop 1) stop
+
+abbrev pub first_word : Line → ℕ → Range ℕ
+first_word line n =
+    let start = word_start line.text (second_word line n).start n in between start (word_end line.text start 1)
+
+-- they are two words, and do not meet
+abbrev pub are_two : Range ℕ → Range ℕ → Bool
+are_two first second = not (first.start == second.start) && nat_le first.end second.start
+
+-- the second of two ranges gives way to the first's text, and then the first to the second's
+abbrev pub swap_plan : Line → Range ℕ → Range ℕ → Plan (Unit {0})
+swap_plan line first second =
+    record {
+      steps = (Delete second.start (text_in line second) Forward, first.end) ∷ (InsertStr second.start (text_in line first), first.end)
+          ∷ (Delete first.start (text_in line first) Forward, first.start) ∷ (InsertStr first.start (text_in line second), second.end) ∷ [];
+      cursor = second.end;
+      answer = tt;
+    }
+
+-- no step, but the cursor at a place
+abbrev pub only_move : ℕ → Plan Bool
+only_move cursor = record { steps = []; cursor = cursor; answer = false }
+
+-- the two words are exchanged, if they are two, else the cursor goes behind the first
+abbrev pub transpose_words_plan : Line → ℕ → Plan Bool
+transpose_words_plan line n =
+    let first = first_word line n in
+    let second = second_word line n in
+    if are_two first second then answering true (swap_plan line first second) else only_move first.end

@@ -1,0 +1,188 @@
+//! Edits that put texts in, with answers that were worked out by hand.
+use crate::LineBuffer;
+use rl_base::{NoListener, Refusal, RepeatCount};
+use std::alloc::Global;
+use std::process::Abort;
+use std::test::Fail;
+
+// A call, as a value of a table.
+#[derive(Clone, Copy)]
+enum Call {
+    Yank(&'static str, RepeatCount),
+    YankPop(usize, &'static str),
+    Update(&'static str, usize),
+    Replace(usize, usize, &'static str),
+}
+
+// Makes the call, if its places are places. The answer is that of a yank.
+fn make(rt: &impl Abort, line: &mut LineBuffer, call: Call) -> Result<Option<bool>, Refusal> {
+    match call {
+        Call::Yank(text, n) => line.yank(text, n, &mut NoListener),
+        Call::YankPop(size, text) => {
+            let at = line.pos();
+            assert!(rt; size <= at && line.as_str().is_char_boundary(at - size));
+            line.yank_pop(size, text, &mut NoListener)
+        }
+        Call::Update(text, pos) => {
+            assert!(rt; text.is_char_boundary(pos));
+            line.update(text, pos, &mut NoListener)?;
+            Ok(None)
+        }
+        Call::Replace(from, to, text) => {
+            assert!(rt; from <= to);
+            assert!(rt; line.as_str().is_char_boundary(from) && line.as_str().is_char_boundary(to));
+            line.replace(from..to, text, &mut NoListener)?;
+            Ok(None)
+        }
+    }
+}
+
+// A line of a limit, with a text and the cursor at a place.
+fn line_within(
+    rt: &impl Abort,
+    alloc: Global,
+    limit: usize,
+    grows: bool,
+    text: &str,
+    pos: usize,
+) -> Result<LineBuffer, Fail> {
+    let mut line = LineBuffer::with_capacity(alloc, limit)?.can_growth(grows);
+    for c in text.chars() {
+        line.insert(c, 1, &mut NoListener)?;
+    }
+    assert!(rt; line.as_str().is_char_boundary(pos), "{pos} is a place");
+    line.set_pos(pos);
+    Ok(line)
+}
+
+// The call answers that, and leaves the line with that text and that cursor.
+fn leaves(
+    rt: &impl Abort,
+    line: &mut LineBuffer,
+    call: Call,
+    answer: Option<bool>,
+    after: &str,
+    cursor: usize,
+) -> Result<(), Fail> {
+    let at = line.pos();
+    assert_eq!(rt; make(rt, line, call)?, answer, "from {at} to {after:?}");
+    assert_eq!(rt; line.as_str(), after, "from {at}");
+    assert_eq!(rt; line.pos(), cursor, "from {at} to {after:?}");
+    Ok(())
+}
+
+#[test]
+fn texts_come_in(rt: HostRuntime) -> Result<(), Fail> {
+    let hello = "Hello, world!";
+    // the limit, whether the line may grow, the text, the cursor, a call, its answer, and the text and the cursor after it
+    let rows = [
+        (
+            99,
+            false,
+            "αε",
+            2,
+            Call::Yank("ßγδ", 1),
+            Some(false),
+            "αßγδε",
+            8,
+        ),
+        (
+            10,
+            false,
+            "ab",
+            1,
+            Call::Yank("xyz", 2),
+            Some(false),
+            "axyzxyzb",
+            7,
+        ),
+        (
+            10,
+            false,
+            "axyzxyzb",
+            7,
+            Call::Yank("xyz", 1),
+            None,
+            "axyzxyzb",
+            7,
+        ),
+        (
+            10,
+            false,
+            "axyzxyzb",
+            7,
+            Call::Yank("xyz", 0),
+            Some(false),
+            "axyzxyzb",
+            7,
+        ),
+        (
+            10,
+            false,
+            "axyzxyzb",
+            7,
+            Call::YankPop(3, ""),
+            None,
+            "axyzb",
+            4,
+        ),
+        (
+            8,
+            false,
+            "axyzxyzb",
+            7,
+            Call::YankPop(3, "cd"),
+            Some(false),
+            "axyzcdb",
+            6,
+        ),
+        (5, false, "abc", 3, Call::YankPop(1, "defg"), None, "ab", 2),
+        (2, false, "ab", 2, Call::Yank("c", 1), None, "ab", 2),
+        (2, true, "ab", 2, Call::Yank("c", 1), Some(true), "abc", 3),
+        (2, true, "ab", 2, Call::Yank("", 1), None, "ab", 2),
+        (2, false, "", 0, Call::Update("aßß", 5), None, "a", 1),
+        (2, false, "ab", 2, Call::Update("ß", 0), None, "ß", 0),
+        (9, false, "ab", 1, Call::Update("cdef", 2), None, "cdef", 2),
+        (2, true, "ab", 1, Call::Update("aßß", 5), None, "aßß", 5),
+        (
+            99,
+            false,
+            hello,
+            0,
+            Call::Replace(1, 4, "i"),
+            None,
+            "Hio, world!",
+            2,
+        ),
+        (
+            99,
+            false,
+            "Hio, world!",
+            2,
+            Call::Replace(2, 3, ""),
+            None,
+            "Hi, world!",
+            2,
+        ),
+        (
+            2,
+            false,
+            "ab",
+            0,
+            Call::Replace(1, 1, "ßß"),
+            None,
+            "aßßb",
+            5,
+        ),
+    ];
+    for (limit, grows, text, pos, call, answer, after, cursor) in rows {
+        let mut line = line_within(&rt, rt.alloc(), limit, grows, text, pos)?;
+        leaves(&rt, &mut line, call, answer, after, cursor)?;
+        assert_eq!(rt;
+            line.limit(),
+            limit.max(line.len()),
+            "the limit {limit} after the call"
+        );
+    }
+    Ok(())
+}

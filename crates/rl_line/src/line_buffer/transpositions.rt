@@ -1,0 +1,191 @@
+//! Exchanging two clusters, and two words.
+ghost use Rattle.std.specs.Prelude.{◌≡◌, ◌≤◌, option_and_then, IfSome, IfOk, IfErr};
+ghost use Rattle.std.specs.Str.{IsCharBoundary};
+ghost use Rattle.rl_line.specs.Plan.{Done, Halted, or_no_memory};
+ghost use Rattle.rl_line.specs.Transpositions.{are_two, clusters_around, end_of_cluster, first_word, meeting_place, pull_back_plan, second_word, swap_plan, transpose_chars_plan, transpose_words_plan, word_end, word_start};
+
+#[cfg(test)]
+mod tests;
+
+use crate::line_buffer::LineBuffer;
+use rl_base::places::{next_pos, next_word, prev_pos, prev_word};
+use rl_base::{At, ChangeListener, Direction, Refusal, RepeatCount, Word};
+use std::ops::Range;
+use unicode_segmentation::UnicodeSegmentation;
+
+impl LineBuffer {
+    /// Exchanges the grapheme clusters before and behind the cursor, or the last two at the end of the text
+    /// (GNU readline: transpose-chars), and moves the cursor behind both. Answers whether there are two.
+    /// Refused, it leaves the line as it was, or without the cluster behind.
+    pub fn transpose_chars<L: ChangeListener>(&mut self, listener: &mut L) -> Result<bool, Refusal>
+        ensures done { IfOk result (λ answer. Done L.step (transpose_chars_plan self.old) self.old self.new listener.old listener.new answer) }
+        ensures halted { IfErr result (λ r. Halted L.step (or_no_memory L.refused) (transpose_chars_plan self.old) self.old self.new listener.old listener.new r) }
+    {
+        match self.meeting_clusters() {
+            Some((front, behind)) => {
+                self.pull_back(front, behind, listener)?;
+                Ok(true)
+            }
+            None => Ok(false),
+        }
+    }
+
+    // Two steps: a cluster is taken out, and put in at a place in front of it. The cursor goes behind the cluster that follows it there.
+    fn pull_back<L: ChangeListener>(
+        &mut self,
+        front: usize,
+        behind: Range<usize>,
+        listener: &mut L,
+    ) -> Result<(), Refusal>
+        requires order { front ≤ behind.start × behind.start ≤ behind.end }
+        requires front { IsCharBoundary self.old.text front }
+        requires start { IsCharBoundary self.old.text behind.start }
+        requires end { IsCharBoundary self.old.text behind.end }
+        ensures done { IfOk result (λ answer. Done L.step (pull_back_plan self.old front behind) self.old self.new listener.old listener.new answer) }
+        ensures halted { IfErr result (λ r. Halted L.step (or_no_memory L.refused) (pull_back_plan self.old front behind) self.old self.new listener.old listener.new r) }
+    {
+        let moved = self.text_of(&behind)?;
+        self.take_out(behind, Direction::Forward, listener)?;
+        let next = end_of_cluster(self.as_str(), front);
+        self.put_str(front, moved.as_str(), moved.len() + next, listener)?;
+        Ok(())
+    }
+
+    // The clusters that are exchanged.
+    fn meeting_clusters(&self) -> Option<(usize, Range<usize>)>
+        ensures value { result ≡ option_and_then (clusters_around self.now.text) (meeting_place self.now) }
+        ensures order { IfSome result (λ pair. pair.0 ≤ pair.1.start × pair.1.start ≤ pair.1.end) }
+        ensures front { IfSome result (λ pair. IsCharBoundary self.now.text pair.0) }
+        ensures start { IfSome result (λ pair. IsCharBoundary self.now.text pair.1.start) }
+        ensures end { IfSome result (λ pair. IsCharBoundary self.now.text pair.1.end) }
+    {
+        let text = self.as_str();
+        let at = self.pos();
+        text.graphemes(true).nth(1)?;
+        let place = if at == text.len() {
+            prev_pos(text, at, 1)?
+        } else {
+            at
+        };
+        let start = prev_pos(text, place, 1)?;
+        let stop = next_pos(text, place, 1)?;
+        Some((start, place..stop))
+    }
+
+    /// Exchanges the Emacs word before the `n`-th word's end ahead with the word `n` words before it (GNU
+    /// readline: transpose-words), and moves the cursor behind both. Answers false where these are not two
+    /// words, and then leaves the cursor at the first word's end. Refused, it leaves the line after the steps
+    /// that it took.
+    pub fn transpose_words<L: ChangeListener>(
+        &mut self,
+        n: RepeatCount,
+        listener: &mut L,
+    ) -> Result<bool, Refusal>
+        ensures done { IfOk result (λ answer. Done L.step (transpose_words_plan self.old n) self.old self.new listener.old listener.new answer) }
+        ensures halted { IfErr result (λ r. Halted L.step (or_no_memory L.refused) (transpose_words_plan self.old n) self.old self.new listener.old listener.new r) }
+    {
+        let second = self.second_word(n);
+        let first = self.first_word(second.start, n);
+        if !are_two(&first, &second) {
+            self.set_pos(first.end);
+            return Ok(false);
+        }
+        self.swap(first, second, listener)?;
+        Ok(true)
+    }
+
+    // Four steps: the second of two ranges gives way to the first's text, and then the first to the second's.
+    fn swap<L: ChangeListener>(
+        &mut self,
+        first: Range<usize>,
+        second: Range<usize>,
+        listener: &mut L,
+    ) -> Result<(), Refusal>
+        requires first { first.start ≤ first.end }
+        requires second { second.start ≤ second.end }
+        requires apart { first.end ≤ second.start }
+        requires first_start { IsCharBoundary self.old.text first.start }
+        requires first_end { IsCharBoundary self.old.text first.end }
+        requires second_start { IsCharBoundary self.old.text second.start }
+        requires second_end { IsCharBoundary self.old.text second.end }
+        ensures done { IfOk result (λ answer. Done L.step (swap_plan self.old first second) self.old self.new listener.old listener.new answer) }
+        ensures halted { IfErr result (λ r. Halted L.step (or_no_memory L.refused) (swap_plan self.old first second) self.old self.new listener.old listener.new r) }
+    {
+        // So the proof knows that this is UTF-8.
+        let _text = self.as_str();
+        let first_text = self.text_of(&first)?;
+        let second_text = self.text_of(&second)?;
+        let (start, between, end) = (first.start, first.end, second.end);
+        self.exchange(second, between, first_text.as_str(), between, listener)?;
+        self.exchange(first, start, second_text.as_str(), end, listener)?;
+        Ok(())
+    }
+
+    fn second_word(&self, n: RepeatCount) -> Range<usize>
+        ensures value { result ≡ second_word self.now n }
+        ensures order { result.start ≤ result.end }
+        ensures start { IsCharBoundary self.now.text result.start }
+        ensures end { IsCharBoundary self.now.text result.end }
+    {
+        let text = self.as_str();
+        let end = word_end(text, self.pos(), n);
+        word_start(text, end, 1)..end
+    }
+
+    fn first_word(&self, second: usize, n: RepeatCount) -> Range<usize>
+        requires place { IsCharBoundary self.now.text second }
+        requires second { second ≡ (second_word self.now n).start }
+        ensures value { result ≡ first_word self.now n }
+        ensures order { result.start ≤ result.end }
+        ensures start { IsCharBoundary self.now.text result.start }
+        ensures end { IsCharBoundary self.now.text result.end }
+    {
+        let text = self.as_str();
+        let start = word_start(text, second, n);
+        start..word_end(text, start, 1)
+    }
+}
+
+fn word_end(text: &str, pos: usize, n: RepeatCount) -> usize
+    requires { IsCharBoundary text.now pos }
+    ensures value { result ≡ word_end text.now pos n }
+    ensures ahead { pos ≤ result }
+    ensures boundary { IsCharBoundary text.now result }
+{
+    match next_word(text, pos, At::AfterEnd, Word::Emacs, n) {
+        Some(place) => place,
+        None => pos,
+    }
+}
+
+fn word_start(text: &str, pos: usize, n: RepeatCount) -> usize
+    requires { IsCharBoundary text.now pos }
+    ensures value { result ≡ word_start text.now pos n }
+    ensures before { result ≤ pos }
+    ensures boundary { IsCharBoundary text.now result }
+{
+    match prev_word(text, pos, Word::Emacs, n) {
+        Some(place) => place,
+        None => pos,
+    }
+}
+
+// Whether these are two words, which do not meet.
+fn are_two(first: &Range<usize>, second: &Range<usize>) -> bool
+    ensures { result ≡ are_two first.now second.now }
+{
+    first.start != second.start && first.end <= second.start
+}
+
+// The end of the cluster at a place, or the place itself at the end of the text.
+fn end_of_cluster(text: &str, pos: usize) -> usize
+    requires { IsCharBoundary text.now pos }
+    ensures value { result ≡ end_of_cluster text.now pos }
+    ensures ahead { pos ≤ result }
+    ensures boundary { IsCharBoundary text.now result }
+{
+    match next_pos(text, pos, 1) {
+        Some(end) => end,
+        None => pos,
+    }
+}
