@@ -1,18 +1,19 @@
 -- Exchanging two ranges: the plan by its halves, and the places between them.
-use Rattle.std.proofs.Common.{◌≡◌, ℕ, ◌+◌, ◌-◌, ◌≤◌, [], ◌∷◌, ◌++◌, List, length, Some, None, Bool, cond, true, false, slice_range, refl, sym, ap, ap₂, subst, ◌∙◌, arith}
+use Rattle.std.proofs.Common.{◌≡◌, ℕ, ◌+◌, ◌-◌, ◌≤◌, [], ◌∷◌, ◌++◌, List, length, length-append, take, drop, append_assoc, Some, None, Bool, cond, true, false, slice_range, refl, sym, ap, ap₂, subst, ◌∙◌, arith}
 use Rattle.std.proofs.lemmas.List.Edits.{length-between}
 use Rattle.std.specs.Prelude.{option_and_then}
-use Rattle.std.specs.List.{remove_range, replace_range}
+use Rattle.std.proofs.lemmas.List.{length-take-le, length-drop, drop-take, drop-append-le}
+use Rattle.std.specs.List.{insert_slice, remove_range, replace_range}
 use Rattle.std.specs.Str.{IsCharBoundary, IsUtf8}
 use Rattle.std.specs.declared.ops.Range.{Range}
-use Rattle.rl_base.proofs.TextLemmas.{slice-before, IsCharBoundary-before, IsCharBoundary-at_removal, IsCharBoundary-past_replacement, IsCharBoundary-behind, IsUtf8-replaced}
+use Rattle.rl_base.proofs.TextLemmas.{slice-before, take-before, removed-is_replaced, IsCharBoundary-before, IsCharBoundary-at_removal, IsCharBoundary-past_replacement, IsCharBoundary-behind, IsUtf8-replaced}
 use Rattle.rl_base.specs.declared.listeners.Direction.TheVariants.{Forward}
 use Rattle.rl_base.specs.Event.{InsertStr, Delete}
 use Rattle.rl_line.specs.Line.{Line}
 use Rattle.rl_line.specs.Plan.{Plan, Step, nothing, single, followed_by, answering}
 use Rattle.rl_line.specs.Edits.{exchange_plan}
 use Rattle.rl_line.specs.Ranges.{text_in}
-use Rattle.rl_line.specs.Transpositions.{are_two, clusters_around, end_of_cluster, first_word, meeting_place, second_word, only_move, pull_back_plan, pulled_back, swap_plan, transpose_chars_plan, transpose_words_plan}
+use Rattle.rl_line.specs.Transpositions.{are_two, clusters_around, end_of_cluster, exchanged_text, SwapsClusters, first_word, meeting_place, second_word, only_move, pull_back_plan, pulled_back, swap_plan, transpose_chars_plan, transpose_words_plan}
 
 -- the steps of the second exchange
 abbrev pub last_steps : Line → Range ℕ → Range ℕ → List Step
@@ -64,6 +65,34 @@ pub pull_back_plan-is : (line : Line) (front : ℕ) (behind : Range ℕ) (x : Li
 pull_back_plan-is line front behind x stop e f =
     ap₂ (λ (t : List ℕ) (k : ℕ). followed_by (Delete behind.start (text_in line behind) Forward) behind.start (single (InsertStr front t) k tt)) (sym e)
     (sym (f ∙ ap (λ t. length t + end_of_cluster (remove_range line.text behind.start behind.end) front) e))
+
+pub exchanged : (line : Line) (front : ℕ) (behind : Range ℕ) (x : List ℕ) → x ≡ text_in line behind → front ≤ behind.start → behind.start ≤ length line.text
+    → insert_slice (remove_range line.text behind.start behind.end) front x ≡ exchanged_text line front behind
+exchanged line front behind x e le within =
+    let text = line.text in
+    let left = remove_range text behind.start behind.end in
+    let front_is : take front left ≡ take front text =
+    ap (take front) (removed-is_replaced text behind.start behind.end) ∙ take-before text behind.start behind.end front [] within le in
+    let to : front + (behind.start - front) ≡ behind.start = omega arith in
+    let middle : drop front (take behind.start text) ≡ slice_range text front behind.start =
+    ap (λ n. drop front (take n text)) (sym to) ∙ drop-take front (behind.start - front) text in
+    let rest : drop front left ≡ slice_range text front behind.start ++ drop behind.end text =
+    drop-append-le front (take behind.start text) (drop behind.end text) (omega (arith, length-take-le behind.start text within)) ∙ ap (λ l. l ++ drop behind.end text) middle in
+    ap₂ (λ f r. (f ++ x) ++ r) front_is rest ∙ append_assoc (take front text) x (slice_range text front behind.start ++ drop behind.end text)
+    ∙ ap (λ t. take front text ++ (t ++ (slice_range text front behind.start ++ drop behind.end text))) e
+
+pub length-exchanged : (line : Line) (front : ℕ) (behind : Range ℕ) → front ≤ behind.start → behind.start ≤ behind.end → behind.end ≤ length line.text
+    → length (exchanged_text line front behind) ≡ length line.text
+length-exchanged line front behind le order within =
+    let text = line.text in
+    let middle = slice_range text front behind.start in
+    omega (arith, length-append (take front text) (text_in line behind ++ (middle ++ drop behind.end text)), length-append (text_in line behind) (middle ++ drop behind.end text),
+    length-append middle (drop behind.end text), length-take-le front text (omega arith), length-between text behind.start behind.end within, length-between text front behind.start (omega arith), length-drop behind.end text)
+
+pub swaps_clusters : (old new : Line) (front : ℕ) (behind : Range ℕ) → Some (front, behind) ≡ option_and_then (clusters_around old.text) (meeting_place old) → new.text ≡ exchanged_text old front behind
+    → front ≤ behind.start → behind.start ≤ behind.end → behind.end ≤ length old.text → SwapsClusters old new
+swaps_clusters old new front behind met is le order within =
+    record { front = front; behind = behind; met = sym met; text = is; len = ap length is ∙ length-exchanged old front behind le order within }
 
 pub transpose_chars-nothing : (line : Line) → None ≡ option_and_then (clusters_around line.text) (meeting_place line) → transpose_chars_plan line ≡ nothing line false
 transpose_chars-nothing line e = ap (pulled_back line) (sym e)

@@ -1,5 +1,5 @@
 -- Exchanging two clusters, and two words.
-use Rattle.std.specs.Prelude.{ℕ, ◌+◌, Bool, true, false, not, ◌==◌, ◌&&◌, nat_lt, nat_le, List, [], ◌∷◌, length, Option, Some, None, option_and_then, unwrap_or, if◌then◌else◌}
+use Rattle.std.specs.Prelude.{◌≡◌, ℕ, ◌+◌, Bool, true, false, not, ◌==◌, ◌&&◌, nat_lt, nat_le, List, [], ◌∷◌, ◌++◌, length, take, drop, slice_range, Option, Some, None, option_and_then, unwrap_or, if◌then◌else◌}
 use Rattle.std.specs.List.{remove_range}
 use Rattle.std.specs.Option.{option_map}
 use Rattle.std.specs.declared.ops.Range.{Range}
@@ -43,6 +43,19 @@ pulled_back line (Some (front, behind)) = answering true (pull_back_plan line fr
 -- of two clusters that meet, the one behind is pulled back in front of the other
 abbrev pub transpose_chars_plan : Line → Plan Bool
 transpose_chars_plan line = pulled_back line (option_and_then (clusters_around line.text) (meeting_place line))
+
+-- the text with what stands from a place to a range, and that range, exchanged
+abbrev pub exchanged_text : Line → ℕ → Range ℕ → List ℕ
+exchanged_text line front behind =
+    take front line.text ++ (text_in line behind ++ (slice_range line.text front behind.start ++ drop behind.end line.text))
+
+-- two clusters that met were exchanged, and nothing else changed in the text
+pub record SwapsClusters (old new : Line) : Type 0 where
+  pub front : ℕ
+  pub behind : Range ℕ
+  pub met : option_and_then (clusters_around old.text) (meeting_place old) ≡ Some (front, behind)
+  pub text : new.text ≡ exchanged_text old front behind
+  pub len : length new.text ≡ length old.text
 
 -- n Emacs words ahead or back, or the place itself where no motion leads on
 abbrev pub word_end : List ℕ → ℕ → ℕ → ℕ

@@ -1,8 +1,8 @@
 //! Exchanging two clusters, and two words.
-ghost use Rattle.std.specs.Prelude.{◌≡◌, ◌≤◌, option_and_then, IfSome, IfOk, IfErr};
+ghost use Rattle.std.specs.Prelude.{◌≡◌, ◌≤◌, true, option_and_then, IfSome, IfOk, IfErr, OnOk};
 ghost use Rattle.std.specs.Str.{IsCharBoundary};
 ghost use Rattle.rl_line.specs.Plan.{Done, Halted, or_no_memory};
-ghost use Rattle.rl_line.specs.Transpositions.{are_two, clusters_around, end_of_cluster, first_word, meeting_place, pull_back_plan, second_word, swap_plan, transpose_chars_plan, transpose_words_plan, word_end, word_start};
+ghost use Rattle.rl_line.specs.Transpositions.{are_two, clusters_around, end_of_cluster, exchanged_text, first_word, meeting_place, pull_back_plan, SwapsClusters, second_word, swap_plan, transpose_chars_plan, transpose_words_plan, word_end, word_start};
 
 #[cfg(test)]
 mod tests;
@@ -20,6 +20,7 @@ impl LineBuffer {
     pub fn transpose_chars<L: ChangeListener>(&mut self, listener: &mut L) -> Result<bool, Refusal>
         ensures done { IfOk result (λ answer. Done L.step (transpose_chars_plan self.old) self.old self.new listener.old listener.new answer) }
         ensures halted { IfErr result (λ r. Halted L.step (or_no_memory L.refused) (transpose_chars_plan self.old) self.old self.new listener.old listener.new r) }
+        ensures swaps { IfOk result (λ answer. answer ≡ true → SwapsClusters self.old self.new) }
     {
         match self.meeting_clusters() {
             Some((front, behind)) => {
@@ -43,6 +44,7 @@ impl LineBuffer {
         requires end { IsCharBoundary self.old.text behind.end }
         ensures done { IfOk result (λ answer. Done L.step (pull_back_plan self.old front behind) self.old self.new listener.old listener.new answer) }
         ensures halted { IfErr result (λ r. Halted L.step (or_no_memory L.refused) (pull_back_plan self.old front behind) self.old self.new listener.old listener.new r) }
+        ensures text { OnOk result (self.new.text ≡ exchanged_text self.old front behind) }
     {
         let moved = self.text_of(&behind)?;
         self.take_out(behind, Direction::Forward, listener)?;

@@ -1,11 +1,12 @@
 use Rattle.std.proofs.Common.{rules, refl, inl, inr, ℕ, ◌+◌, ap, ap₂, subst, ◌∙◌}
 use Rattle.std.proofs.lemmas.Result.{err_from_is_err_and}
+use Rattle.std.specs.List.{insert_slice}
 use Rattle.std.specs.Str.{IsCharBoundary, IsUtf8}
 use Rattle.rl_base.proofs.TextLemmas.{IsCharBoundary-behind}
 use Rattle.rl_line.specs.Line.{Line}
 use Rattle.rl_line.specs.Transpositions.{end_of_cluster, pull_back_plan}
 use Rattle.rl_line.proofs.PlanLemmas.{Done-followed, Done-single, Halted-at_first}
-use Rattle.rl_line.proofs.TranspositionLemmas.{pull_back_plan-is}
+use Rattle.rl_line.proofs.TranspositionLemmas.{exchanged, pull_back_plan-is}
 use Rattle.rl_line.proofs.line_buffer.LineBuffer.pull_back.Goals as goal
 
 pub returns-in_err-moved-clause-halted : goal.returns-in_err-moved-clause-halted
@@ -32,3 +33,8 @@ returns-clause-done g c =
     (pull_back_plan-is c.args.self.now c.args.front c.args.behind _ _ (c.as_str-2.ensures.value ∙ c.in_ok-moved.ensures.ok)
     (ap₂ (λ (a b : ℕ). a + b) (search rules)
     (c.end_of_cluster-next.ensures.value ∙ ap (λ t. end_of_cluster t c.args.front) (c.as_str.ensures ∙ ap (λ (l : Line). l.text) c.in_ok-take_out.ensures.line))))
+
+pub returns-clause-text : goal.returns-clause-text
+returns-clause-text g c =
+    ap (λ (l : Line). l.text) c.in_ok-put_str.ensures.line ∙ ap (λ (l : Line). insert_slice l.text c.args.front c.as_str-2.result.now) c.in_ok-take_out.ensures.line
+    ∙ exchanged c.args.self.now c.args.front c.args.behind _ (c.as_str-2.ensures.value ∙ c.in_ok-moved.ensures.ok) c.requires.order.0 c.requires.start.0
