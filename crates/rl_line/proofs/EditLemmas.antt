@@ -1,6 +1,6 @@
 -- The plans of the edits, by their cases. The lemmas name each number of the code by a variable and an
 -- equation, so that they fit what the code computed.
-use Rattle.std.proofs.Common.{◌≡◌, ℕ, ◌+◌, ◌-◌, ◌*◌, ◌<◌, Bool, true, false, List, zero, suc, length, length-append, take, slice_range, Some, None, refl, sym, ap, ◌∙◌, append-nil, arith, lt-ltb}
+use Rattle.std.proofs.Common.{◌≡◌, ℕ, ◌+◌, ◌-◌, ◌*◌, ◌<◌, Bool, true, false, List, zero, suc, length, length-append, take, slice_range, Some, None, refl, arith, lt-ltb}
 use Rattle.std.specs.List.{repeat, remove_range}
 use Rattle.std.specs.Prelude.{encode_utf8, ◌==◌, ◌||◌}
 use Rattle.rl_base.specs.Event.{InsertStr, Delete}
@@ -40,6 +40,3 @@ yank_pop_plan-is line mid z p from s at to e = rw (e, to, at) refl
 pub length-repeat : (n : ℕ) (s : List ℕ) → length (repeat n s) ≡ length s * n
 length-repeat zero s = omega arith
 length-repeat (suc n) s = omega (arith, length-append s (repeat n s), length-repeat n s)
-
-pub repeat-one : (s : List ℕ) → repeat 1 s ≡ s
-repeat-one s = append-nil s

@@ -4,7 +4,7 @@ use Rattle.std.specs.Prelude.{option_and_then}
 use Rattle.rl_base.specs.Event.{Event, apply}
 use Rattle.rl_base.specs.declared.listeners.Refusal.{Refusal}
 use Rattle.rl_line.specs.Line.{Line, stepped}
-use Rattle.rl_line.specs.Plan.{Step, Plan, nothing, single, answering, followed_by, after, heard, Taken, Done, Halted}
+use Rattle.rl_line.specs.Plan.{Step, Plan, nothing, single, followed_by, after, heard, Taken, Done, Halted}
 
 after-append : (xs ys : List Step) (old mid : Line) → after xs old ≡ Some mid → after (xs ++ ys) old ≡ after ys mid
 after-append [] ys old mid e = ap (option_and_then (after ys)) e
@@ -69,9 +69,6 @@ module _ {L : Type 0} (step : L → Event → L) where
     answered = rw e refl;
   }
 
-  pub Done-answering : {A B : Type 0} (plan : Plan A) (old new : Line) (b n : L) (a : A) (other : B) → Done step plan old new b n a → Done step (answering other plan) old new b n other
-  Done-answering plan old new b n a other d = record { last = d.last; taken = d.taken; line = d.line; answered = refl }
-
   -- a step, and then all of a plan
   pub Done-followed : {A : Type 0} (whole plan : Plan A) (event : Event) (cursor : ℕ) (old mid new : Line) (b m n : L) (a : A)
       → Taken step ((event, cursor) ∷ []) old mid b m → Done step plan mid new m n a → whole ≡ followed_by event cursor plan → Done step whole old new b n a
@@ -100,19 +97,6 @@ module _ {L : Type 0} (step : L → Event → L) where
         → refused b event r n → new ≡ old → plan ≡ single event cursor a → Halted step refused plan old new b n r
     Halted-single plan event cursor old new b n a r cause same e =
         Halted-at_first plan (event, cursor) [] old new b n r (ap (λ (p : Plan _). p.steps) e) same cause
-
-    -- the first steps were taken, and the next was refused
-    pub Halted-after : {A : Type 0} (plan : Plan A) (first others : List Step) (s : Step) (old mid new : Line) (b m n : L) (r : Refusal)
-        → refused m s.0 r n → new ≡ mid → Taken step first old mid b m → plan.steps ≡ first ++ s ∷ others → Halted step refused plan old new b n r
-    Halted-after plan first others s old mid new b m n r cause same t e = record {
-      first = first;
-      next = s;
-      others = others;
-      split = e;
-      middle = m;
-      taken = subst (λ l. Taken step first old l b m) (sym same) t;
-      cause = cause;
-    }
 
     -- the step before a plan was refused
     pub Halted-before : {A : Type 0} (whole plan : Plan A) (event : Event) (cursor : ℕ) (old new : Line) (b n : L) (r : Refusal)

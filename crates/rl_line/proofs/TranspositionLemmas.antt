@@ -1,5 +1,5 @@
 -- Exchanging two ranges: the plan by its halves, and the places between them.
-use Rattle.std.proofs.Common.{◌≡◌, ℕ, ◌+◌, ◌-◌, ◌≤◌, [], ◌∷◌, ◌++◌, List, length, length-append, take, drop, append_assoc, Some, None, Bool, cond, true, false, slice_range, refl, sym, ap, ap₂, subst, ◌∙◌, arith}
+use Rattle.std.proofs.Common.{◌≡◌, ℕ, ◌+◌, ◌-◌, ◌≤◌, [], ◌∷◌, ◌++◌, List, length, length-append, take, drop, append_assoc, None, Bool, cond, true, false, slice_range, sym, ap, ap₂, subst, ◌∙◌, arith}
 use Rattle.std.proofs.lemmas.List.Edits.{length-between}
 use Rattle.std.specs.Prelude.{option_and_then}
 use Rattle.std.proofs.lemmas.List.{length-take-le, length-drop, drop-take, drop-append-le}
@@ -13,7 +13,7 @@ use Rattle.rl_line.specs.Line.{Line}
 use Rattle.rl_line.specs.Plan.{Plan, Step, nothing, single, followed_by, answering}
 use Rattle.rl_line.specs.Edits.{exchange_plan}
 use Rattle.rl_line.specs.Ranges.{text_in}
-use Rattle.rl_line.specs.Transpositions.{are_two, clusters_around, end_of_cluster, exchanged_text, SwapsClusters, first_word, meeting_place, second_word, only_move, pull_back_plan, pulled_back, swap_plan, transpose_chars_plan, transpose_words_plan}
+use Rattle.rl_line.specs.Transpositions.{are_two, clusters_around, end_of_cluster, exchanged_text, first_word, meeting_place, second_word, only_move, pull_back_plan, pulled_back, swap_plan, transpose_chars_plan, transpose_words_plan}
 
 -- the steps of the second exchange
 abbrev pub last_steps : Line → Range ℕ → Range ℕ → List Step
@@ -89,17 +89,8 @@ length-exchanged line front behind le order within =
     omega (arith, length-append (take front text) (text_in line behind ++ (middle ++ drop behind.end text)), length-append (text_in line behind) (middle ++ drop behind.end text),
     length-append middle (drop behind.end text), length-take-le front text (omega arith), length-between text behind.start behind.end within, length-between text front behind.start (omega arith), length-drop behind.end text)
 
-pub swaps_clusters : (old new : Line) (front : ℕ) (behind : Range ℕ) → Some (front, behind) ≡ option_and_then (clusters_around old.text) (meeting_place old) → new.text ≡ exchanged_text old front behind
-    → front ≤ behind.start → behind.start ≤ behind.end → behind.end ≤ length old.text → SwapsClusters old new
-swaps_clusters old new front behind met is le order within =
-    record { front = front; behind = behind; met = sym met; text = is; len = ap length is ∙ length-exchanged old front behind le order within }
-
 pub transpose_chars-nothing : (line : Line) → None ≡ option_and_then (clusters_around line.text) (meeting_place line) → transpose_chars_plan line ≡ nothing line false
 transpose_chars-nothing line e = ap (pulled_back line) (sym e)
-
-pub transpose_chars-pair : (line : Line) (front : ℕ) (behind : Range ℕ) → Some (front, behind) ≡ option_and_then (clusters_around line.text) (meeting_place line)
-    → transpose_chars_plan line ≡ answering true (pull_back_plan line front behind)
-transpose_chars-pair line front behind e = ap (pulled_back line) (sym e)
 
 abbrev transposed : Line → Range ℕ → Range ℕ → Plan Bool
 transposed line first second = cond (are_two first second) (answering true (swap_plan line first second)) (only_move first.end)
@@ -107,9 +98,4 @@ transposed line first second = cond (are_two first second) (answering true (swap
 pub transpose-stays : (line : Line) (n : ℕ) (first second : Range ℕ) → first ≡ first_word line n → second ≡ second_word line n → are_two first second ≡ false
     → transpose_words_plan line n ≡ only_move first.end
 transpose-stays line n first second e f apart =
-    sym (ap₂ (transposed line) e f) ∙ ap (λ b. cond b (answering true (swap_plan line first second)) (only_move first.end)) apart
-
-pub transpose-swaps : (line : Line) (n : ℕ) (first second : Range ℕ) → first ≡ first_word line n → second ≡ second_word line n → are_two first second ≡ true
-    → transpose_words_plan line n ≡ answering true (swap_plan line first second)
-transpose-swaps line n first second e f apart =
     sym (ap₂ (transposed line) e f) ∙ ap (λ b. cond b (answering true (swap_plan line first second)) (only_move first.end)) apart

@@ -1,4 +1,4 @@
-use Rattle.std.proofs.Common.{rules, arith, sym, ◌∙◌}
+use Rattle.std.proofs.Common.{rules, sym, ◌∙◌}
 use Rattle.rl_base.proofs.ClusterLemmas.{slice_range-front}
 use Rattle.rl_base.proofs.TextLemmas.{greatest_boundary-is}
 use Rattle.rl_line.proofs.EditLemmas.{cut_to_limit-past}

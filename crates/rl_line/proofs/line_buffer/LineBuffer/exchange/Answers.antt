@@ -1,6 +1,6 @@
-use Rattle.std.proofs.Common.{rules, refl, inr}
+use Rattle.std.proofs.Common.{refl, inr}
 use Rattle.std.proofs.lemmas.Result.{err_from_is_err_and}
-use Rattle.rl_line.proofs.PlanLemmas.{Taken-append, Halted-before, Halted-followed, Halted-single}
+use Rattle.rl_line.proofs.PlanLemmas.{Halted-before}
 use Rattle.rl_line.proofs.line_buffer.LineBuffer.exchange.Goals as goal
 
 pub returns-in_err-take_out_before-clause-halted : goal.returns-in_err-take_out_before-clause-halted

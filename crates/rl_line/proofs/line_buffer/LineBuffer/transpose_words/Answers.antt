@@ -1,6 +1,4 @@
-use Rattle.std.proofs.Common.{rules, refl, sym, ap, subst, ◌∙◌}
-use Rattle.rl_line.specs.Plan.{Done, Plan}
-use Rattle.rl_line.specs.Transpositions.{only_move}
+use Rattle.std.proofs.Common.{rules}
 use Rattle.rl_line.proofs.PlanLemmas.{Done-moved}
 use Rattle.rl_line.proofs.TranspositionLemmas.{transpose-stays}
 use Rattle.rl_line.proofs.line_buffer.LineBuffer.transpose_words.Goals as goal
