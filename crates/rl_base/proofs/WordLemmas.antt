@@ -5,9 +5,9 @@ use Rattle.std.proofs.lemmas.Str.{IsUtf8-take, IsCharBoundary-start}
 use Rattle.std.proofs.lemmas.List.Elements.{filter_map-append}
 use Rattle.std.proofs.lemmas.List.Elements.{All-nil, All-cons, All-head, All-tail, All-weaker, All-drop, All-map}
 use Rattle.std.proofs.lemmas.Option.{slice_get_within, get_or_from_slice_get}
-use Rattle.std.specs.List.{All, last_or, filter_map, cons_option}
-use Rattle.std.specs.Option.{IfSome}
-use Rattle.std.specs.Prelude.{unwrap_or, if◌then◌else◌}
+use Rattle.std.specs.List.{All, find, last_or, filter_map, cons_option}
+use Rattle.std.specs.Option.{IfSome, option_map}
+use Rattle.std.specs.Prelude.{unwrap_or, cond, if◌then◌else◌}
 use Rattle.rl_base.specs.declared.motion.At.{At}
 use Rattle.rl_base.specs.declared.motion.At.TheVariants.{Start, BeforeEnd, AfterEnd}
 use Rattle.rl_base.specs.declared.motion.Word.{Word}
@@ -19,7 +19,7 @@ use Rattle.unicode_segmentation.proofs.SegmentsLemmas.{IsPieceOf, All-IsPieceOf,
 use Rattle.rl_base.specs.Clusters.{clusters, bytes_in}
 use Rattle.rl_base.proofs.ClusterLemmas.{bytes_in-clusters}
 use Rattle.rl_base.proofs.TextLemmas.{IsCharBoundary-in_front}
-use Rattle.rl_base.specs.Words.{PlacedCluster, placed_clusters, prev_word, looked_at, last_place, neighbors, stop_between, stops, nth, starts, ends}
+use Rattle.rl_base.specs.Words.{PlacedCluster, is_word, placed_clusters, prev_word, looked_at, last_place, neighbors, stop_between, stops, nth, starts, ends, first_member}
 
 -- one more element at the end is one more pair at the end
 pub neighbors_push : {X : Type 0} (xs : List X) (x y : X) → neighbors ((xs ++ x ∷ []) ++ y ∷ []) ≡ neighbors (xs ++ x ∷ []) ++ (x, y) ∷ []
@@ -168,3 +168,14 @@ IsBefore-start_before text pos sense n u bound =
     let at = start_before sense n (placed_clusters (take pos text)) in
     let within : at ≤ pos = omega (arith, cut.0, length-take-le pos text bound.0) in
     record { before = within; boundary = IsCharBoundary-in_front text pos at u bound.0 within (IsUtf8-take (take pos text) at front cut) }
+
+member-is : (P : ℕ → Type 0) (pieces : List PlacedCluster) → All (λ x. P x.0) pieces → IfSome (first_member pieces) P
+member-is P [] h = tt
+member-is P (x ∷ xs) h = from (is_word Emacs x.1) (member-is P xs (All-tail (λ x. P x.0) x xs h))
+  where
+    from : (b : Bool) → IfSome (first_member xs) P → IfSome (option_map (λ piece. piece.0) (cond b (Some x) (find (λ piece. is_word Emacs piece.1) xs))) P
+    from true rest = All-head (λ x. P x.0) x xs h
+    from false rest = rest
+
+pub IsCharBoundary-member : (text : List ℕ) (place : ℕ) → IsUtf8 text → Some place ≡ first_member (placed_clusters text) → IsCharBoundary text place
+IsCharBoundary-member text place u e = subst (λ o. IfSome o (IsCharBoundary text)) (sym e) (member-is (IsCharBoundary text) (placed_clusters text) (All-places text u))

@@ -1,6 +1,6 @@
 -- What a cluster is to each sense of a word, and where word motions stop.
 use Rattle.std.specs.Prelude.{ℕ, ◌+◌, length, zero, suc, Bool, true, false, not, ◌&&◌, ◌||◌, ◌==◌, List, [], ◌∷◌, map, take, drop, reverse, slice_get, Option, Some, None, unwrap_or, if◌then◌else◌}
-use Rattle.std.specs.List.{list_all, list_any, zip, filter_map, last_or}
+use Rattle.std.specs.List.{find, list_all, list_any, zip, filter_map, last_or}
 use Rattle.std.specs.Option.{option_map, option_or}
 use Rattle.std.specs.Str.{chars}
 use Rattle.unicode.specs.Binary.{is_alphabetic, is_white_space}
@@ -115,3 +115,11 @@ next_stop at sense n text = option_or (nth n (stops at sense (looked_at at (plac
 -- the same from the place on; none at the end of the text
 abbrev pub next_word : List ℕ → ℕ → At → Word → ℕ → Option ℕ
 next_word text pos at sense n = if pos == length text then None else option_map (λ stop. pos + stop) (next_stop at sense n (drop pos text))
+
+-- the place of the first cluster that belongs to Emacs words
+abbrev pub first_member : List PlacedCluster → Option ℕ
+first_member pieces = option_map (λ piece. piece.0) (find (λ piece. is_word Emacs piece.1) pieces)
+
+-- the same from the place on
+abbrev pub first_word_cluster : List ℕ → ℕ → Option ℕ
+first_word_cluster text pos = option_map (λ i. pos + i) (first_member (placed_clusters (drop pos text)))

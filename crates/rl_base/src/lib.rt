@@ -11,4 +11,4 @@ mod tests;
 
 pub use layout::{GraphemeClusterMode, Layout, Position, Unit};
 pub use listeners::{ChangeListener, DeleteListener, Direction, NoListener, Refusal};
-pub use motion::{Anchor, At, CharSearch, Movement, RepeatCount, Word};
+pub use motion::{Anchor, At, CharSearch, Movement, RepeatCount, Word, WordAction};

@@ -25,6 +25,17 @@ pub enum At {
     AfterEnd,
 }
 
+/// What an edit of a word makes of its letters.
+#[derive(Clone, Copy, Debug, Eq, PartialEq)]
+pub enum WordAction {
+    /// The first one upper case, the others lower case (readline's `capitalize-word`).
+    Capitalize,
+    /// Lower case (readline's `downcase-word`).
+    Lowercase,
+    /// Upper case (readline's `upcase-word`).
+    Uppercase,
+}
+
 /// Where a text is put, relative to the cursor.
 #[derive(Clone, Copy, Debug, Eq, PartialEq)]
 pub enum Anchor {

@@ -14,7 +14,7 @@ mod words;
 
 pub use classes::is_alphanumeric;
 pub use hits::{find_place, search};
-pub use words::{next_word, prev_word};
+pub use words::{first_word_cluster, next_word, prev_word};
 
 /// The byte place past the first `n` grapheme clusters (UAX #29) of what stands from `pos` on, or past
 /// all of them where there are fewer. None at the end and for `n` = 0.

@@ -1,5 +1,6 @@
 pub mod EditLemmas
 pub mod KillLemmas
+pub mod LetterCaseLemmas
 pub mod LineMotionLemmas
 pub mod OriginLemmas
 pub mod PlanLemmas

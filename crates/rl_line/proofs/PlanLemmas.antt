@@ -59,6 +59,9 @@ module _ {L : Type 0} (step : L → Event → L) where
   Done-steps plan steps old new b n t e at =
       record { last = new; taken = subst (λ ss. Taken step ss old new b n) (sym e) t; line = ap (λ k. record new { cursor = k }) at; answered = refl }
 
+  pub Done-as : {A : Type 0} (plan other : Plan A) (old new : Line) (b n : L) (a : A) → Done step other old new b n a → plan ≡ other → Done step plan old new b n a
+  Done-as plan other old new b n a d e = subst (λ q. Done step q old new b n a) (sym e) d
+
   -- no step, but the cursor moved
   pub Done-moved : {A : Type 0} (plan : Plan A) (line new : Line) (b : L) (cursor : ℕ) (a : A) → new ≡ record line { cursor = cursor } → plan ≡ record { steps = []; cursor = cursor; answer = a }
       → Done step plan line new b b a
@@ -117,6 +120,9 @@ module _ {L : Type 0} (step : L → Event → L) where
       taken = Taken-append ((event, cursor) ∷ []) h.first old mid new b m h.middle t h.taken;
       cause = h.cause;
     }
+
+    pub Halted-as : {A : Type 0} (plan other : Plan A) (old new : Line) (b n : L) (r : Refusal) → Halted step refused other old new b n r → plan ≡ other → Halted step refused plan old new b n r
+    Halted-as plan other old new b n r h e = subst (λ q. Halted step refused q old new b n r) (sym e) h
 
     -- some of the first steps were taken, which are those of a plan
     pub Halted-front : {A B : Type 0} (whole : Plan A) (plan : Plan B) (more : List Step) (old new : Line) (b n : L) (r : Refusal)

@@ -86,8 +86,16 @@ pub length-exchanged : (line : Line) (front : ℕ) (behind : Range ℕ) → fron
 length-exchanged line front behind le order within =
     let text = line.text in
     let middle = slice_range text front behind.start in
-    omega (arith, length-append (take front text) (text_in line behind ++ (middle ++ drop behind.end text)), length-append (text_in line behind) (middle ++ drop behind.end text),
-    length-append middle (drop behind.end text), length-take-le front text (omega arith), length-between text behind.start behind.end within, length-between text front behind.start (omega arith), length-drop behind.end text)
+    omega (
+      arith,
+      length-append (take front text) (text_in line behind ++ (middle ++ drop behind.end text)),
+      length-append (text_in line behind) (middle ++ drop behind.end text),
+      length-append middle (drop behind.end text),
+      length-take-le front text (omega arith),
+      length-between text behind.start behind.end within,
+      length-between text front behind.start (omega arith),
+      length-drop behind.end text,
+    )
 
 pub transpose_chars-nothing : (line : Line) → None ≡ option_and_then (clusters_around line.text) (meeting_place line) → transpose_chars_plan line ≡ nothing line false
 transpose_chars-nothing line e = ap (pulled_back line) (sym e)

@@ -6,5 +6,6 @@ pub mod Ranges
 pub mod Edits
 pub mod Kills
 pub mod Transpositions
+pub mod LetterCase
 pub mod Record
 pub mod Undo

@@ -12,6 +12,7 @@ ghost use Rattle.rl_line.specs.Undo.{line_back};
 
 mod edits;
 mod kills;
+mod letter_case;
 mod line_motions;
 #[cfg(test)]
 mod line_tests;

@@ -3,7 +3,7 @@ ghost use Rattle.std.specs.Prelude.{◌≡◌, ◌≤◌, List, ℕ, IfSome};
 ghost use Rattle.std.specs.Str.{IsCharBoundary};
 ghost use Rattle.unicode_segmentation.specs.Iter.{grapheme_indices_left};
 ghost use Rattle.rl_base.specs.Classes.{class_of};
-ghost use Rattle.rl_base.specs.Words.{prev_word, next_word, next_stop, last_stop, last_place, stop_between, stops, nth};
+ghost use Rattle.rl_base.specs.Words.{prev_word, next_word, first_word_cluster, first_member, placed_clusters, next_stop, last_stop, last_place, stop_between, stops, nth};
 
 use crate::motion::{At, RepeatCount, Word};
 use crate::places::classes::{Class, class_of, ends, starts};
@@ -54,6 +54,29 @@ pub fn next_word(text: &str, pos: usize, at: At, word: Word, n: RepeatCount) -> 
     }
     let stop = next_stop(&text[pos..], at, word, n)?;
     Some(pos + stop)
+}
+
+/// The place of the first cluster from `pos` on that belongs to Emacs words, if there is one.
+pub fn first_word_cluster(text: &str, pos: usize) -> Option<usize>
+    requires { IsCharBoundary text.now pos }
+    ensures value { result ≡ first_word_cluster text.now pos }
+    ensures ahead { IfSome result (λ place. pos ≤ place) }
+    ensures boundary { IfSome result (IsCharBoundary text.now) }
+{
+    let place = first_member(&text[pos..])?;
+    Some(pos + place)
+}
+
+fn first_member(text: &str) -> Option<usize>
+    ensures value { result ≡ first_member (placed_clusters text.now) }
+    ensures boundary { IfSome result (IsCharBoundary text.now) }
+{
+    for (place, cluster) in text.grapheme_indices(true) {
+        if class_of(Word::Emacs, cluster) == Class::Member {
+            return Some(place);
+        }
+    }
+    None
 }
 
 fn next_stop(text: &str, at: At, word: Word, n: RepeatCount) -> Option<usize>

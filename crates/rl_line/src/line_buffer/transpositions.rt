@@ -148,7 +148,7 @@ impl LineBuffer {
     }
 }
 
-fn word_end(text: &str, pos: usize, n: RepeatCount) -> usize
+pub(super) fn word_end(text: &str, pos: usize, n: RepeatCount) -> usize
     requires { IsCharBoundary text.now pos }
     ensures value { result ≡ word_end text.now pos n }
     ensures ahead { pos ≤ result }

@@ -1,0 +1,55 @@
+use Rattle.std.proofs.Common.{rules, ◌+◌, [], true, slice_range, refl, inl, ap, ◌∙◌}
+use Rattle.std.proofs.lemmas.Result.{err_from_is_err_and}
+use Rattle.rl_line.specs.Edits.{exchange_plan}
+use Rattle.rl_line.specs.LetterCase.{edit_word_plan, recased}
+use Rattle.rl_line.specs.Line.{Line}
+use Rattle.rl_line.specs.Plan.{Plan, answering}
+use Rattle.rl_line.specs.Ranges.{text_in}
+use Rattle.rl_line.proofs.LetterCaseLemmas.{edit_word_plan-nothing, edit_word_plan-some, recased-ascii}
+use Rattle.rl_line.proofs.PlanLemmas.{Done-as, Done-nothing, Done-steps, Halted-as, Halted-at_first, Halted-front}
+use Rattle.rl_line.proofs.line_buffer.LineBuffer.edit_word.Goals as goal
+
+pub returns-in_default-clause-done : goal.returns-in_default-clause-done
+returns-in_default-clause-done g c =
+    record {
+      made = [];
+      ascii = λ word e a. absurd (cc (c.in_default.ensures.value, e));
+      holds = Done-nothing _ _ c.args.self.now _ _ (edit_word_plan-nothing c.args.self.now [] c.in_default.ensures.value);
+    }
+
+pub returns-in-Err-clause-halted : goal.returns-in-Err-clause-halted
+returns-in-Err-clause-halted g c =
+    let made = recased c.args.action (text_in c.args.self.now c.in-Some.word) in
+    record {
+      made = made;
+      ascii = recased-ascii c.args.self.now c.args.action c.in-Some.word _ made c.in-Some.ensures.value refl (λ a. refl);
+      holds = Halted-at_first _ _ (edit_word_plan c.args.self.now made) _ _ _ _ _ _ _
+          (ap (λ (p : Plan _). p.steps) (edit_word_plan-some c.args.self.now c.in-Some.word made _ _ c.in-Some.ensures.value refl refl)) refl (inl (refl, refl));
+    }
+
+pub returns-in_err-exchange-clause-halted : goal.returns-in_err-exchange-clause-halted
+returns-in_err-exchange-clause-halted g c =
+    let p = err_from_is_err_and c.from_residual.result c.from_residual.ensures.1 in
+    let line = c.args.self.now in
+    let made = c.as_str-2.result.now in
+    let plan = exchange_plan line c.in-Some.word c.pos-at.result made (c.in-Some.word.start + c.len.result) in
+    rw (p.1, p.2) record {
+      made = made;
+      ascii = recased-ascii line c.args.action c.in-Some.word c.range-text.result.now made c.in-Some.ensures.value
+          (c.range-text.ensures.value ∙ ap (λ t. slice_range t c.in-Some.word.start c.in-Some.word.end) c.as_str.ensures) (λ a. c.as_str-2.ensures.value ∙ c.in-Ok.ensures a);
+      holds = Halted-as _ _ (edit_word_plan line made) (answering true plan) _ _ _ _ _ (Halted-front _ _ (answering true plan) plan [] _ _ _ _ _ c.in_err-exchange.ensures.halted refl)
+          (edit_word_plan-some line c.in-Some.word made c.pos-at.result (c.in-Some.word.start + c.len.result) c.in-Some.ensures.value c.pos-at.ensures.place (ap (λ n. c.in-Some.word.start + n) (search rules)));
+    }
+
+pub returns-clause-done : goal.returns-clause-done
+returns-clause-done g c =
+    let line = c.args.self.now in
+    let made = c.as_str-2.result.now in
+    let plan = exchange_plan line c.in-Some.word c.pos-at.result made (c.in-Some.word.start + c.len.result) in
+    record {
+      made = made;
+      ascii = recased-ascii line c.args.action c.in-Some.word c.range-text.result.now made c.in-Some.ensures.value
+          (c.range-text.ensures.value ∙ ap (λ t. slice_range t c.in-Some.word.start c.in-Some.word.end) c.as_str.ensures) (λ a. c.as_str-2.ensures.value ∙ c.in-Ok.ensures a);
+      holds = Done-as _ (edit_word_plan line made) (answering true plan) _ _ _ _ _ (Done-steps _ (answering true plan) _ _ _ _ _ c.in_ok-exchange.ensures.taken refl (ap (λ (l : Line). l.cursor) c.in_ok-exchange.ensures.line))
+          (edit_word_plan-some line c.in-Some.word made c.pos-at.result (c.in-Some.word.start + c.len.result) c.in-Some.ensures.value c.pos-at.ensures.place (ap (λ n. c.in-Some.word.start + n) (search rules)));
+    }

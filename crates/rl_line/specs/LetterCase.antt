@@ -1,0 +1,37 @@
+-- Editing the letters of a word.
+use Rattle.std.specs.Prelude.{◌≡◌, ℕ, ◌+◌, Bool, true, false, List, ◌++◌, map, length, take, drop, Option, Some, None, IsAscii}
+use Rattle.std.specs.Char.{to_ascii_lowercase, to_ascii_uppercase}
+use Rattle.std.specs.Option.{option_map}
+use Rattle.std.specs.declared.ops.Range.{Range}
+use Rattle.rl_base.specs.Words.{first_word_cluster}
+use Rattle.rl_base.specs.declared.motion.WordAction.{WordAction}
+use Rattle.rl_base.specs.declared.motion.WordAction.TheVariants.{Capitalize, Lowercase, Uppercase}
+use Rattle.rl_line.specs.Line.{Line}
+use Rattle.rl_line.specs.Plan.{Plan, nothing, answering}
+use Rattle.rl_line.specs.Edits.{exchange_plan}
+use Rattle.rl_line.specs.Ranges.{between, text_in}
+use Rattle.rl_line.specs.Transpositions.{word_end}
+
+-- the word that is edited: from the first cluster of an Emacs word, at the cursor or ahead, to the word's end
+abbrev pub word_ahead : Line → Option (Range ℕ)
+word_ahead line = option_map (λ start. between start (word_end line.text start 1)) (first_word_cluster line.text line.cursor)
+
+-- an ASCII word in the case that is asked for
+abbrev pub recased : WordAction → List ℕ → List ℕ
+recased Uppercase word = map to_ascii_uppercase word
+recased Lowercase word = map to_ascii_lowercase word
+recased Capitalize word = map to_ascii_uppercase (take 1 word) ++ map to_ascii_lowercase (drop 1 word)
+
+-- a text takes the place of the word, if there is one, and the cursor goes behind it. The answer: was there one?
+abbrev pub put_for : Line → Option (Range ℕ) → List ℕ → Plan Bool
+put_for line None made = nothing line false
+put_for line (Some word) made = answering true (exchange_plan line word line.cursor made (word.start + length made))
+
+abbrev pub edit_word_plan : Line → List ℕ → Plan Bool
+edit_word_plan line made = put_for line (word_ahead line) made
+
+-- P is true of some text for the word, which is that word recased where it is ASCII
+pub record Recased (line : Line) (action : WordAction) (P : List ℕ → Type 0) : Type 0 where
+  pub made : List ℕ
+  pub ascii : (word : Range ℕ) → word_ahead line ≡ Some word → IsAscii (text_in line word) → made ≡ recased action (text_in line word)
+  pub holds : P made

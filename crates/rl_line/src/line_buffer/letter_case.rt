@@ -1,0 +1,90 @@
+//! Editing the letters of a word.
+ghost use Rattle.std.specs.Prelude.{◌≡◌, ◌≤◌, min, length, string_bytes, IsAscii, IfSome, IfOk, IfErr};
+ghost use Rattle.std.specs.Str.{IsCharBoundary};
+ghost use Rattle.rl_line.specs.Plan.{Done, Halted, or_no_memory};
+ghost use Rattle.rl_base.specs.declared.motion.WordAction.TheVariants.{Capitalize};
+ghost use Rattle.rl_line.specs.LetterCase.{Recased, edit_word_plan, recased, word_ahead};
+
+#[cfg(test)]
+mod tests;
+
+use crate::line_buffer::LineBuffer;
+use crate::line_buffer::transpositions::word_end;
+use rl_base::places::{first_word_cluster, next_pos};
+use rl_base::{ChangeListener, Refusal, WordAction};
+use std::alloc::{AllocError, Global};
+use std::ops::Range;
+
+impl LineBuffer {
+    /// Edits the letters of the Emacs word at the cursor or ahead, from its first cluster at the cursor or
+    /// ahead on (GNU readline: capitalize-word, downcase-word, upcase-word), and moves the cursor behind it.
+    /// Answers whether there is one. Refused, it leaves the line as it was, or without the word.
+    pub fn edit_word<L: ChangeListener>(
+        &mut self,
+        action: WordAction,
+        listener: &mut L,
+    ) -> Result<bool, Refusal>
+        ensures done { IfOk result (λ answer. Recased self.old action (λ made. Done L.step (edit_word_plan self.old made) self.old self.new listener.old listener.new answer)) }
+        ensures halted { IfErr result (λ r. Recased self.old action (λ made. Halted L.step (or_no_memory L.refused) (edit_word_plan self.old made) self.old self.new listener.old listener.new r)) }
+    {
+        let at = self.pos();
+        let Some(word) = self.word_ahead() else {
+            return Ok(false);
+        };
+        let text = &self.as_str()[word.start..word.end];
+        let made = match recased(*self.buf.allocator(), text, action) {
+            Ok(made) => made,
+            Err(_) => return Err(Refusal::NoMemory),
+        };
+        let end = word.start + made.len();
+        self.exchange(word, at, made.as_str(), end, listener)?;
+        Ok(true)
+    }
+
+    fn word_ahead(&self) -> Option<Range<usize>>
+        ensures value { result ≡ word_ahead self.now }
+        ensures ahead { IfSome result (λ word. self.now.cursor ≤ word.start) }
+        ensures order { IfSome result (λ word. word.start ≤ word.end) }
+        ensures start { IfSome result (λ word. IsCharBoundary self.now.text word.start) }
+        ensures end { IfSome result (λ word. IsCharBoundary self.now.text word.end) }
+    {
+        let text = self.as_str();
+        let start = first_word_cluster(text, self.pos())?;
+        Some(start..word_end(text, start, 1))
+    }
+}
+
+// The word in the case that is asked for.
+fn recased(alloc: Global, word: &str, action: WordAction) -> Result<String, AllocError>
+    ensures { IfOk result (λ made. IsAscii word.now → string_bytes made ≡ recased action word.now) }
+{
+    match action {
+        WordAction::Capitalize => capitalized(alloc, word),
+        WordAction::Lowercase => word.to_lowercase(alloc),
+        WordAction::Uppercase => word.to_uppercase(alloc),
+    }
+}
+
+fn capitalized(alloc: Global, word: &str) -> Result<String, AllocError>
+    ensures { IfOk result (λ made. IsAscii word.now → string_bytes made ≡ recased Capitalize word.now) }
+{
+    let first = first_len(word);
+    let mut made = word[..first].to_uppercase(alloc)?;
+    let rest = word[first..].to_lowercase(alloc)?;
+    made.push_str(rest.as_str())?;
+    Ok(made)
+}
+
+// The length of the first cluster, which is one character of an ASCII word.
+fn first_len(word: &str) -> usize
+    ensures ascii { IsAscii word.now → result ≡ min 1 (length word.now) }
+    ensures boundary { IsCharBoundary word.now result }
+{
+    if word.is_ascii() {
+        return word.len().min(1);
+    }
+    match next_pos(word, 0, 1) {
+        Some(end) => end,
+        None => 0,
+    }
+}
