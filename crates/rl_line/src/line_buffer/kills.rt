@@ -87,11 +87,11 @@ impl LineBuffer {
         }
     }
 
-    /// Kills by a movement: what it covers; for the whole line and its end, where that is nothing, the
-    /// line's newline; for its beginning, where that is nothing, the cluster before it; to the first print
-    /// place nothing. Answers whether there was something. But by characters, the listener hears the start
-    /// of a kill first and its end last, also where nothing was killed or it refused. It takes no memory;
-    /// where its listener refuses, the line stays as it was.
+    /// Kills by a movement: deletes what it covers. Where that is nothing, the whole line and its end kill
+    /// the line's newline, and its beginning kills the cluster before it. To the first print place nothing is
+    /// killed. Answers whether there was something. The listener hears the start of a kill first and its end
+    /// last, also where nothing was killed or it refused; but by `BackwardChar` and `ForwardChar` it hears of
+    /// the deletion alone. It takes no memory; where its listener refuses, the line stays as it was.
     pub fn kill<L: DeleteListener>(
         &mut self,
         mvt: &Movement,
