@@ -11,6 +11,10 @@ ghost use Rattle.rl_line.specs.Record.{entry_of};
 ghost use Rattle.rl_line.specs.Undo.{line_back};
 
 mod edits;
+#[cfg(test)]
+mod halt_tests;
+#[cfg(test)]
+mod heard;
 mod kills;
 mod letter_case;
 mod line_motions;

@@ -1,78 +1,12 @@
 //! Copies, deletions and kills with answers that were worked out by hand.
-ghost use Rattle.std.specs.Prelude.{◌≡◌, ◌+◌, false, true, length, min};
-ghost use Rattle.rl_base.specs.Event.{InsertChar, InsertStr, Delete, Replace, Start, Stop};
-ghost use Rattle.rl_base.specs.declared.listeners.Refusal.TheVariants.{Listener};
-
 use crate::LineBuffer;
+use crate::line_buffer::heard::Heard;
 use crate::line_buffer::motions::tests::line_of;
 use rl_base::CharSearch::{Backward, BackwardAfter, Forward, ForwardBefore};
-use rl_base::{
-    At, CharSearch, DeleteListener, Direction, Movement, NoListener, Refusal, RepeatCount, Word,
-};
+use rl_base::{At, CharSearch, Direction, Movement, NoListener, Refusal, RepeatCount, Word};
 use std::alloc::Global;
 use std::process::Abort;
 use std::test::Fail;
-
-// Hears the starts and ends of kills, and the last deletion; or refuses each deletion.
-#[derive(Drop)]
-struct Heard {
-    refuses: bool,
-    starts: u16,
-    stops: u16,
-    deletions: u16,
-    place: usize,
-    len: usize,
-    side: Direction,
-}
-
-impl DeleteListener for Heard {
-    ghost step = { λ h e. elim e [
-      | InsertChar _ _ ↦ h
-      | InsertStr _ _ ↦ h
-      | Delete i s side ↦ record h { deletions = min (h.deletions + 1) 65535; place = i; len = length s; side = side }
-      | Replace _ _ _ ↦ h
-      | Start ↦ record h { starts = min (h.starts + 1) 65535 }
-      | Stop ↦ record h { stops = min (h.stops + 1) 65535 }
-    ] };
-
-    ghost refused = { λ h _ r now. (h.refuses ≡ true) × (r ≡ Listener) × (now ≡ h) };
-
-    fn start_killing(&mut self) {
-        self.starts = self.starts.saturating_add(1);
-    }
-
-    fn delete(&mut self, idx: usize, string: &str, dir: Direction) -> Result<(), Refusal> {
-        if self.refuses {
-            return Err(Refusal::Listener);
-        }
-        self.deletions = self.deletions.saturating_add(1);
-        self.place = idx;
-        self.len = string.len();
-        self.side = dir;
-        Ok(())
-    }
-
-    fn stop_killing(&mut self) {
-        self.stops = self.stops.saturating_add(1);
-    }
-}
-
-fn listener(refuses: bool) -> Heard {
-    Heard {
-        refuses,
-        starts: 0,
-        stops: 0,
-        deletions: 0,
-        place: 0,
-        len: 0,
-        side: Direction::Forward,
-    }
-}
-
-// What the listener heard of, in the text before.
-fn text_at<'a>(text: &'a str, heard: &Heard) -> Option<&'a str> {
-    text.get(heard.place..heard.place.saturating_add(heard.len))
-}
 
 // A call that deletes, as a value of a table.
 #[derive(Drop)]
@@ -112,7 +46,7 @@ fn deletes(
     gone: Option<(usize, &str, Direction)>,
 ) -> Result<(), Fail> {
     let mut line = line_of(rt, alloc, text, pos)?;
-    let mut heard = listener(false);
+    let mut heard = Heard::new(usize::MAX);
     let answer = make(&mut line, call, &mut heard)?;
     assert_eq!(rt; answer, gone.is_some(), "{text:?} at {pos}");
     let told = u16::from(matches!(call, Call::Kill(_)));
@@ -123,7 +57,7 @@ fn deletes(
     );
     let (place, left) = match gone {
         Some((place, deleted, side)) => {
-            assert_eq!(rt; text_at(text, &heard), Some(deleted), "{text:?} at {pos}");
+            assert_eq!(rt; heard.text_in(text), Some(deleted), "{text:?} at {pos}");
             assert_eq!(rt;
                 (heard.place, heard.side),
                 (place, side),
@@ -396,13 +330,13 @@ fn kills_delete_what_copies_hold(rt: HostRuntime) -> Result<(), Fail> {
             for mvt in &movements(n) {
                 let mut line = line_of(&rt, rt.alloc(), awkward, pos)?;
                 let copy = line.copy(mvt)?;
-                let mut heard = listener(false);
+                let mut heard = Heard::new(usize::MAX);
                 let killed = line.kill(mvt, &mut heard)?;
                 if copy.is_some() == killed {
                     compared = compared.saturating_add(1);
                     if let Some(copy) = copy {
                         assert_eq!(rt;
-                            text_at(awkward, &heard),
+                            heard.text_in(awkward),
                             Some(copy.as_str()),
                             "{mvt:?} at {pos}"
                         );
@@ -431,7 +365,7 @@ fn refused_kills_leave_the_line(rt: HostRuntime) -> Result<(), Fail> {
         (Movement::ForwardChar(1), 0),
     ] {
         let mut line = line_of(&rt, rt.alloc(), "a\nb c", 3)?;
-        let mut heard = listener(true);
+        let mut heard = Heard::new(0);
         assert_eq!(rt;
             line.kill(&mvt, &mut heard),
             Err(Refusal::Listener),
