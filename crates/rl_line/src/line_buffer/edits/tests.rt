@@ -1,7 +1,7 @@
 //! Edits that put texts in, with answers that were worked out by hand.
 use crate::LineBuffer;
+use crate::line_buffer::motions::tests::line_within;
 use rl_base::{NoListener, Refusal, RepeatCount};
-use std::alloc::Global;
 use std::process::Abort;
 use std::test::Fail;
 
@@ -35,24 +35,6 @@ fn make(rt: &impl Abort, line: &mut LineBuffer, call: Call) -> Result<Option<boo
             Ok(None)
         }
     }
-}
-
-// A line of a limit, with a text and the cursor at a place.
-fn line_within(
-    rt: &impl Abort,
-    alloc: Global,
-    limit: usize,
-    grows: bool,
-    text: &str,
-    pos: usize,
-) -> Result<LineBuffer, Fail> {
-    let mut line = LineBuffer::with_capacity(alloc, limit)?.can_growth(grows);
-    for c in text.chars() {
-        line.insert(c, 1, &mut NoListener)?;
-    }
-    assert!(rt; line.as_str().is_char_boundary(pos), "{pos} is a place");
-    line.set_pos(pos);
-    Ok(line)
 }
 
 // The call answers that, and leaves the line with that text and that cursor.

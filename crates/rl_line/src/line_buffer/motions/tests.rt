@@ -37,7 +37,19 @@ pub(crate) fn line_of(
     text: &str,
     pos: usize,
 ) -> Result<LineBuffer, Fail> {
-    let mut line = LineBuffer::with_capacity(alloc, MAX_LINE)?;
+    line_within(rt, alloc, MAX_LINE, false, text, pos)
+}
+
+// The same of that limit, with leave to grow past it, or without.
+pub(crate) fn line_within(
+    rt: &impl Abort,
+    alloc: Global,
+    limit: usize,
+    grows: bool,
+    text: &str,
+    pos: usize,
+) -> Result<LineBuffer, Fail> {
+    let mut line = LineBuffer::with_capacity(alloc, limit)?.can_growth(grows);
     for c in text.chars() {
         line.insert(c, 1, &mut NoListener)?;
     }
