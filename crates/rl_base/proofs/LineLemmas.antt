@@ -1,11 +1,12 @@
 -- The line that a place lies in, from the newlines next to it, and the lines above and below.
-use Rattle.std.proofs.Common.{Some, None, slice_get, slice_range, ◌≡◌, ◌≢◌, ℕ, zero, suc, ◌+◌, ◌-◌, ◌<◌, ◌≤◌, Bool, true, false, cond, List, [], ◌∷◌, ◌++◌, length, get_or, take, drop, All, count_by, refl, sym, ap, ap₂, subst, ◌∙◌, arith, eqb, ne_eqb, append_assoc, append-nil, length-append}
-use Rattle.std.proofs.lemmas.List.{take_at, get_or_at, get_or-drop, get_or-take, length-drop, length-take-le, take-append-drop, drop_more, take_all}
+use Rattle.std.proofs.Common.{max, ◌⊎◌, inl, inr, take-add, take-suc, Some, None, slice_get, slice_range, ◌≡◌, ◌≢◌, ℕ, zero, suc, ◌+◌, ◌-◌, ◌<◌, ◌≤◌, Bool, true, false, cond, List, [], ◌∷◌, ◌++◌, length, get_or, take, drop, All, count_by, refl, sym, ap, ap₂, subst, ◌∙◌, arith, eqb, ne_eqb, append_assoc, append-nil, length-append}
+use Rattle.std.proofs.lemmas.List.{take_at, get_or_at, get_or-drop, get_or-take, length-drop, length-take-le, take-append-drop, drop_at, drop_more, nil_from_length, take_all}
 use Rattle.std.proofs.lemmas.List.Splits.{slice_split-cons_yes, slice_split-cons_no, slice_split_none, slice_split_at, length-slice_split}
 use Rattle.std.proofs.lemmas.List.Sums.{sum_by-cons, sum_by-append}
-use Rattle.std.proofs.lemmas.List.Elements.{All-nil, All-cons, All-append, All-from_get_or}
+use Rattle.std.proofs.lemmas.List.Elements.{All-nil, All-cons, All-append, All-from_get_or, recursion_from_All}
 use Rattle.std.proofs.lemmas.Option.{same_Some, get_or_from_slice_get, slice_get_within}
-use Rattle.std.specs.List.{concat, onto_first}
+use Rattle.std.proofs.Math.Nat.{eq-or-lt_of_le}
+use Rattle.std.specs.List.{AllByRecursion, concat, onto_first}
 use Rattle.std.specs.Str.{IsCharBoundary, IsUtf8}
 use Rattle.unicode_segmentation.specs.Segments.{with_offsets}
 use Rattle.rl_base.specs.Clusters.{bytes_in}
@@ -299,6 +300,75 @@ text-between text j start stop l e f =
     let h = lies text j l in
     let len : stop - start ≡ length (text_of_line text j) = omega (arith, h.len) in
     ap₂ (λ n m. take n (drop m text)) len e ∙ h.is
+
+-- ---- the lines of what stands behind a place
+pub number-mono : (text : List ℕ) (p q : ℕ) → p ≤ q → line_number text p ≤ line_number text q
+number-mono text p q le =
+    let split : take q text ≡ take p text ++ take (q - p) (drop p text) = ap (λ n. take n text) (omega arith) ∙ take-add p (q - p) text in
+    omega (arith, ap (count_by is_newline) split, sum_by-append (λ c. cond (eqb c 10) 1 0) (take p text) (take (q - p) (drop p text)))
+
+-- up to a place behind no newline
+pub number-behind : (text : List ℕ) (i j : ℕ) → i ≤ j → j ≤ length text → (i < j → eqb (get_or text (j - 1) 0) 10 ≡ false) → line_number text j ≡ line_number text (max i (j - 1))
+number-behind text i j le within other = from (eq-or-lt_of_le le)
+  where
+    from : (i ≡ j) ⊎ (i < j) → line_number text j ≡ line_number text (max i (j - 1))
+    from (inl e) = ap (line_number text) (omega arith)
+    from (inr l) =
+        let k : j ≡ suc (j - 1) = omega arith in
+        let last : take j text ≡ take (j - 1) text ++ get_or text (j - 1) 0 ∷ [] = ap (λ n. take n text) k ∙ take-suc text (j - 1) 0 (omega arith) in
+        let none : count_by is_newline (get_or text (j - 1) 0 ∷ []) ≡ 0 = count-other (get_or text (j - 1) 0) [] (other l) in
+        let all : line_number text j ≡ line_number text (j - 1) =
+        ap (count_by is_newline) last ∙ sum_by-append (λ c. cond (eqb c 10) 1 0) (take (j - 1) text) (get_or text (j - 1) 0 ∷ []) ∙ (omega (arith, none)) in
+        all ∙ ap (line_number text) (omega arith)
+
+pub lines-from : (text : List ℕ) (k : ℕ) → k < length (lines text) → lines (drop (start_of_line text k) text) ≡ drop k (lines text)
+lines-from text k l =
+    let at = lies text k l in
+    let start = start_of_line text k in
+    let front = take start text in
+    let back = drop start text in
+    let whole : front ++ back ≡ text = take-append-drop start text in
+    let here = in_line front in
+    let number : k ≡ length here.0 = sym at.number_start ∙ line_number-is front back here.0 here.1 here.2 in
+    let first : start ≡ bytes_of here.0 = ap₂ start_of_line (sym whole) (sym at.number_start) ∙ start_of_line-is front back here.0 here.1 here.2 in
+    let none : here.1 ≡ [] = nil_from_length here.1 (omega (arith, here.2.place, first, at.len, at.within, length-take-le start text (omega arith))) in
+    let cut : lines text ≡ here.0 ++ lines back = ap lines (sym whole) ∙ here.2.cut back ∙ ap (λ part. here.0 ++ lines (part ++ back)) none in
+    sym (ap (drop k) cut ∙ drop_at here.0 (lines back) k (sym number))
+
+lines-onto : (part back line : List ℕ) (more : List (List ℕ)) → AllByRecursion (λ b. is_newline b ≡ false) part → lines back ≡ line ∷ more → lines (part ++ back) ≡ (part ++ line) ∷ more
+lines-onto [] back line more none e = e
+lines-onto (b ∷ part) back line more none e = slice_split-cons_no is_newline b (part ++ back) none.0 ∙ ap (onto_first b) (lines-onto part back line more none.1 e)
+
+-- the line of a place ends with the first line of what stands behind it
+pub end-from : (text : List ℕ) (pos : ℕ) (line : List ℕ) (more : List (List ℕ)) → pos ≤ length text → lines (drop pos text) ≡ line ∷ more → end_of_line text (line_number text pos) ≡ pos + length line
+end-from text pos line more within e =
+    let front = take pos text in
+    let back = drop pos text in
+    let here = in_line front in
+    let onto = lines-onto here.1 back line more (recursion_from_All (λ b. is_newline b ≡ false) here.1 here.2.none) e in
+    ap (λ t. end_of_line t (line_number text pos)) (sym (take-append-drop pos text)) ∙ end_of_line-is front back here.0 here.1 here.2 line more onto
+    ∙ (omega (arith, length-take-le pos text within))
+
+-- the first line of a text, and what follows its newline
+pub record StartsWithLine (text line : List ℕ) : Type 0 where
+  pub is : take (length line) text ≡ line
+  pub within : length line ≤ length text
+
+pub starts_with_line : (text line : List ℕ) (more : List (List ℕ)) → lines text ≡ line ∷ more → StartsWithLine text line
+starts_with_line text line more e =
+    let at = lies text 0 (omega (arith, ap length e)) in
+    let first : text_of_line text 0 ≡ line = ap (λ (ls : List (List ℕ)). get_or ls 0 []) e in
+    let len = ap length first in
+    record { is = ap (λ n. take n text) (sym len) ∙ at.is ∙ first; within = omega (arith, at.within, at.len, len) }
+
+pub lines-next : (text line : List ℕ) (more : List (List ℕ)) → lines text ≡ line ∷ more → (0 < length more) → lines (drop (length line + 1) text) ≡ more
+lines-next text line more e some =
+    let start : length line + 1 ≡ start_of_line text 1 = sym (ap (λ (ls : List (List ℕ)). bytes_of (take 1 ls)) e ∙ (omega arith)) in
+    ap (λ n. lines (drop n text)) start ∙ lines-from text 1 (omega (arith, ap length e)) ∙ ap (drop 1) e
+
+pub bytes_of-append : (ls more : List (List ℕ)) → bytes_of (ls ++ more) ≡ bytes_of ls + bytes_of more
+bytes_of-append [] more = omega arith
+bytes_of-append (line ∷ ls) more = omega (arith, bytes_of-append ls more)
 
 -- ---- the place of a column
 pub place-of_nth : (from : ℕ) (pieces : List (List ℕ)) (n : ℕ) (x : ℕ × List ℕ) → slice_get (with_offsets from pieces) n ≡ Some x → x.0 ≡ from + bytes_in (take n pieces)

@@ -73,7 +73,7 @@ pub enum Movement {
     ForwardWord(RepeatCount, At, Word),
     /// To a character (vi's `f`, `t`, `F` and `T`).
     ViCharSearch(RepeatCount, CharSearch),
-    /// To the first character that is not blank (vi's `^`).
+    /// To the first place behind the text's start where a `Big` word starts (after vi's `^`).
     ViFirstPrint,
     /// Back by grapheme clusters (readline's `backward-char`, vi's `h`).
     BackwardChar(RepeatCount),

@@ -1,4 +1,5 @@
 pub mod EditLemmas
+pub mod IndentLemmas
 pub mod KillLemmas
 pub mod LetterCaseLemmas
 pub mod LineMotionLemmas

@@ -6,6 +6,7 @@ use Rattle.std.specs.declared.ops.Range.{Range}
 use Rattle.rl_base.specs.Lines.{is_newline, lines, last_line, line_number, start_of_line, end_of_line, text_of_line, place_of_column}
 use Rattle.rl_base.specs.declared.layout.Layout.{Layout}
 use Rattle.rl_base.proofs.LineLemmas.{count_of_lines, count-parts, number-within, start-zero, go_up, go_down, at_last, text-between, lies}
+use Rattle.rl_line.specs.Line.{between}
 use Rattle.rl_line.specs.LineMotions.{line_above, line_below, range_of_line, column_above, column_below, columns_before, place_in_line, place_above, place_below}
 
 -- from the start of the line i above line k one line further up
@@ -52,26 +53,23 @@ a_line_below text pos stop e some =
     let down = went_down text k 0 stop (omega (arith, number-within text pos, count_of_lines text)) (e ∙ ap (end_of_line text) (omega arith)) some in
     ne_eqb _ 0 (λ none. absurd (omega (arith, down.within, count-parts text pos)))
 
-abbrev pub from_to : ℕ → ℕ → Range ℕ
-from_to start stop = record { start = start; end = stop }
-
 pub above-found : (text : List ℕ) (pos n start stop : ℕ) → (line_number text pos ≡ 0 → ⊥) → start ≡ start_of_line text (line_number text pos - max n 1) → stop ≡ end_of_line text (line_number text start)
-    → Some (from_to start stop) ≡ option_map (range_of_line text) (line_above text pos n)
+    → Some (between start stop) ≡ option_map (range_of_line text) (line_above text pos n)
 above-found text pos n start stop some e f =
     let j = line_number text pos - max n 1 in
     let number : line_number text start ≡ j = ap (line_number text) e ∙ (lies text j (omega (arith, number-within text pos))).number_start in
-    let is : from_to start stop ≡ range_of_line text j = ap₂ from_to e (f ∙ ap (end_of_line text) number) in
+    let is : between start stop ≡ range_of_line text j = ap₂ between e (f ∙ ap (end_of_line text) number) in
     ap Some is ∙ sym (ap (λ (b : Bool). option_map (range_of_line text) (cond b None (Some j))) (ne_eqb _ 0 some))
 
 pub below-none : (text : List ℕ) (pos n : ℕ) → eqb (count_by is_newline (drop pos text)) 0 ≡ true → None ≡ option_map (range_of_line text) (line_below text pos n)
 below-none text pos n none = sym (ap (λ (b : Bool). option_map (range_of_line text) (cond b None (Some (min (last_line text) (line_number text pos + max n 1))))) none)
 
 pub below-found : (text : List ℕ) (pos n start stop : ℕ) → eqb (count_by is_newline (drop pos text)) 0 ≡ false → stop ≡ end_of_line text (min (last_line text) (line_number text pos + max n 1)) → start ≡ start_of_line text (line_number text stop)
-    → Some (from_to start stop) ≡ option_map (range_of_line text) (line_below text pos n)
+    → Some (between start stop) ≡ option_map (range_of_line text) (line_below text pos n)
 below-found text pos n start stop some e f =
     let j = min (last_line text) (line_number text pos + max n 1) in
     let number : line_number text stop ≡ j = ap (line_number text) e ∙ (lies text j (omega (arith, count_of_lines text))).number_stop in
-    let is : from_to start stop ≡ range_of_line text j = ap₂ from_to (f ∙ ap (start_of_line text) number) e in
+    let is : between start stop ≡ range_of_line text j = ap₂ between (f ∙ ap (start_of_line text) number) e in
     ap Some is ∙ sym (ap (λ (b : Bool). option_map (range_of_line text) (cond b None (Some j))) some)
 
 pub above-within : (text : List ℕ) (pos n : ℕ) → IfSome (line_above text pos n) (λ j. j < length (lines text))

@@ -4,7 +4,7 @@ use Rattle.std.specs.Prelude.{option_and_then}
 use Rattle.rl_base.specs.Event.{Event, apply}
 use Rattle.rl_base.specs.declared.listeners.Refusal.{Refusal}
 use Rattle.rl_line.specs.Line.{Line, stepped}
-use Rattle.rl_line.specs.Plan.{Step, Plan, nothing, single, followed_by, after, heard, Taken, Done, Halted}
+use Rattle.rl_line.specs.Plan.{Step, Plan, nothing, single, followed_by, after, heard, Taken, Completed, Done, Halted}
 
 after-append : (xs ys : List Step) (old mid : Line) → after xs old ≡ Some mid → after (xs ++ ys) old ≡ after ys mid
 after-append [] ys old mid e = ap (option_and_then (after ys)) e
@@ -35,6 +35,10 @@ module _ {L : Type 0} (step : L → Event → L) where
     line = after-append xs ys old mid s.line ∙ t.line;
     listener = t.listener ∙ ap (heard step ys) s.listener ∙ sym (heard-append xs ys b);
   }
+
+  pub Completed-single : {A : Type 0} (plan : Plan A) (event : Event) (cursor : ℕ) (old new : Line) (b n : L) (a : A)
+      → Taken step ((event, cursor) ∷ []) old new b n → new.cursor ≡ cursor → plan ≡ single event cursor a → Completed step plan old new b n a
+  Completed-single plan event cursor old new b n a t at e = record { taken = rw e t; cursor = rw e at; answered = rw e refl }
 
   pub Done-nothing : {A : Type 0} (plan : Plan A) (line : Line) (b : L) (a : A) → plan ≡ nothing line a → Done step plan line line b b a
   Done-nothing plan line b a e = record {
@@ -93,6 +97,19 @@ module _ {L : Type 0} (step : L → Event → L) where
       split = e;
       middle = b;
       taken = record { line = ap Some (sym same); listener = refl };
+      cause = cause;
+    }
+
+    -- steps were taken, and the next was refused
+    pub Halted-after : {A : Type 0} (plan : Plan A) (first others : List Step) (s : Step) (old mid new : Line) (b m n : L) (r : Refusal)
+        → refused m s.0 r n → new ≡ mid → Taken step first old mid b m → plan.steps ≡ first ++ s ∷ others → Halted step refused plan old new b n r
+    Halted-after plan first others s old mid new b m n r cause same t e = record {
+      first = first;
+      next = s;
+      others = others;
+      split = e;
+      middle = m;
+      taken = subst (λ l. Taken step first old l b m) (sym same) t;
       cause = cause;
     }
 

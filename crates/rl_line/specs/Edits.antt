@@ -1,12 +1,12 @@
 -- The plans of the edits that put a text in, or take a given range out.
 use Rattle.std.specs.Prelude.{ℕ, ◌+◌, ◌-◌, ◌*◌, Bool, not, ◌==◌, ◌&&◌, ◌||◌, nat_lt, List, length, take, slice_range, min, encode_utf8, Option, Some, None, if◌then◌else◌}
 use Rattle.std.specs.List.{repeat, remove_range}
+use Rattle.std.specs.declared.ops.Range.{Range}
 use Rattle.rl_base.specs.Event.{Event, InsertChar, InsertStr, Delete, Replace}
 use Rattle.rl_base.specs.Text.{greatest_boundary}
 use Rattle.rl_base.specs.declared.listeners.Direction.TheVariants.{Forward}
-use Rattle.std.specs.declared.ops.Range.{Range}
-use Rattle.rl_line.specs.Line.{Line, stepped}
-use Rattle.rl_line.specs.Ranges.{between, text_in}
+use Rattle.rl_line.specs.Line.{Line, stepped, between}
+use Rattle.rl_line.specs.Ranges.{text_in}
 use Rattle.rl_line.specs.Plan.{Plan, nothing, single, followed_by}
 
 -- a length that the line may not have: it may not grow, and the length is past its limit

@@ -52,7 +52,7 @@ kill_plan line mvt = removal line (killed line mvt) (side_of mvt)
 abbrev pub delete_plan : Line → ℕ → Plan (Option (List ℕ))
 delete_plan line n = answering (copied line (ForwardChar n)) (kill_plan line (ForwardChar n))
 
--- characters are killed one by one, which is told as deletions and not as kills
+-- a kill by characters is told as a deletion, without the start and the end of a kill
 abbrev pub is_by_characters : Movement → Bool
 is_by_characters (BackwardChar _) = true
 is_by_characters (ForwardChar _) = true

@@ -6,10 +6,10 @@ use Rattle.std.specs.declared.ops.Range.{Range}
 use Rattle.rl_base.specs.Words.{first_word_cluster}
 use Rattle.rl_base.specs.declared.motion.WordAction.{WordAction}
 use Rattle.rl_base.specs.declared.motion.WordAction.TheVariants.{Capitalize, Lowercase, Uppercase}
-use Rattle.rl_line.specs.Line.{Line}
+use Rattle.rl_line.specs.Line.{Line, between}
 use Rattle.rl_line.specs.Plan.{Plan, nothing, answering}
 use Rattle.rl_line.specs.Edits.{exchange_plan}
-use Rattle.rl_line.specs.Ranges.{between, text_in}
+use Rattle.rl_line.specs.Ranges.{text_in}
 use Rattle.rl_line.specs.Transpositions.{word_end}
 
 -- the word that is edited: from the first cluster of an Emacs word, at the cursor or ahead, to the word's end

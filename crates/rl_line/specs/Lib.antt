@@ -7,5 +7,6 @@ pub mod Edits
 pub mod Kills
 pub mod Transpositions
 pub mod LetterCase
+pub mod Indents
 pub mod Record
 pub mod Undo

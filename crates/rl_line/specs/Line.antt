@@ -1,6 +1,7 @@
--- The state of a line.
+-- The state of a line, and ranges of its text.
 use Rattle.std.specs.Prelude.{ℕ, ◌≤◌, Bool, List, length, max}
 use Rattle.std.specs.Str.{IsCharBoundary}
+use Rattle.std.specs.declared.ops.Range.{Range}
 
 -- the text, the place of the cursor, the limit on the text's length, and whether the line may grow past it
 pub record Line : Type 0 where
@@ -17,3 +18,7 @@ pub record IsLine (text : List ℕ) (cursor limit : ℕ) : Type 0 where
 -- the line after a step that made `text` and left the cursor at `cursor`: the limit rises where it has to
 abbrev pub stepped : Line → List ℕ → ℕ → Line
 stepped line text cursor = record line { text = text; cursor = cursor; limit = max line.limit (length text) }
+
+-- the range from a place to another
+abbrev pub between : ℕ → ℕ → Range ℕ
+between i j = record { start = i; end = j }

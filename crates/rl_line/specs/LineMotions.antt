@@ -5,7 +5,7 @@ use Rattle.std.specs.declared.ops.Range.{Range}
 use Rattle.rl_base.specs.Lines.{is_newline, last_line, line_number, start_of_line, end_of_line, text_of_line, place_of_column}
 use Rattle.rl_base.specs.Widths.{width}
 use Rattle.rl_base.specs.declared.layout.Layout.{Layout}
-use Rattle.rl_line.specs.Line.{Line}
+use Rattle.rl_line.specs.Line.{Line, between}
 
 -- the start and the end of the cursor's line
 abbrev pub home : Line → ℕ
@@ -25,7 +25,7 @@ line_below text pos n =
 
 -- from the start of line k to its end
 abbrev pub range_of_line : List ℕ → ℕ → Range ℕ
-range_of_line text k = record { start = start_of_line text k; end = end_of_line text k }
+range_of_line text k = between (start_of_line text k) (end_of_line text k)
 
 -- the columns from the start of the line to the place
 abbrev pub columns_before : Layout → List ℕ → ℕ → ℕ

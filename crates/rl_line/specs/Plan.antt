@@ -26,6 +26,10 @@ single event cursor answer = record { steps = (event, cursor) ∷ []; cursor = c
 abbrev pub followed_by : {A : Type 0} → Event → ℕ → Plan A → Plan A
 followed_by event cursor plan = record plan { steps = (event, cursor) ∷ plan.steps }
 
+-- steps, and then a plan
+abbrev pub after_steps : {A : Type 0} → List Step → Plan A → Plan A
+after_steps steps plan = record plan { steps = steps ++ plan.steps }
+
 -- the same steps, with another answer
 abbrev pub answering : {A B : Type 0} → B → Plan A → Plan B
 answering answer plan = record { steps = plan.steps; cursor = plan.cursor; answer = answer }
@@ -49,6 +53,12 @@ module _ {L : Type 0} (step : L → Event → L) where
   pub record Taken (steps : List Step) (old new : Line) (before now : L) : Type 0 where
     pub line : after steps old ≡ Some new
     pub listener : now ≡ heard steps before
+
+  -- the whole plan was carried out, and its steps alone moved the cursor
+  pub record Completed {A : Type 0} (plan : Plan A) (old new : Line) (before now : L) (answer : A) : Type 0 where
+    pub taken : Taken plan.steps old new before now
+    pub cursor : new.cursor ≡ plan.cursor
+    pub answered : answer ≡ plan.answer
 
   -- the whole plan was carried out
   pub record Done {A : Type 0} (plan : Plan A) (old new : Line) (before now : L) (answer : A) : Type 0 where

@@ -1,5 +1,5 @@
--- What each movement covers: the one table that copying and killing share, with the exceptions of killing beside it.
-use Rattle.std.specs.Prelude.{ℕ, ◌+◌, ◌-◌, ◌==◌, nat_le, min, count_by, List, length, drop, slice_range, Option, Some, None, option_and_then, if◌then◌else◌}
+-- What each movement covers: the one table that copying, killing and indenting share, with the exceptions of the last two beside it.
+use Rattle.std.specs.Prelude.{ℕ, ◌+◌, ◌-◌, ◌==◌, nat_le, min, count_by, List, length, drop, slice_range, Option, Some, None, option_and_then, unwrap_or, if◌then◌else◌}
 use Rattle.std.specs.Char.{len_utf8}
 use Rattle.std.specs.Option.{option_map, option_or}
 use Rattle.std.specs.declared.ops.Range.{Range}
@@ -13,11 +13,8 @@ use Rattle.rl_base.specs.declared.motion.CharSearch.TheVariants.{Forward, Forwar
 use Rattle.rl_base.specs.declared.motion.Movement.{Movement}
 use Rattle.rl_base.specs.declared.motion.Movement.TheVariants.{WholeLine, BeginningOfLine, EndOfLine, BackwardWord, ForwardWord, ViCharSearch, ViFirstPrint, BackwardChar, ForwardChar, LineUp, LineDown, WholeBuffer, BeginningOfBuffer, EndOfBuffer}
 use Rattle.rl_base.specs.declared.motion.Word.TheVariants.{Big}
-use Rattle.rl_line.specs.Line.{Line}
+use Rattle.rl_line.specs.Line.{Line, between}
 use Rattle.rl_line.specs.LineMotions.{home, line_end}
-
-abbrev pub between : ℕ → ℕ → Range ℕ
-between i j = record { start = i; end = j }
 
 -- the text of a range
 abbrev pub text_in : Line → Range ℕ → List ℕ
@@ -41,7 +38,7 @@ to_hit (ForwardBefore _) pos hit = between pos hit
 to_hit (Backward _) pos hit = between hit pos
 to_hit (BackwardAfter c) pos hit = between (hit + len_utf8 c) pos
 
--- from the place of the first character that is not blank, where that is not behind the cursor
+-- from the first start of a Big word behind the text's start, where that is not behind the cursor
 abbrev pub from_first_print : List ℕ → ℕ → Option (Range ℕ)
 from_first_print text pos =
     if pos == 0 then None
@@ -94,3 +91,18 @@ killed line EndOfLine = option_or (covered line EndOfLine) (newline_at line.text
 killed line BeginningOfLine = option_or (covered line BeginningOfLine) (covered line (BackwardChar 1))
 killed line ViFirstPrint = None
 killed line mvt = covered line mvt
+
+-- the empty range at the cursor
+abbrev pub here : Line → Range ℕ
+here line = between line.cursor line.cursor
+
+-- what an indent takes the lines of: what a movement covers, but for those within a line
+abbrev pub indented : Line → Movement → Range ℕ
+indented line WholeLine = here line
+indented line BeginningOfLine = here line
+indented line EndOfLine = here line
+indented line (ViCharSearch _ _) = here line
+indented line ViFirstPrint = here line
+indented line (BackwardChar _) = here line
+indented line (ForwardChar _) = here line
+indented line mvt = unwrap_or (covered line mvt) (here line)

@@ -9,9 +9,9 @@ use Rattle.rl_base.specs.Words.{next_word, prev_word}
 use Rattle.rl_base.specs.declared.listeners.Direction.TheVariants.{Forward}
 use Rattle.rl_base.specs.declared.motion.At.TheVariants.{AfterEnd}
 use Rattle.rl_base.specs.declared.motion.Word.TheVariants.{Emacs}
-use Rattle.rl_line.specs.Line.{Line}
+use Rattle.rl_line.specs.Line.{Line, between}
 use Rattle.rl_line.specs.Plan.{Plan, nothing, single, followed_by, answering}
-use Rattle.rl_line.specs.Ranges.{between, text_in}
+use Rattle.rl_line.specs.Ranges.{text_in}
 
 -- where two clusters meet: at the cursor, or at the end of the text before the last cluster; none in a text of fewer than two
 abbrev pub meeting_place : Line → Option ℕ
@@ -73,7 +73,7 @@ abbrev pub first_word : Line → ℕ → Range ℕ
 first_word line n =
     let start = word_start line.text (second_word line n).start n in between start (word_end line.text start 1)
 
--- they are two words, and do not meet
+-- they are two words, and do not overlap
 abbrev pub are_two : Range ℕ → Range ℕ → Bool
 are_two first second = not (first.start == second.start) && nat_le first.end second.start
 

@@ -15,6 +15,7 @@ mod edits;
 mod halt_tests;
 #[cfg(test)]
 mod heard;
+mod indents;
 mod kills;
 mod letter_case;
 mod line_motions;

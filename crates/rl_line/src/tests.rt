@@ -24,6 +24,15 @@ fn insert(
 }
 
 #[tactic(auto, using(crate::proofs::OriginLemmas::unwinding))]
+fn insert_two(line: &mut LineBuffer, changes: &mut Changeset) -> Result<bool, Refusal>
+    requires { IsSome (unwind changes.old.recorded line.old.text) }
+    ensures { OnOk result (IsSome (unwind changes.new.recorded line.new.text)) }
+{
+    let at = line.pos();
+    line.insert_str(at, "zz", changes)
+}
+
+#[tactic(auto, using(crate::proofs::OriginLemmas::unwinding))]
 fn backspace(
     line: &mut LineBuffer,
     changes: &mut Changeset,
@@ -127,6 +136,24 @@ fn undoes_inserts_and_a_deletion(rt: HostRuntime) -> Result<(), Fail> {
         assert_eq!(rt; line.pos(), text.len(), "the cursor after undo {n}");
         assert_eq!(rt; record.len(), recorded, "the record after undo {n}");
     }
+    Ok(())
+}
+
+#[test]
+fn the_limit_stays_raised(rt: HostRuntime) -> Result<(), Fail> {
+    let mut line = LineBuffer::with_capacity(rt.alloc(), 2)?;
+    line.insert_str(0, "abc", &mut NoListener)?;
+    assert!(rt; line.move_buffer_end());
+    let mut record = Changeset::new(rt.alloc());
+    assert_eq!(rt; backspace(&mut line, &mut record, 2)?, true);
+    assert_eq!(rt; insert(&mut line, &mut record, 'd', 2)?, Some(true));
+    assert_eq!(rt; insert_two(&mut line, &mut record)?, true);
+    assert_eq!(rt; undo(&mut line, &mut record, 65535)?, true);
+    assert_eq!(rt; line.as_str(), "abc");
+    assert_eq!(rt; line.limit(), 5);
+    assert_eq!(rt; insert(&mut line, &mut record, 'e', 1)?, Some(true));
+    assert_eq!(rt; line.as_str(), "abce");
+    assert_eq!(rt; line.pos(), 4);
     Ok(())
 }
 

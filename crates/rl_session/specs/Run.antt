@@ -1,8 +1,8 @@
 -- Runs of a session, and the texts that its line held on the way.
 use Rattle.std.specs.Prelude.{◌≡◌, ℕ, List, [], ◌∷◌, ◌++◌, map, drop, reverse, Some, None}
 use Rattle.rl_base.specs.Event.{Event, apply}
-use Rattle.rl_line.specs.Plan.{Step as PlanStep}
 use Rattle.rl_base.specs.declared.motion.Movement.TheVariants.{BackwardChar}
+use Rattle.rl_line.specs.Plan.{Step as PlanStep}
 use Rattle.rl_line.specs.Edits.{insert_plan}
 use Rattle.rl_line.specs.Kills.{delete_plan, kill_plan}
 use Rattle.rl_line.specs.Record.{Entry, event_of, inverse}

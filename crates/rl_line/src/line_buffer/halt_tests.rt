@@ -20,6 +20,10 @@ enum Edit {
     TransposeChars,
     TransposeWords,
     EditWord(WordAction),
+    InsertStr,
+    DeleteRange,
+    Indent(u8),
+    Dedent(u8),
 }
 
 // Makes the edit, from the start of the text where it takes a place.
@@ -54,6 +58,18 @@ fn make(
         Edit::TransposeChars => line.transpose_chars(heard)?,
         Edit::TransposeWords => line.transpose_words(1, heard)?,
         Edit::EditWord(action) => line.edit_word(*action, heard)?,
+        Edit::InsertStr => {
+            let at = line.pos();
+            line.insert_str(at, "cd", heard)?
+        }
+        Edit::DeleteRange => {
+            let end = line.len();
+            assert!(rt; line.as_str().is_char_boundary(0) && line.as_str().is_char_boundary(end));
+            line.delete_range(0..end, heard)?;
+            true
+        }
+        Edit::Indent(amount) => line.indent(&Movement::WholeBuffer, *amount, false, heard)?,
+        Edit::Dedent(amount) => line.indent(&Movement::WholeBuffer, *amount, true, heard)?,
     };
     Ok(())
 }
@@ -149,6 +165,52 @@ fn refused_edits_stand_after_their_steps(rt: HostRuntime) -> Result<(), Fail> {
         (", ab", 0, Edit::EditWord(upper), 0, ", ab", 0, true),
         (", ab", 0, Edit::EditWord(upper), 1, ", ", 0, true),
         (", ab", 0, Edit::EditWord(upper), 2, ", AB", 4, false),
+        ("ab", 1, Edit::InsertStr, 0, "ab", 1, true),
+        ("ab", 1, Edit::InsertStr, 1, "acdb", 1, false),
+        ("ab", 1, Edit::DeleteRange, 0, "ab", 1, true),
+        ("ab", 1, Edit::DeleteRange, 1, "", 0, false),
+        ("a\nb", 3, Edit::Indent(34), 0, "a\nb", 3, true),
+        (
+            "a\nb",
+            3,
+            Edit::Indent(34),
+            1,
+            "                                a\nb",
+            35,
+            true,
+        ),
+        (
+            "a\nb",
+            3,
+            Edit::Indent(34),
+            2,
+            "                                  a\nb",
+            37,
+            true,
+        ),
+        (
+            "a\nb",
+            3,
+            Edit::Indent(34),
+            3,
+            "                                  a\n                                b",
+            69,
+            true,
+        ),
+        (
+            "a\nb",
+            3,
+            Edit::Indent(34),
+            4,
+            "                                  a\n                                  b",
+            71,
+            false,
+        ),
+        ("a\nb", 0, Edit::Indent(1), 1, " a\nb", 1, true),
+        ("a\nb", 0, Edit::Indent(1), 2, " a\n b", 1, false),
+        ("  a\n\tb", 5, Edit::Dedent(4), 0, "  a\n\tb", 5, true),
+        ("  a\n\tb", 5, Edit::Dedent(4), 1, "a\n\tb", 3, true),
+        ("  a\n\tb", 5, Edit::Dedent(4), 2, "a\nb", 2, false),
     ] {
         halts(
             &rt,

@@ -1,10 +1,10 @@
-//! What each movement covers, for copying and killing.
+//! What each movement covers, for copying, killing and indenting.
 ghost use Rattle.std.specs.Prelude.{◌≡◌, ◌≢◌, ◌+◌, ◌≤◌, length, min, IfSome};
 ghost use Rattle.std.specs.Option.{option_map};
 ghost use Rattle.std.specs.Str.{IsCharBoundary};
 ghost use Rattle.rl_base.specs.Search.{chosen_hit};
 ghost use Rattle.rl_line.specs.LineMotions.{line_end};
-ghost use Rattle.rl_line.specs.Ranges.{covered, from_first_print, killed, lines_down, lines_up, newline_at, to_hit, unless_empty};
+ghost use Rattle.rl_line.specs.Ranges.{covered, from_first_print, indented, killed, lines_down, lines_up, newline_at, to_hit, unless_empty};
 
 use crate::line_buffer::LineBuffer;
 use crate::lines::{end_below, end_of_line, start_above, start_of_line};
@@ -71,6 +71,35 @@ impl LineBuffer {
             | Movement::WholeBuffer
             | Movement::BeginningOfBuffer
             | Movement::EndOfBuffer => self.covered(mvt),
+        }
+    }
+
+    // What an indent takes the lines of.
+    pub(super) fn indented(&self, mvt: &Movement) -> Range<usize>
+        ensures value { result ≡ indented self.now mvt.now }
+        ensures order { result.start ≤ result.end }
+        ensures start { IsCharBoundary self.now.text result.start }
+        ensures end { IsCharBoundary self.now.text result.end }
+    {
+        let at = self.pos();
+        match mvt {
+            Movement::WholeLine
+            | Movement::BeginningOfLine
+            | Movement::EndOfLine
+            | Movement::ViCharSearch(_, _)
+            | Movement::ViFirstPrint
+            | Movement::BackwardChar(_)
+            | Movement::ForwardChar(_) => at..at,
+            Movement::BackwardWord(_, _)
+            | Movement::ForwardWord(_, _, _)
+            | Movement::LineUp(_)
+            | Movement::LineDown(_)
+            | Movement::WholeBuffer
+            | Movement::BeginningOfBuffer
+            | Movement::EndOfBuffer => match self.covered(mvt) {
+                Some(range) => range,
+                None => at..at,
+            },
         }
     }
 

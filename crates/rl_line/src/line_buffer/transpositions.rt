@@ -172,7 +172,7 @@ fn word_start(text: &str, pos: usize, n: RepeatCount) -> usize
     }
 }
 
-// Whether these are two words, which do not meet.
+// Whether these are two words, which do not overlap.
 fn are_two(first: &Range<usize>, second: &Range<usize>) -> bool
     ensures { result ≡ are_two first.now second.now }
 {

@@ -72,6 +72,33 @@ fn deletes(
         (place, left),
         "{text:?} at {pos}"
     );
+    is_refused(rt, alloc, text, pos, call, answer)
+}
+
+// Where the listener refuses the first change, the call is refused if it makes one, and leaves the line.
+fn is_refused(
+    rt: &impl Abort,
+    alloc: Global,
+    text: &str,
+    pos: usize,
+    call: &Call,
+    changes: bool,
+) -> Result<(), Fail> {
+    let mut line = line_of(rt, alloc, text, pos)?;
+    let mut heard = Heard::new(0);
+    let answer = make(&mut line, call, &mut heard);
+    assert_eq!(rt;
+        answer,
+        if changes {
+            Err(Refusal::Listener)
+        } else {
+            Ok(false)
+        },
+        "refused at {pos}"
+    );
+    assert!(rt; heard.starts == heard.stops, "refused at {pos}");
+    assert_eq!(rt; line.as_str(), text, "refused at {pos}");
+    assert_eq!(rt; line.pos(), pos, "refused at {pos}");
     Ok(())
 }
 
@@ -357,23 +384,10 @@ fn kills_delete_what_copies_hold(rt: HostRuntime) -> Result<(), Fail> {
 
 #[test]
 fn refused_kills_leave_the_line(rt: HostRuntime) -> Result<(), Fail> {
-    for (mvt, told) in [
-        (Movement::WholeLine, 1),
-        (Movement::BackwardWord(1, Word::Emacs), 1),
-        (Movement::LineUp(0), 1),
-        (Movement::BackwardChar(1), 0),
-        (Movement::ForwardChar(1), 0),
-    ] {
-        let mut line = line_of(&rt, rt.alloc(), "a\nb c", 3)?;
-        let mut heard = Heard::new(0);
-        assert_eq!(rt;
-            line.kill(&mvt, &mut heard),
-            Err(Refusal::Listener),
-            "{mvt:?}"
-        );
-        assert_eq!(rt; (heard.starts, heard.stops), (told, told), "{mvt:?}");
-        assert_eq!(rt; line.as_str(), "a\nb c", "{mvt:?}");
-        assert_eq!(rt; line.pos(), 3, "{mvt:?}");
+    for mvt in movements(1) {
+        let mut line = line_of(&rt, rt.alloc(), "a\nb c\u{301}", 3)?;
+        let kills = line.kill(&mvt, &mut NoListener)?;
+        is_refused(&rt, rt.alloc(), "a\nb c\u{301}", 3, &Call::Kill(mvt), kills)?;
     }
     Ok(())
 }

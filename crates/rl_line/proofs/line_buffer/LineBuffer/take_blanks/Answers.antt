@@ -1,0 +1,29 @@
+use Rattle.std.proofs.Common.{rules, ℕ, ◌≤◌, ◌+◌, ◌-◌, List, drop, ap, ◌∙◌, arith}
+use Rattle.std.proofs.lemmas.Result.{err_from_is_err_and}
+use Rattle.rl_line.specs.Line.{Line}
+use Rattle.rl_line.proofs.IndentLemmas.{line_plan-dedent, drop-behind_removal}
+use Rattle.rl_line.proofs.PlanLemmas.{Completed-single, Halted-single}
+use Rattle.rl_line.proofs.line_buffer.LineBuffer.take_blanks.Goals as goal
+
+pub returns-in_err-take_out_before-clause-halted :
+    goal.returns-in_err-take_out_before-clause-halted
+returns-in_err-take_out_before-clause-halted g c =
+    let p = err_from_is_err_and c.from_residual.result c.from_residual.ensures.1 in
+    let gone = c.floor_char_boundary-gone in
+    let plan = line_plan-dedent c.args.self.now.text c.args.line.start c.args.line.end c.args.amount c.min.result gone.result c.args.self.now.cursor c.pulled-cursor.result c.range-text.result.now c.trim_start.result.now
+    c.requires.order c.requires.end.0 (search rules) c.trim_start.ensures.trim (search rules) gone.ensures.bound gone.ensures.boundary gone.ensures.nearest (search rules) in
+    rw (p.1, p.2) (Halted-single _ _ _ _ _ _ _ _ _ _ _ c.in_err-take_out_before.ensures.cause c.in_err-take_out_before.ensures.kept plan)
+
+pub returns-clause-done : goal.returns-clause-done
+returns-clause-done g c =
+    let gone = c.floor_char_boundary-gone in
+    let plan = line_plan-dedent c.args.self.now.text c.args.line.start c.args.line.end c.args.amount c.min.result gone.result c.args.self.now.cursor c.pulled-cursor.result c.range-text.result.now c.trim_start.result.now
+    c.requires.order c.requires.end.0 (search rules) c.trim_start.ensures.trim (search rules) gone.ensures.bound gone.ensures.boundary gone.ensures.nearest (search rules) in
+    Completed-single _ _ _ _ _ _ _ _ _ c.in_ok-take_out_before.ensures.taken (ap (λ (l : Line). l.cursor) c.in_ok-take_out_before.ensures.line) plan
+
+pub returns-clause-others : goal.returns-clause-others
+returns-clause-others g c =
+    let text = c.args.self.now.text in
+    let gone = c.floor_char_boundary-gone.result in
+    let within : gone ≤ c.args.line.end - c.args.line.start = omega (arith, c.floor_char_boundary-gone.ensures.bound, c.range-text.ensures.len) in
+    ap (λ (t : List ℕ). drop (c.args.line.end - gone) t) (search rules) ∙ drop-behind_removal text c.args.line.start (c.args.line.start + gone) c.args.line.end (c.args.line.end - gone) (search rules) (omega arith) (omega arith)

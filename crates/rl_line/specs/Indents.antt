@@ -1,0 +1,64 @@
+-- The plans of indenting and dedenting the lines of a range.
+use Rattle.std.specs.Prelude.{ℕ, ◌+◌, ◌-◌, ◌/◌, ◌%◌, ◌==◌, nat_lt, min, max, Bool, true, false, List, [], ◌∷◌, ◌++◌, length, take, slice_range, if◌then◌else◌}
+use Rattle.std.specs.List.{repeat}
+use Rattle.std.specs.Str.{trim_start}
+use Rattle.std.specs.declared.ops.Range.{Range}
+use Rattle.rl_base.specs.Event.{InsertStr, Delete}
+use Rattle.rl_base.specs.Lines.{lines, line_number, start_of_line}
+use Rattle.rl_base.specs.Text.{greatest_boundary}
+use Rattle.rl_base.specs.declared.listeners.Direction.TheVariants.{Forward}
+use Rattle.rl_base.specs.declared.motion.Movement.{Movement}
+use Rattle.rl_line.specs.Line.{Line}
+use Rattle.rl_line.specs.Plan.{Step, Plan, after_steps, single}
+use Rattle.rl_line.specs.Ranges.{indented}
+
+-- the first line that holds a byte of a range, and the last; an empty range counts as a byte of the line that it lies in
+abbrev pub first_line : List ℕ → Range ℕ → ℕ
+first_line text r = line_number text r.start
+
+abbrev pub final_line : List ℕ → Range ℕ → ℕ
+final_line text r = line_number text (max r.start (r.end - 1))
+
+-- a cursor after n bytes went in at i, or n bytes from i on went out: one before i stays, others go along, to i at least
+abbrev pub pushed : ℕ → ℕ → ℕ → ℕ
+pushed i n cursor = if nat_lt cursor i then cursor else cursor + n
+
+abbrev pub pulled : ℕ → ℕ → ℕ → ℕ
+pulled i n cursor = if nat_lt cursor i then cursor else max i (cursor - n)
+
+abbrev pub spaces : ℕ → List ℕ
+spaces n = repeat n (32 ∷ [])
+
+-- n in parts of at most 32
+abbrev pub parts : ℕ → List ℕ
+parts n = repeat (n / 32) (32 ∷ []) ++ (if n % 32 == 0 then [] else n % 32 ∷ [])
+
+-- as many spaces as the parts say go in at i, part after part
+abbrev pub put_spaces : List ℕ → ℕ → ℕ → List Step
+put_spaces [] i cursor = []
+put_spaces (n ∷ more) i cursor = (InsertStr i (spaces n), pushed i n cursor) ∷ put_spaces more i (pushed i n cursor)
+
+-- what a dedent takes from the start of a line's text: of its leading blanks up to n bytes, up to a boundary
+abbrev pub blanks : ℕ → List ℕ → List ℕ
+blanks n text = take (greatest_boundary text (min n (length text - length (trim_start text)))) text
+
+-- the steps for the line with that text at i; the answer is the place where its text ends then
+abbrev pub line_plan : Bool → ℕ → List ℕ → ℕ → ℕ → Plan ℕ
+line_plan false n text i cursor = record { steps = put_spaces (parts n) i cursor; cursor = pushed i n cursor; answer = i + length text + n }
+line_plan true n text i cursor =
+    let gone = blanks n text in
+    single (Delete i gone Forward) (pulled i (length gone) cursor) (i + length text - length gone)
+
+-- the steps for the lines with those texts, the first at i
+abbrev pub lines_plan : Bool → ℕ → List (List ℕ) → ℕ → ℕ → Plan Bool
+lines_plan dedent n [] i cursor = record { steps = []; cursor = cursor; answer = true }
+lines_plan dedent n (text ∷ more) i cursor =
+    let one = line_plan dedent n text i cursor in
+    after_steps one.steps (lines_plan dedent n more (one.answer + 1) one.cursor)
+
+-- the lines that hold a byte of what the movement covers, from the first to the last
+abbrev pub indent_plan : Line → Movement → ℕ → Bool → Plan Bool
+indent_plan line mvt n dedent =
+    let r = indented line mvt in
+    let first = first_line line.text r in
+    lines_plan dedent n (slice_range (lines line.text) first (final_line line.text r + 1)) (start_of_line line.text first) line.cursor

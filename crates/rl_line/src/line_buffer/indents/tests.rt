@@ -1,0 +1,76 @@
+//! Indents and dedents with answers that were worked out by hand.
+use crate::line_buffer::heard::Heard;
+use crate::line_buffer::motions::tests::line_of;
+use rl_base::{At, Movement, Word};
+use std::test::Fail;
+
+#[test]
+fn lines_are_indented(rt: HostRuntime) -> Result<(), Fail> {
+    let wide = "                                        ";
+    let back = Movement::BackwardWord(2, Word::Emacs);
+    let ahead = Movement::ForwardWord(1, At::Start, Word::Emacs);
+    // a text, the cursor, a movement and an amount, and the text and the cursor after it
+    for (text, pos, mvt, amount, after, cursor) in [
+        ("a\nb\nc\nd", 2, Movement::WholeLine, 2, "a\n  b\nc\nd", 4),
+        ("a\n", 0, Movement::WholeBuffer, 2, "  a\n", 2),
+        ("", 0, Movement::WholeLine, 40, wide, 40),
+        ("a", 0, Movement::WholeLine, 0, "a", 0),
+        ("a\nb", 0, Movement::EndOfLine, 1, " a\nb", 1),
+        ("a\nb", 3, Movement::BackwardChar(2), 1, "a\n b", 4),
+        ("a\nb", 0, Movement::ForwardChar(2), 1, " a\nb", 1),
+        ("ab\ncd", 5, Movement::ViFirstPrint, 1, "ab\n cd", 6),
+        ("a b\nc d", 6, back, 1, " a b\n c d", 8),
+        ("a\nb", 0, ahead, 1, " a\nb", 1),
+        ("a\nb", 0, Movement::EndOfBuffer, 1, " a\n b", 1),
+        ("a\nb", 2, Movement::BeginningOfBuffer, 1, " a\nb", 3),
+        ("a\n", 2, Movement::EndOfBuffer, 1, "a\n ", 3),
+        ("a\n", 2, Movement::LineUp(1), 1, " a\n", 3),
+        ("a\nb\nc", 2, Movement::LineUp(0), 1, "a\n b\nc", 3),
+        ("a\nb\nc", 2, Movement::LineDown(0), 1, " a\n b\nc", 4),
+        ("a\nb", 2, Movement::LineDown(1), 1, "a\n b", 3),
+    ] {
+        let mut line = line_of(&rt, rt.alloc(), text, pos)?;
+        let mut heard = Heard::new(usize::MAX);
+        assert!(rt;
+            line.indent(&mvt, amount, false, &mut heard)?,
+            "{text:?} at {pos}"
+        );
+        assert_eq!(rt; line.as_str(), after, "{text:?} at {pos}");
+        assert_eq!(rt; line.pos(), cursor, "{text:?} at {pos}");
+    }
+    Ok(())
+}
+
+#[test]
+fn lines_are_dedented(rt: HostRuntime) -> Result<(), Fail> {
+    // a text, the cursor and an amount, the deletions that this takes, the place and the length of the last one, and
+    // the text and the cursor after it
+    for (text, pos, amount, deletions, place, len, after, cursor) in [
+        ("  a\n\tb", 1, 4, 2, 2, 1, "a\nb", 0),
+        ("\u{3000}x", 0, 2, 1, 0, 0, "\u{3000}x", 0),
+        ("\u{3000}x", 4, 3, 1, 0, 3, "x", 1),
+        (" \u{3000}x", 4, 2, 1, 0, 1, "\u{3000}x", 3),
+        ("   a", 2, 2, 1, 0, 2, " a", 0),
+        ("   a", 3, 2, 1, 0, 2, " a", 1),
+        ("a\n  b", 1, 1, 2, 2, 1, "a\n b", 1),
+        ("a\n  b", 2, 9, 2, 2, 2, "a\nb", 2),
+        ("  ", 1, 9, 1, 0, 2, "", 0),
+        (" a", 2, 0, 1, 0, 0, " a", 2),
+        ("", 0, 9, 1, 0, 0, "", 0),
+    ] {
+        let mut line = line_of(&rt, rt.alloc(), text, pos)?;
+        let mut heard = Heard::new(usize::MAX);
+        assert!(rt;
+            line.indent(&Movement::WholeBuffer, amount, true, &mut heard)?,
+            "{text:?} at {pos}"
+        );
+        assert_eq!(rt;
+            (heard.deletions, heard.place, heard.len),
+            (deletions, place, len),
+            "{text:?} at {pos}"
+        );
+        assert_eq!(rt; line.as_str(), after, "{text:?} at {pos}");
+        assert_eq!(rt; line.pos(), cursor, "{text:?} at {pos}");
+    }
+    Ok(())
+}
