@@ -189,3 +189,45 @@ Swaps-length text after i old new s =
 pub Swaps-nothing : (text after : List ℕ) (i : ℕ) (old new : List ℕ) → length old ≡ 0 → length new ≡ 0 → Swaps text after i old new → after ≡ text
 Swaps-nothing text after i old new e f s =
     s.after_is ∙ ap (λ x. s.front ++ (x ++ s.rest)) (nil_from_length new f ∙ sym (nil_from_length old e)) ∙ sym s.text_is
+
+-- ---- two that meet
+cut_alike : (a b c d : List ℕ) → a ++ b ≡ c ++ d → length a ≡ length c → (a ≡ c) × (b ≡ d)
+cut_alike a b c d e n = (
+  sym (take_at a b (length c) n) ∙ ap (take (length c)) e ∙ take_at c d (length c) refl,
+  sym (drop_at a b (length c) n) ∙ ap (drop (length c)) e ∙ drop_at c d (length c) refl,
+)
+
+-- a second swap right behind what the first put in
+pub Swaps-behind : (x y z : List ℕ) (j i : ℕ) (o w s t : List ℕ) → Swaps x y j o w → Swaps y z i s t → j + length w ≡ i → Swaps x z j (o ++ s) (w ++ t)
+Swaps-behind x y z j i o w s t p q h =
+    let n : length (p.front ++ w) ≡ length q.front = length-append p.front w ∙ ap (λ k. k + length w) p.place ∙ h ∙ sym q.place in
+    let both = cut_alike (p.front ++ w) p.rest q.front (s ++ q.rest) (append_assoc p.front w p.rest ∙ sym p.after_is ∙ q.text_is) n in
+    record {
+      front = p.front;
+      rest = q.rest;
+      text_is = p.text_is ∙ ap (λ r. p.front ++ (o ++ r)) both.1 ∙ ap (λ r. p.front ++ r) (sym (append_assoc o s q.rest));
+      after_is = q.after_is ∙ ap (λ f. f ++ (t ++ q.rest)) (sym both.0) ∙ append_assoc p.front w (t ++ q.rest) ∙ ap (λ r. p.front ++ r) (sym (append_assoc w t q.rest));
+      place = p.place;
+      front_utf8 = p.front_utf8;
+      rest_utf8 = q.rest_utf8;
+      old_utf8 = IsUtf8-append o s p.old_utf8 q.old_utf8;
+      new_utf8 = IsUtf8-append w t p.new_utf8 q.new_utf8;
+    }
+
+-- a second deletion right before the first
+pub Swaps-before : (x y z : List ℕ) (j i : ℕ) (t s : List ℕ) → Swaps x y j t [] → Swaps y z i s [] → i + length s ≡ j → Swaps x z i (s ++ t) []
+Swaps-before x y z j i t s p q h =
+    let n : length (q.front ++ s) ≡ length p.front = length-append q.front s ∙ ap (λ k. k + length s) q.place ∙ h ∙ sym p.place in
+    let both = cut_alike (q.front ++ s) q.rest p.front p.rest (append_assoc q.front s q.rest ∙ sym q.text_is ∙ p.after_is) n in
+    record {
+      front = q.front;
+      rest = q.rest;
+      text_is = p.text_is ∙ ap (λ f. f ++ (t ++ p.rest)) (sym both.0) ∙ ap (λ r. (q.front ++ s) ++ (t ++ r)) (sym both.1)
+          ∙ append_assoc q.front s (t ++ q.rest) ∙ ap (λ r. q.front ++ r) (sym (append_assoc s t q.rest));
+      after_is = q.after_is;
+      place = q.place;
+      front_utf8 = q.front_utf8;
+      rest_utf8 = q.rest_utf8;
+      old_utf8 = IsUtf8-append s t q.old_utf8 p.old_utf8;
+      new_utf8 = q.new_utf8;
+    }

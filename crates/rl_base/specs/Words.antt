@@ -29,6 +29,10 @@ is_alphanumeric c = is_alphabetic c || is_number (general_category c)
 abbrev pub all_alphanumeric : List ℕ → Bool
 all_alphanumeric cluster = list_all is_alphanumeric (chars cluster)
 
+-- one cluster, all of whose characters are alphanumeric
+abbrev pub is_word_cluster : List ℕ → Bool
+is_word_cluster text = length (clusters text) == 1 && all_alphanumeric text
+
 -- a character of the cluster is White_Space
 abbrev pub has_blank : List ℕ → Bool
 has_blank cluster = list_any is_white_space (chars cluster)

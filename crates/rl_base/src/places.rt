@@ -12,7 +12,7 @@ mod hits;
 mod tests;
 mod words;
 
-pub use classes::is_alphanumeric;
+pub use classes::{is_alphanumeric, is_word_cluster};
 pub use hits::{find_place, search};
 pub use words::{first_word_cluster, next_word, prev_word};
 

@@ -1,5 +1,6 @@
 pub mod EditLemmas
 pub mod IndentLemmas
+pub mod JoinLemmas
 pub mod KillLemmas
 pub mod LetterCaseLemmas
 pub mod LineMotionLemmas

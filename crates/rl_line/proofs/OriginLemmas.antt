@@ -1,5 +1,5 @@
 -- The record of a line leads back to the same text, whatever was done.
-use Rattle.std.proofs.Common.{◌≡◌, ℕ, Bool, List, [], ◌∷◌, take, drop, Option, Some, sym, ap, subst, ◌∙◌}
+use Rattle.std.proofs.Common.{◌≡◌, ℕ, Bool, List, [], ◌∷◌, take, drop, Option, Some, refl, sym, ap, subst, ◌∙◌}
 use Rattle.std.proofs.lemmas.List.{take-append-drop}
 use Rattle.std.specs.Prelude.{option_and_then, IsSome}
 use Rattle.std.specs.Str.{IsUtf8}
@@ -10,7 +10,7 @@ use Rattle.rl_line.specs.Line.{Line, stepped}
 use Rattle.rl_line.specs.Plan.{Step, Plan, after, heard, Taken, Done, Halted}
 use Rattle.rl_line.specs.Record.{Record, record_step, unwind}
 use Rattle.rl_line.specs.Undo.{kept_by, Undone}
-use Rattle.rl_line.proofs.RecordLemmas.{through, record_step-unwind, unwind-append, unwind-last, unwind-IsUtf8}
+use Rattle.rl_line.proofs.RecordLemmas.{through, value_of, record_step-unwind, unwind-append, unwind-last, unwind-IsUtf8}
 use Rattle.rl_line.proofs.UndoLemmas.{line_back-text}
 
 -- the text from which the record came
@@ -19,16 +19,16 @@ origin r text = unwind r.recorded text
 
 -- what the steps that were taken leave: a text, and a record that came from where it came from
 pub record Kept (r now : Record) (old new : Line) : Type 0 where
-  pub origin_is : origin now new.text ≡ origin r old.text
+  pub origin_is : (start : List ℕ) → origin r old.text ≡ Some start → origin now new.text ≡ Some start
   pub utf8 : IsUtf8 new.text
 
 Kept-after : (steps : List Step) (r : Record) (old new : Line) → IsUtf8 old.text → after steps old ≡ Some new → Kept r (heard record_step steps r) old new
 Kept-after [] r old new u h =
-    let e : old ≡ new = cc in record { origin_is = ap (λ (l : Line). origin r l.text) (sym e); utf8 = subst (λ (l : Line). IsUtf8 l.text) e u }
+    let e : old ≡ new = cc in record { origin_is = λ start k. ap (λ (l : Line). origin r l.text) (sym e) ∙ k; utf8 = subst (λ (l : Line). IsUtf8 l.text) e u }
 Kept-after (s ∷ ss) r old new u h =
     let p = through (λ text. after ss (stepped old text s.1)) (apply s.0 old.text) new h in
     let more = Kept-after ss (record_step r s.0) (stepped old p.0 s.1) new (apply-IsUtf8 s.0 old.text p.0 u p.1) p.2 in
-    record { origin_is = more.origin_is ∙ record_step-unwind r s.0 old.text p.0 u p.1; utf8 = more.utf8 }
+    record { origin_is = λ start k. more.origin_is start (record_step-unwind r s.0 old.text p.0 start u p.1 k); utf8 = more.utf8 }
 
 Kept-Taken : (steps : List Step) (r now : Record) (old new : Line) → IsUtf8 old.text → Taken record_step steps old new r now → Kept r now old new
 Kept-Taken steps r now old new u t = subst (λ (k : Record). Kept r k old new) (sym t.listener) (Kept-after steps r old new u t.line)
@@ -36,7 +36,7 @@ Kept-Taken steps r now old new u t = subst (λ (k : Record). Kept r k old new) (
 pub Kept-Done : {A : Type 0} (plan : Plan A) (r now : Record) (old new : Line) (a : A) → IsUtf8 old.text → Done record_step plan old new r now a → Kept r now old new
 Kept-Done plan r now old new a u d =
     let k = Kept-Taken plan.steps r now old d.last u d.taken in
-    record { origin_is = ap (λ (l : Line). origin now l.text) d.line ∙ k.origin_is; utf8 = subst (λ (l : Line). IsUtf8 l.text) (sym d.line) k.utf8 }
+    record { origin_is = λ start e. ap (λ (l : Line). origin now l.text) d.line ∙ k.origin_is start e; utf8 = subst (λ (l : Line). IsUtf8 l.text) (sym d.line) k.utf8 }
 
 -- where a refusal leaves the record as it was, so does a plan that halted
 pub Kept-Halted : {A : Type 0} (refused : Record → Event → Refusal → Record → Type 0) (plan : Plan A) (r now : Record) (old new : Line) (why : Refusal)
@@ -54,18 +54,21 @@ Kept-Undone n r now old new a u h d =
     let same : new ≡ l.0 = let both : Some new ≡ Some l.0 = sym d.line_is ∙ l.1 in cc in
     let text : new.text ≡ last.0 = ap (λ (m : Line). m.text) same ∙ l.2 in
     record {
-      origin_is = ap (λ (m : Record). unwind m.recorded new.text) d.record_is ∙ ap (unwind (take k es)) text
-          ∙ sym (ap (λ e. unwind e old.text) (sym (take-append-drop k es)) ∙ unwind-append (take k es) (drop k es) old.text ∙ ap (option_and_then (unwind (take k es))) last.1);
+      origin_is = λ start e. ap (λ (m : Record). unwind m.recorded new.text) d.record_is ∙ ap (unwind (take k es)) text
+          ∙ sym (ap (λ e. unwind e old.text) (sym (take-append-drop k es)) ∙ unwind-append (take k es) (drop k es) old.text ∙ ap (option_and_then (unwind (take k es))) last.1) ∙ e;
       utf8 = subst IsUtf8 (sym text) (unwind-IsUtf8 (drop k es) old.text last.0 u last.1);
     }
+
+pub IsSome-Kept : (r now : Record) (old new : Line) → Kept r now old new → IsSome (origin r old.text) → IsSome (origin now new.text)
+IsSome-Kept r now old new kept h = let start = value_of (origin r old.text) h in subst IsSome (sym (kept.origin_is start.0 start.1)) refl
 
 -- so the record can be unwound from the line's text again, after an edit and after an undo
 pub unwinds-Done : {A : Type 0} (plan : Plan A) (old new : Line) (r now : Record) (a : A) → IsUtf8 old.text → IsSome (unwind r.recorded old.text)
     → Done record_step plan old new r now a → IsSome (unwind now.recorded new.text)
-unwinds-Done plan old new r now a u h d = subst IsSome (sym (Kept-Done plan r now old new a u d).origin_is) h
+unwinds-Done plan old new r now a u h d = IsSome-Kept r now old new (Kept-Done plan r now old new a u d) h
 
 pub unwinds-Undone : (n : ℕ) (r now : Record) (old new : Line) (a : Bool) → IsUtf8 old.text → IsSome (unwind r.recorded old.text) → Undone n r now old new a
     → IsSome (unwind now.recorded new.text)
-unwinds-Undone n r now old new a u h d = subst IsSome (sym (Kept-Undone n r now old new a u h d).origin_is) h
+unwinds-Undone n r now old new a u h d = IsSome-Kept r now old new (Kept-Undone n r now old new a u h d) h
 
 pub ruleset unwinding = (unwinds-Done, unwinds-Undone)

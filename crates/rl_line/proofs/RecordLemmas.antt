@@ -1,13 +1,15 @@
 -- The entries of a record lead from text to text and back.
-use Rattle.std.proofs.Common.{◌≡◌, ℕ, Bool, true, false, List, [], ◌∷◌, ◌++◌, length, take, drop, Option, Some, None, refl, sym, ap, subst, ◌∙◌}
+use Rattle.std.proofs.Common.{◌≡◌, ℕ, Bool, true, false, List, [], ◌∷◌, ◌++◌, length, take, drop, Option, Some, None, refl, sym, ap, subst, ◌∙◌, ◌+◌, ◌⊎◌, inl, inr, arith}
 use Rattle.std.proofs.lemmas.Bool.{eqb-true}
 use Rattle.std.proofs.lemmas.List.{take-append-drop}
-use Rattle.std.specs.Prelude.{option_and_then, IsSome, ◌==◌, cond}
+use Rattle.std.specs.Option.{option_map_or}
+use Rattle.std.specs.Prelude.{option_and_then, encode_utf8, IsSome, ◌==◌, ◌&&◌, cond, not}
 use Rattle.std.specs.Str.{IsUtf8}
 use Rattle.rl_base.specs.declared.listeners.Direction.TheVariants.{Forward}
 use Rattle.rl_base.specs.Event.{Event, InsertChar, InsertStr, Delete, Replace, Start, Stop, apply}
-use Rattle.rl_base.proofs.SwapLemmas.{Swaps, Swaps-back, Swaps-nothing, Swaps-InsertStr, Swaps-InsertChar, Swaps-Delete, Swaps-Replace, apply-InsertStr-Swaps, apply-Delete-Swaps, apply-Replace-Swaps, apply-IsUtf8}
-use Rattle.rl_line.specs.Record.{Entry, Inserted, Deleted, Replaced, Record, entries_of, record_step, event_of, inverse, replay_entries, unwind}
+use Rattle.rl_base.proofs.SwapLemmas.{Swaps, Swaps-back, Swaps-nothing, Swaps-behind, Swaps-before, Swaps-InsertStr, Swaps-InsertChar, Swaps-Delete, Swaps-Replace, apply-InsertStr-Swaps, apply-Delete-Swaps, apply-Replace-Swaps, apply-IsUtf8}
+use Rattle.rl_base.specs.Words.{is_alphanumeric, is_word_cluster}
+use Rattle.rl_line.specs.Record.{Entry, Inserted, Deleted, Replaced, Record, entries_after, entries_of, joined, record_step, event_of, inverse, replay_entries, unwind}
 
 -- what was made of a value that is there
 pub through : {A B : Type 0} (f : A → Option B) (o : Option A) (b : B) → option_and_then f o ≡ Some b → (a : A) × (o ≡ Some a) × (f a ≡ Some b)
@@ -103,9 +105,70 @@ entries_of-undo (Replace i s t) text now u h = apply-Replace-Swaps now text i t 
 entries_of-undo Start text now u h = sym h
 entries_of-undo Stop text now u h = sym h
 
--- the text from which the record came stays, whatever event came
-pub record_step-unwind : (r : Record) (event : Event) (text now : List ℕ) → IsUtf8 text → apply event text ≡ Some now
-    → unwind (record_step r event).recorded now ≡ unwind r.recorded text
+-- ---- joining
+if_some : {A : Type 0} (b : Bool) (a c : A) → cond b (Some a) None ≡ Some c → (b ≡ true) × (a ≡ c)
+if_some true a c h = (refl, cc)
+if_some false a c h = cc
+
+if_else : {A : Type 0} (b : Bool) (a c : A) (o : Option A) → cond b (Some a) o ≡ Some c → ((b ≡ true) × (a ≡ c)) ⊎ (o ≡ Some c)
+if_else true a c o h = inl (refl, cc)
+if_else false a c o h = inr h
+
+unless : {A : Type 0} (b : Bool) (c : A) (o : Option A) → cond b None o ≡ Some c → o ≡ Some c
+unless true c o h = cc
+unless false c o h = h
+
+right : (a b : Bool) → a && b ≡ true → b ≡ true
+right true b h = h
+right false b h = cc
+
+-- the joint entry does what the entry and the event do
+redone-joined : (event : Event) (e joint : Entry) (x y z : List ℕ) → joined event e ≡ Some joint → IsUtf8 x → apply (event_of e) x ≡ Some y → apply event y ≡ Some z
+    → apply (event_of joint) x ≡ Some z
+redone-joined (InsertChar i c) (Inserted j s) joint x y z h u p q =
+    let b = if_some (is_alphanumeric c && (j + length s == i)) (Inserted j (s ++ encode_utf8 c)) joint h in
+    let at = eqb-true (j + length s) i (right (is_alphanumeric c) (j + length s == i) b.0) in
+    ap (λ k. apply (event_of k) x) (sym b.1)
+    ∙ apply-InsertStr-Swaps x z j (s ++ encode_utf8 c)
+    (Swaps-behind x y z j i [] s [] (encode_utf8 c) (Swaps-InsertStr x y j s u p) (Swaps-InsertChar y z i c (apply-IsUtf8 (InsertStr j s) x y u p) q) at)
+redone-joined (Delete i s side) (Deleted j t) joint x y z h u p q =
+    let first = Swaps-Delete x y j t Forward u p in
+    let second = Swaps-Delete y z i s side (apply-IsUtf8 (Delete j t Forward) x y u p) q in
+    let before = cond (i + length s == j) (Some (Deleted i (s ++ t))) None in
+    elim (if_else (j == i) (Deleted i (t ++ s)) joint before (unless (not (is_word_cluster s)) joint (cond (j == i) (Some (Deleted i (t ++ s))) before) h)) [
+      | inl b ↦
+          let at : j ≡ i = eqb-true j i b.0 in
+          ap (λ k. apply (event_of k) x) (sym b.1) ∙ ap (λ k. apply (Delete k (t ++ s) Forward) x) (sym at)
+          ∙ apply-Delete-Swaps x z j (t ++ s) Forward (Swaps-behind x y z j i t [] s [] first second (omega arith))
+      | inr k ↦
+          let b = if_some (i + length s == j) (Deleted i (s ++ t)) joint k in
+          let at = eqb-true (i + length s) j b.0 in
+          ap (λ k. apply (event_of k) x) (sym b.1) ∙ apply-Delete-Swaps x z i (s ++ t) Forward (Swaps-before x y z j i t s first second at)
+    ]
+redone-joined (Replace i s t) (Replaced j o w) joint x y z h u p q =
+    let b = if_some (j + length w == i) (Replaced j (o ++ s) (w ++ t)) joint h in
+    let at = eqb-true (j + length w) i b.0 in
+    ap (λ k. apply (event_of k) x) (sym b.1)
+    ∙ apply-Replace-Swaps x z j (o ++ s) (w ++ t)
+    (Swaps-behind x y z j i o w s t (Swaps-Replace x y j o w u p) (Swaps-Replace y z i s t (apply-IsUtf8 (Replace j o w) x y u p) q) at)
+redone-joined event e joint x y z h u p q = cc
+
+-- the text from which entries came stays, whatever event came
+pub entries_after-unwind : (event : Event) (es : List Entry) (text now start : List ℕ) → IsUtf8 text → apply event text ≡ Some now → unwind es text ≡ Some start
+    → unwind (entries_after event es) now ≡ Some start
+entries_after-unwind event [] text now start u h k = entries_of-undo event text now u h ∙ k
+entries_after-unwind event (e ∷ []) text now start u h k = from (joined event e) refl
+  where
+    from : (o : Option Entry) → joined event e ≡ o → unwind (option_map_or (λ joint. joint ∷ []) o (e ∷ entries_of event)) now ≡ Some start
+    from None j = ap (option_and_then (apply (event_of (inverse e)))) (entries_of-undo event text now u h) ∙ k
+    from (Some joint) j =
+        let v = apply-IsUtf8 (event_of (inverse e)) text start u k in
+        inverse-undoes joint start now v (redone-joined event e joint start text now j v (undoes-inverse e start text u k) h)
+entries_after-unwind event (e ∷ (d ∷ ds)) text now start u h k =
+    let p = through (apply (event_of (inverse e))) (unwind (d ∷ ds) text) start k in
+    ap (option_and_then (apply (event_of (inverse e)))) (entries_after-unwind event (d ∷ ds) text now p.0 u h p.1) ∙ p.2
+
+pub record_step-unwind : (r : Record) (event : Event) (text now start : List ℕ) → IsUtf8 text → apply event text ≡ Some now → unwind r.recorded text ≡ Some start
+    → unwind (record_step r event).recorded now ≡ Some start
 unfolding record_step
-record_step-unwind r event text now u h =
-    unwind-append r.recorded (entries_of event) now ∙ ap (option_and_then (unwind r.recorded)) (entries_of-undo event text now u h)
+record_step-unwind r event text now start u h k = entries_after-unwind event r.recorded text now start u h k

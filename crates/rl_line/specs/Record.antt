@@ -1,8 +1,10 @@
 -- The record of the changes of a line.
-use Rattle.std.specs.Prelude.{ℕ, ◌==◌, List, [], ◌∷◌, ◌++◌, length, map, encode_utf8, Option, Some, option_and_then, if◌then◌else◌}
+use Rattle.std.specs.Prelude.{◌≡◌, Bool, true, false, ℕ, ◌+◌, not, ◌==◌, ◌&&◌, List, [], ◌∷◌, ◌++◌, length, map, encode_utf8, Option, Some, None, option_and_then, if◌then◌else◌}
+use Rattle.std.specs.Option.{option_map_or}
 use Rattle.std.specs.String.{string_bytes}
 use Rattle.rl_base.specs.declared.listeners.Direction.TheVariants.{Forward}
 use Rattle.rl_base.specs.Event.{Event, InsertChar, InsertStr, Delete, Replace, Start, Stop, apply, replay}
+use Rattle.rl_base.specs.Words.{is_alphanumeric, is_word_cluster}
 use Rattle.rl_line.specs.declared.change.Change.{Change}
 use Rattle.rl_line.specs.declared.change.Change.TheVariants as made
 
@@ -30,9 +32,42 @@ entries_of (Replace i s t) = Replaced i s t ∷ []
 entries_of Start = []
 entries_of Stop = []
 
+-- the one entry that stands for an entry and an event that joins it: an alphanumeric character right behind what
+-- was inserted, an alphanumeric cluster that stood right behind what was deleted, or before it, and a replacement
+-- right behind what was put in
+abbrev pub joined : Event → Entry → Option Entry
+joined (InsertChar i c) (Inserted j s) =
+    if is_alphanumeric c && (j + length s == i) then Some (Inserted j (s ++ encode_utf8 c)) else None
+joined (Delete i s _) (Deleted j t) =
+    if not (is_word_cluster s) then None
+    else if j == i then Some (Deleted i (t ++ s))
+    else if i + length s == j then Some (Deleted i (s ++ t))
+    else None
+joined (Replace i s t) (Replaced j o w) = if j + length w == i then Some (Replaced j (o ++ s) (w ++ t)) else None
+joined _ _ = None
+
+-- what an entry makes of an event: it takes the event in, where they join, and else stays as it is
+abbrev pub TakesIn : Event → Entry → Entry → Bool → Type 0
+TakesIn event old new answer = joined event old ≡ (if answer then Some new else None) × (answer ≡ false → new ≡ old)
+
+-- an entry and an event that comes after it
+abbrev pub joined_or_added : Event → Entry → List Entry
+joined_or_added event e = option_map_or (λ joint. joint ∷ []) (joined event e) (e ∷ entries_of event)
+
+-- the entries after an event, which joins the last one or is added
+abbrev pub entries_after : Event → List Entry → List Entry
+entries_after event [] = entries_of event
+entries_after event (e ∷ []) = joined_or_added event e
+entries_after event (e ∷ (d ∷ ds)) = e ∷ entries_after event (d ∷ ds)
+
 -- the record after an event
 unfoldable pub record_step : Record → Event → Record
-record_step r event = record { recorded = r.recorded ++ entries_of event }
+record_step r event = record { recorded = entries_after event r.recorded }
+
+-- what a try to join an event to the last entry does: the record is the one after the event, or stays and the event is to be added
+abbrev pub JoinsLast : Event → Record → Record → Bool → Type 0
+JoinsLast event old new true = new ≡ record_step old event
+JoinsLast event old new false = (new ≡ old) × (record_step old event ≡ record { recorded = old.recorded ++ entries_of event })
 
 -- the event that makes an entry's change
 abbrev pub event_of : Entry → Event

@@ -1,11 +1,15 @@
 //! A recorded change, and how a text goes back over it.
-ghost use Rattle.std.specs.Prelude.{◌≡◌, ◌+◌, ◌-◌, ◌≤◌, IsSome, IfSome, length, map};
+ghost use Rattle.std.specs.Prelude.{◌≡◌, IfOk, IfErr, ◌+◌, ◌-◌, ◌≤◌, IsSome, IfSome, length, map};
 ghost use Rattle.std.specs.String.{string_bytes, string_len, string_capacity};
 ghost use Rattle.std.specs.List.{replace_range};
 ghost use Rattle.std.specs.Str.{IsCharBoundary};
-ghost use Rattle.rl_base.specs.Event.{apply};
-ghost use Rattle.rl_line.specs.Record.{entry_of, inverse, event_of};
+ghost use Rattle.rl_base.specs.Event.{InsertChar, Delete, Replace, apply};
+ghost use Rattle.rl_base.specs.declared.listeners.Refusal.TheVariants.{NoMemory};
+ghost use Rattle.rl_line.specs.Record.{TakesIn, entry_of, inverse, event_of};
 ghost use Rattle.rl_line.specs.Undo.{cursor_back, length_back, greatest_back_over};
+
+use rl_base::places::{is_alphanumeric, is_word_cluster};
+use rl_base::{Direction, Refusal};
 
 /// One change of a text: its byte place, with what was put in, taken out, or taken out and put in.
 #[derive(Drop)]
@@ -80,4 +84,85 @@ pub(crate) fn greatest_len_back(changes: &[Change], len: usize) -> Option<usize>
         greatest = greatest.max(now);
     }
     Some(greatest)
+}
+
+// Joining: each of these takes an event in where it joins the change, and answers whether it did.
+impl Change {
+    /// An alphanumeric character that goes in right behind what was inserted.
+    pub(crate) fn join_char(&mut self, idx: usize, c: char) -> Result<bool, Refusal>
+        ensures ok { IfOk result (λ answer. TakesIn (InsertChar idx c) (entry_of self.old) (entry_of self.new) answer) }
+        ensures err { IfErr result (λ r. (r ≡ NoMemory) × (entry_of self.new ≡ entry_of self.old)) }
+    {
+        match self {
+            Change::Insert(at, text) => {
+                if !is_alphanumeric(c) || at.checked_add(text.len()) != Some(idx) {
+                    return Ok(false);
+                }
+                match text.push(c) {
+                    Ok(()) => Ok(true),
+                    Err(_) => Err(Refusal::NoMemory),
+                }
+            }
+            Change::Delete(_, _) | Change::Replace(_, _, _) => Ok(false),
+        }
+    }
+
+    /// An alphanumeric cluster that stood right behind what was deleted, or right before it.
+    pub(crate) fn join_deletion(
+        &mut self,
+        idx: usize,
+        string: &str,
+        dir: Direction,
+    ) -> Result<bool, Refusal>
+        ensures ok { IfOk result (λ answer. TakesIn (Delete idx string.now dir) (entry_of self.old) (entry_of self.new) answer) }
+        ensures err { IfErr result (λ r. (r ≡ NoMemory) × (entry_of self.new ≡ entry_of self.old)) }
+    {
+        match self {
+            Change::Delete(at, text) => {
+                if !is_word_cluster(string) {
+                    return Ok(false);
+                }
+                let taken = if *at == idx {
+                    text.push_str(string)
+                } else if idx.checked_add(string.len()) == Some(*at) {
+                    text.insert_str(0, string)
+                } else {
+                    return Ok(false);
+                };
+                if taken.is_err() {
+                    return Err(Refusal::NoMemory);
+                }
+                *at = idx;
+                Ok(true)
+            }
+            Change::Insert(_, _) | Change::Replace(_, _, _) => Ok(false),
+        }
+    }
+
+    /// A replacement right behind what was put in.
+    pub(crate) fn join_replacement(
+        &mut self,
+        idx: usize,
+        old: &str,
+        new: &str,
+    ) -> Result<bool, Refusal>
+        ensures ok { IfOk result (λ answer. TakesIn (Replace idx old.now new.now) (entry_of self.old) (entry_of self.new) answer) }
+        ensures err { IfErr result (λ r. (r ≡ NoMemory) × (entry_of self.new ≡ entry_of self.old)) }
+    {
+        match self {
+            Change::Replace(at, before, after) => {
+                if at.checked_add(after.len()) != Some(idx) {
+                    return Ok(false);
+                }
+                if before.reserve(old.len()).is_err() || after.push_str(new).is_err() {
+                    return Err(Refusal::NoMemory);
+                }
+                match before.push_str(old) {
+                    Ok(()) => Ok(true),
+                    Err(_) => unreachable!(),
+                }
+            }
+            Change::Insert(_, _) | Change::Delete(_, _) => Ok(false),
+        }
+    }
 }

@@ -27,6 +27,8 @@ mod transpositions;
 
 use crate::change::{Change, greatest_len_back, swap_in, take_back};
 pub use kills::kill_agrees_with_copy;
+#[cfg(test)]
+pub(crate) use motions::tests::line_of;
 use rl_base::{ChangeListener, DeleteListener, Direction, Refusal};
 use std::alloc::Global;
 use std::fmt;

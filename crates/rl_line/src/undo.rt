@@ -2,8 +2,9 @@
 ghost use Rattle.std.specs.Prelude.{◌≡◌, ℕ, List, [], ◌∷◌, ◌++◌, length, IsSome, OnOk, OnErr, IfOk, IfErr};
 ghost use Rattle.std.specs.String.{string_bytes};
 ghost use Rattle.std.specs.Str.{IsUtf8};
+ghost use Rattle.rl_base.specs.Event.{InsertChar, Delete, Replace};
 ghost use Rattle.rl_base.specs.declared.listeners.Refusal.TheVariants.{NoMemory};
-ghost use Rattle.rl_line.specs.Record.{Entry, entry_of, replay_entries, unwind};
+ghost use Rattle.rl_line.specs.Record.{Entry, JoinsLast, entry_of, replay_entries, unwind};
 ghost use Rattle.rl_line.specs.Undo.{Undone};
 
 use crate::change::Change;
@@ -71,6 +72,39 @@ impl Changeset {
         }
     }
 
+    // Joins a character that was inserted to the last change, if it does.
+    fn join_char(&mut self, idx: usize, c: char) -> Result<bool, Refusal>
+        ensures ok { IfOk result (λ answer. JoinsLast (InsertChar idx c) self.old self.new answer) }
+        ensures err { IfErr result (λ r. (r ≡ NoMemory) × (self.new ≡ self.old)) }
+    {
+        if let Some(last) = self.recorded.last_mut() {
+            return last.join_char(idx, c);
+        }
+        Ok(false)
+    }
+
+    // Joins a deletion to the last change, if it does.
+    fn join_deletion(&mut self, idx: usize, string: &str, dir: Direction) -> Result<bool, Refusal>
+        ensures ok { IfOk result (λ answer. JoinsLast (Delete idx string.now dir) self.old self.new answer) }
+        ensures err { IfErr result (λ r. (r ≡ NoMemory) × (self.new ≡ self.old)) }
+    {
+        if let Some(last) = self.recorded.last_mut() {
+            return last.join_deletion(idx, string, dir);
+        }
+        Ok(false)
+    }
+
+    // Joins a replacement to the last change, if it does.
+    fn join_replacement(&mut self, idx: usize, old: &str, new: &str) -> Result<bool, Refusal>
+        ensures ok { IfOk result (λ answer. JoinsLast (Replace idx old.now new.now) self.old self.new answer) }
+        ensures err { IfErr result (λ r. (r ≡ NoMemory) × (self.new ≡ self.old)) }
+    {
+        if let Some(last) = self.recorded.last_mut() {
+            return last.join_replacement(idx, old, new);
+        }
+        Ok(false)
+    }
+
     // Adds a change.
     fn add(&mut self, change: Change) -> Result<(), Refusal>
         ensures ok { OnOk result (self.new ≡ record { recorded = self.old.recorded ++ entry_of change ∷ [] }) }
@@ -83,7 +117,7 @@ impl Changeset {
     }
 }
 
-#[tactic(auto, unfolding(crate::specs::Record::record_step, crate::specs::Record::entries_of))]
+#[tactic(auto, using(crate::proofs::JoinLemmas::alone), unfolding(crate::specs::Record::entries_of))]
 impl DeleteListener for Changeset {
     ghost use Rattle.std.specs.Prelude.{◌≡◌};
     ghost use Rattle.rl_base.specs.declared.listeners.Refusal.TheVariants.{NoMemory};
@@ -95,8 +129,8 @@ impl DeleteListener for Changeset {
 
     fn start_killing(&mut self) {}
 
-    fn delete(&mut self, idx: usize, string: &str, _dir: Direction) -> Result<(), Refusal> {
-        if string.is_empty() {
+    fn delete(&mut self, idx: usize, string: &str, dir: Direction) -> Result<(), Refusal> {
+        if string.is_empty() || self.join_deletion(idx, string, dir)? {
             return Ok(());
         }
         let text = self.copied(string)?;
@@ -106,9 +140,12 @@ impl DeleteListener for Changeset {
     fn stop_killing(&mut self) {}
 }
 
-#[tactic(auto, unfolding(crate::specs::Record::record_step, crate::specs::Record::entries_of))]
+#[tactic(auto, using(crate::proofs::JoinLemmas::alone), unfolding(crate::specs::Record::entries_of))]
 impl ChangeListener for Changeset {
     fn insert_char(&mut self, idx: usize, c: char) -> Result<(), Refusal> {
+        if self.join_char(idx, c)? {
+            return Ok(());
+        }
         let mut bytes = [0; 4];
         let text = self.copied(c.encode_utf8(&mut bytes))?;
         self.add(Change::Insert(idx, text))
@@ -123,6 +160,9 @@ impl ChangeListener for Changeset {
     }
 
     fn replace(&mut self, idx: usize, old: &str, new: &str) -> Result<(), Refusal> {
+        if self.join_replacement(idx, old, new)? {
+            return Ok(());
+        }
         let before = self.copied(old)?;
         let after = self.copied(new)?;
         self.add(Change::Replace(idx, before, after))

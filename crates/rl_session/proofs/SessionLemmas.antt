@@ -14,7 +14,7 @@ use Rattle.rl_line.specs.Plan.{Plan, after, Done, Halted, or_no_memory}
 use Rattle.rl_line.specs.Edits.{insert_str_plan}
 use Rattle.rl_line.specs.Record.{Record, record_step}
 use Rattle.rl_line.specs.Undo.{Undone}
-use Rattle.rl_line.proofs.OriginLemmas.{Kept, Kept-Done, Kept-Halted, Kept-Undone}
+use Rattle.rl_line.proofs.OriginLemmas.{IsSome-Kept, Kept, Kept-Done, Kept-Halted, Kept-Undone}
 use Rattle.rl_line.proofs.RecordLemmas.{unwind-replay, replay-unwind, replay-IsUtf8}
 use Rattle.rl_session.specs.declared.session.Command.{Command}
 use Rattle.rl_session.specs.declared.session.Command.TheVariants.{SetPos, Move, Insert, Delete, Backspace, Undo}
@@ -39,13 +39,13 @@ put_first step line new limit text b n a u e d =
     d.line ∙ ap (λ (l : Line). record l { cursor = line.cursor }) (sym same) ∙ ap (λ (l : Line). record (stepped empty text 0) { cursor = l.cursor }) e
 
 same_Kept : (r : Record) (line : Line) → IsUtf8 line.text → Kept r r line line
-same_Kept r line u = record { origin_is = refl; utf8 = u }
+same_Kept r line u = record { origin_is = λ start e. e; utf8 = u }
 
 -- a motion leaves the text
 pub Kept-Moved : (place : Option ℕ) (r now : Record) (old new : Line) (a : Bool) → IsUtf8 old.text → now ≡ r → Moved place old new a → Kept r now old new
 Kept-Moved None r now old new a u e m = subst (λ (l : Line). Kept r now old l) (sym m.1) (subst (λ (k : Record). Kept r k old old) (sym e) (same_Kept r old u))
 Kept-Moved (Some place) r now old new a u e m =
-    subst (λ (l : Line). Kept r now old l) (sym m.1) (subst (λ (k : Record). Kept r k old (record old { cursor = place })) (sym e) (record { origin_is = refl; utf8 = u }))
+    subst (λ (l : Line). Kept r now old l) (sym m.1) (subst (λ (k : Record). Kept r k old (record old { cursor = place })) (sym e) (record { origin_is = λ start e. e; utf8 = u }))
 
 not_heard : (m : Record) (e : Event) (w : Refusal) (k : Record) → out_of_memory m e w k → k ≡ m
 not_heard m e w k h = h.1
@@ -71,13 +71,13 @@ Kept-undo n r now old new (Ok a) u f d h = Kept-Undone n r now old new a u f d
 Kept-undo n r now old new (Err w) u f d h = subst (λ (k : Record). Kept r k old new) (sym h.1) (subst (λ (l : Line). Kept r r old l) (sym h.2) (same_Kept r old u))
 
 pub Follows-Kept : (r now : Record) (old new : Line) → Kept r now old new → Follows old r → Follows new now
-Follows-Kept r now old new k h = subst IsSome (sym k.origin_is) h
+Follows-Kept r now old new k h = IsSome-Kept r now old new k h
 
 -- each row keeps the text from which the record came
 Kept-Step : (old : State) (command : Command) (reply : Reply) (new : State) → Step old command reply new → IsUtf8 old.line.text → Follows old.line old.changes
     → Kept old.changes new.changes old.line new.line
 Kept-Step old (SetPos q) says.Done new s u f =
-    subst (λ (n : State). Kept old.changes n.changes old.line n.line) (sym s.1) (record { origin_is = refl; utf8 = u })
+    subst (λ (n : State). Kept old.changes n.changes old.line n.line) (sym s.1) (record { origin_is = λ start e. e; utf8 = u })
 Kept-Step old (SetPos q) (says.Refused BadPlace) new s u f = subst (λ (n : State). Kept old.changes n.changes old.line n.line) (sym s.1) (same_Kept old.changes old.line u)
 Kept-Step old (Move m) (says.Answer a) new s u f = Kept-Moved (destination old.line m) old.changes new.changes old.line new.line a u (ap (λ (n : State). n.changes) s.others) s.moved
 Kept-Step old (Insert c n) (says.Inserted a) new s u f = Kept-Done _ old.changes new.changes old.line new.line a u s.done
@@ -96,7 +96,7 @@ step_replays start old command reply new s h =
     let u = replay-IsUtf8 old.changes.recorded start old.line.text h.is_text h.leads in
     let came = unwind-replay old.changes.recorded start old.line.text h.is_text h.leads in
     let kept = Kept-Step old command reply new s u (subst IsSome (sym came) refl) in
-    record { is_text = h.is_text; leads = replay-unwind new.changes.recorded new.line.text start kept.utf8 (kept.origin_is ∙ came) }
+    record { is_text = h.is_text; leads = replay-unwind new.changes.recorded new.line.text start kept.utf8 (kept.origin_is start came) }
 
 Leads-more : (rows : List Row) (row : Row) (old mid : State) → Leads old rows mid → row.before ≡ mid → Leads old (rows ++ row ∷ []) row.after
 Leads-more [] row old mid l e = (e ∙ l, refl)

@@ -22,8 +22,8 @@ fn scripts_print(rt: HostRuntime) -> Result<(), Fail> {
         ),
         (
             "a number is judged by its value",
-            b"ins 1 a\nins 1 b\nundo 000000000000000000000000000000000001\n",
-            b"true 1 a\ntrue 2 ab\ntrue 1 a\n",
+            b"ins 1 a\nins 1 -\nundo 000000000000000000000000000000000001\n",
+            b"true 1 a\ntrue 2 a-\ntrue 1 a\n",
         ),
         (
             "the last line needs no newline, and the empty script prints nothing for itself",

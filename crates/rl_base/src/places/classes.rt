@@ -1,11 +1,12 @@
 //! What a grapheme cluster is to each sense of a word.
 ghost use Rattle.std.specs.Prelude.{◌≡◌, List, ℕ};
 ghost use Rattle.unicode.specs.Binary.{is_white_space};
-ghost use Rattle.rl_base.specs.Words.{is_alphanumeric, has_blank, all_alphanumeric, starts, ends};
+ghost use Rattle.rl_base.specs.Words.{is_alphanumeric, has_blank, is_word_cluster, all_alphanumeric, starts, ends};
 ghost use Rattle.rl_base.specs.Classes.{class_of};
 
 use crate::motion::Word;
 use unicode::properties::{GeneralCategory, is_alphabetic};
+use unicode_segmentation::UnicodeSegmentation;
 
 /// What a cluster is to a sense of a word. A word goes on for as long as its clusters are of one class.
 #[derive(Clone, Copy, Eq, PartialEq)]
@@ -51,6 +52,13 @@ fn all_alphanumeric(cluster: &str) -> bool
     ensures { result ≡ all_alphanumeric cluster.now }
 {
     cluster.chars().all(is_alphanumeric)
+}
+
+/// Whether the text is one grapheme cluster, all of whose characters are alphanumeric.
+pub fn is_word_cluster(text: &str) -> bool
+    ensures { result ≡ is_word_cluster text.now }
+{
+    text.graphemes(true).count() == 1 && all_alphanumeric(text)
 }
 
 /// What the cluster is to the sense of a word.
