@@ -1,15 +1,19 @@
 -- The last entry of a record, where an event joins it and where it does not.
-use Rattle.std.proofs.Common.{◌≡◌, ℕ, zero, suc, ◌<◌, Bool, true, false, List, [], ◌∷◌, ◌++◌, length, get_or, set, map, Some, None, refl, sym, ap, ◌∙◌, arith}
+use Rattle.std.proofs.Common.{◌≡◌, ℕ, zero, suc, ◌-◌, ◌<◌, Bool, true, false, List, [], ◌∷◌, ◌++◌, length, get_or, set, map, Some, None, refl, sym, ap, subst, ◌∙◌, arith}
 use Rattle.std.proofs.lemmas.List.{append-nil, nil_from_length}
+use Rattle.std.proofs.lemmas.Result.{IfErr-weaker, IfOk-weaker}
 use Rattle.std.specs.Option.{option_map_or}
+use Rattle.std.specs.Prelude.{IfErr, IfOk, Result}
 use Rattle.std.specs.Str.{chars}
 use Rattle.unicode_segmentation.specs.Segments.{cut, segments}
 use Rattle.rl_base.specs.Event.{Event, InsertStr, Delete, Start, Stop}
 use Rattle.rl_base.specs.declared.listeners.Direction.{Direction}
+use Rattle.rl_base.specs.declared.listeners.Refusal.{Refusal}
+use Rattle.rl_base.specs.declared.listeners.Refusal.TheVariants.{NoMemory}
 use Rattle.rl_line.specs.declared.change.Change.{Change}
 use Rattle.rl_line.specs.Record.{Entry, Inserted, Deleted, Replaced, Record, JoinsLast, TakesIn, entries_after, entries_of, entry_of, joined, record_step}
 
-pub joined-last : (event : Event) (xs : List Change) (k : ℕ) (x y : Change) → suc k ≡ length xs → x ≡ get_or xs k x → joined event (entry_of x) ≡ Some (entry_of y)
+joined-last : (event : Event) (xs : List Change) (k : ℕ) (x y : Change) → suc k ≡ length xs → x ≡ get_or xs k x → joined event (entry_of x) ≡ Some (entry_of y)
     → map entry_of (set xs k y) ≡ entries_after event (map entry_of xs)
 joined-last event [] k x y n is e = absurd (omega arith)
 joined-last event (z ∷ []) zero x y n is e =
@@ -18,7 +22,7 @@ joined-last event (z ∷ []) (suc k) x y n is e = absurd (omega arith)
 joined-last event (z ∷ (w ∷ ws)) zero x y n is e = absurd (omega arith)
 joined-last event (z ∷ (w ∷ ws)) (suc k) x y n is e = ap (λ es. entry_of z ∷ es) (joined-last event (w ∷ ws) k x y (omega arith) is e)
 
-pub added-last : (event : Event) (xs : List Change) (k : ℕ) (x : Change) → suc k ≡ length xs → x ≡ get_or xs k x → joined event (entry_of x) ≡ None
+added-last : (event : Event) (xs : List Change) (k : ℕ) (x : Change) → suc k ≡ length xs → x ≡ get_or xs k x → joined event (entry_of x) ≡ None
     → entries_after event (map entry_of xs) ≡ map entry_of xs ++ entries_of event
 added-last event [] k x n is e = absurd (omega arith)
 added-last event (z ∷ []) zero x n is e =
@@ -28,13 +32,13 @@ added-last event (z ∷ []) (suc k) x n is e = absurd (omega arith)
 added-last event (z ∷ (w ∷ ws)) zero x n is e = absurd (omega arith)
 added-last event (z ∷ (w ∷ ws)) (suc k) x n is e = ap (λ es. entry_of z ∷ es) (added-last event (w ∷ ws) k x (omega arith) is e)
 
-pub same-last : (xs : List Change) (k : ℕ) (x y : Change) → k < length xs → x ≡ get_or xs k x → entry_of y ≡ entry_of x → map entry_of (set xs k y) ≡ map entry_of xs
+same-last : (xs : List Change) (k : ℕ) (x y : Change) → k < length xs → x ≡ get_or xs k x → entry_of y ≡ entry_of x → map entry_of (set xs k y) ≡ map entry_of xs
 same-last [] k x y l is e = absurd (omega arith)
 same-last (z ∷ xs) zero x y l is e = ap (λ w. w ∷ map entry_of xs) (e ∙ ap entry_of is)
 same-last (z ∷ xs) (suc k) x y l is e = ap (λ es. entry_of z ∷ es) (same-last xs k x y (omega arith) is e)
 
 -- the record, whose last entry took the event in or did not
-pub joins_last : (event : Event) (xs : List Change) (k : ℕ) (x y : Change) (answer : Bool) → suc k ≡ length xs → x ≡ get_or xs k x → TakesIn event (entry_of x) (entry_of y) answer
+joins_last : (event : Event) (xs : List Change) (k : ℕ) (x y : Change) (answer : Bool) → suc k ≡ length xs → x ≡ get_or xs k x → TakesIn event (entry_of x) (entry_of y) answer
     → JoinsLast event (record { recorded = map entry_of xs }) (record { recorded = map entry_of (set xs k y) }) answer
 unfolding record_step
 joins_last event xs k x y true n is t = ap (λ (es : List Entry). record { recorded = es }) (joined-last event xs k x y n is t.0)
@@ -42,6 +46,18 @@ joins_last event xs k x y false n is t = (
   ap (λ (es : List Entry). record { recorded = es }) (same-last xs k x y (omega arith) is (t.1 refl)),
   ap (λ (es : List Entry). record { recorded = es }) (added-last event xs k x n is t.0),
 )
+
+-- the same of what a call on the last entry answers, and of a call that was refused
+pub joins_last-ok : (event : Event) (xs : List Change) (n : ℕ) (x y : Change) (old : Record) (result : Result Bool Refusal) → n ≡ length xs → 0 < n → x ≡ get_or xs (n - 1) x → record { recorded = map entry_of xs } ≡ old
+    → IfOk result (λ answer. TakesIn event (entry_of x) (entry_of y) answer) → IfOk result (λ answer. JoinsLast event old (record { recorded = map entry_of (set xs (n - 1) y) }) answer)
+joins_last-ok event xs n x y old result count some is view =
+    IfOk-weaker result _ _
+    (λ answer t. subst (λ (r : Record). JoinsLast event r record { recorded = map entry_of (set xs (n - 1) y) } answer) view (joins_last event xs (n - 1) x y answer (omega arith) is t))
+
+pub joins_last-err : (xs : List Change) (n : ℕ) (x y : Change) (old : Record) (result : Result Bool Refusal) → n ≡ length xs → 0 < n → x ≡ get_or xs (n - 1) x → record { recorded = map entry_of xs } ≡ old
+    → IfErr result (λ r. (r ≡ NoMemory) × (entry_of y ≡ entry_of x)) → IfErr result (λ r. (r ≡ NoMemory) × (record { recorded = map entry_of (set xs (n - 1) y) } ≡ old))
+joins_last-err xs n x y old result count some is view =
+    IfErr-weaker result _ _ (λ r t. (t.0, ap (λ (es : List Entry). record { recorded = es }) (same-last xs (n - 1) x y (omega arith) is t.1) ∙ view))
 
 none_from_variant : (n : ℕ) → (0 < n → false ≡ true) → n ≡ 0
 none_from_variant zero h = refl

@@ -1,32 +1,24 @@
-use Rattle.std.proofs.Common.{rules, false, ◌≡◌, ◌-◌, suc, length, get_or, set, map, List, refl, ap, subst, ◌∙◌, arith, vec_len}
-use Rattle.std.proofs.lemmas.Result.{IfErr-weaker, IfOk-weaker}
+use Rattle.std.proofs.Common.{rules, false, map, refl, subst, vec_len}
 use Rattle.rl_base.specs.Event.{Replace}
-use Rattle.rl_line.specs.Record.{Entry, JoinsLast, Record, entry_of}
-use Rattle.rl_line.proofs.JoinLemmas.{joins_last, joins_none, same-last}
+use Rattle.rl_line.specs.Record.{JoinsLast, Record, entry_of}
+use Rattle.rl_line.proofs.JoinLemmas.{joins_last-err, joins_last-ok, joins_none}
 use Rattle.rl_line.proofs.undo.Changeset.join_replacement.Goals as goal
 
 pub returns-in-Some-clause-ok : goal.returns-in-Some-clause-ok
 returns-in-Some-clause-ok c =
     let recorded = c.self.inside.recorded in
-    let k = vec_len recorded - 1 in
-    let x = c.in-Some.last.now in
-    let y = c.join_replacement.new.self in
-    let count : suc k ≡ length recorded.items = omega (arith, recorded.ok.0, c.in-Some.ensures.variant.0 refl) in
-    let is : x ≡ get_or recorded.items k x = search rules in
-    let event = Replace c.args.idx c.args.old.now c.args.new.now in
-    IfOk-weaker c.join_replacement.result _ _ (λ answer t. subst (λ (r : Record). JoinsLast event r record { recorded = map entry_of (set recorded.items k y) } answer) c.self.view_is (joins_last event recorded.items k x y answer count is t)) c.join_replacement.ensures.ok
+    joins_last-ok (Replace c.args.idx c.args.old.now c.args.new.now) recorded.items (vec_len recorded) c.in-Some.last.now c.join_replacement.new.self c.args.self.now c.join_replacement.result recorded.ok.0 (c.in-Some.ensures.variant.0 refl) (search rules) c.self.view_is
+    c.join_replacement.ensures.ok
 
 pub returns-in-Some-clause-err : goal.returns-in-Some-clause-err
 returns-in-Some-clause-err c =
     let recorded = c.self.inside.recorded in
-    let k = vec_len recorded - 1 in
-    let x = c.in-Some.last.now in
-    let y = c.join_replacement.new.self in
-    let count : suc k ≡ length recorded.items = omega (arith, recorded.ok.0, c.in-Some.ensures.variant.0 refl) in
-    let is : x ≡ get_or recorded.items k x = search rules in
-    IfErr-weaker c.join_replacement.result _ _ (λ r t. (t.0, ap (λ (es : List Entry). record { recorded = es }) (same-last recorded.items k x y (omega arith) is t.1) ∙ c.self.view_is)) c.join_replacement.ensures.err
+    joins_last-err recorded.items (vec_len recorded) c.in-Some.last.now c.join_replacement.new.self c.args.self.now c.join_replacement.result recorded.ok.0 (c.in-Some.ensures.variant.0 refl) (search rules) c.self.view_is
+    c.join_replacement.ensures.err
 
 pub returns-clause-ok : goal.returns-clause-ok
 returns-clause-ok c =
     let recorded = c.self.inside.recorded in
-    subst (λ (r : Record). JoinsLast (Replace c.args.idx c.args.old.now c.args.new.now) r record { recorded = map entry_of recorded.items } false) c.self.view_is (joins_none (Replace c.args.idx c.args.old.now c.args.new.now) recorded.items (vec_len recorded) recorded.ok.0 c.in_default.ensures.variant.1)
+    let event = Replace c.args.idx c.args.old.now c.args.new.now in
+    subst (λ (r : Record). JoinsLast event r record { recorded = map entry_of recorded.items } false) c.self.view_is
+    (joins_none event recorded.items (vec_len recorded) recorded.ok.0 c.in_default.ensures.variant.1)
