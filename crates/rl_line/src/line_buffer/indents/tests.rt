@@ -6,14 +6,14 @@ use std::test::Fail;
 
 #[test]
 fn lines_are_indented(rt: HostRuntime) -> Result<(), Fail> {
-    let wide = "                                        ";
+    let wide = "                                        a";
     let back = Movement::BackwardWord(2, Word::Emacs);
     let ahead = Movement::ForwardWord(1, At::Start, Word::Emacs);
     // a text, the cursor, a movement and an amount, and the text and the cursor after it
     for (text, pos, mvt, amount, after, cursor) in [
         ("a\nb\nc\nd", 2, Movement::WholeLine, 2, "a\n  b\nc\nd", 4),
         ("a\n", 0, Movement::WholeBuffer, 2, "  a\n", 2),
-        ("", 0, Movement::WholeLine, 40, wide, 40),
+        ("a", 0, Movement::WholeLine, 40, wide, 40),
         ("a", 0, Movement::WholeLine, 0, "a", 0),
         ("a\nb", 0, Movement::EndOfLine, 1, " a\nb", 1),
         ("a\nb", 3, Movement::BackwardChar(2), 1, "a\n b", 4),
