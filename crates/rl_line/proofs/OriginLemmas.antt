@@ -1,6 +1,5 @@
 -- The record of a line leads back to the same text, whatever was done.
-use Rattle.std.proofs.Common.{◌≡◌, ℕ, Bool, List, [], ◌∷◌, take, drop, Option, Some, refl, sym, ap, subst, ◌∙◌}
-use Rattle.std.proofs.lemmas.List.{take-append-drop}
+use Rattle.std.proofs.Common.{◌≡◌, ℕ, Bool, List, [], ◌∷◌, Option, Some, refl, sym, ap, subst, ◌∙◌}
 use Rattle.std.specs.Prelude.{option_and_then, IsSome}
 use Rattle.std.specs.Str.{IsUtf8}
 use Rattle.rl_base.specs.declared.listeners.Refusal.{Refusal}
@@ -9,9 +8,11 @@ use Rattle.rl_base.proofs.SwapLemmas.{apply-IsUtf8}
 use Rattle.rl_line.specs.Line.{Line, stepped}
 use Rattle.rl_line.specs.Plan.{Step, Plan, after, heard, Taken, Done, Halted}
 use Rattle.rl_line.specs.Record.{Record, record_step, unwind}
-use Rattle.rl_line.specs.Undo.{kept_by, Undone}
-use Rattle.rl_line.proofs.RecordLemmas.{through, value_of, record_step-unwind, unwind-append, unwind-last, unwind-IsUtf8}
+use Rattle.rl_line.specs.Undo.{Undone}
+use Rattle.rl_line.specs.Units.{kept_of, last_of}
+use Rattle.rl_line.proofs.RecordLemmas.{through, value_of, IsSome-through, record_step-unwind, unwind-append, unwind-IsUtf8}
 use Rattle.rl_line.proofs.UndoLemmas.{line_back-text}
+use Rattle.rl_line.proofs.UnitLemmas.{kept-last}
 
 -- the text from which the record came
 abbrev pub origin : Record → List ℕ → Option (List ℕ)
@@ -47,28 +48,17 @@ Kept-Halted refused plan r now old new why stays u h =
 
 pub Kept-Undone : (n : ℕ) (r now : Record) (old new : Line) (a : Bool) → IsUtf8 old.text → IsSome (origin r old.text) → Undone n r now old new a → Kept r now old new
 Kept-Undone n r now old new a u h d =
-    let k = kept_by n r in
-    let es = r.recorded in
-    let last = unwind-last es k old.text h in
-    let l = line_back-text (drop k es) old last.0 last.1 in
+    let kept = kept_of n r.recorded in
+    let last = last_of n r.recorded in
+    let all : origin r old.text ≡ option_and_then (unwind kept) (unwind last old.text) = ap (λ es. unwind es old.text) (sym (kept-last n r.recorded)) ∙ unwind-append kept last old.text in
+    let t = value_of (unwind last old.text) (IsSome-through (unwind kept) (unwind last old.text) (subst IsSome all h)) in
+    let l = line_back-text last old t.0 t.1 in
     let same : new ≡ l.0 = let both : Some new ≡ Some l.0 = sym d.line_is ∙ l.1 in cc in
-    let text : new.text ≡ last.0 = ap (λ (m : Line). m.text) same ∙ l.2 in
+    let text : new.text ≡ t.0 = ap (λ (m : Line). m.text) same ∙ l.2 in
     record {
-      origin_is = λ start e. ap (λ (m : Record). unwind m.recorded new.text) d.record_is ∙ ap (unwind (take k es)) text
-          ∙ sym (ap (λ e. unwind e old.text) (sym (take-append-drop k es)) ∙ unwind-append (take k es) (drop k es) old.text ∙ ap (option_and_then (unwind (take k es))) last.1) ∙ e;
-      utf8 = subst IsUtf8 (sym text) (unwind-IsUtf8 (drop k es) old.text last.0 u last.1);
+      origin_is = λ start e. ap (λ (m : Record). unwind m.recorded new.text) d.record_is ∙ ap (unwind kept) text ∙ sym (all ∙ ap (option_and_then (unwind kept)) t.1) ∙ e;
+      utf8 = subst IsUtf8 (sym text) (unwind-IsUtf8 last old.text t.0 u t.1);
     }
 
 pub IsSome-Kept : (r now : Record) (old new : Line) → Kept r now old new → IsSome (origin r old.text) → IsSome (origin now new.text)
 IsSome-Kept r now old new kept h = let start = value_of (origin r old.text) h in subst IsSome (sym (kept.origin_is start.0 start.1)) refl
-
--- so the record can be unwound from the line's text again, after an edit and after an undo
-pub unwinds-Done : {A : Type 0} (plan : Plan A) (old new : Line) (r now : Record) (a : A) → IsUtf8 old.text → IsSome (unwind r.recorded old.text)
-    → Done record_step plan old new r now a → IsSome (unwind now.recorded new.text)
-unwinds-Done plan old new r now a u h d = IsSome-Kept r now old new (Kept-Done plan r now old new a u d) h
-
-pub unwinds-Undone : (n : ℕ) (r now : Record) (old new : Line) (a : Bool) → IsUtf8 old.text → IsSome (unwind r.recorded old.text) → Undone n r now old new a
-    → IsSome (unwind now.recorded new.text)
-unwinds-Undone n r now old new a u h d = IsSome-Kept r now old new (Kept-Undone n r now old new a u h d) h
-
-pub ruleset unwinding = (unwinds-Done, unwinds-Undone)

@@ -1,7 +1,6 @@
 -- The entries of a record lead from text to text and back.
-use Rattle.std.proofs.Common.{◌≡◌, ℕ, Bool, true, false, List, [], ◌∷◌, ◌++◌, length, take, drop, Option, Some, None, refl, sym, ap, subst, ◌∙◌, ◌+◌, ◌⊎◌, inl, inr, arith}
+use Rattle.std.proofs.Common.{◌≡◌, ℕ, Bool, true, false, List, [], ◌∷◌, ◌++◌, length, Option, Some, None, refl, sym, ap, subst, ◌∙◌, ◌+◌, ◌⊎◌, inl, inr, arith}
 use Rattle.std.proofs.lemmas.Bool.{eqb-true}
-use Rattle.std.proofs.lemmas.List.{take-append-drop}
 use Rattle.std.specs.Option.{option_map_or}
 use Rattle.std.specs.Prelude.{option_and_then, encode_utf8, IsSome, ◌==◌, ◌&&◌, cond, not}
 use Rattle.std.specs.Str.{IsUtf8}
@@ -9,7 +8,7 @@ use Rattle.rl_base.specs.declared.listeners.Direction.TheVariants.{Forward}
 use Rattle.rl_base.specs.Event.{Event, InsertChar, InsertStr, Delete, Replace, Start, Stop, apply}
 use Rattle.rl_base.proofs.SwapLemmas.{Swaps, Swaps-back, Swaps-nothing, Swaps-behind, Swaps-before, Swaps-InsertStr, Swaps-InsertChar, Swaps-Delete, Swaps-Replace, apply-InsertStr-Swaps, apply-Delete-Swaps, apply-Replace-Swaps, apply-IsUtf8}
 use Rattle.rl_base.specs.Words.{is_alphanumeric, is_word_cluster}
-use Rattle.rl_line.specs.Record.{Entry, Inserted, Deleted, Replaced, Record, entries_after, entries_of, joined, record_step, event_of, inverse, replay_entries, unwind}
+use Rattle.rl_line.specs.Record.{Entry, Begin, End, Inserted, Deleted, Replaced, Record, entries_after, entries_of, joined, record_step, event_of, inverse, replay_entries, unwind}
 
 -- what was made of a value that is there
 pub through : {A B : Type 0} (f : A → Option B) (o : Option A) (b : B) → option_and_then f o ≡ Some b → (a : A) × (o ≡ Some a) × (f a ≡ Some b)
@@ -26,11 +25,16 @@ IsSome-through f (Some a) h = refl
 
 -- an entry is taken back by its inverse
 pub inverse-undoes : (e : Entry) (x y : List ℕ) → IsUtf8 x → apply (event_of e) x ≡ Some y → apply (event_of (inverse e)) y ≡ Some x
+unfolding apply
+inverse-undoes Begin x y u h = sym h
+inverse-undoes End x y u h = sym h
 inverse-undoes (Inserted i s) x y u h = apply-Delete-Swaps y x i s Forward (Swaps-back x y i [] s (Swaps-InsertStr x y i s u h))
 inverse-undoes (Deleted i s) x y u h = apply-InsertStr-Swaps y x i s (Swaps-back x y i s [] (Swaps-Delete x y i s Forward u h))
 inverse-undoes (Replaced i s t) x y u h = apply-Replace-Swaps y x i t s (Swaps-back x y i s t (Swaps-Replace x y i s t u h))
 
-inverse-inverse : (e : Entry) → inverse (inverse e) ≡ e
+pub inverse-inverse : (e : Entry) → inverse (inverse e) ≡ e
+inverse-inverse Begin = refl
+inverse-inverse End = refl
 inverse-inverse (Inserted i s) = refl
 inverse-inverse (Deleted i s) = refl
 inverse-inverse (Replaced i s t) = refl
@@ -74,12 +78,13 @@ unwind-append (x ∷ xs) ys text =
     joined None = refl
     joined (Some t) = refl
 
--- the last entries can be unwound where all can
-pub unwind-last : (es : List Entry) (k : ℕ) (text : List ℕ) → IsSome (unwind es text) → (t : List ℕ) × (unwind (drop k es) text ≡ Some t)
-unwind-last es k text h =
-    let all : unwind es text ≡ option_and_then (unwind (take k es)) (unwind (drop k es) text) =
-    ap (λ e. unwind e text) (sym (take-append-drop k es)) ∙ unwind-append (take k es) (drop k es) text in
-    value_of (unwind (drop k es) text) (IsSome-through (unwind (take k es)) _ (subst IsSome all h))
+pub replay-append : (xs ys : List Entry) (text : List ℕ) → replay_entries (xs ++ ys) text ≡ option_and_then (replay_entries ys) (replay_entries xs text)
+replay-append [] ys text = refl
+replay-append (x ∷ xs) ys text = then-same (replay_entries (xs ++ ys)) (replay_entries xs) (replay_entries ys) (λ t. replay-append xs ys t) (apply (event_of x) text)
+  where
+    then-same : (f g h : List ℕ → Option (List ℕ)) → ((t : List ℕ) → f t ≡ option_and_then h (g t)) → (o : Option (List ℕ)) → option_and_then f o ≡ option_and_then h (option_and_then g o)
+    then-same f g h e None = refl
+    then-same f g h e (Some t) = e t
 
 -- the entries of an event undo it
 pub entries_of-undo : (event : Event) (text now : List ℕ) → IsUtf8 text → apply event text ≡ Some now → unwind (entries_of event) now ≡ Some text
@@ -106,15 +111,15 @@ entries_of-undo Start text now u h = sym h
 entries_of-undo Stop text now u h = sym h
 
 -- ---- joining
-if_some : {A : Type 0} (b : Bool) (a c : A) → cond b (Some a) None ≡ Some c → (b ≡ true) × (a ≡ c)
+pub if_some : {A : Type 0} (b : Bool) (a c : A) → cond b (Some a) None ≡ Some c → (b ≡ true) × (a ≡ c)
 if_some true a c h = (refl, cc)
 if_some false a c h = cc
 
-if_else : {A : Type 0} (b : Bool) (a c : A) (o : Option A) → cond b (Some a) o ≡ Some c → ((b ≡ true) × (a ≡ c)) ⊎ (o ≡ Some c)
+pub if_else : {A : Type 0} (b : Bool) (a c : A) (o : Option A) → cond b (Some a) o ≡ Some c → ((b ≡ true) × (a ≡ c)) ⊎ (o ≡ Some c)
 if_else true a c o h = inl (refl, cc)
 if_else false a c o h = inr h
 
-unless : {A : Type 0} (b : Bool) (c : A) (o : Option A) → cond b None o ≡ Some c → o ≡ Some c
+pub unless : {A : Type 0} (b : Bool) (c : A) (o : Option A) → cond b None o ≡ Some c → o ≡ Some c
 unless true c o h = cc
 unless false c o h = h
 

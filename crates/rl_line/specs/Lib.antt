@@ -9,4 +9,5 @@ pub mod Transpositions
 pub mod LetterCase
 pub mod Indents
 pub mod Record
+pub mod Units
 pub mod Undo

@@ -1,6 +1,7 @@
 -- The record of the changes of a line.
-use Rattle.std.specs.Prelude.{◌≡◌, Bool, true, false, ℕ, ◌+◌, not, ◌==◌, ◌&&◌, List, [], ◌∷◌, ◌++◌, length, map, encode_utf8, Option, Some, None, option_and_then, if◌then◌else◌}
+use Rattle.std.specs.Prelude.{◌≡◌, Bool, true, false, ℕ, ◌+◌, not, ◌==◌, ◌&&◌, List, [], ◌∷◌, ◌++◌, length, map, take, reverse, encode_utf8, Option, Some, None, option_and_then, if◌then◌else◌}
 use Rattle.std.specs.Option.{option_map_or}
+use Rattle.std.specs.Str.{bytes_eq}
 use Rattle.std.specs.String.{string_bytes}
 use Rattle.rl_base.specs.declared.listeners.Direction.TheVariants.{Forward}
 use Rattle.rl_base.specs.Event.{Event, InsertChar, InsertStr, Delete, Replace, Start, Stop, apply, replay}
@@ -8,20 +9,45 @@ use Rattle.rl_base.specs.Words.{is_alphanumeric, is_word_cluster}
 use Rattle.rl_line.specs.declared.change.Change.{Change}
 use Rattle.rl_line.specs.declared.change.Change.TheVariants as made
 
+-- the marks of a group's begin and end, and the changes
 pub data Entry : Type 0 where
+  Begin : Entry
+  End : Entry
   Inserted : (place : ℕ) (text : List ℕ) → Entry
   Deleted : (place : ℕ) (text : List ℕ) → Entry
   Replaced : (place : ℕ) (before after : List ℕ) → Entry
 
 -- the entry that a change of the code stands for
 abbrev pub entry_of : Change → Entry
+entry_of made.Begin = Begin
+entry_of made.End = End
 entry_of (made.Insert i s) = Inserted i (string_bytes s)
 entry_of (made.Delete i s) = Deleted i (string_bytes s)
 entry_of (made.Replace i s t) = Replaced i (string_bytes s) (string_bytes t)
 
--- the changes that were made, the oldest first
+-- the byte place of a change; a mark has none
+abbrev pub place : Entry → Option ℕ
+place Begin = None
+place End = None
+place (Inserted i s) = Some i
+place (Deleted i s) = Some i
+place (Replaced i s t) = Some i
+
+-- the text that stood at a change's place before it, and the one that stood there after it
+abbrev pub old_text : Entry → List ℕ
+old_text (Deleted i s) = s
+old_text (Replaced i s t) = s
+old_text _ = []
+
+abbrev pub new_text : Entry → List ℕ
+new_text (Inserted i s) = s
+new_text (Replaced i s t) = t
+new_text _ = []
+
+-- what was recorded, the oldest first, and what was undone and waits to be redone, in the order in which it was made
 pub record Record : Type 0 where
   pub recorded : List Entry
+  pub pending : List Entry
 
 -- the entries that an event adds: nothing for an empty text, unless it replaces one
 unfoldable pub entries_of : Event → List Entry
@@ -60,23 +86,33 @@ entries_after event [] = entries_of event
 entries_after event (e ∷ []) = joined_or_added event e
 entries_after event (e ∷ (d ∷ ds)) = e ∷ entries_after event (d ∷ ds)
 
+-- what waits to be redone after an event: all of it after the start or the stop of a kill, and else nothing
+abbrev pub pending_after : Event → List Entry → List Entry
+pending_after Start pending = pending
+pending_after Stop pending = pending
+pending_after _ pending = []
+
 -- the record after an event
 unfoldable pub record_step : Record → Event → Record
-record_step r event = record { recorded = entries_after event r.recorded }
+record_step r event = record { recorded = entries_after event r.recorded; pending = pending_after event r.pending }
 
--- what a try to join an event to the last entry does: the record is the one after the event, or stays and the event is to be added
-abbrev pub JoinsLast : Event → Record → Record → Bool → Type 0
-JoinsLast event old new true = new ≡ record_step old event
-JoinsLast event old new false = (new ≡ old) × (record_step old event ≡ record { recorded = old.recorded ++ entries_of event })
+-- what a try to join an event to the last of these entries does: it joins, or they stay and the event is to be added
+abbrev pub JoinsLast : Event → List Entry → List Entry → Bool → Type 0
+JoinsLast event old new true = new ≡ entries_after event old
+JoinsLast event old new false = (new ≡ old) × (entries_after event old ≡ old ++ entries_of event)
 
--- the event that makes an entry's change
+-- the event that makes an entry again; a mark changes nothing
 abbrev pub event_of : Entry → Event
+event_of Begin = Start
+event_of End = Stop
 event_of (Inserted i s) = InsertStr i s
 event_of (Deleted i s) = Delete i s Forward
 event_of (Replaced i s t) = Replace i s t
 
 -- the entry that takes an entry back
 abbrev pub inverse : Entry → Entry
+inverse Begin = Begin
+inverse End = End
 inverse (Inserted i s) = Deleted i s
 inverse (Deleted i s) = Inserted i s
 inverse (Replaced i s t) = Replaced i t s
@@ -89,3 +125,23 @@ replay_entries es text = replay (map event_of es) text
 abbrev pub unwind : List Entry → List ℕ → Option (List ℕ)
 unwind [] text = Some text
 unwind (e ∷ es) text = option_and_then (apply (event_of (inverse e))) (unwind es text)
+
+-- two texts that are there, and the same
+abbrev pub agree : Option (List ℕ) → Option (List ℕ) → Bool
+agree (Some a) (Some b) = bytes_eq a b
+agree _ _ = false
+
+-- all that was recorded can be taken back from the text, and the first entries alone as well, and both give the same
+abbrev pub replays_to : ℕ → Record → List ℕ → Bool
+replays_to len r text = agree (unwind r.recorded text) (unwind (take len r.recorded) text)
+
+-- of entries, the last first: what the first that is no End put in
+abbrev pub put_in_first : List Entry → Option (List ℕ)
+put_in_first (End ∷ es) = put_in_first es
+put_in_first (Inserted i s ∷ es) = Some s
+put_in_first (Replaced i s t ∷ es) = Some t
+put_in_first _ = None
+
+-- what the last entry put in, Ends passed over
+abbrev pub last_insert : List Entry → Option (List ℕ)
+last_insert es = put_in_first (reverse es)

@@ -1,35 +1,60 @@
--- How a line goes back over its record.
-use Rattle.std.specs.Prelude.{◌≡◌, ℕ, ◌+◌, ◌-◌, ◌==◌, max, Bool, not, List, [], ◌∷◌, length, take, drop, Option, Some, option_and_then}
+-- How a line goes back over its record, and ahead again.
+use Rattle.std.specs.Prelude.{◌≡◌, ℕ, zero, suc, ◌+◌, ◌-◌, max, Bool, List, [], ◌∷◌, length, Option, Some, option_and_then}
+use Rattle.rl_line.specs.declared.change.Change.{Change}
+use Rattle.rl_line.specs.declared.change.Way.{Way}
+use Rattle.rl_line.specs.declared.change.Way.TheVariants.{Back, Ahead}
 use Rattle.rl_line.specs.Line.{Line}
 use Rattle.rl_line.specs.Plan.{after}
-use Rattle.rl_line.specs.Record.{Entry, Inserted, Deleted, Replaced, Record, event_of, inverse}
+use Rattle.rl_line.specs.Record.{Entry, Begin, End, Inserted, Deleted, Replaced, Record, entry_of, event_of, inverse, old_text, new_text}
+use Rattle.rl_line.specs.Units.{last_of, redo_of, has_change, undone, redone}
 
--- the cursor after an entry was taken back: at its place, past the text that was put back
-abbrev pub cursor_back : Entry → ℕ
-cursor_back (Inserted i s) = i
-cursor_back (Deleted i s) = i + length s
-cursor_back (Replaced i s t) = i + length s
+-- the cursor after an entry was made: at its place, past what it put in; a mark leaves it
+abbrev pub cursor_after : ℕ → Entry → ℕ
+cursor_after cursor Begin = cursor
+cursor_after cursor End = cursor
+cursor_after cursor (Inserted i s) = i + length s
+cursor_after cursor (Deleted i s) = i
+cursor_after cursor (Replaced i s t) = i + length t
+
+-- the line after an entry was made
+abbrev pub line_after : Entry → Line → Option Line
+line_after e line = after ((event_of e, cursor_after line.cursor e) ∷ []) line
+
+-- the line after the entries were made, the first first
+abbrev pub line_ahead : List Entry → Line → Option Line
+line_ahead [] line = Some line
+line_ahead (e ∷ es) line = option_and_then (line_ahead es) (line_after e line)
 
 -- the line after the entries were taken back, the last first
 abbrev pub line_back : List Entry → Line → Option Line
 line_back [] line = Some line
-line_back (e ∷ es) line = option_and_then (after ((event_of (inverse e), cursor_back e) ∷ [])) (line_back es line)
+line_back (e ∷ es) line = option_and_then (line_after (inverse e)) (line_back es line)
 
--- how many entries an undo of n keeps: all but the last n, of which there is one at least
-abbrev pub kept_by : ℕ → Record → ℕ
-kept_by n r = length r.recorded - max n 1
-
--- what an undo does: the line goes back over the last entries, which leave the record. The answer: was there one?
+-- what an undo of n does: the line goes back over the last units, which wait to be redone. The answer: was there a change?
 pub record Undone (n : ℕ) (old new : Record) (line line' : Line) (answer : Bool) : Type 0 where
-  pub line_is : line_back (drop (kept_by n old) old.recorded) line ≡ Some line'
-  pub record_is : new ≡ record { recorded = take (kept_by n old) old.recorded }
-  pub answer_is : answer ≡ not (length old.recorded == 0)
+  pub line_is : line_back (last_of n old.recorded) line ≡ Some line'
+  pub record_is : new ≡ undone n old
+  pub answer_is : answer ≡ has_change (last_of n old.recorded)
+
+-- what a redo does: the line goes ahead over the next unit, which is recorded again. The answer: was there a change?
+pub record Redone (old new : Record) (line line' : Line) (answer : Bool) : Type 0 where
+  pub line_is : line_ahead (redo_of old.pending) line ≡ Some line'
+  pub record_is : new ≡ redone old
+  pub answer_is : answer ≡ has_change (redo_of old.pending)
+
+-- redos, one after another
+abbrev pub Redos : ℕ → Record → Record → Line → Line → Type 0
+Redos zero old new line line' = (new ≡ old) × (line' ≡ line)
+Redos (suc n) old new line line' = (mid : Record) × (between : Line) × (answer : Bool) × Redone old mid line between answer × Redos n mid new between line'
+
+-- the entry that is taken back where a line goes over a change: going ahead, its inverse
+abbrev pub faced : Way → Change → Entry
+faced Back change = entry_of change
+faced Ahead change = inverse (entry_of change)
 
 -- the length of a text of length n once an entry was taken back in it
 abbrev pub length_back : Entry → ℕ → ℕ
-length_back (Inserted i s) n = n - length s
-length_back (Deleted i s) n = n + length s
-length_back (Replaced i s t) n = (n - length t) + length s
+length_back e n = (n - length (new_text e)) + length (old_text e)
 
 -- the same of several entries, the last first
 abbrev pub length_back_over : List Entry → ℕ → ℕ

@@ -1,39 +1,160 @@
-//! A recorded change, and how a text goes back over it.
-ghost use Rattle.std.specs.Prelude.{◌≡◌, IfOk, IfErr, ◌+◌, ◌-◌, ◌≤◌, IsSome, IfSome, length, map};
+//! An entry of a record, and how a text goes over it.
+ghost use Rattle.std.specs.Prelude.{◌≡◌, IfOk, IfErr, ◌+◌, ◌-◌, ◌≤◌, IsSome, IfSome, is_some, length, map};
+ghost use Rattle.std.specs.Option.{option_map};
 ghost use Rattle.std.specs.String.{string_bytes, string_len, string_capacity};
 ghost use Rattle.std.specs.List.{replace_range};
 ghost use Rattle.std.specs.Str.{IsCharBoundary};
 ghost use Rattle.rl_base.specs.Event.{InsertChar, Delete, Replace, apply};
+ghost use Rattle.rl_base.specs.Text.{stands_at};
 ghost use Rattle.rl_base.specs.declared.listeners.Refusal.TheVariants.{NoMemory};
-ghost use Rattle.rl_line.specs.Record.{TakesIn, entry_of, inverse, event_of};
-ghost use Rattle.rl_line.specs.Undo.{cursor_back, length_back, greatest_back_over};
+ghost use Rattle.rl_line.specs.Record.{TakesIn, entry_of, event_of, inverse, new_text, old_text, place, unwind};
+ghost use Rattle.rl_line.specs.Undo.{cursor_after, faced, greatest_back_over, length_back};
+ghost use Rattle.rl_line.specs.Units.{is_begin, is_change};
 
 use rl_base::places::{is_alphanumeric, is_word_cluster};
 use rl_base::{Direction, Refusal};
+use std::alloc::Global;
 
-/// One change of a text: its byte place, with what was put in, taken out, or taken out and put in.
+/// An entry of a record: the begin or the end of a group, or one change of a text: its byte place, with what
+/// was put in, taken out, or taken out and put in.
 #[derive(Drop)]
 pub(crate) enum Change {
+    Begin,
+    End,
     Insert(usize, String),
     Delete(usize, String),
     Replace(usize, String, String),
 }
 
-/// Takes a change back in a text that has room for what it was. Answers where the cursor goes.
-pub(crate) fn take_back(text: &mut String, change: &Change) -> usize
-    requires fits { IsSome (apply (event_of (inverse (entry_of change.now))) (string_bytes text.old)) }
-    requires room { length_back (entry_of change.now) (string_len text.old) ≤ string_capacity text.old }
-    ensures text { apply (event_of (inverse (entry_of change.now))) (string_bytes text.old) ≡ Some (string_bytes text.new) }
-    ensures cursor { result ≡ cursor_back (entry_of change.now) }
+/// The two ways over a record: its changes are taken back, or made again.
+#[derive(Clone, Copy)]
+pub(crate) enum Way {
+    Back,
+    Ahead,
+}
+
+impl Change {
+    /// Whether it is no mark of a group.
+    pub(crate) fn is_change(&self) -> bool
+        ensures { result ≡ is_change (entry_of self.now) }
+    {
+        match self {
+            Change::Begin | Change::End => false,
+            Change::Insert(_, _) | Change::Delete(_, _) | Change::Replace(_, _, _) => true,
+        }
+    }
+
+    /// Whether it opens a group.
+    pub(crate) fn is_begin(&self) -> bool
+        ensures { result ≡ is_begin (entry_of self.now) }
+    {
+        match self {
+            Change::Begin => true,
+            Change::End | Change::Insert(_, _) | Change::Delete(_, _) | Change::Replace(_, _, _) =>
+                false,
+        }
+    }
+
+    // The byte place of a change.
+    fn place(&self) -> Option<usize>
+        ensures { result ≡ place (entry_of self.now) }
+    {
+        match self {
+            Change::Begin | Change::End => None,
+            Change::Insert(at, _) | Change::Delete(at, _) | Change::Replace(at, _, _) => Some(*at),
+        }
+    }
+
+    // The text at the place that goes on this way.
+    fn going(&self, way: Way) -> &str
+        ensures { result.now ≡ new_text (faced way self.now) }
+    {
+        match way {
+            Way::Back => self.new_text(),
+            Way::Ahead => self.old_text(),
+        }
+    }
+
+    // The text that comes in its place.
+    fn coming(&self, way: Way) -> &str
+        ensures { result.now ≡ old_text (faced way self.now) }
+    {
+        match way {
+            Way::Back => self.old_text(),
+            Way::Ahead => self.new_text(),
+        }
+    }
+
+    // The text that stood at the place before the change.
+    fn old_text(&self) -> &str
+        ensures { result.now ≡ old_text (entry_of self.now) }
+    {
+        match self {
+            Change::Delete(_, old) | Change::Replace(_, old, _) => old.as_str(),
+            Change::Begin | Change::End | Change::Insert(_, _) => "",
+        }
+    }
+
+    // The text that stood at the place after the change.
+    fn new_text(&self) -> &str
+        ensures { result.now ≡ new_text (entry_of self.now) }
+    {
+        match self {
+            Change::Insert(_, new) | Change::Replace(_, _, new) => new.as_str(),
+            Change::Begin | Change::End | Change::Delete(_, _) => "",
+        }
+    }
+
+    // Whether a text can go over the change.
+    fn fits(&self, text: &str, way: Way) -> bool
+        ensures { result ≡ is_some (apply (event_of (inverse (faced way self.now))) text.now) }
+    {
+        match self.place() {
+            Some(at) => stands_at(text, at, self.going(way)),
+            None => true,
+        }
+    }
+
+    // The length of a text of length `len` once the change was gone over in it, if a `usize` holds it.
+    fn len_over(&self, way: Way, len: usize) -> Option<usize>
+        ensures { IfSome result (λ n. n ≡ length_back (faced way self.now) len) }
+    {
+        len.saturating_sub(self.going(way).len())
+            .checked_add(self.coming(way).len())
+    }
+}
+
+/// Goes over a change in a text that has room for what it makes of it. Answers where the cursor goes, which was at `cursor`.
+pub(crate) fn go_over(text: &mut String, change: &Change, way: Way, cursor: usize) -> usize
+    requires fits { IsSome (apply (event_of (inverse (faced way change.now))) (string_bytes text.old)) }
+    requires room { length_back (faced way change.now) (string_len text.old) ≤ string_capacity text.old }
+    requires boundary { IsCharBoundary (string_bytes text.old) cursor }
+    ensures text { apply (event_of (inverse (faced way change.now))) (string_bytes text.old) ≡ Some (string_bytes text.new) }
+    ensures cursor { result ≡ cursor_after cursor (inverse (faced way change.now)) }
     ensures boundary { IsCharBoundary (string_bytes text.new) result }
     ensures capacity { string_capacity text.old ≤ string_capacity text.new }
-    ensures len { string_len text.new ≡ length_back (entry_of change.now) (string_len text.old) }
+    ensures len { string_len text.new ≡ length_back (faced way change.now) (string_len text.old) }
 {
-    match change {
-        Change::Insert(at, new) => swap_in(text, *at, *at + new.len(), ""),
-        Change::Delete(at, old) => swap_in(text, *at, *at, old.as_str()),
-        Change::Replace(at, old, new) => swap_in(text, *at, *at + new.len(), old.as_str()),
+    match change.place() {
+        Some(at) => swap_in(text, at, at + change.going(way).len(), change.coming(way)),
+        None => cursor,
     }
+}
+
+// Whether a part stands in a text at a byte place.
+fn stands_at(text: &str, at: usize, part: &str) -> bool
+    ensures { result ≡ stands_at text.now at part.now }
+{
+    let Some(end) = at.checked_add(part.len()) else {
+        return false;
+    };
+    if !text.is_char_boundary(at) {
+        return false;
+    }
+    if !text.is_char_boundary(end) {
+        return false;
+    }
+    &text[at..end] == part
 }
 
 /// Puts a part in the place of another, where there is room for the text that this makes. Answers the part's end.
@@ -58,32 +179,56 @@ pub(crate) fn swap_in(text: &mut String, from: usize, to: usize, part: &str) -> 
     }
 }
 
-impl Change {
-    // The length of a text of length `len` once the change was taken back in it, if a `usize` holds it.
-    fn len_back(&self, len: usize) -> Option<usize>
-        ensures { IfSome result (λ n. n ≡ length_back (entry_of self.now) len) }
-    {
-        match self {
-            Change::Insert(_, new) => Some(len.saturating_sub(new.len())),
-            Change::Delete(_, old) => len.checked_add(old.len()),
-            Change::Replace(_, old, new) => len.saturating_sub(new.len()).checked_add(old.len()),
-        }
-    }
-}
-
-/// The greatest length that a text of length `len` has on the way, where the changes are taken back, the last first.
-pub(crate) fn greatest_len_back(changes: &[Change], len: usize) -> Option<usize>
-    ensures { IfSome result (λ n. n ≡ greatest_back_over (map entry_of changes.now) len) }
+/// The greatest length that a text of length `len` has on the way over the changes, the last first.
+pub(crate) fn greatest_len_over(changes: &[Change], way: Way, len: usize) -> Option<usize>
+    ensures { IfSome result (λ n. n ≡ greatest_back_over (map (faced way) changes.now) len) }
 {
     let mut now = len;
     let mut greatest = len;
     let mut left = changes.len();
     while left > 0 {
         left -= 1;
-        now = changes[left].len_back(now)?;
+        now = changes[left].len_over(way, now)?;
         greatest = greatest.max(now);
     }
     Some(greatest)
+}
+
+/// The text once it went over the changes, the last first, or none where one of them does not fit.
+pub(crate) fn text_over(
+    alloc: Global,
+    text: &str,
+    changes: &[Change],
+    way: Way,
+) -> Result<Option<String>, Refusal>
+    ensures ok { IfOk result (λ over. option_map string_bytes over ≡ unwind (map (faced way) changes.now) text.now) }
+    ensures err { IfErr result (λ r. r ≡ NoMemory) }
+{
+    let mut now = copied(alloc, text)?;
+    let mut left = changes.len();
+    while left > 0 {
+        left -= 1;
+        let change = &changes[left];
+        if !change.fits(now.as_str(), way) {
+            return Ok(None);
+        }
+        if now.reserve(change.coming(way).len()).is_err() {
+            return Err(Refusal::NoMemory);
+        }
+        go_over(&mut now, change, way, 0);
+    }
+    Ok(Some(now))
+}
+
+/// A copy of a text.
+pub(crate) fn copied(alloc: Global, text: &str) -> Result<String, Refusal>
+    ensures ok { IfOk result (λ copy. string_bytes copy ≡ text.now) }
+    ensures err { IfErr result (λ r. r ≡ NoMemory) }
+{
+    match String::from_str(alloc, text) {
+        Ok(copy) => Ok(copy),
+        Err(_) => Err(Refusal::NoMemory),
+    }
 }
 
 // Joining: each of these takes an event in where it joins the change, and answers whether it did.
@@ -103,7 +248,9 @@ impl Change {
                     Err(_) => Err(Refusal::NoMemory),
                 }
             }
-            Change::Delete(_, _) | Change::Replace(_, _, _) => Ok(false),
+            Change::Begin | Change::End | Change::Delete(_, _) | Change::Replace(_, _, _) => Ok(
+                false,
+            ),
         }
     }
 
@@ -135,7 +282,9 @@ impl Change {
                 *at = idx;
                 Ok(true)
             }
-            Change::Insert(_, _) | Change::Replace(_, _, _) => Ok(false),
+            Change::Begin | Change::End | Change::Insert(_, _) | Change::Replace(_, _, _) => Ok(
+                false,
+            ),
         }
     }
 
@@ -162,7 +311,7 @@ impl Change {
                     Err(_) => unreachable!(),
                 }
             }
-            Change::Insert(_, _) | Change::Delete(_, _) => Ok(false),
+            Change::Begin | Change::End | Change::Insert(_, _) | Change::Delete(_, _) => Ok(false),
         }
     }
 }

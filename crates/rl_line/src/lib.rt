@@ -2,6 +2,7 @@
 #![tactic(auto)]
 
 mod change;
+mod entries;
 pub mod line_buffer;
 mod lines;
 #[cfg(test)]

@@ -7,8 +7,7 @@ ghost use Rattle.rl_base.specs.Event.{InsertChar, InsertStr, Delete, Replace};
 ghost use Rattle.rl_base.specs.declared.listeners.Refusal.TheVariants.{NoMemory};
 ghost use Rattle.rl_line.specs.Line.{stepped};
 ghost use Rattle.rl_line.specs.Plan.{Taken, or_no_memory};
-ghost use Rattle.rl_line.specs.Record.{entry_of};
-ghost use Rattle.rl_line.specs.Undo.{line_back};
+ghost use Rattle.rl_line.specs.Undo.{faced, line_back};
 
 mod edits;
 #[cfg(test)]
@@ -25,7 +24,7 @@ mod motions;
 mod ranges;
 mod transpositions;
 
-use crate::change::{Change, greatest_len_back, swap_in, take_back};
+use crate::change::{Change, Way, go_over, greatest_len_over, swap_in};
 pub use kills::kill_agrees_with_copy;
 #[cfg(test)]
 pub(crate) use motions::tests::line_of;
@@ -296,14 +295,14 @@ impl LineBuffer {
         Ok(())
     }
 
-    // Goes back over the changes, the last first. It finds the room for the longest text on the way before it changes anything.
-    pub(crate) fn take_back_all(&mut self, changes: &[Change]) -> Result<(), Refusal>
-        requires { IsSome (line_back (map entry_of changes.now) self.old) }
-        ensures ok { OnOk result (line_back (map entry_of changes.now) self.old ≡ Some self.new) }
+    // Goes over the changes, the last first. It finds the room for the longest text on the way before it changes anything.
+    pub(crate) fn go_over_all(&mut self, changes: &[Change], way: Way) -> Result<(), Refusal>
+        requires { IsSome (line_back (map (faced way) changes.now) self.old) }
+        ensures ok { OnOk result (line_back (map (faced way) changes.now) self.old ≡ Some self.new) }
         ensures err { IfErr result (λ r. (r ≡ NoMemory) × (self.new ≡ self.old)) }
     {
         let len = self.buf.len();
-        let greatest = match greatest_len_back(changes, len) {
+        let greatest = match greatest_len_over(changes, way, len) {
             Some(greatest) => greatest,
             None => return Err(Refusal::NoMemory),
         };
@@ -313,7 +312,7 @@ impl LineBuffer {
         let mut left = changes.len();
         while left > 0 {
             left -= 1;
-            self.pos = take_back(&mut self.buf, &changes[left]);
+            self.pos = go_over(&mut self.buf, &changes[left], way, self.pos);
             self.limit = self.limit.max(self.buf.len());
         }
         Ok(())

@@ -1,123 +1,201 @@
-//! The record of the changes of a line, which undoes them.
-ghost use Rattle.std.specs.Prelude.{◌≡◌, ℕ, List, [], ◌∷◌, ◌++◌, length, IsSome, OnOk, OnErr, IfOk, IfErr};
+//! The record of the changes of a line, which undoes them, in groups where they were made in groups, and redoes them.
+ghost use Rattle.std.specs.Prelude.{◌≡◌, ℕ, List, Bool, [], ◌∷◌, ◌++◌, suc, false, drop, is_some, length, IsSome, IfOk, IfErr};
+ghost use Rattle.std.specs.Option.{option_map};
 ghost use Rattle.std.specs.String.{string_bytes};
 ghost use Rattle.std.specs.Str.{IsUtf8};
-ghost use Rattle.rl_base.specs.Event.{InsertChar, Delete, Replace};
 ghost use Rattle.rl_base.specs.declared.listeners.Refusal.TheVariants.{NoMemory};
-ghost use Rattle.rl_line.specs.Record.{Entry, JoinsLast, entry_of, replay_entries, unwind};
-ghost use Rattle.rl_line.specs.Undo.{Undone};
+ghost use Rattle.rl_line.specs.Line.{Line};
+ghost use Rattle.rl_line.specs.Record.{Entry, End, Record, last_insert, replay_entries, replays_to, unwind};
+ghost use Rattle.rl_line.specs.Undo.{Redone, Redos, Undone};
+ghost use Rattle.rl_line.specs.Units.{BothMatched, GroupAt, InGroup, IsMatched, adds_end, after_in_group, begun, ended, has_change, last_units, level, opens, truncated};
 
-use crate::change::Change;
+#[cfg(test)]
+pub(crate) mod tests;
+
+use crate::change::{Change, Way, text_over};
+use crate::entries;
 use crate::line_buffer::LineBuffer;
 use rl_base::{ChangeListener, DeleteListener, Direction, Refusal, RepeatCount};
 use std::alloc::Global;
 use std::marker::Model;
 
-/// The changes of a line, in the order in which they were made. It is a listener of the line, and a refused
-/// call leaves it as it was.
+/// The changes of a line in the order in which they were made, with the marks of their groups, and those that
+/// were undone and may be redone. It is a listener of the line, and a refused call leaves it as it was.
+///
+/// Every call of the listener but the start and the stop of a kill, every `begin`, `end` and `truncate` drops
+/// what was undone.
 #[derive(Drop)]
 pub struct Changeset {
     recorded: Vec<Change>,
+    // The entry that is redone next stands last.
+    pending: Vec<Change>,
 }
 
 impl Model for Changeset {
-    ghost use Rattle.std.specs.Prelude.{map};
+    ghost use Rattle.std.specs.Prelude.{map, reverse};
     ghost use Rattle.rl_line.specs.Record.{Record, entry_of};
+    ghost use Rattle.rl_line.specs.Units.{BothMatched};
 
     ghost Value = { Record };
 
-    ghost view = { λ c. record { recorded = map entry_of c.recorded.items } };
+    ghost view = { λ c. record { recorded = map entry_of c.recorded.items; pending = reverse (map entry_of c.pending.items) } };
+
+    ghost invariant = { λ c. BothMatched (record { recorded = map entry_of c.recorded.items; pending = reverse (map entry_of c.pending.items) }) };
 }
 
 impl Changeset {
     /// An empty record.
     pub fn new(alloc: Global) -> Self
-        ensures { result ≡ record { recorded = [] } }
+        ensures { result ≡ record { recorded = []; pending = [] } }
     {
         Changeset {
             recorded: Vec::new(alloc),
+            pending: Vec::new(alloc),
         }
     }
 
-    /// How many changes are recorded.
+    /// How many entries are recorded: changes, and begins and ends of groups.
     pub fn len(&self) -> usize
         ensures { result ≡ length self.now.recorded }
     {
         self.recorded.len()
     }
 
-    /// Undoes the last `n` changes, or one where `n` is 0, or all where there are fewer (GNU readline: undo).
-    /// Answers whether there was one. The recorded changes must be those of the line: taken back from its
-    /// text, the last first, each must fit. It finds all room first, so refused it changes nothing.
+    /// How many groups are open. In the record every end of a group has its begin, in the same list, and every
+    /// closed group holds a change.
+    pub fn level(&self) -> usize
+        ensures level { result ≡ level self.now.recorded }
+        ensures matched { BothMatched self.now }
+    {
+        entries::level(&self.recorded)
+    }
+
+    /// Opens a group, whose changes are undone and redone at once when it is closed. Answers how many entries
+    /// stand before it, a mark that `truncate` takes.
+    pub fn begin(&mut self) -> Result<usize, Refusal>
+        ensures done { IfOk result (λ answer. (answer ≡ length self.old.recorded) × (self.new ≡ begun self.old)) }
+        ensures err { IfErr result (λ r. (r ≡ NoMemory) × (self.new ≡ self.old)) }
+    {
+        let before = self.recorded.len();
+        entries::add(&mut self.recorded, Change::Begin)?;
+        self.pending.clear();
+        Ok(before)
+    }
+
+    /// Closes every open group, the last one first: one that is empty leaves the record. Answers whether there
+    /// was one that holds something.
+    pub fn end(&mut self) -> Result<bool, Refusal>
+        ensures done { IfOk result (λ answer. (answer ≡ adds_end (level self.old.recorded) self.old.recorded) × (self.new ≡ ended self.old)) }
+        ensures err { IfErr result (λ r. (r ≡ NoMemory) × (self.new ≡ self.old)) }
+    {
+        let level = entries::level(&self.recorded);
+        if self.recorded.reserve(level).is_err() {
+            return Err(Refusal::NoMemory);
+        }
+        let added = entries::close_groups(&mut self.recorded, level);
+        self.pending.clear();
+        Ok(added)
+    }
+
+    /// Undoes the last `n` units, or one where `n` is 0, or all where there are fewer (GNU readline: undo). A
+    /// unit is a change, a closed group, or the begin of an open one. Answers whether there was a change.
+    /// The cursor goes to the place of the last change that is undone, past what that puts back.
+    /// `can_undo` tells whether the recorded changes are those of the line. It finds all room first, so
+    /// refused it changes nothing.
     pub fn undo(&mut self, line: &mut LineBuffer, n: RepeatCount) -> Result<bool, Refusal>
         requires { IsSome (unwind self.old.recorded line.old.text) }
         ensures done { IfOk result (λ answer. Undone n self.old self.new line.old line.new answer) }
         ensures err { IfErr result (λ r. (r ≡ NoMemory) × (self.new ≡ self.old) × (line.new ≡ line.old)) }
     {
-        let count = self.recorded.len();
-        let keep = count.saturating_sub(usize::from(n.max(1)));
-        line.take_back_all(&self.recorded[keep..])?;
-        self.recorded.truncate(keep);
-        Ok(count > 0)
+        let count = entries::last_len(&self.recorded, n);
+        let changed = entries::carry_over(
+            &mut self.recorded,
+            &mut self.pending,
+            count,
+            line,
+            Way::Back,
+        )?;
+        Ok(changed)
     }
 
-    // A copy of the text.
-    fn copied(&self, text: &str) -> Result<String, Refusal>
-        ensures ok { IfOk result (λ s. string_bytes s ≡ text.now) }
+    /// Redoes what was undone: the next change, or the next group, or all that is left where its group was
+    /// never closed. Answers whether there was a change. The cursor goes to the place of the last change that
+    /// is redone, past what that puts in. `can_redo` tells whether the undone changes fit the line. It
+    /// finds all room first, so refused it changes nothing.
+    pub fn redo(&mut self, line: &mut LineBuffer) -> Result<bool, Refusal>
+        requires { IsSome (replay_entries self.old.pending line.old.text) }
+        ensures done { IfOk result (λ answer. Redone self.old self.new line.old line.new answer) }
+        ensures err { IfErr result (λ r. (r ≡ NoMemory) × (self.new ≡ self.old) × (line.new ≡ line.old)) }
+    {
+        let count = entries::next_len(&self.pending);
+        let changed = entries::carry_over(
+            &mut self.pending,
+            &mut self.recorded,
+            count,
+            line,
+            Way::Ahead,
+        )?;
+        Ok(changed)
+    }
+
+    /// Keeps the first `len` entries, all where there are fewer, and drops the others and what was undone. A
+    /// group that loses its end is open again.
+    pub fn truncate(&mut self, len: usize)
+        ensures { self.new ≡ truncated len self.old }
+    {
+        self.recorded.truncate(len);
+        self.pending.clear();
+    }
+
+    /// A copy of what the last change put in, where it is an insertion or a replacement; ends of groups behind
+    /// it are passed over.
+    pub fn last_insert(&self) -> Result<Option<String>, Refusal>
+        ensures ok { IfOk result (λ text. option_map string_bytes text ≡ last_insert self.now.recorded) }
         ensures err { IfErr result (λ r. r ≡ NoMemory) }
     {
-        match String::from_str(*self.recorded.allocator(), text) {
-            Ok(text) => Ok(text),
-            Err(_) => Err(Refusal::NoMemory),
-        }
+        entries::last_insert(&self.recorded, *self.recorded.allocator())
     }
 
-    // Joins a character that was inserted to the last change, if it does.
-    fn join_char(&mut self, idx: usize, c: char) -> Result<bool, Refusal>
-        ensures ok { IfOk result (λ answer. JoinsLast (InsertChar idx c) self.old self.new answer) }
-        ensures err { IfErr result (λ r. (r ≡ NoMemory) × (self.new ≡ self.old)) }
+    /// Whether all recorded changes can be taken back from the line's text, the last first.
+    pub fn can_undo(&self, line: &LineBuffer) -> Result<bool, Refusal>
+        ensures ok { IfOk result (λ answer. answer ≡ is_some (unwind self.now.recorded line.now.text)) }
+        ensures err { IfErr result (λ r. r ≡ NoMemory) }
     {
-        if let Some(last) = self.recorded.last_mut() {
-            return last.join_char(idx, c);
-        }
-        Ok(false)
+        let alloc = *self.recorded.allocator();
+        let text = text_over(alloc, line.as_str(), &self.recorded, Way::Back)?;
+        Ok(text.is_some())
     }
 
-    // Joins a deletion to the last change, if it does.
-    fn join_deletion(&mut self, idx: usize, string: &str, dir: Direction) -> Result<bool, Refusal>
-        ensures ok { IfOk result (λ answer. JoinsLast (Delete idx string.now dir) self.old self.new answer) }
-        ensures err { IfErr result (λ r. (r ≡ NoMemory) × (self.new ≡ self.old)) }
+    /// Whether all undone changes can be made again on the line's text, the last undone first.
+    pub fn can_redo(&self, line: &LineBuffer) -> Result<bool, Refusal>
+        ensures ok { IfOk result (λ answer. answer ≡ is_some (replay_entries self.now.pending line.now.text)) }
+        ensures err { IfErr result (λ r. r ≡ NoMemory) }
     {
-        if let Some(last) = self.recorded.last_mut() {
-            return last.join_deletion(idx, string, dir);
-        }
-        Ok(false)
+        let alloc = *self.recorded.allocator();
+        let text = text_over(alloc, line.as_str(), &self.pending, Way::Ahead)?;
+        Ok(text.is_some())
     }
 
-    // Joins a replacement to the last change, if it does.
-    fn join_replacement(&mut self, idx: usize, old: &str, new: &str) -> Result<bool, Refusal>
-        ensures ok { IfOk result (λ answer. JoinsLast (Replace idx old.now new.now) self.old self.new answer) }
-        ensures err { IfErr result (λ r. (r ≡ NoMemory) × (self.new ≡ self.old)) }
+    /// Whether the first `len` entries lead to the line's text by themselves, so that `truncate` may drop the
+    /// others: both they and all entries can be taken back from it, to the same text.
+    pub fn replays_to(&self, len: usize, line: &LineBuffer) -> Result<bool, Refusal>
+        ensures ok { IfOk result (λ answer. answer ≡ replays_to len self.now line.now.text) }
+        ensures err { IfErr result (λ r. r ≡ NoMemory) }
     {
-        if let Some(last) = self.recorded.last_mut() {
-            return last.join_replacement(idx, old, new);
+        let alloc = *self.recorded.allocator();
+        let text = line.as_str();
+        let Some(all) = text_over(alloc, text, &self.recorded, Way::Back)? else {
+            return Ok(false);
+        };
+        let first = entries::first(&self.recorded, len);
+        match text_over(alloc, text, first, Way::Back)? {
+            Some(some) => Ok(all.as_str() == some.as_str()),
+            None => Ok(false),
         }
-        Ok(false)
-    }
-
-    // Adds a change.
-    fn add(&mut self, change: Change) -> Result<(), Refusal>
-        ensures ok { OnOk result (self.new ≡ record { recorded = self.old.recorded ++ entry_of change ∷ [] }) }
-        ensures err { IfErr result (λ r. (r ≡ NoMemory) × (self.new ≡ self.old)) }
-    {
-        if self.recorded.push(change).is_err() {
-            return Err(Refusal::NoMemory);
-        }
-        Ok(())
     }
 }
 
-#[tactic(auto, using(crate::proofs::JoinLemmas::alone), unfolding(crate::specs::Record::entries_of))]
+#[tactic(auto, using(crate::proofs::JoinLemmas::alone))]
 impl DeleteListener for Changeset {
     ghost use Rattle.std.specs.Prelude.{◌≡◌};
     ghost use Rattle.rl_base.specs.declared.listeners.Refusal.TheVariants.{NoMemory};
@@ -130,42 +208,31 @@ impl DeleteListener for Changeset {
     fn start_killing(&mut self) {}
 
     fn delete(&mut self, idx: usize, string: &str, dir: Direction) -> Result<(), Refusal> {
-        if string.is_empty() || self.join_deletion(idx, string, dir)? {
-            return Ok(());
-        }
-        let text = self.copied(string)?;
-        self.add(Change::Delete(idx, text))
+        entries::delete(&mut self.recorded, idx, string, dir)?;
+        self.pending.clear();
+        Ok(())
     }
 
     fn stop_killing(&mut self) {}
 }
 
-#[tactic(auto, using(crate::proofs::JoinLemmas::alone), unfolding(crate::specs::Record::entries_of))]
 impl ChangeListener for Changeset {
     fn insert_char(&mut self, idx: usize, c: char) -> Result<(), Refusal> {
-        if self.join_char(idx, c)? {
-            return Ok(());
-        }
-        let mut bytes = [0; 4];
-        let text = self.copied(c.encode_utf8(&mut bytes))?;
-        self.add(Change::Insert(idx, text))
+        entries::insert_char(&mut self.recorded, idx, c)?;
+        self.pending.clear();
+        Ok(())
     }
 
     fn insert_str(&mut self, idx: usize, string: &str) -> Result<(), Refusal> {
-        if string.is_empty() {
-            return Ok(());
-        }
-        let text = self.copied(string)?;
-        self.add(Change::Insert(idx, text))
+        entries::insert_str(&mut self.recorded, idx, string)?;
+        self.pending.clear();
+        Ok(())
     }
 
     fn replace(&mut self, idx: usize, old: &str, new: &str) -> Result<(), Refusal> {
-        if self.join_replacement(idx, old, new)? {
-            return Ok(());
-        }
-        let before = self.copied(old)?;
-        let after = self.copied(new)?;
-        self.add(Change::Replace(idx, before, after))
+        entries::replace(&mut self.recorded, idx, old, new)?;
+        self.pending.clear();
+        Ok(())
     }
 }
 
@@ -173,4 +240,29 @@ impl ChangeListener for Changeset {
 pub fn unwinding_is_replaying()
     ensures unwound { (es : List Entry) (before after : List ℕ) → IsUtf8 before → replay_entries es before ≡ Some after → unwind es after ≡ Some before }
     ensures replayed { (es : List Entry) (before after : List ℕ) → IsUtf8 after → unwind es after ≡ Some before → replay_entries es before ≡ Some after }
+{}
+
+/// Where an End stands in matched entries, its group stands before it, and holds a change.
+pub fn ends_close_groups()
+    ensures { (xs ys : List Entry) → IsMatched (xs ++ End ∷ ys) → GroupAt xs }
+{}
+
+/// A group that was opened where none is open, and in which no change was recorded, leaves what was recorded
+/// before its begin, and its end adds nothing.
+pub fn empty_group_leaves_the_record()
+    ensures recorded { (r : Record) (steps : List InGroup) → level r.recorded ≡ 0
+        → has_change (drop (suc (length r.recorded)) (after_in_group steps (begun r)).recorded) ≡ false
+        → (ended (after_in_group steps (begun r))).recorded ≡ r.recorded }
+    ensures answer { (r : Record) (steps : List InGroup) → level r.recorded ≡ 0
+        → has_change (drop (suc (length r.recorded)) (after_in_group steps (begun r)).recorded) ≡ false
+        → adds_end (level (after_in_group steps (begun r)).recorded) (after_in_group steps (begun r)).recorded ≡ false }
+{}
+
+/// As many redos as an undo took units give back the text, what was recorded and what was undone before, unless
+/// the undo took the begin of an open group.
+pub fn redo_gives_back()
+    ensures { (n : ℕ) (r mid now : Record) (line back ahead : Line) (answer : Bool) → IsUtf8 line.text → BothMatched r
+        → opens (last_units n r.recorded) ≡ 0 → Undone n r mid line back answer
+        → Redos (length (last_units n r.recorded)) mid now back ahead
+        → (now ≡ r) × (ahead.text ≡ line.text) }
 {}

@@ -1,12 +1,12 @@
 -- Runs of a session, and the texts that its line held on the way.
-use Rattle.std.specs.Prelude.{◌≡◌, ℕ, List, [], ◌∷◌, ◌++◌, map, drop, reverse, Some, None}
+use Rattle.std.specs.Prelude.{◌≡◌, ℕ, List, [], ◌∷◌, ◌++◌, map, reverse, Some, None}
 use Rattle.rl_base.specs.Event.{Event, apply}
 use Rattle.rl_base.specs.declared.motion.Movement.TheVariants.{BackwardChar}
 use Rattle.rl_line.specs.Plan.{Step as PlanStep}
 use Rattle.rl_line.specs.Edits.{insert_plan}
 use Rattle.rl_line.specs.Kills.{delete_plan, kill_plan}
 use Rattle.rl_line.specs.Record.{Entry, event_of, inverse}
-use Rattle.rl_line.specs.Undo.{kept_by}
+use Rattle.rl_line.specs.Units.{last_of}
 use Rattle.rl_session.specs.declared.session.Command.{Command}
 use Rattle.rl_session.specs.declared.session.Command.TheVariants.{Insert, Delete, Backspace, Undo}
 use Rattle.rl_session.specs.declared.session.Fault.TheVariants.{NoMemory}
@@ -36,7 +36,7 @@ held_in old (Delete n) (says.Text t) new s = texts_of_steps (delete_plan old.lin
 held_in old (Delete n) (says.Refused NoMemory) new s = texts_of_steps s.halted.first old.line.text
 held_in old (Backspace n) (says.Answer a) new s = texts_of_steps (kill_plan old.line (BackwardChar n)).steps old.line.text
 held_in old (Backspace n) (says.Refused NoMemory) new s = texts_of_steps s.halted.first old.line.text
-held_in old (Undo n) (says.Answer a) new s = texts_back (drop (kept_by n old.changes) old.changes.recorded) old.line.text
+held_in old (Undo n) (says.Answer a) new s = texts_back (last_of n old.changes.recorded) old.line.text
 held_in _ _ _ _ _ = []
 
 -- a command of a run with its reply, and the states around it

@@ -17,7 +17,7 @@ pub record State : Type 0 where
 abbrev pub fresh : List ℕ → ℕ → ℕ → ℕ → GraphemeClusterMode → State
 fresh text pos limit ring_size mode = record {
   line = record { text = text; cursor = pos; limit = max limit (length text); grow = false };
-  changes = record { recorded = [] };
+  changes = record { recorded = []; pending = [] };
   ring_size = ring_size;
   mode = mode;
 }

@@ -74,155 +74,177 @@ fn make(
     Ok(())
 }
 
-// With so many changes allowed, the edit leaves the line so; it is refused unless it needs no more.
+// With 0, 1, 2 .. changes allowed, the edit leaves the line so each time; only the last time it is not refused.
 fn halts(
     rt: &impl Abort,
     alloc: Global,
     text: &str,
     pos: usize,
     edit: &Edit,
-    allowed: usize,
-    after: &str,
-    cursor: usize,
-    refused: bool,
+    states: &[(&str, usize)],
 ) -> Result<(), Fail> {
-    let mut line = line_of(rt, alloc, text, pos)?;
-    let mut heard = Heard::new(allowed);
-    let answer = make(rt, &mut line, edit, &mut heard);
-    assert_eq!(rt;
-        answer,
-        if refused {
-            Err(Refusal::Listener)
-        } else {
-            Ok(())
-        },
-        "{text} at {pos}, {allowed} allowed"
-    );
-    assert_eq!(rt;
-        (heard.left, heard.starts),
-        (0, heard.stops),
-        "{text} at {pos}, {allowed} allowed"
-    );
-    assert_eq!(rt; line.as_str(), after, "{text} at {pos}, {allowed} allowed");
-    assert_eq!(rt; line.pos(), cursor, "{text} at {pos}, {allowed} allowed");
+    let last = states.len().saturating_sub(1);
+    for (allowed, (after, cursor)) in states.iter().enumerate() {
+        let mut line = line_of(rt, alloc, text, pos)?;
+        let mut heard = Heard::new(allowed);
+        let answer = make(rt, &mut line, edit, &mut heard);
+        let refused = answer == Err(Refusal::Listener);
+        assert!(rt;
+            refused || answer.is_ok(),
+            "{text} at {pos}, {allowed} allowed"
+        );
+        assert_eq!(rt;
+            refused,
+            allowed < last,
+            "{text} at {pos}, {allowed} allowed"
+        );
+        assert!(rt;
+            heard.left == 0 && heard.starts == heard.stops,
+            "{text} at {pos}, {allowed} allowed"
+        );
+        assert_eq!(rt; line.as_str(), *after, "{allowed} allowed");
+        assert_eq!(rt; line.pos(), *cursor, "{text} at {pos}, {allowed} allowed");
+    }
     Ok(())
 }
 
 #[test]
-fn refused_edits_stand_after_their_steps(rt: HostRuntime) -> Result<(), Fail> {
-    let upper = WordAction::Uppercase;
-    for (text, pos, edit, allowed, after, cursor, refused) in [
-        ("ab", 1, Edit::Insert('c', 1), 0, "ab", 1, true),
-        ("ab", 1, Edit::Insert('c', 2), 0, "ab", 1, true),
-        ("ab", 1, Edit::Insert('c', 2), 1, "accb", 3, false),
-        ("ab", 1, Edit::Yank("c"), 0, "ab", 1, true),
-        ("abc", 2, Edit::YankPop("xyz"), 0, "abc", 2, true),
-        ("abc", 2, Edit::YankPop("xyz"), 1, "c", 0, true),
-        ("abc", 2, Edit::YankPop("xyz"), 2, "xyzc", 3, false),
-        ("ab", 1, Edit::Update("cde"), 0, "ab", 1, true),
-        ("ab", 1, Edit::Update("cde"), 1, "", 0, true),
-        ("ab", 1, Edit::Update("cde"), 2, "cde", 0, false),
-        ("ab", 1, Edit::Replace("cde"), 0, "ab", 1, true),
-        ("ab", 1, Edit::Replace("cde"), 1, "cde", 3, false),
-        ("ab", 1, Edit::Delete(1), 0, "ab", 1, true),
-        (
-            "ab cd",
-            3,
-            Edit::Kill(Movement::WholeLine),
-            0,
-            "ab cd",
-            3,
-            true,
-        ),
-        (
-            "ab cd",
-            3,
-            Edit::Kill(Movement::WholeBuffer),
-            0,
-            "ab cd",
-            3,
-            true,
-        ),
-        (
-            "ab cd",
-            5,
-            Edit::Kill(Movement::BackwardWord(1, Word::Vi)),
-            1,
-            "ab ",
-            3,
-            false,
-        ),
-        ("abc", 1, Edit::TransposeChars, 0, "abc", 1, true),
-        ("abc", 1, Edit::TransposeChars, 1, "ac", 1, true),
-        ("abc", 1, Edit::TransposeChars, 2, "bac", 2, false),
-        ("ab", 2, Edit::TransposeChars, 0, "ab", 2, true),
-        ("ab", 2, Edit::TransposeChars, 1, "a", 1, true),
-        ("ab cd", 5, Edit::TransposeWords, 0, "ab cd", 5, true),
-        ("ab cd", 5, Edit::TransposeWords, 1, "ab ", 2, true),
-        ("ab cd", 5, Edit::TransposeWords, 2, "ab ab", 2, true),
-        ("ab cd", 5, Edit::TransposeWords, 3, " ab", 0, true),
-        ("ab cd", 5, Edit::TransposeWords, 4, "cd ab", 5, false),
-        (", ab", 0, Edit::EditWord(upper), 0, ", ab", 0, true),
-        (", ab", 0, Edit::EditWord(upper), 1, ", ", 0, true),
-        (", ab", 0, Edit::EditWord(upper), 2, ", AB", 4, false),
-        ("ab", 1, Edit::InsertStr, 0, "ab", 1, true),
-        ("ab", 1, Edit::InsertStr, 1, "acdb", 1, false),
-        ("ab", 1, Edit::DeleteRange, 0, "ab", 1, true),
-        ("ab", 1, Edit::DeleteRange, 1, "", 0, false),
-        ("a\nb", 3, Edit::Indent(40), 0, "a\nb", 3, true),
-        (
-            "a\nb",
-            3,
-            Edit::Indent(40),
-            1,
-            "                                a\nb",
-            35,
-            true,
-        ),
-        (
-            "a\nb",
-            3,
-            Edit::Indent(40),
-            2,
-            "                                        a\nb",
-            43,
-            true,
-        ),
-        (
-            "a\nb",
-            3,
-            Edit::Indent(40),
-            3,
-            "                                        a\n                                b",
-            75,
-            true,
-        ),
-        (
-            "a\nb",
-            3,
-            Edit::Indent(40),
-            4,
-            "                                        a\n                                        b",
-            83,
-            false,
-        ),
-        ("a\nb", 0, Edit::Indent(1), 1, " a\nb", 1, true),
-        ("a\nb", 0, Edit::Indent(1), 2, " a\n b", 1, false),
-        ("  a\n\tb", 5, Edit::Dedent(4), 0, "  a\n\tb", 5, true),
-        ("  a\n\tb", 5, Edit::Dedent(4), 1, "a\n\tb", 3, true),
-        ("  a\n\tb", 5, Edit::Dedent(4), 2, "a\nb", 2, false),
-    ] {
-        halts(
-            &rt,
-            rt.alloc(),
-            text,
-            pos,
-            &edit,
-            allowed,
-            after,
-            cursor,
-            refused,
-        )?;
-    }
-    Ok(())
+fn refused_insertions_leave_the_line(rt: HostRuntime) -> Result<(), Fail> {
+    let edit = Edit::Insert('c', 1);
+    halts(&rt, rt.alloc(), "ab", 1, &edit, &[("ab", 1), ("acb", 2)])?;
+    let edit = Edit::Insert('c', 2);
+    halts(&rt, rt.alloc(), "ab", 1, &edit, &[("ab", 1), ("accb", 3)])?;
+    let edit = Edit::Yank("c");
+    halts(&rt, rt.alloc(), "ab", 1, &edit, &[("ab", 1), ("acb", 2)])?;
+    let edit = Edit::InsertStr;
+    halts(&rt, rt.alloc(), "ab", 1, &edit, &[("ab", 1), ("acdb", 1)])?;
+    let edit = Edit::Replace("cde");
+    halts(&rt, rt.alloc(), "ab", 1, &edit, &[("ab", 1), ("cde", 3)])
+}
+
+#[test]
+fn refused_deletions_leave_the_line(rt: HostRuntime) -> Result<(), Fail> {
+    let edit = Edit::Delete(1);
+    halts(&rt, rt.alloc(), "ab", 1, &edit, &[("ab", 1), ("a", 1)])?;
+    let edit = Edit::DeleteRange;
+    halts(&rt, rt.alloc(), "ab", 1, &edit, &[("ab", 1), ("", 0)])?;
+    let edit = Edit::Kill(Movement::WholeLine);
+    halts(&rt, rt.alloc(), "ab cd", 3, &edit, &[("ab cd", 3), ("", 0)])?;
+    let edit = Edit::Kill(Movement::WholeBuffer);
+    halts(&rt, rt.alloc(), "ab cd", 3, &edit, &[("ab cd", 3), ("", 0)])?;
+    let edit = Edit::Kill(Movement::BackwardWord(1, Word::Vi));
+    halts(
+        &rt,
+        rt.alloc(),
+        "ab cd",
+        5,
+        &edit,
+        &[("ab cd", 5), ("ab ", 3)],
+    )
+}
+
+#[test]
+fn refused_exchanges_stand_after_their_steps(rt: HostRuntime) -> Result<(), Fail> {
+    let edit = Edit::YankPop("xyz");
+    halts(
+        &rt,
+        rt.alloc(),
+        "abc",
+        2,
+        &edit,
+        &[("abc", 2), ("c", 0), ("xyzc", 3)],
+    )?;
+    let edit = Edit::Update("cde");
+    halts(
+        &rt,
+        rt.alloc(),
+        "ab",
+        1,
+        &edit,
+        &[("ab", 1), ("", 0), ("cde", 0)],
+    )?;
+    let edit = Edit::TransposeChars;
+    halts(
+        &rt,
+        rt.alloc(),
+        "abc",
+        1,
+        &edit,
+        &[("abc", 1), ("ac", 1), ("bac", 2)],
+    )?;
+    halts(
+        &rt,
+        rt.alloc(),
+        "ab",
+        2,
+        &edit,
+        &[("ab", 2), ("a", 1), ("ba", 2)],
+    )?;
+    let edit = Edit::EditWord(WordAction::Uppercase);
+    halts(
+        &rt,
+        rt.alloc(),
+        ", ab",
+        0,
+        &edit,
+        &[(", ab", 0), (", ", 0), (", AB", 4)],
+    )?;
+    let edit = Edit::TransposeWords;
+    halts(
+        &rt,
+        rt.alloc(),
+        "ab cd",
+        5,
+        &edit,
+        &[
+            ("ab cd", 5),
+            ("ab ", 2),
+            ("ab ab", 2),
+            (" ab", 0),
+            ("cd ab", 5),
+        ],
+    )
+}
+
+#[test]
+fn refused_indents_stand_after_their_steps(rt: HostRuntime) -> Result<(), Fail> {
+    let edit = Edit::Indent(1);
+    halts(
+        &rt,
+        rt.alloc(),
+        "a\nb",
+        0,
+        &edit,
+        &[("a\nb", 0), (" a\nb", 1), (" a\n b", 1)],
+    )?;
+    let edit = Edit::Dedent(4);
+    halts(
+        &rt,
+        rt.alloc(),
+        "  a\n\tb",
+        5,
+        &edit,
+        &[("  a\n\tb", 5), ("a\n\tb", 3), ("a\nb", 2)],
+    )?;
+    let edit = Edit::Indent(40);
+    halts(
+        &rt,
+        rt.alloc(),
+        "a\nb",
+        3,
+        &edit,
+        &[
+            ("a\nb", 3),
+            ("                                a\nb", 35),
+            ("                                        a\nb", 43),
+            (
+                "                                        a\n                                b",
+                75,
+            ),
+            (
+                "                                        a\n                                        b",
+                83,
+            ),
+        ],
+    )
 }

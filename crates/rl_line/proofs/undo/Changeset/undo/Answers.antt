@@ -1,39 +1,40 @@
-use Rattle.std.proofs.Common.{arith, ◌≡◌, ◌-◌, length, map, take, drop, refl, sym, ap, subst, ◌∙◌}
-use Rattle.std.proofs.lemmas.Bool.Decides.{nat_tests}
-use Rattle.std.proofs.lemmas.List.{take_all, length-drop, length-map, drop-map, take-map}
+use Rattle.std.proofs.Common.{◌≡◌, ap, length, map, reverse, subst, sym, ◌∙◌}
 use Rattle.std.specs.Prelude.{IsSome}
-use Rattle.rl_line.specs.Record.{Record, entry_of}
-use Rattle.rl_line.specs.Undo.{line_back, kept_by}
-use Rattle.rl_line.proofs.UndoLemmas.{line_back-last}
+use Rattle.rl_line.specs.Record.{Record, entry_of, unwind}
+use Rattle.rl_line.specs.Undo.{line_back}
+use Rattle.rl_line.specs.Units.{BothMatched, has_change, last_of, undone}
+use Rattle.rl_line.proofs.MatchLemmas.{BothMatched-undone}
+use Rattle.rl_line.proofs.MoveLemmas.{undo-count, undo-fits, undo-part, undone-view}
 use Rattle.rl_line.proofs.undo.Changeset.undo.Goals as goal
-use Rattle.rl_line.proofs.undo.Changeset.undo.Goals.{After-deref}
+use Rattle.rl_line.proofs.undo.Changeset.undo.Goals.{After-last_len-count, In_ok-changed}
 
--- the changes that are handed on are the last ones
-part : (c : After-deref) → map entry_of (take (length c.deref.result.now - c.saturating_sub-keep.result) (drop c.saturating_sub-keep.result c.deref.result.now))
-    ≡ drop c.saturating_sub-keep.result c.args.self.now.recorded
-part c =
-    let k = c.saturating_sub-keep.result in
-    let xs = c.deref.result.now in
-    ap (map entry_of) (take_all (length xs - k) (drop k xs) (omega (arith, length-drop k xs)))
-    ∙ sym (drop-map entry_of k xs) ∙ ap (λ ys. drop k (map entry_of ys)) c.deref.ensures.value ∙ ap (λ (r : Record). drop k r.recorded) c.self.view_is
+count : (c : After-last_len-count) → c.last_len-count.result ≡ length (last_of c.args.n (map entry_of c.self.inside.recorded.items))
+count c = c.last_len-count.ensures ∙ ap (λ xs. length (last_of c.args.n (map entry_of xs))) c.deref.ensures.value
 
-pub take_back_all-requires : goal.take_back_all-requires
-take_back_all-requires c =
-    let d = (goal.at.take_back_all-requires c).After-deref in
-    subst (λ es. IsSome (line_back es c.args.line.now)) (sym (part d)) (line_back-last c.args.self.now.recorded c.saturating_sub-keep.result c.args.line.now c.requires)
+pub carry_over-requires-clause-count : goal.carry_over-requires-clause-count
+carry_over-requires-clause-count c = undo-count c.args.n _ c.self.inside.recorded.items (count (goal.at.carry_over-requires-clause-count c).After-last_len-count)
 
-count : (c : After-deref) → c.len-count.result ≡ length c.args.self.now.recorded
-count c =
-    c.len-count.ensures ∙ c.self.inside.recorded.ok.0 ∙ sym (length-map c.self.inside.recorded.items entry_of) ∙ ap (λ (r : Record). length r.recorded) c.self.view_is
+pub carry_over-requires-clause-fits : goal.carry_over-requires-clause-fits
+carry_over-requires-clause-fits c =
+    undo-fits c.args.n _ c.self.inside.recorded.items c.args.line.now (count (goal.at.carry_over-requires-clause-fits c).After-last_len-count)
+    (subst (λ (r : Record). IsSome (unwind r.recorded c.args.line.now.text)) (sym c.self.view_is) c.requires)
 
-keep : (c : After-deref) → c.saturating_sub-keep.result ≡ kept_by c.args.n c.args.self.now
-keep c = rw (c.saturating_sub-keep.ensures, c.from.ensures, c.max.ensures, count c) refl
+moved : (c : In_ok-changed) → record { recorded = map entry_of c.carry_over.new.from.items; pending = reverse (map entry_of c.carry_over.new.to.items) } ≡ undone c.args.n c.args.self.now
+moved c =
+    undone-view c.args.n _ c.args.self.now c.self.inside.recorded.items c.self.inside.pending.items _ _ c.self.view_is (count (goal.at.In_ok-changed c).After-last_len-count)
+    c.in_ok-changed.ensures.from c.in_ok-changed.ensures.to
+
+pub invariant_of-self-2 : goal.invariant_of-self-2
+invariant_of-self-2 c =
+    subst BothMatched (sym (moved (goal.at.invariant_of-self-2 c).In_ok-changed))
+    (BothMatched-undone c.args.n c.args.self.now (subst BothMatched c.self.view_is c.self.invariant))
 
 pub returns-clause-done : goal.returns-clause-done
 returns-clause-done c =
-    let d = (goal.at.returns-clause-done c).After-deref in
+    let n = c.args.n in
+    let part = undo-part n _ c.self.inside.recorded.items (count (goal.at.returns-clause-done c).After-last_len-count) in
     record {
-      line_is = rw (← keep d, ← part d) c.in_ok-take_back_all.ensures.ok;
-      record_is = rw (← keep d, ← c.self.view_is, take-map, c.truncate.ensures.items) refl;
-      answer_is = rw (count d) (grind (arith, nat_tests));
+      line_is = ap (λ (r : Record). line_back (last_of n r.recorded) c.args.line.now) (sym c.self.view_is) ∙ ap (λ l. line_back l c.args.line.now) (sym part) ∙ c.in_ok-changed.ensures.line;
+      record_is = moved (goal.at.returns-clause-done c).In_ok-changed;
+      answer_is = c.in_ok-changed.ensures.answer ∙ ap has_change part ∙ ap (λ (r : Record). has_change (last_of n r.recorded)) c.self.view_is;
     }

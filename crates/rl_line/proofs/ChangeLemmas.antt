@@ -1,0 +1,156 @@
+-- What stands in a text where it can go over an entry.
+use Rattle.std.proofs.Common.{◌≡◌, ℕ, ◌+◌, ◌-◌, ◌<◌, ◌≤◌, Bool, true, false, List, [], ◌∷◌, ◌++◌, length, take, drop, get_or, map, slice_range, Option, Some, None, refl, sym, ap, subst, ◌∙◌, arith, append-nil}
+use Rattle.std.proofs.lemmas.Grind.{take_at_read}
+use Rattle.std.proofs.lemmas.List.{map-append}
+use Rattle.std.proofs.lemmas.Str.{IsUtf8-nil, IsUtf8-string_bytes, is_utf8-from_IsUtf8}
+use Rattle.std.specs.Prelude.{◌&&◌, IsSome, cond, is_some, option_and_then}
+use Rattle.std.specs.List.{replace_range}
+use Rattle.std.specs.Str.{IsCharBoundary, IsUtf8, bytes_eq, is_utf8}
+use Rattle.rl_base.specs.declared.listeners.Direction.TheVariants.{Forward}
+use Rattle.rl_base.specs.Event.{apply}
+use Rattle.rl_base.specs.Text.{fits_at, is_boundary, stands_at}
+use Rattle.rl_base.proofs.TextLemmas.{is_boundary-true, stands_at-means}
+use Rattle.rl_base.proofs.EventLemmas.{Deletes-from_IsSome, Inserts-from_IsSome, Replaces-from_IsSome}
+use Rattle.rl_line.specs.declared.change.Change.{Change}
+use Rattle.rl_line.specs.declared.change.Change.TheVariants as made
+use Rattle.rl_line.specs.declared.change.Way.{Way}
+use Rattle.rl_line.specs.declared.change.Way.TheVariants.{Back, Ahead}
+use Rattle.rl_line.specs.Record.{Entry, Begin, End, Inserted, Deleted, Replaced, entry_of, event_of, inverse, new_text, old_text, place, unwind}
+use Rattle.rl_line.specs.Undo.{faced}
+use Rattle.rl_line.proofs.RecordLemmas.{unwind-append}
+
+-- an entry's new text stands at its place, and the old one may take its place
+pub record StandsNew (e : Entry) (text : List ℕ) (at : ℕ) : Type 0 where
+  pub start : IsCharBoundary text at
+  pub end : IsCharBoundary text (at + length (new_text e))
+  pub makes : apply (event_of (inverse e)) text ≡ Some (replace_range text at (at + length (new_text e)) (old_text e))
+
+pub StandsNew-from_IsSome : (e : Entry) (text : List ℕ) (at : ℕ) → place e ≡ Some at → IsSome (apply (event_of (inverse e)) text) → StandsNew e text at
+StandsNew-from_IsSome Begin text at p h = cc
+StandsNew-from_IsSome End text at p h = cc
+StandsNew-from_IsSome (Inserted i s) text at p h =
+    let same : i ≡ at = cc in
+    let d = Deletes-from_IsSome text i s Forward h in
+    subst (λ k. StandsNew (Inserted i s) text k) same
+    (record { start = d.stands.start; end = d.stands.end; makes = d.makes ∙ ap (λ x. Some (x ++ drop (i + length s) text)) (sym (append-nil (take i text))) })
+StandsNew-from_IsSome (Deleted i s) text at p h =
+    let same : i ≡ at = cc in
+    let d = Inserts-from_IsSome text i s h in
+    let here : i ≡ i + 0 = omega arith in
+    subst (λ k. StandsNew (Deleted i s) text k) same
+    (record { start = d.fits.place; end = subst (IsCharBoundary text) here d.fits.place; makes = d.makes ∙ ap (λ k. Some ((take i text ++ s) ++ drop k text)) here })
+StandsNew-from_IsSome (Replaced i s t) text at p h =
+    let same : i ≡ at = cc in
+    let d = Replaces-from_IsSome text i t s h in
+    subst (λ k. StandsNew (Replaced i s t) text k) same (record { start = d.stands.start; end = d.stands.end; makes = d.makes })
+
+-- a mark leaves the text
+pub mark-leaves : (e : Entry) (text : List ℕ) → place e ≡ None → apply (event_of (inverse e)) text ≡ Some text
+unfolding apply
+mark-leaves Begin text p = refl
+mark-leaves End text p = refl
+mark-leaves (Inserted i s) text p = cc
+mark-leaves (Deleted i s) text p = cc
+mark-leaves (Replaced i s t) text p = cc
+
+place-inverse : (e : Entry) → place (inverse e) ≡ place e
+place-inverse Begin = refl
+place-inverse End = refl
+place-inverse (Inserted i s) = refl
+place-inverse (Deleted i s) = refl
+place-inverse (Replaced i s t) = refl
+
+-- both ways the place is the same
+pub place-faced : (way : Way) (change : Change) → place (faced way change) ≡ place (entry_of change)
+place-faced Back change = refl
+place-faced Ahead change = place-inverse (entry_of change)
+
+-- ---- whether a text can go over an entry
+tested : {A : Type 0} (b : Bool) (a : A) → is_some (cond b (Some a) None) ≡ b
+tested true a = refl
+tested false a = refl
+
+right_true : (a b : Bool) → b ≡ true → (a && b) ≡ a
+right_true true b e = e
+right_true false b e = refl
+
+nothing-stands : (text : List ℕ) (i : ℕ) → stands_at text i [] ≡ is_boundary text i
+unfolding stands_at
+nothing-stands text i =
+    let here : i + 0 ≡ i = omega arith in
+    let none : i - i ≡ 0 = omega arith in
+    ap (λ b. b && (is_boundary text i && (is_boundary text (i + 0) && bytes_eq (slice_range text i (i + 0)) []))) (is_utf8-from_IsUtf8 [] IsUtf8-nil)
+    ∙ ap (λ k. is_boundary text i && (is_boundary text k && bytes_eq (slice_range text i k) [])) here
+    ∙ ap (λ k. is_boundary text i && (is_boundary text i && bytes_eq (take k (drop i text)) [])) none ∙ twice (is_boundary text i)
+  where
+    twice : (b : Bool) → (b && (b && true)) ≡ b
+    twice true = refl
+    twice false = refl
+
+-- it can where the new text stands at the place
+pub fits-is : (e : Entry) (text : List ℕ) (at : ℕ) → place e ≡ Some at → IsUtf8 (old_text e) → is_some (apply (event_of (inverse e)) text) ≡ stands_at text at (new_text e)
+unfolding apply fits_at
+fits-is Begin text at p u = cc
+fits-is End text at p u = cc
+fits-is (Inserted i s) text at p u =
+    let same : i ≡ at = cc in
+    tested (stands_at text i s) _ ∙ ap (λ k. stands_at text k s) same
+fits-is (Deleted i s) text at p u =
+    let same : i ≡ at = cc in
+    tested (fits_at text i s) _ ∙ ap (λ b. b && is_boundary text i) (is_utf8-from_IsUtf8 s u) ∙ sym (nothing-stands text i) ∙ ap (λ k. stands_at text k []) same
+fits-is (Replaced i s t) text at p u =
+    let same : i ≡ at = cc in
+    tested (stands_at text i t && is_utf8 s) _ ∙ right_true (stands_at text i t) (is_utf8 s) (is_utf8-from_IsUtf8 s u) ∙ ap (λ k. stands_at text k t) same
+
+-- the texts of a change are texts
+pub old_text-utf8 : (way : Way) (change : Change) → IsUtf8 (old_text (faced way change))
+old_text-utf8 Back made.Begin = IsUtf8-nil
+old_text-utf8 Back made.End = IsUtf8-nil
+old_text-utf8 Back (made.Insert i s) = IsUtf8-nil
+old_text-utf8 Back (made.Delete i s) = IsUtf8-string_bytes s
+old_text-utf8 Back (made.Replace i s t) = IsUtf8-string_bytes s
+old_text-utf8 Ahead made.Begin = IsUtf8-nil
+old_text-utf8 Ahead made.End = IsUtf8-nil
+old_text-utf8 Ahead (made.Insert i s) = IsUtf8-string_bytes s
+old_text-utf8 Ahead (made.Delete i s) = IsUtf8-nil
+old_text-utf8 Ahead (made.Replace i s t) = IsUtf8-string_bytes t
+
+-- what stands between two boundaries is told by its bytes
+pub stands_at-is : (text : List ℕ) (i : ℕ) (s : List ℕ) → IsUtf8 s → IsCharBoundary text i → IsCharBoundary text (i + length s) → stands_at text i s ≡ bytes_eq (slice_range text i (i + length s)) s
+unfolding stands_at
+stands_at-is text i s u b e = rw (is_utf8-from_IsUtf8 s u, is_boundary-true text i b, is_boundary-true text (i + length s) e) refl
+
+pub stands_at-not : (text : List ℕ) (i : ℕ) (s : List ℕ) → (IsCharBoundary text i → IsCharBoundary text (i + length s) → ⊥) → false ≡ stands_at text i s
+stands_at-not text i s h = from (stands_at text i s) refl
+  where
+    from : (b : Bool) → stands_at text i s ≡ b → false ≡ b
+    from false e = refl
+    from true e = let m = stands_at-means text i s e in absurd (h m.start m.end)
+
+-- ---- a text that goes over changes, the last first
+-- those before n are left, and lead from the text now to where all lead from the text at first
+pub record GoesOver (way : Way) (xs : List Change) (n : ℕ) (text now : List ℕ) : Type 0 where
+  pub rest : unwind (map (faced way) (take n xs)) now ≡ unwind (map (faced way) xs) text
+  pub within : n ≤ length xs
+
+last_one : (way : Way) (xs : List Change) (m : ℕ) (x : Change) (now : List ℕ) → m < length xs → x ≡ get_or xs m x
+    → unwind (map (faced way) (take (m + 1) xs)) now ≡ option_and_then (unwind (map (faced way) (take m xs))) (apply (event_of (inverse (faced way x))) now)
+last_one way xs m x now lt e =
+    ap (λ ys. unwind (map (faced way) ys) now) ((take_at_read xs m x lt).1 ∙ ap (λ y. take m xs ++ y ∷ []) (sym e))
+    ∙ ap (λ es. unwind es now) (map-append (faced way) (take m xs) (x ∷ []))
+    ∙ unwind-append (map (faced way) (take m xs)) (faced way x ∷ []) now
+
+pub GoesOver-next : (way : Way) (xs : List Change) (m : ℕ) (x : Change) (text now next : List ℕ) → m < length xs → x ≡ get_or xs m x → GoesOver way xs (m + 1) text now
+    → apply (event_of (inverse (faced way x))) now ≡ Some next → GoesOver way xs m text next
+GoesOver-next way xs m x text now next lt e g h = record {
+  rest = sym (last_one way xs m x now lt e ∙ ap (option_and_then (unwind (map (faced way) (take m xs)))) h) ∙ g.rest;
+  within = omega arith;
+}
+
+pub GoesOver-not : (way : Way) (xs : List Change) (m : ℕ) (x : Change) (text now : List ℕ) → m < length xs → x ≡ get_or xs m x → GoesOver way xs (m + 1) text now
+    → is_some (apply (event_of (inverse (faced way x))) now) ≡ false → None ≡ unwind (map (faced way) xs) text
+GoesOver-not way xs m x text now lt e g h = sym (ap (option_and_then (unwind (map (faced way) (take m xs)))) (none (apply (event_of (inverse (faced way x))) now) h)) ∙ sym (last_one way xs m x now lt e) ∙ g.rest
+  where
+    none : (o : Option (List ℕ)) → is_some o ≡ false → o ≡ None
+    none None h = refl
+    none (Some t) h = cc

@@ -1,0 +1,25 @@
+-- How many entries the last units have, and the first, and how many groups are open, by counting marks.
+use Rattle.std.proofs.Common.{ℕ, suc, List, [], ◌∷◌}
+use Rattle.std.specs.Prelude.{zero}
+use Rattle.rl_line.specs.Record.{Entry, Begin, End}
+
+-- the entries, the last first: d groups are entered from their End, and k units are left to take
+abbrev pub back_len : ℕ → ℕ → List Entry → ℕ
+back_len zero zero rs = 0
+back_len zero (suc k) [] = 0
+back_len zero (suc k) (End ∷ rs) = suc (back_len 1 k rs)
+back_len zero (suc k) (e ∷ rs) = suc (back_len zero k rs)
+back_len (suc d) k [] = 0
+back_len (suc d) k (End ∷ rs) = suc (back_len (suc (suc d)) k rs)
+back_len (suc d) k (Begin ∷ rs) = suc (back_len d k rs)
+back_len (suc d) k (e ∷ rs) = suc (back_len (suc d) k rs)
+
+-- the entries, the first first, up to where the first unit ends: d groups are open
+abbrev pub ahead_len : ℕ → List Entry → ℕ
+ahead_len d [] = 0
+ahead_len zero (Begin ∷ es) = suc (ahead_len 1 es)
+ahead_len zero (e ∷ es) = 1
+ahead_len (suc d) (Begin ∷ es) = suc (ahead_len (suc (suc d)) es)
+ahead_len (suc zero) (End ∷ es) = 1
+ahead_len (suc (suc d)) (End ∷ es) = suc (ahead_len (suc d) es)
+ahead_len (suc d) (e ∷ es) = suc (ahead_len (suc d) es)

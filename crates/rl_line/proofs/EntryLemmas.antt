@@ -1,0 +1,271 @@
+-- Entries in the lists of the code: counting them from the end, and moving them.
+use Rattle.std.proofs.Common.{◌≡◌, ℕ, ◌+◌, ◌-◌, ◌<◌, ◌≤◌, arith, suc, List, [], ◌∷◌, ◌++◌, length, length-append, take, drop, take_at, drop_at, add-one, append_assoc, drop-cons, get_or, map, reverse, refl, sym, ap, ◌∙◌, ◌⊎◌, inl, inr}
+use Rattle.std.proofs.lemmas.Grind.{take_at_read}
+use Rattle.std.proofs.lemmas.List.{map-append, reverse-append, reverse-reverse, length-map, length-drop, drop-map, take-append-drop}
+use Rattle.std.specs.Prelude.{zero, max, slice_get, cond, IsSome, Bool, true, false, not, ◌||◌, Option, Some, None}
+use Rattle.std.specs.Option.{option_to_list}
+use Rattle.rl_line.specs.declared.change.Change.{Change}
+use Rattle.rl_line.specs.Record.{Entry, Begin, End, Inserted, Deleted, Replaced, entry_of}
+use Rattle.rl_line.specs.Units.{deep, last_of, kept_of, redo_of, adds_end, end_one, end_times, ends_in_begin, has_change, is_begin, is_change, IsMatched}
+use Rattle.rl_line.proofs.Counts.{ahead_len, back_len}
+use Rattle.rl_line.proofs.CountLemmas.{last-counted, redo-counted}
+use Rattle.rl_line.proofs.RecordLemmas.{value_of}
+use Rattle.rl_line.proofs.UnitLemmas.{kept-last}
+
+-- the entries before a place, the last first, with one entry more
+pub back-read : (xs : List Change) (m : ℕ) (z x : Change) → m < length xs → get_or xs m z ≡ x
+    → reverse (map entry_of (take (m + 1) xs)) ≡ entry_of x ∷ reverse (map entry_of (take m xs))
+back-read xs m z x lt e =
+    ap (λ ys. reverse (map entry_of ys)) ((take_at_read xs m z lt).1 ∙ ap (λ y. take m xs ++ y ∷ []) e)
+    ∙ ap reverse (map-append entry_of (take m xs) (x ∷ []))
+    ∙ reverse-append (map entry_of (take m xs)) (entry_of x ∷ [])
+
+pub back_len-nil : (d k : ℕ) → back_len d k [] ≡ 0
+back_len-nil zero zero = refl
+back_len-nil zero (suc k) = refl
+back_len-nil (suc d) k = refl
+
+-- one entry less to go
+pub count-step : (xs : List Change) (at d k d' k' total : ℕ) (z x : Change) → 0 < at → at ≤ length xs → get_or xs (at - 1) z ≡ x
+    → ((rs : List Entry) → back_len d k (entry_of x ∷ rs) ≡ suc (back_len d' k' rs))
+    → (length xs - at) + back_len d k (reverse (map entry_of (take at xs))) ≡ total
+    → (length xs - (at - 1)) + back_len d' k' (reverse (map entry_of (take (at - 1) xs))) ≡ total
+count-step xs at d k d' k' total z x pos le e step h =
+    let m : (at - 1) + 1 ≡ at = omega arith in
+    let lt : at - 1 < length xs = omega arith in
+    let read : reverse (map entry_of (take at xs)) ≡ entry_of x ∷ reverse (map entry_of (take (at - 1) xs)) =
+    ap (λ n. reverse (map entry_of (take n xs))) (sym m) ∙ back-read xs (at - 1) z x lt e in
+    let one : back_len d k (reverse (map entry_of (take at xs))) ≡ suc (back_len d' k' (reverse (map entry_of (take (at - 1) xs)))) =
+    ap (back_len d k) read ∙ step (reverse (map entry_of (take (at - 1) xs))) in
+    omega arith
+
+pub step-end0 : (d k : ℕ) (rs : List Entry) → d ≡ 0 → 0 < k → back_len d k (End ∷ rs) ≡ suc (back_len (d + 1) (k - 1) rs)
+step-end0 zero zero rs e lt = absurd (omega arith)
+step-end0 zero (suc k) rs e lt = let same : k ≡ suc k - 1 = omega arith in ap (λ n. suc (back_len 1 n rs)) same
+step-end0 (suc d) k rs e lt = absurd (omega arith)
+
+pub step-end : (d k : ℕ) (rs : List Entry) → 0 < d → back_len d k (End ∷ rs) ≡ suc (back_len (d + 1) k rs)
+step-end zero k rs lt = absurd (omega arith)
+step-end (suc d) k rs lt = let same : suc (suc d) ≡ suc d + 1 = omega arith in ap (λ n. suc (back_len n k rs)) same
+
+pub step-begin : (d k : ℕ) (rs : List Entry) → 0 < d → back_len d k (Begin ∷ rs) ≡ suc (back_len (d - 1) k rs)
+step-begin zero k rs lt = absurd (omega arith)
+step-begin (suc d) k rs lt = let same : d ≡ suc d - 1 = omega arith in ap (λ n. suc (back_len n k rs)) same
+
+-- nothing is left to count
+pub count-end : (xs : List Change) (at d k n : ℕ) → IsMatched (map entry_of xs) → (at ≡ 0) ⊎ ((d ≡ 0) × (k ≡ 0))
+    → (length xs - at) + back_len d k (reverse (map entry_of (take at xs))) ≡ back_len 0 (max n 1) (reverse (map entry_of xs))
+    → length xs - at ≡ length (last_of n (map entry_of xs))
+count-end xs at d k n m done h =
+    let none : back_len d k (reverse (map entry_of (take at xs))) ≡ 0 = elim done [ inl e ↦ at_start e | inr e ↦ all_taken e.0 e.1 ] in
+    let all : length xs - at ≡ back_len 0 (max n 1) (reverse (map entry_of xs)) = (omega arith) in
+    all ∙ last-counted n (map entry_of xs) m
+  where
+    at_start : at ≡ 0 → back_len d k (reverse (map entry_of (take at xs))) ≡ 0
+    at_start e = ap (λ a. back_len d k (reverse (map entry_of (take a xs)))) e ∙ back_len-nil d k
+
+    all_taken : d ≡ 0 → k ≡ 0 → back_len d k (reverse (map entry_of (take at xs))) ≡ 0
+    all_taken e f = ap (λ a. back_len a k (reverse (map entry_of (take at xs)))) e ∙ ap (λ a. back_len 0 a (reverse (map entry_of (take at xs)))) f
+
+-- the last units are the last entries, and what is kept stands before them
+pub last-drop : (n : ℕ) (es : List Entry) → drop (length es - length (last_of n es)) es ≡ last_of n es
+last-drop n es =
+    let whole = kept-last n es in
+    let long : length (kept_of n es) ≡ length es - length (last_of n es) = let l = length-append (kept_of n es) (last_of n es) in let e = ap length whole in omega arith in
+    ap (drop (length es - length (last_of n es))) (sym whole) ∙ drop_at (kept_of n es) (last_of n es) (length es - length (last_of n es)) long
+
+pub kept-take : (n : ℕ) (es : List Entry) → take (length es - length (last_of n es)) es ≡ kept_of n es
+kept-take n es =
+    let whole = kept-last n es in
+    let long : length (kept_of n es) ≡ length es - length (last_of n es) = let l = length-append (kept_of n es) (last_of n es) in let e = ap length whole in omega arith in
+    ap (take (length es - length (last_of n es))) (sym whole) ∙ take_at (kept_of n es) (last_of n es) (length es - length (last_of n es)) long
+
+pub map-reverse : (xs : List Change) → map entry_of (reverse xs) ≡ reverse (map entry_of xs)
+map-reverse [] = refl
+map-reverse (x ∷ xs) =
+    ap (map entry_of) (reverse-append (x ∷ []) xs) ∙ map-append entry_of (reverse xs) (x ∷ []) ∙ ap (λ l. l ++ entry_of x ∷ []) (map-reverse xs)
+    ∙ sym (reverse-append (entry_of x ∷ []) (map entry_of xs))
+
+-- entries moved behind the undone ones, the last first, are seen before them, in order
+pub pending-view : (moved pending : List Change) → reverse (map entry_of (pending ++ reverse moved)) ≡ map entry_of moved ++ reverse (map entry_of pending)
+pending-view moved pending =
+    ap reverse (map-append entry_of pending (reverse moved)) ∙ reverse-append (map entry_of pending) (map entry_of (reverse moved))
+    ∙ ap (λ x. x ++ reverse (map entry_of pending)) (ap reverse (map-reverse moved) ∙ reverse-reverse (map entry_of moved))
+
+pub drop-view : (from : List Change) (n : ℕ) → map entry_of (drop (length from - length (last_of n (map entry_of from))) from) ≡ last_of n (map entry_of from)
+drop-view from n =
+    sym (drop-map entry_of (length from - length (last_of n (map entry_of from))) from)
+    ∙ ap (λ k. drop (k - length (last_of n (map entry_of from))) (map entry_of from)) (sym (length-map from entry_of)) ∙ last-drop n (map entry_of from)
+
+-- ---- counting what is open
+deep-append : (d : ℕ) (xs ys : List Entry) → deep d (xs ++ ys) ≡ deep (deep d xs) ys
+deep-append d [] ys = refl
+deep-append d (Begin ∷ xs) ys = deep-append (suc d) xs ys
+deep-append d (End ∷ xs) ys = deep-append (d - 1) xs ys
+deep-append d (Inserted i s ∷ xs) ys = deep-append d xs ys
+deep-append d (Deleted i s ∷ xs) ys = deep-append d xs ys
+deep-append d (Replaced i s t ∷ xs) ys = deep-append d xs ys
+
+-- with the entry at i
+pub deep-next : (xs : List Change) (i n : ℕ) (x : Change) → i < length xs → x ≡ get_or xs i x → n ≡ deep 0 (map entry_of (take i xs))
+    → deep 0 (map entry_of (take (i + 1) xs)) ≡ deep n (entry_of x ∷ [])
+deep-next xs i n x lt is e =
+    ap (λ ys. deep 0 (map entry_of ys)) ((take_at_read xs i x lt).1 ∙ ap (λ y. take i xs ++ y ∷ []) (sym is))
+    ∙ ap (deep 0) (map-append entry_of (take i xs) (x ∷ []))
+    ∙ deep-append 0 (map entry_of (take i xs)) (entry_of x ∷ []) ∙ ap (λ d. deep d (entry_of x ∷ [])) (sym e)
+
+-- ---- counting ahead, of entries that stand the last first
+-- what is left to count where d groups are open: nothing where none is
+abbrev pub rest_len : ℕ → List Entry → ℕ
+rest_len zero rs = 0
+rest_len (suc d) rs = ahead_len (suc d) rs
+
+ahead-step : (d : ℕ) (e : Entry) (rs : List Entry) → ahead_len d (e ∷ rs) ≡ suc (rest_len (deep d (e ∷ [])) rs)
+ahead-step zero Begin rs = refl
+ahead-step (suc d) Begin rs = refl
+ahead-step zero End rs = refl
+ahead-step (suc zero) End rs = refl
+ahead-step (suc (suc d)) End rs = let one : suc d ≡ suc (suc d) - 1 = omega arith in ap (λ k. suc (rest_len k rs)) one
+ahead-step zero (Inserted i s) rs = refl
+ahead-step (suc d) (Inserted i s) rs = refl
+ahead-step zero (Deleted i s) rs = refl
+ahead-step (suc d) (Deleted i s) rs = refl
+ahead-step zero (Replaced i s t) rs = refl
+ahead-step (suc d) (Replaced i s t) rs = refl
+
+-- the entries from `at` on, the last first, were counted: so many groups are open behind them, and the whole unit has as many entries as these and what is left of it
+pub record Counted (xs : List Change) (at d : ℕ) : Type 0 where
+  pub within : at ≤ length xs
+  pub small : d + at ≤ length xs
+  pub opened : d ≡ deep 0 (reverse (map entry_of (drop at xs)))
+  pub unit : (length xs - at) + ahead_len d (reverse (map entry_of (take at xs))) ≡ ahead_len 0 (reverse (map entry_of xs))
+
+-- the last first, with the entry before them
+turned : (xs : List Change) (at : ℕ) (x : Change) → at < length xs → x ≡ get_or xs at x → reverse (map entry_of (drop at xs)) ≡ reverse (map entry_of (drop (at + 1) xs)) ++ entry_of x ∷ []
+turned xs at x lt is =
+    ap (λ ys. reverse (map entry_of ys)) (drop-cons xs at x lt ∙ ap (λ y. y ∷ drop (suc at) xs) (sym is) ∙ ap (λ k. x ∷ drop k xs) (sym (add-one at)))
+    ∙ reverse-append (entry_of x ∷ []) (map entry_of (drop (at + 1) xs))
+
+next-open : (xs : List Change) (at d : ℕ) (x : Change) → at < length xs → x ≡ get_or xs at x → Counted xs (at + 1) d
+    → deep d (entry_of x ∷ []) ≡ deep 0 (reverse (map entry_of (drop at xs)))
+next-open xs at d x lt is c =
+    ap (λ k. deep k (entry_of x ∷ [])) c.opened ∙ sym (deep-append 0 (reverse (map entry_of (drop (at + 1) xs))) (entry_of x ∷ [])) ∙ ap (deep 0) (sym (turned xs at x lt is))
+
+next-unit : (xs : List Change) (at d : ℕ) (x : Change) → at < length xs → x ≡ get_or xs at x → Counted xs (at + 1) d
+    → (length xs - at) + rest_len (deep d (entry_of x ∷ [])) (reverse (map entry_of (take at xs))) ≡ ahead_len 0 (reverse (map entry_of xs))
+next-unit xs at d x lt is c =
+    let rest = reverse (map entry_of (take at xs)) in
+    let one : ahead_len d (reverse (map entry_of (take (at + 1) xs))) ≡ suc (rest_len (deep d (entry_of x ∷ [])) rest) =
+    ap (ahead_len d) (back-read xs at x x lt (sym is)) ∙ ahead-step d (entry_of x) rest in
+    omega (arith, one, c.unit)
+
+-- one entry more, where groups are open behind it
+pub Counted-next : (xs : List Change) (at d n : ℕ) (x : Change) → at < length xs → x ≡ get_or xs at x → Counted xs (at + 1) d
+    → n ≡ deep d (entry_of x ∷ []) → n ≤ d + 1 → 0 < n → Counted xs at n
+Counted-next xs at d zero x lt is c e small some = absurd (omega arith)
+Counted-next xs at d (suc n) x lt is c e small some = record {
+  within = omega arith;
+  small = omega (arith, c.small);
+  opened = e ∙ next-open xs at d x lt is c;
+  unit = ap (λ k. (length xs - at) + rest_len k (reverse (map entry_of (take at xs)))) e ∙ next-unit xs at d x lt is c;
+}
+
+-- the unit ends where no group is open behind an entry, or where no entry is left
+pub Counted-end : (xs : List Change) (at d : ℕ) (x : Change) → IsMatched (reverse (map entry_of xs)) → at < length xs → x ≡ get_or xs at x → Counted xs (at + 1) d
+    → 0 ≡ deep d (entry_of x ∷ []) → length xs - at ≡ length (redo_of (reverse (map entry_of xs)))
+Counted-end xs at d x m lt is c e =
+    let all = ap (λ k. (length xs - at) + rest_len k (reverse (map entry_of (take at xs)))) e ∙ next-unit xs at d x lt is c in
+    (omega arith) ∙ all ∙ redo-counted (reverse (map entry_of xs)) m
+
+pub Counted-all : (xs : List Change) (at d : ℕ) → at ≡ 0 → IsMatched (reverse (map entry_of xs)) → Counted xs at d → length xs ≡ length (redo_of (reverse (map entry_of xs)))
+Counted-all xs at d z m c =
+    let none : ahead_len d (reverse (map entry_of (take at xs))) ≡ 0 = ap (λ k. ahead_len d (reverse (map entry_of (take k xs)))) z ∙ nothing d in
+    omega (arith, none, c.unit, redo-counted (reverse (map entry_of xs)) m)
+  where
+    nothing : (d : ℕ) → ahead_len d [] ≡ 0
+    nothing zero = refl
+    nothing (suc d) = refl
+
+-- ---- closing groups
+abbrev pub begins : Option Change → Bool
+begins None = false
+begins (Some x) = is_begin (entry_of x)
+
+-- the last entry tells
+pub ends-at : (xs : List Change) (o : Option Change) → o ≡ slice_get xs (length xs - 1) → ends_in_begin (map entry_of xs) ≡ begins o
+ends-at [] o e = ap begins (sym e)
+ends-at (x ∷ []) o e = ap begins (sym e)
+ends-at (x ∷ (y ∷ ys)) o e = ends-at (y ∷ ys) o (e ∙ ap (slice_get (x ∷ (y ∷ ys))) (two (length ys)))
+  where
+    two : (n : ℕ) → suc (suc n) - 1 ≡ suc (suc n - 1)
+    two n = omega arith
+
+-- a Begin at the end goes
+takes_begin-off : (xs : List Entry) (e : Entry) → ends_in_begin (xs ++ e ∷ []) ≡ true → xs ≡ end_one (xs ++ e ∷ [])
+takes_begin-off [] e h = sym (ap (λ b. cond b [] (e ∷ (End ∷ []))) h)
+takes_begin-off (x ∷ []) e h = ap (λ l. x ∷ l) (takes_begin-off [] e h)
+takes_begin-off (x ∷ (y ∷ ys)) e h = ap (λ l. x ∷ l) (takes_begin-off (y ∷ ys) e h)
+
+-- behind another entry comes an End
+adds_end-behind : (xs : List Entry) → ends_in_begin xs ≡ false → xs ++ End ∷ [] ≡ end_one xs
+adds_end-behind [] h = refl
+adds_end-behind (x ∷ []) h = sym (ap (λ b. cond b [] (x ∷ (End ∷ []))) h)
+adds_end-behind (x ∷ (y ∷ ys)) h = ap (λ l. x ∷ l) (adds_end-behind (y ∷ ys) h)
+
+-- a Begin that is popped, and an End that is pushed
+pub end_one-popped : (xs ys : List Change) (o : Option Change) → xs ≡ ys ++ option_to_list o → (0 < length xs → IsSome o) → ends_in_begin (map entry_of xs) ≡ true
+    → map entry_of ys ≡ end_one (map entry_of xs)
+end_one-popped [] ys o e some h = cc
+end_one-popped (x ∷ xs) ys o e some h =
+    let y = value_of o (some (omega arith)) in
+    let last : map entry_of (x ∷ xs) ≡ map entry_of ys ++ entry_of y.0 ∷ [] = ap (map entry_of) (e ∙ ap (λ p. ys ++ option_to_list p) y.1) ∙ map-append entry_of ys (y.0 ∷ []) in
+    takes_begin-off (map entry_of ys) (entry_of y.0) (ap ends_in_begin (sym last) ∙ h) ∙ ap end_one (sym last)
+
+pub end_one-pushed : (xs ys : List Change) (x : Change) → ys ≡ xs ++ x ∷ [] → entry_of x ≡ End → ends_in_begin (map entry_of xs) ≡ false → map entry_of ys ≡ end_one (map entry_of xs)
+end_one-pushed xs ys x e end h =
+    ap (map entry_of) e ∙ map-append entry_of xs (x ∷ []) ∙ ap (λ (y : Entry). map entry_of xs ++ y ∷ []) end ∙ adds_end-behind (map entry_of xs) h
+
+-- one group less to close
+pub closes-next : (count i : ℕ) (es next all : List Entry) → i < count → next ≡ end_one es → end_times (count - i) es ≡ all → end_times (count - (i + 1)) next ≡ all
+closes-next count i es next all lt e h =
+    let k : suc (count - (i + 1)) ≡ count - i = omega arith in
+    ap (end_times (count - (i + 1))) e ∙ ap (λ n. end_times n es) k ∙ h
+
+pub adds-next : (count i : ℕ) (es next : List Entry) (added more now total : Bool) → i < count → next ≡ end_one es → more ≡ not (ends_in_begin es) → now ≡ (more || added)
+    → (added || adds_end (count - i) es) ≡ total → (now || adds_end (count - (i + 1)) next) ≡ total
+adds-next count i es next added more now total lt e m n h =
+    let k : suc (count - (i + 1)) ≡ count - i = omega arith in
+    ap (λ b. b || adds_end (count - (i + 1)) next) (n ∙ ap (λ b. b || added) m) ∙ ap (λ l. (not (ends_in_begin es) || added) || adds_end (count - (i + 1)) l) e
+    ∙ turn (not (ends_in_begin es)) added (adds_end (count - (i + 1)) (end_one es)) ∙ ap (λ j. added || adds_end j es) k ∙ h
+  where
+    turn : (a b c : Bool) → ((a || b) || c) ≡ (b || (a || c))
+    turn true true c = refl
+    turn true false c = refl
+    turn false true c = refl
+    turn false false c = refl
+
+-- ---- moving the last entries
+-- i entries were moved from the end of one list to the end of another, the last first
+pub record Moved (from to now_from now_to : List Change) (i : ℕ) (changed : Bool) : Type 0 where
+  pub left : now_from ≡ take (length from - i) from
+  pub moved : now_to ≡ to ++ reverse (drop (length from - i) from)
+  pub change : changed ≡ has_change (map entry_of (drop (length from - i) from))
+
+-- and one more
+pub Moved-next : (from to now_from now_to next_from next_to : List Change) (i : ℕ) (changed now : Bool) (x : Change) → i < length from → Moved from to now_from now_to i changed
+    → now_from ≡ next_from ++ x ∷ [] → next_to ≡ now_to ++ x ∷ [] → now ≡ (is_change (entry_of x) || changed)
+    → Moved from to next_from next_to (i + 1) now
+Moved-next from to now_from now_to next_from next_to i changed now x lt m popped pushed n =
+    let k = length from - i in
+    let behind = drop k from in
+    let all : from ≡ next_from ++ x ∷ behind =
+    sym (take-append-drop k from) ∙ ap (λ l. l ++ behind) (sym m.left ∙ popped) ∙ append_assoc next_from (x ∷ []) behind in
+    let sizes : length from ≡ length next_from + suc (length behind) = ap length all ∙ length-append next_from (x ∷ behind) in
+    let size : length next_from ≡ length from - (i + 1) = omega (arith, sizes, length-drop k from, lt) in
+    let cut : drop (length from - (i + 1)) from ≡ x ∷ behind = ap (drop (length from - (i + 1))) all ∙ drop_at next_from (x ∷ behind) (length from - (i + 1)) size in
+    record {
+      left = sym (ap (take (length from - (i + 1))) all ∙ take_at next_from (x ∷ behind) (length from - (i + 1)) size);
+      moved = pushed ∙ ap (λ l. l ++ x ∷ []) m.moved ∙ append_assoc to (reverse behind) (x ∷ [])
+          ∙ ap (λ l. to ++ l) (sym (ap reverse cut ∙ reverse-append (x ∷ []) behind));
+      change = n ∙ ap (λ b. is_change (entry_of x) || b) m.change ∙ ap (λ l. has_change (map entry_of l)) (sym cut);
+    }

@@ -1,0 +1,136 @@
+-- As many redos as an undo took units give back the record and the text.
+use Rattle.std.proofs.Common.{◌≡◌, ℕ, ◌+◌, suc, Bool, List, [], ◌∷◌, ◌++◌, length, drop, reverse, Some, refl, sym, ap, subst, ◌∙◌, arith, append-nil, append_assoc, drop_at, add-zero}
+use Rattle.std.proofs.lemmas.List.{reverse-append, reverse-reverse, length-reverse}
+use Rattle.std.specs.Prelude.{option_and_then, zero, max}
+use Rattle.std.specs.Str.{IsUtf8}
+use Rattle.rl_base.specs.Event.{apply}
+use Rattle.rl_line.specs.Line.{Line, stepped}
+use Rattle.rl_line.specs.Plan.{after}
+use Rattle.rl_line.specs.Record.{Entry, Record, event_of, inverse, replay_entries, unwind}
+use Rattle.rl_line.specs.Units.{UndoUnit, Open, Whole, units, together, opens, last_of, kept_of, last_units, redo_from, redo_of, undone, redone, redone_times, marks, IsMatched, BothMatched}
+use Rattle.rl_line.specs.Undo.{cursor_after, line_after, line_ahead, line_back, Undone, Redos}
+use Rattle.rl_line.proofs.RecordLemmas.{replay-append, through, replay-unwind}
+use Rattle.rl_line.proofs.UnitLemmas.{AllGood, Settles, kept-last, units-good, units-append, IsMatched-append, on, together-reverse, AllGood-reverse}
+use Rattle.rl_line.proofs.MatchLemmas.{AllGood-take, some_is}
+
+opens-append : (us vs : List UndoUnit) → opens (us ++ vs) ≡ opens us + opens vs
+opens-append [] vs = omega arith
+opens-append (Open ∷ us) vs = ap suc (opens-append us vs) ∙ (omega arith)
+opens-append (Whole es ∷ us) vs = opens-append us vs
+
+opens-reverse : (us : List UndoUnit) → opens (reverse us) ≡ opens us
+opens-reverse [] = refl
+opens-reverse (Open ∷ us) = ap opens (reverse-append (Open ∷ []) us) ∙ opens-append (reverse us) (Open ∷ []) ∙ ap (λ n. n + 1) (opens-reverse us) ∙ (omega arith)
+opens-reverse (Whole es ∷ us) =
+    ap opens (reverse-append (Whole es ∷ []) us) ∙ opens-append (reverse us) (Whole es ∷ []) ∙ ap (λ n. n + 0) (opens-reverse us) ∙ add-zero (opens us)
+
+IsMatched-on : (vs : List UndoUnit) → AllGood vs → opens vs ≡ 0 → IsMatched (on vs)
+IsMatched-on [] g o = refl
+IsMatched-on (Open ∷ vs) g o = absurd (omega arith)
+IsMatched-on (Whole es ∷ vs) g o = IsMatched-append es (on vs) (some_is (marks es []) [] (g.0.flags [])) (IsMatched-on vs g.1 o)
+
+-- a closed unit at the front is what a redo puts back
+redo_of-front : (es rest : List Entry) → Settles es → IsMatched rest → redo_of (es ++ rest) ≡ es
+redo_of-front es rest s h =
+    ap (λ us. redo_from (es ++ rest) (reverse us)) (units-append es rest h ∙ ap (λ us. units rest ++ us) (s.cuts []))
+    ∙ ap (redo_from (es ++ rest)) (reverse-append (units rest) (Whole es ∷ []))
+
+abbrev lists : List Entry → List Entry → Record
+lists r p = record { recorded = r; pending = p }
+
+redo_one : (es kept rest : List Entry) → Settles es → IsMatched rest → redone (lists kept (es ++ rest)) ≡ lists (kept ++ es) rest
+redo_one es kept rest s h =
+    ap (λ unit. lists (kept ++ unit) (drop (length unit) (es ++ rest))) (redo_of-front es rest s h)
+    ∙ ap (lists (kept ++ es)) (drop_at es rest (length es) refl)
+
+-- redos put back closed units one by one, the oldest first
+redo_all : (vs : List UndoUnit) (kept rest : List Entry) → AllGood vs → opens vs ≡ 0 → IsMatched rest
+    → redone_times (length vs) (lists kept (on vs ++ rest)) ≡ lists (kept ++ on vs) rest
+redo_all [] kept rest g o h = ap (λ k. lists k rest) (sym (append-nil kept))
+redo_all (Open ∷ vs) kept rest g o h = absurd (omega arith)
+redo_all (Whole es ∷ vs) kept rest g o h =
+    ap (λ p. redone_times (length vs) (redone (lists kept p))) (append_assoc es (on vs) rest)
+    ∙ ap (redone_times (length vs)) (redo_one es kept (on vs ++ rest) g.0 (IsMatched-append (on vs) rest (IsMatched-on vs g.1 o) h))
+    ∙ redo_all vs (kept ++ es) rest g.1 o h
+    ∙ ap (λ k. lists k rest) (append_assoc kept es (on vs))
+
+-- the units that an undo takes off, the oldest first
+record TakenOff (n : ℕ) (r : Record) : Type 0 where
+  taken : List UndoUnit
+  good : AllGood taken
+  whole : opens taken ≡ 0
+  long : length taken ≡ length (last_units n r.recorded)
+  is : last_of n r.recorded ≡ on taken
+
+taken-off : (n : ℕ) (r : Record) → BothMatched r → opens (last_units n r.recorded) ≡ 0 → TakenOff n r
+taken-off n r b o =
+    let us = last_units n r.recorded in
+    record {
+      taken = reverse us;
+      good = AllGood-reverse us (AllGood-take (max n 1) (units r.recorded) (units-good r.recorded b.recorded));
+      whole = opens-reverse us ∙ o;
+      long = length-reverse us;
+      is = ap together (sym (reverse-reverse us)) ∙ together-reverse (reverse us);
+    }
+
+pub redo-undone : (n : ℕ) (r : Record) → BothMatched r → opens (last_units n r.recorded) ≡ 0
+    → redone_times (length (last_units n r.recorded)) (undone n r) ≡ r
+redo-undone n r b o =
+    let t = taken-off n r b o in
+    ap (λ k. redone_times k (undone n r)) (sym t.long)
+    ∙ ap (λ l. redone_times (length t.taken) (lists (kept_of n r.recorded) (l ++ r.pending))) t.is
+    ∙ redo_all t.taken (kept_of n r.recorded) r.pending t.good t.whole b.pending
+    ∙ ap (λ l. lists (kept_of n r.recorded ++ l) r.pending) (sym t.is)
+    ∙ ap (λ l. lists l r.pending) (kept-last n r.recorded)
+
+-- ---- the text
+line_after-text : (e : Entry) (line next : Line) → line_after e line ≡ Some next → apply (event_of e) line.text ≡ Some next.text
+line_after-text e line next h =
+    let p = through (λ text. after [] (stepped line text (cursor_after line.cursor e))) (apply (event_of e) line.text) next h in
+    let same : stepped line p.0 (cursor_after line.cursor e) ≡ next = let k = p.2 in cc in
+    p.1 ∙ ap (λ (l : Line). Some l.text) same
+
+-- a line that goes back has the text of `unwind` then
+pub line_back-unwind : (es : List Entry) (line now : Line) → line_back es line ≡ Some now → unwind es line.text ≡ Some now.text
+line_back-unwind [] line now h = let e : line ≡ now = cc in ap (λ (l : Line). Some l.text) e
+line_back-unwind (e ∷ es) line now h =
+    let p = through (line_after (inverse e)) (line_back es line) now h in
+    ap (option_and_then (apply (event_of (inverse e)))) (line_back-unwind es line p.0 p.1) ∙ line_after-text (inverse e) p.0 now p.2
+
+-- and one that goes ahead, that of `replay_entries`
+pub line_ahead-replay : (es : List Entry) (line now : Line) → line_ahead es line ≡ Some now → replay_entries es line.text ≡ Some now.text
+line_ahead-replay [] line now h = let e : line ≡ now = cc in ap (λ (l : Line). Some l.text) e
+line_ahead-replay (e ∷ es) line now h =
+    let p = through (line_ahead es) (line_after e line) now h in
+    ap (option_and_then (replay_entries es)) (line_after-text e line p.0 p.1) ∙ line_ahead-replay es p.0 now p.2
+
+Redos-record : (n : ℕ) (old new : Record) (line line' : Line) → Redos n old new line line' → new ≡ redone_times n old
+Redos-record zero old new line line' h = h.0
+Redos-record (suc n) old new line line' h = let (mid, between, answer, first, others) = h in Redos-record n mid new between line' others ∙ ap (redone_times n) first.record_is
+
+-- redos replay the closed units
+Redos-text : (vs : List UndoUnit) (kept rest : List Entry) (new : Record) (line line' : Line) → AllGood vs → opens vs ≡ 0 → IsMatched rest
+    → Redos (length vs) (lists kept (on vs ++ rest)) new line line' → replay_entries (on vs) line.text ≡ Some line'.text
+Redos-text [] kept rest new line line' g o h d = ap (λ (l : Line). Some l.text) (sym d.1)
+Redos-text (Open ∷ vs) kept rest new line line' g o h d = absurd (omega arith)
+Redos-text (Whole es ∷ vs) kept rest new line line' g o h d =
+    let (mid, between, answer, first, others) = subst (λ p. Redos (suc (length vs)) (lists kept p) new line line') (append_assoc es (on vs) rest) d in
+    let m = IsMatched-append (on vs) rest (IsMatched-on vs g.1 o) h in
+    let one = line_ahead-replay es line between (ap (λ u. line_ahead u line) (sym (redo_of-front es (on vs ++ rest) g.0 m)) ∙ first.line_is) in
+    replay-append es (on vs) line.text ∙ ap (option_and_then (replay_entries (on vs))) one
+    ∙ Redos-text vs (kept ++ es) rest new between line' g.1 o h
+    (subst (λ x. Redos (length vs) x new between line') (first.record_is ∙ redo_one es kept (on vs ++ rest) g.0 m) others)
+
+pub redos-give-back : (n : ℕ) (r mid now : Record) (line back ahead : Line) (answer : Bool) → IsUtf8 line.text → BothMatched r
+    → opens (last_units n r.recorded) ≡ 0 → Undone n r mid line back answer
+    → Redos (length (last_units n r.recorded)) mid now back ahead
+    → (now ≡ r) × (ahead.text ≡ line.text)
+redos-give-back n r mid now line back ahead answer u b o un d =
+    let t = taken-off n r b o in
+    let whole = Redos-record (length (last_units n r.recorded)) mid now back ahead d ∙ ap (redone_times (length (last_units n r.recorded))) un.record_is ∙ redo-undone n r b o in
+    let mid_is : mid ≡ lists (kept_of n r.recorded) (on t.taken ++ r.pending) = un.record_is ∙ ap (λ l. lists (kept_of n r.recorded) (l ++ r.pending)) t.is in
+    let redos = subst (λ x. Redos (length t.taken) x now back ahead) mid_is (subst (λ k. Redos k mid now back ahead) (sym t.long) d) in
+    let there = Redos-text t.taken (kept_of n r.recorded) r.pending now back ahead t.good t.whole b.pending redos in
+    let here = replay-unwind (last_of n r.recorded) line.text back.text u (line_back-unwind (last_of n r.recorded) line back un.line_is) in
+    let both : Some ahead.text ≡ Some line.text = sym there ∙ ap (λ es. replay_entries es back.text) (sym t.is) ∙ here in
+    (whole, cc)

@@ -1,0 +1,13 @@
+use Rattle.std.proofs.Common.{◌≡◌, ◌≤◌, length, map, drop}
+use Rattle.rl_line.specs.Undo.{faced, length_back_over, greatest_back_over}
+use Rattle.rl_line.proofs.change.greatest_len_over.Given as goal
+
+abbrev pub invariant-loop-left : goal.invariant-loop-left
+invariant-loop-left l = record {
+  now : l.now ≡ length_back_over (map (faced l.way) (drop l.left l.changes)) l.len;
+  greatest : l.greatest ≡ greatest_back_over (map (faced l.way) (drop l.left l.changes)) l.len;
+  within : l.left ≤ length l.changes;
+}
+
+abbrev pub decreases-loop-left : goal.decreases-loop-left
+decreases-loop-left l = l.left

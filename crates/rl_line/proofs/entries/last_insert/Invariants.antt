@@ -1,0 +1,12 @@
+use Rattle.std.proofs.Common.{◌≡◌, ◌≤◌, length, map, take, reverse}
+use Rattle.rl_line.specs.Record.{entry_of, last_insert, put_in_first}
+use Rattle.rl_line.proofs.entries.last_insert.Given as goal
+
+abbrev pub invariant-loop-left : goal.invariant-loop-left
+invariant-loop-left l = record {
+  rest : put_in_first (reverse (map entry_of (take l.left l.entries))) ≡ last_insert (map entry_of l.entries);
+  within : l.left ≤ length l.entries;
+}
+
+abbrev pub decreases-loop-left : goal.decreases-loop-left
+decreases-loop-left l = l.left

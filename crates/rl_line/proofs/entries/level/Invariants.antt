@@ -1,0 +1,10 @@
+use Rattle.std.proofs.Common.{◌≡◌, ◌≤◌, map, take}
+use Rattle.rl_line.specs.Record.{entry_of}
+use Rattle.rl_line.specs.Units.{deep}
+use Rattle.rl_line.proofs.entries.level.Given as goal
+
+abbrev pub invariant-loop-entry : goal.invariant-loop-entry
+invariant-loop-entry l = record {
+  counted : l.level ≡ deep 0 (map entry_of (take l.entry-index l.entries));
+  small : l.level ≤ l.entry-index;
+}

@@ -1,0 +1,32 @@
+use Rattle.std.proofs.Common.{◌≡◌, ap, bytes_eq, map, option_map, string_bytes, sym, take, Some, ◌∙◌}
+use Rattle.rl_line.specs.Record.{Record, agree, entry_of, unwind}
+use Rattle.rl_line.proofs.undo.Changeset.replays_to.Goals as goal
+use Rattle.rl_line.proofs.undo.Changeset.replays_to.Goals.{In_ok-some}
+
+all : (c : In_ok-some) → option_map string_bytes c.in_ok-all.field-0 ≡ unwind c.args.self.now.recorded c.args.line.now.text
+all c =
+    let text = c.as_str-text.result.now in
+    c.in_ok-all.ensures.ok ∙ ap (λ xs. unwind (map entry_of xs) text) c.deref.ensures.value ∙ ap (λ (r : Record). unwind r.recorded text) c.self.view_is
+    ∙ ap (unwind c.args.self.now.recorded) c.as_str-text.ensures
+
+first : (c : In_ok-some) → option_map string_bytes c.in_ok-some.field-0 ≡ unwind (take c.args.len c.args.self.now.recorded) c.args.line.now.text
+first c =
+    let text = c.as_str-text.result.now in
+    c.in_ok-some.ensures.ok
+    ∙ ap (λ es. unwind es text) (c.first-first.ensures ∙ ap (λ xs. take c.args.len (map entry_of xs)) c.deref-2.ensures.value ∙ ap (λ (r : Record). take c.args.len r.recorded) c.self.view_is)
+    ∙ ap (unwind (take c.args.len c.args.self.now.recorded)) c.as_str-text.ensures
+
+pub returns-in-Some-2-clause-ok : goal.returns-in-Some-2-clause-ok
+returns-in-Some-2-clause-ok c =
+    let d = (goal.at.returns-in-Some-2-clause-ok c).In_ok-some in
+    c.eq.ensures ∙ ap (λ x. bytes_eq x c.as_str-in-Some-2.result.now) c.as_str.ensures.value ∙ ap (bytes_eq (string_bytes c.in-Some.all)) c.as_str-in-Some-2.ensures.value
+    ∙ ap (λ o. agree (Some (string_bytes c.in-Some.all)) (option_map string_bytes o)) (sym c.in-Some-2.is)
+    ∙ ap (λ o. agree (option_map string_bytes o) (option_map string_bytes c.in_ok-some.field-0)) (sym c.in-Some.is)
+    ∙ ap (λ o. agree o (option_map string_bytes c.in_ok-some.field-0)) (all d) ∙ ap (agree (unwind c.args.self.now.recorded c.args.line.now.text)) (first d)
+
+pub returns-clause-ok : goal.returns-clause-ok
+returns-clause-ok c =
+    let d = (goal.at.returns-clause-ok c).In_ok-some in
+    ap (λ o. agree (Some (string_bytes c.in-Some.all)) (option_map string_bytes o)) (sym c.in-None.is)
+    ∙ ap (λ o. agree (option_map string_bytes o) (option_map string_bytes c.in_ok-some.field-0)) (sym c.in-Some.is)
+    ∙ ap (λ o. agree o (option_map string_bytes c.in_ok-some.field-0)) (all d) ∙ ap (agree (unwind c.args.self.now.recorded c.args.line.now.text)) (first d)

@@ -1,0 +1,178 @@
+-- Undo groups: the units that an undo takes off and a redo puts back, and what each call makes of the record.
+use Rattle.std.specs.Prelude.{◌≡◌, ℕ, zero, suc, ◌-◌, max, not, ◌||◌, Bool, true, false, List, [], ◌∷◌, ◌++◌, length, take, drop, reverse, Option, Some, None, IsSome, IsTrue, option_and_then, if◌then◌else◌}
+use Rattle.rl_base.specs.Event.{Event}
+use Rattle.rl_line.specs.Record.{Entry, Begin, End, Inserted, Deleted, Replaced, Record, record_step}
+
+-- a unit: the Begin of an open group, or entries that come and go as one, which are a change or a closed group
+pub data UndoUnit : Type 0 where
+  Open : UndoUnit
+  Whole : (entries : List Entry) → UndoUnit
+
+abbrev pub entries : UndoUnit → List Entry
+entries Open = Begin ∷ []
+entries (Whole es) = es
+
+-- the units, the latest first, after an End: from the Begin that is open last, all is one unit
+abbrev pub close : List Entry → List UndoUnit → List UndoUnit
+close inner [] = Whole (inner ++ End ∷ []) ∷ []
+close inner (Open ∷ us) = Whole (Begin ∷ (inner ++ End ∷ [])) ∷ us
+close inner (Whole es ∷ us) = close (es ++ inner) us
+
+-- the units, the latest first, after an entry
+abbrev pub add_entry : Entry → List UndoUnit → List UndoUnit
+add_entry Begin us = Open ∷ us
+add_entry End us = close [] us
+add_entry (Inserted i s) us = Whole (Inserted i s ∷ []) ∷ us
+add_entry (Deleted i s) us = Whole (Deleted i s ∷ []) ∷ us
+add_entry (Replaced i s t) us = Whole (Replaced i s t ∷ []) ∷ us
+
+abbrev pub cut_more : List UndoUnit → List Entry → List UndoUnit
+cut_more us [] = us
+cut_more us (e ∷ es) = cut_more (add_entry e us) es
+
+-- the units of entries, the latest first
+abbrev pub units : List Entry → List UndoUnit
+units es = cut_more [] es
+
+-- the entries of units, the latest unit first
+abbrev pub together : List UndoUnit → List Entry
+together [] = []
+together (u ∷ us) = together us ++ entries u
+
+-- how many groups are open
+abbrev pub opens : List UndoUnit → ℕ
+opens [] = 0
+opens (Open ∷ us) = suc (opens us)
+opens (Whole es ∷ us) = opens us
+
+abbrev pub level : List Entry → ℕ
+level es = opens (units es)
+
+-- how many groups are open after the entries, where d are open before them
+abbrev pub deep : ℕ → List Entry → ℕ
+deep d [] = d
+deep d (Begin ∷ es) = deep (suc d) es
+deep d (End ∷ es) = deep (d - 1) es
+deep d (e ∷ es) = deep d es
+
+-- the units that an undo of n takes off: the last n, of which there is one at least, or all
+abbrev pub last_units : ℕ → List Entry → List UndoUnit
+last_units n es = take (max n 1) (units es)
+
+-- their entries, and those before them
+abbrev pub last_of : ℕ → List Entry → List Entry
+last_of n es = together (last_units n es)
+
+abbrev pub kept_of : ℕ → List Entry → List Entry
+kept_of n es = together (drop (max n 1) (units es))
+
+-- the entries that a redo puts back: the first unit, or all where that is the Begin of an open group
+abbrev pub redo_from : List Entry → List UndoUnit → List Entry
+redo_from es [] = []
+redo_from es (Open ∷ us) = es
+redo_from es (Whole inner ∷ us) = inner
+
+abbrev pub redo_of : List Entry → List Entry
+redo_of es = redo_from es (reverse (units es))
+
+abbrev pub is_change : Entry → Bool
+is_change Begin = false
+is_change End = false
+is_change _ = true
+
+abbrev pub has_change : List Entry → Bool
+has_change [] = false
+has_change (e ∷ es) = is_change e || has_change es
+
+abbrev pub is_begin : Entry → Bool
+is_begin Begin = true
+is_begin _ = false
+
+abbrev pub ends_in_begin : List Entry → Bool
+ends_in_begin [] = false
+ends_in_begin (e ∷ []) = is_begin e
+ends_in_begin (e ∷ (d ∷ ds)) = ends_in_begin (d ∷ ds)
+
+-- the group that was opened last is closed: a Begin at the end is taken off, else an End is added
+abbrev pub end_one : List Entry → List Entry
+end_one [] = End ∷ []
+end_one (e ∷ []) = if is_begin e then [] else e ∷ (End ∷ [])
+end_one (e ∷ (d ∷ ds)) = e ∷ end_one (d ∷ ds)
+
+-- n groups are closed
+abbrev pub end_times : ℕ → List Entry → List Entry
+end_times zero es = es
+end_times (suc n) es = end_times n (end_one es)
+
+-- an End is added for one of n groups
+abbrev pub adds_end : ℕ → List Entry → Bool
+adds_end zero es = false
+adds_end (suc n) es = not (ends_in_begin es) || adds_end n (end_one es)
+
+-- the record after each call
+abbrev pub begun : Record → Record
+begun r = record { recorded = r.recorded ++ Begin ∷ []; pending = [] }
+
+abbrev pub ended : Record → Record
+ended r = record { recorded = end_times (level r.recorded) r.recorded; pending = [] }
+
+abbrev pub undone : ℕ → Record → Record
+undone n r = record { recorded = kept_of n r.recorded; pending = last_of n r.recorded ++ r.pending }
+
+abbrev pub redone : Record → Record
+redone r = record { recorded = r.recorded ++ redo_of r.pending; pending = drop (length (redo_of r.pending)) r.pending }
+
+abbrev pub truncated : ℕ → Record → Record
+truncated len r = record { recorded = take len r.recorded; pending = [] }
+
+-- the record after so many redos
+abbrev pub redone_times : ℕ → Record → Record
+redone_times zero r = r
+redone_times (suc n) r = redone_times n (redone r)
+
+-- the open groups, the latest first, each with whether it holds a change; the latest comes to hold one
+abbrev pub touched : List Bool → List Bool
+touched [] = []
+touched (_ ∷ flags) = true ∷ flags
+
+-- the open groups after an entry: none where it is an End of no group, or of a group without a change
+abbrev pub mark : Entry → List Bool → Option (List Bool)
+mark Begin flags = Some (false ∷ flags)
+mark End [] = None
+mark End (false ∷ flags) = None
+mark End (true ∷ flags) = Some (touched flags)
+mark (Inserted i s) flags = Some (touched flags)
+mark (Deleted i s) flags = Some (touched flags)
+mark (Replaced i s t) flags = Some (touched flags)
+
+abbrev pub marks : List Entry → List Bool → Option (List Bool)
+marks [] flags = Some flags
+marks (e ∷ es) flags = option_and_then (marks es) (mark e flags)
+
+-- each End has its Begin before it, and each closed group holds a change
+abbrev pub IsMatched : List Entry → Type 0
+IsMatched es = IsSome (marks es [])
+
+-- so it is in both lists of a record
+pub record BothMatched (r : Record) : Type 0 where
+  pub recorded : IsMatched r.recorded
+  pub pending : IsMatched r.pending
+
+-- the entries end with a Begin and what stands in its group: matched entries with no open group, and a change
+pub record GroupAt (es : List Entry) : Type 0 where
+  pub before : List Entry
+  pub inner : List Entry
+  pub is : es ≡ before ++ Begin ∷ inner
+  pub matched : IsMatched inner
+  pub closed : level inner ≡ 0
+  pub changed : IsTrue (has_change inner)
+
+-- what may happen in an open group: an event, or the begin of another
+pub data InGroup : Type 0 where
+  Hears : Event → InGroup
+  Begins : InGroup
+
+abbrev pub after_in_group : List InGroup → Record → Record
+after_in_group [] r = r
+after_in_group (Hears event ∷ steps) r = after_in_group steps (record_step r event)
+after_in_group (Begins ∷ steps) r = after_in_group steps (begun r)

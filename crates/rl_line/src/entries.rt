@@ -1,0 +1,323 @@
+//! Lists of entries: what an event adds to one, and which entries an undo or a redo moves to another.
+ghost use Rattle.std.specs.Prelude.{◌≡◌, ◌-◌, ◌+◌, ◌^◌, ◌≤◌, ◌<◌, [], ◌∷◌, ◌++◌, length, map, take, drop, reverse, not, IfOk, IfErr, IsSome, OnOk};
+ghost use Rattle.std.specs.Option.{option_map};
+ghost use Rattle.std.specs.String.{string_bytes};
+ghost use Rattle.std.specs.Vec.{vec_len, vec_capacity};
+ghost use Rattle.rl_base.specs.Event.{InsertChar, InsertStr, Delete, Replace};
+ghost use Rattle.rl_base.specs.declared.listeners.Refusal.TheVariants.{NoMemory};
+ghost use Rattle.rl_line.specs.Record.{JoinsLast, entries_after, entry_of, last_insert};
+ghost use Rattle.rl_line.specs.Undo.{faced, line_back};
+ghost use Rattle.rl_line.specs.Units.{IsMatched, adds_end, end_one, end_times, deep, ends_in_begin, has_change, last_of, level, redo_of};
+
+use crate::change::{Change, Way, copied};
+use crate::line_buffer::LineBuffer;
+use rl_base::{Direction, Refusal, RepeatCount};
+use std::alloc::Global;
+
+/// Records that a character was put in.
+#[tactic(auto, using(crate::proofs::JoinLemmas::alone_in_list), unfolding(crate::specs::Record::entries_of))]
+pub(crate) fn insert_char(entries: &mut Vec<Change>, idx: usize, c: char) -> Result<(), Refusal>
+    ensures ok { OnOk result (map entry_of entries.new.items ≡ entries_after (InsertChar idx c) (map entry_of entries.old.items)) }
+    ensures err { IfErr result (λ r. (r ≡ NoMemory) × (map entry_of entries.new.items ≡ map entry_of entries.old.items)) }
+{
+    if join_char(entries, idx, c)? {
+        return Ok(());
+    }
+    let mut bytes = [0; 4];
+    let text = copied(*entries.allocator(), c.encode_utf8(&mut bytes))?;
+    add(entries, Change::Insert(idx, text))
+}
+
+/// Records that a text was put in.
+#[tactic(auto, using(crate::proofs::JoinLemmas::alone_in_list), unfolding(crate::specs::Record::entries_of))]
+pub(crate) fn insert_str(entries: &mut Vec<Change>, idx: usize, string: &str) -> Result<(), Refusal>
+    ensures ok { OnOk result (map entry_of entries.new.items ≡ entries_after (InsertStr idx string.now) (map entry_of entries.old.items)) }
+    ensures err { IfErr result (λ r. (r ≡ NoMemory) × (map entry_of entries.new.items ≡ map entry_of entries.old.items)) }
+{
+    if string.is_empty() {
+        return Ok(());
+    }
+    let text = copied(*entries.allocator(), string)?;
+    add(entries, Change::Insert(idx, text))
+}
+
+/// Records that a text was taken out.
+#[tactic(auto, using(crate::proofs::JoinLemmas::alone_in_list), unfolding(crate::specs::Record::entries_of))]
+pub(crate) fn delete(
+    entries: &mut Vec<Change>,
+    idx: usize,
+    string: &str,
+    dir: Direction,
+) -> Result<(), Refusal>
+    ensures ok { OnOk result (map entry_of entries.new.items ≡ entries_after (Delete idx string.now dir) (map entry_of entries.old.items)) }
+    ensures err { IfErr result (λ r. (r ≡ NoMemory) × (map entry_of entries.new.items ≡ map entry_of entries.old.items)) }
+{
+    if string.is_empty() || join_deletion(entries, idx, string, dir)? {
+        return Ok(());
+    }
+    let text = copied(*entries.allocator(), string)?;
+    add(entries, Change::Delete(idx, text))
+}
+
+/// Records that a text gave way to another.
+#[tactic(auto, using(crate::proofs::JoinLemmas::alone_in_list), unfolding(crate::specs::Record::entries_of))]
+pub(crate) fn replace(
+    entries: &mut Vec<Change>,
+    idx: usize,
+    old: &str,
+    new: &str,
+) -> Result<(), Refusal>
+    ensures ok { OnOk result (map entry_of entries.new.items ≡ entries_after (Replace idx old.now new.now) (map entry_of entries.old.items)) }
+    ensures err { IfErr result (λ r. (r ≡ NoMemory) × (map entry_of entries.new.items ≡ map entry_of entries.old.items)) }
+{
+    if join_replacement(entries, idx, old, new)? {
+        return Ok(());
+    }
+    let before = copied(*entries.allocator(), old)?;
+    let after = copied(*entries.allocator(), new)?;
+    add(entries, Change::Replace(idx, before, after))
+}
+
+// Joins a character that was inserted to the last entry, if it does.
+fn join_char(entries: &mut Vec<Change>, idx: usize, c: char) -> Result<bool, Refusal>
+    ensures ok { IfOk result (λ answer. JoinsLast (InsertChar idx c) (map entry_of entries.old.items) (map entry_of entries.new.items) answer) }
+    ensures err { IfErr result (λ r. (r ≡ NoMemory) × (map entry_of entries.new.items ≡ map entry_of entries.old.items)) }
+{
+    if let Some(last) = entries.last_mut() {
+        return last.join_char(idx, c);
+    }
+    Ok(false)
+}
+
+// Joins a deletion to the last entry, if it does.
+fn join_deletion(
+    entries: &mut Vec<Change>,
+    idx: usize,
+    string: &str,
+    dir: Direction,
+) -> Result<bool, Refusal>
+    ensures ok { IfOk result (λ answer. JoinsLast (Delete idx string.now dir) (map entry_of entries.old.items) (map entry_of entries.new.items) answer) }
+    ensures err { IfErr result (λ r. (r ≡ NoMemory) × (map entry_of entries.new.items ≡ map entry_of entries.old.items)) }
+{
+    if let Some(last) = entries.last_mut() {
+        return last.join_deletion(idx, string, dir);
+    }
+    Ok(false)
+}
+
+// Joins a replacement to the last entry, if it does.
+fn join_replacement(
+    entries: &mut Vec<Change>,
+    idx: usize,
+    old: &str,
+    new: &str,
+) -> Result<bool, Refusal>
+    ensures ok { IfOk result (λ answer. JoinsLast (Replace idx old.now new.now) (map entry_of entries.old.items) (map entry_of entries.new.items) answer) }
+    ensures err { IfErr result (λ r. (r ≡ NoMemory) × (map entry_of entries.new.items ≡ map entry_of entries.old.items)) }
+{
+    if let Some(last) = entries.last_mut() {
+        return last.join_replacement(idx, old, new);
+    }
+    Ok(false)
+}
+
+/// Adds an entry.
+pub(crate) fn add(entries: &mut Vec<Change>, entry: Change) -> Result<(), Refusal>
+    ensures ok { OnOk result (map entry_of entries.new.items ≡ map entry_of entries.old.items ++ entry_of entry ∷ []) }
+    ensures err { IfErr result (λ r. (r ≡ NoMemory) × (map entry_of entries.new.items ≡ map entry_of entries.old.items)) }
+{
+    if entries.push(entry).is_err() {
+        return Err(Refusal::NoMemory);
+    }
+    Ok(())
+}
+
+/// The first entries, all where there are fewer.
+pub(crate) fn first(entries: &[Change], len: usize) -> &[Change]
+    ensures { map entry_of result.now ≡ take len (map entry_of entries.now) }
+{
+    &entries[..len.min(entries.len())]
+}
+
+/// How many groups are open.
+pub(crate) fn level(entries: &[Change]) -> usize
+    requires { IsMatched (map entry_of entries.now) }
+    ensures { result ≡ level (map entry_of entries.now) }
+{
+    let mut level = 0;
+    for entry in entries {
+        level = level_behind(entry, level);
+    }
+    level
+}
+
+// How many groups are open behind an entry, where so many are before it.
+fn level_behind(entry: &Change, level: usize) -> usize
+    requires { level < 2 ^ 63 }
+    ensures level { result ≡ deep level (entry_of entry.now ∷ []) }
+    ensures bound { result ≤ level + 1 }
+{
+    match entry {
+        Change::Begin => level + 1,
+        Change::End => level.saturating_sub(1),
+        Change::Insert(_, _) | Change::Delete(_, _) | Change::Replace(_, _, _) => level,
+    }
+}
+
+/// Closes so many groups in a list with room for as many entries. Answers whether it added an End.
+pub(crate) fn close_groups(entries: &mut Vec<Change>, count: usize) -> bool
+    requires { vec_len entries.old + count ≤ vec_capacity entries.old }
+    ensures entries { map entry_of entries.new.items ≡ end_times count (map entry_of entries.old.items) }
+    ensures answer { result ≡ adds_end count (map entry_of entries.old.items) }
+{
+    let mut added = false;
+    for _ in 0..count {
+        added = close_last(entries) | added;
+    }
+    added
+}
+
+// Closes the group that was opened last: takes a Begin at the end off, or adds an End, and answers whether it did.
+fn close_last(entries: &mut Vec<Change>) -> bool
+    requires { vec_len entries.old < vec_capacity entries.old }
+    ensures entries { map entry_of entries.new.items ≡ end_one (map entry_of entries.old.items) }
+    ensures answer { result ≡ not (ends_in_begin (map entry_of entries.old.items)) }
+    ensures len { vec_len entries.new ≤ vec_len entries.old + 1 }
+    ensures capacity { vec_capacity entries.old ≤ vec_capacity entries.new }
+{
+    if ends_in_begin(entries) {
+        entries.pop();
+        return false;
+    }
+    match entries.push(Change::End) {
+        Ok(()) => true,
+        Err(_) => unreachable!(),
+    }
+}
+
+// Whether the last entry is a Begin.
+fn ends_in_begin(entries: &[Change]) -> bool
+    ensures { result ≡ ends_in_begin (map entry_of entries.now) }
+{
+    match entries.last() {
+        Some(last) => last.is_begin(),
+        None => false,
+    }
+}
+
+/// How many entries the last `n` units have, or the last one where `n` is 0.
+pub(crate) fn last_len(entries: &[Change], n: RepeatCount) -> usize
+    requires { IsMatched (map entry_of entries.now) }
+    ensures { result ≡ length (last_of n (map entry_of entries.now)) }
+{
+    let mut units = usize::from(n.max(1));
+    let mut depth: usize = 0;
+    let mut at = entries.len();
+    while at > 0 && (units > 0 || depth > 0) {
+        at -= 1;
+        match entries[at] {
+            Change::End => {
+                if depth == 0 {
+                    units -= 1;
+                }
+                depth += 1;
+            }
+            Change::Begin => {
+                if depth == 0 {
+                    units -= 1;
+                } else {
+                    depth -= 1;
+                }
+            }
+            Change::Insert(_, _) | Change::Delete(_, _) | Change::Replace(_, _, _) => {
+                if depth == 0 {
+                    units -= 1;
+                }
+            }
+        }
+    }
+    entries.len() - at
+}
+
+/// How many entries the unit has that is redone next, of undone entries of which the last comes first.
+pub(crate) fn next_len(entries: &[Change]) -> usize
+    requires { IsMatched (reverse (map entry_of entries.now)) }
+    ensures { result ≡ length (redo_of (reverse (map entry_of entries.now))) }
+{
+    let mut level = 0;
+    let mut at = entries.len();
+    while at > 0 {
+        at -= 1;
+        level = level_behind(&entries[at], level);
+        if level == 0 {
+            return entries.len() - at;
+        }
+    }
+    entries.len()
+}
+
+/// A copy of what the last entry put in, Ends passed over.
+pub(crate) fn last_insert(entries: &[Change], alloc: Global) -> Result<Option<String>, Refusal>
+    ensures ok { IfOk result (λ text. option_map string_bytes text ≡ last_insert (map entry_of entries.now)) }
+    ensures err { IfErr result (λ r. r ≡ NoMemory) }
+{
+    let mut left = entries.len();
+    while left > 0 {
+        left -= 1;
+        match &entries[left] {
+            Change::End => {}
+            Change::Insert(_, new) | Change::Replace(_, _, new) => {
+                return Ok(Some(copied(alloc, new.as_str())?));
+            }
+            Change::Begin | Change::Delete(_, _) => return Ok(None),
+        }
+    }
+    Ok(None)
+}
+
+/// Takes a line over the last entries of a list, and moves these to the end of another, the last first. It finds
+/// all room before it changes anything. Answers whether there was a change among them.
+pub(crate) fn carry_over(
+    from: &mut Vec<Change>,
+    to: &mut Vec<Change>,
+    count: usize,
+    line: &mut LineBuffer,
+    way: Way,
+) -> Result<bool, Refusal>
+    requires count { count ≤ length from.old.items }
+    requires fits { IsSome (line_back (map (faced way) (drop (length from.old.items - count) from.old.items)) line.old) }
+    ensures line { OnOk result (line_back (map (faced way) (drop (length from.old.items - count) from.old.items)) line.old ≡ Some line.new) }
+    ensures from { OnOk result (from.new.items ≡ take (length from.old.items - count) from.old.items) }
+    ensures to { OnOk result (to.new.items ≡ to.old.items ++ reverse (drop (length from.old.items - count) from.old.items)) }
+    ensures answer { IfOk result (λ answer. answer ≡ has_change (map entry_of (drop (length from.old.items - count) from.old.items))) }
+    ensures err { IfErr result (λ r. (r ≡ NoMemory) × (from.new.items ≡ from.old.items) × (to.new.items ≡ to.old.items) × (line.new ≡ line.old)) }
+{
+    if to.reserve(count).is_err() {
+        return Err(Refusal::NoMemory);
+    }
+    line.go_over_all(&from[from.len() - count..], way)?;
+    Ok(move_last(from, to, count))
+}
+
+// Moves the last entries of a list to the end of another that has room for them, the last first. Answers whether
+// there was a change among them.
+fn move_last(from: &mut Vec<Change>, to: &mut Vec<Change>, count: usize) -> bool
+    requires count { count ≤ length from.old.items }
+    requires room { vec_len to.old + count ≤ vec_capacity to.old }
+    ensures from { from.new.items ≡ take (length from.old.items - count) from.old.items }
+    ensures to { to.new.items ≡ to.old.items ++ reverse (drop (length from.old.items - count) from.old.items) }
+    ensures answer { result ≡ has_change (map entry_of (drop (length from.old.items - count) from.old.items)) }
+{
+    let mut changed = false;
+    for _ in 0..count {
+        let Some(entry) = from.pop() else {
+            unreachable!();
+        };
+        changed = entry.is_change() | changed;
+        match to.push(entry) {
+            Ok(()) => {}
+            Err(_) => unreachable!(),
+        }
+    }
+    changed
+}
