@@ -7,3 +7,6 @@ pub mod ClassLemmas
 pub mod SearchLemmas
 pub mod EventLemmas
 pub mod SwapLemmas
+pub mod RingLemmas
+pub mod SlotLemmas
+pub mod KillGroupLemmas

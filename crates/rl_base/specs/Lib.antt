@@ -6,3 +6,6 @@ pub mod Words
 pub mod Classes
 pub mod Search
 pub mod Event
+pub mod KillRing
+pub mod KillGroups
+pub mod RingLends

@@ -1,8 +1,11 @@
 //! Laws that hold of the definitions alone.
-ghost use Rattle.std.specs.Prelude.{◌≡◌, ◌<◌, ◌↔◌};
+ghost use Rattle.std.specs.Prelude.{◌≡◌, ℕ, ◌<◌, ◌↔◌, false, List, ◌∷◌, ◌++◌, None, take, slice_get};
 ghost use Rattle.std.specs.Cmp.{IsTotalOrder};
 ghost use Rattle.std.specs.declared.cmp.Ordering.TheVariants.{Less, Equal};
 ghost use Rattle.rl_base.specs.declared.layout.Position.{Position};
+ghost use Rattle.rl_base.specs.declared.kill_ring.Mode.{Mode};
+ghost use Rattle.rl_base.specs.KillRing.{new_ring, yank};
+ghost use Rattle.rl_base.specs.KillGroups.{Doing, Kills, ring_done, group_done, no_groups, groups_of, newest_first, AllKills, all_joined};
 ghost use Rattle.rl_base.specs.Widths.{by_row};
 
 /// The order of positions is total, goes by row and within a row by column, and two positions are equal in
@@ -12,4 +15,15 @@ pub fn positions_are_ordered()
     ensures rows { (a b : Position) → a.row < b.row → by_row a b ≡ Less }
     ensures columns { (a b : Position) → a.row ≡ b.row → a.col < b.col → by_row a b ≡ Less }
     ensures equal { (a b : Position) → (by_row a b ≡ Equal) ↔ ((a.row ≡ b.row) × (a.col ≡ b.col)) }
+{}
+
+/// Whatever is done with a new ring but `yank_pop`, and where no kill is refused, it holds the latest groups of
+/// consecutive kills, as many as it has room for, and a yank gives the newest. Kills one right after the other
+/// are one group, of their texts joined.
+pub fn ring_holds_groups()
+    ensures last { (size : ℕ) (doings : List Doing) → 0 < size → newest_first (ring_done doings (new_ring size)) ≡ take size (groups_of doings) }
+    ensures newest { (size : ℕ) (doings : List Doing) → 0 < size → yank (ring_done doings (new_ring size)) ≡ slice_get (groups_of doings) 0 }
+    ensures none { (doings : List Doing) → yank (ring_done doings (new_ring 0)) ≡ None }
+    ensures groups { (doings kills : List Doing) (text : List ℕ) (mode : Mode) → (group_done doings no_groups).growing ≡ false → AllKills kills
+        → groups_of (doings ++ (Kills text mode ∷ kills)) ≡ all_joined text kills ∷ groups_of doings }
 {}

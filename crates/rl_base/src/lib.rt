@@ -1,6 +1,7 @@
 //! What a line of text and its listeners share: places in a text, events, and the traits that hear them.
 #![tactic(auto)]
 
+pub mod kill_ring;
 pub mod laws;
 pub mod layout;
 pub mod listeners;
@@ -9,6 +10,7 @@ pub mod places;
 #[cfg(test)]
 mod tests;
 
+pub use kill_ring::{KillRing, Mode};
 pub use layout::{GraphemeClusterMode, Layout, Position, Unit};
 pub use listeners::{ChangeListener, DeleteListener, Direction, NoListener, Refusal};
 pub use motion::{Anchor, At, CharSearch, Movement, RepeatCount, Word, WordAction};

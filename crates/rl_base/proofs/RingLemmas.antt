@@ -1,0 +1,108 @@
+-- What a kill makes of a ring.
+use Rattle.std.proofs.Common.{◌≡◌, ℕ, ◌+◌, ◌<◌, ◌≤◌, zero, suc, Bool, true, false, cond, List, [], ◌∷◌, ◌++◌, length, map, set, get_or, Result, Ok, Err, OnOk, IfErr, String, Global, string_bytes, refl, ap, ◌∙◌, ◌⊎◌, inl, inr, arith, length-append}
+use Rattle.std.proofs.lemmas.Bool.{eqb-true, eqb-false}
+use Rattle.std.proofs.lemmas.List.{length-set}
+use Rattle.std.specs.Prelude.{max, ◌==◌, slice_set}
+use Rattle.rl_base.specs.declared.kill_ring.Action.{Action}
+use Rattle.rl_base.specs.declared.kill_ring.Action.TheVariants.{Kill, Yank, Other}
+use Rattle.rl_base.specs.declared.kill_ring.Mode.{Mode}
+use Rattle.rl_base.specs.declared.listeners.Refusal.{Refusal}
+use Rattle.rl_base.specs.declared.listeners.Refusal.TheVariants.{NoMemory}
+use Rattle.rl_base.specs.KillRing.{Ring, joined, raised, next_index, put_at, join_at, in_new_slot, killed_as, killed, IsRing}
+
+-- joining leaves as many slots
+pub length-join : (slots : List (List ℕ)) (i : ℕ) (mode : Mode) (text : List ℕ) → length (join_at i mode text slots) ≡ length slots
+length-join [] i mode text = refl
+length-join (s ∷ ss) zero mode text = refl
+length-join (s ∷ ss) (suc i) mode text = ap suc (length-join ss i mode text)
+
+-- where the next slot goes
+pub record Next (size index : ℕ) (slots : List (List ℕ)) (i : ℕ) : Type 0 where
+  pub behind : i ≤ length slots
+  pub below : i < size
+  pub turns : (index + 1 ≡ size) × (i ≡ 0) ⊎ (index + 1 < size) × (i ≡ raised index slots)
+
+pub next_index-is : (size index : ℕ) (slots : List (List ℕ)) → 0 < size → length slots ≤ size → index < max 1 (length slots)
+    → Next size index slots (next_index size index slots)
+next_index-is size index slots some within at = through (index + 1 == size) refl
+  where
+    rises : (ss : List (List ℕ)) → index < max 1 (length ss) → index + 1 < size → (raised index ss ≤ length ss) × (raised index ss < size)
+    rises [] h k = (omega arith, omega arith)
+    rises (s ∷ ss) h k = (omega arith, k)
+
+    le : index + 1 ≤ size
+    le = omega arith
+
+    through : (b : Bool) → (index + 1 == size) ≡ b → Next size index slots (cond b 0 (raised index slots))
+    through true e = record { behind = omega arith; below = some; turns = inl (eqb-true (index + 1) size e, refl) }
+    through false e =
+        let n = eqb-false (index + 1) size e in
+        let less : index + 1 < size = omega arith in
+        let two = rises slots at less in record { behind = two.0; below = two.1; turns = inr (less, refl) }
+
+-- the next slot is within the size, and is there then
+pub length-put : (slots : List (List ℕ)) (i size : ℕ) (text : List ℕ) → i ≤ length slots → i < size → length slots ≤ size
+    → (length (put_at i text slots) ≤ size) × (i < length (put_at i text slots))
+length-put slots i size text h k le = through (i == length slots) refl
+  where
+    through : (b : Bool) → (i == length slots) ≡ b
+        → (length (cond b (slots ++ text ∷ []) (slice_set slots i text)) ≤ size) × (i < length (cond b (slots ++ text ∷ []) (slice_set slots i text)))
+    through true e =
+        let n = eqb-true i (length slots) e in
+        let l : length (slots ++ text ∷ []) ≡ length slots + 1 = length-append slots (text ∷ []) in (omega arith, omega arith)
+    through false e =
+        let n = eqb-false i (length slots) e in
+        let l : length (slice_set slots i text) ≡ length slots = length-set slots i text in (omega arith, omega arith)
+
+-- a kill keeps the size and the flag, and a ring stays a ring
+pub record Kept (old new : Ring) : Type 0 where
+  pub size_is : new.size ≡ old.size
+  pub killing_is : new.killing ≡ old.killing
+  pub ring : IsRing new
+
+put_kept : (text : List ℕ) (r : Ring) → 0 < r.size → IsRing r → Kept r (in_new_slot text r)
+put_kept text r some h =
+    let n = next_index-is r.size r.index r.slots some h.within h.at_slot in
+    let l = length-put r.slots (next_index r.size r.index r.slots) r.size text n.behind n.below h.within in
+    record { size_is = refl; killing_is = refl; ring = record { within = l.0; at_slot = omega arith } }
+
+kept_as : (size : ℕ) (last : Action) (text : List ℕ) (mode : Mode) (r : Ring) → size ≡ r.size → IsRing r → Kept r (killed_as size last text mode r)
+kept_as zero last text mode r e h = record { size_is = refl; killing_is = refl; ring = record { within = h.within; at_slot = h.at_slot } }
+kept_as (suc n) Kill text mode r e h =
+    let l = length-join r.slots r.index mode text in
+    record { size_is = refl; killing_is = refl; ring = record { within = rw l h.within; at_slot = rw l h.at_slot } }
+kept_as (suc n) (Yank m) text mode r e h = put_kept text r (omega arith) h
+kept_as (suc n) Other text mode r e h = put_kept text r (omega arith) h
+
+pub killed-kept : (text : List ℕ) (mode : Mode) (r : Ring) → IsRing r → Kept r (killed text mode r)
+killed-kept text mode r h = kept_as r.size r.last text mode r refl h
+
+-- ---- joining, in the code's list
+join-set : (xs : List (String Global)) (i : ℕ) (mode : Mode) (text : List ℕ) (x y : String Global) → i < length xs → x ≡ get_or xs i x
+    → string_bytes y ≡ joined mode (string_bytes x) text → map string_bytes (set xs i y) ≡ join_at i mode text (map string_bytes xs)
+join-set [] i mode text x y l is e = absurd (omega arith)
+join-set (z ∷ xs) zero mode text x y l is e = ap (λ w. w ∷ map string_bytes xs) (e ∙ ap (λ (w : String Global). joined mode (string_bytes w) text) is)
+join-set (z ∷ xs) (suc i) mode text x y l is e = ap (λ ws. string_bytes z ∷ ws) (join-set xs i mode text x y (omega arith) is e)
+
+same-set : (xs : List (String Global)) (i : ℕ) (x y : String Global) → i < length xs → x ≡ get_or xs i x → string_bytes y ≡ string_bytes x
+    → map string_bytes (set xs i y) ≡ map string_bytes xs
+same-set [] i x y l is e = absurd (omega arith)
+same-set (z ∷ xs) zero x y l is e = ap (λ w. w ∷ map string_bytes xs) (e ∙ ap (λ (w : String Global). string_bytes w) is)
+same-set (z ∷ xs) (suc i) x y l is e = ap (λ ws. string_bytes z ∷ ws) (same-set xs i x y (omega arith) is e)
+
+-- the same of what the call on the slot answers
+pub joins-ok : (xs : List (String Global)) (i : ℕ) (mode : Mode) (text : List ℕ) (x y : String Global) (result : Result (Unit {0}) Refusal) → i < length xs → x ≡ get_or xs i x
+    → OnOk result (string_bytes y ≡ joined mode (string_bytes x) text) → OnOk result (map string_bytes (set xs i y) ≡ join_at i mode text (map string_bytes xs))
+joins-ok xs i mode text x y (Ok a) l is e = join-set xs i mode text x y l is e
+joins-ok xs i mode text x y (Err r) l is e = tt
+
+pub joins-err : (xs : List (String Global)) (i : ℕ) (x y : String Global) (result : Result (Unit {0}) Refusal) → i < length xs → x ≡ get_or xs i x
+    → IfErr result (λ r. (r ≡ NoMemory) × (string_bytes y ≡ string_bytes x)) → IfErr result (λ r. (r ≡ NoMemory) × (map string_bytes (set xs i y) ≡ map string_bytes xs))
+joins-err xs i x y (Ok a) l is e = tt
+joins-err xs i x y (Err r) l is e = (e.0, same-set xs i x y l is e.1)
+
+-- where there is no such slot
+pub join-past : (slots : List (List ℕ)) (i : ℕ) (mode : Mode) (text : List ℕ) → (i < length slots → ⊥) → slots ≡ join_at i mode text slots
+join-past [] i mode text h = refl
+join-past (s ∷ ss) zero mode text h = absurd (h (omega arith))
+join-past (s ∷ ss) (suc i) mode text h = ap (λ l. s ∷ l) (join-past ss i mode text (λ l. h (omega arith)))

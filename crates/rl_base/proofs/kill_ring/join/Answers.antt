@@ -1,0 +1,22 @@
+use Rattle.std.proofs.Common.{◌<◌, length, map, refl, arith, string_bytes}
+use Rattle.std.proofs.lemmas.List.{length-map}
+use Rattle.rl_base.proofs.RingLemmas.{join-past, joins-err, joins-ok}
+use Rattle.rl_base.proofs.kill_ring.join.Goals as goal
+
+pub returns-in-Some-clause-ok : goal.returns-in-Some-clause-ok
+returns-in-Some-clause-ok c =
+    let slots = c.args.slots.now in
+    let below : c.args.index < length slots.items = omega (arith, slots.ok.0, c.in-Some.ensures.variant.0 refl) in
+    joins-ok slots.items c.args.index c.args.mode c.args.text.now c.in-Some.slot.now c.join_to.new.slot c.join_to.result below c.in-Some.ensures.value c.join_to.ensures.ok
+
+pub returns-in-Some-clause-err : goal.returns-in-Some-clause-err
+returns-in-Some-clause-err c =
+    let slots = c.args.slots.now in
+    let below : c.args.index < length slots.items = omega (arith, slots.ok.0, c.in-Some.ensures.variant.0 refl) in
+    joins-err slots.items c.args.index c.in-Some.slot.now c.join_to.new.slot c.join_to.result below c.in-Some.ensures.value c.join_to.ensures.err
+
+pub returns-clause-ok : goal.returns-clause-ok
+returns-clause-ok c =
+    let slots = c.args.slots.now in
+    join-past (map string_bytes slots.items) c.args.index c.args.mode c.args.text.now
+    (λ l. let none = c.in_default.ensures.variant.1 (omega (arith, slots.ok.0, l, length-map slots.items string_bytes)) in cc)

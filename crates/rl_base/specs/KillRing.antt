@@ -1,0 +1,143 @@
+-- A ring of killed texts, and what each of its steps makes of it.
+use Rattle.std.specs.Prelude.{ℕ, ◌+◌, ◌-◌, ◌==◌, zero, suc, Bool, true, false, List, [], ◌∷◌, ◌++◌, max, ◌<◌, ◌≤◌, length, slice_set, slice_get, Option, Some, None, option_map, if◌then◌else◌}
+use Rattle.rl_base.specs.declared.kill_ring.Action.{Action}
+use Rattle.rl_base.specs.declared.kill_ring.Action.TheVariants.{Kill, Yank, Other}
+use Rattle.rl_base.specs.declared.kill_ring.Mode.{Mode}
+use Rattle.rl_base.specs.declared.kill_ring.Mode.TheVariants.{Append, Prepend}
+use Rattle.rl_base.specs.declared.listeners.Direction.{Direction}
+use Rattle.rl_base.specs.declared.listeners.Direction.TheVariants.{Forward, Backward}
+use Rattle.rl_base.specs.Event.{Event, InsertChar, InsertStr, Delete, Replace, Start, Stop}
+
+-- the most slots there may be, the slots, the index of the current one, what was done last, and whether a kill is on
+pub record Ring : Type 0 where
+  pub size : ℕ
+  pub slots : List (List ℕ)
+  pub index : ℕ
+  pub last : Action
+  pub killing : Bool
+
+-- no more slots than the size, and the index at one of them, or at 0 before the first
+pub record IsRing (r : Ring) : Type 0 where
+  pub within : length r.slots ≤ r.size
+  pub at_slot : r.index < max 1 (length r.slots)
+
+-- a ring without slots
+abbrev pub new_ring : ℕ → Ring
+new_ring size = record { size = size; slots = []; index = 0; last = Other; killing = false }
+
+-- a text joined to an old one, at its end or at its front
+abbrev pub joined : Mode → List ℕ → List ℕ → List ℕ
+joined Append old text = old ++ text
+joined Prepend old text = text ++ old
+
+-- a text joined to the slot at i
+abbrev pub join_at : ℕ → Mode → List ℕ → List (List ℕ) → List (List ℕ)
+join_at i mode text [] = []
+join_at zero mode text (s ∷ ss) = joined mode s text ∷ ss
+join_at (suc i) mode text (s ∷ ss) = s ∷ join_at i mode text ss
+
+-- a text put over the slot at i, or behind all slots
+abbrev pub put_at : ℕ → List ℕ → List (List ℕ) → List (List ℕ)
+put_at i text slots = if i == length slots then slots ++ text ∷ [] else slice_set slots i text
+
+-- the index one up, where there is a slot
+abbrev pub raised : ℕ → List (List ℕ) → ℕ
+raised index [] = index
+raised index (s ∷ ss) = index + 1
+
+-- where the next new slot goes: right behind the current one, and from the last place of the ring back to 0
+abbrev pub next_index : ℕ → ℕ → List (List ℕ) → ℕ
+next_index size index slots = if index + 1 == size then 0 else raised index slots
+
+-- a text joined to the current slot
+abbrev pub in_current : Mode → List ℕ → Ring → Ring
+in_current mode text r = record r { slots = join_at r.index mode text r.slots; last = Kill }
+
+-- a text in a slot of its own, which is the current one then
+abbrev pub in_new_slot : List ℕ → Ring → Ring
+in_new_slot text r =
+    record r { slots = put_at (next_index r.size r.index r.slots) text r.slots; index = next_index r.size r.index r.slots; last = Kill }
+
+-- a kill, by the ring's size and what was done last
+abbrev pub killed_as : ℕ → Action → List ℕ → Mode → Ring → Ring
+killed_as zero _ text mode r = record r { last = Kill }
+killed_as (suc _) Kill text mode r = in_current mode text r
+killed_as (suc _) (Yank _) text mode r = in_new_slot text r
+killed_as (suc _) Other text mode r = in_new_slot text r
+
+-- the ring after a kill: one right after another kill joins its text, any other begins a slot
+abbrev pub killed : List ℕ → Mode → Ring → Ring
+killed text mode r = killed_as r.size r.last text mode r
+
+-- the ring where something else was done
+abbrev pub reset : Ring → Ring
+reset r = record r { last = Other }
+
+-- what a yank answers: the current slot
+abbrev pub yank : Ring → Option (List ℕ)
+yank r = slice_get r.slots r.index
+
+-- the ring that lent a slot, whose length it keeps
+abbrev pub lent : Option (List ℕ) → Ring → Ring
+lent None r = r
+lent (Some text) r = record r { last = Yank (length text) }
+
+-- the ring after a yank
+abbrev pub yanked : Ring → Ring
+yanked r = lent (yank r) r
+
+-- the length that was kept, where a yank was done last
+abbrev pub size_of : Action → Option ℕ
+size_of Kill = None
+size_of (Yank size) = Some size
+size_of Other = None
+
+-- what yank_size answers
+abbrev pub yank_size : Ring → Option ℕ
+yank_size r = size_of r.last
+
+-- the index one down, from 0 to the last slot
+abbrev pub index_before : ℕ → List (List ℕ) → ℕ
+index_before zero slots = length slots - 1
+index_before (suc i) slots = i
+
+-- the ring with the slot before as its current one
+abbrev pub turned : Ring → Ring
+turned r = record r { index = index_before r.index r.slots }
+
+-- what a yank_pop answers, by the length that was kept: that length, and the slot before
+abbrev pub popped : Option ℕ → Ring → Option (ℕ × List ℕ)
+popped None r = None
+popped (Some size) r = option_map (λ text. (size, text)) (yank (turned r))
+
+-- what a yank_pop answers
+abbrev pub yank_pop : Ring → Option (ℕ × List ℕ)
+yank_pop r = popped (yank_size r) r
+
+-- the ring after a yank_pop, by the length that was kept
+abbrev pub popped_ring : Option ℕ → Ring → Ring
+popped_ring None r = r
+popped_ring (Some size) r = yanked (turned r)
+
+-- the ring after a yank_pop
+abbrev pub yank_popped : Ring → Ring
+yank_popped r = popped_ring (yank_size r) r
+
+-- where a text is joined that stood at a side of the cursor
+abbrev pub side_mode : Direction → Mode
+side_mode Forward = Append
+side_mode Backward = Prepend
+
+-- the ring after a deletion: one while a kill is on is a kill
+abbrev pub heard : Bool → List ℕ → Direction → Ring → Ring
+heard false text side r = r
+heard true text side r = killed text (side_mode side) r
+
+-- the ring after an event
+abbrev pub ring_step : Ring → Event → Ring
+ring_step r (Delete _ text side) = heard r.killing text side r
+ring_step r Start = record r { killing = true }
+ring_step r Stop = record r { killing = false }
+ring_step r (InsertChar _ _) = r
+ring_step r (InsertStr _ _) = r
+ring_step r (Replace _ _ _) = r

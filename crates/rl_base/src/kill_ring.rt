@@ -1,0 +1,234 @@
+//! The ring of killed texts, from which they are yanked back.
+ghost use Rattle.std.specs.Prelude.{◌≡◌, ◌<◌, ◌≤◌, max, length, map, MatchOption, IfErr, OnOk};
+ghost use Rattle.std.specs.String.{string_bytes};
+ghost use Rattle.std.specs.Borrow.{sem};
+ghost use Rattle.rl_base.specs.declared.listeners.Refusal.TheVariants.{NoMemory};
+ghost use Rattle.rl_base.specs.KillRing.{IsRing, index_before, join_at, joined, killed, new_ring, next_index, put_at, reset, yank, yank_pop, yank_popped, yank_size, yanked};
+ghost use Rattle.rl_base.specs.RingLends.{EndsAs};
+
+#[cfg(test)]
+mod tests;
+
+use crate::listeners::{DeleteListener, Direction, Refusal};
+use std::alloc::Global;
+use std::marker::Model;
+
+/// Where a killed text is joined to the one that was killed right before it.
+#[derive(Clone, Copy, Debug, PartialEq, Eq)]
+pub enum Mode {
+    /// At its end.
+    Append,
+    /// At its front.
+    Prepend,
+}
+
+// What was done last. A yank keeps the length in bytes of the text that it lent.
+#[derive(Clone, Copy)]
+enum Action {
+    Kill,
+    Yank(usize),
+    Other,
+}
+
+/// Killed texts, as many as its size (GNU readline: kill ring). Kills right after each other make one text.
+/// One of the texts is the current one, which `yank` lends.
+#[derive(Drop)]
+pub struct KillRing {
+    size: usize,
+    slots: Vec<String>,
+    // Where the current text stands.
+    index: usize,
+    last: Action,
+    killing: bool,
+}
+
+impl Model for KillRing {
+    ghost use Rattle.std.specs.Prelude.{map};
+    ghost use Rattle.std.specs.String.{string_bytes};
+    ghost use Rattle.rl_base.specs.KillRing.{Ring, IsRing};
+
+    ghost Value = { Ring };
+
+    ghost view = { λ r. record { size = r.size; slots = map string_bytes r.slots.items; index = r.index; last = r.last; killing = r.killing } };
+
+    ghost invariant = { λ r. IsRing (record { size = r.size; slots = map string_bytes r.slots.items; index = r.index; last = r.last; killing = r.killing }) };
+}
+
+impl KillRing {
+    /// An empty ring that holds up to `size` texts. It takes no memory.
+    pub fn new(alloc: Global, size: usize) -> Self
+        ensures { result ≡ new_ring size }
+    {
+        KillRing {
+            size,
+            slots: Vec::new(alloc),
+            index: 0,
+            last: Action::Other,
+            killing: false,
+        }
+    }
+
+    /// Puts a killed text into the ring (GNU readline: kill-line and its like). Right after another kill it is
+    /// joined to that one's text, at the side that `dir` says. Else it goes right behind the current text, over
+    /// one that stands there, and is the current one. Refused, for want of memory, it changes nothing.
+    pub fn kill(&mut self, text: &str, dir: Mode) -> Result<(), Refusal>
+        ensures done { OnOk result (self.new ≡ killed text.now dir self.old) }
+        ensures err { IfErr result (λ r. (r ≡ NoMemory) × (self.new ≡ self.old)) }
+    {
+        if self.size == 0 {
+            self.last = Action::Kill;
+            return Ok(());
+        }
+        if let Action::Kill = self.last {
+            join(&mut self.slots, self.index, text, dir)?;
+            return Ok(());
+        }
+        let index = next_index(self.size, self.index, &self.slots);
+        put(&mut self.slots, index, text)?;
+        self.index = index;
+        self.last = Action::Kill;
+        Ok(())
+    }
+
+    /// Says that something other than a kill or a yank was done, so that the next kill begins a new text. The
+    /// texts stay.
+    pub fn reset(&mut self)
+        ensures { self.new ≡ reset self.old }
+    {
+        self.last = Action::Other;
+    }
+
+    /// The current text, `None` where there is none (GNU readline: yank): the one that was killed last, or that
+    /// `yank_pop` came to. Its length in bytes is kept for `yank_pop`.
+    pub fn yank(&mut self) -> Option<&String>
+        ensures* moved { sem 𝓛 (EndsAs self.entry (yanked self.old)) }
+        ensures value { MatchOption result (yank self.old ≡ None) (λ s. yank self.old ≡ Some (string_bytes s.now)) }
+    {
+        let slot = self.slots.get(self.index);
+        if let Some(text) = slot {
+            self.last = Action::Yank(text.as_str().len());
+        }
+        slot
+    }
+
+    /// Right after a `yank` or another `yank_pop`, goes to the text before the current one, from the first round
+    /// to the last (GNU readline: yank-pop). Answers the length in bytes of the text that was yanked, which is
+    /// to give way, and the text. `None` after anything else.
+    pub fn yank_pop(&mut self) -> Option<(usize, &String)>
+        ensures* moved { sem 𝓛 (EndsAs self.entry (yank_popped self.old)) }
+        ensures value { MatchOption result (yank_pop self.old ≡ None) (λ s. yank_pop self.old ≡ Some (s.0, string_bytes s.1.now)) }
+    {
+        let Action::Yank(size) = self.last else {
+            return None;
+        };
+        self.index = index_before(self.index, &self.slots);
+        let slot = self.yank()?;
+        Some((size, slot))
+    }
+
+    /// The length in bytes of the text that was yanked, where a `yank` or `yank_pop` was the last thing done.
+    pub fn yank_size(&self) -> Option<usize>
+        ensures size { result ≡ yank_size self.now }
+        ensures ring { IsRing self.now }
+    {
+        match self.last {
+            Action::Yank(size) => Some(size),
+            Action::Kill | Action::Other => None,
+        }
+    }
+}
+
+impl DeleteListener for KillRing {
+    ghost use Rattle.std.specs.Prelude.{◌≡◌};
+    ghost use Rattle.rl_base.specs.declared.listeners.Refusal.TheVariants.{NoMemory};
+    ghost use Rattle.rl_base.specs.KillRing.{ring_step};
+
+    ghost step = { ring_step };
+
+    ghost refused = { λ old _ why now. (why ≡ NoMemory) × (now ≡ old) };
+
+    fn start_killing(&mut self) {
+        self.killing = true;
+    }
+
+    fn delete(&mut self, _idx: usize, string: &str, dir: Direction) -> Result<(), Refusal> {
+        if !self.killing {
+            return Ok(());
+        }
+        match dir {
+            Direction::Forward => self.kill(string, Mode::Append)?,
+            Direction::Backward => self.kill(string, Mode::Prepend)?,
+        }
+        Ok(())
+    }
+
+    fn stop_killing(&mut self) {
+        self.killing = false;
+    }
+}
+
+// The index of the next new slot.
+fn next_index(size: usize, index: usize, slots: &[String]) -> usize
+    requires { index < max 1 (length slots.now) }
+    ensures { result ≡ next_index size index (map string_bytes slots.now) }
+{
+    if index + 1 == size {
+        return 0;
+    }
+    if slots.is_empty() { index } else { index + 1 }
+}
+
+// The index of the slot before.
+fn index_before(index: usize, slots: &[String]) -> usize
+    ensures { result ≡ index_before index (map string_bytes slots.now) }
+{
+    if index == 0 {
+        return slots.len().saturating_sub(1);
+    }
+    index - 1
+}
+
+// Puts a text over the slot at an index, or behind all slots.
+fn put(slots: &mut Vec<String>, index: usize, text: &str) -> Result<(), Refusal>
+    requires { index ≤ length slots.old.items }
+    ensures ok { OnOk result (map string_bytes slots.new.items ≡ put_at index text.now (map string_bytes slots.old.items)) }
+    ensures err { IfErr result (λ r. (r ≡ NoMemory) × (map string_bytes slots.new.items ≡ map string_bytes slots.old.items)) }
+{
+    let Ok(slot) = String::from_str(*slots.allocator(), text) else {
+        return Err(Refusal::NoMemory);
+    };
+    if index < slots.len() {
+        slots[index] = slot;
+        return Ok(());
+    }
+    if slots.push(slot).is_err() {
+        return Err(Refusal::NoMemory);
+    }
+    Ok(())
+}
+
+// Joins a text to the slot at an index.
+fn join(slots: &mut Vec<String>, index: usize, text: &str, mode: Mode) -> Result<(), Refusal>
+    ensures ok { OnOk result (map string_bytes slots.new.items ≡ join_at index mode text.now (map string_bytes slots.old.items)) }
+    ensures err { IfErr result (λ r. (r ≡ NoMemory) × (map string_bytes slots.new.items ≡ map string_bytes slots.old.items)) }
+{
+    if let Some(slot) = slots.get_mut(index) {
+        return join_to(slot, text, mode);
+    }
+    Ok(())
+}
+
+// Joins a text to a slot.
+fn join_to(slot: &mut String, text: &str, mode: Mode) -> Result<(), Refusal>
+    ensures ok { OnOk result (string_bytes slot.new ≡ joined mode (string_bytes slot.old) text.now) }
+    ensures err { IfErr result (λ r. (r ≡ NoMemory) × (string_bytes slot.new ≡ string_bytes slot.old)) }
+{
+    let done = match mode {
+        Mode::Append => slot.push_str(text),
+        Mode::Prepend => slot.insert_str(0, text),
+    };
+    match done {
+        Ok(()) => Ok(()),
+        Err(_) => Err(Refusal::NoMemory),
+    }
+}

@@ -1,0 +1,200 @@
+//! The ring, with answers that were worked out by hand, and what no clause says: that a call comes back with an
+//! answer.
+use crate::{DeleteListener, Direction, KillRing, Mode};
+use std::alloc::Global;
+use std::process::Abort;
+use std::test::Fail;
+
+// A call of a ring, with the answer that is expected of a yank.
+#[derive(Clone, Copy)]
+enum Call {
+    Kill(&'static str),
+    KillBack(&'static str),
+    Reset,
+    Yank(&'static str),
+    YankNone,
+    Pop(usize, &'static str),
+    PopNone,
+    Start,
+    Ahead(&'static str),
+    Back(&'static str),
+    Stop,
+}
+
+// Whether this slot was lent.
+fn lends(slot: Option<&String>, text: &str) -> bool {
+    match slot {
+        Some(slot) => slot.as_str() == text,
+        None => false,
+    }
+}
+
+// Makes the call. It answers whether that gave what is expected.
+fn make(ring: &mut KillRing, call: Call) -> Result<bool, Fail> {
+    match call {
+        Call::Kill(text) => ring.kill(text, Mode::Append)?,
+        Call::KillBack(text) => ring.kill(text, Mode::Prepend)?,
+        Call::Reset => ring.reset(),
+        Call::Yank(text) => return Ok(lends(ring.yank(), text)),
+        Call::YankNone => return Ok(ring.yank().is_none()),
+        Call::Pop(size, text) => {
+            return match ring.yank_pop() {
+                Some((before, slot)) => Ok(before == size && slot.as_str() == text),
+                None => Ok(false),
+            };
+        }
+        Call::PopNone => return Ok(ring.yank_pop().is_none()),
+        Call::Start => ring.start_killing(),
+        Call::Ahead(text) => ring.delete(0, text, Direction::Forward)?,
+        Call::Back(text) => ring.delete(0, text, Direction::Backward)?,
+        Call::Stop => ring.stop_killing(),
+    }
+    Ok(true)
+}
+
+// Makes the calls on a new ring of that size. Behind each stands the size of the last yank.
+fn goes(
+    rt: &impl Abort,
+    alloc: Global,
+    size: usize,
+    steps: &[(Call, Option<usize>)],
+) -> Result<(), Fail> {
+    let mut ring = KillRing::new(alloc, size);
+    for (i, (call, yanked)) in steps.iter().enumerate() {
+        let expected = make(&mut ring, *call)?;
+        assert!(rt; expected, "the answer of step {i}, size {size}");
+        assert_eq!(rt;
+            ring.yank_size(),
+            *yanked,
+            "the size of the last yank after step {i}, size {size}"
+        );
+    }
+    Ok(())
+}
+
+#[test]
+fn kills_join(rt: HostRuntime) -> Result<(), Fail> {
+    goes(
+        &rt,
+        rt.alloc(),
+        2,
+        &[
+            (Call::Kill("word1"), None),
+            (Call::Kill(" word2"), None),
+            (Call::Yank("word1 word2"), Some(11)),
+            // a yank ends the text
+            (Call::KillBack("word1"), None),
+            (Call::KillBack("word2 "), None),
+            (Call::Yank("word2 word1"), Some(11)),
+            (Call::Pop(11, "word1 word2"), Some(11)),
+        ],
+    )
+}
+
+#[test]
+fn a_pop_goes_round(rt: HostRuntime) -> Result<(), Fail> {
+    goes(
+        &rt,
+        rt.alloc(),
+        2,
+        &[
+            (Call::PopNone, None),
+            (Call::Kill("word1"), None),
+            // a reset leaves the text
+            (Call::Reset, None),
+            (Call::Kill("longword2"), None),
+            (Call::PopNone, None),
+            (Call::Yank("longword2"), Some(9)),
+            (Call::Pop(9, "word1"), Some(5)),
+            (Call::Pop(5, "longword2"), Some(9)),
+            (Call::Pop(9, "word1"), Some(5)),
+            (Call::Reset, None),
+            (Call::PopNone, None),
+            (Call::Yank("word1"), Some(5)),
+        ],
+    )
+}
+
+#[test]
+fn a_kill_overwrites_the_text_behind_the_current_one(rt: HostRuntime) -> Result<(), Fail> {
+    goes(
+        &rt,
+        rt.alloc(),
+        3,
+        &[
+            (Call::Kill("a"), None),
+            (Call::Reset, None),
+            (Call::Kill("b"), None),
+            (Call::Yank("b"), Some(1)),
+            (Call::Pop(1, "a"), Some(1)),
+            (Call::Reset, None),
+            (Call::Kill("c"), None),
+            (Call::Yank("c"), Some(1)),
+            (Call::Pop(1, "a"), Some(1)),
+            (Call::Pop(1, "c"), Some(1)),
+        ],
+    )
+}
+
+#[test]
+fn the_smallest_rings(rt: HostRuntime) -> Result<(), Fail> {
+    goes(
+        &rt,
+        rt.alloc(),
+        0,
+        &[
+            (Call::YankNone, None),
+            (Call::Kill("x"), None),
+            (Call::YankNone, None),
+            (Call::PopNone, None),
+        ],
+    )?;
+    goes(
+        &rt,
+        rt.alloc(),
+        1,
+        &[
+            (Call::YankNone, None),
+            (Call::Kill("a"), None),
+            (Call::Reset, None),
+            (Call::Kill("\u{df}"), None),
+            (Call::Yank("\u{df}"), Some(2)),
+            (Call::Pop(2, "\u{df}"), Some(2)),
+        ],
+    )
+}
+
+#[test]
+fn an_empty_kill_is_a_slot(rt: HostRuntime) -> Result<(), Fail> {
+    goes(
+        &rt,
+        rt.alloc(),
+        2,
+        &[
+            (Call::Kill(""), None),
+            (Call::Yank(""), Some(0)),
+            (Call::Pop(0, ""), Some(0)),
+        ],
+    )
+}
+
+#[test]
+fn deletions_of_a_kill_are_heard(rt: HostRuntime) -> Result<(), Fail> {
+    goes(
+        &rt,
+        rt.alloc(),
+        2,
+        &[
+            (Call::Ahead("x"), None),
+            (Call::YankNone, None),
+            (Call::Start, None),
+            (Call::Ahead("b"), None),
+            (Call::Back("a"), None),
+            (Call::Stop, None),
+            (Call::Back("y"), None),
+            (Call::Start, None),
+            (Call::Ahead("c"), None),
+            (Call::Yank("abc"), Some(3)),
+        ],
+    )
+}
