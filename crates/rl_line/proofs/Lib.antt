@@ -10,6 +10,7 @@ pub mod MoveLemmas
 pub mod OriginLemmas
 pub mod PlanLemmas
 pub mod RecordLemmas
+pub mod SideLemmas
 pub mod Counts
 pub mod UnitLemmas
 pub mod MatchLemmas

@@ -4,19 +4,19 @@ use Rattle.std.proofs.lemmas.List.{take_all}
 use Rattle.std.proofs.KnownBytes.{Appends-trans, Appends-nil, Consumes-trans}
 use Rattle.std.specs.Io.KnownBytes.{Appends, Consumes, Keeps, IsAtEnd}
 use Rattle.std.specs.Prelude.{IfSome, OnErr}
-use Rattle.rl_session.specs.State.{State}
 use Rattle.rl_session.specs.Lines.{lines_of, HasNoNewline}
-use Rattle.rl_session.specs.Script.{LineOut, begun, Outputs, CutOutputs, Stopped}
+use Rattle.rl_session.specs.Script.{LineOut, started, Outputs, CutOutputs, Stopped}
 use Rattle.rl_session.specs.Progress.{Took, Halts, Runs}
+use Rattle.rl_session.specs.declared.script.Interpreter.{Interpreter}
 use Rattle.rl_session.proofs.LineLemmas.{lines_of-ended, lines_of-last}
 
-pub Cut-whole : (lines : List (List ℕ)) (old new : State) (out : List ℕ) → Outputs old lines out new → CutOutputs old lines out
+pub Cut-whole : (lines : List (List ℕ)) (old new : Interpreter) (out : List ℕ) → Outputs old lines out new → CutOutputs old lines out
 Cut-whole [] old new out h = h.0
 Cut-whole (x ∷ []) old new out h =
     (h.0, h.1, length h.1, h.4, h.3 ∙ ap (λ l. h.1 ++ l) h.5.0 ∙ append-nil h.1 ∙ sym (take_all (length h.1) h.1 (omega arith)))
 Cut-whole (x ∷ y ∷ ys) old new out h = (h.0, h.1, h.2, h.3, h.4, Cut-whole (y ∷ ys) h.0 new h.2 h.5)
 
-pub Cut-append : (xs ys : List (List ℕ)) (old mid : State) (first others : List ℕ)
+pub Cut-append : (xs ys : List (List ℕ)) (old mid : Interpreter) (first others : List ℕ)
     → Outputs old xs first mid → CutOutputs mid ys others → CutOutputs old (xs ++ ys) (first ++ others)
 Cut-append [] ys old mid first others h k =
     subst (λ s. CutOutputs s ys (first ++ others)) h.1 (subst (λ (o : List ℕ). CutOutputs mid ys o) (sym (ap (λ l. l ++ others) h.0)) k)
@@ -28,7 +28,7 @@ Cut-append (x ∷ z ∷ zs) ys old mid first others h k =
     (h.0, h.1, h.2 ++ others, ap (λ l. l ++ others) h.3 ∙ append_assoc h.1 h.2 others, h.4, Cut-append (z ∷ zs) ys h.0 mid h.2 others h.5 k)
 
 -- nothing of it was written
-pub Halts-none : (old : State) (part bytes : List ℕ) (held : Option (List ℕ)) → Halts old part bytes held held
+pub Halts-none : (old : Interpreter) (part bytes : List ℕ) (held : Option (List ℕ)) → Halts old part bytes held held
 Halts-none old part bytes held = record {
   lines = [];
   out = [];
@@ -39,7 +39,7 @@ Halts-none old part bytes held = record {
 }
 
 -- a part of a line's output was written
-pub Halts-line : (old new : State) (line whole : List ℕ) (k : ℕ) (a b : Option (List ℕ)) → HasNoNewline line → LineOut old line whole new
+pub Halts-line : (old new : Interpreter) (line whole : List ℕ) (k : ℕ) (a b : Option (List ℕ)) → HasNoNewline line → LineOut old line whole new
     → Appends a b (take k whole) → Halts old line (10 ∷ []) a b
 Halts-line old new line whole k a b h out w = record {
   lines = line ∷ [];
@@ -50,7 +50,7 @@ Halts-line old new line whole k a b h out w = record {
   written = w;
 }
 
-pub Halts-after : (old mid : State) (part part' bytes bytes' : List ℕ) (a b c : Option (List ℕ))
+pub Halts-after : (old mid : Interpreter) (part part' bytes bytes' : List ℕ) (a b c : Option (List ℕ))
     → Took old part bytes a b mid part' → Halts mid part' bytes' b c → Halts old part (bytes ++ bytes') a c
 Halts-after old mid part part' bytes bytes' a b c h k = record {
   lines = h.lines ++ k.lines;
@@ -66,7 +66,7 @@ Halts-after old mid part part' bytes bytes' a b c h k = record {
 }
 
 -- whatever comes behind it
-pub Halts-longer : (old : State) (part bytes further : List ℕ) (a c : Option (List ℕ)) → Halts old part bytes a c → Halts old part (bytes ++ further) a c
+pub Halts-longer : (old : Interpreter) (part bytes further : List ℕ) (a c : Option (List ℕ)) → Halts old part bytes a c → Halts old part (bytes ++ further) a c
 Halts-longer old part bytes further a c h = record {
   lines = h.lines;
   out = h.out;
@@ -100,10 +100,10 @@ kept None b k = tt
 kept (Some x) None k = absurd k
 kept (Some x) (Some y) k = sym k
 
-pub Stopped-halts : (left mid leaves held holds now_holds : Option (List ℕ)) (now : State) (part bytes : List ℕ)
+pub Stopped-halts : (left mid leaves held holds now_holds : Option (List ℕ)) (now : Interpreter) (part bytes : List ℕ)
     → Runs left mid held holds now part → Consumes mid leaves bytes → Halts now part bytes holds now_holds → Stopped left held now_holds
 Stopped-halts left mid leaves held holds now_holds now part bytes h r k =
-    let all = Halts-after (begun []) now [] part h.input bytes held holds now_holds h.took k in
+    let all = Halts-after started now [] part h.input bytes held holds now_holds h.took k in
     record {
       lines = all.lines;
       out = all.out;
@@ -113,7 +113,7 @@ Stopped-halts left mid leaves held holds now_holds now part bytes h r k =
     }
 
 -- the last line of a script that ends within it
-pub Stopped-last : (left mid leaves held holds now_holds : Option (List ℕ)) (now : State) (part : List ℕ)
+pub Stopped-last : (left mid leaves held holds now_holds : Option (List ℕ)) (now : Interpreter) (part : List ℕ)
     → Runs left mid held holds now part → HasNoNewline part → (part ≡ [] → ⊥) → Consumes mid leaves [] → IsAtEnd leaves
     → Halts now part (10 ∷ []) holds now_holds → Stopped left held now_holds
 Stopped-last left mid leaves held holds now_holds now [] h n e r end k = absurd (e refl)
@@ -130,7 +130,7 @@ Stopped-last left mid leaves held holds now_holds now (b ∷ bs) h n e r end k =
       out = h.took.out ++ k.out;
       front = at_end left leaves h.input (h.took.lines ++ k.lines) (k.others [])
           (subst (λ l. Consumes left leaves l) (append-nil h.input) (Consumes-trans left mid leaves h.input [] h.read r)) end whole;
-      outputs = Cut-append h.took.lines k.lines (begun []) now h.took.out k.out h.took.outputs k.outputs;
+      outputs = Cut-append h.took.lines k.lines started now h.took.out k.out h.took.outputs k.outputs;
       written = Appends-trans held holds now_holds h.took.out k.out h.took.written k.written;
     }
 
@@ -139,7 +139,7 @@ pub Stopped-first : (left held : Option (List ℕ)) → Stopped left held held
 Stopped-first left held = record { lines = []; out = []; front = any left; outputs = refl; written = Appends-nil held }
 
 -- where a read fails
-pub Stopped-read : (left mid leaves held holds : Option (List ℕ)) (now : State) (part : List ℕ)
+pub Stopped-read : (left mid leaves held holds : Option (List ℕ)) (now : Interpreter) (part : List ℕ)
     → Runs left mid held holds now part → Keeps mid leaves → Stopped left held holds
 Stopped-read left mid leaves held holds now part h k =
     Stopped-halts left mid leaves held holds holds now part [] h (kept mid leaves k) (Halts-none now part [] holds)

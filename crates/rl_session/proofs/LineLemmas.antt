@@ -5,10 +5,10 @@ use Rattle.std.proofs.lemmas.Bool.Decides.{nat_tests}
 use borrow.Author.Tests.{eqb-true}
 use Rattle.std.proofs.KnownBytes.{Appends-trans, Appends-nil, Consumes-trans}
 use Rattle.std.specs.Io.KnownBytes.{Appends, Consumes, IsAtEnd}
-use Rattle.rl_session.specs.State.{State}
 use Rattle.rl_session.specs.Lines.{lines_of, onto, HasNoNewline}
-use Rattle.rl_session.specs.Script.{LineOut, begun, Outputs, Ran}
+use Rattle.rl_session.specs.Script.{LineOut, started, Outputs, Ran}
 use Rattle.rl_session.specs.Progress.{Took, Runs}
+use Rattle.rl_session.specs.declared.script.Interpreter.{Interpreter}
 
 not_ten : (b : ℕ) → b ≢ 10 → (b == 10) ≡ false
 not_ten b h = grind (arith, nat_tests)
@@ -27,18 +27,18 @@ pub HasNoNewline-more : (bs : List ℕ) (b : ℕ) → HasNoNewline bs → b ≢ 
 HasNoNewline-more [] b h n = (n, tt)
 HasNoNewline-more (c ∷ cs) b h n = (h.0, HasNoNewline-more cs b h.1 n)
 
-pub Outputs-append : (xs ys : List (List ℕ)) (old mid new : State) (first others : List ℕ)
+pub Outputs-append : (xs ys : List (List ℕ)) (old mid new : Interpreter) (first others : List ℕ)
     → Outputs old xs first mid → Outputs mid ys others new → Outputs old (xs ++ ys) (first ++ others) new
 Outputs-append [] ys old mid new first others h k =
     subst (λ s. Outputs s ys (first ++ others) new) h.1 (subst (λ (o : List ℕ). Outputs mid ys o new) (sym (ap (λ l. l ++ others) h.0)) k)
 Outputs-append (x ∷ xs) ys old mid new first others h k =
     (h.0, h.1, h.2 ++ others, ap (λ l. l ++ others) h.3 ∙ append_assoc h.1 h.2 others, h.4, Outputs-append xs ys h.0 mid new h.2 others h.5 k)
 
-pub Took-none : (old : State) (part : List ℕ) (held : Option (List ℕ)) → Took old part [] held held old part
+pub Took-none : (old : Interpreter) (part : List ℕ) (held : Option (List ℕ)) → Took old part [] held held old part
 Took-none old part held = record { lines = []; out = []; split = λ more. refl; outputs = (refl, refl); written = Appends-nil held }
 
 -- one byte more of a line
-pub Took-byte : (old : State) (part : List ℕ) (b : ℕ) (held : Option (List ℕ)) → Took old part (b ∷ []) held held old (part ++ b ∷ [])
+pub Took-byte : (old : Interpreter) (part : List ℕ) (b : ℕ) (held : Option (List ℕ)) → Took old part (b ∷ []) held held old (part ++ b ∷ [])
 Took-byte old part b held = record {
   lines = [];
   out = [];
@@ -47,7 +47,7 @@ Took-byte old part b held = record {
   written = Appends-nil held;
 }
 
-pub Took-trans : (old mid new : State) (part part' part'' bytes bytes' : List ℕ) (a b c : Option (List ℕ))
+pub Took-trans : (old mid new : Interpreter) (part part' part'' bytes bytes' : List ℕ) (a b c : Option (List ℕ))
     → Took old part bytes a b mid part' → Took mid part' bytes' b c new part'' → Took old part (bytes ++ bytes') a c new part''
 Took-trans old mid new part part' part'' bytes bytes' a b c h k = record {
   lines = h.lines ++ k.lines;
@@ -62,7 +62,7 @@ Took-trans old mid new part part' part'' bytes bytes' a b c h k = record {
 }
 
 -- a line that a newline ended was run and written
-pub Took-line : (old new : State) (line out : List ℕ) (a b : Option (List ℕ)) → HasNoNewline line → LineOut old line out new → Appends a b out
+pub Took-line : (old new : Interpreter) (line out : List ℕ) (a b : Option (List ℕ)) → HasNoNewline line → LineOut old line out new → Appends a b out
     → Took old line (10 ∷ []) a b new []
 Took-line old new line out a b h k w = record {
   lines = line ∷ [];
@@ -73,16 +73,16 @@ Took-line old new line out a b h k w = record {
 }
 
 -- more was read, and taken
-pub Runs-more : (left mid leaves held holds now_holds : Option (List ℕ)) (now new : State) (part part' bytes : List ℕ)
+pub Runs-more : (left mid leaves held holds now_holds : Option (List ℕ)) (now new : Interpreter) (part part' bytes : List ℕ)
     → Runs left mid held holds now part → Consumes mid leaves bytes → Took now part bytes holds now_holds new part' → Runs left leaves held now_holds new part'
 Runs-more left mid leaves held holds now_holds now new part part' bytes h r k = record {
   input = h.input ++ bytes;
   read = Consumes-trans left mid leaves h.input bytes h.read r;
-  took = Took-trans (begun []) now new [] part part' h.input bytes held holds now_holds h.took k;
+  took = Took-trans started now new [] part part' h.input bytes held holds now_holds h.took k;
 }
 
 -- the script ended behind a newline, or was empty
-pub Ran-end : (left mid leaves held holds : Option (List ℕ)) (now : State) (part : List ℕ)
+pub Ran-end : (left mid leaves held holds : Option (List ℕ)) (now : Interpreter) (part : List ℕ)
     → Runs left mid held holds now part → part ≡ [] → Consumes mid leaves [] → IsAtEnd leaves → Ran left leaves held holds
 Ran-end left mid leaves held holds now part h e r end =
     let all : lines_of h.input ≡ h.took.lines =
@@ -94,11 +94,11 @@ Ran-end left mid leaves held holds now part h e r end =
       read = subst (λ l. Consumes left leaves l) (append-nil h.input) (Consumes-trans left mid leaves h.input [] h.read r);
       ended = end;
       written = h.took.written;
-      outputs = subst (λ ls. Outputs (begun []) ls h.took.out now) (sym all) h.took.outputs;
+      outputs = subst (λ ls. Outputs started ls h.took.out now) (sym all) h.took.outputs;
     }
 
 -- the script ended within a line, which was then run
-pub Ran-last : (left mid leaves held holds now_holds : Option (List ℕ)) (now new : State) (part : List ℕ)
+pub Ran-last : (left mid leaves held holds now_holds : Option (List ℕ)) (now new : Interpreter) (part : List ℕ)
     → Runs left mid held holds now part → HasNoNewline part → (part ≡ [] → ⊥) → Consumes mid leaves [] → IsAtEnd leaves
     → Took now part (10 ∷ []) holds now_holds new [] → Ran left leaves held now_holds
 Ran-last left mid leaves held holds now_holds now new [] h n e r end k = absurd (e refl)
@@ -118,8 +118,8 @@ Ran-last left mid leaves held holds now_holds now new (b ∷ bs) h n e r end k =
       read = subst (λ l. Consumes left leaves l) (append-nil h.input) (Consumes-trans left mid leaves h.input [] h.read r);
       ended = end;
       written = Appends-trans held holds now_holds h.took.out k.out h.took.written k.written;
-      outputs = subst (λ ls. Outputs (begun []) ls (h.took.out ++ k.out) new) whole
-          (Outputs-append h.took.lines k.lines (begun []) now new h.took.out k.out h.took.outputs k.outputs);
+      outputs = subst (λ ls. Outputs started ls (h.took.out ++ k.out) new) whole
+          (Outputs-append h.took.lines k.lines started now new h.took.out k.out h.took.outputs k.outputs);
     }
 
 -- what `is_empty` says of the elements

@@ -2,27 +2,32 @@
 use Rattle.std.proofs.Common.{List, [], ◌∷◌, ◌++◌, Result, Ok, Err, ◌≡◌, ◌∙◌, ap, map, refl, subst, sym, append_assoc, append-nil, inl, inr}
 use Rattle.std.proofs.lemmas.List.{map-append}
 use Rattle.std.proofs.lemmas.Str.{IsCharBoundary-start, IsUtf8-nil}
-use Rattle.std.specs.Prelude.{ℕ, Bool, Option, None, false, max, length, option_and_then, IsSome, Some, IfOk, IfErr}
+use Rattle.std.specs.Prelude.{ℕ, ◌⊎◌, Bool, true, Option, None, false, max, length, option_and_then, IsSome, Some, IfOk, IfErr}
 use Rattle.std.specs.Str.{IsUtf8}
-use Rattle.rl_base.specs.Event.{Event, InsertStr, apply}
+use Rattle.rl_base.specs.Event.{Event, InsertStr, Start, apply}
 use Rattle.rl_base.proofs.EventLemmas.{apply-InsertStr}
 use Rattle.rl_base.specs.declared.listeners.Refusal.{Refusal}
 use Rattle.rl_base.specs.declared.listeners.Refusal.TheVariants as why
 use Rattle.rl_line.specs.Line.{Line, stepped}
 use Rattle.rl_line.specs.Motions.{Moved}
-use Rattle.rl_line.specs.Plan.{Plan, after, Done, Halted, or_no_memory}
+use Rattle.rl_line.specs.Plan.{Plan, nothing, after, Done, Halted, or_no_memory}
 use Rattle.rl_line.specs.Edits.{insert_str_plan}
-use Rattle.rl_line.specs.Record.{Record, record_step}
+use Rattle.rl_line.specs.Kills.{Told, is_by_characters}
+use Rattle.rl_line.specs.Record.{Record}
+use Rattle.rl_line.proofs.JoinLemmas.{record_step-Start, record_step-Stop}
 use Rattle.rl_line.specs.Undo.{Undone}
 use Rattle.rl_line.proofs.OriginLemmas.{IsSome-Kept, Kept, Kept-Done, Kept-Halted, Kept-Undone}
 use Rattle.rl_line.proofs.RecordLemmas.{unwind-replay, replay-unwind, replay-IsUtf8}
 use Rattle.rl_session.specs.declared.session.Command.{Command}
-use Rattle.rl_session.specs.declared.session.Command.TheVariants.{SetPos, Move, Insert, Delete, Backspace, Undo}
-use Rattle.rl_session.specs.declared.session.Fault.TheVariants.{NoMemory, BadPlace}
+use Rattle.rl_session.specs.declared.session.Command.TheVariants.{SetPos, Move, Insert, Delete, Backspace, Kill, Yank, YankPop, Undo}
+use Rattle.rl_session.specs.declared.session.Fault.TheVariants.{NoMemory, BadPlace, BadYankSize}
 use Rattle.rl_session.specs.declared.session.Reply.{Reply}
 use Rattle.rl_session.specs.declared.session.Reply.TheVariants as says
 use Rattle.rl_session.specs.State.{State, Replays, Follows}
-use Rattle.rl_session.specs.Commands.{Step, destination, out_of_memory}
+use Rattle.rl_session.specs.Commands.{CutShort, Does, Edited, Step, destination, lent, lent_plan, popped, popped_plan, readied}
+use Rattle.rl_session.specs.Pair.{pair_step, pair_refused}
+use Rattle.rl_session.specs.declared.pair.Pair.{Pair}
+use Rattle.rl_session.proofs.PairLemmas.{Done-changes, Halted-changes, Halted-pair, keeps_changes}
 use Rattle.rl_session.specs.Run.{Row, held, held_of, Leads, Run, AfterEach}
 
 -- a text that goes into an empty line
@@ -47,23 +52,48 @@ Kept-Moved None r now old new a u e m = subst (λ (l : Line). Kept r now old l) 
 Kept-Moved (Some place) r now old new a u e m =
     subst (λ (l : Line). Kept r now old l) (sym m.1) (subst (λ (k : Record). Kept r k old (record old { cursor = place })) (sym e) (record { origin_is = λ start e. e; utf8 = u }))
 
-not_heard : (m : Record) (e : Event) (w : Refusal) (k : Record) → out_of_memory m e w k → k ≡ m
-not_heard m e w k h = h.1
+pub Follows-Moved : (place : Option ℕ) (r : Record) (old new : Line) (a : Bool) → Moved place old new a → Follows old r → Follows new r
+Follows-Moved None r old new a m f = subst (λ (l : Line). Follows l r) (sym m.1) f
+Follows-Moved (Some place) r old new a m f = subst (λ (l : Line). Follows l r) (sym m.1) f
 
-either : (m : Record) (e : Event) (w : Refusal) (k : Record) → or_no_memory out_of_memory m e w k → k ≡ m
-either m e w k h = elim h [ inl p ↦ p.1 | inr p ↦ p.1 ]
+keeps : (m : Record) (e : Event) (w : Refusal) (k : Record) → keeps_changes m e w k → k ≡ m
+keeps m e w k h = h
+
+-- an edit of a line that a pair hears
+pub Kept-pair : {A : Type 0} (plan : Plan A) (p q : Pair) (old new : Line) (a : A) → IsUtf8 old.text → Done pair_step plan old new p q a → Kept p.changes q.changes old new
+Kept-pair plan p q old new a u d = Kept-Done plan p.changes q.changes old new a u (Done-changes plan old new p q a d)
+
+pub Kept-refused : {A : Type 0} (plan : Plan A) (p q : Pair) (old new : Line) (w : Refusal) → IsUtf8 old.text → Halted pair_step pair_refused plan old new p q w
+    → Kept p.changes q.changes old new
+Kept-refused plan p q old new w u h = Kept-Halted keeps_changes plan p.changes q.changes old new w keeps u (Halted-changes plan old new p q w h)
 
 -- an edit that may also be refused by the line itself
-pub Kept-edit : {A B : Type 0} (plan : Plan A) (shown : B → A) (r now : Record) (old new : Line) (result : Result B Refusal) → IsUtf8 old.text
-    → IfOk result (λ b. Done record_step plan old new r now (shown b)) → IfErr result (λ w. Halted record_step (or_no_memory out_of_memory) plan old new r now w) → Kept r now old new
-Kept-edit plan shown r now old new (Ok b) u d h = Kept-Done plan r now old new (shown b) u d
-Kept-edit plan shown r now old new (Err w) u d h = Kept-Halted _ plan r now old new w either u h
+pub Kept-edit : {A B : Type 0} (plan : Plan A) (shown : B → A) (p q : Pair) (old new : Line) (result : Result B Refusal) → IsUtf8 old.text
+    → IfOk result (λ b. Done pair_step plan old new p q (shown b)) → IfErr result (λ w. Halted pair_step (or_no_memory pair_refused) plan old new p q w)
+    → Kept p.changes q.changes old new
+Kept-edit plan shown p q old new (Ok b) u d h = Kept-pair plan p q old new (shown b) u d
+Kept-edit plan shown p q old new (Err w) u d h = Kept-refused plan p q old new _ u (Halted-pair plan old new p q w h)
 
 -- an edit that only its listener may refuse
-pub Kept-deletion : {A : Type 0} (plan : Plan A) (r now : Record) (old new : Line) (result : Result A Refusal) → IsUtf8 old.text
-    → IfOk result (λ a. Done record_step plan old new r now a) → IfErr result (λ w. Halted record_step out_of_memory plan old new r now w) → Kept r now old new
-Kept-deletion plan r now old new (Ok a) u d h = Kept-Done plan r now old new a u d
-Kept-deletion plan r now old new (Err w) u d h = Kept-Halted _ plan r now old new w not_heard u h
+pub Kept-deletion : {A : Type 0} (plan : Plan A) (p q : Pair) (old new : Line) (result : Result A Refusal) → IsUtf8 old.text
+    → IfOk result (λ a. Done pair_step plan old new p q a) → IfErr result (λ w. Halted pair_step pair_refused plan old new p q w) → Kept p.changes q.changes old new
+Kept-deletion plan p q old new (Ok a) u d h = Kept-pair plan p q old new a u d
+Kept-deletion plan p q old new (Err w) u d h = Kept-refused plan p q old new w u h
+
+-- the record hears nothing of the start and the end of a kill
+pub Kept-Told : (b : Bool) (P : Pair → Pair → Type 0) (p q : Pair) (old new : Line)
+    → ((before now : Pair) → P before now → Kept before.changes now.changes old new) → Told pair_step b P p q → Kept p.changes q.changes old new
+Kept-Told true P p q old new keeps t = keeps p q t
+Kept-Told false P p q old new keeps t =
+    let inside = keeps (pair_step p Start) t.last t.inside in
+    let ended : q.changes ≡ t.last.changes = ap (λ (k : Pair). k.changes) t.ended ∙ record_step-Stop t.last.changes in
+    subst (λ (r : Record). Kept p.changes r old new) (sym ended) (subst (λ (r : Record). Kept r t.last.changes old new) (record_step-Start p.changes) inside)
+
+pub Kept-kill : (b : Bool) (plan : Plan Bool) (p q : Pair) (old new : Line) (result : Result Bool Refusal) → IsUtf8 old.text
+    → IfOk result (λ a. Told pair_step b (λ before now. Done pair_step plan old new before now a) p q)
+    → IfErr result (λ w. Told pair_step b (λ before now. Halted pair_step pair_refused plan old new before now w) p q) → Kept p.changes q.changes old new
+Kept-kill b plan p q old new (Ok a) u d h = Kept-Told b _ p q old new (λ before now i. Kept-pair plan before now old new a u i) d
+Kept-kill b plan p q old new (Err w) u d h = Kept-Told b _ p q old new (λ before now i. Kept-refused plan before now old new w u i) h
 
 pub Kept-undo : (n : ℕ) (r now : Record) (old new : Line) (result : Result Bool Refusal) → IsUtf8 old.text → Follows old r
     → IfOk result (λ a. Undone n r now old new a) → IfErr result (λ w. (w ≡ why.NoMemory) × (now ≡ r) × (new ≡ old)) → Kept r now old new
@@ -73,30 +103,65 @@ Kept-undo n r now old new (Err w) u f d h = subst (λ (k : Record). Kept r k old
 pub Follows-Kept : (r now : Record) (old new : Line) → Kept r now old new → Follows old r → Follows new now
 Follows-Kept r now old new k h = IsSome-Kept r now old new k h
 
+Kept-same : (old new : State) → IsUtf8 old.line.text → new ≡ old → Kept old.pair.changes new.pair.changes old.line new.line
+Kept-same old new u e = subst (λ (n : State). Kept old.pair.changes n.pair.changes old.line n.line) (sym e) (same_Kept old.pair.changes old.line u)
+
+Kept-cut : {A : Type 0} (plan : Plan A) (old new : State) → IsUtf8 old.line.text → (new ≡ old) ⊎ CutShort plan old new → Kept old.pair.changes new.pair.changes old.line new.line
+Kept-cut plan old new u h = elim h [ inl e ↦ Kept-same old new u e | inr c ↦ Kept-refused plan old.pair new.pair old.line new.line _ u c.halted ]
+
+Edited-nothing : {A : Type 0} (a : A) (s : State) → Edited (nothing s.line a) s s a
+Edited-nothing a s = record {
+  done = record { last = s.line; taken = record { line = refl; listener = refl }; line = refl; answered = refl };
+  mode = refl;
+}
+
+-- nothing was lent, so nothing was done
+pub nothing_lent : (n : ℕ) (old : State) (slot : Option (List ℕ)) → slot ≡ None → (left : State) → left ≡ lent old → Edited (lent_plan old.line slot n) (lent old) left None
+nothing_lent n old slot e left l = subst (λ s. Edited (lent_plan old.line s n) (lent old) left None) (sym e) (subst (λ s. Edited (lent_plan old.line None n) (lent old) s None) (sym l) (Edited-nothing None (lent old)))
+
+pub nothing_popped : (old : State) (slot : Option (ℕ × List ℕ)) → slot ≡ None → (left : State) → left ≡ popped old → Edited (popped_plan old.line slot) (popped old) left None
+nothing_popped old slot e left l = subst (λ s. Edited (popped_plan old.line s) (popped old) left None) (sym e) (subst (λ s. Edited (popped_plan old.line None) (popped old) s None) (sym l) (Edited-nothing None (popped old)))
+
 -- each row keeps the text from which the record came
-Kept-Step : (old : State) (command : Command) (reply : Reply) (new : State) → Step old command reply new → IsUtf8 old.line.text → Follows old.line old.changes
-    → Kept old.changes new.changes old.line new.line
-Kept-Step old (SetPos q) says.Done new s u f =
-    subst (λ (n : State). Kept old.changes n.changes old.line n.line) (sym s.1) (record { origin_is = λ start e. e; utf8 = u })
-Kept-Step old (SetPos q) (says.Refused BadPlace) new s u f = subst (λ (n : State). Kept old.changes n.changes old.line n.line) (sym s.1) (same_Kept old.changes old.line u)
-Kept-Step old (Move m) (says.Answer a) new s u f = Kept-Moved (destination old.line m) old.changes new.changes old.line new.line a u (ap (λ (n : State). n.changes) s.others) s.moved
-Kept-Step old (Insert c n) (says.Inserted a) new s u f = Kept-Done _ old.changes new.changes old.line new.line a u s.done
-Kept-Step old (Insert c n) (says.Refused NoMemory) new s u f = Kept-Halted _ _ old.changes new.changes old.line new.line _ not_heard u s.halted
-Kept-Step old (Delete n) (says.Text t) new s u f = Kept-Done _ old.changes new.changes old.line new.line _ u s.done
-Kept-Step old (Delete n) (says.Refused NoMemory) new s u f = Kept-Halted _ _ old.changes new.changes old.line new.line _ not_heard u s.halted
-Kept-Step old (Backspace n) (says.Answer a) new s u f = Kept-Done _ old.changes new.changes old.line new.line a u s.done
-Kept-Step old (Backspace n) (says.Refused NoMemory) new s u f = Kept-Halted _ _ old.changes new.changes old.line new.line _ not_heard u s.halted
-Kept-Step old (Undo n) (says.Answer a) new s u f = Kept-Undone n old.changes new.changes old.line new.line a u f s.undone
-Kept-Step old (Undo n) (says.Refused NoMemory) new s u f = subst (λ (n : State). Kept old.changes n.changes old.line n.line) (sym s) (same_Kept old.changes old.line u)
-Kept-Step _ _ _ _ s u f = absurd s
+Kept-Does : (old : State) (command : Command) (reply : Reply) (new : State) → Does old command reply new → IsUtf8 old.line.text → Follows old.line old.pair.changes
+    → Kept old.pair.changes new.pair.changes old.line new.line
+Kept-Does old (SetPos q) says.Done new s u f =
+    subst (λ (n : State). Kept old.pair.changes n.pair.changes old.line n.line) (sym s.1) (record { origin_is = λ start e. e; utf8 = u })
+Kept-Does old (SetPos q) (says.Refused BadPlace) new s u f = Kept-same old new u s.1
+Kept-Does old (Move m) (says.Answer a) new s u f =
+    Kept-Moved (destination old m) old.pair.changes new.pair.changes old.line new.line a u (ap (λ (n : State). n.pair.changes) s.others) s.moved
+Kept-Does old (Insert c n) (says.Inserted a) new s u f = Kept-pair _ old.pair new.pair old.line new.line a u s.done
+Kept-Does old (Insert c n) (says.Refused NoMemory) new s u f = Kept-refused _ old.pair new.pair old.line new.line _ u s.halted
+Kept-Does old (Delete n) (says.Text t) new s u f = Kept-pair _ old.pair new.pair old.line new.line _ u s.done
+Kept-Does old (Delete n) (says.Refused NoMemory) new s u f = Kept-refused _ old.pair new.pair old.line new.line _ u s.halted
+Kept-Does old (Backspace n) (says.Answer a) new s u f = Kept-pair _ old.pair new.pair old.line new.line a u s.done
+Kept-Does old (Backspace n) (says.Refused NoMemory) new s u f = Kept-refused _ old.pair new.pair old.line new.line _ u s.halted
+Kept-Does old (Kill m) (says.Answer a) new s u f =
+    Kept-Told (is_by_characters m) _ old.pair new.pair old.line new.line (λ before now i. Kept-pair _ before now old.line new.line a u i) s.told
+Kept-Does old (Kill m) (says.Refused NoMemory) new s u f =
+    Kept-Told (is_by_characters m) _ old.pair new.pair old.line new.line (λ before now i. Kept-refused _ before now old.line new.line _ u i) s.told
+Kept-Does old (Yank n) (says.Inserted a) new s u f = Kept-pair _ (lent old).pair new.pair old.line new.line a u s.done
+Kept-Does old (Yank n) (says.Refused NoMemory) new s u f = Kept-cut _ (lent old) new u s
+Kept-Does old YankPop (says.Inserted a) new s u f = Kept-pair _ (popped old).pair new.pair old.line new.line a u s.1.done
+Kept-Does old YankPop (says.Refused BadYankSize) new s u f = Kept-same old new u s.1
+Kept-Does old YankPop (says.Refused NoMemory) new s u f = Kept-cut _ (popped old) new u s.1
+Kept-Does old (Undo n) (says.Answer a) new s u f = Kept-Undone n old.pair.changes new.pair.changes old.line new.line a u f s.undone
+Kept-Does old (Undo n) (says.Refused NoMemory) new s u f = Kept-same old new u s
+Kept-Does _ _ _ _ s u f = absurd s
+
+-- and the ring's resets touch neither line nor record
+Kept-Step : (old : State) (command : Command) (reply : Reply) (new : State) → Step old command reply new → IsUtf8 old.line.text → Follows old.line old.pair.changes
+    → Kept old.pair.changes new.pair.changes old.line new.line
+Kept-Step old command reply new s u f =
+    subst (λ (n : State). Kept old.pair.changes n.pair.changes old.line n.line) (sym s.settles) (Kept-Does (readied command old) command reply s.left s.does u f)
 
 -- so it keeps what the recorded changes lead to
 pub step_replays : (start : List ℕ) (old : State) (command : Command) (reply : Reply) (new : State) → Step old command reply new → Replays start old → Replays start new
 step_replays start old command reply new s h =
-    let u = replay-IsUtf8 old.changes.recorded start old.line.text h.is_text h.leads in
-    let came = unwind-replay old.changes.recorded start old.line.text h.is_text h.leads in
+    let u = replay-IsUtf8 old.pair.changes.recorded start old.line.text h.is_text h.leads in
+    let came = unwind-replay old.pair.changes.recorded start old.line.text h.is_text h.leads in
     let kept = Kept-Step old command reply new s u (subst IsSome (sym came) refl) in
-    record { is_text = h.is_text; leads = replay-unwind new.changes.recorded new.line.text start kept.utf8 (kept.origin_is start came) }
+    record { is_text = h.is_text; leads = replay-unwind new.pair.changes.recorded new.line.text start kept.utf8 (kept.origin_is start came) }
 
 Leads-more : (rows : List Row) (row : Row) (old mid : State) → Leads old rows mid → row.before ≡ mid → Leads old (rows ++ row ∷ []) row.after
 Leads-more [] row old mid l e = (e ∙ l, refl)

@@ -240,3 +240,7 @@ read_none bytes text rest xs behind b e h none whole s =
 
 pub read_end : (bytes text rest : List ℕ) → Begins bytes text rest → Lacks 92 rest → Spells bytes (text ++ rest)
 read_end bytes text rest b h = b.on rest (Spells-plain rest h)
+
+pub SpellsChar-one : {bytes : List ℕ} {c d : ℕ} → SpellsChar bytes c → SpellsChar bytes d → c ≡ d
+SpellsChar-one {bytes = bytes} {c = c} {d = d} p q =
+    (encode_same c d [] [] (ap (λ l. l ++ []) (Spells-one bytes (encode_utf8 c) (encode_utf8 d) p.1 q.1))).0

@@ -3,13 +3,24 @@ use Rattle.std.specs.Prelude.{◌≡◌, ◌≢◌, ℕ, ◌+◌, ◌-◌, ◌*�
 use Rattle.std.specs.Char.{IsScalar}
 use Rattle.std.specs.Str.{IsUtf8}
 use Rattle.rl_session.specs.declared.session.Command.{Command}
-use Rattle.rl_session.specs.declared.session.Command.TheVariants.{SetPos, Move, Insert, Delete, Backspace, Undo}
+use Rattle.rl_session.specs.declared.session.Command.TheVariants.{SetPos, Move, Insert, Delete, Backspace, Kill, Yank, YankPop, Undo}
+use Rattle.rl_session.specs.declared.settings.Setting.{Setting}
+use Rattle.rl_session.specs.declared.settings.Setting.TheVariants.{Limit, RingSize, Mode}
+use Rattle.rl_base.specs.declared.layout.GraphemeClusterMode.{GraphemeClusterMode}
+use Rattle.rl_base.specs.declared.layout.GraphemeClusterMode.TheVariants.{Unicode, WcWidth, NoZwj}
+use Rattle.rl_base.specs.declared.motion.At.{At}
+use Rattle.rl_base.specs.declared.motion.At.TheVariants.{Start, BeforeEnd, AfterEnd}
+use Rattle.rl_base.specs.declared.motion.CharSearch.{CharSearch}
+use Rattle.rl_base.specs.declared.motion.CharSearch.TheVariants.{Forward, ForwardBefore, Backward, BackwardAfter}
 use Rattle.rl_base.specs.declared.motion.Movement.{Movement}
-use Rattle.rl_base.specs.declared.motion.Movement.TheVariants.{BackwardChar, ForwardChar}
+use Rattle.rl_base.specs.declared.motion.Movement.TheVariants.{WholeLine, BeginningOfLine, EndOfLine, BackwardWord, ForwardWord, ViCharSearch, ViFirstPrint, BackwardChar, ForwardChar, LineUp, LineDown, WholeBuffer, BeginningOfBuffer, EndOfBuffer}
+use Rattle.rl_base.specs.declared.motion.Word.{Word}
+use Rattle.rl_base.specs.declared.motion.Word.TheVariants.{Big, Emacs, Vi}
 
--- a line gives a new text, or a command
+-- a line gives a new text, a setting, or a command
 pub data Meaning : Type 0 where
   NewText : (text : List ℕ) → Meaning
+  Set : (setting : Setting) → Meaning
   Do : (command : Command) → Meaning
 
 -- whether each byte is a digit from 0 to 9
@@ -83,12 +94,52 @@ abbrev pub rest : List ℕ → Option (List ℕ)
 rest [] = None
 rest (b ∷ bs) = if b == 32 then Some bs else rest bs
 
--- the words for movements, each with what it wants behind it
+-- the words for kinds of word
+pub data NamesWord : List ℕ → Word → Type 0 where
+  big : NamesWord (codes "big") Big
+  emacs : NamesWord (codes "emacs") Emacs
+  vi : NamesWord (codes "vi") Vi
+
+-- the words for where a motion to the next word stops
+pub data NamesAt : List ℕ → At → Type 0 where
+  start : NamesAt (codes "start") Start
+  before : NamesAt (codes "before") BeforeEnd
+  after : NamesAt (codes "after") AfterEnd
+
+-- the letters for searches for a character
+pub data NamesSearch : List ℕ → ℕ → CharSearch → Type 0 where
+  to : {c : ℕ} → NamesSearch (codes "f") c (Forward c)
+  till : {c : ℕ} → NamesSearch (codes "t") c (ForwardBefore c)
+  back_to : {c : ℕ} → NamesSearch (codes "F") c (Backward c)
+  back_till : {c : ℕ} → NamesSearch (codes "T") c (BackwardAfter c)
+
+-- the words for how columns are measured
+pub data NamesMode : List ℕ → GraphemeClusterMode → Type 0 where
+  unicode : NamesMode (codes "unicode") Unicode
+  wcwidth : NamesMode (codes "wcwidth") WcWidth
+  nozwj : NamesMode (codes "nozwj") NoZwj
+
+-- the words for movements, each with what it wants behind it: None where no space follows, or Some of what stands behind the space
 pub data Names : List ℕ → Option (List ℕ) → Movement → Type 0 where
+  whole : Names (codes "line") None WholeLine
+  home : Names (codes "home") None BeginningOfLine
+  eol : Names (codes "eol") None EndOfLine
+  bword : (digits : List ℕ) {kind : List ℕ} {n : ℕ} {w : Word} → number_of 65535 digits ≡ Some n → NamesWord kind w
+      → Names (codes "bword") (Some (digits ++ codes " " ++ kind)) (BackwardWord n w)
+  fword : (digits : List ℕ) {stop kind : List ℕ} {n : ℕ} {a : At} {w : Word} → number_of 65535 digits ≡ Some n → NamesAt stop a → NamesWord kind w
+      → Names (codes "fword") (Some (digits ++ codes " " ++ stop ++ codes " " ++ kind)) (ForwardWord n a w)
+  find : (digits : List ℕ) {kind bytes : List ℕ} {n c : ℕ} {cs : CharSearch} → number_of 65535 digits ≡ Some n → NamesSearch kind c cs → SpellsChar bytes c
+      → Names (codes "find") (Some (digits ++ codes " " ++ kind ++ codes " " ++ bytes)) (ViCharSearch n cs)
+  first : Names (codes "first") None ViFirstPrint
   bchar : {digits : List ℕ} {n : ℕ} → number_of 65535 digits ≡ Some n → Names (codes "bchar") (Some digits) (BackwardChar n)
   fchar : {digits : List ℕ} {n : ℕ} → number_of 65535 digits ≡ Some n → Names (codes "fchar") (Some digits) (ForwardChar n)
+  up : {digits : List ℕ} {n : ℕ} → number_of 65535 digits ≡ Some n → Names (codes "up") (Some digits) (LineUp n)
+  down : {digits : List ℕ} {n : ℕ} → number_of 65535 digits ≡ Some n → Names (codes "down") (Some digits) (LineDown n)
+  buf : Names (codes "buf") None WholeBuffer
+  bob : Names (codes "bob") None BeginningOfBuffer
+  eob : Names (codes "eob") None EndOfBuffer
 
--- the words, each with what it wants behind it: None where no space follows, or Some of what stands behind the space
+-- the words that begin a line, each with what it wants behind it
 pub data Says : List ℕ → Option (List ℕ) → Meaning → Type 0 where
   no_text : Says (codes "text") None (NewText [])
   text : {bytes text : List ℕ} → Spells bytes text → Says (codes "text") (Some bytes) (NewText text)
@@ -98,7 +149,13 @@ pub data Says : List ℕ → Option (List ℕ) → Meaning → Type 0 where
       → Says (codes "ins") (Some (digits ++ codes " " ++ bytes)) (Do (Insert c n))
   del : {digits : List ℕ} {n : ℕ} → number_of 65535 digits ≡ Some n → Says (codes "del") (Some digits) (Do (Delete n))
   back : {digits : List ℕ} {n : ℕ} → number_of 65535 digits ≡ Some n → Says (codes "back") (Some digits) (Do (Backspace n))
+  kill : {bytes : List ℕ} {movement : Movement} → Names (word bytes) (rest bytes) movement → Says (codes "kill") (Some bytes) (Do (Kill movement))
+  yank : {digits : List ℕ} {n : ℕ} → number_of 65535 digits ≡ Some n → Says (codes "yank") (Some digits) (Do (Yank n))
+  yankpop : Says (codes "yankpop") None (Do YankPop)
   undo : {digits : List ℕ} {n : ℕ} → number_of 65535 digits ≡ Some n → Says (codes "undo") (Some digits) (Do (Undo n))
+  limit : {digits : List ℕ} {size : ℕ} → number_of (2 ^ 64 - 1) digits ≡ Some size → Says (codes "limit") (Some digits) (Set (Limit size))
+  ring : {digits : List ℕ} {size : ℕ} → number_of (2 ^ 64 - 1) digits ≡ Some size → Says (codes "ring") (Some digits) (Set (RingSize size))
+  mode : {bytes : List ℕ} {m : GraphemeClusterMode} → NamesMode bytes m → Says (codes "mode") (Some bytes) (Set (Mode m))
 
 -- what a line, without its newline, means
 abbrev pub Means : List ℕ → Meaning → Type 0

@@ -1,6 +1,9 @@
+pub mod Pair
+pub mod Settings
 pub mod State
 pub mod Commands
 pub mod Run
+pub mod KillRuns
 pub mod Grammar
 pub mod Reads
 pub mod Lines

@@ -3,7 +3,7 @@ use Rattle.std.specs.Prelude.{ℕ, ◌==◌, Bool, ◌||◌, ◌&&◌, true, fal
 use Rattle.std.specs.Fmt.{decimal}
 use Rattle.std.specs.String.{string_bytes}
 use Rattle.rl_session.specs.State.{State}
-use Rattle.rl_session.specs.declared.session.Fault.TheVariants.{NoMemory, BadPlace}
+use Rattle.rl_session.specs.declared.session.Fault.TheVariants.{NoMemory, BadPlace, BadYankSize}
 use Rattle.rl_session.specs.declared.session.Reply.{Reply}
 use Rattle.rl_session.specs.declared.session.Reply.TheVariants.{Done, Answer, Inserted, Text, Refused}
 
@@ -19,6 +19,7 @@ reply_word (Text (Some _)) = codes "text:"
 reply_word (Text None) = codes "none"
 reply_word (Refused NoMemory) = codes "refused:1"
 reply_word (Refused BadPlace) = codes "refused:2"
+reply_word (Refused BadYankSize) = codes "refused:3"
 
 -- backslash, newline, carriage return and tab, and in a text among words also the space
 abbrev pub is_special : Bool → ℕ → Bool

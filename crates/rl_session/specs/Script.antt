@@ -1,53 +1,61 @@
 -- What a script does, and what is printed for it.
 use Rattle.std.specs.Prelude.{◌≡◌, ◌⊎◌, ℕ, List, [], ◌∷◌, ◌++◌, length, take, Option, IfSome}
 use Rattle.std.specs.Io.KnownBytes.{Consumes, IsAtEnd, Appends}
-use Rattle.rl_base.specs.declared.layout.GraphemeClusterMode.TheVariants.{Unicode}
 use Rattle.rl_session.specs.State.{State, fresh}
 use Rattle.rl_session.specs.Commands.{Step}
-use Rattle.rl_session.specs.Grammar.{Meaning, NewText, Do, Means, MeansNothing}
+use Rattle.rl_session.specs.Grammar.{Meaning, NewText, Set, Do, Means, MeansNothing}
 use Rattle.rl_session.specs.Lines.{lines_of}
 use Rattle.rl_session.specs.Print.{printed, bad_line}
+use Rattle.rl_session.specs.Settings.{usual, with_setting}
+use Rattle.rl_session.specs.declared.script.Interpreter.{Interpreter}
 use Rattle.rl_session.specs.declared.session.Fault.TheVariants.{NoMemory}
 use Rattle.rl_session.specs.declared.session.Reply.{Reply}
 use Rattle.rl_session.specs.declared.session.Reply.TheVariants.{Done, Refused}
+use Rattle.rl_session.specs.declared.settings.Settings.{Settings}
 
--- the session that a text begins: the cursor at its end, the limit 4096, 60 slots in the ring
-abbrev pub begun : List ℕ → State
-begun text = fresh text (length text) 4096 60 Unicode
+-- the session that a text begins: the cursor at its end
+abbrev pub begun : Settings → List ℕ → State
+begun settings text = fresh text (length text) settings.limit settings.ring_size settings.mode
+
+-- before the first line: the usual settings, and the session of the empty text
+abbrev pub started : Interpreter
+started = record { settings = usual; session = begun usual [] }
 
 -- what a line means may lead from old to new, and this is printed for it
-abbrev pub MeaningOut : State → Meaning → List ℕ → State → Type 0
+abbrev pub MeaningOut : Interpreter → Meaning → List ℕ → Interpreter → Type 0
 MeaningOut old (NewText t) out new =
-    ((new ≡ begun t) × (out ≡ printed Done new)) ⊎ ((new ≡ old) × (out ≡ printed (Refused NoMemory) old))
-MeaningOut old (Do command) out new = (reply : Reply) × Step old command reply new × (out ≡ printed reply new)
+    ((new ≡ record old { session = begun old.settings t }) × (out ≡ printed Done new.session)) ⊎ ((new ≡ old) × (out ≡ printed (Refused NoMemory) old.session))
+MeaningOut old (Set setting) out new = (new ≡ record old { settings = with_setting setting old.settings }) × (out ≡ printed Done old.session)
+MeaningOut old (Do command) out new =
+    (reply : Reply) × (session : State) × Step old.session command reply session × (new ≡ record old { session = session }) × (out ≡ printed reply session)
 
 -- so may a line; one that means nothing changes nothing
-unfoldable pub LineOut : State → List ℕ → List ℕ → State → Type 0
+unfoldable pub LineOut : Interpreter → List ℕ → List ℕ → Interpreter → Type 0
 LineOut old line out new =
     ((m : Meaning) × Means line m × MeaningOut old m out new) ⊎ (MeansNothing line × (new ≡ old) × (out ≡ bad_line))
 
 -- the lines, one after another, may lead from old to new, and this is printed for them
-abbrev pub Outputs : State → List (List ℕ) → List ℕ → State → Type 0
+abbrev pub Outputs : Interpreter → List (List ℕ) → List ℕ → Interpreter → Type 0
 Outputs old [] out new = (out ≡ []) × (new ≡ old)
 Outputs old (line ∷ lines) out new =
-    (mid : State) × (first : List ℕ) × (others : List ℕ) × (out ≡ first ++ others) × LineOut old line first mid × Outputs mid lines others new
+    (mid : Interpreter) × (first : List ℕ) × (others : List ℕ) × (out ≡ first ++ others) × LineOut old line first mid × Outputs mid lines others new
 
 -- the lines may begin so, and this is printed for them, though of the last one's perhaps only the front
-abbrev pub CutOutputs : State → List (List ℕ) → List ℕ → Type 0
+abbrev pub CutOutputs : Interpreter → List (List ℕ) → List ℕ → Type 0
 CutOutputs old [] out = out ≡ []
-CutOutputs old (line ∷ []) out = (new : State) × (whole : List ℕ) × (k : ℕ) × LineOut old line whole new × (out ≡ take k whole)
+CutOutputs old (line ∷ []) out = (new : Interpreter) × (whole : List ℕ) × (k : ℕ) × LineOut old line whole new × (out ≡ take k whole)
 CutOutputs old (line ∷ next ∷ lines) out =
-    (mid : State) × (first : List ℕ) × (others : List ℕ) × (out ≡ first ++ others) × LineOut old line first mid × CutOutputs mid (next ∷ lines) others
+    (mid : Interpreter) × (first : List ℕ) × (others : List ℕ) × (out ≡ first ++ others) × LineOut old line first mid × CutOutputs mid (next ∷ lines) others
 
--- The input was read to its end, and what was written is an output of its lines, from the empty text on.
+-- The input was read to its end, and what was written is an output of its lines, from the usual settings and the empty text on.
 pub record Ran (left leaves held holds : Option (List ℕ)) : Type 0 where
   pub input : List ℕ
   pub output : List ℕ
-  pub last : State
+  pub last : Interpreter
   pub read : Consumes left leaves input
   pub ended : IsAtEnd leaves
   pub written : Appends held holds output
-  pub outputs : Outputs (begun []) (lines_of input) output last
+  pub outputs : Outputs started (lines_of input) output last
 
 -- What was written is an output of some lines from the front of the input, the last one's perhaps cut.
 pub record Stopped (left held holds : Option (List ℕ)) : Type 0 where
@@ -55,4 +63,4 @@ pub record Stopped (left held holds : Option (List ℕ)) : Type 0 where
   pub out : List ℕ
   pub front : IfSome left (λ input. (others : List (List ℕ)) × (lines_of input ≡ lines ++ others))
   pub written : Appends held holds out
-  pub outputs : CutOutputs (begun []) lines out
+  pub outputs : CutOutputs started lines out

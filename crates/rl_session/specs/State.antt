@@ -1,24 +1,35 @@
 -- What a session holds.
-use Rattle.std.specs.Prelude.{◌≡◌, ℕ, max, false, IsSome, List, [], length, Some, Result, Ok, Err}
+use Rattle.std.specs.Prelude.{◌≡◌, ℕ, ◌≤◌, max, false, IsSome, List, [], length, Some, Result, Ok, Err}
 use Rattle.std.specs.Str.{IsCharBoundary, IsUtf8}
+use Rattle.rl_base.specs.KillRing.{Ring, IsRing, new_ring}
 use Rattle.rl_base.specs.declared.layout.GraphemeClusterMode.{GraphemeClusterMode}
 use Rattle.rl_line.specs.Line.{Line}
 use Rattle.rl_line.specs.Record.{Record, replay_entries, unwind}
+use Rattle.rl_session.specs.declared.pair.Pair.{Pair}
 use Rattle.rl_session.specs.declared.session.Fault.{Fault}
-use Rattle.rl_session.specs.declared.session.Fault.TheVariants.{NoMemory, BadPlace}
+use Rattle.rl_session.specs.declared.session.Fault.TheVariants.{NoMemory, BadPlace, BadYankSize}
 
 pub record State : Type 0 where
   pub line : Line
-  pub changes : Record
-  pub ring_size : ℕ
+  pub pair : Pair
   pub mode : GraphemeClusterMode
+
+-- what holds of every session: a text with the cursor between two of its characters, within the limit, and a ring
+pub record Stands (s : State) : Type 0 where
+  pub utf8 : IsUtf8 s.line.text
+  pub cursor : IsCharBoundary s.line.text s.line.cursor
+  pub within : length s.line.text ≤ s.line.limit
+  pub ring : IsRing s.pair.ring
+
+-- the same with another ring
+abbrev pub with_ring : Ring → State → State
+with_ring ring s = record s { pair = record s.pair { ring = ring } }
 
 -- the state of a new session
 abbrev pub fresh : List ℕ → ℕ → ℕ → ℕ → GraphemeClusterMode → State
 fresh text pos limit ring_size mode = record {
   line = record { text = text; cursor = pos; limit = max limit (length text); grow = false };
-  changes = record { recorded = []; pending = [] };
-  ring_size = ring_size;
+  pair = record { ring = new_ring ring_size; changes = record { recorded = []; pending = [] } };
   mode = mode;
 }
 
@@ -27,11 +38,12 @@ abbrev pub Opens : List ℕ → ℕ → ℕ → ℕ → GraphemeClusterMode → 
 Opens text pos limit ring_size mode (Ok session) = IsCharBoundary text pos × (session ≡ fresh text pos limit ring_size mode)
 Opens text pos limit ring_size mode (Err NoMemory) = IsCharBoundary text pos
 Opens text pos limit ring_size mode (Err BadPlace) = ¬ (IsCharBoundary text pos)
+Opens text pos limit ring_size mode (Err BadYankSize) = ⊥
 
 -- the recorded changes, replayed from the starting text, give the present text
 pub record Replays (start : List ℕ) (s : State) : Type 0 where
   pub is_text : IsUtf8 start
-  pub leads : replay_entries s.changes.recorded start ≡ Some s.line.text
+  pub leads : replay_entries s.pair.changes.recorded start ≡ Some s.line.text
 
 -- the record's changes can be taken back from the line's text
 abbrev pub Follows : Line → Record → Type 0

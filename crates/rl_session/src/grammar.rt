@@ -2,17 +2,23 @@
 ghost use Rattle.std.specs.Prelude.{◌≡◌, ◌<◌, ◌≤◌, ℕ, Some, None, IfSome, IfOk, MatchOption, codes, ◌∷◌};
 ghost use Rattle.std.specs.Str.{IsUtf8};
 ghost use Rattle.std.specs.String.{string_bytes};
-ghost use Rattle.rl_session.specs.Grammar.{Do, number_of, letter_of, hex_digit, NamesChar, Spells, SpellsChar, word, rest, Names, Says, Means, MeansNothing};
-ghost use Rattle.rl_session.specs.Reads.{BeginsEscape, BeginsNoEscape, BeginsChar, SpellsNothing, SpellsNoChar, NamesNothing, SaysNothing, SaysNoCommand, meaning_of};
+ghost use Rattle.rl_session.specs.Grammar.{Set, Do, number_of, letter_of, hex_digit, NamesChar, Spells, SpellsChar, word, rest, NamesWord, NamesAt, NamesSearch, NamesMode, Names, Says, Means, MeansNothing};
+ghost use Rattle.rl_session.specs.Reads.{BeginsEscape, BeginsNoEscape, BeginsChar, SpellsNothing, SpellsNoChar, Counted, HasNoCount, NamesNothing, SaysNothing, SaysNoCommand, SaysNoSetting, meaning_of};
+ghost use Rattle.rl_base.specs.declared.layout.GraphemeClusterMode.{GraphemeClusterMode};
+ghost use Rattle.rl_base.specs.declared.motion.At.{At};
+ghost use Rattle.rl_base.specs.declared.motion.CharSearch.{CharSearch};
+ghost use Rattle.rl_base.specs.declared.motion.Word.{Word};
 
 use crate::session::Command;
-use rl_base::Movement;
+use crate::settings::Setting;
+use rl_base::{At, CharSearch, GraphemeClusterMode, Movement, Word};
 use std::alloc::{AllocError, Global};
 
 /// What a line says.
 #[derive(Drop)]
 pub(crate) enum ScriptLine {
     NewText(String),
+    Set(Setting),
     Do(Command),
 }
 
@@ -156,24 +162,136 @@ fn character(escaped: &str) -> Option<char>
     if behind.is_empty() { Some(c) } else { None }
 }
 
+// The count before the first space, and what stands behind it.
+fn counted(given: &str) -> Option<(u16, &str)>
+    ensures cases { MatchOption result (HasNoCount given.now) (λ found. Counted given.now found.0 found.1.now) }
+    ensures utf8 { IfSome result (λ found. IsUtf8 found.1.now) }
+{
+    let (digits, behind) = given.split_once(' ')?;
+    Some((count(digits)?, behind))
+}
+
 // The insertion of a count and a character.
 fn insertion(given: &str) -> Option<Command>
     ensures { MatchOption result (SaysNoCommand (codes "ins") given.now)
         (λ command. Says (codes "ins") (Some given.now) (Do command)) }
 {
-    let (digits, escaped) = given.split_once(' ')?;
-    let n = count(digits)?;
+    let (n, escaped) = counted(given)?;
     let c = character(escaped)?;
     Some(Command::Insert(c, n))
 }
 
+// The kind of word that is named.
+fn named_word(named: &str) -> Option<Word>
+    ensures { MatchOption result ((w : Word) → NamesWord named.now w → ⊥) (λ w. NamesWord named.now w) }
+{
+    match named {
+        "big" => Some(Word::Big),
+        "emacs" => Some(Word::Emacs),
+        "vi" => Some(Word::Vi),
+        _ => None,
+    }
+}
+
+// The place at a word that is named.
+fn named_at(named: &str) -> Option<At>
+    ensures { MatchOption result ((a : At) → NamesAt named.now a → ⊥) (λ a. NamesAt named.now a) }
+{
+    match named {
+        "start" => Some(At::Start),
+        "before" => Some(At::BeforeEnd),
+        "after" => Some(At::AfterEnd),
+        _ => None,
+    }
+}
+
+// The search for a character whose kind is named.
+fn named_search(named: &str, c: char) -> Option<CharSearch>
+    ensures { MatchOption result ((cs : CharSearch) → NamesSearch named.now c cs → ⊥) (λ cs. NamesSearch named.now c cs) }
+{
+    match named {
+        "f" => Some(CharSearch::Forward(c)),
+        "t" => Some(CharSearch::ForwardBefore(c)),
+        "F" => Some(CharSearch::Backward(c)),
+        "T" => Some(CharSearch::BackwardAfter(c)),
+        _ => None,
+    }
+}
+
+// The way to measure columns that is named.
+fn named_mode(named: &str) -> Option<GraphemeClusterMode>
+    ensures { MatchOption result ((m : GraphemeClusterMode) → NamesMode named.now m → ⊥) (λ m. NamesMode named.now m) }
+{
+    match named {
+        "unicode" => Some(GraphemeClusterMode::Unicode),
+        "wcwidth" => Some(GraphemeClusterMode::WcWidth),
+        "nozwj" => Some(GraphemeClusterMode::NoZwj),
+        _ => None,
+    }
+}
+
+// The movement back by a count and a kind of word.
+fn backward_word(given: &str) -> Option<Movement>
+    ensures { MatchOption result (NamesNothing (codes "bword") (Some given.now))
+        (λ movement. Names (codes "bword") (Some given.now) movement) }
+{
+    let (n, kind) = counted(given)?;
+    let word = named_word(kind)?;
+    Some(Movement::BackwardWord(n, word))
+}
+
+// The movement ahead by a count, a place at a word and a kind of word.
+fn forward_word(given: &str) -> Option<Movement>
+    ensures { MatchOption result (NamesNothing (codes "fword") (Some given.now))
+        (λ movement. Names (codes "fword") (Some given.now) movement) }
+{
+    let (n, behind) = counted(given)?;
+    let (stop, kind) = behind.split_once(' ')?;
+    let at = named_at(stop)?;
+    let word = named_word(kind)?;
+    Some(Movement::ForwardWord(n, at, word))
+}
+
+// The movement by a count, a kind of search and a character.
+fn char_search(given: &str) -> Option<Movement>
+    ensures { MatchOption result (NamesNothing (codes "find") (Some given.now))
+        (λ movement. Names (codes "find") (Some given.now) movement) }
+{
+    let (n, behind) = counted(given)?;
+    let (kind, escaped) = behind.split_once(' ')?;
+    let c = character(escaped)?;
+    let search = named_search(kind, c)?;
+    Some(Movement::ViCharSearch(n, search))
+}
+
 // The movement of a word and of what stands behind its space.
-fn counted_movement(word: &str, given: &str) -> Option<Movement>
+fn movement_with(word: &str, given: &str) -> Option<Movement>
     ensures { MatchOption result (NamesNothing word.now (Some given.now)) (λ movement. Names word.now (Some given.now) movement) }
 {
     match word {
+        "bword" => backward_word(given),
+        "fword" => forward_word(given),
+        "find" => char_search(given),
         "bchar" => Some(Movement::BackwardChar(count(given)?)),
         "fchar" => Some(Movement::ForwardChar(count(given)?)),
+        "up" => Some(Movement::LineUp(count(given)?)),
+        "down" => Some(Movement::LineDown(count(given)?)),
+        _ => None,
+    }
+}
+
+// The movement of a word that no space follows.
+fn lone_movement(word: &str) -> Option<Movement>
+    ensures { MatchOption result (NamesNothing word.now None) (λ movement. Names word.now None movement) }
+{
+    match word {
+        "line" => Some(Movement::WholeLine),
+        "home" => Some(Movement::BeginningOfLine),
+        "eol" => Some(Movement::EndOfLine),
+        "first" => Some(Movement::ViFirstPrint),
+        "buf" => Some(Movement::WholeBuffer),
+        "bob" => Some(Movement::BeginningOfBuffer),
+        "eob" => Some(Movement::EndOfBuffer),
         _ => None,
     }
 }
@@ -183,8 +301,8 @@ fn movement(named: &str) -> Option<Movement>
     ensures { MatchOption result (NamesNothing (word named.now) (rest named.now)) (λ movement. Names (word named.now) (rest named.now) movement) }
 {
     match named.split_once(' ') {
-        Some((word, given)) => counted_movement(word, given),
-        None => None,
+        Some((word, given)) => movement_with(word, given),
+        None => lone_movement(named),
     }
 }
 
@@ -199,7 +317,22 @@ fn command(word: &str, given: &str) -> Option<Command>
         "ins" => insertion(given),
         "del" => Some(Command::Delete(count(given)?)),
         "back" => Some(Command::Backspace(count(given)?)),
+        "kill" => Some(Command::Kill(movement(given)?)),
+        "yank" => Some(Command::Yank(count(given)?)),
         "undo" => Some(Command::Undo(count(given)?)),
+        _ => None,
+    }
+}
+
+// The setting of a word and of what stands behind its space.
+fn setting(word: &str, given: &str) -> Option<Setting>
+    ensures { MatchOption result (SaysNoSetting word.now given.now)
+        (λ setting. Says word.now (Some given.now) (Set setting)) }
+{
+    match word {
+        "limit" => Some(Setting::Limit(number(given, usize::MAX)?)),
+        "ring" => Some(Setting::RingSize(number(given, usize::MAX)?)),
+        "mode" => Some(Setting::Mode(named_mode(given)?)),
         _ => None,
     }
 }
@@ -216,7 +349,10 @@ fn with_given(alloc: Global, word: &str, given: &str) -> Result<Option<ScriptLin
         },
         _ => match command(word, given) {
             Some(command) => Ok(Some(ScriptLine::Do(command))),
-            None => Ok(None),
+            None => match setting(word, given) {
+                Some(setting) => Ok(Some(ScriptLine::Set(setting))),
+                None => Ok(None),
+            },
         },
     }
 }
@@ -228,6 +364,7 @@ fn alone(alloc: Global, word: &str) -> Option<ScriptLine>
 {
     match word {
         "text" => Some(ScriptLine::NewText(String::new(alloc))),
+        "yankpop" => Some(ScriptLine::Do(Command::YankPop)),
         _ => None,
     }
 }

@@ -1,13 +1,17 @@
-//! A line with the record of its changes, driven by commands, and scripts of such commands.
+//! A line with the ring and the record of its changes, driven by commands, and scripts of such commands.
 #![tactic(auto)]
 
 mod grammar;
+pub mod kill_runs;
 pub mod laws;
+pub mod pair;
 mod print;
 pub mod script;
 pub mod session;
+mod settings;
 #[cfg(test)]
 mod tests;
 
+pub use pair::Pair;
 pub use script::{ScriptFault, run_script};
 pub use session::{Command, Fault, Reply, Session};

@@ -30,6 +30,7 @@ fn reply_word(reply: &Reply) -> &'static str
         Reply::Text(None) => "none",
         Reply::Refused(Fault::NoMemory) => "refused:1",
         Reply::Refused(Fault::BadPlace) => "refused:2",
+        Reply::Refused(Fault::BadYankSize) => "refused:3",
     }
 }
 

@@ -1,17 +1,16 @@
 //! Scripts: lines of commands from a reader, and one line to a writer for each.
 ghost use Rattle.std.specs.Prelude.{◌≡◌, ℕ, [], ◌∷◌, take, OnOk, OnErr, IfOk, IfErr};
 ghost use Rattle.std.specs.Io.KnownBytes.{Appends};
-ghost use Rattle.rl_session.specs.Grammar.{NewText, Do};
+ghost use Rattle.rl_session.specs.Grammar.{NewText, Set, Do};
 ghost use Rattle.rl_session.specs.Lines.{HasNoNewline};
 ghost use Rattle.rl_session.specs.Print.{printed};
-ghost use Rattle.rl_session.specs.Script.{begun, MeaningOut, LineOut, Ran, Stopped};
+ghost use Rattle.rl_session.specs.Script.{begun, started, MeaningOut, LineOut, Ran, Stopped};
 ghost use Rattle.rl_session.specs.Progress.{Took, Halts};
 
 use crate::grammar::{ScriptLine, parse};
 use crate::print::add_printed;
 use crate::session::{Command, Fault, Reply, Session};
-use rl_base::GraphemeClusterMode;
-use rl_line::MAX_LINE;
+use crate::settings::{Setting, Settings};
 use std::alloc::Global;
 use std::io::{Read, Write};
 use thiserror::Error;
@@ -30,91 +29,110 @@ pub enum ScriptFault {
     NoMemory = 3,
 }
 
-// How many slots the ring of a session has.
-const RING_SIZE: usize = 60;
-
 // How many bytes are read at once.
 const BLOCK: usize = 4096;
 
+// What a script holds between its lines.
+#[derive(Drop)]
+struct Interpreter {
+    settings: Settings,
+    session: Session,
+}
+
 // The session that a text begins.
-fn begin(alloc: Global, text: &str) -> Result<Session, Fault>
-    ensures ok { IfOk result (λ session. session ≡ begun text.now) }
+fn begin(alloc: Global, settings: Settings, text: &str) -> Result<Session, Fault>
+    ensures ok { IfOk result (λ session. session ≡ begun settings text.now) }
     ensures err { IfErr result (λ f. f ≡ Fault.NoMemory) }
 {
     Session::new(
         alloc,
         text,
         text.len(),
-        MAX_LINE,
-        RING_SIZE,
-        GraphemeClusterMode::Unicode,
+        settings.limit,
+        settings.ring_size,
+        settings.mode,
     )
 }
 
-// Prints a reply, with what the session then holds.
-fn answer(session: &Session, reply: &Reply, out: &mut Vec<u8>) -> Result<(), ScriptFault>
-    requires { out.old.items ≡ [] }
-    ensures ok { OnOk result (out.new.items ≡ printed reply.now session.now) }
-    ensures err { IfErr result (λ f. f ≡ ScriptFault.NoMemory) }
-{
-    match add_printed(out, reply, session) {
-        Ok(()) => Ok(()),
-        Err(_) => Err(ScriptFault::NoMemory),
-    }
-}
-
-// Begins a new text. Where that is refused, the old session stays.
-fn renew(
-    alloc: Global,
-    session: &mut Session,
-    text: &str,
-    out: &mut Vec<u8>,
-) -> Result<(), ScriptFault>
-    requires { out.old.items ≡ [] }
-    ensures ok { OnOk result (MeaningOut session.old (NewText text.now) out.new.items session.new) }
-    ensures err { IfErr result (λ f. f ≡ ScriptFault.NoMemory) }
-{
-    match begin(alloc, text) {
-        Ok(new) => {
-            *session = new;
-            answer(session, &Reply::Done, out)
+impl Interpreter {
+    // The one before the first line.
+    fn start(alloc: Global) -> Result<Self, ScriptFault>
+        ensures ok { IfOk result (λ first. first ≡ started) }
+        ensures err { IfErr result (λ f. f ≡ ScriptFault.NoMemory) }
+    {
+        let settings = Settings::usual();
+        match begin(alloc, settings, "") {
+            Ok(session) => Ok(Interpreter { settings, session }),
+            Err(_) => Err(ScriptFault::NoMemory),
         }
-        Err(fault) => answer(session, &Reply::Refused(fault), out),
     }
-}
 
-// Does a command.
-fn obey(session: &mut Session, command: &Command, out: &mut Vec<u8>) -> Result<(), ScriptFault>
-    requires { out.old.items ≡ [] }
-    ensures ok { OnOk result (MeaningOut session.old (Do command.now) out.new.items session.new) }
-    ensures err { IfErr result (λ f. f ≡ ScriptFault.NoMemory) }
-{
-    let reply = session.apply(command);
-    answer(session, &reply, out)
-}
-
-// Runs one line, and leaves in `out` what is printed for it.
-fn run_line(
-    alloc: Global,
-    session: &mut Session,
-    line: &[u8],
-    out: &mut Vec<u8>,
-) -> Result<(), ScriptFault>
-    ensures ok { OnOk result (LineOut session.old line.now out.new.items session.new) }
-    ensures err { IfErr result (λ f. f ≡ ScriptFault.NoMemory) }
-{
-    out.clear();
-    let said = match parse(alloc, line) {
-        Ok(said) => said,
-        Err(_) => return Err(ScriptFault::NoMemory),
-    };
-    match said {
-        Some(ScriptLine::NewText(text)) => renew(alloc, session, text.as_str(), out),
-        Some(ScriptLine::Do(command)) => obey(session, &command, out),
-        None => match out.extend_from_slice(b"bad\n") {
+    // Prints a reply, with what the session now holds.
+    fn answer(&self, reply: &Reply, out: &mut Vec<u8>) -> Result<(), ScriptFault>
+        requires { out.old.items ≡ [] }
+        ensures ok { OnOk result (out.new.items ≡ printed reply.now self.now.session) }
+        ensures err { IfErr result (λ f. f ≡ ScriptFault.NoMemory) }
+    {
+        match add_printed(out, reply, &self.session) {
             Ok(()) => Ok(()),
             Err(_) => Err(ScriptFault::NoMemory),
-        },
+        }
+    }
+
+    // Begins a new text with the present settings. Where that is refused, the old session stays.
+    fn renew(&mut self, alloc: Global, text: &str, out: &mut Vec<u8>) -> Result<(), ScriptFault>
+        requires { out.old.items ≡ [] }
+        ensures ok { OnOk result (MeaningOut self.old (NewText text.now) out.new.items self.new) }
+        ensures err { IfErr result (λ f. f ≡ ScriptFault.NoMemory) }
+    {
+        match begin(alloc, self.settings, text) {
+            Ok(session) => {
+                self.session = session;
+                self.answer(&Reply::Done, out)
+            }
+            Err(fault) => self.answer(&Reply::Refused(fault), out),
+        }
+    }
+
+    // Makes a setting, for the texts to come.
+    fn set(&mut self, setting: Setting, out: &mut Vec<u8>) -> Result<(), ScriptFault>
+        requires { out.old.items ≡ [] }
+        ensures ok { OnOk result (MeaningOut self.old (Set setting) out.new.items self.new) }
+        ensures err { IfErr result (λ f. f ≡ ScriptFault.NoMemory) }
+    {
+        self.settings.set(setting);
+        self.answer(&Reply::Done, out)
+    }
+
+    // Does a command.
+    fn obey(&mut self, command: &Command, out: &mut Vec<u8>) -> Result<(), ScriptFault>
+        requires { out.old.items ≡ [] }
+        ensures ok { OnOk result (MeaningOut self.old (Do command.now) out.new.items self.new) }
+        ensures err { IfErr result (λ f. f ≡ ScriptFault.NoMemory) }
+    {
+        let reply = self.session.apply(command);
+        self.answer(&reply, out)
+    }
+
+    // Runs one line, and leaves in `out` what is printed for it.
+    fn run_line(&mut self, alloc: Global, line: &[u8], out: &mut Vec<u8>) -> Result<(), ScriptFault>
+        ensures ok { OnOk result (LineOut self.old line.now out.new.items self.new) }
+        ensures err { IfErr result (λ f. f ≡ ScriptFault.NoMemory) }
+    {
+        out.clear();
+        let said = match parse(alloc, line) {
+            Ok(said) => said,
+            Err(_) => return Err(ScriptFault::NoMemory),
+        };
+        match said {
+            Some(ScriptLine::NewText(text)) => self.renew(alloc, text.as_str(), out),
+            Some(ScriptLine::Set(setting)) => self.set(setting, out),
+            Some(ScriptLine::Do(command)) => self.obey(&command, out),
+            None => match out.extend_from_slice(b"bad\n") {
+                Ok(()) => Ok(()),
+                Err(_) => Err(ScriptFault::NoMemory),
+            },
+        }
     }
 }
 
@@ -138,36 +156,36 @@ fn put_line<W: Write>(writer: &mut W, line: &[u8]) -> Result<(), ScriptFault>
 // Runs a line, and writes what is printed for it.
 fn run_and_put<W: Write>(
     alloc: Global,
-    session: &mut Session,
+    interpreter: &mut Interpreter,
     line: &[u8],
     out: &mut Vec<u8>,
     writer: &mut W,
 ) -> Result<(), ScriptFault>
     requires { HasNoNewline line.now }
-    ensures took { OnOk result (Took session.old line.now (10 ∷ []) (W.contents writer.old) (W.contents writer.new) session.new []) }
-    ensures halts { OnErr result (Halts session.old line.now (10 ∷ []) (W.contents writer.old) (W.contents writer.new)) }
+    ensures took { OnOk result (Took interpreter.old line.now (10 ∷ []) (W.contents writer.old) (W.contents writer.new) interpreter.new []) }
+    ensures halts { OnErr result (Halts interpreter.old line.now (10 ∷ []) (W.contents writer.old) (W.contents writer.new)) }
 {
-    run_line(alloc, session, line, out)?;
+    interpreter.run_line(alloc, line, out)?;
     put_line(writer, out.as_slice())
 }
 
 // Takes the next bytes of the script: runs each line that they end, and keeps the beginning of the next.
 fn take_block<W: Write>(
     alloc: Global,
-    session: &mut Session,
+    interpreter: &mut Interpreter,
     part: &mut Vec<u8>,
     out: &mut Vec<u8>,
     block: &[u8],
     writer: &mut W,
 ) -> Result<(), ScriptFault>
     requires { HasNoNewline part.old.items }
-    ensures took { OnOk result (Took session.old part.old.items block.now (W.contents writer.old) (W.contents writer.new) session.new part.new.items) }
+    ensures took { OnOk result (Took interpreter.old part.old.items block.now (W.contents writer.old) (W.contents writer.new) interpreter.new part.new.items) }
     ensures clean { OnOk result (HasNoNewline part.new.items) }
-    ensures halts { OnErr result (Halts session.old part.old.items block.now (W.contents writer.old) (W.contents writer.new)) }
+    ensures halts { OnErr result (Halts interpreter.old part.old.items block.now (W.contents writer.old) (W.contents writer.new)) }
 {
     for b in block {
         if *b == b'\n' {
-            run_and_put(alloc, session, part.as_slice(), out, writer)?;
+            run_and_put(alloc, interpreter, part.as_slice(), out, writer)?;
             part.clear();
         } else if part.push(*b).is_err() {
             return Err(ScriptFault::NoMemory);
@@ -177,8 +195,9 @@ fn take_block<W: Write>(
 }
 
 /// Runs a script: reads it to its end, one command a line, and writes one line for each, whole before the
-/// next is run. It begins with the session of the empty text. On a fault the lines before it were run, one
-/// that was not read whole was not, and of the last output line perhaps only a part was written.
+/// next is run. It begins with the usual settings and the session of the empty text. On a fault the lines
+/// before it were run, one that was not read whole was not, and of the last output line perhaps only a part
+/// was written.
 pub fn run_script<R: Read, W: Write>(
     alloc: Global,
     reader: &mut R,
@@ -187,10 +206,7 @@ pub fn run_script<R: Read, W: Write>(
     ensures ok { OnOk result (Ran (R.remaining reader.old) (R.remaining reader.new) (W.contents writer.old) (W.contents writer.new)) }
     ensures err { OnErr result (Stopped (R.remaining reader.old) (W.contents writer.old) (W.contents writer.new)) }
 {
-    let mut session = match begin(alloc, "") {
-        Ok(session) => session,
-        Err(_) => return Err(ScriptFault::NoMemory),
-    };
+    let mut interpreter = Interpreter::start(alloc)?;
     let mut part = Vec::new(alloc);
     let mut out = Vec::new(alloc);
     let mut block = [0u8; BLOCK];
@@ -203,11 +219,11 @@ pub fn run_script<R: Read, W: Write>(
             if part.is_empty() {
                 return Ok(());
             }
-            return run_and_put(alloc, &mut session, part.as_slice(), &mut out, writer);
+            return run_and_put(alloc, &mut interpreter, part.as_slice(), &mut out, writer);
         }
         take_block(
             alloc,
-            &mut session,
+            &mut interpreter,
             &mut part,
             &mut out,
             &block[..count],

@@ -1,15 +1,19 @@
-//! A session: a line with the record of its changes, which takes commands one after another.
-ghost use Rattle.std.specs.Prelude.{◌≡◌, ◌++◌, List, ℕ, max, length, false, IfOk, IfErr};
+//! A session: a line with its kill ring and the record of its changes, which takes commands one after another.
+ghost use Rattle.std.specs.Prelude.{◌≡◌, ◌++◌, List, ℕ, max, length, true, false, IfOk, IfErr, IsSome};
+ghost use Rattle.std.specs.Option.{option_map};
 ghost use Rattle.std.specs.Str.{IsCharBoundary};
-ghost use Rattle.rl_session.specs.State.{State, Opens, Replays};
-ghost use Rattle.rl_session.specs.Commands.{Step};
+ghost use Rattle.std.specs.String.{string_bytes};
+ghost use Rattle.rl_base.specs.KillRing.{yank, yanked, yank_pop, yank_popped, yank_size};
+ghost use Rattle.rl_session.specs.State.{State, Stands, Opens, Replays};
+ghost use Rattle.rl_session.specs.Commands.{Does, StandsYanked, Step, continues, is_vain_yank, readied, settled};
 ghost use Rattle.rl_session.specs.Run.{Run, AfterEach, held_of};
 ghost use Rattle.rl_session.specs.declared.session.Command.{Command};
 ghost use Rattle.rl_session.specs.declared.session.Reply.{Reply};
 
-use rl_base::{GraphemeClusterMode, Movement, NoListener, RepeatCount};
+use crate::pair::Pair;
+use rl_base::{GraphemeClusterMode, KillRing, Layout, Movement, NoListener, RepeatCount};
 use rl_line::{Changeset, LineBuffer};
-use std::alloc::Global;
+use std::alloc::{AllocError, Global};
 use std::marker::Model;
 use thiserror::Error;
 
@@ -18,7 +22,7 @@ use thiserror::Error;
 pub enum Command {
     /// Moves the cursor to a place.
     SetPos(usize),
-    /// Moves the cursor by a movement. For now those by clusters move it, and the others answer false.
+    /// Moves the cursor by a movement. Over a whole line or text, and to the first print place, there is none.
     Move(Movement),
     /// Inserts a character at the cursor, so many times.
     Insert(char, RepeatCount),
@@ -26,6 +30,12 @@ pub enum Command {
     Delete(RepeatCount),
     /// Deletes so many grapheme clusters before the cursor.
     Backspace(RepeatCount),
+    /// Kills by a movement. What was killed goes to the ring, but by clusters.
+    Kill(Movement),
+    /// Inserts the ring's current text at the cursor, so many times.
+    Yank(RepeatCount),
+    /// Puts the ring's text before in the place of the one that was just yanked.
+    YankPop,
     /// Undoes so many changes.
     Undo(RepeatCount),
 }
@@ -39,6 +49,9 @@ pub enum Fault {
     /// A place is past the text's end or inside a character.
     #[error("no such place in the text")]
     BadPlace = 2,
+    /// What was yanked does not stand before the cursor.
+    #[error("no yanked text before the cursor")]
+    BadYankSize = 3,
 }
 
 /// What a session answers.
@@ -56,12 +69,12 @@ pub enum Reply {
     Refused(Fault),
 }
 
-/// A line, and the record of its changes. It lends both for reading only, so no change escapes the record.
+/// A line, with the ring and the record that hear of its changes. It lends them for reading only, so no change
+/// escapes them.
 #[derive(Drop)]
 pub struct Session {
     line: LineBuffer,
-    changes: Changeset,
-    ring_size: usize,
+    pair: Pair,
     mode: GraphemeClusterMode,
     alloc: Global,
 }
@@ -71,9 +84,9 @@ impl Model for Session {
 
     ghost Value = { State };
 
-    ghost view = { λ s. record { line = s.line; changes = s.changes; ring_size = s.ring_size; mode = s.mode } };
+    ghost view = { λ s. record { line = s.line; pair = s.pair; mode = s.mode } };
 
-    ghost invariant = { λ s. Follows s.line s.changes };
+    ghost invariant = { λ s. Follows s.line s.pair.changes };
 }
 
 // A line that holds the text, with the cursor at a place.
@@ -116,8 +129,10 @@ impl Session {
         let line = line_of(alloc, text, pos, limit)?;
         Ok(Session {
             line,
-            changes: Changeset::new(alloc),
-            ring_size,
+            pair: Pair {
+                ring: KillRing::new(alloc, ring_size),
+                changes: Changeset::new(alloc),
+            },
             mode,
             alloc,
         })
@@ -132,13 +147,29 @@ impl Session {
 
     /// The record of the line's changes.
     pub fn record(&self) -> &Changeset
-        ensures { result.now ≡ self.now.changes }
+        ensures { result.now ≡ self.now.pair.changes }
     {
-        &self.changes
+        &self.pair.changes
+    }
+
+    /// The ring of killed texts.
+    pub fn ring(&self) -> &KillRing
+        ensures { result.now ≡ self.now.pair.ring }
+    {
+        &self.pair.ring
+    }
+
+    // What the parts of a session promise of themselves, for the proofs of what stands on them.
+    fn stands(&self)
+        ensures { Stands self.now }
+    {
+        let _ = self.line.pos();
+        let _ = self.line.limit();
+        let _ = self.pair.ring.yank_size();
     }
 
     fn set_pos(&mut self, pos: usize) -> Reply
-        ensures { Step self.old (Command.SetPos pos) result self.new }
+        ensures { Does self.old (Command.SetPos pos) result self.new }
     {
         if self.line.as_str().is_char_boundary(pos) {
             self.line.set_pos(pos);
@@ -149,58 +180,123 @@ impl Session {
     }
 
     fn move_by(&mut self, movement: &Movement) -> Reply
-        ensures { Step self.old (Command.Move movement.now) result self.new }
+        ensures { Does self.old (Command.Move movement.now) result self.new }
     {
-        match movement {
-            Movement::BackwardChar(n) => Reply::Answer(self.line.move_backward(*n)),
-            Movement::ForwardChar(n) => Reply::Answer(self.line.move_forward(*n)),
-            _ => Reply::Answer(false),
-        }
+        let layout = Layout::new(self.mode);
+        let line = &mut self.line;
+        Reply::Answer(match movement {
+            Movement::BeginningOfLine => line.move_home(),
+            Movement::EndOfLine => line.move_end(),
+            Movement::BackwardWord(n, word) => line.move_to_prev_word(*word, *n),
+            Movement::ForwardWord(n, at, word) => line.move_to_next_word(*at, *word, *n),
+            Movement::ViCharSearch(n, cs) => line.move_to(*cs, *n),
+            Movement::BackwardChar(n) => line.move_backward(*n),
+            Movement::ForwardChar(n) => line.move_forward(*n),
+            Movement::LineUp(n) => line.move_to_line_up(*n, &layout),
+            Movement::LineDown(n) => line.move_to_line_down(*n, &layout),
+            Movement::BeginningOfBuffer => line.move_buffer_start(),
+            Movement::EndOfBuffer => line.move_buffer_end(),
+            Movement::WholeLine | Movement::ViFirstPrint | Movement::WholeBuffer => false,
+        })
     }
 
     fn insert(&mut self, c: char, n: RepeatCount) -> Reply
-        ensures { Step self.old (Command.Insert c n) result self.new }
+        ensures { Does self.old (Command.Insert c n) result self.new }
     {
-        // Each edit and undo looks at the text first: so its proof knows that this is UTF-8.
-        let _text = self.line.as_str();
-        match self.line.insert(c, n, &mut self.changes) {
+        self.stands();
+        match self.line.insert(c, n, &mut self.pair) {
             Ok(answer) => Reply::Inserted(answer),
             Err(_) => Reply::Refused(Fault::NoMemory),
         }
     }
 
     fn delete(&mut self, n: RepeatCount) -> Reply
-        ensures { Step self.old (Command.Delete n) result self.new }
+        ensures { Does self.old (Command.Delete n) result self.new }
     {
-        let _text = self.line.as_str();
-        match self.line.delete(n, &mut self.changes) {
+        self.stands();
+        match self.line.delete(n, &mut self.pair) {
             Ok(text) => Reply::Text(text),
             Err(_) => Reply::Refused(Fault::NoMemory),
         }
     }
 
     fn backspace(&mut self, n: RepeatCount) -> Reply
-        ensures { Step self.old (Command.Backspace n) result self.new }
+        ensures { Does self.old (Command.Backspace n) result self.new }
     {
-        let _text = self.line.as_str();
-        match self.line.backspace(n, &mut self.changes) {
+        self.stands();
+        match self.line.backspace(n, &mut self.pair) {
             Ok(answer) => Reply::Answer(answer),
             Err(_) => Reply::Refused(Fault::NoMemory),
         }
     }
 
-    fn undo(&mut self, n: RepeatCount) -> Reply
-        ensures { Step self.old (Command.Undo n) result self.new }
+    fn kill(&mut self, movement: &Movement) -> Reply
+        ensures { Does self.old (Command.Kill movement.now) result self.new }
     {
-        let _text = self.line.as_str();
-        match self.changes.undo(&mut self.line, n) {
+        self.stands();
+        match self.line.kill(movement, &mut self.pair) {
+            Ok(answer) => Reply::Answer(answer),
+            Err(_) => Reply::Refused(Fault::NoMemory),
+        }
+    }
+
+    fn yank(&mut self, n: RepeatCount) -> Reply
+        ensures { Does self.old (Command.Yank n) result self.new }
+    {
+        self.stands();
+        let text = match yanked(self.alloc, &mut self.pair.ring) {
+            Ok(Some(text)) => text,
+            Ok(None) => return Reply::Inserted(None),
+            Err(_) => return Reply::Refused(Fault::NoMemory),
+        };
+        match self.line.yank(text.as_str(), n, &mut self.pair) {
+            Ok(answer) => Reply::Inserted(answer),
+            Err(_) => Reply::Refused(Fault::NoMemory),
+        }
+    }
+
+    // Whether the bytes that were yanked last can stand before the cursor.
+    fn stands_yanked(&self) -> bool
+        ensures yes { result ≡ true → StandsYanked (yank_size self.now.pair.ring) self.now.line }
+        ensures no { result ≡ false → ¬ (StandsYanked (yank_size self.now.pair.ring) self.now.line) }
+    {
+        let end = self.line.pos();
+        match self.pair.ring.yank_size() {
+            Some(size) => size <= end && self.line.as_str().is_char_boundary(end - size),
+            None => true,
+        }
+    }
+
+    fn yank_pop(&mut self) -> Reply
+        ensures { Does self.old Command.YankPop result self.new }
+    {
+        if !self.stands_yanked() {
+            return Reply::Refused(Fault::BadYankSize);
+        }
+        self.stands();
+        let (size, text) = match popped(self.alloc, &mut self.pair.ring) {
+            Ok(Some(found)) => found,
+            Ok(None) => return Reply::Inserted(None),
+            Err(_) => return Reply::Refused(Fault::NoMemory),
+        };
+        match self.line.yank_pop(size, text.as_str(), &mut self.pair) {
+            Ok(answer) => Reply::Inserted(answer),
+            Err(_) => Reply::Refused(Fault::NoMemory),
+        }
+    }
+
+    fn undo(&mut self, n: RepeatCount) -> Reply
+        ensures { Does self.old (Command.Undo n) result self.new }
+    {
+        self.stands();
+        match self.pair.changes.undo(&mut self.line, n) {
             Ok(answer) => Reply::Answer(answer),
             Err(_) => Reply::Refused(Fault::NoMemory),
         }
     }
 
     fn obey(&mut self, command: &Command) -> Reply
-        ensures { Step self.old command.now result self.new }
+        ensures { Does self.old command.now result self.new }
     {
         match command {
             Command::SetPos(pos) => self.set_pos(*pos),
@@ -208,17 +304,43 @@ impl Session {
             Command::Insert(c, n) => self.insert(*c, *n),
             Command::Delete(n) => self.delete(*n),
             Command::Backspace(n) => self.backspace(*n),
+            Command::Kill(movement) => self.kill(movement),
+            Command::Yank(n) => self.yank(*n),
+            Command::YankPop => self.yank_pop(),
             Command::Undo(n) => self.undo(*n),
         }
     }
 
-    /// Does one command. Whatever it answers, the recorded changes lead from the starting text to the
-    /// present one.
+    // Resets the ring before a command that does not go on from what it did last.
+    fn ready(&mut self, command: &Command)
+        ensures { self.new ≡ readied command.now self.old }
+    {
+        if !continues(command) {
+            self.pair.ring.reset();
+        }
+    }
+
+    // Resets the ring after a yank that put nothing in.
+    fn settle(&mut self, command: &Command, reply: &Reply)
+        ensures { self.new ≡ settled command.now reply.now self.old }
+    {
+        if is_vain_yank(command, reply) {
+            self.pair.ring.reset();
+        }
+    }
+
+    /// Does one command. The ring is reset first, unless the command is a yank, or a kill by another movement
+    /// than by clusters, and again after a yank that put nothing in. Whatever it answers, the recorded changes
+    /// lead from the starting text to the present one.
     pub fn apply(&mut self, command: &Command) -> Reply
         ensures step { Step self.old command.now result self.new }
         ensures replays { (start : List ℕ) → Replays start self.old → Replays start self.new }
     {
-        self.obey(command)
+        self.ready(command);
+        let reply = self.obey(command);
+        self.settle(command, &reply);
+        self.stands();
+        reply
     }
 
     /// Does the commands in order, and answers one reply for each. It finds room for the replies first:
@@ -239,6 +361,47 @@ impl Session {
             }
         }
         Ok(replies)
+    }
+}
+
+// Whether the ring is left for a command as it is.
+fn continues(command: &Command) -> bool
+    ensures { result ≡ continues command.now }
+{
+    match command {
+        Command::Kill(Movement::BackwardChar(_) | Movement::ForwardChar(_)) => false,
+        Command::Kill(_) | Command::Yank(_) | Command::YankPop => true,
+        _ => false,
+    }
+}
+
+// Whether a yank put nothing in.
+fn is_vain_yank(command: &Command, reply: &Reply) -> bool
+    ensures { result ≡ is_vain_yank command.now reply.now }
+{
+    matches!(command, Command::Yank(_) | Command::YankPop)
+        && !matches!(reply, Reply::Inserted(Some(_)))
+}
+
+// A copy of the text that the ring yanks.
+fn yanked(alloc: Global, ring: &mut KillRing) -> Result<Option<String>, AllocError>
+    ensures ring { ring.new ≡ yanked ring.old }
+    ensures text { IfOk result (λ text. option_map string_bytes text ≡ yank ring.old) }
+{
+    match ring.yank() {
+        Some(text) => Ok(Some(String::from_str(alloc, text.as_str())?)),
+        None => Ok(None),
+    }
+}
+
+// The length of the text that was yanked, and a copy of the one before it.
+fn popped(alloc: Global, ring: &mut KillRing) -> Result<Option<(usize, String)>, AllocError>
+    ensures ring { ring.new ≡ yank_popped ring.old }
+    ensures text { IfOk result (λ found. option_map (λ p. (p.0, string_bytes p.1)) found ≡ yank_pop ring.old) }
+{
+    match ring.yank_pop() {
+        Some((size, text)) => Ok(Some((size, String::from_str(alloc, text.as_str())?))),
+        None => Ok(None),
     }
 }
 

@@ -5,7 +5,7 @@ use Rattle.rl_session.proofs.script.run_script.Given as goal
 
 abbrev pub invariant-loop : goal.invariant-loop
 invariant-loop g l = record {
-  runs : Runs (g.R.Read.remaining l.fn.reader) (g.R.Read.remaining l.reader) (g.W.Write.contents l.fn.writer) (g.W.Write.contents l.writer) l.session l.part.items;
+  runs : Runs (g.R.Read.remaining l.fn.reader) (g.R.Read.remaining l.reader) (g.W.Write.contents l.fn.writer) (g.W.Write.contents l.writer) l.interpreter l.part.items;
   clean : HasNoNewline l.part.items;
   block : length l.block ≡ 4096;
 }

@@ -17,14 +17,14 @@ loop-b-preserved g c =
           let ran = rw w.as_slice.ensures.value at w.in_ok-run_and_put.ensures.took in
           let all = Took-trans _ _ _ _ _ _ _ _ _ _ _ c.loop-b.invariant.took ran in
           record {
-            took = rw (w.session-is, w.part-is, w.writer-is, w.clear.ensures.items, step, w.if-b-eq10.true) all;
+            took = rw (w.interpreter-is, w.part-is, w.writer-is, w.clear.ensures.items, step, w.if-b-eq10.true) all;
             clean = rw (w.part-is, w.clear.ensures.items) tt;
           }
       | else-b-eq10+else-is_err w ↦
           let pushed : is_ok w.push.result ≡ true = w.if-is_err.ensures.negation in
           let items = rw pushed at w.push.ensures.items in
           record {
-            took = rw (w.session-is, w.part-is, w.writer-is, items, step) (Took-trans _ _ _ _ _ _ _ _ _ _ _ c.loop-b.invariant.took (Took-byte _ _ b _));
+            took = rw (w.interpreter-is, w.part-is, w.writer-is, items, step) (Took-trans _ _ _ _ _ _ _ _ _ _ _ c.loop-b.invariant.took (Took-byte _ _ b _));
             clean = rw (w.part-is, items) (HasNoNewline-more _ b c.loop-b.invariant.clean w.if-b-eq10.false);
           }
     ]

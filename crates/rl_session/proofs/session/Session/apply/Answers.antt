@@ -1,5 +1,13 @@
 use Rattle.rl_session.proofs.SessionLemmas.{step_replays}
 use Rattle.rl_session.proofs.session.Session.apply.Goals as goal
 
+pub returns-clause-step : goal.returns-clause-step
+returns-clause-step c = record {
+  left = c.obey-reply.new.self;
+  does = rw c.ready.ensures at c.obey-reply.ensures;
+  settles = c.settle.ensures;
+  stands = c.stands.ensures;
+}
+
 pub returns-clause-replays : goal.returns-clause-replays
-returns-clause-replays c = λ start. step_replays start _ _ _ _ c.obey.ensures
+returns-clause-replays c = λ start. step_replays start _ _ _ _ (returns-clause-step c)

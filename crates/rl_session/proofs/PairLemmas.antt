@@ -1,0 +1,76 @@
+-- What a pair of a ring and a record hears, as each of the two hears it.
+use Rattle.std.proofs.Common.{◌≡◌, ◌∷◌, [], Bool, true, false, List, refl, ap, inl, inr, ◌∙◌}
+use Rattle.rl_base.specs.Event.{Event}
+use Rattle.rl_base.specs.KillRing.{ring_step}
+use Rattle.rl_base.specs.declared.listeners.Refusal.{Refusal}
+use Rattle.rl_base.specs.declared.listeners.Refusal.TheVariants as why
+use Rattle.rl_line.specs.Line.{Line}
+use Rattle.rl_line.specs.Plan.{Step, Plan, heard, Taken, Done, Halted, or_no_memory}
+use Rattle.rl_line.specs.Kills.{Told}
+use Rattle.rl_line.specs.Record.{Record, record_step}
+use Rattle.rl_session.specs.Pair.{pair_step, pair_refused}
+use Rattle.rl_session.specs.declared.pair.Pair.{Pair}
+
+pub heard-changes : (steps : List Step) (p : Pair) → (heard pair_step steps p).changes ≡ heard record_step steps p.changes
+heard-changes [] p = refl
+heard-changes (s ∷ ss) p = heard-changes ss (pair_step p s.0)
+
+pub heard-ring : (steps : List Step) (p : Pair) → (heard pair_step steps p).ring ≡ heard ring_step steps p.ring
+heard-ring [] p = refl
+heard-ring (s ∷ ss) p = heard-ring ss (pair_step p s.0)
+
+-- what a pair went through, its record went through
+pub Taken-changes : (steps : List Step) (old new : Line) (p q : Pair) → Taken pair_step steps old new p q → Taken record_step steps old new p.changes q.changes
+Taken-changes steps old new p q t = record { line = t.line; listener = ap (λ (k : Pair). k.changes) t.listener ∙ heard-changes steps p }
+
+pub Done-changes : {A : Type 0} (plan : Plan A) (old new : Line) (p q : Pair) (a : A) → Done pair_step plan old new p q a → Done record_step plan old new p.changes q.changes a
+Done-changes plan old new p q a d = record { last = d.last; taken = Taken-changes plan.steps old d.last p q d.taken; line = d.line; answered = d.answered }
+
+-- a refusal that leaves the record
+abbrev pub keeps_changes : Record → Event → Refusal → Record → Type 0
+keeps_changes r _ _ now = now ≡ r
+
+pub Halted-changes : {A : Type 0} (plan : Plan A) (old new : Line) (p q : Pair) (w : Refusal) → Halted pair_step pair_refused plan old new p q w
+    → Halted record_step keeps_changes plan old new p.changes q.changes w
+Halted-changes plan old new p q w h = record {
+  first = h.first;
+  next = h.next;
+  others = h.others;
+  split = h.split;
+  middle = h.middle.changes;
+  taken = Taken-changes h.first old new p h.middle h.taken;
+  cause = h.cause.1;
+}
+
+-- want of memory for the line itself is no other refusal than one that the pair may answer
+cause-pair : (p q : Pair) (e : Event) (w : Refusal) → or_no_memory pair_refused p e w q → pair_refused p e why.NoMemory q
+cause-pair p q e w h = elim h [
+  | inl c ↦ (refl, ap (λ (k : Pair). k.changes) c.1, inl (ap (λ (k : Pair). k.ring) c.1))
+  | inr c ↦ (refl, c.1, c.2)
+]
+
+-- a refusal of the listener is a refusal of the two
+listener_alone : {A : Type 0} (plan : Plan A) (old new : Line) (p q : Pair) (w : Refusal) → Halted pair_step pair_refused plan old new p q w
+    → Halted pair_step (or_no_memory pair_refused) plan old new p q w
+listener_alone plan old new p q w h =
+    record { first = h.first; next = h.next; others = h.others; split = h.split; middle = h.middle; taken = h.taken; cause = inr h.cause }
+
+pub Halted-pair : {A : Type 0} (plan : Plan A) (old new : Line) (p q : Pair) (w : Refusal) → Halted pair_step (or_no_memory pair_refused) plan old new p q w
+    → Halted pair_step pair_refused plan old new p q why.NoMemory
+Halted-pair plan old new p q w h = record {
+  first = h.first;
+  next = h.next;
+  others = h.others;
+  split = h.split;
+  middle = h.middle;
+  taken = h.taken;
+  cause = cause-pair h.middle q h.next.0 w h.cause;
+}
+
+-- a kill that the pair refused, whatever refusal was handed on
+pub Told-pair : {A : Type 0} (b : Bool) (plan : Plan A) (old new : Line) (p q : Pair) (w : Refusal)
+    → Told pair_step b (λ before now. Halted pair_step pair_refused plan old new before now w) p q
+    → Told pair_step b (λ before now. Halted pair_step pair_refused plan old new before now why.NoMemory) p q
+Told-pair true plan old new p q w t = Halted-pair plan old new p q w (listener_alone plan old new p q w t)
+Told-pair false plan old new p q w t =
+    record { last = t.last; inside = Halted-pair plan old new _ t.last w (listener_alone plan old new _ t.last w t.inside); ended = t.ended }

@@ -1,0 +1,6 @@
+use Rattle.std.proofs.Common.{refl}
+use Rattle.rl_line.proofs.JoinLemmas.{record_step-Start}
+use Rattle.rl_session.proofs.pair.PairDeleteListener.start_killing.Goals as goal
+
+pub returns : goal.returns
+returns c = rw (c.start_killing.ensures, record_step-Start c.args.self.now.changes) refl

@@ -1,0 +1,6 @@
+use Rattle.std.proofs.Common.{refl}
+use Rattle.rl_line.proofs.JoinLemmas.{record_step-Stop}
+use Rattle.rl_session.proofs.pair.PairDeleteListener.stop_killing.Goals as goal
+
+pub returns : goal.returns
+returns c = rw (c.stop_killing.ensures, record_step-Stop c.args.self.now.changes) refl

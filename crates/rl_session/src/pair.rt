@@ -1,0 +1,48 @@
+//! A kill ring and a record of changes, which hear of a line's changes as one.
+use rl_base::{ChangeListener, DeleteListener, Direction, KillRing, Refusal};
+use rl_line::Changeset;
+
+/// A kill ring and a record, told together. The ring hears of a deletion first: where one of the two refuses,
+/// the record is as it was, and the ring is too, or it heard of that deletion.
+#[derive(Drop)]
+pub struct Pair {
+    /// Hears of deletions, and of where a kill starts and ends.
+    pub ring: KillRing,
+    /// Hears of every change.
+    pub changes: Changeset,
+}
+
+impl DeleteListener for Pair {
+    ghost use Rattle.rl_session.specs.Pair.{pair_step, pair_refused};
+
+    ghost step = { pair_step };
+
+    ghost refused = { pair_refused };
+
+    fn start_killing(&mut self) {
+        self.ring.start_killing();
+    }
+
+    fn delete(&mut self, idx: usize, string: &str, dir: Direction) -> Result<(), Refusal> {
+        self.ring.delete(idx, string, dir)?;
+        DeleteListener::delete(&mut self.changes, idx, string, dir)
+    }
+
+    fn stop_killing(&mut self) {
+        self.ring.stop_killing();
+    }
+}
+
+impl ChangeListener for Pair {
+    fn insert_char(&mut self, idx: usize, c: char) -> Result<(), Refusal> {
+        self.changes.insert_char(idx, c)
+    }
+
+    fn insert_str(&mut self, idx: usize, string: &str) -> Result<(), Refusal> {
+        ChangeListener::insert_str(&mut self.changes, idx, string)
+    }
+
+    fn replace(&mut self, idx: usize, old: &str, new: &str) -> Result<(), Refusal> {
+        ChangeListener::replace(&mut self.changes, idx, old, new)
+    }
+}
