@@ -98,7 +98,7 @@ drop-view from n =
     ∙ ap (λ k. drop (k - length (last_of n (map entry_of from))) (map entry_of from)) (sym (length-map from entry_of)) ∙ last-drop n (map entry_of from)
 
 -- ---- counting what is open
-deep-append : (d : ℕ) (xs ys : List Entry) → deep d (xs ++ ys) ≡ deep (deep d xs) ys
+pub deep-append : (d : ℕ) (xs ys : List Entry) → deep d (xs ++ ys) ≡ deep (deep d xs) ys
 deep-append d [] ys = refl
 deep-append d (Begin ∷ xs) ys = deep-append (suc d) xs ys
 deep-append d (End ∷ xs) ys = deep-append (d - 1) xs ys

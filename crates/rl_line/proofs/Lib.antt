@@ -14,7 +14,9 @@ pub mod SideLemmas
 pub mod Counts
 pub mod UnitLemmas
 pub mod MatchLemmas
+pub mod MarkLemmas
 pub mod CountLemmas
+pub mod LevelLemmas
 pub mod GroupLemmas
 pub mod RedoLemmas
 pub mod TranspositionLemmas

@@ -200,7 +200,7 @@ Lower-end_one (e ∷ es) n h k =
         let l = marks-last c.front c.last fs (ap (λ x. marks x []) (sym c.list_is) ∙ j) in
         subst (λ x. Lower x n) (sym c.after_is) (closes fs j long (mark_other c.last l.0 fs c.other l.2))
 
-Lower-end_times : (n : ℕ) (es : List Entry) → IsMatched es → level es ≡ n → Lower (end_times n es) 0
+pub Lower-end_times : (n : ℕ) (es : List Entry) → IsMatched es → level es ≡ n → Lower (end_times n es) 0
 Lower-end_times zero es h k = record { matched = h; level_is = k }
 Lower-end_times (suc n) es h k = let l = Lower-end_one es n h k in Lower-end_times n (end_one es) l.matched l.level_is
 

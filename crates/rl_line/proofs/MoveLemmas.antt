@@ -45,6 +45,17 @@ undo-count n count xs e =
 pub undo-part : (n count : ℕ) (xs : List Change) → count ≡ length (last_of n (map entry_of xs)) → map entry_of (drop (length xs - count) xs) ≡ last_of n (map entry_of xs)
 undo-part n count xs e = ap (λ k. map entry_of (drop (length xs - k) xs)) e ∙ drop-view xs n
 
+-- the list that the code cuts off is all that stands from there on
+rest : (xs : List Change) (k : ℕ) → take (length xs - k) (drop k xs) ≡ drop k xs
+rest xs k = take_all (length xs - k) (drop k xs) (omega (arith, length-drop k xs))
+
+-- the slice of what will be moved
+pub undo-slice : (n count len : ℕ) (xs slice : List Change) → count ≡ length (last_of n (map entry_of xs)) → len ≡ length xs → slice ≡ xs
+    → map entry_of (take (length slice - (len - count)) (drop (len - count) slice)) ≡ last_of n (map entry_of xs)
+undo-slice n count len xs slice e l s =
+    ap (λ zs. map entry_of (take (length zs - (len - count)) (drop (len - count) zs))) s ∙ ap (map entry_of) (rest xs (len - count))
+    ∙ ap (λ k. map entry_of (drop (k - count) xs)) l ∙ undo-part n count xs e
+
 pub undo-fits : (n count : ℕ) (xs : List Change) (line : Line) → count ≡ length (last_of n (map entry_of xs)) → IsSome (unwind (map entry_of xs) line.text)
     → IsSome (line_back (map entry_of (drop (length xs - count) xs)) line)
 undo-fits n count xs line e h =
@@ -90,6 +101,13 @@ redo-parts count ys m e =
       moved = sym (ap (take count) split ∙ take_at back front count size) ∙ ap (take count) (sym d.list_is) ∙ take_at (redo_of p) (drop (length (redo_of p)) p) count (sym e);
       left = sym (ap (drop count) split ∙ drop_at back front count size) ∙ ap (λ j. drop j p) e;
     }
+
+-- the slice of what was moved
+pub redo-slice : (count len : ℕ) (xs ys now_xs slice : List Change) → BothMatched (view [] ys) → count ≡ length (redo_of (reverse (map entry_of ys))) → len ≡ length xs
+    → now_xs ≡ xs ++ reverse (drop (length ys - count) ys) → slice ≡ now_xs → map entry_of (take (length slice - len) (drop len slice)) ≡ redo_of (reverse (map entry_of ys))
+redo-slice count len xs ys now_xs slice m e l g s =
+    let behind = drop (length ys - count) ys in
+    ap (map entry_of) (rest slice len ∙ ap (drop len) (s ∙ g) ∙ drop_at xs (reverse behind) len (sym l)) ∙ map-reverse behind ∙ (redo-parts count ys m e).moved
 
 faced-ahead : (xs : List Change) → map (faced Ahead) xs ≡ map inverse (map entry_of xs)
 faced-ahead [] = refl

@@ -158,6 +158,11 @@ pub record BothMatched (r : Record) : Type 0 where
   pub recorded : IsMatched r.recorded
   pub pending : IsMatched r.pending
 
+-- matched marks in both lists, and n groups that are open
+pub record AtLevel (n : ℕ) (r : Record) : Type 0 where
+  pub matched : BothMatched r
+  pub level : n ≡ level r.recorded
+
 -- the entries end with a Begin and what stands in its group: matched entries with no open group, and a change
 pub record GroupAt (es : List Entry) : Type 0 where
   pub before : List Entry

@@ -139,7 +139,7 @@ pub(crate) fn first(entries: &[Change], len: usize) -> &[Change]
     &entries[..len.min(entries.len())]
 }
 
-/// How many groups are open.
+/// How many groups are open behind the entries, where none is before them.
 pub(crate) fn level(entries: &[Change]) -> usize
     requires { IsMatched (map entry_of entries.now) }
     ensures { result ≡ level (map entry_of entries.now) }
@@ -162,6 +162,26 @@ fn level_behind(entry: &Change, level: usize) -> usize
         Change::End => level.saturating_sub(1),
         Change::Insert(_, _) | Change::Delete(_, _) | Change::Replace(_, _, _) => level,
     }
+}
+
+/// How many groups are open behind the first `len` entries, all where there are fewer. It goes back to there from
+/// the last entry, behind which `last` are open.
+pub(crate) fn level_at(entries: &[Change], len: usize, last: usize) -> usize
+    requires matched { IsMatched (map entry_of entries.now) }
+    requires last { last ≡ level (map entry_of entries.now) }
+    ensures { result ≡ level (take len (map entry_of entries.now)) }
+{
+    let mut level = last;
+    let mut at = entries.len();
+    while at > len {
+        at -= 1;
+        match entries[at] {
+            Change::Begin => level -= 1,
+            Change::End => level += 1,
+            Change::Insert(_, _) | Change::Delete(_, _) | Change::Replace(_, _, _) => {}
+        }
+    }
+    level
 }
 
 /// Closes so many groups in a list with room for as many entries. Answers whether it added an End.

@@ -29,18 +29,20 @@ pub struct Changeset {
     recorded: Vec<Change>,
     // The entry that is redone next stands last.
     pending: Vec<Change>,
+    // How many groups are open, so that no call has to count them over the whole record.
+    level: usize,
 }
 
 impl Model for Changeset {
     ghost use Rattle.std.specs.Prelude.{map, reverse};
     ghost use Rattle.rl_line.specs.Record.{Record, entry_of};
-    ghost use Rattle.rl_line.specs.Units.{BothMatched};
+    ghost use Rattle.rl_line.specs.Units.{AtLevel};
 
     ghost Value = { Record };
 
     ghost view = { λ c. record { recorded = map entry_of c.recorded.items; pending = reverse (map entry_of c.pending.items) } };
 
-    ghost invariant = { λ c. BothMatched (record { recorded = map entry_of c.recorded.items; pending = reverse (map entry_of c.pending.items) }) };
+    ghost invariant = { λ c. AtLevel c.level (record { recorded = map entry_of c.recorded.items; pending = reverse (map entry_of c.pending.items) }) };
 }
 
 impl Changeset {
@@ -51,6 +53,7 @@ impl Changeset {
         Changeset {
             recorded: Vec::new(alloc),
             pending: Vec::new(alloc),
+            level: 0,
         }
     }
 
@@ -67,7 +70,7 @@ impl Changeset {
         ensures level { result ≡ level self.now.recorded }
         ensures matched { BothMatched self.now }
     {
-        entries::level(&self.recorded)
+        self.level
     }
 
     /// Opens a group, whose changes are undone and redone at once when it is closed. Answers how many entries
@@ -79,6 +82,7 @@ impl Changeset {
         let before = self.recorded.len();
         entries::add(&mut self.recorded, Change::Begin)?;
         self.pending.clear();
+        self.level += 1;
         Ok(before)
     }
 
@@ -88,12 +92,12 @@ impl Changeset {
         ensures done { IfOk result (λ answer. (answer ≡ adds_end (level self.old.recorded) self.old.recorded) × (self.new ≡ ended self.old)) }
         ensures err { IfErr result (λ r. (r ≡ NoMemory) × (self.new ≡ self.old)) }
     {
-        let level = entries::level(&self.recorded);
-        if self.recorded.reserve(level).is_err() {
+        if self.recorded.reserve(self.level).is_err() {
             return Err(Refusal::NoMemory);
         }
-        let added = entries::close_groups(&mut self.recorded, level);
+        let added = entries::close_groups(&mut self.recorded, self.level);
         self.pending.clear();
+        self.level = 0;
         Ok(added)
     }
 
@@ -108,6 +112,7 @@ impl Changeset {
         ensures err { IfErr result (λ r. (r ≡ NoMemory) × (self.new ≡ self.old) × (line.new ≡ line.old)) }
     {
         let count = entries::last_len(&self.recorded, n);
+        let opened = entries::level(&self.recorded[self.recorded.len() - count..]);
         let changed = entries::carry_over(
             &mut self.recorded,
             &mut self.pending,
@@ -115,6 +120,7 @@ impl Changeset {
             line,
             Way::Back,
         )?;
+        self.level -= opened;
         Ok(changed)
     }
 
@@ -127,6 +133,7 @@ impl Changeset {
         ensures done { IfOk result (λ answer. Redone self.old self.new line.old line.new answer) }
         ensures err { IfErr result (λ r. (r ≡ NoMemory) × (self.new ≡ self.old) × (line.new ≡ line.old)) }
     {
+        let len = self.recorded.len();
         let count = entries::next_len(&self.pending);
         let changed = entries::carry_over(
             &mut self.pending,
@@ -135,6 +142,7 @@ impl Changeset {
             line,
             Way::Ahead,
         )?;
+        self.level += entries::level(&self.recorded[len..]);
         Ok(changed)
     }
 
@@ -143,6 +151,7 @@ impl Changeset {
     pub fn truncate(&mut self, len: usize)
         ensures { self.new ≡ truncated len self.old }
     {
+        self.level = entries::level_at(&self.recorded, len, self.level);
         self.recorded.truncate(len);
         self.pending.clear();
     }

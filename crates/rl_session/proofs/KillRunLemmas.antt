@@ -32,13 +32,13 @@ use Rattle.rl_line.proofs.RecordLemmas.{through}
 use Rattle.rl_line.proofs.SideLemmas.{LiesOn, BeginningOfLine-side, EndOfLine-side, BackwardWord-side, ForwardWord-side, ViCharSearch-side, BeginningOfBuffer-side, EndOfBuffer-side}
 use Rattle.rl_session.specs.Pair.{pair_step, pair_refused}
 use Rattle.rl_session.specs.State.{State, Stands, with_ring, fresh}
-use Rattle.rl_session.specs.Commands.{CutShort, Does, Step, is_vain_yank, lent as lent_state, lent_plan, readied}
+use Rattle.rl_session.specs.Commands.{Asked, edit, other, asked, Telling, answers, inserts, hands_out, is_done, Tells, CutShort, Does, DoesAsked, Edited, Edits, Others, Step, is_vain_yank, lent as lent_state, lent_plan, readied}
 use Rattle.rl_session.specs.KillRuns.{IsDirected, AllDirected, IsNoKill, AnyTook, NoneRefused, GivenBack}
 use Rattle.rl_session.specs.Run.{Row, Leads, Run}
 use Rattle.rl_session.specs.declared.pair.Pair.{Pair}
 use Rattle.rl_session.specs.declared.session.Command.{Command}
-use Rattle.rl_session.specs.declared.session.Command.TheVariants.{SetPos, Move, Insert, Delete as DeleteAhead, Backspace, Kill, Yank, YankPop, Undo}
-use Rattle.rl_session.specs.declared.session.Fault.TheVariants.{NoMemory, BadPlace, BadYankSize}
+use Rattle.rl_session.specs.declared.session.Command.TheVariants.{SetPos, Move, Yank, YankPop, EditWord, Kill, Copy, Begin, End, Undo, Redo, Truncate}
+use Rattle.rl_session.specs.declared.session.Fault.TheVariants.{NoMemory, BadPlace, BadYankSize, NotReplaying}
 use Rattle.rl_session.specs.declared.session.Reply.{Reply}
 use Rattle.rl_session.specs.declared.session.Reply.TheVariants as says
 
@@ -154,37 +154,69 @@ Told-size : (b : Bool) (P : Pair → Pair → Type 0) (p q : Pair) → ((before 
 Told-size true P p q keeps t = keeps p q t
 Told-size false P p q keeps t = ap (λ (k : Pair). k.ring.size) t.ended ∙ keeps (pair_step p Start) t.last t.inside
 
-cut-size : {A : Type 0} (plan : Plan A) (lent new : State) → (new ≡ lent) ⊎ CutShort plan lent new → new.pair.ring.size ≡ lent.pair.ring.size
-cut-size plan lent new h =
-    elim h [ inl e ↦ ap (λ (s : State). s.pair.ring.size) e | inr c ↦ Halted-size plan lent.line new.line lent.pair new.pair _ c.halted ]
-
 same-size : (old new : State) → new ≡ old → new.pair.ring.size ≡ old.pair.ring.size
 same-size old new e = ap (λ (s : State). s.pair.ring.size) e
 
-Does-size : (old : State) (command : Command) (reply : Reply) (new : State) → Does old command reply new → new.pair.ring.size ≡ old.pair.ring.size
-Does-size old (SetPos q) says.Done new s = ap (λ (n : State). n.pair.ring.size) s.1
-Does-size old (SetPos q) (says.Refused BadPlace) new s = same-size old new s.1
-Does-size old (Move m) (says.Answer a) new s = ap (λ (n : State). n.pair.ring.size) s.others
-Does-size old (Insert c n) (says.Inserted a) new s = Done-size _ old.line new.line old.pair new.pair a s.done
-Does-size old (Insert c n) (says.Refused NoMemory) new s = Halted-size _ old.line new.line old.pair new.pair _ s.halted
-Does-size old (DeleteAhead n) (says.Text t) new s = Done-size _ old.line new.line old.pair new.pair _ s.done
-Does-size old (DeleteAhead n) (says.Refused NoMemory) new s = Halted-size _ old.line new.line old.pair new.pair _ s.halted
-Does-size old (Backspace n) (says.Answer a) new s = Done-size _ old.line new.line old.pair new.pair a s.done
-Does-size old (Backspace n) (says.Refused NoMemory) new s = Halted-size _ old.line new.line old.pair new.pair _ s.halted
-Does-size old (Kill m) (says.Answer a) new s =
+cut-size : {A : Type 0} (plan : Plan A) (old new : State) → CutShort plan old new → new.pair.ring.size ≡ old.pair.ring.size
+cut-size plan old new c = Halted-size plan old.line new.line old.pair new.pair _ c.halted
+
+-- an edit of a text that the ring may have lent
+borrowed-size : {A : Type 0} (plan : Plan A) (lent new : State) → (new ≡ lent) ⊎ CutShort plan lent new → new.pair.ring.size ≡ lent.pair.ring.size
+borrowed-size plan lent new h = elim h [ inl e ↦ same-size lent new e | inr c ↦ cut-size plan lent new c ]
+
+-- an edit that was told, and any edit
+told-size : {A : Type 0} (telling : Telling A) (plan : Plan A) (old new : State) (reply : Reply) → Tells telling (λ a. Edited plan old new a) reply
+    → new.pair.ring.size ≡ old.pair.ring.size
+told-size answers plan old new (says.Answer a) t = Done-size plan old.line new.line old.pair new.pair a t.done
+told-size inserts plan old new (says.Inserted a) t = Done-size plan old.line new.line old.pair new.pair a t.done
+told-size hands_out plan old new (says.Text x) t = Done-size plan old.line new.line old.pair new.pair _ t.done
+told-size is_done plan old new says.Done t = Done-size plan old.line new.line old.pair new.pair tt t.done
+told-size _ plan old new _ t = absurd t
+
+Edits-size : {A : Type 0} (condition : Type 0) (plan : Plan A) (telling : Telling A) (old : State) (reply : Reply) (new : State)
+    → Edits condition plan telling old reply new → new.pair.ring.size ≡ old.pair.ring.size
+Edits-size condition plan telling old (says.Refused BadPlace) new d = same-size old new d.1
+Edits-size condition plan telling old (says.Refused NoMemory) new d = cut-size plan old new d.1
+Edits-size condition plan telling old reply new d = told-size telling plan old new reply d.1
+
+Others-size : (old : State) (command : Command) (reply : Reply) (new : State) → Others old command reply new → new.pair.ring.size ≡ old.pair.ring.size
+Others-size old (SetPos q) says.Done new s = ap (λ (n : State). n.pair.ring.size) s.1
+Others-size old (SetPos q) (says.Refused BadPlace) new s = same-size old new s.1
+Others-size old (Move m) (says.Answer a) new s = ap (λ (n : State). n.pair.ring.size) s.others
+Others-size old (Copy m) (says.Text t) new s = same-size old new s.1
+Others-size old (Copy m) (says.Refused NoMemory) new s = same-size old new s
+Others-size old (EditWord action) (says.Answer a) new s = Done-size _ old.line new.line old.pair new.pair a s.holds.done
+Others-size old (EditWord action) (says.Refused NoMemory) new s = cut-size _ old new s.holds
+Others-size old (Kill m) (says.Answer a) new s =
     Told-size (is_by_characters m) _ old.pair new.pair (λ before now d. Done-size (kill_plan old.line m) old.line new.line before now a d) s.told
-Does-size old (Kill m) (says.Refused NoMemory) new s =
+Others-size old (Kill m) (says.Refused NoMemory) new s =
     Told-size (is_by_characters m) _ old.pair new.pair (λ before now h. Halted-size (kill_plan old.line m) old.line new.line before now _ h) s.told
-Does-size old (Yank n) (says.Inserted a) new s =
+Others-size old (Yank n) (says.Inserted a) new s =
     Done-size _ old.line new.line _ new.pair a s.done ∙ lent-size (yank old.pair.ring) old.pair.ring
-Does-size old (Yank n) (says.Refused NoMemory) new s = cut-size _ _ new s ∙ lent-size (yank old.pair.ring) old.pair.ring
-Does-size old YankPop (says.Inserted a) new s =
+Others-size old (Yank n) (says.Refused NoMemory) new s = borrowed-size _ _ new s ∙ lent-size (yank old.pair.ring) old.pair.ring
+Others-size old YankPop (says.Inserted a) new s =
     Done-size _ old.line new.line _ new.pair a s.1.done ∙ popped-size (yank_size old.pair.ring) old.pair.ring
-Does-size old YankPop (says.Refused BadYankSize) new s = same-size old new s.1
-Does-size old YankPop (says.Refused NoMemory) new s = cut-size _ _ new s.1 ∙ popped-size (yank_size old.pair.ring) old.pair.ring
-Does-size old (Undo n) (says.Answer a) new s = ap (λ (n : State). n.pair.ring.size) s.others
-Does-size old (Undo n) (says.Refused NoMemory) new s = same-size old new s
-Does-size _ _ _ _ s = absurd s
+Others-size old YankPop (says.Refused BadYankSize) new s = same-size old new s.1
+Others-size old YankPop (says.Refused NoMemory) new s = borrowed-size _ _ new s.1 ∙ popped-size (yank_size old.pair.ring) old.pair.ring
+Others-size old Begin (says.Mark n) new s = ap (λ (n : State). n.pair.ring.size) s.1
+Others-size old Begin (says.Refused NoMemory) new s = same-size old new s
+Others-size old End (says.Answer a) new s = ap (λ (n : State). n.pair.ring.size) s.1
+Others-size old End (says.Refused NoMemory) new s = same-size old new s
+Others-size old (Undo n) (says.Answer a) new s = ap (λ (n : State). n.pair.ring.size) s.others
+Others-size old (Undo n) (says.Refused NoMemory) new s = same-size old new s
+Others-size old Redo (says.Answer a) new s = ap (λ (n : State). n.pair.ring.size) s.others
+Others-size old Redo (says.Refused NoMemory) new s = same-size old new s
+Others-size old (Truncate len) says.Done new s = ap (λ (n : State). n.pair.ring.size) s.1
+Others-size old (Truncate len) (says.Refused NotReplaying) new s = same-size old new s.1
+Others-size old (Truncate len) (says.Refused NoMemory) new s = same-size old new s
+Others-size _ _ _ _ s = absurd s
+
+Asked-size : (asks : Asked) (old : State) (command : Command) (reply : Reply) (new : State) → DoesAsked asks old command reply new → new.pair.ring.size ≡ old.pair.ring.size
+Asked-size (edit condition plan telling) old command reply new d = Edits-size condition plan telling old reply new d
+Asked-size other old command reply new d = Others-size old command reply new d
+
+Does-size : (old : State) (command : Command) (reply : Reply) (new : State) → Does old command reply new → new.pair.ring.size ≡ old.pair.ring.size
+Does-size old command reply new d = Asked-size (asked old.line command) old command reply new d
 
 reset-size : (b : Bool) (r : Ring) → (cond b (reset r) r).size ≡ r.size
 reset-size true r = refl
@@ -390,6 +422,7 @@ Going-Kill start old new m (says.Refused f) more directed s none g = absurd none
 Going-Kill start old new m says.Done more directed s none g = absurd s.does
 Going-Kill start old new m (says.Inserted a) more directed s none g = absurd s.does
 Going-Kill start old new m (says.Text t) more directed s none g = absurd s.does
+Going-Kill start old new m (says.Mark n) more directed s none g = absurd s.does
 
 -- ---- the yank: with its slot the text is as long as at the start, so it is not too long
 Missing-length : (start : List ℕ) (now : State) (m : Missing start now) → length now.line.text + length m.slot ≡ length start
@@ -482,12 +515,14 @@ GivenBack-Yank old now new (says.Refused f) more m none s = absurd none
 GivenBack-Yank old now new says.Done more m none s = absurd s.does
 GivenBack-Yank old now new (says.Answer a) more m none s = absurd s.does
 GivenBack-Yank old now new (says.Text t) more m none s = absurd s.does
+GivenBack-Yank old now new (says.Mark n) more m none s = absurd s.does
 
 no_yank_took : (old new : State) (reply : Reply) → Step old (Yank 1) reply new → AnyTook (reply ∷ []) → ⊥
 no_yank_took old new (says.Answer a) s h = s.does
 no_yank_took old new says.Done s h = h
 no_yank_took old new (says.Inserted a) s h = h
 no_yank_took old new (says.Text t) s h = h
+no_yank_took old new (says.Mark n) s h = h
 no_yank_took old new (says.Refused f) s h = h
 
 -- ---- row after row
@@ -526,6 +561,7 @@ AnyTook-append (says.Answer false ∷ xs) ys h = AnyTook-append xs ys h
 AnyTook-append (says.Done ∷ xs) ys h = AnyTook-append xs ys h
 AnyTook-append (says.Inserted a ∷ xs) ys h = AnyTook-append xs ys h
 AnyTook-append (says.Text t ∷ xs) ys h = AnyTook-append xs ys h
+AnyTook-append (says.Mark n ∷ xs) ys h = AnyTook-append xs ys h
 AnyTook-append (says.Refused f ∷ xs) ys h = AnyTook-append xs ys h
 
 -- in every session

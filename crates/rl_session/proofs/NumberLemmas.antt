@@ -1,12 +1,10 @@
 -- What is no number, and how a number's digits go on.
-use Rattle.std.proofs.Common.{arith, ◌≡◌, ◌≢◌, ℕ, suc, ◌+◌, ◌-◌, ◌*◌, ◌^◌, ◌<◌, ◌≤◌, Bool, true, false, List, [], ◌∷◌, ◌++◌, length, get_or, drop, Option, Some, None, refl, sym, ap, subst, ◌∙◌}
-use Rattle.std.specs.Prelude.{◌&&◌, ◌==◌, nat_lt, nat_le, if◌then◌else◌}
+use Rattle.std.proofs.Common.{arith, ◌≡◌, ◌≢◌, ℕ, suc, ◌+◌, ◌-◌, ◌*◌, ◌^◌, ◌<◌, ◌≤◌, Bool, true, false, List, [], ◌∷◌, length, get_or, drop, Option, Some, None, refl, sym, ap, subst, ◌∙◌}
+use Rattle.std.specs.Prelude.{◌&&◌, ◌==◌, nat_lt, nat_le}
 use native.Mathlib.Nat.{pow-le-pow_right}
 use Rattle.std.proofs.lemmas.Bool.Decides.{nat_tests}
 use Rattle.std.proofs.lemmas.List.{at_drop_more}
-use Rattle.rl_session.proofs.PartLemmas.{Lacks, Lacks-none, same_parts}
 use Rattle.rl_session.specs.Grammar.{are_digits, value_from, number_of}
-use Rattle.rl_session.specs.Reads.{Counted, HasNoCount}
 
 middle_false : (a b c : Bool) → b ≡ false → (a && (b && c)) ≡ false
 middle_false true b c h = rw h refl
@@ -60,13 +58,6 @@ number-whole g v bs some all is fits =
 nonzero : (n : ℕ) → (suc n == 0) ≡ true → ⊥
 nonzero n h = grind (arith, nat_tests)
 
-right : (a b : Bool) → (a && b) ≡ true → b ≡ true
-right true b h = h
-right false b h = absurd cc
-
-digit-no_space : (b : ℕ) (more : Bool) → ((nat_le 48 b && nat_le b 57) && more) ≡ true → b ≢ 32
-digit-no_space b more h e = let none : false ≡ true = subst (λ x. ((nat_le 48 x && nat_le x 57) && more) ≡ true) e h in absurd cc
-
 pub is_nil : (xs : List ℕ) → (length xs == 0) ≡ true → xs ≡ []
 is_nil [] h = refl
 is_nil (x ∷ xs) h = absurd (nonzero (length xs) h)
@@ -75,41 +66,13 @@ pub some_length : (xs : List ℕ) → (length xs == 0) ≡ false → 0 < length 
 some_length [] h = absurd cc
 some_length (x ∷ xs) h = omega arith
 
--- the digits of a number have no space
-both : (a b c : Bool) (v n : ℕ) → (if a && (b && c) then Some v else None) ≡ Some n → b ≡ true
-both true true c v n h = refl
-both true false c v n h = absurd cc
-both false b c v n h = absurd cc
-
-pub digits-no_space : (bytes : List ℕ) → are_digits bytes ≡ true → Lacks 32 bytes
-digits-no_space [] h = tt
-digits-no_space (b ∷ bs) h = (digit-no_space b (are_digits bs) h, digits-no_space bs (right (nat_le 48 b && nat_le b 57) (are_digits bs) h))
-
-pub number-no_space : (g n : ℕ) (bytes : List ℕ) → number_of g bytes ≡ Some n → Lacks 32 bytes
-unfolding number_of
-number-no_space g n bytes h =
-    digits-no_space bytes (both (nat_lt 0 (length bytes)) (are_digits bytes) (nat_le (value_from 0 bytes) g) (value_from 0 bytes) n h)
-
--- a count before a space
-
-pub some_same : {m n : ℕ} (o : Option ℕ) → o ≡ Some m → o ≡ Some n → m ≡ n
+-- what an option holds is one
+pub some_same : {A : Type 0} {x y : A} (o : Option A) → o ≡ Some x → o ≡ Some y → x ≡ y
 some_same o p q = let both = sym p ∙ q in cc
 
-pub Counted-one : {given xs ys : List ℕ} {m n : ℕ} → Counted given m xs → Counted given n ys → (m ≡ n) × (xs ≡ ys)
-Counted-one {xs = xs} {ys = ys} {m = m} {n = n} p q =
-    let same = same_parts 32 p.digits q.digits xs ys (number-no_space 65535 m p.digits p.count) (number-no_space 65535 n q.digits q.count) (sym p.is ∙ q.is) in
-    (some_same (number_of 65535 q.digits) (rw same.0 at p.count) q.count, same.1)
-
-pub counted-no_space : (given : List ℕ) → Lacks 32 given → HasNoCount given
-counted-no_space given h n behind p = Lacks-none 32 p.digits behind (subst (Lacks 32) p.is h)
-
-pub counted-no_number : (given digits behind : List ℕ) → given ≡ digits ++ 32 ∷ behind → Lacks 32 digits → None ≡ number_of 65535 digits → HasNoCount given
-counted-no_number given digits behind e h none n xs p =
-    let same = same_parts 32 digits p.digits behind xs h (number-no_space 65535 n p.digits p.count) (sym e ∙ p.is) in
-    let both : None ≡ Some n = none ∙ ap (number_of 65535) same.0 ∙ p.count in absurd cc
-
-pub counted-found : (given digits behind : List ℕ) (n : ℕ) → given ≡ digits ++ 32 ∷ behind → Some n ≡ number_of 65535 digits → Counted given n behind
-counted-found given digits behind n e count = record { digits = digits; count = sym count; is = e }
+-- an option that is none holds nothing
+pub none_holds : {A : Type 0} {x : A} (o : Option A) → None ≡ o → o ≡ Some x → ⊥
+none_holds o p q = let both = p ∙ q in absurd cc
 
 -- the value of six hexadecimal digits at most
 pub hex-small : (k n : ℕ) → k < 6 → n < 16 ^ k → n < 1048576

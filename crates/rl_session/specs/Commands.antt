@@ -1,5 +1,6 @@
 -- What each command does.
 use Rattle.std.specs.Prelude.{◌≡◌, ℕ, ◌-◌, ◌≤◌, Bool, true, false, not, length, List, Option, Some, None, ◌⊎◌, if◌then◌else◌}
+use Rattle.std.specs.List.{insert_slice}
 use Rattle.std.specs.Option.{option_map}
 use Rattle.std.specs.String.{string_bytes}
 use Rattle.std.specs.Str.{IsCharBoundary}
@@ -15,13 +16,18 @@ use Rattle.rl_line.specs.Line.{Line}
 use Rattle.rl_line.specs.LineMotions.{home, line_end, place_above, place_below}
 use Rattle.rl_line.specs.Motions.{Moved, unless_there}
 use Rattle.rl_line.specs.Plan.{Plan, nothing, Done, Halted}
-use Rattle.rl_line.specs.Edits.{insert_plan, yank_plan, yank_pop_plan}
-use Rattle.rl_line.specs.Kills.{delete_plan, kill_plan, is_by_characters, Told}
-use Rattle.rl_line.specs.Undo.{Undone}
+use Rattle.rl_line.specs.Edits.{insert_plan, insert_str_plan, yank_plan, yank_pop_plan, update_plan, replace_plan, delete_range_plan}
+use Rattle.rl_line.specs.Indents.{indent_plan}
+use Rattle.rl_line.specs.Kills.{copied, delete_plan, kill_plan, is_by_characters, Told}
+use Rattle.rl_line.specs.LetterCase.{edit_word_plan, Recased}
+use Rattle.rl_line.specs.Record.{Record, replays_to}
+use Rattle.rl_line.specs.Transpositions.{transpose_chars_plan, transpose_words_plan}
+use Rattle.rl_line.specs.Undo.{Undone, Redone}
+use Rattle.rl_line.specs.Units.{adds_end, begun, ended, level, truncated}
 use Rattle.rl_session.specs.Pair.{pair_step, pair_refused}
 use Rattle.rl_session.specs.declared.session.Command.{Command}
-use Rattle.rl_session.specs.declared.session.Command.TheVariants.{SetPos, Move, Insert, Delete, Backspace, Kill, Yank, YankPop, Undo}
-use Rattle.rl_session.specs.declared.session.Fault.TheVariants.{NoMemory, BadPlace, BadYankSize}
+use Rattle.rl_session.specs.declared.session.Command.TheVariants.{SetPos, Move, Insert, Paste, Yank, YankPop, Update, InsertStr, Replace, DeleteRange, Delete, Backspace, KillLine, KillBuffer, DiscardLine, DiscardBuffer, DeletePrevWord, DeleteWord, DeleteTo, TransposeChars, TransposeWords, EditWord, Kill, Copy, Indent, Begin, End, Undo, Redo, Truncate}
+use Rattle.rl_session.specs.declared.session.Fault.TheVariants.{NoMemory, BadPlace, BadYankSize, NotReplaying}
 use Rattle.rl_session.specs.declared.session.Reply.{Reply}
 use Rattle.rl_session.specs.declared.session.Reply.TheVariants as says
 use Rattle.rl_session.specs.State.{State, Stands, with_ring}
@@ -89,36 +95,121 @@ lent s = with_ring (yanked s.pair.ring) s
 abbrev pub popped : State → State
 popped s = with_ring (yank_popped s.pair.ring) s
 
+-- these are the ends of a range of the text
+abbrev pub IsRange : List ℕ → ℕ → ℕ → Type 0
+IsRange text i j = (i ≤ j) × IsCharBoundary text i × IsCharBoundary text j
+
+-- a text can go in at a place, with the cursor where it is
+abbrev pub CanGoIn : Line → ℕ → List ℕ → Type 0
+CanGoIn line i s = IsCharBoundary line.text i × IsCharBoundary (insert_slice line.text i s) line.cursor
+
+-- nothing but the line and the record changed
+abbrev pub KeepsRing : State → State → Type 0
+KeepsRing old new = new ≡ record old { line = new.line; pair = record old.pair { changes = new.pair.changes } }
+
 -- an undo was done
 pub record TookBack (n : ℕ) (old new : State) (answer : Bool) : Type 0 where
   pub undone : Undone n old.pair.changes new.pair.changes old.line new.line answer
-  pub others : new ≡ record old { line = new.line; pair = record old.pair { changes = new.pair.changes } }
+  pub others : KeepsRing old new
+
+-- a redo was done
+pub record PutAgain (old new : State) (answer : Bool) : Type 0 where
+  pub redone : Redone old.pair.changes new.pair.changes old.line new.line answer
+  pub others : KeepsRing old new
+
+-- the record became another, and nothing else changed
+abbrev pub with_changes : Record → State → State
+with_changes changes s = record s { pair = record s.pair { changes = changes } }
+
+-- how the answer of an edit is told
+pub data Telling : Type 0 → Type 1 where
+  answers : Telling Bool
+  inserts : Telling (Option Bool)
+  hands_out : Telling (Option (List ℕ))
+  is_done : Telling (Unit {0})
+
+-- the reply tells an answer of which P holds
+abbrev pub Tells : {A : Type 0} → Telling A → (A → Type 0) → Reply → Type 0
+Tells answers P (says.Answer a) = P a
+Tells inserts P (says.Inserted a) = P a
+Tells hands_out P (says.Text t) = P (option_map string_bytes t)
+Tells is_done P says.Done = P tt
+Tells _ P _ = ⊥
+
+-- what a command asks for: an edit, with a condition on its places, its plan, and the reply that tells its answer; or something else
+pub data Asked : Type 1 where
+  edit : {A : Type 0} → (condition : Type 0) → (plan : Plan A) → (telling : Telling A) → Asked
+  other : Asked
+
+abbrev pub asked : Line → Command → Asked
+asked line (Insert c n) = edit (Unit {0}) (insert_plan line c n) inserts
+asked line (Paste s n) = edit (Unit {0}) (yank_plan line (string_bytes s) n) inserts
+asked line (Update s q) = edit (IsCharBoundary (string_bytes s) q) (update_plan line (string_bytes s) q) is_done
+asked line (InsertStr i s) = edit (CanGoIn line i (string_bytes s)) (insert_str_plan line i (string_bytes s)) answers
+asked line (Replace i j s) = edit (IsRange line.text i j) (replace_plan line i j (string_bytes s)) is_done
+asked line (DeleteRange i j) = edit (IsRange line.text i j) (delete_range_plan line i j) is_done
+asked line (Delete n) = edit (Unit {0}) (delete_plan line n) hands_out
+asked line (Backspace n) = edit (Unit {0}) (kill_plan line (BackwardChar n)) answers
+asked line KillLine = edit (Unit {0}) (kill_plan line EndOfLine) answers
+asked line KillBuffer = edit (Unit {0}) (kill_plan line EndOfBuffer) answers
+asked line DiscardLine = edit (Unit {0}) (kill_plan line BeginningOfLine) answers
+asked line DiscardBuffer = edit (Unit {0}) (kill_plan line BeginningOfBuffer) answers
+asked line (DeletePrevWord word n) = edit (Unit {0}) (kill_plan line (BackwardWord n word)) answers
+asked line (DeleteWord at word n) = edit (Unit {0}) (kill_plan line (ForwardWord n at word)) answers
+asked line (DeleteTo cs n) = edit (Unit {0}) (kill_plan line (ViCharSearch n cs)) answers
+asked line TransposeChars = edit (Unit {0}) (transpose_chars_plan line) answers
+asked line (TransposeWords n) = edit (Unit {0}) (transpose_words_plan line n) answers
+asked line (Indent m amount dedent) = edit (Unit {0}) (indent_plan line m amount dedent) answers
+asked line _ = other
+
+-- an edit: refused where its condition fails, and else done, or cut short for want of memory
+abbrev pub Edits : {A : Type 0} → Type 0 → Plan A → Telling A → State → Reply → State → Type 0
+Edits condition plan telling old (says.Refused BadPlace) new = (¬ condition) × (new ≡ old)
+Edits condition plan telling old (says.Refused NoMemory) new = condition × CutShort plan old new
+Edits condition plan telling old reply new = condition × Tells telling (λ a. Edited plan old new a) reply
+
+-- what is no edit, or one of a text that is not told by the command
+abbrev pub Others : State → Command → Reply → State → Type 0
+Others old (SetPos q) says.Done new = IsCharBoundary old.line.text q × (new ≡ record old { line = record old.line { cursor = q } })
+Others old (SetPos q) (says.Refused BadPlace) new = (¬ (IsCharBoundary old.line.text q)) × (new ≡ old)
+Others old (Move m) (says.Answer a) new = Went (destination old m) old new a
+Others old (Copy m) (says.Text t) new = (option_map string_bytes t ≡ copied old.line m) × (new ≡ old)
+Others old (Copy m) (says.Refused NoMemory) new = new ≡ old
+Others old (EditWord action) (says.Answer a) new = Recased old.line action (λ made. Edited (edit_word_plan old.line made) old new a)
+Others old (EditWord action) (says.Refused NoMemory) new = Recased old.line action (λ made. CutShort (edit_word_plan old.line made) old new)
+Others old (Kill m) (says.Answer a) new = Killed m old new a
+Others old (Kill m) (says.Refused NoMemory) new = KillRefused m old new
+-- a yanked text is copied out of the ring, for which there may be no memory either
+Others old (Yank n) (says.Inserted a) new = Edited (lent_plan old.line (yank old.pair.ring) n) (lent old) new a
+Others old (Yank n) (says.Refused NoMemory) new = (new ≡ lent old) ⊎ CutShort (lent_plan old.line (yank old.pair.ring) n) (lent old) new
+Others old YankPop (says.Inserted a) new =
+    StandsYanked (yank_size old.pair.ring) old.line × Edited (popped_plan old.line (yank_pop old.pair.ring)) (popped old) new a
+Others old YankPop (says.Refused BadYankSize) new = (¬ (StandsYanked (yank_size old.pair.ring) old.line)) × (new ≡ old)
+Others old YankPop (says.Refused NoMemory) new =
+    StandsYanked (yank_size old.pair.ring) old.line × ((new ≡ popped old) ⊎ CutShort (popped_plan old.line (yank_pop old.pair.ring)) (popped old) new)
+Others old Begin (says.Mark n) new = (n ≡ length old.pair.changes.recorded) × (new ≡ with_changes (begun old.pair.changes) old)
+Others old Begin (says.Refused NoMemory) new = new ≡ old
+Others old End (says.Answer a) new =
+    (a ≡ adds_end (level old.pair.changes.recorded) old.pair.changes.recorded) × (new ≡ with_changes (ended old.pair.changes) old)
+Others old End (says.Refused NoMemory) new = new ≡ old
+Others old (Undo n) (says.Answer a) new = TookBack n old new a
+Others old (Undo n) (says.Refused NoMemory) new = new ≡ old
+Others old Redo (says.Answer a) new = PutAgain old new a
+Others old Redo (says.Refused NoMemory) new = new ≡ old
+Others old (Truncate len) says.Done new =
+    (replays_to len old.pair.changes old.line.text ≡ true) × (new ≡ with_changes (truncated len old.pair.changes) old)
+Others old (Truncate len) (says.Refused NotReplaying) new = (replays_to len old.pair.changes old.line.text ≡ false) × (new ≡ old)
+Others old (Truncate len) (says.Refused NoMemory) new = new ≡ old
+-- no other reply comes
+Others _ _ _ _ = ⊥
+
+abbrev pub DoesAsked : Asked → State → Command → Reply → State → Type 0
+DoesAsked (edit condition plan telling) old command reply new = Edits condition plan telling old reply new
+DoesAsked other old command reply new = Others old command reply new
 
 -- from old, the command may have this reply and lead to new, the ring's resets aside
 abbrev pub Does : State → Command → Reply → State → Type 0
-Does old (SetPos q) says.Done new = IsCharBoundary old.line.text q × (new ≡ record old { line = record old.line { cursor = q } })
-Does old (SetPos q) (says.Refused BadPlace) new = (¬ (IsCharBoundary old.line.text q)) × (new ≡ old)
-Does old (Move m) (says.Answer a) new = Went (destination old m) old new a
-Does old (Insert c n) (says.Inserted a) new = Edited (insert_plan old.line c n) old new a
-Does old (Insert c n) (says.Refused NoMemory) new = CutShort (insert_plan old.line c n) old new
-Does old (Delete n) (says.Text t) new = Edited (delete_plan old.line n) old new (option_map string_bytes t)
-Does old (Delete n) (says.Refused NoMemory) new = CutShort (delete_plan old.line n) old new
-Does old (Backspace n) (says.Answer a) new = Edited (kill_plan old.line (BackwardChar n)) old new a
-Does old (Backspace n) (says.Refused NoMemory) new = CutShort (kill_plan old.line (BackwardChar n)) old new
-Does old (Kill m) (says.Answer a) new = Killed m old new a
-Does old (Kill m) (says.Refused NoMemory) new = KillRefused m old new
--- the text is copied out of the ring, for which there may be no memory either
-Does old (Yank n) (says.Inserted a) new = Edited (lent_plan old.line (yank old.pair.ring) n) (lent old) new a
-Does old (Yank n) (says.Refused NoMemory) new = (new ≡ lent old) ⊎ CutShort (lent_plan old.line (yank old.pair.ring) n) (lent old) new
-Does old YankPop (says.Inserted a) new =
-    StandsYanked (yank_size old.pair.ring) old.line × Edited (popped_plan old.line (yank_pop old.pair.ring)) (popped old) new a
-Does old YankPop (says.Refused BadYankSize) new = (¬ (StandsYanked (yank_size old.pair.ring) old.line)) × (new ≡ old)
-Does old YankPop (says.Refused NoMemory) new =
-    StandsYanked (yank_size old.pair.ring) old.line × ((new ≡ popped old) ⊎ CutShort (popped_plan old.line (yank_pop old.pair.ring)) (popped old) new)
-Does old (Undo n) (says.Answer a) new = TookBack n old new a
-Does old (Undo n) (says.Refused NoMemory) new = new ≡ old
--- no other reply comes
-Does _ _ _ _ = ⊥
+Does old command reply new = DoesAsked (asked old.line command) old command reply new
 
 -- the commands before which the ring is not reset: what it did last is part of what they do
 abbrev pub continues : Command → Bool

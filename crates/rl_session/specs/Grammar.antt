@@ -1,9 +1,11 @@
 -- What a line of a script means.
-use Rattle.std.specs.Prelude.{◌≡◌, ◌≢◌, ℕ, ◌+◌, ◌-◌, ◌*◌, ◌^◌, ◌<◌, ◌≤◌, Bool, true, ◌==◌, ◌&&◌, nat_lt, nat_le, List, [], ◌∷◌, ◌++◌, length, Option, Some, None, option_and_then, codes, encode_utf8, if◌then◌else◌}
+use Rattle.std.specs.Prelude.{◌≡◌, ◌≢◌, ℕ, ◌+◌, ◌-◌, ◌*◌, ◌^◌, ◌<◌, ◌≤◌, Bool, true, false, ◌==◌, ◌&&◌, nat_lt, nat_le, List, [], ◌∷◌, ◌++◌, length, Option, Some, None, option_and_then, codes, encode_utf8, String, if◌then◌else◌}
 use Rattle.std.specs.Char.{IsScalar}
 use Rattle.std.specs.Str.{IsUtf8}
+use Rattle.std.specs.String.{string_bytes}
+use Rattle.std.specs.declared.alloc.Global.{Global}
 use Rattle.rl_session.specs.declared.session.Command.{Command}
-use Rattle.rl_session.specs.declared.session.Command.TheVariants.{SetPos, Move, Insert, Delete, Backspace, Kill, Yank, YankPop, Undo}
+use Rattle.rl_session.specs.declared.session.Command.TheVariants.{SetPos, Move, Insert, Paste, Yank, YankPop, Update, InsertStr, Replace, DeleteRange, Delete, Backspace, KillLine, KillBuffer, DiscardLine, DiscardBuffer, DeletePrevWord, DeleteWord, DeleteTo, TransposeChars, TransposeWords, EditWord, Kill, Copy, Indent, Begin, End, Undo, Redo, Truncate}
 use Rattle.rl_session.specs.declared.settings.Setting.{Setting}
 use Rattle.rl_session.specs.declared.settings.Setting.TheVariants.{Limit, RingSize, Mode}
 use Rattle.rl_base.specs.declared.layout.GraphemeClusterMode.{GraphemeClusterMode}
@@ -16,6 +18,8 @@ use Rattle.rl_base.specs.declared.motion.Movement.{Movement}
 use Rattle.rl_base.specs.declared.motion.Movement.TheVariants.{WholeLine, BeginningOfLine, EndOfLine, BackwardWord, ForwardWord, ViCharSearch, ViFirstPrint, BackwardChar, ForwardChar, LineUp, LineDown, WholeBuffer, BeginningOfBuffer, EndOfBuffer}
 use Rattle.rl_base.specs.declared.motion.Word.{Word}
 use Rattle.rl_base.specs.declared.motion.Word.TheVariants.{Big, Emacs, Vi}
+use Rattle.rl_base.specs.declared.motion.WordAction.{WordAction}
+use Rattle.rl_base.specs.declared.motion.WordAction.TheVariants.{Capitalize, Lowercase, Uppercase}
 
 -- a line gives a new text, a setting, or a command
 pub data Meaning : Type 0 where
@@ -94,6 +98,21 @@ abbrev pub rest : List ℕ → Option (List ℕ)
 rest [] = None
 rest (b ∷ bs) = if b == 32 then Some bs else rest bs
 
+-- the first word is this number, at most the greatest, and these bytes stand behind the space
+pub record Numbered (greatest : ℕ) (given : List ℕ) (n : ℕ) (behind : List ℕ) : Type 0 where
+  pub number : number_of greatest (word given) ≡ Some n
+  pub on : rest given ≡ Some behind
+
+-- what follows a word stands for this text, which is empty where no space follows
+abbrev pub SpellsRest : Option (List ℕ) → List ℕ → Type 0
+SpellsRest None text = text ≡ []
+SpellsRest (Some bytes) text = Spells bytes text
+
+-- the first word is this number, at most the greatest, and the text follows
+pub record NumberedText (greatest : ℕ) (given : List ℕ) (n : ℕ) (text : List ℕ) : Type 0 where
+  pub number : number_of greatest (word given) ≡ Some n
+  pub spells : SpellsRest (rest given) text
+
 -- the words for kinds of word
 pub data NamesWord : List ℕ → Word → Type 0 where
   big : NamesWord (codes "big") Big
@@ -108,10 +127,16 @@ pub data NamesAt : List ℕ → At → Type 0 where
 
 -- the letters for searches for a character
 pub data NamesSearch : List ℕ → ℕ → CharSearch → Type 0 where
-  to : {c : ℕ} → NamesSearch (codes "f") c (Forward c)
+  onto : {c : ℕ} → NamesSearch (codes "f") c (Forward c)
   till : {c : ℕ} → NamesSearch (codes "t") c (ForwardBefore c)
-  back_to : {c : ℕ} → NamesSearch (codes "F") c (Backward c)
+  back_onto : {c : ℕ} → NamesSearch (codes "F") c (Backward c)
   back_till : {c : ℕ} → NamesSearch (codes "T") c (BackwardAfter c)
+
+-- the words for changes of the letter case
+pub data NamesAction : List ℕ → WordAction → Type 0 where
+  cap : NamesAction (codes "cap") Capitalize
+  low : NamesAction (codes "low") Lowercase
+  upper : NamesAction (codes "up") Uppercase
 
 -- the words for how columns are measured
 pub data NamesMode : List ℕ → GraphemeClusterMode → Type 0 where
@@ -119,17 +144,39 @@ pub data NamesMode : List ℕ → GraphemeClusterMode → Type 0 where
   wcwidth : NamesMode (codes "wcwidth") WcWidth
   nozwj : NamesMode (codes "nozwj") NoZwj
 
+-- a count and a kind of word
+pub record CountWord (given : List ℕ) (n : ℕ) (w : Word) : Type 0 where
+  pub kind : List ℕ
+  pub counted : Numbered 65535 given n kind
+  pub named : NamesWord kind w
+
+-- a count, a place at a word and a kind of word
+pub record CountAtWord (given : List ℕ) (n : ℕ) (a : At) (w : Word) : Type 0 where
+  pub behind : List ℕ
+  pub kind : List ℕ
+  pub counted : Numbered 65535 given n behind
+  pub placed : NamesAt (word behind) a
+  pub on : rest behind ≡ Some kind
+  pub named : NamesWord kind w
+
+-- a count, a kind of search and a character
+pub record CountSearch (given : List ℕ) (n : ℕ) (cs : CharSearch) : Type 0 where
+  pub behind : List ℕ
+  pub bytes : List ℕ
+  pub c : ℕ
+  pub counted : Numbered 65535 given n behind
+  pub on : rest behind ≡ Some bytes
+  pub char : SpellsChar bytes c
+  pub named : NamesSearch (word behind) c cs
+
 -- the words for movements, each with what it wants behind it: None where no space follows, or Some of what stands behind the space
 pub data Names : List ℕ → Option (List ℕ) → Movement → Type 0 where
   whole : Names (codes "line") None WholeLine
   home : Names (codes "home") None BeginningOfLine
   eol : Names (codes "eol") None EndOfLine
-  bword : (digits : List ℕ) {kind : List ℕ} {n : ℕ} {w : Word} → number_of 65535 digits ≡ Some n → NamesWord kind w
-      → Names (codes "bword") (Some (digits ++ codes " " ++ kind)) (BackwardWord n w)
-  fword : (digits : List ℕ) {stop kind : List ℕ} {n : ℕ} {a : At} {w : Word} → number_of 65535 digits ≡ Some n → NamesAt stop a → NamesWord kind w
-      → Names (codes "fword") (Some (digits ++ codes " " ++ stop ++ codes " " ++ kind)) (ForwardWord n a w)
-  find : (digits : List ℕ) {kind bytes : List ℕ} {n c : ℕ} {cs : CharSearch} → number_of 65535 digits ≡ Some n → NamesSearch kind c cs → SpellsChar bytes c
-      → Names (codes "find") (Some (digits ++ codes " " ++ kind ++ codes " " ++ bytes)) (ViCharSearch n cs)
+  bword : {given : List ℕ} {n : ℕ} {w : Word} → CountWord given n w → Names (codes "bword") (Some given) (BackwardWord n w)
+  fword : {given : List ℕ} {n : ℕ} {a : At} {w : Word} → CountAtWord given n a w → Names (codes "fword") (Some given) (ForwardWord n a w)
+  find : {given : List ℕ} {n : ℕ} {cs : CharSearch} → CountSearch given n cs → Names (codes "find") (Some given) (ViCharSearch n cs)
   first : Names (codes "first") None ViFirstPrint
   bchar : {digits : List ℕ} {n : ℕ} → number_of 65535 digits ≡ Some n → Names (codes "bchar") (Some digits) (BackwardChar n)
   fchar : {digits : List ℕ} {n : ℕ} → number_of 65535 digits ≡ Some n → Names (codes "fchar") (Some digits) (ForwardChar n)
@@ -139,20 +186,62 @@ pub data Names : List ℕ → Option (List ℕ) → Movement → Type 0 where
   bob : Names (codes "bob") None BeginningOfBuffer
   eob : Names (codes "eob") None EndOfBuffer
 
+-- the movement that the bytes name, by a word and what that wants
+abbrev pub NamesMovement : List ℕ → Movement → Type 0
+NamesMovement bytes movement = Names (word bytes) (rest bytes) movement
+
+-- an amount of columns and a movement
+pub record AmountMovement (given : List ℕ) (amount : ℕ) (movement : Movement) : Type 0 where
+  pub behind : List ℕ
+  pub amounts : Numbered 255 given amount behind
+  pub named : NamesMovement behind movement
+
+-- the ends of a range and a text
+pub record RangeText (given : List ℕ) (a b : ℕ) (text : List ℕ) : Type 0 where
+  pub behind : List ℕ
+  pub starts : Numbered (2 ^ 64 - 1) given a behind
+  pub ends : NumberedText (2 ^ 64 - 1) behind b text
+
 -- the words that begin a line, each with what it wants behind it
 pub data Says : List ℕ → Option (List ℕ) → Meaning → Type 0 where
   no_text : Says (codes "text") None (NewText [])
   text : {bytes text : List ℕ} → Spells bytes text → Says (codes "text") (Some bytes) (NewText text)
   pos : {digits : List ℕ} {place : ℕ} → number_of (2 ^ 64 - 1) digits ≡ Some place → Says (codes "pos") (Some digits) (Do (SetPos place))
-  move : {bytes : List ℕ} {movement : Movement} → Names (word bytes) (rest bytes) movement → Says (codes "move") (Some bytes) (Do (Move movement))
-  ins : (digits : List ℕ) {bytes : List ℕ} {c n : ℕ} → number_of 65535 digits ≡ Some n → SpellsChar bytes c
-      → Says (codes "ins") (Some (digits ++ codes " " ++ bytes)) (Do (Insert c n))
-  del : {digits : List ℕ} {n : ℕ} → number_of 65535 digits ≡ Some n → Says (codes "del") (Some digits) (Do (Delete n))
-  back : {digits : List ℕ} {n : ℕ} → number_of 65535 digits ≡ Some n → Says (codes "back") (Some digits) (Do (Backspace n))
-  kill : {bytes : List ℕ} {movement : Movement} → Names (word bytes) (rest bytes) movement → Says (codes "kill") (Some bytes) (Do (Kill movement))
+  move : {bytes : List ℕ} {movement : Movement} → NamesMovement bytes movement → Says (codes "move") (Some bytes) (Do (Move movement))
+  ins : {given bytes : List ℕ} {c n : ℕ} → Numbered 65535 given n bytes → SpellsChar bytes c → Says (codes "ins") (Some given) (Do (Insert c n))
+  paste : {given : List ℕ} {n : ℕ} {t : String Global} → NumberedText 65535 given n (string_bytes t) → Says (codes "paste") (Some given) (Do (Paste t n))
   yank : {digits : List ℕ} {n : ℕ} → number_of 65535 digits ≡ Some n → Says (codes "yank") (Some digits) (Do (Yank n))
   yankpop : Says (codes "yankpop") None (Do YankPop)
+  update : {given : List ℕ} {place : ℕ} {t : String Global} → NumberedText (2 ^ 64 - 1) given place (string_bytes t)
+      → Says (codes "update") (Some given) (Do (Update t place))
+  str : {given : List ℕ} {place : ℕ} {t : String Global} → NumberedText (2 ^ 64 - 1) given place (string_bytes t)
+      → Says (codes "str") (Some given) (Do (InsertStr place t))
+  rep : {given : List ℕ} {a b : ℕ} {t : String Global} → RangeText given a b (string_bytes t) → Says (codes "rep") (Some given) (Do (Replace a b t))
+  range : {given digits : List ℕ} {a b : ℕ} → Numbered (2 ^ 64 - 1) given a digits → number_of (2 ^ 64 - 1) digits ≡ Some b
+      → Says (codes "range") (Some given) (Do (DeleteRange a b))
+  del : {digits : List ℕ} {n : ℕ} → number_of 65535 digits ≡ Some n → Says (codes "del") (Some digits) (Do (Delete n))
+  back : {digits : List ℕ} {n : ℕ} → number_of 65535 digits ≡ Some n → Says (codes "back") (Some digits) (Do (Backspace n))
+  killline : Says (codes "killline") None (Do KillLine)
+  killbuf : Says (codes "killbuf") None (Do KillBuffer)
+  discline : Says (codes "discline") None (Do DiscardLine)
+  discbuf : Says (codes "discbuf") None (Do DiscardBuffer)
+  prevword : {given : List ℕ} {n : ℕ} {w : Word} → CountWord given n w → Says (codes "prevword") (Some given) (Do (DeletePrevWord w n))
+  nextword : {given : List ℕ} {n : ℕ} {a : At} {w : Word} → CountAtWord given n a w → Says (codes "nextword") (Some given) (Do (DeleteWord a w n))
+  to : {given : List ℕ} {n : ℕ} {cs : CharSearch} → CountSearch given n cs → Says (codes "to") (Some given) (Do (DeleteTo cs n))
+  tchars : Says (codes "tchars") None (Do TransposeChars)
+  twords : {digits : List ℕ} {n : ℕ} → number_of 65535 digits ≡ Some n → Says (codes "twords") (Some digits) (Do (TransposeWords n))
+  cased : {bytes : List ℕ} {action : WordAction} → NamesAction bytes action → Says (codes "case") (Some bytes) (Do (EditWord action))
+  kill : {bytes : List ℕ} {movement : Movement} → NamesMovement bytes movement → Says (codes "kill") (Some bytes) (Do (Kill movement))
+  copy : {bytes : List ℕ} {movement : Movement} → NamesMovement bytes movement → Says (codes "copy") (Some bytes) (Do (Copy movement))
+  indent : {given : List ℕ} {amount : ℕ} {movement : Movement} → AmountMovement given amount movement
+      → Says (codes "indent") (Some given) (Do (Indent movement amount false))
+  dedent : {given : List ℕ} {amount : ℕ} {movement : Movement} → AmountMovement given amount movement
+      → Says (codes "dedent") (Some given) (Do (Indent movement amount true))
+  begin : Says (codes "begin") None (Do Begin)
+  end : Says (codes "end") None (Do End)
   undo : {digits : List ℕ} {n : ℕ} → number_of 65535 digits ≡ Some n → Says (codes "undo") (Some digits) (Do (Undo n))
+  redo : Says (codes "redo") None (Do Redo)
+  trunc : {digits : List ℕ} {len : ℕ} → number_of (2 ^ 64 - 1) digits ≡ Some len → Says (codes "trunc") (Some digits) (Do (Truncate len))
   limit : {digits : List ℕ} {size : ℕ} → number_of (2 ^ 64 - 1) digits ≡ Some size → Says (codes "limit") (Some digits) (Set (Limit size))
   ring : {digits : List ℕ} {size : ℕ} → number_of (2 ^ 64 - 1) digits ≡ Some size → Says (codes "ring") (Some digits) (Set (RingSize size))
   mode : {bytes : List ℕ} {m : GraphemeClusterMode} → NamesMode bytes m → Says (codes "mode") (Some bytes) (Set (Mode m))
@@ -164,3 +253,11 @@ Means line meaning = IsUtf8 line × Says (word line) (rest line) meaning
 -- the line means nothing
 abbrev pub MeansNothing : List ℕ → Type 0
 MeansNothing line = (meaning : Meaning) → Means line meaning → ⊥
+
+-- Two meanings are the same: of a text that a command holds its bytes count, and not the room that they have in memory.
+pub data Same : Meaning → Meaning → Type 0 where
+  same : {m n : Meaning} → m ≡ n → Same m n
+  pastes : {s t : String Global} {n : ℕ} → string_bytes s ≡ string_bytes t → Same (Do (Paste s n)) (Do (Paste t n))
+  updates : {s t : String Global} {place : ℕ} → string_bytes s ≡ string_bytes t → Same (Do (Update s place)) (Do (Update t place))
+  puts_in : {s t : String Global} {place : ℕ} → string_bytes s ≡ string_bytes t → Same (Do (InsertStr place s)) (Do (InsertStr place t))
+  replaces : {s t : String Global} {a b : ℕ} → string_bytes s ≡ string_bytes t → Same (Do (Replace a b s)) (Do (Replace a b t))

@@ -4,6 +4,7 @@ pub mod State
 pub mod Commands
 pub mod Run
 pub mod KillRuns
+pub mod History
 pub mod Grammar
 pub mod Reads
 pub mod Lines

@@ -3,9 +3,9 @@ use Rattle.std.specs.Prelude.{ℕ, ◌==◌, Bool, ◌||◌, ◌&&◌, true, fal
 use Rattle.std.specs.Fmt.{decimal}
 use Rattle.std.specs.String.{string_bytes}
 use Rattle.rl_session.specs.State.{State}
-use Rattle.rl_session.specs.declared.session.Fault.TheVariants.{NoMemory, BadPlace, BadYankSize}
+use Rattle.rl_session.specs.declared.session.Fault.TheVariants.{NoMemory, BadPlace, BadYankSize, NotReplaying}
 use Rattle.rl_session.specs.declared.session.Reply.{Reply}
-use Rattle.rl_session.specs.declared.session.Reply.TheVariants.{Done, Answer, Inserted, Text, Refused}
+use Rattle.rl_session.specs.declared.session.Reply.TheVariants.{Done, Answer, Inserted, Text, Mark, Refused}
 
 -- the word for a reply; a refusal has its fault's number
 abbrev pub reply_word : Reply → List ℕ
@@ -17,9 +17,11 @@ reply_word (Inserted (Some false)) = codes "false"
 reply_word (Inserted None) = codes "none"
 reply_word (Text (Some _)) = codes "text:"
 reply_word (Text None) = codes "none"
+reply_word (Mark _) = codes "mark:"
 reply_word (Refused NoMemory) = codes "refused:1"
 reply_word (Refused BadPlace) = codes "refused:2"
 reply_word (Refused BadYankSize) = codes "refused:3"
+reply_word (Refused NotReplaying) = codes "refused:4"
 
 -- backslash, newline, carriage return and tab, and in a text among words also the space
 abbrev pub is_special : Bool → ℕ → Bool
@@ -39,14 +41,15 @@ abbrev pub escaped : Bool → List ℕ → List ℕ
 escaped spaces [] = []
 escaped spaces (b ∷ bs) = escape spaces b ++ escaped spaces bs
 
--- the text that a reply hands out, printed as one word
-abbrev pub handed_text : Reply → List ℕ
-handed_text (Text (Some t)) = escaped true (string_bytes t)
-handed_text _ = []
+-- what a reply hands out: a text, printed as one word, or a number
+abbrev pub handed : Reply → List ℕ
+handed (Text (Some t)) = escaped true (string_bytes t)
+handed (Mark n) = decimal n
+handed _ = []
 
 -- the reply, the cursor and the text, parted by spaces, in one line
 abbrev pub printed : Reply → State → List ℕ
-printed reply s = reply_word reply ++ (handed_text reply ++ (32 ∷ (decimal s.line.cursor ++ (32 ∷ (escaped false s.line.text ++ 10 ∷ [])))))
+printed reply s = reply_word reply ++ (handed reply ++ (32 ∷ (decimal s.line.cursor ++ (32 ∷ (escaped false s.line.text ++ 10 ∷ [])))))
 
 -- what is printed for a line that means nothing
 abbrev pub bad_line : List ℕ

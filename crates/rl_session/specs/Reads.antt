@@ -1,13 +1,17 @@
 -- What the readers of parts of a line find.
-use Rattle.std.specs.Prelude.{◌≡◌, ℕ, List, ◌++◌, Option, Some, codes, encode_utf8}
+use Rattle.std.specs.Prelude.{◌≡◌, ℕ, Bool, true, false, List, ◌++◌, Option, Some, None, encode_utf8}
 use Rattle.std.specs.Char.{IsScalar}
 use Rattle.std.specs.String.{string_bytes}
 use Rattle.rl_session.specs.declared.grammar.ScriptLine.{ScriptLine}
 use Rattle.rl_session.specs.declared.grammar.ScriptLine.TheVariants as made
-use Rattle.rl_session.specs.Grammar.{Meaning, NewText, Set, Do, number_of, Escapes, Spells, SpellsChar, Names, Says}
+use Rattle.rl_session.specs.Grammar.{Meaning, NewText, Set, Do, Escapes, Spells, SpellsChar, Numbered, NumberedText, CountWord, CountAtWord, CountSearch, Names, NamesMovement, AmountMovement, Says}
 use Rattle.rl_session.specs.declared.settings.Setting.{Setting}
+use Rattle.rl_base.specs.declared.motion.At.{At}
+use Rattle.rl_base.specs.declared.motion.CharSearch.{CharSearch}
 use Rattle.rl_base.specs.declared.motion.Movement.{Movement}
+use Rattle.rl_base.specs.declared.motion.Word.{Word}
 use Rattle.rl_session.specs.declared.session.Command.{Command}
+use Rattle.rl_session.specs.declared.session.Command.TheVariants.{Paste, Update, InsertStr, Replace}
 
 -- what a line of the program means
 abbrev pub meaning_of : ScriptLine → Meaning
@@ -42,28 +46,66 @@ BeginsChar bytes c others = IsScalar c × Begins bytes (encode_utf8 c) others
 abbrev pub SpellsNoChar : List ℕ → Type 0
 SpellsNoChar bytes = (c : ℕ) → SpellsChar bytes c → ⊥
 
--- a count stands before the first space, and these bytes behind it
-pub record Counted (given : List ℕ) (n : ℕ) (behind : List ℕ) : Type 0 where
-  pub digits : List ℕ
-  pub count : number_of 65535 digits ≡ Some n
-  pub is : given ≡ digits ++ (codes " " ++ behind)
+-- no number up to the greatest stands before a first space
+abbrev pub HasNoNumber : ℕ → List ℕ → Type 0
+HasNoNumber greatest given = (n : ℕ) (behind : List ℕ) → Numbered greatest given n behind → ⊥
 
--- no count stands before a first space
-abbrev pub HasNoCount : List ℕ → Type 0
-HasNoCount given = (n : ℕ) (behind : List ℕ) → Counted given n behind → ⊥
+-- the bytes begin with no number up to the greatest, or no text follows it
+abbrev pub HasNoText : ℕ → List ℕ → Type 0
+HasNoText greatest given = (n : ℕ) (text : List ℕ) → NumberedText greatest given n text → ⊥
+
+-- the bytes are no count and kind of word
+abbrev pub HasNoWord : List ℕ → Type 0
+HasNoWord given = (n : ℕ) (w : Word) → CountWord given n w → ⊥
+
+-- the bytes are no count, place at a word and kind of word
+abbrev pub HasNoAt : List ℕ → Type 0
+HasNoAt given = (n : ℕ) (a : At) (w : Word) → CountAtWord given n a w → ⊥
+
+-- the bytes are no count, kind of search and character
+abbrev pub HasNoSearch : List ℕ → Type 0
+HasNoSearch given = (n : ℕ) (cs : CharSearch) → CountSearch given n cs → ⊥
+
+-- the bytes are no amount of columns and movement
+abbrev pub HasNoMovement : List ℕ → Type 0
+HasNoMovement given = (amount : ℕ) (movement : Movement) → AmountMovement given amount movement → ⊥
 
 -- the word names no movement with what stands behind it
 abbrev pub NamesNothing : List ℕ → Option (List ℕ) → Type 0
 NamesNothing word given = (movement : Movement) → Names word given movement → ⊥
 
+-- the bytes name no movement
+abbrev pub NamesNoMovement : List ℕ → Type 0
+NamesNoMovement bytes = (movement : Movement) → NamesMovement bytes movement → ⊥
+
 -- the word says nothing with what stands behind it
 abbrev pub SaysNothing : List ℕ → Option (List ℕ) → Type 0
 SaysNothing word given = (meaning : Meaning) → Says word given meaning → ⊥
 
--- the word says no command with what stands behind its space
+-- whether a command holds a text
+abbrev pub holds_text : Command → Bool
+holds_text (Paste _ _) = true
+holds_text (Update _ _) = true
+holds_text (InsertStr _ _) = true
+holds_text (Replace _ _ _) = true
+holds_text _ = false
+
+-- the word says no command that holds a text, with what stands behind its space
+abbrev pub SaysNoTextCommand : List ℕ → List ℕ → Type 0
+SaysNoTextCommand word given = (command : Command) → holds_text command ≡ true → Says word (Some given) (Do command) → ⊥
+
+-- the word says no other command, with what stands behind its space
 abbrev pub SaysNoCommand : List ℕ → List ℕ → Type 0
-SaysNoCommand word given = (command : Command) → Says word (Some given) (Do command) → ⊥
+SaysNoCommand word given = (command : Command) → holds_text command ≡ false → Says word (Some given) (Do command) → ⊥
 
 -- the word says no setting with what stands behind its space
 abbrev pub SaysNoSetting : List ℕ → List ℕ → Type 0
 SaysNoSetting word given = (setting : Setting) → Says word (Some given) (Set setting) → ⊥
+
+-- the word says no command without a text and no setting
+abbrev pub SaysNoneWithoutText : List ℕ → List ℕ → Type 0
+SaysNoneWithoutText word given = SaysNoCommand word given × SaysNoSetting word given
+
+-- the word says no command where no space follows it
+abbrev pub SaysNoLoneCommand : List ℕ → Type 0
+SaysNoLoneCommand word = (command : Command) → Says word None (Do command) → ⊥

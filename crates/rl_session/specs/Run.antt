@@ -2,20 +2,20 @@
 use Rattle.std.specs.Prelude.{◌≡◌, ℕ, List, [], ◌∷◌, ◌++◌, map, reverse, Some, None, ◌⊎◌}
 use mathlib.Core.Logic.{inl, inr}
 use Rattle.rl_base.specs.Event.{Event, apply}
-use Rattle.rl_base.specs.declared.motion.Movement.TheVariants.{BackwardChar}
 use Rattle.rl_base.specs.KillRing.{yank, yank_pop}
 use Rattle.rl_line.specs.Plan.{Plan, Step as PlanStep}
-use Rattle.rl_line.specs.Edits.{insert_plan}
-use Rattle.rl_line.specs.Kills.{delete_plan, kill_plan}
+use Rattle.rl_line.specs.Line.{Line}
+use Rattle.rl_line.specs.Kills.{kill_plan}
+use Rattle.rl_line.specs.LetterCase.{edit_word_plan}
 use Rattle.rl_line.specs.Record.{Entry, event_of, inverse}
-use Rattle.rl_line.specs.Units.{last_of}
+use Rattle.rl_line.specs.Units.{last_of, redo_of}
 use Rattle.rl_session.specs.declared.session.Command.{Command}
-use Rattle.rl_session.specs.declared.session.Command.TheVariants.{Insert, Delete, Backspace, Kill, Yank, YankPop, Undo}
-use Rattle.rl_session.specs.declared.session.Fault.TheVariants.{NoMemory}
+use Rattle.rl_session.specs.declared.session.Command.TheVariants.{Yank, YankPop, EditWord, Kill, Undo, Redo}
+use Rattle.rl_session.specs.declared.session.Fault.TheVariants.{NoMemory, BadPlace}
 use Rattle.rl_session.specs.declared.session.Reply.{Reply}
 use Rattle.rl_session.specs.declared.session.Reply.TheVariants as says
 use Rattle.rl_session.specs.State.{State}
-use Rattle.rl_session.specs.Commands.{CutShort, Does, Step, lent_plan, popped_plan, readied}
+use Rattle.rl_session.specs.Commands.{Asked, Telling, edit, other, asked, CutShort, Edits, Others, DoesAsked, Does, Step, lent_plan, popped_plan, readied}
 
 -- the texts after each of these events, from the text before, as far as they fit
 abbrev pub texts_after : List Event → List ℕ → List (List ℕ)
@@ -26,31 +26,52 @@ texts_after (e ∷ es) text = elim (apply e text) [ None ↦ [] | Some next ↦ 
 abbrev pub texts_of_steps : List PlanStep → List ℕ → List (List ℕ)
 texts_of_steps steps text = texts_after (map (λ (s : PlanStep). s.0) steps) text
 
--- the texts after each of these entries was taken back, the last first
+-- the texts after each step of a plan that was carried out, and after the first ones of one that was cut short
+abbrev pub texts_of : {A : Type 0} → Plan A → Line → List (List ℕ)
+texts_of plan line = texts_of_steps plan.steps line.text
+
+abbrev pub texts_of_first : {A : Type 0} {plan : Plan A} {old new : State} → CutShort plan old new → List (List ℕ)
+texts_of_first {old = old} cut = texts_of_steps cut.halted.first old.line.text
+
+-- the same of an edit that may have been refused before it began
+abbrev pub texts_of_cut : {A : Type 0} {plan : Plan A} {old new : State} → (new ≡ old) ⊎ CutShort plan old new → List (List ℕ)
+texts_of_cut (inl _) = []
+texts_of_cut (inr cut) = texts_of_first cut
+
+-- the texts after each of these entries was taken back, the last first, and after each was made again
 abbrev pub texts_back : List Entry → List ℕ → List (List ℕ)
 texts_back entries text = texts_after (map (λ (e : Entry). event_of (inverse e)) (reverse entries)) text
 
--- the texts of an edit that was refused before its first step, or after some
-abbrev pub texts_of_cut : {A : Type 0} {plan : Plan A} {lent old new : State} → (new ≡ lent) ⊎ CutShort plan old new → List ℕ → List (List ℕ)
-texts_of_cut (inl _) text = []
-texts_of_cut (inr cut) text = texts_of_steps cut.halted.first text
+abbrev pub texts_ahead : List Entry → List ℕ → List (List ℕ)
+texts_ahead entries text = texts_after (map event_of entries) text
 
--- The texts that a row held: after each step that was taken, or after each entry that was taken back. A kill has one step at most, so
--- a refused one held none.
+-- the texts that an edit held
+abbrev pub held_by_edit : {A : Type 0} → (condition : Type 0) → (plan : Plan A) → (telling : Telling A) → (old : State) → (reply : Reply) → (new : State)
+    → Edits condition plan telling old reply new → List (List ℕ)
+held_by_edit condition plan telling old (says.Refused BadPlace) new d = []
+held_by_edit condition plan telling old (says.Refused NoMemory) new d = texts_of_first d.1
+held_by_edit condition plan telling old reply new d = texts_of plan old.line
+
+-- the texts that another command held; a kill has one step at most, so a refused one held none
+abbrev pub held_by_other : (old : State) (command : Command) (reply : Reply) (new : State) → Others old command reply new → List (List ℕ)
+held_by_other old (EditWord action) (says.Answer a) new d = texts_of (edit_word_plan old.line d.made) old.line
+held_by_other old (EditWord action) (says.Refused NoMemory) new d = texts_of_first d.holds
+held_by_other old (Kill m) (says.Answer a) new d = texts_of (kill_plan old.line m) old.line
+held_by_other old (Yank n) (says.Inserted a) new d = texts_of (lent_plan old.line (yank old.pair.ring) n) old.line
+held_by_other old (Yank n) (says.Refused NoMemory) new d = texts_of_cut d
+held_by_other old YankPop (says.Inserted a) new d = texts_of (popped_plan old.line (yank_pop old.pair.ring)) old.line
+held_by_other old YankPop (says.Refused NoMemory) new d = texts_of_cut d.1
+held_by_other old (Undo n) (says.Answer a) new d = texts_back (last_of n old.pair.changes.recorded) old.line.text
+held_by_other old Redo (says.Answer a) new d = texts_ahead (redo_of old.pair.changes.pending) old.line.text
+held_by_other _ _ _ _ _ = []
+
+abbrev pub held_by : (asks : Asked) → (old : State) (command : Command) (reply : Reply) (new : State) → DoesAsked asks old command reply new → List (List ℕ)
+held_by (edit condition plan telling) old command reply new d = held_by_edit condition plan telling old reply new d
+held_by other old command reply new d = held_by_other old command reply new d
+
+-- the texts that a row held: after each step that was taken, or after each entry that was taken back or made again
 abbrev pub held_in : (old : State) (command : Command) (reply : Reply) (new : State) → Does old command reply new → List (List ℕ)
-held_in old (Insert c n) (says.Inserted a) new d = texts_of_steps (insert_plan old.line c n).steps old.line.text
-held_in old (Insert c n) (says.Refused NoMemory) new d = texts_of_steps d.halted.first old.line.text
-held_in old (Delete n) (says.Text t) new d = texts_of_steps (delete_plan old.line n).steps old.line.text
-held_in old (Delete n) (says.Refused NoMemory) new d = texts_of_steps d.halted.first old.line.text
-held_in old (Backspace n) (says.Answer a) new d = texts_of_steps (kill_plan old.line (BackwardChar n)).steps old.line.text
-held_in old (Backspace n) (says.Refused NoMemory) new d = texts_of_steps d.halted.first old.line.text
-held_in old (Kill m) (says.Answer a) new d = texts_of_steps (kill_plan old.line m).steps old.line.text
-held_in old (Yank n) (says.Inserted a) new d = texts_of_steps (lent_plan old.line (yank old.pair.ring) n).steps old.line.text
-held_in old (Yank n) (says.Refused NoMemory) new d = texts_of_cut d old.line.text
-held_in old YankPop (says.Inserted a) new d = texts_of_steps (popped_plan old.line (yank_pop old.pair.ring)).steps old.line.text
-held_in old YankPop (says.Refused NoMemory) new d = texts_of_cut d.1 old.line.text
-held_in old (Undo n) (says.Answer a) new d = texts_back (last_of n old.pair.changes.recorded) old.line.text
-held_in _ _ _ _ _ = []
+held_in old command reply new d = held_by (asked old.line command) old command reply new d
 
 -- a command of a run with its reply, and the states around it
 pub record Row : Type 0 where

@@ -7,7 +7,7 @@ use Rattle.rl_line.specs.Line.{Line}
 use Rattle.rl_line.specs.Record.{Record, replay_entries, unwind}
 use Rattle.rl_session.specs.declared.pair.Pair.{Pair}
 use Rattle.rl_session.specs.declared.session.Fault.{Fault}
-use Rattle.rl_session.specs.declared.session.Fault.TheVariants.{NoMemory, BadPlace, BadYankSize}
+use Rattle.rl_session.specs.declared.session.Fault.TheVariants.{NoMemory, BadPlace}
 
 pub record State : Type 0 where
   pub line : Line
@@ -38,13 +38,14 @@ abbrev pub Opens : List ℕ → ℕ → ℕ → ℕ → GraphemeClusterMode → 
 Opens text pos limit ring_size mode (Ok session) = IsCharBoundary text pos × (session ≡ fresh text pos limit ring_size mode)
 Opens text pos limit ring_size mode (Err NoMemory) = IsCharBoundary text pos
 Opens text pos limit ring_size mode (Err BadPlace) = ¬ (IsCharBoundary text pos)
-Opens text pos limit ring_size mode (Err BadYankSize) = ⊥
+Opens text pos limit ring_size mode (Err _) = ⊥
 
 -- the recorded changes, replayed from the starting text, give the present text
 pub record Replays (start : List ℕ) (s : State) : Type 0 where
   pub is_text : IsUtf8 start
   pub leads : replay_entries s.pair.changes.recorded start ≡ Some s.line.text
 
--- the record's changes can be taken back from the line's text
-abbrev pub Follows : Line → Record → Type 0
-Follows line r = IsSome (unwind r.recorded line.text)
+-- the recorded changes can be taken back from the line's text, and what was undone can be made again on it
+pub record Follows (line : Line) (r : Record) : Type 0 where
+  pub back : IsSome (unwind r.recorded line.text)
+  pub ahead : IsSome (replay_entries r.pending line.text)

@@ -2,16 +2,17 @@
 ghost use Rattle.std.specs.Prelude.{◌≡◌, ◌<◌, ◌≤◌, ℕ, Some, None, IfSome, IfOk, MatchOption, codes, ◌∷◌};
 ghost use Rattle.std.specs.Str.{IsUtf8};
 ghost use Rattle.std.specs.String.{string_bytes};
-ghost use Rattle.rl_session.specs.Grammar.{Set, Do, number_of, letter_of, hex_digit, NamesChar, Spells, SpellsChar, word, rest, NamesWord, NamesAt, NamesSearch, NamesMode, Names, Says, Means, MeansNothing};
-ghost use Rattle.rl_session.specs.Reads.{BeginsEscape, BeginsNoEscape, BeginsChar, SpellsNothing, SpellsNoChar, Counted, HasNoCount, NamesNothing, SaysNothing, SaysNoCommand, SaysNoSetting, meaning_of};
+ghost use Rattle.rl_session.specs.Grammar.{Set, Do, number_of, letter_of, hex_digit, NamesChar, Spells, SpellsChar, word, rest, Numbered, NumberedText, NamesWord, NamesAt, NamesSearch, NamesAction, NamesMode, CountWord, CountAtWord, CountSearch, Names, NamesMovement, AmountMovement, Says, Means, MeansNothing};
+ghost use Rattle.rl_session.specs.Reads.{BeginsEscape, BeginsNoEscape, BeginsChar, SpellsNothing, SpellsNoChar, HasNoNumber, HasNoText, HasNoWord, HasNoAt, HasNoSearch, HasNoMovement, NamesNothing, NamesNoMovement, SaysNothing, SaysNoTextCommand, SaysNoCommand, SaysNoSetting, SaysNoneWithoutText, SaysNoLoneCommand, meaning_of};
 ghost use Rattle.rl_base.specs.declared.layout.GraphemeClusterMode.{GraphemeClusterMode};
 ghost use Rattle.rl_base.specs.declared.motion.At.{At};
 ghost use Rattle.rl_base.specs.declared.motion.CharSearch.{CharSearch};
 ghost use Rattle.rl_base.specs.declared.motion.Word.{Word};
+ghost use Rattle.rl_base.specs.declared.motion.WordAction.{WordAction};
 
 use crate::session::Command;
 use crate::settings::Setting;
-use rl_base::{At, CharSearch, GraphemeClusterMode, Movement, Word};
+use rl_base::{At, CharSearch, GraphemeClusterMode, Movement, Word, WordAction};
 use std::alloc::{AllocError, Global};
 
 /// What a line says.
@@ -162,23 +163,63 @@ fn character(escaped: &str) -> Option<char>
     if behind.is_empty() { Some(c) } else { None }
 }
 
-// The count before the first space, and what stands behind it.
-fn counted(given: &str) -> Option<(u16, &str)>
-    ensures cases { MatchOption result (HasNoCount given.now) (λ found. Counted given.now found.0 found.1.now) }
-    ensures utf8 { IfSome result (λ found. IsUtf8 found.1.now) }
+// The first word, and what stands behind the first space, if there is one.
+fn first_word(given: &str) -> (&str, Option<&str>)
+    ensures word { result.0.now ≡ word given.now }
+    ensures rest { MatchOption result.1 (rest given.now ≡ None) (λ behind. rest given.now ≡ Some behind.now) }
+    ensures utf8 { IsUtf8 result.0.now }
+    ensures rest_utf8 { IfSome result.1 (λ behind. IsUtf8 behind.now) }
 {
-    let (digits, behind) = given.split_once(' ')?;
-    Some((count(digits)?, behind))
+    match given.split_once(' ') {
+        Some((word, behind)) => (word, Some(behind)),
+        None => (given, None),
+    }
 }
 
-// The insertion of a count and a character.
-fn insertion(given: &str) -> Option<Command>
-    ensures { MatchOption result (SaysNoCommand (codes "ins") given.now)
-        (λ command. Says (codes "ins") (Some given.now) (Do command)) }
+// The number before the first space, where it is at most the greatest, and what stands behind it.
+fn numbered(given: &str, greatest: usize) -> Option<(usize, &str)>
+    ensures cases { MatchOption result (HasNoNumber greatest given.now) (λ found. Numbered greatest given.now found.0 found.1.now) }
+    ensures bound { IfSome result (λ found. found.0 ≤ greatest) }
+    ensures utf8 { IfSome result (λ found. IsUtf8 found.1.now) }
 {
-    let (n, escaped) = counted(given)?;
-    let c = character(escaped)?;
-    Some(Command::Insert(c, n))
+    let (digits, behind) = first_word(given);
+    let n = number(digits, greatest)?;
+    Some((n, behind?))
+}
+
+// The count before the first space, and what stands behind it.
+fn counted(given: &str) -> Option<(u16, &str)>
+    ensures cases { MatchOption result (HasNoNumber 65535 given.now) (λ found. Numbered 65535 given.now found.0 found.1.now) }
+    ensures utf8 { IfSome result (λ found. IsUtf8 found.1.now) }
+{
+    let (n, behind) = numbered(given, 65535)?;
+    Some((n as u16, behind))
+}
+
+// The number before the first space, where it is at most the greatest, and the text behind it, which is
+// empty where no space stands.
+fn numbered_text(
+    alloc: Global,
+    given: &str,
+    greatest: usize,
+) -> Result<Option<(usize, String)>, AllocError>
+    ensures cases { IfOk result (λ found. MatchOption found (HasNoText greatest given.now)
+        (λ p. NumberedText greatest given.now p.0 (string_bytes p.1))) }
+    ensures bound { IfOk result (λ found. IfSome found (λ p. p.0 ≤ greatest)) }
+{
+    let (digits, behind) = first_word(given);
+    let n = match number(digits, greatest) {
+        Some(n) => n,
+        None => return Ok(None),
+    };
+    let text = match behind {
+        Some(escaped) => unescape(alloc, escaped)?,
+        None => Some(String::new(alloc)),
+    };
+    match text {
+        Some(text) => Ok(Some((n, text))),
+        None => Ok(None),
+    }
 }
 
 // The kind of word that is named.
@@ -218,6 +259,18 @@ fn named_search(named: &str, c: char) -> Option<CharSearch>
     }
 }
 
+// The change of the letter case that is named.
+fn named_action(named: &str) -> Option<WordAction>
+    ensures { MatchOption result ((action : WordAction) → NamesAction named.now action → ⊥) (λ action. NamesAction named.now action) }
+{
+    match named {
+        "cap" => Some(WordAction::Capitalize),
+        "low" => Some(WordAction::Lowercase),
+        "up" => Some(WordAction::Uppercase),
+        _ => None,
+    }
+}
+
 // The way to measure columns that is named.
 fn named_mode(named: &str) -> Option<GraphemeClusterMode>
     ensures { MatchOption result ((m : GraphemeClusterMode) → NamesMode named.now m → ⊥) (λ m. NamesMode named.now m) }
@@ -230,38 +283,32 @@ fn named_mode(named: &str) -> Option<GraphemeClusterMode>
     }
 }
 
-// The movement back by a count and a kind of word.
-fn backward_word(given: &str) -> Option<Movement>
-    ensures { MatchOption result (NamesNothing (codes "bword") (Some given.now))
-        (λ movement. Names (codes "bword") (Some given.now) movement) }
+// A count and a kind of word.
+fn count_and_word(given: &str) -> Option<(u16, Word)>
+    ensures { MatchOption result (HasNoWord given.now) (λ found. CountWord given.now found.0 found.1) }
 {
     let (n, kind) = counted(given)?;
-    let word = named_word(kind)?;
-    Some(Movement::BackwardWord(n, word))
+    Some((n, named_word(kind)?))
 }
 
-// The movement ahead by a count, a place at a word and a kind of word.
-fn forward_word(given: &str) -> Option<Movement>
-    ensures { MatchOption result (NamesNothing (codes "fword") (Some given.now))
-        (λ movement. Names (codes "fword") (Some given.now) movement) }
+// A count, a place at a word and a kind of word.
+fn count_at_word(given: &str) -> Option<(u16, At, Word)>
+    ensures { MatchOption result (HasNoAt given.now) (λ found. CountAtWord given.now found.0 found.1 found.2) }
 {
     let (n, behind) = counted(given)?;
-    let (stop, kind) = behind.split_once(' ')?;
-    let at = named_at(stop)?;
-    let word = named_word(kind)?;
-    Some(Movement::ForwardWord(n, at, word))
+    let (stop, kind) = first_word(behind);
+    let word = named_word(kind?)?;
+    Some((n, named_at(stop)?, word))
 }
 
-// The movement by a count, a kind of search and a character.
-fn char_search(given: &str) -> Option<Movement>
-    ensures { MatchOption result (NamesNothing (codes "find") (Some given.now))
-        (λ movement. Names (codes "find") (Some given.now) movement) }
+// A count, a kind of search and a character.
+fn count_and_search(given: &str) -> Option<(u16, CharSearch)>
+    ensures { MatchOption result (HasNoSearch given.now) (λ found. CountSearch given.now found.0 found.1) }
 {
     let (n, behind) = counted(given)?;
-    let (kind, escaped) = behind.split_once(' ')?;
-    let c = character(escaped)?;
-    let search = named_search(kind, c)?;
-    Some(Movement::ViCharSearch(n, search))
+    let (kind, escaped) = first_word(behind);
+    let c = character(escaped?)?;
+    Some((n, named_search(kind, c)?))
 }
 
 // The movement of a word and of what stands behind its space.
@@ -269,9 +316,18 @@ fn movement_with(word: &str, given: &str) -> Option<Movement>
     ensures { MatchOption result (NamesNothing word.now (Some given.now)) (λ movement. Names word.now (Some given.now) movement) }
 {
     match word {
-        "bword" => backward_word(given),
-        "fword" => forward_word(given),
-        "find" => char_search(given),
+        "bword" => {
+            let (n, word) = count_and_word(given)?;
+            Some(Movement::BackwardWord(n, word))
+        }
+        "fword" => {
+            let (n, at, word) = count_at_word(given)?;
+            Some(Movement::ForwardWord(n, at, word))
+        }
+        "find" => {
+            let (n, search) = count_and_search(given)?;
+            Some(Movement::ViCharSearch(n, search))
+        }
         "bchar" => Some(Movement::BackwardChar(count(given)?)),
         "fchar" => Some(Movement::ForwardChar(count(given)?)),
         "up" => Some(Movement::LineUp(count(given)?)),
@@ -298,15 +354,41 @@ fn lone_movement(word: &str) -> Option<Movement>
 
 // The movement that the bytes name.
 fn movement(named: &str) -> Option<Movement>
-    ensures { MatchOption result (NamesNothing (word named.now) (rest named.now)) (λ movement. Names (word named.now) (rest named.now) movement) }
+    ensures { MatchOption result (NamesNoMovement named.now) (λ movement. NamesMovement named.now movement) }
 {
-    match named.split_once(' ') {
-        Some((word, given)) => movement_with(word, given),
-        None => lone_movement(named),
+    match first_word(named) {
+        (word, Some(given)) => movement_with(word, given),
+        (word, None) => lone_movement(word),
     }
 }
 
-// The command of a word and of what stands behind its space.
+// The insertion of a count and a character.
+fn insertion(given: &str) -> Option<Command>
+    ensures { MatchOption result (SaysNoCommand (codes "ins") given.now)
+        (λ command. Says (codes "ins") (Some given.now) (Do command)) }
+{
+    let (n, escaped) = counted(given)?;
+    Some(Command::Insert(character(escaped)?, n))
+}
+
+// The deletion between two places.
+fn range_deletion(given: &str) -> Option<Command>
+    ensures { MatchOption result (SaysNoCommand (codes "range") given.now)
+        (λ command. Says (codes "range") (Some given.now) (Do command)) }
+{
+    let (start, behind) = numbered(given, usize::MAX)?;
+    Some(Command::DeleteRange(start, number(behind, usize::MAX)?))
+}
+
+// An amount of columns and a movement.
+fn amount_and_movement(given: &str) -> Option<(u8, Movement)>
+    ensures { MatchOption result (HasNoMovement given.now) (λ found. AmountMovement given.now found.0 found.1) }
+{
+    let (amount, named) = numbered(given, 255)?;
+    Some((amount as u8, movement(named)?))
+}
+
+// The command of a word and of what stands behind its space, but a text.
 fn command(word: &str, given: &str) -> Option<Command>
     ensures { MatchOption result (SaysNoCommand word.now given.now)
         (λ command. Says word.now (Some given.now) (Do command)) }
@@ -315,12 +397,75 @@ fn command(word: &str, given: &str) -> Option<Command>
         "pos" => Some(Command::SetPos(number(given, usize::MAX)?)),
         "move" => Some(Command::Move(movement(given)?)),
         "ins" => insertion(given),
+        "yank" => Some(Command::Yank(count(given)?)),
+        "range" => range_deletion(given),
         "del" => Some(Command::Delete(count(given)?)),
         "back" => Some(Command::Backspace(count(given)?)),
+        "prevword" => {
+            let (n, word) = count_and_word(given)?;
+            Some(Command::DeletePrevWord(word, n))
+        }
+        "nextword" => {
+            let (n, at, word) = count_at_word(given)?;
+            Some(Command::DeleteWord(at, word, n))
+        }
+        "to" => {
+            let (n, search) = count_and_search(given)?;
+            Some(Command::DeleteTo(search, n))
+        }
+        "twords" => Some(Command::TransposeWords(count(given)?)),
+        "case" => Some(Command::EditWord(named_action(given)?)),
         "kill" => Some(Command::Kill(movement(given)?)),
-        "yank" => Some(Command::Yank(count(given)?)),
+        "copy" => Some(Command::Copy(movement(given)?)),
+        "indent" => {
+            let (amount, movement) = amount_and_movement(given)?;
+            Some(Command::Indent(movement, amount, false))
+        }
+        "dedent" => {
+            let (amount, movement) = amount_and_movement(given)?;
+            Some(Command::Indent(movement, amount, true))
+        }
         "undo" => Some(Command::Undo(count(given)?)),
+        "trunc" => Some(Command::Truncate(number(given, usize::MAX)?)),
         _ => None,
+    }
+}
+
+// The replacement of what stands between two places by a text.
+fn replacement(alloc: Global, given: &str) -> Result<Option<Command>, AllocError>
+    ensures { IfOk result (λ found. MatchOption found (SaysNoTextCommand (codes "rep") given.now)
+        (λ command. Says (codes "rep") (Some given.now) (Do command))) }
+{
+    let (start, behind) = match numbered(given, usize::MAX) {
+        Some(found) => found,
+        None => return Ok(None),
+    };
+    match numbered_text(alloc, behind, usize::MAX)? {
+        Some((end, text)) => Ok(Some(Command::Replace(start, end, text))),
+        None => Ok(None),
+    }
+}
+
+// The command of a word and a text.
+fn text_command(alloc: Global, word: &str, given: &str) -> Result<Option<Command>, AllocError>
+    ensures { IfOk result (λ found. MatchOption found (SaysNoTextCommand word.now given.now)
+        (λ command. Says word.now (Some given.now) (Do command))) }
+{
+    match word {
+        "paste" => match numbered_text(alloc, given, 65535)? {
+            Some((n, text)) => Ok(Some(Command::Paste(text, n as u16))),
+            None => Ok(None),
+        },
+        "update" => match numbered_text(alloc, given, usize::MAX)? {
+            Some((pos, text)) => Ok(Some(Command::Update(text, pos))),
+            None => Ok(None),
+        },
+        "str" => match numbered_text(alloc, given, usize::MAX)? {
+            Some((pos, text)) => Ok(Some(Command::InsertStr(pos, text))),
+            None => Ok(None),
+        },
+        "rep" => replacement(alloc, given),
+        _ => Ok(None),
     }
 }
 
@@ -337,6 +482,17 @@ fn setting(word: &str, given: &str) -> Option<Setting>
     }
 }
 
+// What a word says with what stands behind its space, where no text belongs to it.
+fn without_text(word: &str, given: &str) -> Option<ScriptLine>
+    ensures { MatchOption result (SaysNoneWithoutText word.now given.now)
+        (λ said. Says word.now (Some given.now) (meaning_of said)) }
+{
+    match command(word, given) {
+        Some(command) => Some(ScriptLine::Do(command)),
+        None => Some(ScriptLine::Set(setting(word, given)?)),
+    }
+}
+
 // What a word says with what stands behind its space.
 fn with_given(alloc: Global, word: &str, given: &str) -> Result<Option<ScriptLine>, AllocError>
     ensures { IfOk result (λ found. MatchOption found (SaysNothing word.now (Some given.now))
@@ -347,13 +503,28 @@ fn with_given(alloc: Global, word: &str, given: &str) -> Result<Option<ScriptLin
             Some(text) => Ok(Some(ScriptLine::NewText(text))),
             None => Ok(None),
         },
-        _ => match command(word, given) {
+        _ => match text_command(alloc, word, given)? {
             Some(command) => Ok(Some(ScriptLine::Do(command))),
-            None => match setting(word, given) {
-                Some(setting) => Ok(Some(ScriptLine::Set(setting))),
-                None => Ok(None),
-            },
+            None => Ok(without_text(word, given)),
         },
+    }
+}
+
+// The command of a word that no space follows.
+fn lone_command(word: &str) -> Option<Command>
+    ensures { MatchOption result (SaysNoLoneCommand word.now) (λ command. Says word.now None (Do command)) }
+{
+    match word {
+        "yankpop" => Some(Command::YankPop),
+        "killline" => Some(Command::KillLine),
+        "killbuf" => Some(Command::KillBuffer),
+        "discline" => Some(Command::DiscardLine),
+        "discbuf" => Some(Command::DiscardBuffer),
+        "tchars" => Some(Command::TransposeChars),
+        "begin" => Some(Command::Begin),
+        "end" => Some(Command::End),
+        "redo" => Some(Command::Redo),
+        _ => None,
     }
 }
 
@@ -364,8 +535,7 @@ fn alone(alloc: Global, word: &str) -> Option<ScriptLine>
 {
     match word {
         "text" => Some(ScriptLine::NewText(String::new(alloc))),
-        "yankpop" => Some(ScriptLine::Do(Command::YankPop)),
-        _ => None,
+        _ => Some(ScriptLine::Do(lone_command(word)?)),
     }
 }
 
@@ -378,8 +548,8 @@ pub(crate) fn parse(alloc: Global, line: &[u8]) -> Result<Option<ScriptLine>, Al
         Ok(line) => line,
         Err(_) => return Ok(None),
     };
-    match line.split_once(' ') {
-        Some((word, given)) => with_given(alloc, word, given),
-        None => Ok(alone(alloc, line)),
+    match first_word(line) {
+        (word, Some(given)) => with_given(alloc, word, given),
+        (word, None) => Ok(alone(alloc, word)),
     }
 }

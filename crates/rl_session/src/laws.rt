@@ -1,7 +1,7 @@
 //! Laws of scripts, which hold of the definitions alone.
-ghost use Rattle.std.specs.Prelude.{◌≡◌, ℕ, Bool, List};
+ghost use Rattle.std.specs.Prelude.{ℕ, Bool, List};
 ghost use Rattle.std.specs.Str.{IsUtf8};
-ghost use Rattle.rl_session.specs.Grammar.{Meaning, Means, Spells};
+ghost use Rattle.rl_session.specs.Grammar.{Meaning, Means, Same, Spells};
 ghost use Rattle.rl_session.specs.Print.{escaped};
 
 /// What is printed for a text, also for one that a reply hands out, is read as that text again.
@@ -9,7 +9,7 @@ pub fn escapes_are_read()
     ensures { (spaces : Bool) (t : List ℕ) → IsUtf8 t → Spells (escaped spaces t) t }
 {}
 
-/// A line has one meaning at most.
+/// A line has one meaning at most. Of a text that a command holds its bytes count, and not the room that they have.
 pub fn one_meaning()
-    ensures { (line : List ℕ) (m n : Meaning) → Means line m → Means line n → m ≡ n }
+    ensures { (line : List ℕ) (m n : Meaning) → Means line m → Means line n → Same m n }
 {}

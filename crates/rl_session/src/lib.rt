@@ -2,6 +2,7 @@
 #![tactic(auto)]
 
 mod grammar;
+pub mod history;
 pub mod kill_runs;
 pub mod laws;
 pub mod pair;

@@ -1,19 +1,25 @@
 //! A session: a line with its kill ring and the record of its changes, which takes commands one after another.
-ghost use Rattle.std.specs.Prelude.{◌≡◌, ◌++◌, List, ℕ, max, length, true, false, IfOk, IfErr, IsSome};
-ghost use Rattle.std.specs.Option.{option_map};
+ghost use Rattle.std.specs.Prelude.{◌≡◌, ◌++◌, List, ℕ, max, length, false, IfOk, IfErr};
 ghost use Rattle.std.specs.Str.{IsCharBoundary};
-ghost use Rattle.std.specs.String.{string_bytes};
-ghost use Rattle.rl_base.specs.KillRing.{yank, yanked, yank_pop, yank_popped, yank_size};
 ghost use Rattle.rl_session.specs.State.{State, Stands, Opens, Replays};
-ghost use Rattle.rl_session.specs.Commands.{Does, StandsYanked, Step, continues, is_vain_yank, readied, settled};
+ghost use Rattle.rl_session.specs.Commands.{Does, Step};
 ghost use Rattle.rl_session.specs.Run.{Run, AfterEach, held_of};
 ghost use Rattle.rl_session.specs.declared.session.Command.{Command};
 ghost use Rattle.rl_session.specs.declared.session.Reply.{Reply};
 
+mod deletions;
+mod edits;
+mod history;
+mod motions;
+mod yanks;
+
 use crate::pair::Pair;
-use rl_base::{GraphemeClusterMode, KillRing, Layout, Movement, NoListener, RepeatCount};
+use rl_base::{
+    At, CharSearch, GraphemeClusterMode, KillRing, Movement, NoListener, RepeatCount, Word,
+    WordAction,
+};
 use rl_line::{Changeset, LineBuffer};
-use std::alloc::{AllocError, Global};
+use std::alloc::Global;
 use std::marker::Model;
 use thiserror::Error;
 
@@ -26,18 +32,60 @@ pub enum Command {
     Move(Movement),
     /// Inserts a character at the cursor, so many times.
     Insert(char, RepeatCount),
-    /// Deletes so many grapheme clusters from the cursor on.
-    Delete(RepeatCount),
-    /// Deletes so many grapheme clusters before the cursor.
-    Backspace(RepeatCount),
-    /// Kills by a movement. What was killed goes to the ring, but by clusters.
-    Kill(Movement),
+    /// Inserts a text at the cursor, so many times.
+    Paste(String, RepeatCount),
     /// Inserts the ring's current text at the cursor, so many times.
     Yank(RepeatCount),
     /// Puts the ring's text before in the place of the one that was just yanked.
     YankPop,
-    /// Undoes so many changes.
+    /// Puts a text in the place of the line's, with the cursor at a place of it.
+    Update(String, usize),
+    /// Inserts a text at a place, and leaves the cursor at its own.
+    InsertStr(usize, String),
+    /// Puts a text in the place of what stands between two places.
+    Replace(usize, usize, String),
+    /// Deletes what stands between two places.
+    DeleteRange(usize, usize),
+    /// Deletes so many grapheme clusters from the cursor on.
+    Delete(RepeatCount),
+    /// Deletes so many grapheme clusters before the cursor.
+    Backspace(RepeatCount),
+    /// Deletes from the cursor to the end of its line, or the newline there.
+    KillLine,
+    /// Deletes from the cursor to the end of the text.
+    KillBuffer,
+    /// Deletes from the start of the cursor's line to the cursor, or the cluster before it.
+    DiscardLine,
+    /// Deletes from the start of the text to the cursor.
+    DiscardBuffer,
+    /// Deletes so many words before the cursor.
+    DeletePrevWord(Word, RepeatCount),
+    /// Deletes to the start or the end of a word ahead.
+    DeleteWord(At, Word, RepeatCount),
+    /// Deletes to the n-th hit of a search.
+    DeleteTo(CharSearch, RepeatCount),
+    /// Exchanges the clusters at the cursor.
+    TransposeChars,
+    /// Exchanges the word at the cursor with the n-th word before it.
+    TransposeWords(RepeatCount),
+    /// Changes the letter case of the word at the cursor or ahead.
+    EditWord(WordAction),
+    /// Kills by a movement. What was killed goes to the ring, but by clusters.
+    Kill(Movement),
+    /// Copies what a movement covers.
+    Copy(Movement),
+    /// Indents the lines of a movement by so many columns, or dedents them.
+    Indent(Movement, u8, bool),
+    /// Opens a group of changes.
+    Begin,
+    /// Closes all open groups.
+    End,
+    /// Undoes so many units.
     Undo(RepeatCount),
+    /// Does again what was undone last.
+    Redo,
+    /// Forgets all but so many entries of the record.
+    Truncate(usize),
 }
 
 /// Why a command was refused.
@@ -52,6 +100,9 @@ pub enum Fault {
     /// What was yanked does not stand before the cursor.
     #[error("no yanked text before the cursor")]
     BadYankSize = 3,
+    /// The entries to keep do not lead to the present text.
+    #[error("the entries do not lead to the text")]
+    NotReplaying = 4,
 }
 
 /// What a session answers.
@@ -63,8 +114,10 @@ pub enum Reply {
     Answer(bool),
     /// Whether the cursor was at the end, or None where nothing went in.
     Inserted(Option<bool>),
-    /// The text that was deleted, or None where there was none.
+    /// The text that was deleted or copied, or None where there was none.
     Text(Option<String>),
+    /// How many entries the record had.
+    Mark(usize),
     /// It was refused.
     Refused(Fault),
 }
@@ -168,133 +221,6 @@ impl Session {
         let _ = self.pair.ring.yank_size();
     }
 
-    fn set_pos(&mut self, pos: usize) -> Reply
-        ensures { Does self.old (Command.SetPos pos) result self.new }
-    {
-        if self.line.as_str().is_char_boundary(pos) {
-            self.line.set_pos(pos);
-            Reply::Done
-        } else {
-            Reply::Refused(Fault::BadPlace)
-        }
-    }
-
-    fn move_by(&mut self, movement: &Movement) -> Reply
-        ensures { Does self.old (Command.Move movement.now) result self.new }
-    {
-        let layout = Layout::new(self.mode);
-        let line = &mut self.line;
-        Reply::Answer(match movement {
-            Movement::BeginningOfLine => line.move_home(),
-            Movement::EndOfLine => line.move_end(),
-            Movement::BackwardWord(n, word) => line.move_to_prev_word(*word, *n),
-            Movement::ForwardWord(n, at, word) => line.move_to_next_word(*at, *word, *n),
-            Movement::ViCharSearch(n, cs) => line.move_to(*cs, *n),
-            Movement::BackwardChar(n) => line.move_backward(*n),
-            Movement::ForwardChar(n) => line.move_forward(*n),
-            Movement::LineUp(n) => line.move_to_line_up(*n, &layout),
-            Movement::LineDown(n) => line.move_to_line_down(*n, &layout),
-            Movement::BeginningOfBuffer => line.move_buffer_start(),
-            Movement::EndOfBuffer => line.move_buffer_end(),
-            Movement::WholeLine | Movement::ViFirstPrint | Movement::WholeBuffer => false,
-        })
-    }
-
-    fn insert(&mut self, c: char, n: RepeatCount) -> Reply
-        ensures { Does self.old (Command.Insert c n) result self.new }
-    {
-        self.stands();
-        match self.line.insert(c, n, &mut self.pair) {
-            Ok(answer) => Reply::Inserted(answer),
-            Err(_) => Reply::Refused(Fault::NoMemory),
-        }
-    }
-
-    fn delete(&mut self, n: RepeatCount) -> Reply
-        ensures { Does self.old (Command.Delete n) result self.new }
-    {
-        self.stands();
-        match self.line.delete(n, &mut self.pair) {
-            Ok(text) => Reply::Text(text),
-            Err(_) => Reply::Refused(Fault::NoMemory),
-        }
-    }
-
-    fn backspace(&mut self, n: RepeatCount) -> Reply
-        ensures { Does self.old (Command.Backspace n) result self.new }
-    {
-        self.stands();
-        match self.line.backspace(n, &mut self.pair) {
-            Ok(answer) => Reply::Answer(answer),
-            Err(_) => Reply::Refused(Fault::NoMemory),
-        }
-    }
-
-    fn kill(&mut self, movement: &Movement) -> Reply
-        ensures { Does self.old (Command.Kill movement.now) result self.new }
-    {
-        self.stands();
-        match self.line.kill(movement, &mut self.pair) {
-            Ok(answer) => Reply::Answer(answer),
-            Err(_) => Reply::Refused(Fault::NoMemory),
-        }
-    }
-
-    fn yank(&mut self, n: RepeatCount) -> Reply
-        ensures { Does self.old (Command.Yank n) result self.new }
-    {
-        self.stands();
-        let text = match yanked(self.alloc, &mut self.pair.ring) {
-            Ok(Some(text)) => text,
-            Ok(None) => return Reply::Inserted(None),
-            Err(_) => return Reply::Refused(Fault::NoMemory),
-        };
-        match self.line.yank(text.as_str(), n, &mut self.pair) {
-            Ok(answer) => Reply::Inserted(answer),
-            Err(_) => Reply::Refused(Fault::NoMemory),
-        }
-    }
-
-    // Whether the bytes that were yanked last can stand before the cursor.
-    fn stands_yanked(&self) -> bool
-        ensures yes { result ≡ true → StandsYanked (yank_size self.now.pair.ring) self.now.line }
-        ensures no { result ≡ false → ¬ (StandsYanked (yank_size self.now.pair.ring) self.now.line) }
-    {
-        let end = self.line.pos();
-        match self.pair.ring.yank_size() {
-            Some(size) => size <= end && self.line.as_str().is_char_boundary(end - size),
-            None => true,
-        }
-    }
-
-    fn yank_pop(&mut self) -> Reply
-        ensures { Does self.old Command.YankPop result self.new }
-    {
-        if !self.stands_yanked() {
-            return Reply::Refused(Fault::BadYankSize);
-        }
-        self.stands();
-        let (size, text) = match popped(self.alloc, &mut self.pair.ring) {
-            Ok(Some(found)) => found,
-            Ok(None) => return Reply::Inserted(None),
-            Err(_) => return Reply::Refused(Fault::NoMemory),
-        };
-        match self.line.yank_pop(size, text.as_str(), &mut self.pair) {
-            Ok(answer) => Reply::Inserted(answer),
-            Err(_) => Reply::Refused(Fault::NoMemory),
-        }
-    }
-
-    fn undo(&mut self, n: RepeatCount) -> Reply
-        ensures { Does self.old (Command.Undo n) result self.new }
-    {
-        self.stands();
-        match self.pair.changes.undo(&mut self.line, n) {
-            Ok(answer) => Reply::Answer(answer),
-            Err(_) => Reply::Refused(Fault::NoMemory),
-        }
-    }
-
     fn obey(&mut self, command: &Command) -> Reply
         ensures { Does self.old command.now result self.new }
     {
@@ -302,30 +228,33 @@ impl Session {
             Command::SetPos(pos) => self.set_pos(*pos),
             Command::Move(movement) => self.move_by(movement),
             Command::Insert(c, n) => self.insert(*c, *n),
-            Command::Delete(n) => self.delete(*n),
-            Command::Backspace(n) => self.backspace(*n),
-            Command::Kill(movement) => self.kill(movement),
+            Command::Paste(text, n) => self.paste(text, *n),
             Command::Yank(n) => self.yank(*n),
             Command::YankPop => self.yank_pop(),
+            Command::Update(text, pos) => self.update(text, *pos),
+            Command::InsertStr(idx, text) => self.insert_str(*idx, text),
+            Command::Replace(from, to, text) => self.replace(*from, *to, text),
+            Command::DeleteRange(from, to) => self.delete_range(*from, *to),
+            Command::Delete(n) => self.delete(*n),
+            Command::Backspace(n) => self.backspace(*n),
+            Command::KillLine => self.kill_line(),
+            Command::KillBuffer => self.kill_buffer(),
+            Command::DiscardLine => self.discard_line(),
+            Command::DiscardBuffer => self.discard_buffer(),
+            Command::DeletePrevWord(word, n) => self.delete_prev_word(*word, *n),
+            Command::DeleteWord(at, word, n) => self.delete_word(*at, *word, *n),
+            Command::DeleteTo(cs, n) => self.delete_to(*cs, *n),
+            Command::TransposeChars => self.transpose_chars(),
+            Command::TransposeWords(n) => self.transpose_words(*n),
+            Command::EditWord(action) => self.edit_word(*action),
+            Command::Kill(movement) => self.kill(movement),
+            Command::Copy(movement) => self.copy(movement),
+            Command::Indent(movement, amount, dedent) => self.indent(movement, *amount, *dedent),
+            Command::Begin => self.begin(),
+            Command::End => self.end(),
             Command::Undo(n) => self.undo(*n),
-        }
-    }
-
-    // Resets the ring before a command that does not go on from what it did last.
-    fn ready(&mut self, command: &Command)
-        ensures { self.new ≡ readied command.now self.old }
-    {
-        if !continues(command) {
-            self.pair.ring.reset();
-        }
-    }
-
-    // Resets the ring after a yank that put nothing in.
-    fn settle(&mut self, command: &Command, reply: &Reply)
-        ensures { self.new ≡ settled command.now reply.now self.old }
-    {
-        if is_vain_yank(command, reply) {
-            self.pair.ring.reset();
+            Command::Redo => self.redo(),
+            Command::Truncate(len) => self.truncate(*len),
         }
     }
 
@@ -361,47 +290,6 @@ impl Session {
             }
         }
         Ok(replies)
-    }
-}
-
-// Whether the ring is left for a command as it is.
-fn continues(command: &Command) -> bool
-    ensures { result ≡ continues command.now }
-{
-    match command {
-        Command::Kill(Movement::BackwardChar(_) | Movement::ForwardChar(_)) => false,
-        Command::Kill(_) | Command::Yank(_) | Command::YankPop => true,
-        _ => false,
-    }
-}
-
-// Whether a yank put nothing in.
-fn is_vain_yank(command: &Command, reply: &Reply) -> bool
-    ensures { result ≡ is_vain_yank command.now reply.now }
-{
-    matches!(command, Command::Yank(_) | Command::YankPop)
-        && !matches!(reply, Reply::Inserted(Some(_)))
-}
-
-// A copy of the text that the ring yanks.
-fn yanked(alloc: Global, ring: &mut KillRing) -> Result<Option<String>, AllocError>
-    ensures ring { ring.new ≡ yanked ring.old }
-    ensures text { IfOk result (λ text. option_map string_bytes text ≡ yank ring.old) }
-{
-    match ring.yank() {
-        Some(text) => Ok(Some(String::from_str(alloc, text.as_str())?)),
-        None => Ok(None),
-    }
-}
-
-// The length of the text that was yanked, and a copy of the one before it.
-fn popped(alloc: Global, ring: &mut KillRing) -> Result<Option<(usize, String)>, AllocError>
-    ensures ring { ring.new ≡ yank_popped ring.old }
-    ensures text { IfOk result (λ found. option_map (λ p. (p.0, string_bytes p.1)) found ≡ yank_pop ring.old) }
-{
-    match ring.yank_pop() {
-        Some((size, text)) => Ok(Some((size, String::from_str(alloc, text.as_str())?))),
-        None => Ok(None),
     }
 }
 

@@ -3,7 +3,7 @@ use crate::pair::Pair;
 use crate::run_script;
 use crate::script::ScriptFault;
 use crate::session::{Command, Fault, Reply, Session};
-use rl_base::{GraphemeClusterMode, KillRing, Movement};
+use rl_base::{At, CharSearch, GraphemeClusterMode, KillRing, Movement, Word, WordAction};
 use rl_line::{Changeset, LineBuffer};
 use std::alloc::Global;
 use std::io;
@@ -236,78 +236,196 @@ fn movements_move(rt: HostRuntime) -> Result<(), Fail> {
 }
 
 #[test]
-fn malformed_lines_print_bad(rt: HostRuntime) -> Result<(), Fail> {
-    let rows: [(&str, &[u8]); 55] = [
-        ("an empty line", b""),
-        ("two spaces", b"ins  1 a"),
-        ("a space behind", b"undo 1 "),
-        ("a space before", b" undo 1"),
-        ("an unknown word", b"insert 1 a"),
-        ("a word in capitals", b"INS 1 a"),
-        ("a number with a plus", b"ins +1 a"),
-        ("a number with a minus", b"ins -1 a"),
-        ("a number that is none", b"back one"),
-        ("no number", b"back"),
-        ("an empty number", b"back "),
-        ("a count too great", b"ins 65536 a"),
-        ("a count far too great", b"undo 18446744073709551617"),
-        ("a place too great", b"pos 18446744073709551616"),
-        ("no UTF-8", b"text \xff"),
-        ("no UTF-8 behind what fits", b"ins 1 a\xff"),
-        ("no character has that number", b"text \\u{110000}"),
-        ("half a surrogate pair", b"text \\u{D800}"),
-        ("seven digits", b"text \\u{0000041}"),
-        ("no digits", b"text \\u{}"),
-        ("no end of the digits", b"text \\u{41"),
-        ("a lone backslash", b"text \\"),
-        ("an unknown escape", b"text \\q"),
-        ("two characters", b"ins 1 ab"),
-        ("no character", b"ins 1 "),
-        ("no space before the character", b"ins 1"),
-        ("no movement", b"move"),
-        ("an empty movement", b"move "),
-        ("an unknown movement", b"move left 1"),
-        ("a movement without its count", b"move bchar"),
-        ("a space behind a movement", b"move fchar 1 "),
+fn groups_are_undone_and_done_again(rt: HostRuntime) -> Result<(), Fail> {
+    let rows: [(&str, &[u8], &[u8]); 6] = [
         (
-            "something behind a movement that wants nothing",
-            b"move home 1",
+            "a group is undone whole, and done again",
+            b"text\nins 1 a\nbegin\nins 1 b\nins 1 c\nend\nundo 1\nredo\n",
+            b"ok 0 \ntrue 1 a\nmark:1 1 a\ntrue 2 ab\ntrue 3 abc\ntrue 3 abc\ntrue 1 a\ntrue 3 abc\n",
         ),
-        ("a movement in capitals", b"move HOME"),
-        ("a count of lines too great", b"move down 65536"),
-        ("no kind of word", b"move bword 1"),
-        ("an unknown kind of word", b"move bword 1 word"),
-        ("two spaces before the kind of word", b"move bword 1  big"),
-        ("a space behind the kind of word", b"kill bword 1 big "),
-        ("no place at the word", b"move fword 1 big"),
-        ("an unknown place at a word", b"move fword 1 end vi"),
         (
-            "place and kind of word in the wrong order",
-            b"move fword 1 big start",
+            "an undo of a group's beginning closes it",
+            b"text\nins 1 a\nbegin\nins 1 b\nundo 2\nend\n",
+            b"ok 0 \ntrue 1 a\nmark:1 1 a\ntrue 2 ab\ntrue 1 a\nfalse 1 a\n",
         ),
-        ("an unknown kind of search", b"move find 1 x a"),
-        ("no character to find", b"move find 1 f"),
-        ("two characters to find", b"kill find 1 t ab"),
-        ("nothing to kill by", b"kill"),
-        ("no count to yank", b"yank"),
-        ("a count to yank too great", b"yank 65536"),
-        ("something behind a yank-pop", b"yankpop 1"),
-        ("a limit too great", b"limit 18446744073709551616"),
-        ("an empty ring size", b"ring "),
-        ("a ring size below 0", b"ring -1"),
-        ("no mode", b"mode"),
-        ("an unknown mode", b"mode wide"),
-        ("a mode in capitals", b"mode Unicode"),
-        ("no count to delete", b"del"),
+        (
+            "entries are kept only where they lead to the text",
+            b"text a\nbegin\nins 1 b\ntrunc 0\nback 1\ntrunc 0\nend\nundo 1\n",
+            b"ok 1 a\nmark:0 1 a\ntrue 2 ab\nrefused:4 2 ab\ntrue 1 a\nok 1 a\nfalse 1 a\nfalse 1 a\n",
+        ),
+        (
+            "what was undone is lost where entries are kept",
+            b"text\nins 1 a\nins 1 -\nundo 1\ntrunc 1\nredo\n",
+            b"ok 0 \ntrue 1 a\ntrue 2 a-\ntrue 1 a\nok 1 a\nfalse 1 a\n",
+        ),
+        (
+            "and where nothing is put in",
+            b"text\nins 1 a\nundo 1\nins 0 b\nredo\n",
+            b"ok 0 \ntrue 1 a\ntrue 0 \ntrue 0 \nfalse 0 \n",
+        ),
+        (
+            "but not where there is no event",
+            b"text\nins 1 a\nundo 1\npaste 1\nback 0\nmove bob\ncopy buf\nkill first\nredo\n",
+            b"ok 0 \ntrue 1 a\ntrue 0 \nnone 0 \nfalse 0 \nfalse 0 \nnone 0 \nfalse 0 \ntrue 1 a\n",
+        ),
     ];
-    for (what, line) in rows {
+    for (what, script, wanted) in rows {
+        assert_eq!(rt;
+            printed_by(rt.alloc(), script)?.as_slice(),
+            wanted,
+            "{what}"
+        );
+    }
+    Ok(())
+}
+
+#[test]
+fn texts_and_places_are_commanded(rt: HostRuntime) -> Result<(), Fail> {
+    let rows: [(&str, &[u8], &[u8]); 7] = [
+        (
+            "what is copied is handed out as one word, and a range has its ends in order within the text",
+            b"text a\\tb\ncopy line\nrange 2 1\nrange 0 4\nmove line\nrep 0 1\ncopy eob\ncase UP\n\ntext a b\ncopy buf\n",
+            b"ok 3 a\\tb\ntext:a\\tb 3 a\\tb\nrefused:2 3 a\\tb\nrefused:2 3 a\\tb\nfalse 3 a\\tb\nok 0 \\tb\ntext:\\tb 0 \\tb\nbad\nbad\nok 3 a b\ntext:a\\sb 3 a b\n",
+        ),
+        (
+            "a text may be empty, or left out",
+            b"text ab\npaste 1\npaste 1 \nstr 0\nstr 2 \nrep 0 1\nupdate 0\n",
+            b"ok 2 ab\nnone 2 ab\nnone 2 ab\nfalse 2 ab\ntrue 2 ab\nok 0 b\nok 0 \n",
+        ),
+        (
+            "and is read by its escapes",
+            b"text\npaste 2 \\s\\u{E9}\nupdate 1 \\\\ b\n",
+            b"ok 0 \ntrue 6  \xc3\xa9 \xc3\xa9\nok 1 \\\\ b\n",
+        ),
+        (
+            "a movement behind an amount has its own arguments",
+            b"text a\\nb\\nc\npos 0\nindent 1 down 1\ntext \\s\\sa\ndedent 255 buf\n",
+            b"ok 5 a\\nb\\nc\nok 0 a\\nb\\nc\ntrue 1  a\\n b\\nc\nok 3   a\ntrue 1 a\n",
+        ),
+        (
+            "words that can't be exchanged may still move the cursor",
+            b"text \\s/ \xce\xb4elta\npos 8\ntwords 1\n",
+            b"ok 9  / \xce\xb4elta\nok 8  / \xce\xb4elta\nfalse 9  / \xce\xb4elta\n",
+        ),
+        (
+            "up to the first print place, which may be the cursor's",
+            b"text  ab\npos 1\ncopy first\ntext ab\ncopy first\ntext a\ncopy first\n",
+            b"ok 3  ab\nok 1  ab\ntext: 1  ab\nok 2 ab\ntext:b 2 ab\nok 1 a\nnone 1 a\n",
+        ),
+        (
+            "the limit stays raised",
+            b"limit 2\ntext abc\nback 2\nins 2 d\nstr 0 zz\nundo 65535\nins 1 e\n",
+            b"ok 0 \nok 3 abc\ntrue 1 a\ntrue 3 add\nfalse 3 zzadd\ntrue 3 abc\ntrue 4 abce\n",
+        ),
+    ];
+    for (what, script, wanted) in rows {
+        assert_eq!(rt;
+            printed_by(rt.alloc(), script)?.as_slice(),
+            wanted,
+            "{what}"
+        );
+    }
+    Ok(())
+}
+
+#[test]
+fn every_word_does_something(rt: HostRuntime) -> Result<(), Fail> {
+    let rows: [(&str, &[u8], &[u8]); 2] = [
+        (
+            "each word once",
+            b"text ab cd\nins 1 e\nback 1\ntrunc 0\nbegin\npos 0\npaste 1 x y\nend\nundo 1\nredo\nprevword 1 emacs\nnextword 1 after emacs\ncase up\nto 1 F C\nmove bob\nupdate 7 one two\n",
+            b"ok 5 ab cd\ntrue 6 ab cde\ntrue 5 ab cd\nok 5 ab cd\nmark:0 5 ab cd\nok 0 ab cd\nfalse 3 x yab cd\ntrue 3 x yab cd\ntrue 0 ab cd\ntrue 3 x yab cd\ntrue 2 x ab cd\ntrue 2 x  cd\ntrue 5 x  CD\ntrue 3 x  \ntrue 0 x  \nok 7 one two\n",
+        ),
+        (
+            "and the others",
+            b"text one two\ntwords 1\ntchars\nkill bword 1 emacs\nyank 1\nyankpop\ncopy bword 1 emacs\nstr 0 ab\\n\nindent 2 buf\ndedent 1 line\nrep 0 4 cd\\ne\nrange 5 6\ndel 1\npos 3\nkillline\nkillbuf\ndiscline\ndiscbuf\n",
+            b"ok 7 one two\ntrue 7 two one\ntrue 7 two oen\ntrue 4 two \ntrue 7 two oen\ntrue 7 two oen\ntext:oen 7 two oen\nfalse 7 ab\\ntwo oen\ntrue 11   ab\\n  two oen\ntrue 10   ab\\n two oen\nok 4 cd\\ne\\n two oen\nok 5 cd\\ne\\ntwo oen\ntext:t 5 cd\\ne\\nwo oen\nok 3 cd\\ne\\nwo oen\ntrue 3 cd\\n\\nwo oen\ntrue 3 cd\\n\ntrue 2 cd\ntrue 0 \n",
+        ),
+    ];
+    for (what, script, wanted) in rows {
+        assert_eq!(rt;
+            printed_by(rt.alloc(), script)?.as_slice(),
+            wanted,
+            "{what}"
+        );
+    }
+    Ok(())
+}
+
+#[test]
+fn malformed_lines_print_bad(rt: HostRuntime) -> Result<(), Fail> {
+    let rows: [(&str, &[u8]); 15] = [
+        ("an empty line", b""),
+        (
+            "spaces too many or in the wrong place",
+            b"ins  1 a\nundo 1 \n undo 1\nrep 0  1 a\npaste  1 a\nindent 1  line",
+        ),
+        (
+            "unknown words, and words in capitals",
+            b"insert 1 a\nINS 1 a\nmove left 1\nmove HOME\nmode Unicode\ncase UP",
+        ),
+        (
+            "numbers that are none",
+            b"ins +1 a\nins -1 a\nback one\nback\nback \ntrunc -1\nring -1\nring ",
+        ),
+        (
+            "counts, places and amounts that are too great",
+            b"ins 65536 a\nundo 18446744073709551617\npos 18446744073709551616\nmove down 65536\nyank 65536\npaste 65536 a\nindent 256 line\nlimit 18446744073709551616\ntrunc 18446744073709551616",
+        ),
+        ("no UTF-8", b"text \xff\nins 1 a\xff"),
+        (
+            "numbers of no character",
+            b"text \\u{110000}\ntext \\u{D800}\ntext \\u{0000041}\ntext \\u{}\ntext \\u{41",
+        ),
+        (
+            "backslashes that say nothing",
+            b"text \\\ntext \\q\npaste 1 \\\nstr 0 \\q",
+        ),
+        (
+            "not one character",
+            b"ins 1 ab\nins 1 \nins 1\nmove find 1 f\nkill find 1 t ab\nto 1 f\nto 1 f ab",
+        ),
+        (
+            "movements without what they want",
+            b"move\nmove \nmove bchar\nmove bword 1\nmove fword 1 big\nkill\ncopy\ncopy up\nindent 1",
+        ),
+        (
+            "movements with more than they want",
+            b"move fchar 1 \nmove home 1\nkill bword 1 big \ndedent 1 line 2",
+        ),
+        (
+            "kinds of words and of searches that are none",
+            b"move bword 1 word\nmove bword 1  big\nmove fword 1 end vi\nmove fword 1 big start\nmove find 1 x a\nto 1 x a\nprevword big 1\nnextword 1 big",
+        ),
+        (
+            "words without their arguments",
+            b"yank\ndel\npaste\npaste a\nupdate\nstr ab\nrep 0\nrep 0 a\nrange 1\nprevword 1\ntwords\ncase\ntrunc\nlimit\nmode\nindent line",
+        ),
+        (
+            "words with more than they want",
+            b"yankpop 1\nkillline 1\ndiscbuf \nbegin 1\nend \nredo 1\nrange 0 1 2\nrange 0 1 \nnextword 1 after vi ",
+        ),
+        (
+            "arguments of another kind",
+            b"update 18446744073709551616 a\ncase title\nmode wide",
+        ),
+    ];
+    for (what, lines) in rows {
         let mut script = Vec::new(rt.alloc());
+        let mut wanted = Vec::new(rt.alloc());
         script.extend_from_slice(b"text ab\n")?;
-        script.extend_from_slice(line)?;
+        script.extend_from_slice(lines)?;
         script.extend_from_slice(b"\nins 1 c\n")?;
+        wanted.extend_from_slice(b"ok 2 ab\nbad\n")?;
+        for b in lines {
+            if *b == b'\n' {
+                wanted.extend_from_slice(b"bad\n")?;
+            }
+        }
+        wanted.extend_from_slice(b"true 3 abc\n")?;
         assert_eq!(rt;
             printed_by(rt.alloc(), script.as_slice())?.as_slice(),
-            b"ok 2 ab\nbad\ntrue 3 abc\n".as_slice(),
+            wanted.as_slice(),
             "{what}"
         );
     }
@@ -439,6 +557,180 @@ fn sessions_open_and_run(rt: HostRuntime) -> Result<(), Fail> {
     Ok(())
 }
 
+#[test]
+fn every_command_runs(rt: HostRuntime) -> Result<(), Fail> {
+    let alloc = rt.alloc();
+    let commands = [
+        Command::Insert('e', 1),
+        Command::Backspace(1),
+        Command::Truncate(0),
+        Command::Begin,
+        Command::SetPos(0),
+        Command::Paste(String::from_str(alloc, "x y")?, 1),
+        Command::End,
+        Command::Undo(1),
+        Command::Redo,
+        Command::DeletePrevWord(Word::Emacs, 1),
+        Command::DeleteWord(At::AfterEnd, Word::Emacs, 1),
+        Command::EditWord(WordAction::Uppercase),
+        Command::DeleteTo(CharSearch::Backward('C'), 1),
+        Command::Move(Movement::BeginningOfBuffer),
+        Command::Update(String::from_str(alloc, "one two")?, 7),
+        Command::TransposeWords(1),
+        Command::TransposeChars,
+        Command::Kill(Movement::BackwardWord(1, Word::Emacs)),
+        Command::Yank(1),
+        Command::YankPop,
+        Command::Copy(Movement::BackwardWord(1, Word::Emacs)),
+        Command::InsertStr(0, String::from_str(alloc, "ab\n")?),
+        Command::Indent(Movement::WholeBuffer, 2, false),
+        Command::Indent(Movement::WholeLine, 1, true),
+        Command::Replace(0, 4, String::from_str(alloc, "cd\ne")?),
+        Command::DeleteRange(5, 6),
+        Command::Delete(1),
+        Command::SetPos(3),
+        Command::KillLine,
+        Command::KillBuffer,
+        Command::DiscardLine,
+        Command::DiscardBuffer,
+    ];
+    let wanted = [
+        Reply::Inserted(Some(true)),
+        Reply::Answer(true),
+        Reply::Done,
+        Reply::Mark(0),
+        Reply::Done,
+        Reply::Inserted(Some(false)),
+        Reply::Answer(true),
+        Reply::Answer(true),
+        Reply::Answer(true),
+        Reply::Answer(true),
+        Reply::Answer(true),
+        Reply::Answer(true),
+        Reply::Answer(true),
+        Reply::Answer(true),
+        Reply::Done,
+        Reply::Answer(true),
+        Reply::Answer(true),
+        Reply::Answer(true),
+        Reply::Inserted(Some(true)),
+        Reply::Inserted(Some(true)),
+        Reply::Text(Some(String::from_str(alloc, "oen")?)),
+        Reply::Answer(false),
+        Reply::Answer(true),
+        Reply::Answer(true),
+        Reply::Done,
+        Reply::Done,
+        Reply::Text(Some(String::from_str(alloc, "t")?)),
+        Reply::Done,
+        Reply::Answer(true),
+        Reply::Answer(true),
+        Reply::Answer(true),
+        Reply::Answer(true),
+    ];
+    let mut session = Session::new(alloc, "ab cd", 5, 64, 2, GraphemeClusterMode::Unicode)?;
+    let replies = session.run(&commands)?;
+    assert_eq!(rt;
+        replies.as_slice(),
+        wanted.as_slice(),
+        "each command does something or hands something out, and none is refused"
+    );
+    assert_eq!(rt; session.line().as_str(), "", "the text at the end");
+    assert_eq!(rt; session.line().pos(), 0, "the cursor at the end");
+    Ok(())
+}
+
+#[test]
+fn an_insertion_runs_and_is_undone(rt: HostRuntime) -> Result<(), Fail> {
+    let alloc = rt.alloc();
+    let commands = [
+        Command::SetPos(1),
+        Command::Insert('c', 1),
+        Command::Undo(1),
+    ];
+    let wanted = [
+        Reply::Done,
+        Reply::Inserted(Some(false)),
+        Reply::Answer(true),
+    ];
+    let mut session = Session::new(alloc, "ab", 2, 64, 2, GraphemeClusterMode::Unicode)?;
+    let replies = session.run(&commands)?;
+    assert_eq!(rt; replies.as_slice(), wanted.as_slice(), "one reply for each");
+    assert_eq!(rt; session.line().as_str(), "ab", "the text at the end");
+    assert_eq!(rt; session.line().pos(), 1, "the cursor at the end");
+    Ok(())
+}
+
+#[test]
+fn a_group_runs_and_is_undone_with_its_beginning(rt: HostRuntime) -> Result<(), Fail> {
+    let alloc = rt.alloc();
+    let commands = [
+        Command::Insert('a', 1),
+        Command::Begin,
+        Command::Insert('b', 1),
+        Command::Undo(2),
+        Command::End,
+    ];
+    let wanted = [
+        Reply::Inserted(Some(true)),
+        Reply::Mark(1),
+        Reply::Inserted(Some(true)),
+        Reply::Answer(true),
+        Reply::Answer(false),
+    ];
+    let mut session = Session::new(alloc, "", 0, 64, 2, GraphemeClusterMode::Unicode)?;
+    let replies = session.run(&commands)?;
+    assert_eq!(rt;
+        replies.as_slice(),
+        wanted.as_slice(),
+        "the group was open until the undo"
+    );
+    assert_eq!(rt; session.line().as_str(), "a", "the text at the end");
+    assert_eq!(rt; session.line().pos(), 1, "the cursor at the end");
+    assert_eq!(rt; session.record().level(), 0, "no group is open");
+    Ok(())
+}
+
+#[test]
+fn kills_run_and_come_back(rt: HostRuntime) -> Result<(), Fail> {
+    let alloc = rt.alloc();
+    let commands = [
+        Command::SetPos(4),
+        Command::Kill(Movement::ForwardWord(1, At::AfterEnd, Word::Emacs)),
+        Command::Kill(Movement::BeginningOfLine),
+        Command::Kill(Movement::EndOfLine),
+        Command::Yank(1),
+    ];
+    let wanted = [
+        Reply::Done,
+        Reply::Answer(true),
+        Reply::Answer(true),
+        Reply::Answer(true),
+        Reply::Inserted(Some(true)),
+    ];
+    let mut session = Session::new(
+        alloc,
+        "one two three",
+        13,
+        64,
+        2,
+        GraphemeClusterMode::Unicode,
+    )?;
+    let replies = session.run(&commands)?;
+    assert_eq!(rt;
+        replies.as_slice(),
+        wanted.as_slice(),
+        "three kills and a yank"
+    );
+    assert_eq!(rt;
+        session.line().as_str(),
+        "one two three",
+        "the text at the end"
+    );
+    assert_eq!(rt; session.line().pos(), 13, "the cursor at the end");
+    Ok(())
+}
+
 // A reader and a writer that fail at once.
 #[derive(Drop)]
 struct Broken;
@@ -468,17 +760,18 @@ fn broken_ends_are_told_apart(rt: HostRuntime) -> Result<(), Fail> {
     let written = run_script(rt.alloc(), &mut script, &mut Broken);
     assert_eq!(rt; written, Err(ScriptFault::Write), "a write that fails");
     let said = format!(in rt.alloc();
-        "{}, {}, {}, {}, {}, {}",
+        "{}, {}, {}, {}, {}, {}, {}",
         ScriptFault::Read,
         ScriptFault::Write,
         ScriptFault::NoMemory,
         Fault::NoMemory,
         Fault::BadPlace,
-        Fault::BadYankSize
+        Fault::BadYankSize,
+        Fault::NotReplaying
     )?;
     assert_eq!(rt;
         said.as_str(),
-        "read failed, write failed, no memory, out of memory, no such place in the text, no yanked text before the cursor"
+        "read failed, write failed, no memory, out of memory, no such place in the text, no yanked text before the cursor, the entries do not lead to the text"
     );
     Ok(())
 }

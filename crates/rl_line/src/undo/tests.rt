@@ -200,6 +200,50 @@ fn groups_nest(rt: HostRuntime) -> Result<(), Fail> {
 }
 
 #[test]
+fn every_call_keeps_count_of_the_open_groups(rt: HostRuntime) -> Result<(), Fail> {
+    // two nested groups: both are open again where their ends are cut off, and are cut off themselves then
+    goes(
+        &rt,
+        rt.alloc(),
+        "",
+        &[
+            (Call::Begin, 0, "", 1, 1),
+            (Call::Yank("a"), 1, "a", 2, 1),
+            (Call::Begin, 2, "a", 3, 2),
+            (Call::Yank("b"), 1, "ab", 4, 2),
+            (Call::End, 1, "ab", 6, 0),
+            (Call::Truncate(4), 1, "ab", 4, 2),
+            (Call::End, 1, "ab", 6, 0),
+            (Call::Begin, 6, "ab", 7, 1),
+            (Call::Truncate(9), 1, "ab", 7, 1),
+            (Call::Truncate(5), 1, "ab", 5, 1),
+            (Call::Truncate(3), 1, "ab", 3, 2),
+            (Call::Truncate(1), 1, "ab", 1, 1),
+            (Call::End, 0, "ab", 0, 0),
+        ],
+    )?;
+    // begins that are undone behind an open one, and redone
+    goes(
+        &rt,
+        rt.alloc(),
+        "",
+        &[
+            (Call::Begin, 0, "", 1, 1),
+            (Call::Yank("a"), 1, "a", 2, 1),
+            (Call::Begin, 2, "a", 3, 2),
+            (Call::Begin, 3, "a", 4, 3),
+            (Call::Yank("b"), 1, "ab", 5, 3),
+            (Call::Undo(2), 1, "a", 3, 2),
+            (Call::Undo(1), 0, "a", 2, 1),
+            (Call::Redo, 1, "ab", 5, 3),
+            (Call::End, 1, "ab", 8, 0),
+            (Call::Undo(1), 1, "", 0, 0),
+            (Call::Redo, 1, "ab", 8, 0),
+        ],
+    )
+}
+
+#[test]
 fn a_truncated_record_forgets_the_open_group(rt: HostRuntime) -> Result<(), Fail> {
     goes(
         &rt,

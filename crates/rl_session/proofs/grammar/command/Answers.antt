@@ -1,24 +1,131 @@
-use Rattle.std.proofs.Common.{sym}
-use Rattle.rl_session.specs.Grammar.{pos, move, del, back, kill, yank, undo}
+use Rattle.std.proofs.Common.{◌≡◌, ℕ, false, List, Some, refl, sym}
+use Rattle.rl_session.specs.Grammar.{Says, Do, pos, move, ins, paste, yank, update, str, rep, range, del, back, prevword, nextword, to, twords, cased, kill, copy, indent, dedent, undo, trunc}
+use Rattle.rl_session.proofs.WordLemmas.{no-pos, no-move, no-yank, no-del, no-back, no-prevword, no-nextword, no-to, no-twords, no-case, no-kill, no-copy, no-indent, no-dedent, no-undo, no-trunc}
+use Rattle.rl_session.specs.Reads.{holds_text}
+use Rattle.rl_session.specs.declared.session.Command.{Command}
 use Rattle.rl_session.proofs.grammar.command.Goals as goal
+use Rattle.rl_session.proofs.grammar.command.Goals.{In_default}
+
+pub returns-in_err-number-in-pos : goal.returns-in_err-number-in-pos
+returns-in_err-number-in-pos c = rw (c.in-pos.is, c.from_residual.ensures) (no-pos c.args.given.now c.in_err-number-in-pos.ensures.value)
 
 pub returns-in_ok-number-in-pos : goal.returns-in_ok-number-in-pos
 returns-in_ok-number-in-pos c = rw c.in-pos.is (pos (sym c.in_ok-number-in-pos.ensures.value))
 
+pub returns-in_err-movement-in-move : goal.returns-in_err-movement-in-move
+returns-in_err-movement-in-move c = rw (c.in-move.is, c.from_residual-in_err-movement-in-move.ensures) (no-move c.args.given.now c.in_err-movement-in-move.ensures)
+
 pub returns-in_ok-movement-in-move : goal.returns-in_ok-movement-in-move
 returns-in_ok-movement-in-move c = rw c.in-move.is (move c.in_ok-movement-in-move.ensures)
 
-pub returns-in_ok-count-in-del : goal.returns-in_ok-count-in-del
-returns-in_ok-count-in-del c = rw c.in-del.is (del (sym c.in_ok-count-in-del.ensures))
-
-pub returns-in_ok-count-in-back : goal.returns-in_ok-count-in-back
-returns-in_ok-count-in-back c = rw c.in-back.is (back (sym c.in_ok-count-in-back.ensures))
-
-pub returns-in_ok-movement-in-kill : goal.returns-in_ok-movement-in-kill
-returns-in_ok-movement-in-kill c = rw c.in-kill.is (kill c.in_ok-movement-in-kill.ensures)
+pub returns-in_err-count-in-yank : goal.returns-in_err-count-in-yank
+returns-in_err-count-in-yank c = rw (c.in-yank.is, c.from_residual-in_err-count-in-yank.ensures) (no-yank c.args.given.now c.in_err-count-in-yank.ensures)
 
 pub returns-in_ok-count-in-yank : goal.returns-in_ok-count-in-yank
 returns-in_ok-count-in-yank c = rw c.in-yank.is (yank (sym c.in_ok-count-in-yank.ensures))
 
+pub returns-in_err-count-in-del : goal.returns-in_err-count-in-del
+returns-in_err-count-in-del c = rw (c.in-del.is, c.from_residual-in_err-count-in-del.ensures) (no-del c.args.given.now c.in_err-count-in-del.ensures)
+
+pub returns-in_ok-count-in-del : goal.returns-in_ok-count-in-del
+returns-in_ok-count-in-del c = rw c.in-del.is (del (sym c.in_ok-count-in-del.ensures))
+
+pub returns-in_err-count-in-back : goal.returns-in_err-count-in-back
+returns-in_err-count-in-back c = rw (c.in-back.is, c.from_residual-in_err-count-in-back.ensures) (no-back c.args.given.now c.in_err-count-in-back.ensures)
+
+pub returns-in_ok-count-in-back : goal.returns-in_ok-count-in-back
+returns-in_ok-count-in-back c = rw c.in-back.is (back (sym c.in_ok-count-in-back.ensures))
+
+pub returns-in_err-n-in-prevword : goal.returns-in_err-n-in-prevword
+returns-in_err-n-in-prevword c = rw (c.in-prevword.is, c.from_residual-in_err-n-in-prevword.ensures) (no-prevword c.args.given.now c.in_err-n-in-prevword.ensures)
+
+pub returns-in_ok-n-in-prevword : goal.returns-in_ok-n-in-prevword
+returns-in_ok-n-in-prevword c = rw c.in-prevword.is (prevword c.in_ok-n-in-prevword.ensures)
+
+pub returns-in_err-n-in-nextword : goal.returns-in_err-n-in-nextword
+returns-in_err-n-in-nextword c = rw (c.in-nextword.is, c.from_residual-in_err-n-in-nextword.ensures) (no-nextword c.args.given.now c.in_err-n-in-nextword.ensures)
+
+pub returns-in_ok-n-in-nextword : goal.returns-in_ok-n-in-nextword
+returns-in_ok-n-in-nextword c = rw c.in-nextword.is (nextword c.in_ok-n-in-nextword.ensures)
+
+pub returns-in_err-n-in-to : goal.returns-in_err-n-in-to
+returns-in_err-n-in-to c = rw (c.in-to.is, c.from_residual-in_err-n-in-to.ensures) (no-to c.args.given.now c.in_err-n-in-to.ensures)
+
+pub returns-in_ok-n-in-to : goal.returns-in_ok-n-in-to
+returns-in_ok-n-in-to c = rw c.in-to.is (to c.in_ok-n-in-to.ensures)
+
+pub returns-in_err-count-in-twords : goal.returns-in_err-count-in-twords
+returns-in_err-count-in-twords c = rw (c.in-twords.is, c.from_residual-in_err-count-in-twords.ensures) (no-twords c.args.given.now c.in_err-count-in-twords.ensures)
+
+pub returns-in_ok-count-in-twords : goal.returns-in_ok-count-in-twords
+returns-in_ok-count-in-twords c = rw c.in-twords.is (twords (sym c.in_ok-count-in-twords.ensures))
+
+pub returns-in_err-named_action-in-case : goal.returns-in_err-named_action-in-case
+returns-in_err-named_action-in-case c = rw (c.in-case.is, c.from_residual-in_err-named_action-in-case.ensures) (no-case c.args.given.now c.in_err-named_action-in-case.ensures)
+
+pub returns-in_ok-named_action-in-case : goal.returns-in_ok-named_action-in-case
+returns-in_ok-named_action-in-case c = rw c.in-case.is (cased c.in_ok-named_action-in-case.ensures)
+
+pub returns-in_err-movement-in-kill : goal.returns-in_err-movement-in-kill
+returns-in_err-movement-in-kill c = rw (c.in-kill.is, c.from_residual-in_err-movement-in-kill.ensures) (no-kill c.args.given.now c.in_err-movement-in-kill.ensures)
+
+pub returns-in_ok-movement-in-kill : goal.returns-in_ok-movement-in-kill
+returns-in_ok-movement-in-kill c = rw c.in-kill.is (kill c.in_ok-movement-in-kill.ensures)
+
+pub returns-in_err-movement-in-copy : goal.returns-in_err-movement-in-copy
+returns-in_err-movement-in-copy c = rw (c.in-copy.is, c.from_residual-in_err-movement-in-copy.ensures) (no-copy c.args.given.now c.in_err-movement-in-copy.ensures)
+
+pub returns-in_ok-movement-in-copy : goal.returns-in_ok-movement-in-copy
+returns-in_ok-movement-in-copy c = rw c.in-copy.is (copy c.in_ok-movement-in-copy.ensures)
+
+pub returns-in_err-amount-in-indent : goal.returns-in_err-amount-in-indent
+returns-in_err-amount-in-indent c = rw (c.in-indent.is, c.from_residual-in_err-amount-in-indent.ensures) (no-indent c.args.given.now c.in_err-amount-in-indent.ensures)
+
+pub returns-in_ok-amount-in-indent : goal.returns-in_ok-amount-in-indent
+returns-in_ok-amount-in-indent c = rw c.in-indent.is (indent c.in_ok-amount-in-indent.ensures)
+
+pub returns-in_err-amount-in-dedent : goal.returns-in_err-amount-in-dedent
+returns-in_err-amount-in-dedent c = rw (c.in-dedent.is, c.from_residual-in_err-amount-in-dedent.ensures) (no-dedent c.args.given.now c.in_err-amount-in-dedent.ensures)
+
+pub returns-in_ok-amount-in-dedent : goal.returns-in_ok-amount-in-dedent
+returns-in_ok-amount-in-dedent c = rw c.in-dedent.is (dedent c.in_ok-amount-in-dedent.ensures)
+
+pub returns-in_err-count-in-undo : goal.returns-in_err-count-in-undo
+returns-in_err-count-in-undo c = rw (c.in-undo.is, c.from_residual-in_err-count-in-undo.ensures) (no-undo c.args.given.now c.in_err-count-in-undo.ensures)
+
 pub returns-in_ok-count-in-undo : goal.returns-in_ok-count-in-undo
 returns-in_ok-count-in-undo c = rw c.in-undo.is (undo (sym c.in_ok-count-in-undo.ensures))
+
+pub returns-in_err-number-in-trunc : goal.returns-in_err-number-in-trunc
+returns-in_err-number-in-trunc c = rw (c.in-trunc.is, c.from_residual-in_err-number-in-trunc.ensures) (no-trunc c.args.given.now c.in_err-number-in-trunc.ensures.value)
+
+pub returns-in_ok-number-in-trunc : goal.returns-in_ok-number-in-trunc
+returns-in_ok-number-in-trunc c = rw c.in-trunc.is (trunc (sym c.in_ok-number-in-trunc.ensures.value))
+
+-- none of these words stands there
+others : (c : In_default) (w given : List ℕ) (command : Command) → c.args.word.now ≡ w → holds_text command ≡ false → Says w (Some given) (Do command) → ⊥
+others c w given command e even (ins p s) = c.in_default.not-ins e
+others c w given command e even (range p s) = c.in_default.not-range e
+others c w given command e even (pos p) = c.in_default.not-pos e
+others c w given command e even (move p) = c.in_default.not-move e
+others c w given command e even (yank p) = c.in_default.not-yank e
+others c w given command e even (del p) = c.in_default.not-del e
+others c w given command e even (back p) = c.in_default.not-back e
+others c w given command e even (prevword p) = c.in_default.not-prevword e
+others c w given command e even (nextword p) = c.in_default.not-nextword e
+others c w given command e even (to p) = c.in_default.not-to e
+others c w given command e even (twords p) = c.in_default.not-twords e
+others c w given command e even (cased p) = c.in_default.not-case e
+others c w given command e even (kill p) = c.in_default.not-kill e
+others c w given command e even (copy p) = c.in_default.not-copy e
+others c w given command e even (indent p) = c.in_default.not-indent e
+others c w given command e even (dedent p) = c.in_default.not-dedent e
+others c w given command e even (undo p) = c.in_default.not-undo e
+others c w given command e even (trunc p) = c.in_default.not-trunc e
+others c w given command e even (paste p) = absurd cc
+others c w given command e even (update p) = absurd cc
+others c w given command e even (str p) = absurd cc
+others c w given command e even (rep p) = absurd cc
+
+pub returns-in_default : goal.returns-in_default
+returns-in_default c = λ command even said. others c c.args.word.now c.args.given.now command refl even said

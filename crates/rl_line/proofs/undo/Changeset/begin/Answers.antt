@@ -1,12 +1,16 @@
-use Rattle.std.proofs.Common.{sym, subst, ◌++◌, [], ◌∷◌}
-use Rattle.rl_line.specs.Record.{Begin}
-use Rattle.rl_line.specs.Units.{BothMatched}
-use Rattle.rl_line.proofs.MatchLemmas.{BothMatched-begun}
+use Rattle.std.proofs.Common.{arith, sym, subst, ◌+◌, ◌++◌, [], ◌∷◌, map}
+use Rattle.std.proofs.lemmas.List.{length-map}
+use Rattle.rl_line.specs.Record.{Begin, entry_of}
+use Rattle.rl_line.specs.Units.{AtLevel}
+use Rattle.rl_line.proofs.LevelLemmas.{AtLevel-begun, level-within}
 use Rattle.rl_line.proofs.MoveLemmas.{dropped-view}
 use Rattle.rl_line.proofs.undo.Changeset.begin.Goals as goal
 
+pub overflow_add-self : goal.overflow_add-self
+overflow_add-self c = omega (arith, level-within (map entry_of c.self.inside.recorded.items) c.self.invariant.matched.recorded, c.self.invariant.level, length-map c.self.inside.recorded.items entry_of, c.self.inside.recorded.ok.0)
+
 pub invariant_of-self-2 : goal.invariant_of-self-2
 invariant_of-self-2 c =
-    let h = subst BothMatched c.self.view_is c.self.invariant in
-    subst BothMatched (sym (dropped-view (λ es. es ++ Begin ∷ []) c.args.self.now c.self.inside.recorded.items c.self.inside.pending.items _ _ c.self.view_is c.in_ok-add.ensures.ok c.clear.ensures.items))
-    (BothMatched-begun c.args.self.now h)
+    let h = subst (AtLevel c.self.inside.level) c.self.view_is c.self.invariant in
+    subst (AtLevel (c.self.inside.level + 1)) (sym (dropped-view (λ es. es ++ Begin ∷ []) c.args.self.now c.self.inside.recorded.items c.self.inside.pending.items _ _ c.self.view_is c.in_ok-add.ensures.ok c.clear.ensures.items))
+    (AtLevel-begun c.self.inside.level c.args.self.now h)

@@ -1,18 +1,20 @@
-use Rattle.std.proofs.Common.{◌≡◌, [], ap, length, map, refl, reverse, subst, sym, ◌∙◌}
+use Rattle.std.proofs.Common.{◌≡◌, ◌+◌, ◌-◌, [], ap, arith, drop, length, map, refl, reverse, subst, sym, take, ◌∙◌}
+use Rattle.std.proofs.lemmas.List.{length-map}
 use Rattle.std.specs.Prelude.{IsSome}
 use Rattle.rl_line.specs.Record.{Record, entry_of, replay_entries}
 use Rattle.rl_line.specs.Undo.{line_ahead}
-use Rattle.rl_line.specs.Units.{BothMatched, has_change, redo_of, redone}
-use Rattle.rl_line.proofs.MatchLemmas.{BothMatched-redone}
-use Rattle.rl_line.proofs.MoveLemmas.{redo-change, redo-count, redo-fits, redo-line, redone-view, view}
+use Rattle.rl_line.specs.Units.{AtLevel, BothMatched, IsMatched, has_change, level, redo_of, redone}
+use Rattle.rl_line.proofs.LevelLemmas.{AtLevel-redone, level-within}
+use Rattle.rl_line.proofs.MatchLemmas.{Redoes-of}
+use Rattle.rl_line.proofs.MoveLemmas.{redo-change, redo-count, redo-fits, redo-line, redo-slice, redone-view, view}
 use Rattle.rl_line.proofs.undo.Changeset.redo.Goals as goal
-use Rattle.rl_line.proofs.undo.Changeset.redo.Goals.{After-next_len-count, In_ok-changed}
+use Rattle.rl_line.proofs.undo.Changeset.redo.Goals.{After-level, After-deref-2, After-next_len-count, In_ok-changed}
 
 count : (c : After-next_len-count) → c.next_len-count.result ≡ length (redo_of (reverse (map entry_of c.self.inside.pending.items)))
 count c = c.next_len-count.ensures ∙ ap (λ xs. length (redo_of (reverse (map entry_of xs)))) c.deref.ensures.value
 
 waiting : (c : After-next_len-count) → BothMatched (view [] c.self.inside.pending.items)
-waiting c = record { recorded = refl; pending = c.self.invariant.pending }
+waiting c = record { recorded = refl; pending = c.self.invariant.matched.pending }
 
 pub carry_over-requires-clause-count : goal.carry_over-requires-clause-count
 carry_over-requires-clause-count c =
@@ -31,10 +33,30 @@ moved c =
     redone-view _ c.args.self.now c.self.inside.recorded.items c.self.inside.pending.items _ _ c.self.view_is (waiting d) (count d)
     c.in_ok-changed.ensures.from c.in_ok-changed.ensures.to
 
+slice : (c : After-deref-2) → map entry_of (take (length c.deref-2.result.now - c.len-len.result) (drop c.len-len.result c.deref-2.result.now)) ≡ redo_of (reverse (map entry_of c.self.inside.pending.items))
+slice c =
+    let d = (goal.at.After-deref-2 c).After-next_len-count in
+    redo-slice c.next_len-count.result c.len-len.result c.self.inside.recorded.items c.self.inside.pending.items c.carry_over.new.to.items c.deref-2.result.now (waiting d) (count d)
+    (c.len-len.ensures ∙ c.self.inside.recorded.ok.0) c.in_ok-changed.ensures.to c.deref-2.ensures.value
+
+pub level-requires : goal.level-requires
+level-requires c = subst IsMatched (sym (slice (goal.at.level-requires c).After-deref-2)) (Redoes-of (reverse (map entry_of c.self.inside.pending.items)) c.self.invariant.matched.pending).unit_matched
+
+stands : (c : After-level) → AtLevel (c.self.inside.level + c.level.result) (record { recorded = map entry_of c.carry_over.new.to.items; pending = reverse (map entry_of c.carry_over.new.from.items) })
+stands c =
+    let opened : c.level.result ≡ level (redo_of c.args.self.now.pending) =
+    c.level.ensures ∙ ap level (slice (goal.at.After-level c).After-deref-2) ∙ ap (λ (r : Record). level (redo_of r.pending)) c.self.view_is in
+    subst (AtLevel (c.self.inside.level + c.level.result)) (sym (moved (goal.at.After-level c).In_ok-changed))
+    (AtLevel-redone c.self.inside.level c.level.result c.args.self.now opened (subst (AtLevel c.self.inside.level) c.self.view_is c.self.invariant))
+
+pub overflow_add-self : goal.overflow_add-self
+overflow_add-self c =
+    let now = stands c in
+    let entries = c.carry_over.new.to.items in
+    omega (arith, now.level, level-within (map entry_of entries) now.matched.recorded, length-map entries entry_of, c.carry_over.new.to.ok.0)
+
 pub invariant_of-self-2 : goal.invariant_of-self-2
-invariant_of-self-2 c =
-    subst BothMatched (sym (moved (goal.at.invariant_of-self-2 c).In_ok-changed))
-    (BothMatched-redone c.args.self.now (subst BothMatched c.self.view_is c.self.invariant))
+invariant_of-self-2 c = stands (goal.at.invariant_of-self-2 c).After-level
 
 pub returns-clause-done : goal.returns-clause-done
 returns-clause-done c =

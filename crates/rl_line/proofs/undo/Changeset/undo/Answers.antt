@@ -1,15 +1,37 @@
-use Rattle.std.proofs.Common.{◌≡◌, ap, length, map, reverse, subst, sym, ◌∙◌}
+use Rattle.std.proofs.Common.{◌≡◌, ◌-◌, ap, arith, drop, length, map, reverse, subst, sym, take, ◌∙◌}
 use Rattle.std.specs.Prelude.{IsSome}
 use Rattle.rl_line.specs.Record.{Record, entry_of, unwind}
 use Rattle.rl_line.specs.Undo.{line_back}
-use Rattle.rl_line.specs.Units.{BothMatched, has_change, last_of, undone}
-use Rattle.rl_line.proofs.MatchLemmas.{BothMatched-undone}
-use Rattle.rl_line.proofs.MoveLemmas.{undo-count, undo-fits, undo-part, undone-view}
+use Rattle.rl_line.specs.Units.{AtLevel, IsMatched, has_change, last_of, level, undone}
+use Rattle.rl_line.proofs.LevelLemmas.{AtLevel-undone, IsMatched-last, undone-within}
+use Rattle.rl_line.proofs.MoveLemmas.{undo-count, undo-fits, undo-part, undo-slice, undone-view}
 use Rattle.rl_line.proofs.undo.Changeset.undo.Goals as goal
-use Rattle.rl_line.proofs.undo.Changeset.undo.Goals.{After-last_len-count, In_ok-changed}
+use Rattle.rl_line.proofs.undo.Changeset.undo.Goals.{After-last_len-count, After-len, In_ok-changed}
 
 count : (c : After-last_len-count) → c.last_len-count.result ≡ length (last_of c.args.n (map entry_of c.self.inside.recorded.items))
 count c = c.last_len-count.ensures ∙ ap (λ xs. length (last_of c.args.n (map entry_of xs))) c.deref.ensures.value
+
+slice : (c : After-len) → map entry_of (take (length c.deref-2.result.now - (c.len.result - c.last_len-count.result)) (drop (c.len.result - c.last_len-count.result) c.deref-2.result.now))
+    ≡ last_of c.args.n (map entry_of c.self.inside.recorded.items)
+slice c =
+    undo-slice c.args.n c.last_len-count.result c.len.result c.self.inside.recorded.items c.deref-2.result.now (count (goal.at.After-len c).After-last_len-count)
+    (c.len.ensures ∙ c.self.inside.recorded.ok.0) c.deref-2.ensures.value
+
+opened : (c : In_ok-changed) → c.level-opened.result ≡ level (last_of c.args.n c.args.self.now.recorded)
+opened c = c.level-opened.ensures ∙ ap level (slice (goal.at.In_ok-changed c).After-len) ∙ ap (λ (r : Record). level (last_of c.args.n r.recorded)) c.self.view_is
+
+stood : (c : In_ok-changed) → AtLevel c.self.inside.level c.args.self.now
+stood c = subst (AtLevel c.self.inside.level) c.self.view_is c.self.invariant
+
+pub overflow_sub-len : goal.overflow_sub-len
+overflow_sub-len c =
+    omega (arith, c.len.ensures, c.self.inside.recorded.ok.0, undo-count c.args.n _ c.self.inside.recorded.items (count (goal.at.overflow_sub-len c).After-last_len-count))
+
+pub level-opened-requires : goal.level-opened-requires
+level-opened-requires c = subst IsMatched (sym (slice (goal.at.level-opened-requires c).After-len)) (IsMatched-last c.args.n (map entry_of c.self.inside.recorded.items) c.self.invariant.matched.recorded)
+
+pub overflow_sub-self : goal.overflow_sub-self
+overflow_sub-self c = undone-within c.args.n c.self.inside.level c.level-opened.result c.args.self.now (opened c) (stood c)
 
 pub carry_over-requires-clause-count : goal.carry_over-requires-clause-count
 carry_over-requires-clause-count c = undo-count c.args.n _ c.self.inside.recorded.items (count (goal.at.carry_over-requires-clause-count c).After-last_len-count)
@@ -26,8 +48,9 @@ moved c =
 
 pub invariant_of-self-2 : goal.invariant_of-self-2
 invariant_of-self-2 c =
-    subst BothMatched (sym (moved (goal.at.invariant_of-self-2 c).In_ok-changed))
-    (BothMatched-undone c.args.n c.args.self.now (subst BothMatched c.self.view_is c.self.invariant))
+    let d = (goal.at.invariant_of-self-2 c).In_ok-changed in
+    subst (AtLevel (c.self.inside.level - c.level-opened.result)) (sym (moved d))
+    (AtLevel-undone c.args.n c.self.inside.level c.level-opened.result c.args.self.now (opened d) (stood d))
 
 pub returns-clause-done : goal.returns-clause-done
 returns-clause-done c =

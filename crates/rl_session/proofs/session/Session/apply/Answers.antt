@@ -1,4 +1,4 @@
-use Rattle.rl_session.proofs.SessionLemmas.{step_replays}
+use Rattle.rl_session.proofs.RowLemmas.{step_replays}
 use Rattle.rl_session.proofs.session.Session.apply.Goals as goal
 
 pub returns-clause-step : goal.returns-clause-step

@@ -1,6 +1,6 @@
-use Rattle.rl_session.proofs.SessionLemmas.{Kept-edit, Follows-Kept}
+use Rattle.rl_session.proofs.SessionLemmas.{Follows-edit}
 use Rattle.rl_session.proofs.session.Session.insert.Goals as goal
 
 pub invariant_of-self : goal.invariant_of-self
 invariant_of-self c =
-    Follows-Kept _ _ _ _ (Kept-edit _ (λ a. a) c.self.inside.pair c.insert.new.listener c.self.inside.line c.insert.new.self c.insert.result (rw (← c.self.view_is) at c.stands.ensures.utf8) c.insert.ensures.done c.insert.ensures.halted) c.self.invariant
+    Follows-edit _ (λ a. a) c.self.inside.pair c.insert.new.listener c.self.inside.line c.insert.new.self c.insert.result (rw (← c.self.view_is) at c.stands.ensures.utf8) c.insert.ensures.done c.insert.ensures.halted c.self.invariant

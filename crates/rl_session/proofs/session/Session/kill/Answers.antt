@@ -1,12 +1,12 @@
 use Rattle.std.proofs.Common.{refl}
 use Rattle.rl_session.proofs.PairLemmas.{Told-pair}
-use Rattle.rl_session.proofs.SessionLemmas.{Kept-kill, Follows-Kept}
+use Rattle.rl_session.proofs.SessionLemmas.{Follows-kill}
 use Rattle.rl_session.proofs.session.Session.kill.Goals.{in-Ok, in-Err}
 use Rattle.rl_session.proofs.session.Session.kill.Goals as goal
 
 pub invariant_of-self : goal.invariant_of-self
 invariant_of-self c =
-    Follows-Kept _ _ _ _ (Kept-kill _ _ c.self.inside.pair c.kill.new.listener c.self.inside.line c.kill.new.self c.kill.result (rw (← c.self.view_is) at c.stands.ensures.utf8) c.kill.ensures.done c.kill.ensures.halted) c.self.invariant
+    Follows-kill _ _ c.self.inside.pair c.kill.new.listener c.self.inside.line c.kill.new.self c.kill.result (rw (← c.self.view_is) at c.stands.ensures.utf8) c.kill.ensures.done c.kill.ensures.halted c.self.invariant
 
 pub returns : goal.returns
 returns c = elim c.match-kill.branch [

@@ -1,6 +1,6 @@
-use Rattle.rl_session.proofs.SessionLemmas.{Kept-undo, Follows-Kept}
+use Rattle.rl_session.proofs.SessionLemmas.{Follows-undo}
 use Rattle.rl_session.proofs.session.Session.undo.Goals as goal
 
 pub invariant_of-self : goal.invariant_of-self
 invariant_of-self c =
-    Follows-Kept _ _ _ _ (Kept-undo _ _ _ _ _ c.undo.result (rw (← c.self.view_is) at c.stands.ensures.utf8) c.self.invariant c.undo.ensures.done c.undo.ensures.err) c.self.invariant
+    Follows-undo _ _ _ _ _ c.undo.result (rw (← c.self.view_is) at c.stands.ensures.utf8) c.undo.ensures.done c.undo.ensures.err c.self.invariant

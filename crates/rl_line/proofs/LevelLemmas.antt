@@ -1,0 +1,221 @@
+-- The level: how many groups are open after each call, counted over the entries that it moves or drops alone.
+use Rattle.std.proofs.Common.{◌≡◌, ℕ, ◌+◌, ◌-◌, ◌<◌, ◌≤◌, suc, arith, Bool, true, false, cond, List, [], ◌∷◌, ◌++◌, length, take, drop, take_all, get_or, map, Option, Some, None, refl, sym, ap, subst, ◌∙◌, leb, inl, inr, length-take}
+use Rattle.std.proofs.lemmas.Bool.{leb-true, leb-false}
+use Rattle.std.proofs.lemmas.Grind.{take_at_read}
+use Rattle.std.proofs.lemmas.List.{length-map, map-append, take-append-drop, take-map}
+use Rattle.std.specs.Option.{option_map_or}
+use Rattle.std.specs.Prelude.{◌&&◌, ◌==◌, encode_utf8, max, not}
+use Rattle.rl_base.specs.Event.{Event, InsertChar, InsertStr, Delete, Replace, Start, Stop}
+use Rattle.rl_base.specs.Words.{is_alphanumeric, is_word_cluster}
+use Rattle.rl_line.specs.declared.change.Change.{Change}
+use Rattle.rl_line.specs.Record.{Entry, Begin, End, Inserted, Deleted, Replaced, Record, entries_after, entries_of, entry_of, joined, record_step}
+use Rattle.rl_line.specs.Units.{AtLevel, IsMatched, UndoUnit, Open, Whole, begun, deep, ended, is_change, kept_of, last_of, level, mark, marks, opens, redo_of, redone, touched, truncated, undone, units}
+use Rattle.rl_line.proofs.CountLemmas.{level-counted}
+use Rattle.rl_line.proofs.EntryLemmas.{deep-append}
+use Rattle.rl_line.proofs.MatchLemmas.{AllGood-take, BothMatched-begun, BothMatched-ended, BothMatched-redone, BothMatched-step, BothMatched-truncated, BothMatched-undone, IsMatched-after, Lower-end_times, Redoes-of, length-touched, level-is, marks-last}
+use Rattle.rl_line.proofs.RecordLemmas.{if_else, if_some, unless, value_of}
+use Rattle.rl_line.proofs.UnitLemmas.{IsMatched-front, IsMatched-together, cut_more-append, kept-last, units-append, units-good}
+
+-- ---- an event
+deep-entries_of : (event : Event) (d : ℕ) → deep d (entries_of event) ≡ d
+unfolding entries_of
+deep-entries_of (InsertChar i c) d = refl
+deep-entries_of (InsertStr i s) d = none_or_one (length s == 0)
+  where
+    none_or_one : (b : Bool) → deep d (cond b [] (Inserted i s ∷ [])) ≡ d
+    none_or_one true = refl
+    none_or_one false = refl
+deep-entries_of (Delete i s side) d = none_or_one (length s == 0)
+  where
+    none_or_one : (b : Bool) → deep d (cond b [] (Deleted i s ∷ [])) ≡ d
+    none_or_one true = refl
+    none_or_one false = refl
+deep-entries_of (Replace i s t) d = refl
+deep-entries_of Start d = refl
+deep-entries_of Stop d = refl
+
+-- what joins is a change, and so is what it joins
+deep-joint : (event : Event) (e joint : Entry) (d : ℕ) → joined event e ≡ Some joint → deep d (joint ∷ []) ≡ deep d (e ∷ [])
+deep-joint (InsertChar i c) (Inserted j s) joint d h =
+    let b = if_some (is_alphanumeric c && (j + length s == i)) (Inserted j (s ++ encode_utf8 c)) joint h in
+    subst (λ k. deep d (k ∷ []) ≡ d) b.1 refl
+deep-joint (Delete i s side) (Deleted j t) joint d h =
+    let before = cond (i + length s == j) (Some (Deleted i (s ++ t))) None in
+    elim (if_else (j == i) (Deleted i (t ++ s)) joint before (unless (not (is_word_cluster s)) joint (cond (j == i) (Some (Deleted i (t ++ s))) before) h)) [
+      | inl b ↦ subst (λ k. deep d (k ∷ []) ≡ d) b.1 refl
+      | inr k ↦ subst (λ k. deep d (k ∷ []) ≡ d) (if_some (i + length s == j) (Deleted i (s ++ t)) joint k).1 refl
+    ]
+deep-joint (Replace i s t) (Replaced j o w) joint d h =
+    let b = if_some (j + length w == i) (Replaced j (o ++ s) (w ++ t)) joint h in
+    subst (λ k. deep d (k ∷ []) ≡ d) b.1 refl
+deep-joint event e joint d h = cc
+
+-- no event is a mark
+deep-after : (event : Event) (es : List Entry) (d : ℕ) → deep d (entries_after event es) ≡ deep d es
+deep-after event [] d = deep-entries_of event d
+deep-after event (e ∷ []) d = from (joined event e) refl
+  where
+    from : (o : Option Entry) → joined event e ≡ o → deep d (option_map_or (λ joint. joint ∷ []) o (e ∷ entries_of event)) ≡ deep d (e ∷ [])
+    from None j = deep-append d (e ∷ []) (entries_of event) ∙ deep-entries_of event (deep d (e ∷ []))
+    from (Some joint) j = deep-joint event e joint d j
+deep-after event (e ∷ (f ∷ fs)) d =
+    deep-append d (e ∷ []) (entries_after event (f ∷ fs)) ∙ deep-after event (f ∷ fs) (deep d (e ∷ [])) ∙ sym (deep-append d (e ∷ []) (f ∷ fs))
+
+pub level-after : (event : Event) (es : List Entry) → IsMatched es → level (entries_after event es) ≡ level es
+level-after event es h = level-counted (entries_after event es) (IsMatched-after event es h) ∙ deep-after event es 0 ∙ sym (level-counted es h)
+
+pub AtLevel-step : (event : Event) (n : ℕ) (r : Record) → AtLevel n r → AtLevel n (record_step r event)
+unfolding record_step
+AtLevel-step event n r a = record { matched = BothMatched-step r event a.matched; level = a.level ∙ sym (level-after event r.recorded a.matched.recorded) }
+
+-- ---- marks at the end
+pub level-begin : (es : List Entry) → level (es ++ Begin ∷ []) ≡ suc (level es)
+level-begin es = ap opens (cut_more-append [] es (Begin ∷ []))
+
+pub level-end : (es : List Entry) → IsMatched (es ++ End ∷ []) → level es ≡ suc (level (es ++ End ∷ []))
+level-end es h =
+    let s = value_of (marks (es ++ End ∷ []) []) h in
+    let l = marks-last es End s.0 s.1 in
+    level-is es l.0 l.1 ∙ one_less l.0 s.0 l.2 ∙ ap suc (sym (level-is (es ++ End ∷ []) s.0 s.1))
+  where
+    one_less : (fs gs : List Bool) → mark End fs ≡ Some gs → length fs ≡ suc (length gs)
+    one_less [] gs k = cc
+    one_less (false ∷ fs) gs k = cc
+    one_less (true ∷ fs) gs k = let same : touched fs ≡ gs = cc in ap suc (sym (length-touched fs) ∙ ap length same)
+
+deep-within : (d : ℕ) (es : List Entry) → deep d es ≤ d + length es
+deep-within d [] = omega arith
+deep-within d (Begin ∷ es) = omega (arith, deep-within (suc d) es)
+deep-within d (End ∷ es) = omega (arith, deep-within (d - 1) es)
+deep-within d (Inserted i s ∷ es) = omega (arith, deep-within d es)
+deep-within d (Deleted i s ∷ es) = omega (arith, deep-within d es)
+deep-within d (Replaced i s t ∷ es) = omega (arith, deep-within d es)
+
+-- no more groups are open than there are entries
+pub level-within : (es : List Entry) → IsMatched es → level es ≤ length es
+level-within es h = omega (arith, level-counted es h, deep-within 0 es)
+
+pub AtLevel-begun : (n : ℕ) (r : Record) → AtLevel n r → AtLevel (n + 1) (begun r)
+AtLevel-begun n r a = record { matched = BothMatched-begun r a.matched; level = omega (arith, a.level, level-begin r.recorded) }
+
+pub AtLevel-ended : (n : ℕ) (r : Record) → AtLevel n r → AtLevel 0 (ended r)
+AtLevel-ended n r a = record {
+  matched = BothMatched-ended r a.matched;
+  level = sym (Lower-end_times (level r.recorded) r.recorded a.matched.recorded refl).level_is;
+}
+
+-- ---- units that are moved
+opens-append : (us vs : List UndoUnit) → opens (us ++ vs) ≡ opens us + opens vs
+opens-append [] vs = omega arith
+opens-append (Open ∷ us) vs = omega (arith, opens-append us vs)
+opens-append (Whole es ∷ us) vs = opens-append us vs
+
+pub level-append : (xs ys : List Entry) → IsMatched ys → level (xs ++ ys) ≡ level ys + level xs
+level-append xs ys h = ap opens (units-append xs ys h) ∙ opens-append (units ys) (units xs)
+
+pub IsMatched-last : (k : ℕ) (es : List Entry) → IsMatched es → IsMatched (last_of k es)
+IsMatched-last k es h = IsMatched-together (take (max k 1) (units es)) (AllGood-take (max k 1) (units es) (units-good es h))
+
+-- an undo takes off the groups that its units open
+level-last : (k : ℕ) (es : List Entry) → IsMatched es → level es ≡ level (last_of k es) + level (kept_of k es)
+level-last k es h = ap level (sym (kept-last k es)) ∙ level-append (kept_of k es) (last_of k es) (IsMatched-last k es h)
+
+pub AtLevel-undone : (k n opened : ℕ) (r : Record) → opened ≡ level (last_of k r.recorded) → AtLevel n r → AtLevel (n - opened) (undone k r)
+AtLevel-undone k n opened r e a = record {
+  matched = BothMatched-undone k r a.matched;
+  level = omega (arith, e, a.level, level-last k r.recorded a.matched.recorded);
+}
+
+pub undone-within : (k n opened : ℕ) (r : Record) → opened ≡ level (last_of k r.recorded) → AtLevel n r → opened ≤ n
+undone-within k n opened r e a = omega (arith, e, a.level, level-last k r.recorded a.matched.recorded)
+
+pub AtLevel-redone : (n opened : ℕ) (r : Record) → opened ≡ level (redo_of r.pending) → AtLevel n r → AtLevel (n + opened) (redone r)
+AtLevel-redone n opened r e a = record {
+  matched = BothMatched-redone r a.matched;
+  level = omega (arith, e, a.level, level-append r.recorded (redo_of r.pending) (Redoes-of r.pending a.matched.pending).unit_matched);
+}
+
+-- ---- entries that are dropped
+pub AtLevel-truncated : (len m n : ℕ) (r : Record) → m ≡ level (take len r.recorded) → AtLevel n r → AtLevel m (truncated len r)
+AtLevel-truncated len m n r e a = record { matched = BothMatched-truncated len r a.matched; level = e }
+
+-- the entries with the one at `at`
+read-front : (xs : List Change) (at : ℕ) (z x : Change) → at < length xs → get_or xs at z ≡ x → map entry_of (take (at + 1) xs) ≡ map entry_of (take at xs) ++ entry_of x ∷ []
+read-front xs at z x lt e = ap (map entry_of) ((take_at_read xs at z lt).1 ∙ ap (λ y. take at xs ++ y ∷ []) e) ∙ map-append entry_of (take at xs) (x ∷ [])
+
+pub front-matched : (xs : List Change) (at : ℕ) → IsMatched (map entry_of xs) → IsMatched (map entry_of (take at xs))
+front-matched xs at h =
+    IsMatched-front (map entry_of (take at xs)) (map entry_of (drop at xs))
+    (subst IsMatched (ap (map entry_of) (sym (take-append-drop at xs)) ∙ map-append entry_of (take at xs) (drop at xs)) h)
+
+-- n groups are open behind the first `at` entries
+pub record LevelAt (xs : List Change) (len at n : ℕ) : Type 0 where
+  pub within : at ≤ length xs
+  pub cut : length xs - at ≤ length xs - len
+  pub level : n ≡ level (map entry_of (take at xs))
+
+pub LevelAt-all : (xs : List Change) (len n : ℕ) → n ≡ level (map entry_of xs) → LevelAt xs len (length xs) n
+LevelAt-all xs len n e = record {
+  within = omega arith;
+  cut = omega arith;
+  level = e ∙ ap (λ l. level (map entry_of l)) (sym (take_all (length xs) xs (omega arith)));
+}
+
+-- the entries behind which the count stands are those before the last of them, and that one
+front-last : (xs : List Change) (len at : ℕ) (z x : Change) → len < at → at ≤ length xs → get_or xs (at - 1) z ≡ x
+    → map entry_of (take at xs) ≡ map entry_of (take (at - 1) xs) ++ entry_of x ∷ []
+front-last xs len at z x lt within e =
+    let k : at ≡ (at - 1) + 1 = omega arith in
+    ap (λ m. map entry_of (take m xs)) k ∙ read-front xs (at - 1) z x (omega arith) e
+
+pub opened-before : (xs : List Change) (len at n : ℕ) (z x : Change) → len < at → get_or xs (at - 1) z ≡ x → entry_of x ≡ Begin → LevelAt xs len at n
+    → n ≡ suc (level (map entry_of (take (at - 1) xs)))
+opened-before xs len at n z x lt e b l =
+    l.level ∙ ap level (front-last xs len at z x lt l.within e ∙ ap (λ f. map entry_of (take (at - 1) xs) ++ f ∷ []) b) ∙ level-begin (map entry_of (take (at - 1) xs))
+
+pub LevelAt-begin : (xs : List Change) (len at n : ℕ) (z x : Change) → len < at → get_or xs (at - 1) z ≡ x → entry_of x ≡ Begin → LevelAt xs len at n → LevelAt xs len (at - 1) (n - 1)
+LevelAt-begin xs len at n z x lt e b l = record {
+  within = omega (arith, l.within);
+  cut = omega (arith, l.within, lt);
+  level = omega (arith, opened-before xs len at n z x lt e b l);
+}
+
+pub LevelAt-end : (xs : List Change) (len at n : ℕ) (z x : Change) → IsMatched (map entry_of xs) → len < at → get_or xs (at - 1) z ≡ x → entry_of x ≡ End → LevelAt xs len at n
+    → LevelAt xs len (at - 1) (n + 1)
+LevelAt-end xs len at n z x m lt e b l =
+    let is = front-last xs len at z x lt l.within e ∙ ap (λ f. map entry_of (take (at - 1) xs) ++ f ∷ []) b in
+    let one = level-end (map entry_of (take (at - 1) xs)) (subst IsMatched is (front-matched xs at m)) in
+    record {
+      within = omega (arith, l.within);
+      cut = omega (arith, l.within, lt);
+      level = omega (arith, l.level, ap level is, one);
+    }
+
+level-change : (es : List Entry) (e : Entry) → is_change e ≡ true → level (es ++ e ∷ []) ≡ level es
+level-change es Begin h = cc
+level-change es End h = cc
+level-change es (Inserted i s) h = ap opens (cut_more-append [] es (Inserted i s ∷ []))
+level-change es (Deleted i s) h = ap opens (cut_more-append [] es (Deleted i s ∷ []))
+level-change es (Replaced i s t) h = ap opens (cut_more-append [] es (Replaced i s t ∷ []))
+
+pub LevelAt-change : (xs : List Change) (len at n : ℕ) (z x : Change) → len < at → get_or xs (at - 1) z ≡ x → is_change (entry_of x) ≡ true → LevelAt xs len at n
+    → LevelAt xs len (at - 1) n
+LevelAt-change xs len at n z x lt e b l = record {
+  within = omega (arith, l.within);
+  cut = omega (arith, l.within, lt);
+  level = l.level ∙ ap level (front-last xs len at z x lt l.within e) ∙ level-change (map entry_of (take (at - 1) xs)) (entry_of x) b;
+}
+
+-- no count is past the list's length
+pub LevelAt-small : (xs : List Change) (len at n : ℕ) → IsMatched (map entry_of xs) → LevelAt xs len at n → n ≤ at
+LevelAt-small xs len at n m l =
+    omega (arith, l.level, level-within (map entry_of (take at xs)) (front-matched xs at m), length-map (take at xs) entry_of, length-take at xs)
+
+pub LevelAt-done : (xs : List Change) (len at n : ℕ) → at ≤ len → LevelAt xs len at n → n ≡ level (take len (map entry_of xs))
+LevelAt-done xs len at n le l = l.level ∙ ap level (sym (take-map entry_of at xs) ∙ from (leb len (length xs)) refl)
+  where
+    from : (b : Bool) → leb len (length xs) ≡ b → take at (map entry_of xs) ≡ take len (map entry_of xs)
+    from true h = let same : at ≡ len = omega (arith, leb-true len (length xs) h, l.within, l.cut) in ap (λ k. take k (map entry_of xs)) same
+    from false h =
+        let past = leb-false len (length xs) h in
+        take_all at (map entry_of xs) (omega (arith, past, l.cut, length-map xs entry_of)) ∙ sym (take_all len (map entry_of xs) (omega (arith, past, length-map xs entry_of)))

@@ -1,0 +1,15 @@
+use Rattle.std.proofs.Common.{sym}
+use Rattle.rl_session.specs.Grammar.{range}
+use Rattle.rl_session.proofs.WordLemmas.{range-no_start, range-no_end}
+use Rattle.rl_session.proofs.grammar.range_deletion.Goals as goal
+
+pub returns-in_err-start : goal.returns-in_err-start
+returns-in_err-start c = rw c.from_residual.ensures (range-no_start c.args.given.now c.in_err-start.ensures.cases)
+
+pub returns-in_err-number : goal.returns-in_err-number
+returns-in_err-number c =
+    rw c.from_residual-in_err-number.ensures
+    (range-no_end c.args.given.now c.in_ok-start.behind.now c.in_ok-start.start c.in_ok-start.ensures.cases c.in_err-number.ensures.value)
+
+pub returns : goal.returns
+returns c = range c.in_ok-start.ensures.cases (sym c.in_ok-number.ensures.value)

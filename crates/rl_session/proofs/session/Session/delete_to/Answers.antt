@@ -1,0 +1,6 @@
+use Rattle.rl_session.proofs.SessionLemmas.{Follows-deletion}
+use Rattle.rl_session.proofs.session.Session.delete_to.Goals as goal
+
+pub invariant_of-self : goal.invariant_of-self
+invariant_of-self c =
+    Follows-deletion _ c.self.inside.pair c.delete_to.new.listener c.self.inside.line c.delete_to.new.self c.delete_to.result (rw (← c.self.view_is) at c.stands.ensures.utf8) c.delete_to.ensures.done c.delete_to.ensures.halted c.self.invariant

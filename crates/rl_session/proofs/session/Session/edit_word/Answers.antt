@@ -1,0 +1,6 @@
+use Rattle.rl_session.proofs.SessionLemmas.{Follows-recased}
+use Rattle.rl_session.proofs.session.Session.edit_word.Goals as goal
+
+pub invariant_of-self : goal.invariant_of-self
+invariant_of-self c =
+    Follows-recased _ c.self.inside.pair c.edit_word.new.listener c.self.inside.line c.edit_word.new.self c.edit_word.result (rw (← c.self.view_is) at c.stands.ensures.utf8) c.edit_word.ensures.done c.edit_word.ensures.halted c.self.invariant

@@ -1,0 +1,66 @@
+-- The history of a session: where its record stands among the texts that it held, and the rows of which its laws speak.
+use Rattle.std.specs.Prelude.{◌≡◌, ℕ, List, [], ◌∷◌, ◌++◌, reverse, Some}
+use Rattle.std.specs.Str.{IsUtf8}
+use Rattle.rl_line.specs.Record.{Entry, Record, replay_entries}
+use Rattle.rl_line.specs.Units.{BothMatched}
+use Rattle.rl_session.specs.declared.session.Command.{Command}
+use Rattle.rl_session.specs.declared.session.Command.TheVariants.{End, Undo, Redo, Truncate}
+use Rattle.rl_session.specs.declared.session.Reply.{Reply}
+use Rattle.rl_session.specs.declared.session.Reply.TheVariants as says
+use Rattle.rl_session.specs.Run.{Row}
+use Rattle.rl_session.specs.State.{State}
+
+-- a text stands in a list of texts, right behind these
+pub record StandsAfter (before : List (List ℕ)) (text : List ℕ) (held : List (List ℕ)) : Type 0 where
+  pub rest : List (List ℕ)
+  pub is : held ≡ before ++ text ∷ rest
+
+-- a text is one of those that were held
+abbrev pub WasHeld : List ℕ → List (List ℕ) → Type 0
+WasHeld text held = (before : List (List ℕ)) × StandsAfter before text held
+
+-- entries, the last first: a beginning of the held texts ends with the text to which they lead, and those before the
+-- last entry are placed in that beginning
+abbrev pub PlacedBack : List ℕ → List Entry → List (List ℕ) → Type 0
+PlacedBack start [] held = WasHeld start held
+PlacedBack start (e ∷ es) held =
+    (before : List (List ℕ)) × (text : List ℕ) × StandsAfter before text held
+    × (replay_entries (reverse (e ∷ es)) start ≡ Some text) × PlacedBack start es (before ++ text ∷ [])
+
+-- each beginning of the entries leads from the start to a held text, and no place goes back
+abbrev pub Placed : List ℕ → List Entry → List (List ℕ) → Type 0
+Placed start es held = PlacedBack start (reverse es) held
+
+-- the history of a text: the record leads from the start to it, through texts that were held
+pub record History (start : List ℕ) (held : List (List ℕ)) (text : List ℕ) (r : Record) : Type 0 where
+  pub is_text : IsUtf8 start
+  pub leads : replay_entries r.recorded start ≡ Some text
+  pub placed : Placed start (r.recorded ++ r.pending) held
+  pub matched : BothMatched r
+
+-- so it is in a state, of which these texts were held by then
+abbrev pub Holds : List ℕ → List (List ℕ) → State → Type 0
+Holds start held s = History start held s.line.text s.pair.changes
+
+-- a command was refused
+abbrev pub WasRefused : Reply → Type 0
+WasRefused (says.Refused _) = Unit {0}
+WasRefused _ = ⊥
+
+-- what may happen inside a group: an end, an undo, a redo or a truncation only where it was refused
+abbrev pub MayStandInGroup : Command → Reply → Type 0
+MayStandInGroup End reply = WasRefused reply
+MayStandInGroup (Undo _) reply = WasRefused reply
+MayStandInGroup Redo reply = WasRefused reply
+MayStandInGroup (Truncate _) reply = WasRefused reply
+MayStandInGroup _ _ = Unit {0}
+
+-- all rows may stand there
+abbrev pub AllStandInGroup : List Row → Type 0
+AllStandInGroup [] = Unit {0}
+AllStandInGroup (row ∷ rows) = MayStandInGroup row.command row.reply × AllStandInGroup rows
+
+-- all rows are of redos, and none was refused
+abbrev pub AllRedone : List Row → Type 0
+AllRedone [] = Unit {0}
+AllRedone (row ∷ rows) = (row.command ≡ Redo) × (¬ (WasRefused row.reply)) × AllRedone rows

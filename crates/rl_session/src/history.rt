@@ -1,0 +1,77 @@
+//! The laws of a session's history: its record, undo groups, undo and redo. Each holds of every run of a new session,
+//! and speaks of rows of the run.
+ghost use Rattle.std.specs.Prelude.{◌≡◌, ◌++◌, ◌∷◌, [], ℕ, List, Some, IsSome, drop, length, suc, true};
+ghost use Rattle.std.specs.Str.{IsCharBoundary, IsUtf8};
+ghost use Rattle.rl_base.specs.declared.layout.GraphemeClusterMode.{GraphemeClusterMode};
+ghost use Rattle.rl_line.specs.Record.{replay_entries};
+ghost use Rattle.rl_line.specs.Units.{BothMatched, has_change, last_of, last_units, level, opens, undone};
+ghost use Rattle.rl_session.specs.History.{AllRedone, AllStandInGroup, Holds, Placed, WasHeld, WasRefused};
+ghost use Rattle.rl_session.specs.Run.{Row, Run, held_of};
+ghost use Rattle.rl_session.specs.State.{State, fresh};
+ghost use Rattle.rl_session.specs.declared.session.Command.{Command};
+ghost use Rattle.rl_session.specs.declared.session.Command.TheVariants.{Begin, End, Undo};
+ghost use Rattle.rl_session.specs.declared.session.Reply.{Reply};
+
+/// The recorded entries and the undone ones behind them are placed among the texts that were held: each beginning of
+/// them leads to such a text, and no place goes back. The recorded ones alone lead to the present text, and the undone
+/// ones on from there. This goes on over further runs.
+pub fn record_is_placed()
+    ensures placed { (text : List ℕ) (pos limit ring_size : ℕ) (mode : GraphemeClusterMode) (commands : List Command) (replies : List Reply) (new : State)
+        → IsUtf8 text → IsCharBoundary text pos → (run : Run (fresh text pos limit ring_size mode) commands replies new)
+        → Placed text (new.pair.changes.recorded ++ new.pair.changes.pending) (text ∷ held_of run.rows) }
+    ensures leads { (text : List ℕ) (pos limit ring_size : ℕ) (mode : GraphemeClusterMode) (commands : List Command) (replies : List Reply) (new : State)
+        → IsUtf8 text → IsCharBoundary text pos → Run (fresh text pos limit ring_size mode) commands replies new
+        → replay_entries new.pair.changes.recorded text ≡ Some new.line.text }
+    ensures redone { (text : List ℕ) (pos limit ring_size : ℕ) (mode : GraphemeClusterMode) (commands : List Command) (replies : List Reply) (new : State)
+        → IsUtf8 text → IsCharBoundary text pos → Run (fresh text pos limit ring_size mode) commands replies new
+        → IsSome (replay_entries new.pair.changes.pending new.line.text) }
+    ensures again { (start : List ℕ) (held : List (List ℕ)) (old new : State) (commands : List Command) (replies : List Reply)
+        → Holds start held old → (run : Run old commands replies new) → Holds start (held ++ held_of run.rows) new }
+{}
+
+/// In the recorded entries, and in the undone ones, every end of a group has its begin, and every closed group holds a
+/// change.
+pub fn groups_stay_closed()
+    ensures { (text : List ℕ) (pos limit ring_size : ℕ) (mode : GraphemeClusterMode) (commands : List Command) (replies : List Reply) (new : State)
+        → IsUtf8 text → IsCharBoundary text pos → Run (fresh text pos limit ring_size mode) commands replies new
+        → BothMatched new.pair.changes }
+{}
+
+/// An undo that is not refused drops exactly its units from the recorded entries and puts them before the undone ones,
+/// and it leaves a text that was held before it.
+pub fn undo_leaves_a_held_text()
+    ensures held { (text : List ℕ) (pos limit ring_size : ℕ) (mode : GraphemeClusterMode) (commands : List Command) (replies : List Reply) (new : State)
+        (earlier later : List Row) (row : Row) (n : ℕ)
+        → IsUtf8 text → IsCharBoundary text pos → (run : Run (fresh text pos limit ring_size mode) commands replies new)
+        → run.rows ≡ earlier ++ (row ∷ later) → row.command ≡ Undo n → ¬ (WasRefused row.reply)
+        → WasHeld row.after.line.text (text ∷ held_of earlier) }
+    ensures dropped { (row : Row) (n : ℕ) → row.command ≡ Undo n → ¬ (WasRefused row.reply)
+        → (row.after.pair.changes ≡ undone n row.before.pair.changes)
+        × (row.before.pair.changes.recorded ≡ row.after.pair.changes.recorded ++ last_of n row.before.pair.changes.recorded) }
+{}
+
+/// One undo right after the end of a group leaves the text at its begin, where the group was opened with no other open,
+/// a change was recorded in it, and no undo, redo or truncation ran inside, unless it was refused.
+pub fn group_is_undone_at_once()
+    ensures { (text : List ℕ) (pos limit ring_size : ℕ) (mode : GraphemeClusterMode) (commands : List Command) (replies : List Reply) (new : State)
+        (earlier inside later : List Row) (b e u : Row)
+        → IsUtf8 text → IsCharBoundary text pos → (run : Run (fresh text pos limit ring_size mode) commands replies new)
+        → run.rows ≡ earlier ++ (b ∷ (inside ++ (e ∷ (u ∷ later))))
+        → b.command ≡ Begin → ¬ (WasRefused b.reply) → level b.before.pair.changes.recorded ≡ 0
+        → AllStandInGroup inside → e.command ≡ End → ¬ (WasRefused e.reply)
+        → has_change (drop (suc (length b.before.pair.changes.recorded)) e.before.pair.changes.recorded) ≡ true
+        → u.command ≡ Undo 1 → ¬ (WasRefused u.reply)
+        → u.after.line.text ≡ b.before.line.text }
+{}
+
+/// As many redos right after an undo as it took units give back the text, the recorded entries and the undone ones from
+/// before it, unless it took the begin of an open group.
+pub fn redo_gives_back()
+    ensures { (text : List ℕ) (pos limit ring_size : ℕ) (mode : GraphemeClusterMode) (commands : List Command) (replies : List Reply) (new : State)
+        (earlier redos : List Row) (u : Row) (n : ℕ)
+        → IsUtf8 text → IsCharBoundary text pos → (run : Run (fresh text pos limit ring_size mode) commands replies new)
+        → run.rows ≡ earlier ++ (u ∷ redos)
+        → u.command ≡ Undo n → ¬ (WasRefused u.reply) → opens (last_units n u.before.pair.changes.recorded) ≡ 0
+        → AllRedone redos → length redos ≡ length (last_units n u.before.pair.changes.recorded)
+        → (new.line.text ≡ u.before.line.text) × (new.pair.changes ≡ u.before.pair.changes) }
+{}

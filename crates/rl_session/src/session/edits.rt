@@ -1,0 +1,129 @@
+//! Insertions, replacements, and edits of words and lines.
+ghost use Rattle.std.specs.Prelude.{◌≡◌, true, false};
+ghost use Rattle.rl_session.specs.Commands.{Does, CanGoIn};
+ghost use Rattle.rl_session.specs.declared.session.Command.{Command};
+
+use crate::session::{Fault, Reply, Session};
+use rl_base::{Movement, RepeatCount, WordAction};
+
+impl Session {
+    pub(super) fn insert(&mut self, c: char, n: RepeatCount) -> Reply
+        ensures { Does self.old (Command.Insert c n) result self.new }
+    {
+        self.stands();
+        match self.line.insert(c, n, &mut self.pair) {
+            Ok(answer) => Reply::Inserted(answer),
+            Err(_) => Reply::Refused(Fault::NoMemory),
+        }
+    }
+
+    pub(super) fn paste(&mut self, text: &String, n: RepeatCount) -> Reply
+        ensures { Does self.old (Command.Paste text.now n) result self.new }
+    {
+        self.stands();
+        match self.line.yank(text.as_str(), n, &mut self.pair) {
+            Ok(answer) => Reply::Inserted(answer),
+            Err(_) => Reply::Refused(Fault::NoMemory),
+        }
+    }
+
+    pub(super) fn update(&mut self, text: &String, pos: usize) -> Reply
+        ensures { Does self.old (Command.Update text.now pos) result self.new }
+    {
+        self.stands();
+        if !text.as_str().is_char_boundary(pos) {
+            return Reply::Refused(Fault::BadPlace);
+        }
+        match self.line.update(text.as_str(), pos, &mut self.pair) {
+            Ok(()) => Reply::Done,
+            Err(_) => Reply::Refused(Fault::NoMemory),
+        }
+    }
+
+    // Whether a text can go in at a place, with the cursor where it is: on either side of the text, or between
+    // two of its characters.
+    fn can_go_in(&self, idx: usize, text: &str) -> bool
+        ensures yes { result ≡ true → CanGoIn self.now.line idx text.now }
+        ensures no { result ≡ false → ¬ (CanGoIn self.now.line idx text.now) }
+    {
+        let old = self.line.as_str();
+        let pos = self.line.pos();
+        if !old.is_char_boundary(idx) {
+            return false;
+        }
+        if pos <= idx {
+            return true;
+        }
+        if pos - idx <= text.len() {
+            text.is_char_boundary(pos - idx)
+        } else {
+            old.is_char_boundary(pos - text.len())
+        }
+    }
+
+    pub(super) fn insert_str(&mut self, idx: usize, text: &String) -> Reply
+        ensures { Does self.old (Command.InsertStr idx text.now) result self.new }
+    {
+        self.stands();
+        if !self.can_go_in(idx, text.as_str()) {
+            return Reply::Refused(Fault::BadPlace);
+        }
+        match self.line.insert_str(idx, text.as_str(), &mut self.pair) {
+            Ok(answer) => Reply::Answer(answer),
+            Err(_) => Reply::Refused(Fault::NoMemory),
+        }
+    }
+
+    pub(super) fn replace(&mut self, from: usize, to: usize, text: &String) -> Reply
+        ensures { Does self.old (Command.Replace from to text.now) result self.new }
+    {
+        self.stands();
+        if !self.is_range(from, to) {
+            return Reply::Refused(Fault::BadPlace);
+        }
+        match self.line.replace(from..to, text.as_str(), &mut self.pair) {
+            Ok(()) => Reply::Done,
+            Err(_) => Reply::Refused(Fault::NoMemory),
+        }
+    }
+
+    pub(super) fn transpose_chars(&mut self) -> Reply
+        ensures { Does self.old Command.TransposeChars result self.new }
+    {
+        self.stands();
+        match self.line.transpose_chars(&mut self.pair) {
+            Ok(answer) => Reply::Answer(answer),
+            Err(_) => Reply::Refused(Fault::NoMemory),
+        }
+    }
+
+    pub(super) fn transpose_words(&mut self, n: RepeatCount) -> Reply
+        ensures { Does self.old (Command.TransposeWords n) result self.new }
+    {
+        self.stands();
+        match self.line.transpose_words(n, &mut self.pair) {
+            Ok(answer) => Reply::Answer(answer),
+            Err(_) => Reply::Refused(Fault::NoMemory),
+        }
+    }
+
+    pub(super) fn edit_word(&mut self, action: WordAction) -> Reply
+        ensures { Does self.old (Command.EditWord action) result self.new }
+    {
+        self.stands();
+        match self.line.edit_word(action, &mut self.pair) {
+            Ok(answer) => Reply::Answer(answer),
+            Err(_) => Reply::Refused(Fault::NoMemory),
+        }
+    }
+
+    pub(super) fn indent(&mut self, movement: &Movement, amount: u8, dedent: bool) -> Reply
+        ensures { Does self.old (Command.Indent movement.now amount dedent) result self.new }
+    {
+        self.stands();
+        match self.line.indent(movement, amount, dedent, &mut self.pair) {
+            Ok(answer) => Reply::Answer(answer),
+            Err(_) => Reply::Refused(Fault::NoMemory),
+        }
+    }
+}

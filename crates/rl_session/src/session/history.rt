@@ -1,0 +1,59 @@
+//! Groups of changes, undo, redo, and truncation of the record.
+ghost use Rattle.rl_session.specs.Commands.{Does};
+ghost use Rattle.rl_session.specs.declared.session.Command.{Command};
+
+use crate::session::{Fault, Reply, Session};
+use rl_base::RepeatCount;
+
+impl Session {
+    pub(super) fn begin(&mut self) -> Reply
+        ensures { Does self.old Command.Begin result self.new }
+    {
+        match self.pair.changes.begin() {
+            Ok(mark) => Reply::Mark(mark),
+            Err(_) => Reply::Refused(Fault::NoMemory),
+        }
+    }
+
+    pub(super) fn end(&mut self) -> Reply
+        ensures { Does self.old Command.End result self.new }
+    {
+        match self.pair.changes.end() {
+            Ok(answer) => Reply::Answer(answer),
+            Err(_) => Reply::Refused(Fault::NoMemory),
+        }
+    }
+
+    pub(super) fn undo(&mut self, n: RepeatCount) -> Reply
+        ensures { Does self.old (Command.Undo n) result self.new }
+    {
+        self.stands();
+        match self.pair.changes.undo(&mut self.line, n) {
+            Ok(answer) => Reply::Answer(answer),
+            Err(_) => Reply::Refused(Fault::NoMemory),
+        }
+    }
+
+    pub(super) fn redo(&mut self) -> Reply
+        ensures { Does self.old Command.Redo result self.new }
+    {
+        self.stands();
+        match self.pair.changes.redo(&mut self.line) {
+            Ok(answer) => Reply::Answer(answer),
+            Err(_) => Reply::Refused(Fault::NoMemory),
+        }
+    }
+
+    pub(super) fn truncate(&mut self, len: usize) -> Reply
+        ensures { Does self.old (Command.Truncate len) result self.new }
+    {
+        match self.pair.changes.replays_to(len, &self.line) {
+            Ok(true) => {
+                self.pair.changes.truncate(len);
+                Reply::Done
+            }
+            Ok(false) => Reply::Refused(Fault::NotReplaying),
+            Err(_) => Reply::Refused(Fault::NoMemory),
+        }
+    }
+}

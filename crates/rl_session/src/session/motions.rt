@@ -1,0 +1,49 @@
+//! Motions, and copying by one.
+ghost use Rattle.rl_session.specs.Commands.{Does};
+ghost use Rattle.rl_session.specs.declared.session.Command.{Command};
+
+use crate::session::{Fault, Reply, Session};
+use rl_base::{Layout, Movement};
+
+impl Session {
+    pub(super) fn set_pos(&mut self, pos: usize) -> Reply
+        ensures { Does self.old (Command.SetPos pos) result self.new }
+    {
+        if self.line.as_str().is_char_boundary(pos) {
+            self.line.set_pos(pos);
+            Reply::Done
+        } else {
+            Reply::Refused(Fault::BadPlace)
+        }
+    }
+
+    pub(super) fn move_by(&mut self, movement: &Movement) -> Reply
+        ensures { Does self.old (Command.Move movement.now) result self.new }
+    {
+        let layout = Layout::new(self.mode);
+        let line = &mut self.line;
+        Reply::Answer(match movement {
+            Movement::BeginningOfLine => line.move_home(),
+            Movement::EndOfLine => line.move_end(),
+            Movement::BackwardWord(n, word) => line.move_to_prev_word(*word, *n),
+            Movement::ForwardWord(n, at, word) => line.move_to_next_word(*at, *word, *n),
+            Movement::ViCharSearch(n, cs) => line.move_to(*cs, *n),
+            Movement::BackwardChar(n) => line.move_backward(*n),
+            Movement::ForwardChar(n) => line.move_forward(*n),
+            Movement::LineUp(n) => line.move_to_line_up(*n, &layout),
+            Movement::LineDown(n) => line.move_to_line_down(*n, &layout),
+            Movement::BeginningOfBuffer => line.move_buffer_start(),
+            Movement::EndOfBuffer => line.move_buffer_end(),
+            Movement::WholeLine | Movement::ViFirstPrint | Movement::WholeBuffer => false,
+        })
+    }
+
+    pub(super) fn copy(&self, movement: &Movement) -> Reply
+        ensures { Does self.now (Command.Copy movement.now) result self.now }
+    {
+        match self.line.copy(movement) {
+            Ok(text) => Reply::Text(text),
+            Err(_) => Reply::Refused(Fault::NoMemory),
+        }
+    }
+}

@@ -1,0 +1,127 @@
+//! Kills and yanks, and when the ring is reset.
+ghost use Rattle.std.specs.Prelude.{◌≡◌, true, false, IfOk};
+ghost use Rattle.std.specs.Option.{option_map};
+ghost use Rattle.std.specs.String.{string_bytes};
+ghost use Rattle.rl_base.specs.KillRing.{yank, yanked, yank_pop, yank_popped, yank_size};
+ghost use Rattle.rl_session.specs.Commands.{Does, StandsYanked, continues, is_vain_yank, readied, settled};
+ghost use Rattle.rl_session.specs.declared.session.Command.{Command};
+
+use crate::session::{Command, Fault, Reply, Session};
+use rl_base::{KillRing, Movement, RepeatCount};
+use std::alloc::{AllocError, Global};
+
+impl Session {
+    pub(super) fn kill(&mut self, movement: &Movement) -> Reply
+        ensures { Does self.old (Command.Kill movement.now) result self.new }
+    {
+        self.stands();
+        match self.line.kill(movement, &mut self.pair) {
+            Ok(answer) => Reply::Answer(answer),
+            Err(_) => Reply::Refused(Fault::NoMemory),
+        }
+    }
+
+    pub(super) fn yank(&mut self, n: RepeatCount) -> Reply
+        ensures { Does self.old (Command.Yank n) result self.new }
+    {
+        self.stands();
+        let text = match yanked(self.alloc, &mut self.pair.ring) {
+            Ok(Some(text)) => text,
+            Ok(None) => return Reply::Inserted(None),
+            Err(_) => return Reply::Refused(Fault::NoMemory),
+        };
+        match self.line.yank(text.as_str(), n, &mut self.pair) {
+            Ok(answer) => Reply::Inserted(answer),
+            Err(_) => Reply::Refused(Fault::NoMemory),
+        }
+    }
+
+    // Whether the bytes that were yanked last can stand before the cursor.
+    fn stands_yanked(&self) -> bool
+        ensures yes { result ≡ true → StandsYanked (yank_size self.now.pair.ring) self.now.line }
+        ensures no { result ≡ false → ¬ (StandsYanked (yank_size self.now.pair.ring) self.now.line) }
+    {
+        let end = self.line.pos();
+        match self.pair.ring.yank_size() {
+            Some(size) => size <= end && self.line.as_str().is_char_boundary(end - size),
+            None => true,
+        }
+    }
+
+    pub(super) fn yank_pop(&mut self) -> Reply
+        ensures { Does self.old Command.YankPop result self.new }
+    {
+        if !self.stands_yanked() {
+            return Reply::Refused(Fault::BadYankSize);
+        }
+        self.stands();
+        let (size, text) = match popped(self.alloc, &mut self.pair.ring) {
+            Ok(Some(found)) => found,
+            Ok(None) => return Reply::Inserted(None),
+            Err(_) => return Reply::Refused(Fault::NoMemory),
+        };
+        match self.line.yank_pop(size, text.as_str(), &mut self.pair) {
+            Ok(answer) => Reply::Inserted(answer),
+            Err(_) => Reply::Refused(Fault::NoMemory),
+        }
+    }
+
+    // Resets the ring before a command that does not go on from what it did last.
+    pub(super) fn ready(&mut self, command: &Command)
+        ensures { self.new ≡ readied command.now self.old }
+    {
+        if !continues(command) {
+            self.pair.ring.reset();
+        }
+    }
+
+    // Resets the ring after a yank that put nothing in.
+    pub(super) fn settle(&mut self, command: &Command, reply: &Reply)
+        ensures { self.new ≡ settled command.now reply.now self.old }
+    {
+        if is_vain_yank(command, reply) {
+            self.pair.ring.reset();
+        }
+    }
+}
+
+// Whether the ring is left for a command as it is.
+fn continues(command: &Command) -> bool
+    ensures { result ≡ continues command.now }
+{
+    match command {
+        Command::Kill(Movement::BackwardChar(_) | Movement::ForwardChar(_)) => false,
+        Command::Kill(_) | Command::Yank(_) | Command::YankPop => true,
+        _ => false,
+    }
+}
+
+// Whether a yank put nothing in.
+fn is_vain_yank(command: &Command, reply: &Reply) -> bool
+    ensures { result ≡ is_vain_yank command.now reply.now }
+{
+    matches!(command, Command::Yank(_) | Command::YankPop)
+        && !matches!(reply, Reply::Inserted(Some(_)))
+}
+
+// A copy of the text that the ring yanks.
+fn yanked(alloc: Global, ring: &mut KillRing) -> Result<Option<String>, AllocError>
+    ensures ring { ring.new ≡ yanked ring.old }
+    ensures text { IfOk result (λ text. option_map string_bytes text ≡ yank ring.old) }
+{
+    match ring.yank() {
+        Some(text) => Ok(Some(String::from_str(alloc, text.as_str())?)),
+        None => Ok(None),
+    }
+}
+
+// The length of the text that was yanked, and a copy of the one before it.
+fn popped(alloc: Global, ring: &mut KillRing) -> Result<Option<(usize, String)>, AllocError>
+    ensures ring { ring.new ≡ yank_popped ring.old }
+    ensures text { IfOk result (λ found. option_map (λ p. (p.0, string_bytes p.1)) found ≡ yank_pop ring.old) }
+{
+    match ring.yank_pop() {
+        Some((size, text)) => Ok(Some((size, String::from_str(alloc, text.as_str())?))),
+        None => Ok(None),
+    }
+}
