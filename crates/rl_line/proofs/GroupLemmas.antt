@@ -176,31 +176,33 @@ entries_after-inside event [] ys = entries_after-begin event ys
 entries_after-inside event (x ∷ []) ys = ap (λ l. x ∷ l) (entries_after-begin event ys)
 entries_after-inside event (x ∷ (z ∷ zs)) ys = ap (λ l. x ∷ l) (entries_after-inside event (z ∷ zs) ys)
 
--- the record inside a group
-record Inside (front : List Entry) (r : Record) : Type 0 where
-  inner : List Entry
-  is : r.recorded ≡ front ++ Begin ∷ inner
-  matched : IsMatched inner
+-- what stands in the record behind the Begin of an open group
+pub record Inside (front : List Entry) (r : Record) : Type 0 where
+  pub inner : List Entry
+  pub is : r.recorded ≡ front ++ Begin ∷ inner
+  pub matched : IsMatched inner
+
+pub Inside-event : (event : Event) (front : List Entry) (r : Record) → Inside front r → Inside front (record_step r event)
+unfolding record_step
+Inside-event event front r k = record {
+  inner = entries_after event k.inner;
+  is = ap (entries_after event) k.is ∙ entries_after-inside event front k.inner;
+  matched = IsMatched-after event k.inner k.matched;
+}
+
+pub Inside-begun : (front : List Entry) (r : Record) → Inside front r → Inside front (begun r)
+Inside-begun front r k = record {
+  inner = k.inner ++ Begin ∷ [];
+  is = ap (λ x. x ++ Begin ∷ []) k.is ∙ append_assoc front (Begin ∷ k.inner) (Begin ∷ []);
+  matched = IsMatched-begin k.inner k.matched;
+}
 
 Inside-steps : (steps : List InGroup) (front : List Entry) (r : Record) → Inside front r → Inside front (after_in_group steps r)
-unfolding record_step
 Inside-steps [] front r k = k
-Inside-steps (Hears event ∷ steps) front r k =
-    Inside-steps steps front (record_step r event)
-    (record {
-      inner = entries_after event k.inner;
-      is = ap (entries_after event) k.is ∙ entries_after-inside event front k.inner;
-      matched = IsMatched-after event k.inner k.matched;
-    })
-Inside-steps (Begins ∷ steps) front r k =
-    Inside-steps steps front (begun r)
-    (record {
-      inner = k.inner ++ Begin ∷ [];
-      is = ap (λ x. x ++ Begin ∷ []) k.is ∙ append_assoc front (Begin ∷ k.inner) (Begin ∷ []);
-      matched = IsMatched-begin k.inner k.matched;
-    })
+Inside-steps (Hears event ∷ steps) front r k = Inside-steps steps front (record_step r event) (Inside-event event front r k)
+Inside-steps (Begins ∷ steps) front r k = Inside-steps steps front (begun r) (Inside-begun front r k)
 
-past_begin : (xs ys : List Entry) → drop (suc (length xs)) (xs ++ Begin ∷ ys) ≡ ys
+pub past_begin : (xs ys : List Entry) → drop (suc (length xs)) (xs ++ Begin ∷ ys) ≡ ys
 past_begin [] ys = refl
 past_begin (x ∷ xs) ys = past_begin xs ys
 

@@ -9,12 +9,12 @@ use Rattle.rl_base.specs.Event.{Event, InsertChar, InsertStr, Delete, Replace, S
 use Rattle.rl_base.specs.Words.{is_alphanumeric, is_word_cluster}
 use Rattle.rl_line.specs.declared.change.Change.{Change}
 use Rattle.rl_line.specs.Record.{Entry, Begin, End, Inserted, Deleted, Replaced, Record, entries_after, entries_of, entry_of, joined, record_step}
-use Rattle.rl_line.specs.Units.{AtLevel, IsMatched, UndoUnit, Open, Whole, begun, deep, ended, is_change, kept_of, last_of, level, mark, marks, opens, redo_of, redone, touched, truncated, undone, units}
+use Rattle.rl_line.specs.Units.{AtLevel, IsMatched, begun, deep, ended, is_change, kept_of, last_of, level, mark, marks, opens, redo_of, redone, touched, truncated, undone, units}
 use Rattle.rl_line.proofs.CountLemmas.{level-counted}
 use Rattle.rl_line.proofs.EntryLemmas.{deep-append}
 use Rattle.rl_line.proofs.MatchLemmas.{AllGood-take, BothMatched-begun, BothMatched-ended, BothMatched-redone, BothMatched-step, BothMatched-truncated, BothMatched-undone, IsMatched-after, Lower-end_times, Redoes-of, length-touched, level-is, marks-last}
 use Rattle.rl_line.proofs.RecordLemmas.{if_else, if_some, unless, value_of}
-use Rattle.rl_line.proofs.UnitLemmas.{IsMatched-front, IsMatched-together, cut_more-append, kept-last, units-append, units-good}
+use Rattle.rl_line.proofs.UnitLemmas.{IsMatched-front, IsMatched-together, cut_more-append, kept-last, opens-append, units-append, units-good}
 
 -- ---- an event
 deep-entries_of : (event : Event) (d : ℕ) → deep d (entries_of event) ≡ d
@@ -105,11 +105,6 @@ AtLevel-ended n r a = record {
 }
 
 -- ---- units that are moved
-opens-append : (us vs : List UndoUnit) → opens (us ++ vs) ≡ opens us + opens vs
-opens-append [] vs = omega arith
-opens-append (Open ∷ us) vs = omega (arith, opens-append us vs)
-opens-append (Whole es ∷ us) vs = opens-append us vs
-
 pub level-append : (xs ys : List Entry) → IsMatched ys → level (xs ++ ys) ≡ level ys + level xs
 level-append xs ys h = ap opens (units-append xs ys h) ∙ opens-append (units ys) (units xs)
 

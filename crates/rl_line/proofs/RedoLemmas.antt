@@ -1,5 +1,5 @@
 -- As many redos as an undo took units give back the record and the text.
-use Rattle.std.proofs.Common.{◌≡◌, ℕ, ◌+◌, suc, Bool, List, [], ◌∷◌, ◌++◌, length, drop, reverse, Some, refl, sym, ap, subst, ◌∙◌, arith, append-nil, append_assoc, drop_at, add-zero}
+use Rattle.std.proofs.Common.{◌≡◌, ℕ, suc, Bool, List, [], ◌∷◌, ◌++◌, length, drop, reverse, Some, refl, sym, ap, subst, ◌∙◌, arith, append-nil, append_assoc, drop_at}
 use Rattle.std.proofs.lemmas.List.{reverse-append, reverse-reverse, length-reverse}
 use Rattle.std.specs.Prelude.{option_and_then, zero, max}
 use Rattle.std.specs.Str.{IsUtf8}
@@ -10,19 +10,8 @@ use Rattle.rl_line.specs.Record.{Entry, Record, event_of, inverse, replay_entrie
 use Rattle.rl_line.specs.Units.{UndoUnit, Open, Whole, units, together, opens, last_of, kept_of, last_units, redo_from, redo_of, undone, redone, redone_times, marks, IsMatched, BothMatched}
 use Rattle.rl_line.specs.Undo.{cursor_after, line_after, line_ahead, line_back, Undone, Redos}
 use Rattle.rl_line.proofs.RecordLemmas.{replay-append, through, replay-unwind}
-use Rattle.rl_line.proofs.UnitLemmas.{AllGood, Settles, kept-last, units-good, units-append, IsMatched-append, on, together-reverse, AllGood-reverse}
+use Rattle.rl_line.proofs.UnitLemmas.{AllGood, Settles, kept-last, opens-reverse, units-good, units-append, IsMatched-append, on, together-reverse, AllGood-reverse}
 use Rattle.rl_line.proofs.MatchLemmas.{AllGood-take, some_is}
-
-opens-append : (us vs : List UndoUnit) → opens (us ++ vs) ≡ opens us + opens vs
-opens-append [] vs = omega arith
-opens-append (Open ∷ us) vs = ap suc (opens-append us vs) ∙ (omega arith)
-opens-append (Whole es ∷ us) vs = opens-append us vs
-
-opens-reverse : (us : List UndoUnit) → opens (reverse us) ≡ opens us
-opens-reverse [] = refl
-opens-reverse (Open ∷ us) = ap opens (reverse-append (Open ∷ []) us) ∙ opens-append (reverse us) (Open ∷ []) ∙ ap (λ n. n + 1) (opens-reverse us) ∙ (omega arith)
-opens-reverse (Whole es ∷ us) =
-    ap opens (reverse-append (Whole es ∷ []) us) ∙ opens-append (reverse us) (Whole es ∷ []) ∙ ap (λ n. n + 0) (opens-reverse us) ∙ add-zero (opens us)
 
 IsMatched-on : (vs : List UndoUnit) → AllGood vs → opens vs ≡ 0 → IsMatched (on vs)
 IsMatched-on [] g o = refl

@@ -3,7 +3,7 @@ use Rattle.std.proofs.Common.{◌≡◌, ℕ, ◌+◌, suc, zero-add, add-zero, 
 use Rattle.std.proofs.lemmas.List.{take-append-drop, reverse-append}
 use Rattle.std.specs.Prelude.{option_and_then, IsSome, ◌||◌, max}
 use Rattle.rl_line.specs.Record.{Entry, Begin, End, Inserted, Deleted, Replaced}
-use Rattle.rl_line.specs.Units.{UndoUnit, Open, Whole, entries, close, add_entry, cut_more, units, together, last_of, kept_of, touched, mark, marks, IsMatched}
+use Rattle.rl_line.specs.Units.{UndoUnit, Open, Whole, entries, close, add_entry, cut_more, units, together, opens, last_of, kept_of, touched, mark, marks, IsMatched}
 use Rattle.rl_line.proofs.Counts.{back_len, ahead_len}
 use Rattle.rl_line.proofs.RecordLemmas.{value_of, IsSome-through}
 
@@ -37,6 +37,18 @@ pub kept-last : (n : ℕ) (es : List Entry) → kept_of n es ++ last_of n es ≡
 kept-last n es =
     sym (together-append (take (max n 1) (units es)) (drop (max n 1) (units es)))
     ∙ ap together (take-append-drop (max n 1) (units es)) ∙ together-units es
+
+-- how many groups units open
+pub opens-append : (us vs : List UndoUnit) → opens (us ++ vs) ≡ opens us + opens vs
+opens-append [] vs = omega arith
+opens-append (Open ∷ us) vs = ap suc (opens-append us vs) ∙ (omega arith)
+opens-append (Whole es ∷ us) vs = opens-append us vs
+
+pub opens-reverse : (us : List UndoUnit) → opens (reverse us) ≡ opens us
+opens-reverse [] = refl
+opens-reverse (Open ∷ us) = ap opens (reverse-append (Open ∷ []) us) ∙ opens-append (reverse us) (Open ∷ []) ∙ ap (λ n. n + 1) (opens-reverse us) ∙ (omega arith)
+opens-reverse (Whole es ∷ us) =
+    ap opens (reverse-append (Whole es ∷ []) us) ∙ opens-append (reverse us) (Whole es ∷ []) ∙ ap (λ n. n + 0) (opens-reverse us) ∙ add-zero (opens us)
 
 pub cut_more-append : (us : List UndoUnit) (xs ys : List Entry) → cut_more us (xs ++ ys) ≡ cut_more (cut_more us xs) ys
 cut_more-append us [] ys = refl

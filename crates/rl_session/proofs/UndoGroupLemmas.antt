@@ -9,10 +9,11 @@ use Rattle.rl_line.specs.Line.{Line}
 use Rattle.rl_line.specs.Plan.{Step, heard}
 use Rattle.rl_line.specs.Record.{Begin, End, Entry, Record, entries_after, record_step, replay_entries}
 use Rattle.rl_line.specs.Units.{UndoUnit, Open, Whole, IsMatched, begun, end_one, end_times, ended, has_change, kept_of, last_of, level, opens, together, units}
-use Rattle.rl_line.proofs.GroupLemmas.{has_change-append}
-use Rattle.rl_line.proofs.MatchLemmas.{EndsOne, IsMatched-after, IsMatched-begin, Lower, Lower-end_one, end_one-cons}
+use Rattle.rl_line.proofs.GroupLemmas.{has_change-append, Inside, Inside-event, Inside-begun, past_begin}
+use Rattle.rl_line.proofs.LevelLemmas.{level-append}
+use Rattle.rl_line.proofs.MatchLemmas.{EndsOne, IsMatched-after, IsMatched-begin, Lower-end_one, Lower-end_times, end_one-cons}
 use Rattle.rl_line.proofs.RedoLemmas.{line_back-unwind}
-use Rattle.rl_line.proofs.UnitLemmas.{AllGood, AllGood-reverse, Gathers, Gathers-more, Gathers-nil, Settles-group, cut_more-append, on, together-reverse, together-units, units-append, units-good}
+use Rattle.rl_line.proofs.UnitLemmas.{AllGood, AllGood-reverse, Gathers, Gathers-more, Gathers-nil, Settles-group, cut_more-append, on, opens-reverse, together-reverse, together-units, units-append, units-good}
 use Rattle.rl_session.specs.Commands.{Asked, Does, DoesAsked, Others, asked, edit, other, readied, with_changes}
 use Rattle.rl_session.specs.History.{AllStandInGroup, Holds, MayStandInGroup, WasRefused}
 use Rattle.rl_session.specs.Run.{Leads, Row, Run, held, held_by_edit, held_by_other, held_of}
@@ -40,10 +41,6 @@ ends_inside (suc k) xs (e ∷ es) h l =
     ap (end_times (suc k)) (end_one-past xs Begin (e ∷ es) ∙ ap (λ x. xs ++ x) (end_one-cons Begin e es))
     ∙ ends_inside k xs (end_one (e ∷ es)) lower.matched lower.level_is
 
-Lower-end_times : (n : ℕ) (es : List Entry) → IsMatched es → level es ≡ n → Lower (end_times n es) 0
-Lower-end_times zero es h k = record { matched = h; level_is = k }
-Lower-end_times (suc n) es h k = let l = Lower-end_one es n h k in Lower-end_times n (end_one es) l.matched l.level_is
-
 -- ends take no change away
 or_none : (b : Bool) → (b || false) ≡ b
 or_none true = refl
@@ -59,17 +56,6 @@ has_change-end_one es =
 has_change-end_times : (n : ℕ) (es : List Entry) → has_change (end_times n es) ≡ has_change es
 has_change-end_times zero es = refl
 has_change-end_times (suc n) es = has_change-end_times n (end_one es) ∙ has_change-end_one es
-
-opens-append : (us vs : List UndoUnit) → opens (us ++ vs) ≡ opens us + opens vs
-opens-append [] vs = omega arith
-opens-append (Open ∷ us) vs = ap suc (opens-append us vs) ∙ (omega arith)
-opens-append (Whole es ∷ us) vs = opens-append us vs
-
-opens-reverse : (us : List UndoUnit) → opens (reverse us) ≡ opens us
-opens-reverse [] = refl
-opens-reverse (Open ∷ us) = ap opens (reverse-append (Open ∷ []) us) ∙ opens-append (reverse us) (Open ∷ []) ∙ ap (λ n. n + 1) (opens-reverse us) ∙ (omega arith)
-opens-reverse (Whole es ∷ us) =
-    ap opens (reverse-append (Whole es ∷ []) us) ∙ opens-append (reverse us) (Whole es ∷ []) ∙ ap (λ n. n + 0) (opens-reverse us) ∙ add-zero (opens us)
 
 -- whole units inside a group are gathered by its End
 Gathers-on : (v : UndoUnit) (vs : List UndoUnit) → AllGood (v ∷ vs) → opens (v ∷ vs) ≡ 0 → Gathers true (on (v ∷ vs))
@@ -113,7 +99,7 @@ closed_group xs (e ∷ es) h l c =
 
 level-group : (xs inner : List Entry) → IsMatched inner → level (xs ++ (Begin ∷ inner)) ≡ level inner + suc (level xs)
 level-group xs inner h =
-    ap level (sym (append_assoc xs (Begin ∷ []) inner)) ∙ ap opens (units-append (xs ++ (Begin ∷ [])) inner h) ∙ opens-append (units inner) (units (xs ++ (Begin ∷ [])))
+    ap level (sym (append_assoc xs (Begin ∷ []) inner)) ∙ level-append (xs ++ (Begin ∷ [])) inner h
     ∙ ap (λ us. level inner + opens us) (cut_more-append [] xs (Begin ∷ []))
 
 -- after the end of a group, an undo of one unit keeps what was recorded before its begin
@@ -127,49 +113,15 @@ ended_group xs inner h none c =
     ∙ closed_group xs (end_times (level inner) inner) low.matched low.level_is (has_change-end_times (level inner) inner ∙ c)
 
 -- ---- what stands in the record behind the Begin of an open group
-record Inside (front : List Entry) (r : Record) : Type 0 where
-  inner : List Entry
-  is : r.recorded ≡ front ++ (Begin ∷ inner)
-  matched : IsMatched inner
-
--- what happens behind a Begin happens to what stands behind it
-entries_after-begin : (event : Event) (ys : List Entry) → entries_after event (Begin ∷ ys) ≡ Begin ∷ entries_after event ys
-entries_after-begin (InsertChar i c) [] = refl
-entries_after-begin (InsertStr i s) [] = refl
-entries_after-begin (Delete i s side) [] = refl
-entries_after-begin (Replace i s t) [] = refl
-entries_after-begin Start [] = refl
-entries_after-begin Stop [] = refl
-entries_after-begin event (y ∷ ys) = refl
-
-entries_after-inside : (event : Event) (xs ys : List Entry) → entries_after event (xs ++ (Begin ∷ ys)) ≡ xs ++ (Begin ∷ entries_after event ys)
-entries_after-inside event [] ys = entries_after-begin event ys
-entries_after-inside event (x ∷ []) ys = ap (λ l. x ∷ l) (entries_after-begin event ys)
-entries_after-inside event (x ∷ (z ∷ zs)) ys = ap (λ l. x ∷ l) (entries_after-inside event (z ∷ zs) ys)
-
 Inside-steps : (steps : List Step) (front : List Entry) (r : Record) → Inside front r → Inside front (heard record_step steps r)
-unfolding record_step
 Inside-steps [] front r k = k
-Inside-steps (s ∷ ss) front r k =
-    Inside-steps ss front (record_step r s.0)
-    (record {
-      inner = entries_after s.0 k.inner;
-      is = ap (entries_after s.0) k.is ∙ entries_after-inside s.0 front k.inner;
-      matched = IsMatched-after s.0 k.inner k.matched;
-    })
+Inside-steps (s ∷ ss) front r k = Inside-steps ss front (record_step r s.0) (Inside-event s.0 front r k)
 
 Inside-Heard : (front : List Entry) (texts : List (List ℕ)) (old : Line) (r : Record) (text : List ℕ) (now : Record) → Inside front r → Heard texts old r text now → Inside front now
 Inside-Heard front texts old r text now k h = subst (λ (x : Record). Inside front x) (sym h.changes) (Inside-steps h.steps front r k)
 
 Inside-same : (front : List Entry) (old new : State) → Inside front old.pair.changes → new ≡ old → Inside front new.pair.changes
 Inside-same front old new k e = subst (λ (s : State). Inside front s.pair.changes) (sym e) k
-
-Inside-begun : (front : List Entry) (r : Record) → Inside front r → Inside front (begun r)
-Inside-begun front r k = record {
-  inner = k.inner ++ (Begin ∷ []);
-  is = ap (λ x. x ++ (Begin ∷ [])) k.is ∙ append_assoc front (Begin ∷ k.inner) (Begin ∷ []);
-  matched = IsMatched-begin k.inner k.matched;
-}
 
 Inside-other : (front : List Entry) (old : State) (command : Command) (reply : Reply) (new : State) → MayStandInGroup command reply → Others old command reply new
     → Inside front old.pair.changes → Inside front new.pair.changes
@@ -226,10 +178,6 @@ End-done old left _ d w = absurd d
 
 end-row : (row : Row) → row.command ≡ asks.End → ¬ (WasRefused row.reply) → row.after.pair.changes ≡ ended row.before.pair.changes
 end-row row e w = let d = does_as row asks.End e in d.3 ∙ End-done (readied asks.End row.before) d.0 row.reply d.1 w
-
-past_begin : (xs ys : List Entry) → drop (suc (length xs)) (xs ++ (Begin ∷ ys)) ≡ ys
-past_begin [] ys = refl
-past_begin (x ∷ xs) ys = past_begin xs ys
 
 -- what an undo keeps, right after the end of a group
 kept-before : (front : List Entry) (r : Record) → Inside front r → level front ≡ 0 → has_change (drop (suc (length front)) r.recorded) ≡ true

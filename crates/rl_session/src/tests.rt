@@ -8,6 +8,7 @@ use rl_line::{Changeset, LineBuffer};
 use std::alloc::Global;
 use std::io;
 use std::io::{Read, Write};
+use std::process::Abort;
 use std::test::Fail;
 
 // What a script prints.
@@ -16,6 +17,19 @@ fn printed_by(alloc: Global, script: &[u8]) -> Result<Vec<u8>, ScriptFault> {
     let mut printed = Vec::new(alloc);
     run_script(alloc, &mut reader, &mut printed)?;
     Ok(printed)
+}
+
+// The script prints that.
+fn prints(
+    rt: &impl Abort,
+    alloc: Global,
+    what: &str,
+    script: &[u8],
+    wanted: &[u8],
+) -> Result<(), Fail> {
+    let printed = printed_by(alloc, script)?;
+    assert_eq!(rt; printed.as_slice(), wanted, "{what}");
+    Ok(())
 }
 
 #[test]
@@ -64,11 +78,7 @@ fn scripts_print(rt: HostRuntime) -> Result<(), Fail> {
         ),
     ];
     for (what, script, wanted) in rows {
-        assert_eq!(rt;
-            printed_by(rt.alloc(), script)?.as_slice(),
-            wanted,
-            "{what}"
-        );
+        prints(&rt, rt.alloc(), what, script, wanted)?;
     }
     Ok(())
 }
@@ -133,11 +143,7 @@ fn kills_come_back(rt: HostRuntime) -> Result<(), Fail> {
         ),
     ];
     for (what, script, wanted) in rows {
-        assert_eq!(rt;
-            printed_by(rt.alloc(), script)?.as_slice(),
-            wanted,
-            "{what}"
-        );
+        prints(&rt, rt.alloc(), what, script, wanted)?;
     }
     Ok(())
 }
@@ -182,11 +188,7 @@ fn settings_are_for_the_next_text(rt: HostRuntime) -> Result<(), Fail> {
         ),
     ];
     for (what, script, wanted) in rows {
-        assert_eq!(rt;
-            printed_by(rt.alloc(), script)?.as_slice(),
-            wanted,
-            "{what}"
-        );
+        prints(&rt, rt.alloc(), what, script, wanted)?;
     }
     Ok(())
 }
@@ -226,11 +228,7 @@ fn movements_move(rt: HostRuntime) -> Result<(), Fail> {
         ),
     ];
     for (what, script, wanted) in rows {
-        assert_eq!(rt;
-            printed_by(rt.alloc(), script)?.as_slice(),
-            wanted,
-            "{what}"
-        );
+        prints(&rt, rt.alloc(), what, script, wanted)?;
     }
     Ok(())
 }
@@ -270,11 +268,7 @@ fn groups_are_undone_and_done_again(rt: HostRuntime) -> Result<(), Fail> {
         ),
     ];
     for (what, script, wanted) in rows {
-        assert_eq!(rt;
-            printed_by(rt.alloc(), script)?.as_slice(),
-            wanted,
-            "{what}"
-        );
+        prints(&rt, rt.alloc(), what, script, wanted)?;
     }
     Ok(())
 }
@@ -319,11 +313,7 @@ fn texts_and_places_are_commanded(rt: HostRuntime) -> Result<(), Fail> {
         ),
     ];
     for (what, script, wanted) in rows {
-        assert_eq!(rt;
-            printed_by(rt.alloc(), script)?.as_slice(),
-            wanted,
-            "{what}"
-        );
+        prints(&rt, rt.alloc(), what, script, wanted)?;
     }
     Ok(())
 }
@@ -343,13 +333,26 @@ fn every_word_does_something(rt: HostRuntime) -> Result<(), Fail> {
         ),
     ];
     for (what, script, wanted) in rows {
-        assert_eq!(rt;
-            printed_by(rt.alloc(), script)?.as_slice(),
-            wanted,
-            "{what}"
-        );
+        prints(&rt, rt.alloc(), what, script, wanted)?;
     }
     Ok(())
+}
+
+// Each of the lines prints `bad`, and the session goes on from where it was.
+fn prints_bad(rt: &impl Abort, alloc: Global, what: &str, lines: &[u8]) -> Result<(), Fail> {
+    let mut script = Vec::new(alloc);
+    script.extend_from_slice(b"text ab\n")?;
+    script.extend_from_slice(lines)?;
+    script.extend_from_slice(b"\nins 1 c\n")?;
+    let mut wanted = Vec::new(alloc);
+    wanted.extend_from_slice(b"ok 2 ab\nbad\n")?;
+    for b in lines {
+        if *b == b'\n' {
+            wanted.extend_from_slice(b"bad\n")?;
+        }
+    }
+    wanted.extend_from_slice(b"true 3 abc\n")?;
+    prints(rt, alloc, what, script.as_slice(), wanted.as_slice())
 }
 
 #[test]
@@ -411,25 +414,18 @@ fn malformed_lines_print_bad(rt: HostRuntime) -> Result<(), Fail> {
         ),
     ];
     for (what, lines) in rows {
-        let mut script = Vec::new(rt.alloc());
-        let mut wanted = Vec::new(rt.alloc());
-        script.extend_from_slice(b"text ab\n")?;
-        script.extend_from_slice(lines)?;
-        script.extend_from_slice(b"\nins 1 c\n")?;
-        wanted.extend_from_slice(b"ok 2 ab\nbad\n")?;
-        for b in lines {
-            if *b == b'\n' {
-                wanted.extend_from_slice(b"bad\n")?;
-            }
-        }
-        wanted.extend_from_slice(b"true 3 abc\n")?;
-        assert_eq!(rt;
-            printed_by(rt.alloc(), script.as_slice())?.as_slice(),
-            wanted.as_slice(),
-            "{what}"
-        );
+        prints_bad(&rt, rt.alloc(), what, lines)?;
     }
     Ok(())
+}
+
+// The record has so many entries, and the ring lends that.
+fn holds(rt: &impl Abort, pair: &mut Pair, entries: usize, wanted: Option<&str>, what: &str) {
+    assert!(rt; pair.changes.len() == entries, "{what}");
+    match pair.ring.yank() {
+        Some(slot) => assert!(rt; Some(slot.as_str()) == wanted, "{what}"),
+        None => assert!(rt; wanted.is_none(), "{what}"),
+    }
 }
 
 #[test]
@@ -441,40 +437,57 @@ fn a_pair_hears_as_one(rt: HostRuntime) -> Result<(), Fail> {
     };
     let mut line = LineBuffer::with_capacity(alloc, 9)?;
     line.yank("a bc", 1, &mut pair)?;
-    assert_eq!(rt; pair.ring.yank().is_none(), true, "an insertion is no kill");
+    holds(&rt, &mut pair, 1, None, "an insertion is no kill");
     line.backspace(1, &mut pair)?;
-    assert_eq!(rt; pair.ring.yank().is_none(), true, "nor is a deletion");
+    holds(&rt, &mut pair, 2, None, "nor is a deletion");
     line.kill(&Movement::BeginningOfLine, &mut pair)?;
-    assert_eq!(rt; line.as_str(), "", "the whole line was killed");
-    assert_eq!(rt;
-        pair.ring.yank().map(|slot| slot.as_str()),
-        Some("a b"),
-        "a kill is for the ring"
-    );
-    assert_eq!(rt; pair.changes.len(), 3, "the record has all three");
+    holds(&rt, &mut pair, 3, Some("a b"), "a kill is for both");
     if pair.changes.can_undo(&line)? {
         pair.changes.undo(&mut line, 3)?;
     }
-    assert_eq!(rt; pair.changes.len(), 0, "all three were undone");
-    assert_eq!(rt;
-        pair.ring.yank().map(|slot| slot.as_str()),
+    holds(
+        &rt,
+        &mut pair,
+        0,
         Some("a b"),
-        "which the ring does not hear"
+        "the ring does not hear of an undo",
     );
     Ok(())
 }
 
+// The session runs the commands with these replies, and then has that text and cursor.
+fn runs(
+    rt: &impl Abort,
+    session: &mut Session,
+    commands: &[Command],
+    wanted: &[Reply],
+    text: &str,
+    cursor: usize,
+) -> Result<(), Fail> {
+    let replies = session.run(commands)?;
+    assert_eq!(rt; replies.as_slice(), wanted, "one reply for each command");
+    assert_eq!(rt; session.line().as_str(), text, "the text at the end");
+    assert_eq!(rt; session.line().pos(), cursor, "the cursor at the end");
+    Ok(())
+}
+
 #[test]
-fn sessions_kill_and_yank(rt: HostRuntime) -> Result<(), Fail> {
+fn deletions_side_by_side_are_one_entry(rt: HostRuntime) -> Result<(), Fail> {
     let mut session = Session::new(rt.alloc(), "Hello", 4, 9, 60, GraphemeClusterMode::Unicode)?;
-    let one_back = Command::Kill(Movement::BackwardChar(1));
-    assert_eq!(rt; session.apply(&one_back), Reply::Answer(true));
-    assert_eq!(rt; session.apply(&one_back), Reply::Answer(true));
-    assert_eq!(rt;
-        session.record().len(),
-        1,
-        "two deletions side by side are one entry"
-    );
+    let commands = [
+        Command::Kill(Movement::BackwardChar(1)),
+        Command::Kill(Movement::BackwardChar(1)),
+    ];
+    let wanted = [Reply::Answer(true), Reply::Answer(true)];
+    runs(&rt, &mut session, &commands, &wanted, "Heo", 2)?;
+    let entries = session.record().len();
+    assert_eq!(rt; entries, 1, "the entries");
+    Ok(())
+}
+
+#[test]
+fn the_ring_knows_what_was_yanked(rt: HostRuntime) -> Result<(), Fail> {
+    let mut session = Session::new(rt.alloc(), "Heo", 2, 9, 60, GraphemeClusterMode::Unicode)?;
     let commands = [
         Command::Kill(Movement::BeginningOfLine),
         Command::Kill(Movement::EndOfLine),
@@ -485,27 +498,32 @@ fn sessions_kill_and_yank(rt: HostRuntime) -> Result<(), Fail> {
         Reply::Answer(true),
         Reply::Inserted(Some(true)),
     ];
-    let replies = session.run(&commands)?;
-    assert_eq!(rt;
-        replies.as_slice(),
-        wanted.as_slice(),
-        "one reply for each command"
-    );
-    assert_eq!(rt;
-        session.line().as_str(),
-        "Heo",
-        "one yank gives both kills back"
-    );
-    assert_eq!(rt; session.line().pos(), 3, "with the cursor at its end");
-    assert_eq!(rt; session.ring().yank_size(), Some(3), "which the ring knows");
-    assert_eq!(rt; session.apply(&Command::SetPos(1)), Reply::Done);
-    assert_eq!(rt; session.ring().yank_size(), None, "until another command");
+    runs(&rt, &mut session, &commands, &wanted, "Heo", 3)?;
+    let yanked = session.ring().yank_size();
+    assert_eq!(rt; yanked, Some(3), "right after the yank");
+    session.apply(&Command::SetPos(1));
+    let yanked = session.ring().yank_size();
+    assert_eq!(rt; yanked, None, "after another command");
     Ok(())
 }
 
+// A session of that text and limit 2 opens with the cursor at the place, or answers that fault.
+fn opens(rt: &impl Abort, alloc: Global, what: &str, pos: usize, wanted: Option<Fault>) {
+    let text = "\u{e9}a";
+    match Session::new(alloc, text, pos, 2, 60, GraphemeClusterMode::Unicode) {
+        Ok(session) => {
+            assert!(rt; wanted.is_none(), "{what}");
+            assert!(rt; session.line().as_str() == text, "{what}");
+            assert!(rt; session.line().pos() == pos, "{what}");
+            assert!(rt; session.line().limit() == text.len(), "{what}");
+            assert!(rt; session.record().len() == 0, "{what}");
+        }
+        Err(fault) => assert!(rt; Some(fault) == wanted, "{what}"),
+    }
+}
+
 #[test]
-fn sessions_open_and_run(rt: HostRuntime) -> Result<(), Fail> {
-    let unicode = GraphemeClusterMode::Unicode;
+fn sessions_open(rt: HostRuntime) {
     let rows = [
         ("at the start", 0, None),
         ("between two characters", 2, None),
@@ -514,18 +532,12 @@ fn sessions_open_and_run(rt: HostRuntime) -> Result<(), Fail> {
         ("past the end", 4, Some(Fault::BadPlace)),
     ];
     for (what, pos, wanted) in rows {
-        match Session::new(rt.alloc(), "\u{e9}a", pos, 2, 60, unicode) {
-            Ok(session) => {
-                assert_eq!(rt; wanted, None, "{what}");
-                assert_eq!(rt; session.line().as_str(), "\u{e9}a", "{what}");
-                assert_eq!(rt; session.line().pos(), pos, "{what}");
-                assert_eq!(rt; session.line().limit(), 3, "{what}");
-                assert_eq!(rt; session.record().len(), 0, "{what}");
-            }
-            Err(fault) => assert_eq!(rt; Some(fault), wanted, "{what}"),
-        }
+        opens(&rt, rt.alloc(), what, pos, wanted);
     }
-    let mut session = Session::new(rt.alloc(), "ab", 2, 4, 60, unicode)?;
+}
+
+#[test]
+fn a_run_goes_on_past_a_refusal(rt: HostRuntime) -> Result<(), Fail> {
     let commands = [
         Command::Insert('c', 2),
         Command::Insert('d', 1),
@@ -542,18 +554,10 @@ fn sessions_open_and_run(rt: HostRuntime) -> Result<(), Fail> {
         Reply::Done,
         Reply::Answer(true),
     ];
-    let replies = session.run(&commands)?;
-    assert_eq!(rt;
-        replies.as_slice(),
-        wanted.as_slice(),
-        "one reply for each command"
-    );
-    assert_eq!(rt; session.line().as_str(), "ab", "both changes were undone");
-    assert_eq!(rt;
-        session.apply(&Command::Undo(1)),
-        Reply::Answer(false),
-        "nothing is left"
-    );
+    let mut session = Session::new(rt.alloc(), "ab", 2, 4, 60, GraphemeClusterMode::Unicode)?;
+    runs(&rt, &mut session, &commands, &wanted, "ab", 2)?;
+    let undone = session.apply(&Command::Undo(1));
+    assert_eq!(rt; undone, Reply::Answer(false), "nothing is left");
     Ok(())
 }
 
@@ -629,15 +633,7 @@ fn every_command_runs(rt: HostRuntime) -> Result<(), Fail> {
         Reply::Answer(true),
     ];
     let mut session = Session::new(alloc, "ab cd", 5, 64, 2, GraphemeClusterMode::Unicode)?;
-    let replies = session.run(&commands)?;
-    assert_eq!(rt;
-        replies.as_slice(),
-        wanted.as_slice(),
-        "each command does something or hands something out, and none is refused"
-    );
-    assert_eq!(rt; session.line().as_str(), "", "the text at the end");
-    assert_eq!(rt; session.line().pos(), 0, "the cursor at the end");
-    Ok(())
+    runs(&rt, &mut session, &commands, &wanted, "", 0)
 }
 
 #[test]
@@ -654,11 +650,7 @@ fn an_insertion_runs_and_is_undone(rt: HostRuntime) -> Result<(), Fail> {
         Reply::Answer(true),
     ];
     let mut session = Session::new(alloc, "ab", 2, 64, 2, GraphemeClusterMode::Unicode)?;
-    let replies = session.run(&commands)?;
-    assert_eq!(rt; replies.as_slice(), wanted.as_slice(), "one reply for each");
-    assert_eq!(rt; session.line().as_str(), "ab", "the text at the end");
-    assert_eq!(rt; session.line().pos(), 1, "the cursor at the end");
-    Ok(())
+    runs(&rt, &mut session, &commands, &wanted, "ab", 1)
 }
 
 #[test]
@@ -679,14 +671,7 @@ fn a_group_runs_and_is_undone_with_its_beginning(rt: HostRuntime) -> Result<(), 
         Reply::Answer(false),
     ];
     let mut session = Session::new(alloc, "", 0, 64, 2, GraphemeClusterMode::Unicode)?;
-    let replies = session.run(&commands)?;
-    assert_eq!(rt;
-        replies.as_slice(),
-        wanted.as_slice(),
-        "the group was open until the undo"
-    );
-    assert_eq!(rt; session.line().as_str(), "a", "the text at the end");
-    assert_eq!(rt; session.line().pos(), 1, "the cursor at the end");
+    runs(&rt, &mut session, &commands, &wanted, "a", 1)?;
     assert_eq!(rt; session.record().level(), 0, "no group is open");
     Ok(())
 }
@@ -708,27 +693,9 @@ fn kills_run_and_come_back(rt: HostRuntime) -> Result<(), Fail> {
         Reply::Answer(true),
         Reply::Inserted(Some(true)),
     ];
-    let mut session = Session::new(
-        alloc,
-        "one two three",
-        13,
-        64,
-        2,
-        GraphemeClusterMode::Unicode,
-    )?;
-    let replies = session.run(&commands)?;
-    assert_eq!(rt;
-        replies.as_slice(),
-        wanted.as_slice(),
-        "three kills and a yank"
-    );
-    assert_eq!(rt;
-        session.line().as_str(),
-        "one two three",
-        "the text at the end"
-    );
-    assert_eq!(rt; session.line().pos(), 13, "the cursor at the end");
-    Ok(())
+    let text = "one two three";
+    let mut session = Session::new(alloc, text, 13, 64, 2, GraphemeClusterMode::Unicode)?;
+    runs(&rt, &mut session, &commands, &wanted, text, 13)
 }
 
 // A reader and a writer that fail at once.

@@ -9,6 +9,19 @@ use std::process::Abort;
 use std::test::Fail;
 use unicode_segmentation::UnicodeSegmentation;
 
+fn goes_by_clusters(
+    rt: &impl Abort,
+    text: &str,
+    pos: usize,
+    n: RepeatCount,
+    next: Option<usize>,
+    prev: Option<usize>,
+) {
+    assert!(rt; text.is_char_boundary(pos), "{text} {pos}");
+    assert_eq!(rt; next_pos(text, pos, n), next, "{text} {pos} next {n}");
+    assert_eq!(rt; prev_pos(text, pos, n), prev, "{text} {pos} prev {n}");
+}
+
 #[test]
 fn clusters(rt: HostRuntime) {
     let rows: [(&str, usize, RepeatCount, Option<usize>, Option<usize>); 8] = [
@@ -22,10 +35,22 @@ fn clusters(rt: HostRuntime) {
         ("a\r\nb", 3, 1, Some(4), Some(1)),
     ];
     for (text, pos, n, next, prev) in rows {
-        assert!(rt; text.is_char_boundary(pos), "{text} {pos}");
-        assert_eq!(rt; next_pos(text, pos, n), next, "{text} {pos} next {n}");
-        assert_eq!(rt; prev_pos(text, pos, n), prev, "{text} {pos} prev {n}");
+        goes_by_clusters(&rt, text, pos, n, next, prev);
     }
+}
+
+fn goes_to_word(
+    rt: &impl Abort,
+    text: &str,
+    pos: usize,
+    at: At,
+    word: Word,
+    n: RepeatCount,
+    want: Option<usize>,
+) {
+    assert!(rt; text.is_char_boundary(pos), "{text} {pos}");
+    let place = next_word(text, pos, at, word, n);
+    assert_eq!(rt; place, want, "{text} {at:?} {word:?} {n} from {pos}");
 }
 
 #[test]
@@ -55,18 +80,24 @@ fn words_ahead_repeated(rt: HostRuntime) {
     for (text, at, word, stops) in rows {
         let mut pos = 0;
         for want in stops {
-            assert!(rt; text.is_char_boundary(pos), "{text} {at:?} {word:?} {pos}");
-            let place = next_word(text, pos, at, word, 1);
-            assert_eq!(rt; place, Some(*want), "{text} {at:?} {word:?} from {pos}");
+            goes_to_word(&rt, text, pos, at, word, 1, Some(*want));
             pos = *want;
         }
-        assert!(rt; text.is_char_boundary(pos), "{text} {at:?} {word:?} {pos}");
-        assert_eq!(rt;
-            next_word(text, pos, at, word, 1),
-            None,
-            "{text} {at:?} {word:?} from {pos}"
-        );
+        goes_to_word(&rt, text, pos, at, word, 1, None);
     }
+}
+
+fn goes_back_to_word(
+    rt: &impl Abort,
+    text: &str,
+    pos: usize,
+    word: Word,
+    n: RepeatCount,
+    want: Option<usize>,
+) {
+    assert!(rt; text.is_char_boundary(pos), "{text} {pos}");
+    let place = prev_word(text, pos, word, n);
+    assert_eq!(rt; place, want, "{text} {word:?} {n} back from {pos}");
 }
 
 #[test]
@@ -83,17 +114,10 @@ fn words_back_repeated(rt: HostRuntime) {
     for (text, end, word, starts) in rows {
         let mut pos = end;
         for want in starts {
-            assert!(rt; text.is_char_boundary(pos), "{text} {word:?} {pos}");
-            let place = prev_word(text, pos, word, 1);
-            assert_eq!(rt; place, Some(*want), "{text} {word:?} from {pos}");
+            goes_back_to_word(&rt, text, pos, word, 1, Some(*want));
             pos = *want;
         }
-        assert!(rt; text.is_char_boundary(pos), "{text} {word:?} {pos}");
-        assert_eq!(rt;
-            prev_word(text, pos, word, 1),
-            None,
-            "{text} {word:?} from {pos}"
-        );
+        goes_back_to_word(&rt, text, pos, word, 1, None);
     }
 }
 
@@ -112,9 +136,7 @@ fn words_ahead_counted(rt: HostRuntime) {
         ("a_b c", 0, At::AfterEnd, Word::Vi, 1, Some(3)),
     ];
     for (text, pos, at, word, n, want) in rows {
-        assert!(rt; text.is_char_boundary(pos), "{text} {pos}");
-        let place = next_word(text, pos, at, word, n);
-        assert_eq!(rt; place, want, "{text} {pos} {at:?} {word:?} {n}");
+        goes_to_word(&rt, text, pos, at, word, n, want);
     }
 }
 
@@ -127,13 +149,24 @@ fn words_back_counted(rt: HostRuntime) {
         ("a \u{df}  c", 6, Word::Big, 1, Some(2)),
     ];
     for (text, pos, word, n, want) in rows {
-        assert!(rt; text.is_char_boundary(pos), "{text} {pos}");
-        assert_eq!(rt;
-            prev_word(text, pos, word, n),
-            want,
-            "{text} {pos} {word:?} {n}"
-        );
+        goes_back_to_word(&rt, text, pos, word, n, want);
     }
+}
+
+fn finds(
+    rt: &impl Abort,
+    text: &str,
+    pos: usize,
+    cs: CharSearch,
+    n: RepeatCount,
+    hit: Option<usize>,
+    place: Option<usize>,
+) {
+    assert!(rt; text.is_char_boundary(pos), "{text} {pos}");
+    let found = search(text, pos, cs, n);
+    assert_eq!(rt; found, hit, "{text} {pos} {cs:?} {n}, the hit");
+    let goes = find_place(text, pos, cs, n);
+    assert_eq!(rt; goes, place, "{text} {pos} {cs:?} {n}, the place");
 }
 
 #[test]
@@ -162,17 +195,7 @@ fn searches(rt: HostRuntime) {
         (marked, 0, Forward('\u{301}'), 1, Some(5), Some(5)),
     ];
     for (text, pos, cs, n, hit, place) in rows {
-        assert!(rt; text.is_char_boundary(pos), "{text} {pos}");
-        assert_eq!(rt;
-            search(text, pos, cs, n),
-            hit,
-            "{text} {pos} {cs:?} {n}, the hit"
-        );
-        assert_eq!(rt;
-            find_place(text, pos, cs, n),
-            place,
-            "{text} {pos} {cs:?} {n}, the place"
-        );
+        finds(&rt, text, pos, cs, n, hit, place);
     }
 }
 
