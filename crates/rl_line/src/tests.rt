@@ -3,7 +3,7 @@
 use crate::line_buffer::line_of;
 use crate::undo::tests::stands;
 use crate::{Changeset, LineBuffer, MAX_LINE};
-use rl_base::NoListener;
+use rl_base::{NoListener, RepeatCount};
 use std::alloc::Global;
 use std::process::Abort;
 use std::test::Fail;
@@ -35,6 +35,25 @@ fn inserts_on_an_empty_line(rt: HostRuntime) -> Result<(), Fail> {
     inserts(&rt, &mut line, 0, 'γ', false, "γαß", 2)
 }
 
+// Inserts so often, on a line made with limit 2. That answers that, and leaves that text and so many entries.
+fn inserts_within(
+    rt: &impl Abort,
+    line: &mut LineBuffer,
+    record: &mut Changeset,
+    c: char,
+    n: RepeatCount,
+    answer: Option<bool>,
+    text: &str,
+    entries: usize,
+) -> Result<(), Fail> {
+    let answered = line.insert(c, n, record)?;
+    assert!(rt; answered == answer, "the answer to {c}, {n} times");
+    stands(rt, line, record, text, text.len(), entries);
+    let limit = text.len().max(2);
+    assert!(rt; line.limit() == limit, "the limit after {c}, {n} times");
+    Ok(())
+}
+
 #[test]
 fn insert_is_refused_past_the_limit(rt: HostRuntime) -> Result<(), Fail> {
     let mut line = LineBuffer::with_capacity(rt.alloc(), 2)?;
@@ -47,17 +66,7 @@ fn insert_is_refused_past_the_limit(rt: HostRuntime) -> Result<(), Fail> {
         ('*', 1, true, Some(true), "+-*", 3),
     ] {
         line = line.can_growth(grows);
-        assert_eq!(rt;
-            line.insert(c, n, &mut record)?,
-            answer,
-            "the answer to {c}, {n} times"
-        );
-        stands(&rt, &line, &record, text, text.len(), entries);
-        assert_eq!(rt;
-            line.limit(),
-            text.len().max(2),
-            "the limit after {c}, {n} times"
-        );
+        inserts_within(&rt, &mut line, &mut record, c, n, answer, text, entries)?;
     }
     Ok(())
 }
@@ -70,6 +79,11 @@ fn inserts_a_text(rt: HostRuntime) -> Result<(), Fail> {
     assert_eq!(rt; line.pos(), 0);
     assert_eq!(rt; line.limit(), 3);
     Ok(())
+}
+
+// It is so, of a line that holds the text.
+fn is_so(rt: &impl Abort, is_so: bool, what: &str, text: &str) {
+    assert!(rt; is_so, "{what} of {text:?}");
 }
 
 // What a line of limit 8 that holds the text answers.
@@ -85,16 +99,10 @@ fn answers(
     line.yank(text, 1, &mut NoListener)?;
     assert!(rt; line.as_str().is_char_boundary(from), "{from} is a place");
     line.set_pos(from);
-    assert!(rt;
-        line.is_empty() == is_empty,
-        "whether there is a text before {from}"
-    );
-    assert!(rt;
-        line.is_cursor_at_end() == at_end,
-        "whether {from} is the end"
-    );
-    assert_eq!(rt; line.len(), text.len(), "the length of the text");
-    assert_eq!(rt; line.limit(), 8, "the limit, with the cursor at {from}");
+    is_so(rt, line.is_empty() == is_empty, "whether it is empty", text);
+    is_so(rt, line.is_cursor_at_end() == at_end, "the end", text);
+    is_so(rt, line.len() == text.len(), "the length", text);
+    is_so(rt, line.limit() == 8, "the limit", text);
     Ok(())
 }
 

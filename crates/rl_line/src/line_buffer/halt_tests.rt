@@ -1,7 +1,7 @@
 //! Edits that their listener refuses halfway, and what they leave.
 use crate::LineBuffer;
 use crate::line_buffer::heard::Heard;
-use crate::line_buffer::motions::tests::line_of;
+use crate::line_buffer::motions::tests::{leaves, line_of};
 use rl_base::{Movement, Refusal, RepeatCount, Word, WordAction};
 use std::alloc::Global;
 use std::process::Abort;
@@ -26,51 +26,97 @@ enum Edit {
     Dedent(u8),
 }
 
-// Makes the edit, from the start of the text where it takes a place.
-fn make(
+// Puts the text in the place of what stands before the cursor.
+fn yank_pop(
     rt: &impl Abort,
     line: &mut LineBuffer,
-    edit: &Edit,
+    size: usize,
+    text: &str,
     heard: &mut Heard,
-) -> Result<(), Refusal> {
-    let _answered = match edit {
-        Edit::Insert(c, n) => line.insert(*c, *n, heard)?.is_some(),
-        Edit::Yank(text) => line.yank(text, 1, heard)?.is_some(),
+) -> Option<Refusal> {
+    let at = line.pos();
+    assert!(rt; size <= at && line.as_str().is_char_boundary(at - size));
+    line.yank_pop(size, text, heard).err()
+}
+
+// Puts the text in the place of the whole text.
+fn replace(
+    rt: &impl Abort,
+    line: &mut LineBuffer,
+    text: &str,
+    heard: &mut Heard,
+) -> Option<Refusal> {
+    let end = line.len();
+    assert!(rt; line.as_str().is_char_boundary(0) && line.as_str().is_char_boundary(end));
+    line.replace(0..end, text, heard).err()
+}
+
+// Takes the whole text out.
+fn delete_range(rt: &impl Abort, line: &mut LineBuffer, heard: &mut Heard) -> Option<Refusal> {
+    let end = line.len();
+    assert!(rt; line.as_str().is_char_boundary(0) && line.as_str().is_char_boundary(end));
+    line.delete_range(0..end, heard).err()
+}
+
+// Makes the edit, from the start of the text where it takes a place. That answers why it was refused, if it was.
+fn make(rt: &impl Abort, line: &mut LineBuffer, edit: &Edit, heard: &mut Heard) -> Option<Refusal> {
+    match edit {
+        Edit::Insert(c, n) => line.insert(*c, *n, heard).err(),
+        Edit::Yank(text) => line.yank(text, 1, heard).err(),
         Edit::YankPop(text) => {
             let at = line.pos();
-            let size = at;
-            assert!(rt; line.as_str().is_char_boundary(at - size));
-            line.yank_pop(size, text, heard)?.is_some()
+            yank_pop(rt, line, at, text, heard)
         }
         Edit::Update(text) => {
             assert!(rt; text.is_char_boundary(0));
-            line.update(text, 0, heard)?;
-            true
+            line.update(text, 0, heard).err()
         }
-        Edit::Replace(text) => {
-            let end = line.len();
-            assert!(rt; line.as_str().is_char_boundary(0) && line.as_str().is_char_boundary(end));
-            line.replace(0..end, text, heard)?;
-            true
-        }
-        Edit::Delete(n) => line.delete(*n, heard)?.is_some(),
-        Edit::Kill(mvt) => line.kill(mvt, heard)?,
-        Edit::TransposeChars => line.transpose_chars(heard)?,
-        Edit::TransposeWords => line.transpose_words(1, heard)?,
-        Edit::EditWord(action) => line.edit_word(*action, heard)?,
+        Edit::Replace(text) => replace(rt, line, text, heard),
+        Edit::Delete(n) => line.delete(*n, heard).err(),
+        Edit::Kill(mvt) => line.kill(mvt, heard).err(),
+        Edit::TransposeChars => line.transpose_chars(heard).err(),
+        Edit::TransposeWords => line.transpose_words(1, heard).err(),
+        Edit::EditWord(action) => line.edit_word(*action, heard).err(),
         Edit::InsertStr => {
             let at = line.pos();
-            line.insert_str(at, "cd", heard)?
+            line.insert_str(at, "cd", heard).err()
         }
-        Edit::DeleteRange => {
-            let end = line.len();
-            assert!(rt; line.as_str().is_char_boundary(0) && line.as_str().is_char_boundary(end));
-            line.delete_range(0..end, heard)?;
-            true
-        }
-        Edit::Indent(amount) => line.indent(&Movement::WholeBuffer, *amount, false, heard)?,
-        Edit::Dedent(amount) => line.indent(&Movement::WholeBuffer, *amount, true, heard)?,
+        Edit::DeleteRange => delete_range(rt, line, heard),
+        Edit::Indent(amount) => line
+            .indent(&Movement::WholeBuffer, *amount, false, heard)
+            .err(),
+        Edit::Dedent(amount) => line
+            .indent(&Movement::WholeBuffer, *amount, true, heard)
+            .err(),
+    }
+}
+
+// The listener hears as many changes as are allowed, and the edit is refused or not, and leaves that text and cursor.
+fn halts_after(
+    rt: &impl Abort,
+    alloc: Global,
+    text: &str,
+    pos: usize,
+    edit: &Edit,
+    allowed: usize,
+    refused: bool,
+    after: &str,
+    cursor: usize,
+) -> Result<(), Fail> {
+    let mut line = line_of(rt, alloc, text, pos)?;
+    let mut heard = Heard::new(allowed);
+    let refusal = make(rt, &mut line, edit, &mut heard);
+    let wanted = if refused {
+        Some(Refusal::Listener)
+    } else {
+        None
     };
+    assert!(rt; refusal == wanted, "{text} at {pos}, {allowed} allowed");
+    assert!(rt;
+        heard.left == 0 && heard.starts == heard.stops,
+        "{text} at {pos}, {allowed} allowed"
+    );
+    leaves(rt, &line, text, pos, after, cursor);
     Ok(())
 }
 
@@ -85,62 +131,41 @@ fn halts(
 ) -> Result<(), Fail> {
     let last = states.len().saturating_sub(1);
     for (allowed, (after, cursor)) in states.iter().enumerate() {
-        let mut line = line_of(rt, alloc, text, pos)?;
-        let mut heard = Heard::new(allowed);
-        let answer = make(rt, &mut line, edit, &mut heard);
-        let refused = answer == Err(Refusal::Listener);
-        assert!(rt;
-            refused || answer.is_ok(),
-            "{text} at {pos}, {allowed} allowed"
-        );
-        assert_eq!(rt;
-            refused,
+        halts_after(
+            rt,
+            alloc,
+            text,
+            pos,
+            edit,
+            allowed,
             allowed < last,
-            "{text} at {pos}, {allowed} allowed"
-        );
-        assert!(rt;
-            heard.left == 0 && heard.starts == heard.stops,
-            "{text} at {pos}, {allowed} allowed"
-        );
-        assert_eq!(rt; line.as_str(), *after, "{allowed} allowed");
-        assert_eq!(rt; line.pos(), *cursor, "{text} at {pos}, {allowed} allowed");
+            after,
+            *cursor,
+        )?;
     }
     Ok(())
 }
 
 #[test]
-fn refused_insertions_leave_the_line(rt: HostRuntime) -> Result<(), Fail> {
-    let edit = Edit::Insert('c', 1);
-    halts(&rt, rt.alloc(), "ab", 1, &edit, &[("ab", 1), ("acb", 2)])?;
-    let edit = Edit::Insert('c', 2);
-    halts(&rt, rt.alloc(), "ab", 1, &edit, &[("ab", 1), ("accb", 3)])?;
-    let edit = Edit::Yank("c");
-    halts(&rt, rt.alloc(), "ab", 1, &edit, &[("ab", 1), ("acb", 2)])?;
-    let edit = Edit::InsertStr;
-    halts(&rt, rt.alloc(), "ab", 1, &edit, &[("ab", 1), ("acdb", 1)])?;
-    let edit = Edit::Replace("cde");
-    halts(&rt, rt.alloc(), "ab", 1, &edit, &[("ab", 1), ("cde", 3)])
-}
-
-#[test]
-fn refused_deletions_leave_the_line(rt: HostRuntime) -> Result<(), Fail> {
-    let edit = Edit::Delete(1);
-    halts(&rt, rt.alloc(), "ab", 1, &edit, &[("ab", 1), ("a", 1)])?;
-    let edit = Edit::DeleteRange;
-    halts(&rt, rt.alloc(), "ab", 1, &edit, &[("ab", 1), ("", 0)])?;
-    let edit = Edit::Kill(Movement::WholeLine);
-    halts(&rt, rt.alloc(), "ab cd", 3, &edit, &[("ab cd", 3), ("", 0)])?;
-    let edit = Edit::Kill(Movement::WholeBuffer);
-    halts(&rt, rt.alloc(), "ab cd", 3, &edit, &[("ab cd", 3), ("", 0)])?;
-    let edit = Edit::Kill(Movement::BackwardWord(1, Word::Vi));
-    halts(
-        &rt,
-        rt.alloc(),
-        "ab cd",
-        5,
-        &edit,
-        &[("ab cd", 5), ("ab ", 3)],
-    )
+fn refused_edits_leave_the_line(rt: HostRuntime) -> Result<(), Fail> {
+    let back = Movement::BackwardWord(1, Word::Vi);
+    // a text, the cursor, an edit of one change, and the text and the cursor after it
+    for (text, pos, edit, after, cursor) in &[
+        ("ab", 1, Edit::Insert('c', 1), "acb", 2),
+        ("ab", 1, Edit::Insert('c', 2), "accb", 3),
+        ("ab", 1, Edit::Yank("c"), "acb", 2),
+        ("ab", 1, Edit::InsertStr, "acdb", 1),
+        ("ab", 1, Edit::Replace("cde"), "cde", 3),
+        ("ab", 1, Edit::Delete(1), "a", 1),
+        ("ab", 1, Edit::DeleteRange, "", 0),
+        ("ab cd", 3, Edit::Kill(Movement::WholeLine), "", 0),
+        ("ab cd", 3, Edit::Kill(Movement::WholeBuffer), "", 0),
+        ("ab cd", 5, Edit::Kill(back), "ab ", 3),
+    ] {
+        let states = [(*text, *pos), (*after, *cursor)];
+        halts(&rt, rt.alloc(), text, *pos, edit, &states)?;
+    }
+    Ok(())
 }
 
 #[test]

@@ -35,13 +35,10 @@ pub(crate) fn stands(
     cursor: usize,
     entries: usize,
 ) {
+    let (pos, len) = (line.pos(), record.len());
     assert_eq!(rt; line.as_str(), text, "with {entries} entries");
-    assert_eq!(rt; line.pos(), cursor, "the cursor with {entries} entries");
-    assert_eq!(rt;
-        record.len(),
-        entries,
-        "the entries with the cursor at {cursor}"
-    );
+    assert_eq!(rt; pos, cursor, "the cursor with {entries} entries");
+    assert_eq!(rt; len, entries, "the entries with the cursor at {cursor}");
 }
 
 // A call of a line that tells its record, or of the record, as a value of a table.
@@ -52,15 +49,65 @@ enum Call {
     Back(RepeatCount),
     Ahead,
     KillFirstPrint,
+    Replace(usize, usize, &'static str),
+    // "zz" at the cursor, which stays
+    PutText,
+    UnheardInsert(char, RepeatCount),
+    UnheardBack(RepeatCount),
+    Limit,
+    Told(Event),
     Begin,
     End,
     Truncate(usize),
+    CanUndo,
+    CanRedo,
     Replays(usize),
     Undo(RepeatCount),
     Redo,
 }
 
-// Makes the call. It answers the mark of a begin, and else 1 for true and 0 for what is not true.
+// What a record is told by itself, while the line stays as it is.
+#[derive(Clone, Copy)]
+enum Event {
+    Char(usize, char),
+    Text(usize, &'static str),
+    Deletion(usize, &'static str, Direction),
+    Replacement(usize, &'static str, &'static str),
+    Kill,
+}
+
+// Tells the record of the event.
+fn tell(record: &mut Changeset, event: Event) -> Result<(), Refusal> {
+    match event {
+        Event::Char(idx, c) => record.insert_char(idx, c),
+        Event::Text(idx, text) => record.insert_str(idx, text),
+        Event::Deletion(idx, text, side) => record.delete(idx, text, side),
+        Event::Replacement(idx, old, new) => record.replace(idx, old, new),
+        Event::Kill => {
+            record.start_killing();
+            record.stop_killing();
+            Ok(())
+        }
+    }
+}
+
+// Replaces what stands between two places of the line, and answers true.
+fn replace(
+    rt: &impl Abort,
+    line: &mut LineBuffer,
+    record: &mut Changeset,
+    start: usize,
+    end: usize,
+    text: &str,
+) -> Result<bool, Fail> {
+    let held = line.as_str();
+    let places = held.is_char_boundary(start) && held.is_char_boundary(end);
+    assert!(rt; start <= end && places, "from {start} to {end}");
+    line.replace(start..end, text, record)?;
+    Ok(true)
+}
+
+// Makes the call. It answers the mark of a begin, or the limit, and else 1 for true and 0 for what is not true.
 fn make(
     rt: &impl Abort,
     line: &mut LineBuffer,
@@ -73,12 +120,26 @@ fn make(
         Call::Back(n) => line.backspace(n, record)?,
         Call::Ahead => line.delete(1, record)?.is_some(),
         Call::KillFirstPrint => line.kill(&Movement::ViFirstPrint, record)?,
+        Call::Replace(start, end, text) => replace(rt, line, record, start, end, text)?,
+        Call::PutText => {
+            let at = line.pos();
+            line.insert_str(at, "zz", record)?
+        }
+        Call::UnheardInsert(c, n) => line.insert(c, n, &mut NoListener)? == Some(true),
+        Call::UnheardBack(n) => line.backspace(n, &mut NoListener)?,
+        Call::Limit => return Ok(line.limit()),
+        Call::Told(event) => {
+            tell(record, event)?;
+            true
+        }
         Call::Begin => return Ok(record.begin()?),
         Call::End => record.end()?,
         Call::Truncate(len) => {
             record.truncate(len);
             true
         }
+        Call::CanUndo => record.can_undo(line)?,
+        Call::CanRedo => record.can_redo(line)?,
         Call::Replays(len) => record.replays_to(len, line)?,
         Call::Undo(n) => undo(rt, line, record, n)?,
         Call::Redo => redo(rt, line, record)?,
@@ -86,20 +147,30 @@ fn make(
     Ok(usize::from(answer))
 }
 
-// A call, its answer, the text that it leaves with the cursor at the end, the entries, and the open groups.
-type Step = (Call, usize, &'static str, usize, usize);
+// A call, its answer, and what it leaves: the text, the cursor, the entries, and the open groups.
+type Step = (Call, usize, &'static str, usize, usize, usize);
 
-// Takes the steps on a line that holds the text, with a new record.
-fn goes(rt: &impl Abort, alloc: Global, text: &str, steps: &[Step]) -> Result<(), Fail> {
-    let mut line = line_of(rt, alloc, text, text.len())?;
+// Takes the steps on the line, with a new record.
+fn takes(
+    rt: &impl Abort,
+    line: &mut LineBuffer,
+    alloc: Global,
+    steps: &[Step],
+) -> Result<(), Fail> {
     let mut record = Changeset::new(alloc);
-    for (i, (call, answer, after, entries, open)) in steps.iter().enumerate() {
-        let answered = make(rt, &mut line, &mut record, *call)?;
+    for (i, (call, answer, text, cursor, entries, open)) in steps.iter().enumerate() {
+        let answered = make(rt, line, &mut record, *call)?;
         assert_eq!(rt; answered, *answer, "the answer of step {i}");
-        stands(rt, &line, &record, after, after.len(), *entries);
+        stands(rt, line, &record, text, *cursor, *entries);
         assert_eq!(rt; record.level(), *open, "the open groups after step {i}");
     }
     Ok(())
+}
+
+// Takes the steps on a line that holds the text, with the cursor at its end.
+fn goes(rt: &impl Abort, alloc: Global, text: &str, steps: &[Step]) -> Result<(), Fail> {
+    let mut line = line_of(rt, alloc, text, text.len())?;
+    takes(rt, &mut line, alloc, steps)
 }
 
 #[test]
@@ -109,15 +180,15 @@ fn a_group_comes_and_goes_as_one(rt: HostRuntime) -> Result<(), Fail> {
         rt.alloc(),
         "",
         &[
-            (Call::Insert('a', 1), 1, "a", 1, 0),
-            (Call::Begin, 1, "a", 2, 1),
-            (Call::Insert('b', 1), 1, "ab", 3, 1),
-            (Call::Insert('c', 1), 1, "abc", 3, 1),
-            (Call::End, 1, "abc", 4, 0),
-            (Call::Undo(1), 1, "a", 1, 0),
-            (Call::Redo, 1, "abc", 4, 0),
+            (Call::Insert('a', 1), 1, "a", 1, 1, 0),
+            (Call::Begin, 1, "a", 1, 2, 1),
+            (Call::Insert('b', 1), 1, "ab", 2, 3, 1),
+            (Call::Insert('c', 1), 1, "abc", 3, 3, 1),
+            (Call::End, 1, "abc", 3, 4, 0),
+            (Call::Undo(1), 1, "a", 1, 1, 0),
+            (Call::Redo, 1, "abc", 3, 4, 0),
             // nothing joins what a closed group holds
-            (Call::Insert('d', 1), 1, "abcd", 5, 0),
+            (Call::Insert('d', 1), 1, "abcd", 4, 5, 0),
         ],
     )
 }
@@ -129,11 +200,11 @@ fn an_undo_goes_past_an_open_begin(rt: HostRuntime) -> Result<(), Fail> {
         rt.alloc(),
         "",
         &[
-            (Call::Insert('a', 1), 1, "a", 1, 0),
-            (Call::Begin, 1, "a", 2, 1),
-            (Call::Insert('b', 1), 1, "ab", 3, 1),
-            (Call::Undo(2), 1, "a", 1, 0),
-            (Call::End, 0, "a", 1, 0),
+            (Call::Insert('a', 1), 1, "a", 1, 1, 0),
+            (Call::Begin, 1, "a", 1, 2, 1),
+            (Call::Insert('b', 1), 1, "ab", 2, 3, 1),
+            (Call::Undo(2), 1, "a", 1, 1, 0),
+            (Call::End, 0, "a", 1, 1, 0),
         ],
     )?;
     // an undo takes the open begin, and then the closed group before it; the redo of an open begin takes the rest
@@ -142,18 +213,18 @@ fn an_undo_goes_past_an_open_begin(rt: HostRuntime) -> Result<(), Fail> {
         rt.alloc(),
         "",
         &[
-            (Call::Begin, 0, "", 1, 1),
-            (Call::Insert('a', 1), 1, "a", 2, 1),
-            (Call::Insert('-', 1), 1, "a-", 3, 1),
-            (Call::End, 1, "a-", 4, 0),
-            (Call::Begin, 4, "a-", 5, 1),
-            (Call::Insert('b', 1), 1, "a-b", 6, 1),
-            (Call::Undo(2), 1, "a-", 4, 0),
-            (Call::Redo, 1, "a-b", 6, 1),
-            (Call::Undo(3), 1, "", 0, 0),
-            (Call::Redo, 1, "a-", 4, 0),
-            (Call::Redo, 1, "a-b", 6, 1),
-            (Call::Redo, 0, "a-b", 6, 1),
+            (Call::Begin, 0, "", 0, 1, 1),
+            (Call::Insert('a', 1), 1, "a", 1, 2, 1),
+            (Call::Insert('-', 1), 1, "a-", 2, 3, 1),
+            (Call::End, 1, "a-", 2, 4, 0),
+            (Call::Begin, 4, "a-", 2, 5, 1),
+            (Call::Insert('b', 1), 1, "a-b", 3, 6, 1),
+            (Call::Undo(2), 1, "a-", 2, 4, 0),
+            (Call::Redo, 1, "a-b", 3, 6, 1),
+            (Call::Undo(3), 1, "", 0, 0, 0),
+            (Call::Redo, 1, "a-", 2, 4, 0),
+            (Call::Redo, 1, "a-b", 3, 6, 1),
+            (Call::Redo, 0, "a-b", 3, 6, 1),
         ],
     )
 }
@@ -165,19 +236,19 @@ fn groups_nest(rt: HostRuntime) -> Result<(), Fail> {
         rt.alloc(),
         "",
         &[
-            (Call::Begin, 0, "", 1, 1),
-            (Call::Yank("a"), 1, "a", 2, 1),
-            (Call::Begin, 2, "a", 3, 2),
-            (Call::Yank("b"), 1, "ab", 4, 2),
-            (Call::End, 1, "ab", 6, 0),
-            (Call::Undo(1), 1, "", 0, 0),
-            (Call::Redo, 1, "ab", 6, 0),
-            (Call::Replays(5), 1, "ab", 6, 0),
+            (Call::Begin, 0, "", 0, 1, 1),
+            (Call::Yank("a"), 1, "a", 1, 2, 1),
+            (Call::Begin, 2, "a", 1, 3, 2),
+            (Call::Yank("b"), 1, "ab", 2, 4, 2),
+            (Call::End, 1, "ab", 2, 6, 0),
+            (Call::Undo(1), 1, "", 0, 0, 0),
+            (Call::Redo, 1, "ab", 2, 6, 0),
+            (Call::Replays(5), 1, "ab", 2, 6, 0),
             // the outer group is open again
-            (Call::Truncate(5), 1, "ab", 5, 1),
-            (Call::Undo(1), 1, "a", 2, 1),
-            (Call::Undo(1), 1, "", 1, 1),
-            (Call::Undo(1), 0, "", 0, 0),
+            (Call::Truncate(5), 1, "ab", 2, 5, 1),
+            (Call::Undo(1), 1, "a", 1, 2, 1),
+            (Call::Undo(1), 1, "", 0, 1, 1),
+            (Call::Undo(1), 0, "", 0, 0, 0),
         ],
     )?;
     // of several begins the one with nothing behind it is taken off, and the others are closed
@@ -186,15 +257,15 @@ fn groups_nest(rt: HostRuntime) -> Result<(), Fail> {
         rt.alloc(),
         "",
         &[
-            (Call::Begin, 0, "", 1, 1),
-            (Call::Begin, 1, "", 2, 2),
-            (Call::Yank("a"), 1, "a", 3, 2),
-            (Call::Begin, 3, "a", 4, 3),
-            (Call::End, 1, "a", 5, 0),
-            (Call::Undo(1), 1, "", 0, 0),
-            (Call::Begin, 0, "", 1, 1),
-            (Call::Begin, 1, "", 2, 2),
-            (Call::End, 0, "", 0, 0),
+            (Call::Begin, 0, "", 0, 1, 1),
+            (Call::Begin, 1, "", 0, 2, 2),
+            (Call::Yank("a"), 1, "a", 1, 3, 2),
+            (Call::Begin, 3, "a", 1, 4, 3),
+            (Call::End, 1, "a", 1, 5, 0),
+            (Call::Undo(1), 1, "", 0, 0, 0),
+            (Call::Begin, 0, "", 0, 1, 1),
+            (Call::Begin, 1, "", 0, 2, 2),
+            (Call::End, 0, "", 0, 0, 0),
         ],
     )
 }
@@ -207,19 +278,19 @@ fn every_call_keeps_count_of_the_open_groups(rt: HostRuntime) -> Result<(), Fail
         rt.alloc(),
         "",
         &[
-            (Call::Begin, 0, "", 1, 1),
-            (Call::Yank("a"), 1, "a", 2, 1),
-            (Call::Begin, 2, "a", 3, 2),
-            (Call::Yank("b"), 1, "ab", 4, 2),
-            (Call::End, 1, "ab", 6, 0),
-            (Call::Truncate(4), 1, "ab", 4, 2),
-            (Call::End, 1, "ab", 6, 0),
-            (Call::Begin, 6, "ab", 7, 1),
-            (Call::Truncate(9), 1, "ab", 7, 1),
-            (Call::Truncate(5), 1, "ab", 5, 1),
-            (Call::Truncate(3), 1, "ab", 3, 2),
-            (Call::Truncate(1), 1, "ab", 1, 1),
-            (Call::End, 0, "ab", 0, 0),
+            (Call::Begin, 0, "", 0, 1, 1),
+            (Call::Yank("a"), 1, "a", 1, 2, 1),
+            (Call::Begin, 2, "a", 1, 3, 2),
+            (Call::Yank("b"), 1, "ab", 2, 4, 2),
+            (Call::End, 1, "ab", 2, 6, 0),
+            (Call::Truncate(4), 1, "ab", 2, 4, 2),
+            (Call::End, 1, "ab", 2, 6, 0),
+            (Call::Begin, 6, "ab", 2, 7, 1),
+            (Call::Truncate(9), 1, "ab", 2, 7, 1),
+            (Call::Truncate(5), 1, "ab", 2, 5, 1),
+            (Call::Truncate(3), 1, "ab", 2, 3, 2),
+            (Call::Truncate(1), 1, "ab", 2, 1, 1),
+            (Call::End, 0, "ab", 2, 0, 0),
         ],
     )?;
     // begins that are undone behind an open one, and redone
@@ -228,17 +299,17 @@ fn every_call_keeps_count_of_the_open_groups(rt: HostRuntime) -> Result<(), Fail
         rt.alloc(),
         "",
         &[
-            (Call::Begin, 0, "", 1, 1),
-            (Call::Yank("a"), 1, "a", 2, 1),
-            (Call::Begin, 2, "a", 3, 2),
-            (Call::Begin, 3, "a", 4, 3),
-            (Call::Yank("b"), 1, "ab", 5, 3),
-            (Call::Undo(2), 1, "a", 3, 2),
-            (Call::Undo(1), 0, "a", 2, 1),
-            (Call::Redo, 1, "ab", 5, 3),
-            (Call::End, 1, "ab", 8, 0),
-            (Call::Undo(1), 1, "", 0, 0),
-            (Call::Redo, 1, "ab", 8, 0),
+            (Call::Begin, 0, "", 0, 1, 1),
+            (Call::Yank("a"), 1, "a", 1, 2, 1),
+            (Call::Begin, 2, "a", 1, 3, 2),
+            (Call::Begin, 3, "a", 1, 4, 3),
+            (Call::Yank("b"), 1, "ab", 2, 5, 3),
+            (Call::Undo(2), 1, "a", 1, 3, 2),
+            (Call::Undo(1), 0, "a", 1, 2, 1),
+            (Call::Redo, 1, "ab", 2, 5, 3),
+            (Call::End, 1, "ab", 2, 8, 0),
+            (Call::Undo(1), 1, "", 0, 0, 0),
+            (Call::Redo, 1, "ab", 2, 8, 0),
         ],
     )
 }
@@ -250,14 +321,14 @@ fn a_truncated_record_forgets_the_open_group(rt: HostRuntime) -> Result<(), Fail
         rt.alloc(),
         "a",
         &[
-            (Call::Begin, 0, "a", 1, 1),
-            (Call::Insert('b', 1), 1, "ab", 2, 1),
-            (Call::Replays(0), 0, "ab", 2, 1),
-            (Call::Back(1), 1, "a", 3, 1),
-            (Call::Replays(0), 1, "a", 3, 1),
-            (Call::Truncate(0), 1, "a", 0, 0),
-            (Call::End, 0, "a", 0, 0),
-            (Call::Undo(1), 0, "a", 0, 0),
+            (Call::Begin, 0, "a", 1, 1, 1),
+            (Call::Insert('b', 1), 1, "ab", 2, 2, 1),
+            (Call::Replays(0), 0, "ab", 2, 2, 1),
+            (Call::Back(1), 1, "a", 1, 3, 1),
+            (Call::Replays(0), 1, "a", 1, 3, 1),
+            (Call::Truncate(0), 1, "a", 1, 0, 0),
+            (Call::End, 0, "a", 1, 0, 0),
+            (Call::Undo(1), 0, "a", 1, 0, 0),
         ],
     )
 }
@@ -304,10 +375,8 @@ fn records(
     for call in calls {
         make(rt, line, &mut record, *call)?;
     }
-    assert!(rt;
-        undo(rt, line, &mut record, 1)?,
-        "it leaves {entries} entries"
-    );
+    let undone = undo(rt, line, &mut record, 1)?;
+    assert!(rt; undone, "it leaves {entries} entries");
     stands(rt, line, &record, text, cursor, entries);
     Ok(())
 }
@@ -359,200 +428,250 @@ fn characters_that_were_told_join(rt: HostRuntime) -> Result<(), Fail> {
     Ok(())
 }
 
+// A deletion that the record is told.
+fn deletion(idx: usize, text: &'static str, side: Direction) -> Call {
+    Call::Told(Event::Deletion(idx, text, side))
+}
+
 #[test]
 fn deletions_that_were_told_join(rt: HostRuntime) -> Result<(), Fail> {
-    for (place, first, second) in [(2, "l", "e"), (1, "e", "l")] {
-        let mut line = line_of(&rt, rt.alloc(), "Hlo", 0)?;
-        let mut record = Changeset::new(rt.alloc());
-        record.delete(place, first, Direction::Forward)?;
-        record.delete(1, second, Direction::Backward)?;
-        assert!(rt; undo(&rt, &mut line, &mut record, 1)?, "{first} went first");
-        stands(&rt, &line, &record, "Hello", 3, 0);
-    }
-    let mut line = line_of(&rt, rt.alloc(), "", 0)?;
-    let mut record = Changeset::new(rt.alloc());
-    record.delete(0, "a", Direction::Forward)?;
-    record.delete(0, ",", Direction::Forward)?;
-    record.delete(0, "b", Direction::Forward)?;
-    assert!(rt; undo(&rt, &mut line, &mut record, 1)?);
-    stands(&rt, &line, &record, ",b", 2, 1);
-    assert!(rt; undo(&rt, &mut line, &mut record, 1)?);
-    stands(&rt, &line, &record, "a,b", 1, 0);
-    Ok(())
+    let end = deletion(2, "l", Direction::Forward);
+    let start = deletion(1, "e", Direction::Backward);
+    let mut line = line_of(&rt, rt.alloc(), "Hlo", 0)?;
+    takes(
+        &rt,
+        &mut line,
+        rt.alloc(),
+        &[
+            (end, 1, "Hlo", 0, 1, 0),
+            (start, 1, "Hlo", 0, 1, 0),
+            (Call::Undo(1), 1, "Hello", 3, 0, 0),
+        ],
+    )?;
+    let letter = deletion(0, "a", Direction::Forward);
+    let comma = deletion(0, ",", Direction::Forward);
+    let other = deletion(0, "b", Direction::Forward);
+    goes(
+        &rt,
+        rt.alloc(),
+        "",
+        &[
+            (letter, 1, "", 0, 1, 0),
+            (comma, 1, "", 0, 2, 0),
+            (other, 1, "", 0, 2, 0),
+            (Call::Undo(1), 1, ",b", 2, 1, 0),
+            (Call::Undo(1), 1, "a,b", 1, 0, 0),
+        ],
+    )
+}
+
+#[test]
+fn deletions_that_were_told_the_other_way_join(rt: HostRuntime) -> Result<(), Fail> {
+    let first = deletion(1, "e", Direction::Forward);
+    let second = deletion(1, "l", Direction::Backward);
+    let mut line = line_of(&rt, rt.alloc(), "Hlo", 0)?;
+    takes(
+        &rt,
+        &mut line,
+        rt.alloc(),
+        &[
+            (first, 1, "Hlo", 0, 1, 0),
+            (second, 1, "Hlo", 0, 1, 0),
+            (Call::Undo(1), 1, "Hello", 3, 0, 0),
+        ],
+    )
 }
 
 #[test]
 fn replacements_join(rt: HostRuntime) -> Result<(), Fail> {
     let mut line = line_of(&rt, rt.alloc(), "Hello, world!", 0)?;
-    let mut record = Changeset::new(rt.alloc());
-    assert!(rt; line.as_str().is_char_boundary(1) && line.as_str().is_char_boundary(4));
-    line.replace(1..4, "i", &mut record)?;
-    assert!(rt; line.as_str().is_char_boundary(2) && line.as_str().is_char_boundary(3));
-    line.replace(2..3, "", &mut record)?;
-    stands(&rt, &line, &record, "Hi, world!", 2, 1);
-    assert!(rt; undo(&rt, &mut line, &mut record, 1)?);
-    stands(&rt, &line, &record, "Hello, world!", 5, 0);
-    assert!(rt; redo(&rt, &mut line, &mut record)?);
-    stands(&rt, &line, &record, "Hi, world!", 2, 1);
-    Ok(())
+    takes(
+        &rt,
+        &mut line,
+        rt.alloc(),
+        &[
+            (Call::Replace(1, 4, "i"), 1, "Hio, world!", 2, 1, 0),
+            (Call::Replace(2, 3, ""), 1, "Hi, world!", 2, 1, 0),
+            (Call::Undo(1), 1, "Hello, world!", 5, 0, 0),
+            (Call::Redo, 1, "Hi, world!", 2, 1, 0),
+        ],
+    )
 }
 
 #[test]
 fn a_replacement_that_was_told_comes_and_goes(rt: HostRuntime) -> Result<(), Fail> {
+    let told = Call::Told(Event::Replacement(1, "ello", "i"));
+    let nothing = deletion(0, "", Direction::Forward);
+    let empty = Call::Told(Event::Replacement(0, "", ""));
     let mut line = line_of(&rt, rt.alloc(), "Hi, world!", 0)?;
-    let mut record = Changeset::new(rt.alloc());
-    record.replace(1, "ello", "i")?;
-    stands(&rt, &line, &record, "Hi, world!", 0, 1);
-    assert!(rt; undo(&rt, &mut line, &mut record, 1)?);
-    stands(&rt, &line, &record, "Hello, world!", 5, 0);
-    // a kill that takes nothing leaves what was undone
-    record.start_killing();
-    record.stop_killing();
-    assert!(rt; redo(&rt, &mut line, &mut record)?);
-    stands(&rt, &line, &record, "Hi, world!", 2, 1);
-    assert!(rt; undo(&rt, &mut line, &mut record, 1)?);
-    // an empty deletion is no entry, and still drops it
-    record.delete(0, "", Direction::Forward)?;
-    assert!(rt; !redo(&rt, &mut line, &mut record)?);
-    stands(&rt, &line, &record, "Hello, world!", 5, 0);
-    // an empty replacement is an entry
-    record.replace(0, "", "")?;
-    assert_eq!(rt; record.len(), 1);
-    Ok(())
+    takes(
+        &rt,
+        &mut line,
+        rt.alloc(),
+        &[
+            (told, 1, "Hi, world!", 0, 1, 0),
+            (Call::Undo(1), 1, "Hello, world!", 5, 0, 0),
+            // a kill that takes nothing leaves what was undone
+            (Call::Told(Event::Kill), 1, "Hello, world!", 5, 0, 0),
+            (Call::Redo, 1, "Hi, world!", 2, 1, 0),
+            (Call::Undo(1), 1, "Hello, world!", 5, 0, 0),
+            // an empty deletion is no entry, and still drops it
+            (nothing, 1, "Hello, world!", 5, 0, 0),
+            (Call::Redo, 0, "Hello, world!", 5, 0, 0),
+            // an empty replacement is an entry
+            (empty, 1, "Hello, world!", 5, 1, 0),
+        ],
+    )
 }
 
-// Whether the last change put that text in.
-fn put_in(record: &Changeset, text: &str) -> Result<bool, Refusal> {
+// Whether the last change put that text in, or none where there is none.
+fn put_in(record: &Changeset, text: Option<&str>) -> Result<bool, Refusal> {
     match record.last_insert()? {
-        Some(last) => Ok(last.as_str() == text),
-        None => Ok(false),
+        Some(last) => Ok(text == Some(last.as_str())),
+        None => Ok(text.is_none()),
     }
+}
+
+// Makes the calls, with a new record, and looks after each at the text that the last change put in.
+fn copies(
+    rt: &impl Abort,
+    alloc: Global,
+    steps: &[(Call, Option<&'static str>)],
+) -> Result<(), Fail> {
+    let mut line = line_of(rt, alloc, "", 0)?;
+    let mut record = Changeset::new(alloc);
+    for (i, (call, text)) in steps.iter().enumerate() {
+        make(rt, &mut line, &mut record, *call)?;
+        let same = put_in(&record, *text)?;
+        assert!(rt; same, "the copy after step {i}");
+    }
+    Ok(())
 }
 
 #[test]
 fn the_last_insert_is_copied(rt: HostRuntime) -> Result<(), Fail> {
-    let mut record = Changeset::new(rt.alloc());
-    assert!(rt; record.last_insert()?.is_none(), "an empty record");
-    record.begin()?;
-    assert!(rt; record.last_insert()?.is_none(), "a begin");
-    record.delete(0, "Hello", Direction::Forward)?;
-    assert!(rt; record.last_insert()?.is_none(), "a deletion");
-    record.insert_str(0, "Bye")?;
-    record.end()?;
-    assert!(rt; put_in(&record, "Bye")?, "an insertion and an end");
-    record.insert_char(3, ' ')?;
-    record.insert_char(4, 'a')?;
-    assert!(rt; put_in(&record, " a")?, "characters that joined");
-    record.replace(3, " a", "")?;
-    assert!(rt; put_in(&record, "")?, "a replacement by nothing");
-    record.begin()?;
-    record.begin()?;
-    record.replace(3, "", "b")?;
-    record.end()?;
-    assert!(rt; put_in(&record, "b")?, "a replacement and two ends");
-    Ok(())
+    copies(
+        &rt,
+        rt.alloc(),
+        &[
+            // an empty record
+            (Call::CanUndo, None),
+            (Call::Begin, None),
+            (
+                Call::Told(Event::Deletion(0, "Hello", Direction::Forward)),
+                None,
+            ),
+            // ends are passed over
+            (Call::Told(Event::Text(0, "Bye")), Some("Bye")),
+            (Call::End, Some("Bye")),
+            // characters that join
+            (Call::Told(Event::Char(3, ' ')), Some(" ")),
+            (Call::Told(Event::Char(4, 'a')), Some(" a")),
+            // a replacement by nothing
+            (Call::Told(Event::Replacement(3, " a", "")), Some("")),
+            (Call::Begin, None),
+            (Call::Begin, None),
+            (Call::Told(Event::Replacement(3, "", "b")), Some("b")),
+            (Call::End, Some("b")),
+        ],
+    )
 }
 
 #[test]
 fn a_group_without_a_change_has_no_end(rt: HostRuntime) -> Result<(), Fail> {
-    let mut record = Changeset::new(rt.alloc());
-    record.begin()?;
-    assert!(rt; !record.end()?);
-    record.begin()?;
-    record.insert_str(0, "Hi")?;
-    assert!(rt; record.end()?);
-    assert_eq!(rt; record.len(), 3);
-    Ok(())
+    goes(
+        &rt,
+        rt.alloc(),
+        "",
+        &[
+            (Call::Begin, 0, "", 0, 1, 1),
+            (Call::End, 0, "", 0, 0, 0),
+            (Call::Begin, 0, "", 0, 1, 1),
+            (Call::Told(Event::Text(0, "Hi")), 1, "", 0, 2, 1),
+            (Call::End, 1, "", 0, 3, 0),
+        ],
+    )
 }
 
 #[test]
 fn changes_behind_the_record_are_seen(rt: HostRuntime) -> Result<(), Fail> {
-    let mut line = line_of(&rt, rt.alloc(), "ab", 2)?;
-    let mut record = Changeset::new(rt.alloc());
-    record.delete(5, "x", Direction::Forward)?;
-    assert!(rt; !record.can_undo(&line)?);
-    assert!(rt; !record.replays_to(1, &line)?);
-    record.truncate(0);
-    line.backspace(1, &mut record)?;
-    assert!(rt; undo(&rt, &mut line, &mut record, 1)?);
-    line.backspace(1, &mut NoListener)?;
-    assert!(rt; !record.can_redo(&line)?);
-    line.insert('b', 1, &mut NoListener)?;
-    assert!(rt; redo(&rt, &mut line, &mut record)?);
-    stands(&rt, &line, &record, "a", 1, 1);
-    Ok(())
+    let foreign = deletion(5, "x", Direction::Forward);
+    goes(
+        &rt,
+        rt.alloc(),
+        "ab",
+        &[
+            (foreign, 1, "ab", 2, 1, 0),
+            (Call::CanUndo, 0, "ab", 2, 1, 0),
+            (Call::Replays(1), 0, "ab", 2, 1, 0),
+            (Call::Truncate(0), 1, "ab", 2, 0, 0),
+            (Call::Back(1), 1, "a", 1, 1, 0),
+            (Call::Undo(1), 1, "ab", 2, 0, 0),
+            (Call::UnheardBack(1), 1, "a", 1, 0, 0),
+            (Call::CanRedo, 0, "a", 1, 0, 0),
+            (Call::UnheardInsert('b', 1), 1, "ab", 2, 0, 0),
+            (Call::Redo, 1, "a", 1, 1, 0),
+        ],
+    )
 }
 
 #[test]
 fn undo_counts_changes(rt: HostRuntime) -> Result<(), Fail> {
-    let mut line = line_of(&rt, rt.alloc(), "", 0)?;
-    let mut record = Changeset::new(rt.alloc());
-    assert_eq!(rt; line.insert('a', 1, &mut record)?, Some(true));
-    assert_eq!(rt; line.insert('b', 2, &mut record)?, Some(true));
-    stands(&rt, &line, &record, "abb", 3, 2);
-    assert!(rt; line.backspace(1, &mut record)?);
-    stands(&rt, &line, &record, "ab", 2, 3);
-    for (n, answer, text, cursor, entries) in [
-        (0, true, "abb", 3, 2),
-        (1, true, "a", 1, 1),
-        (65535, true, "", 0, 0),
-        (1, false, "", 0, 0),
-    ] {
-        assert_eq!(rt;
-            undo(&rt, &mut line, &mut record, n)?,
-            answer,
-            "the answer to undo {n}"
-        );
-        stands(&rt, &line, &record, text, cursor, entries);
-    }
-    for (n, answer, text, cursor, entries) in [
-        (1, true, "a", 1, 1),
-        (2, true, "abb", 3, 2),
-        (3, true, "ab", 2, 3),
-        (4, false, "ab", 2, 3),
-    ] {
-        assert_eq!(rt;
-            redo(&rt, &mut line, &mut record)?,
-            answer,
-            "the answer to redo {n}"
-        );
-        stands(&rt, &line, &record, text, cursor, entries);
-    }
-    assert!(rt; undo(&rt, &mut line, &mut record, 65535)?);
-    stands(&rt, &line, &record, "", 0, 0);
-    Ok(())
+    goes(
+        &rt,
+        rt.alloc(),
+        "",
+        &[
+            (Call::Insert('a', 1), 1, "a", 1, 1, 0),
+            (Call::Insert('b', 2), 1, "abb", 3, 2, 0),
+            (Call::Back(1), 1, "ab", 2, 3, 0),
+            (Call::Undo(0), 1, "abb", 3, 2, 0),
+            (Call::Undo(1), 1, "a", 1, 1, 0),
+            (Call::Undo(65535), 1, "", 0, 0, 0),
+            (Call::Undo(1), 0, "", 0, 0, 0),
+            (Call::Redo, 1, "a", 1, 1, 0),
+            (Call::Redo, 1, "abb", 3, 2, 0),
+            (Call::Redo, 1, "ab", 2, 3, 0),
+            (Call::Redo, 0, "ab", 2, 3, 0),
+            (Call::Undo(65535), 1, "", 0, 0, 0),
+        ],
+    )
 }
 
 #[test]
 fn nothing_undone_leaves_the_cursor(rt: HostRuntime) -> Result<(), Fail> {
     let mut line = line_of(&rt, rt.alloc(), "ab", 1)?;
-    let mut record = Changeset::new(rt.alloc());
-    assert!(rt; !undo(&rt, &mut line, &mut record, 1)?);
-    assert!(rt; !redo(&rt, &mut line, &mut record)?);
-    stands(&rt, &line, &record, "ab", 1, 0);
-    assert_eq!(rt; record.begin()?, 0);
-    assert!(rt; !undo(&rt, &mut line, &mut record, 65535)?);
-    stands(&rt, &line, &record, "ab", 1, 0);
-    assert!(rt; !redo(&rt, &mut line, &mut record)?);
-    stands(&rt, &line, &record, "ab", 1, 1);
-    assert_eq!(rt; record.level(), 1);
-    Ok(())
+    takes(
+        &rt,
+        &mut line,
+        rt.alloc(),
+        &[
+            (Call::Undo(1), 0, "ab", 1, 0, 0),
+            (Call::Redo, 0, "ab", 1, 0, 0),
+            (Call::Begin, 0, "ab", 1, 1, 1),
+            (Call::Undo(65535), 0, "ab", 1, 0, 0),
+            (Call::Redo, 0, "ab", 1, 1, 1),
+        ],
+    )
 }
 
 #[test]
 fn the_limit_stays_raised(rt: HostRuntime) -> Result<(), Fail> {
     let mut line = LineBuffer::with_capacity(rt.alloc(), 2)?;
     line.insert_str(0, "abc", &mut NoListener)?;
-    assert!(rt; line.move_buffer_end());
-    let mut record = Changeset::new(rt.alloc());
-    assert!(rt; line.backspace(2, &mut record)?);
-    assert_eq!(rt; line.insert('d', 2, &mut record)?, Some(true));
-    let at = line.pos();
-    assert!(rt; line.insert_str(at, "zz", &mut record)?);
-    assert!(rt; undo(&rt, &mut line, &mut record, 65535)?);
-    assert_eq!(rt; line.as_str(), "abc");
-    assert_eq!(rt; line.limit(), 5);
-    assert_eq!(rt; line.insert('e', 1, &mut record)?, Some(true));
-    stands(&rt, &line, &record, "abce", 4, 1);
-    Ok(())
+    let moved = line.move_buffer_end();
+    assert!(rt; moved, "the cursor stood before the end");
+    takes(
+        &rt,
+        &mut line,
+        rt.alloc(),
+        &[
+            (Call::Back(2), 1, "a", 1, 1, 0),
+            (Call::Insert('d', 2), 1, "add", 3, 2, 0),
+            (Call::PutText, 1, "addzz", 3, 3, 0),
+            (Call::Undo(65535), 1, "abc", 3, 0, 0),
+            (Call::Limit, 5, "abc", 3, 0, 0),
+            (Call::Insert('e', 1), 1, "abce", 4, 1, 0),
+        ],
+    )
 }

@@ -1,7 +1,8 @@
 //! Edits that put texts in, with answers that were worked out by hand.
 use crate::LineBuffer;
-use crate::line_buffer::motions::tests::line_within;
+use crate::line_buffer::motions::tests::{leaves, line_within};
 use rl_base::{NoListener, Refusal, RepeatCount};
+use std::alloc::Global;
 use std::process::Abort;
 use std::test::Fail;
 
@@ -14,42 +15,67 @@ enum Call {
     Replace(usize, usize, &'static str),
 }
 
+// Puts the text in the place of what stands before the cursor.
+fn yank_pop(
+    rt: &impl Abort,
+    line: &mut LineBuffer,
+    size: usize,
+    text: &str,
+) -> Result<Option<bool>, Refusal> {
+    let at = line.pos();
+    assert!(rt; size <= at && line.as_str().is_char_boundary(at - size));
+    line.yank_pop(size, text, &mut NoListener)
+}
+
+// Puts the text in the place of a range.
+fn replace(
+    rt: &impl Abort,
+    line: &mut LineBuffer,
+    from: usize,
+    to: usize,
+    text: &str,
+) -> Result<(), Refusal> {
+    assert!(rt; from <= to);
+    assert!(rt; line.as_str().is_char_boundary(from) && line.as_str().is_char_boundary(to));
+    line.replace(from..to, text, &mut NoListener)
+}
+
 // Makes the call, if its places are places. The answer is that of a yank.
 fn make(rt: &impl Abort, line: &mut LineBuffer, call: Call) -> Result<Option<bool>, Refusal> {
     match call {
         Call::Yank(text, n) => line.yank(text, n, &mut NoListener),
-        Call::YankPop(size, text) => {
-            let at = line.pos();
-            assert!(rt; size <= at && line.as_str().is_char_boundary(at - size));
-            line.yank_pop(size, text, &mut NoListener)
-        }
+        Call::YankPop(size, text) => yank_pop(rt, line, size, text),
         Call::Update(text, pos) => {
             assert!(rt; text.is_char_boundary(pos));
-            line.update(text, pos, &mut NoListener)?;
-            Ok(None)
+            line.update(text, pos, &mut NoListener).and(Ok(None))
         }
-        Call::Replace(from, to, text) => {
-            assert!(rt; from <= to);
-            assert!(rt; line.as_str().is_char_boundary(from) && line.as_str().is_char_boundary(to));
-            line.replace(from..to, text, &mut NoListener)?;
-            Ok(None)
-        }
+        Call::Replace(from, to, text) => replace(rt, line, from, to, text).and(Ok(None)),
     }
 }
 
-// The call answers that, and leaves the line with that text and that cursor.
-fn leaves(
+// On a line of that limit that holds the text, the call answers that, and leaves that text and cursor.
+fn comes_in(
     rt: &impl Abort,
-    line: &mut LineBuffer,
+    alloc: Global,
+    limit: usize,
+    grows: bool,
+    text: &str,
+    pos: usize,
     call: Call,
     answer: Option<bool>,
     after: &str,
     cursor: usize,
 ) -> Result<(), Fail> {
-    let at = line.pos();
-    assert_eq!(rt; make(rt, line, call)?, answer, "from {at} to {after:?}");
-    assert_eq!(rt; line.as_str(), after, "from {at}");
-    assert_eq!(rt; line.pos(), cursor, "from {at} to {after:?}");
+    let mut line = line_within(rt, alloc, limit, grows, text, pos)?;
+    let answered = make(rt, &mut line, call)?;
+    assert_eq!(rt; answered, answer, "from {text:?} at {pos} to {after:?}");
+    leaves(rt, &line, text, pos, after, cursor);
+    let room = limit.max(line.len());
+    assert_eq!(rt;
+        line.limit(),
+        room,
+        "the limit {limit} after {text:?} at {pos}"
+    );
     Ok(())
 }
 
@@ -157,14 +183,19 @@ fn texts_come_in(rt: HostRuntime) -> Result<(), Fail> {
             5,
         ),
     ];
-    for (limit, grows, text, pos, call, answer, after, cursor) in rows {
-        let mut line = line_within(&rt, rt.alloc(), limit, grows, text, pos)?;
-        leaves(&rt, &mut line, call, answer, after, cursor)?;
-        assert_eq!(rt;
-            line.limit(),
-            limit.max(line.len()),
-            "the limit {limit} after the call"
-        );
+    for (limit, grows, text, pos, call, answer, after, cursor) in &rows {
+        comes_in(
+            &rt,
+            rt.alloc(),
+            *limit,
+            *grows,
+            text,
+            *pos,
+            *call,
+            *answer,
+            after,
+            *cursor,
+        )?;
     }
     Ok(())
 }

@@ -1,8 +1,28 @@
 //! Indents and dedents with answers that were worked out by hand.
 use crate::line_buffer::heard::Heard;
-use crate::line_buffer::motions::tests::line_of;
-use rl_base::{At, Movement, Word};
+use crate::line_buffer::motions::tests::{holds, leaves, line_of};
+use rl_base::{At, Movement, NoListener, Word};
+use std::alloc::Global;
+use std::process::Abort;
 use std::test::Fail;
+
+// Indents the lines of a movement. That leaves that text and cursor.
+fn indents(
+    rt: &impl Abort,
+    alloc: Global,
+    text: &str,
+    pos: usize,
+    mvt: &Movement,
+    amount: u8,
+    after: &str,
+    cursor: usize,
+) -> Result<(), Fail> {
+    let mut line = line_of(rt, alloc, text, pos)?;
+    let answer = line.indent(mvt, amount, false, &mut NoListener)?;
+    holds(rt, answer, "the answer", text, pos);
+    leaves(rt, &line, text, pos, after, cursor);
+    Ok(())
+}
 
 #[test]
 fn lines_are_indented(rt: HostRuntime) -> Result<(), Fail> {
@@ -10,7 +30,7 @@ fn lines_are_indented(rt: HostRuntime) -> Result<(), Fail> {
     let back = Movement::BackwardWord(2, Word::Emacs);
     let ahead = Movement::ForwardWord(1, At::Start, Word::Emacs);
     // a text, the cursor, a movement and an amount, and the text and the cursor after it
-    for (text, pos, mvt, amount, after, cursor) in [
+    for (text, pos, mvt, amount, after, cursor) in &[
         ("a\nb\nc\nd", 2, Movement::WholeLine, 2, "a\n  b\nc\nd", 4),
         ("a\n", 0, Movement::WholeBuffer, 2, "  a\n", 2),
         ("a", 0, Movement::WholeLine, 40, wide, 40),
@@ -29,15 +49,32 @@ fn lines_are_indented(rt: HostRuntime) -> Result<(), Fail> {
         ("a\nb\nc", 2, Movement::LineDown(0), 1, " a\n b\nc", 4),
         ("a\nb", 2, Movement::LineDown(1), 1, "a\n b", 3),
     ] {
-        let mut line = line_of(&rt, rt.alloc(), text, pos)?;
-        let mut heard = Heard::new(usize::MAX);
-        assert!(rt;
-            line.indent(&mvt, amount, false, &mut heard)?,
-            "{text:?} at {pos}"
-        );
-        assert_eq!(rt; line.as_str(), after, "{text:?} at {pos}");
-        assert_eq!(rt; line.pos(), cursor, "{text:?} at {pos}");
+        indents(&rt, rt.alloc(), text, *pos, mvt, *amount, after, *cursor)?;
     }
+    Ok(())
+}
+
+// Dedents all lines, by so many deletions, the last of that length at that place. That leaves that text and cursor.
+fn dedents(
+    rt: &impl Abort,
+    alloc: Global,
+    text: &str,
+    pos: usize,
+    amount: u8,
+    deletions: u16,
+    place: usize,
+    len: usize,
+    after: &str,
+    cursor: usize,
+) -> Result<(), Fail> {
+    let mut line = line_of(rt, alloc, text, pos)?;
+    let mut heard = Heard::new(usize::MAX);
+    let answer = line.indent(&Movement::WholeBuffer, amount, true, &mut heard)?;
+    holds(rt, answer, "the answer", text, pos);
+    holds(rt, heard.deletions == deletions, "the deletions", text, pos);
+    let last = heard.place == place && heard.len == len;
+    holds(rt, last, "the last deletion", text, pos);
+    leaves(rt, &line, text, pos, after, cursor);
     Ok(())
 }
 
@@ -58,19 +95,18 @@ fn lines_are_dedented(rt: HostRuntime) -> Result<(), Fail> {
         (" a", 2, 0, 1, 0, 0, " a", 2),
         ("", 0, 9, 1, 0, 0, "", 0),
     ] {
-        let mut line = line_of(&rt, rt.alloc(), text, pos)?;
-        let mut heard = Heard::new(usize::MAX);
-        assert!(rt;
-            line.indent(&Movement::WholeBuffer, amount, true, &mut heard)?,
-            "{text:?} at {pos}"
-        );
-        assert_eq!(rt;
-            (heard.deletions, heard.place, heard.len),
-            (deletions, place, len),
-            "{text:?} at {pos}"
-        );
-        assert_eq!(rt; line.as_str(), after, "{text:?} at {pos}");
-        assert_eq!(rt; line.pos(), cursor, "{text:?} at {pos}");
+        dedents(
+            &rt,
+            rt.alloc(),
+            text,
+            pos,
+            amount,
+            deletions,
+            place,
+            len,
+            after,
+            cursor,
+        )?;
     }
     Ok(())
 }

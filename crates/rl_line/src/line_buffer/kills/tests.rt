@@ -1,7 +1,7 @@
 //! Copies, deletions and kills with answers that were worked out by hand.
 use crate::LineBuffer;
 use crate::line_buffer::heard::Heard;
-use crate::line_buffer::motions::tests::line_of;
+use crate::line_buffer::motions::tests::{holds, leaves, line_of};
 use rl_base::CharSearch::{Backward, BackwardAfter, Forward, ForwardBefore};
 use rl_base::{At, CharSearch, Direction, Movement, NoListener, Refusal, RepeatCount, Word};
 use std::alloc::Global;
@@ -48,31 +48,47 @@ fn deletes(
     let mut line = line_of(rt, alloc, text, pos)?;
     let mut heard = Heard::new(usize::MAX);
     let answer = make(&mut line, call, &mut heard)?;
-    assert_eq!(rt; answer, gone.is_some(), "{text:?} at {pos}");
+    holds(rt, answer == gone.is_some(), "the answer", text, pos);
     let told = u16::from(matches!(call, Call::Kill(_)));
-    assert_eq!(rt;
-        (heard.starts, heard.deletions, heard.stops),
-        (told, u16::from(answer), told),
-        "{text:?} at {pos}"
-    );
+    let kill = heard.starts == told && heard.stops == told;
+    holds(rt, kill, "the start or stop", text, pos);
+    is_told(rt, &heard, text, pos, gone);
+    is_without(rt, &line, text, pos, gone);
+    is_refused(rt, alloc, text, pos, call, answer)
+}
+
+// The listener heard of that deletion in the text, if any, and of no other.
+fn is_told(
+    rt: &impl Abort,
+    heard: &Heard,
+    text: &str,
+    pos: usize,
+    gone: Option<(usize, &str, Direction)>,
+) {
+    let told = u16::from(gone.is_some());
+    holds(rt, heard.deletions == told, "the deletions", text, pos);
+    if let Some((place, deleted, side)) = gone {
+        let told = heard.text_in(text);
+        holds(rt, told == Some(deleted), "the deleted text", text, pos);
+        holds(rt, heard.place == place, "its place", text, pos);
+        holds(rt, heard.side == side, "its side", text, pos);
+    }
+}
+
+// The line holds the text without that deletion, if any, and the cursor is where that was.
+fn is_without(
+    rt: &impl Abort,
+    line: &LineBuffer,
+    text: &str,
+    pos: usize,
+    gone: Option<(usize, &str, Direction)>,
+) {
     let (place, left) = match gone {
-        Some((place, deleted, side)) => {
-            assert_eq!(rt; heard.text_in(text), Some(deleted), "{text:?} at {pos}");
-            assert_eq!(rt;
-                (heard.place, heard.side),
-                (place, side),
-                "{text:?} at {pos}"
-            );
-            (place, text.len().saturating_sub(deleted.len()))
-        }
+        Some((place, deleted, _)) => (place, text.len().saturating_sub(deleted.len())),
         None => (pos, text.len()),
     };
-    assert_eq!(rt;
-        (line.pos(), line.len()),
-        (place, left),
-        "{text:?} at {pos}"
-    );
-    is_refused(rt, alloc, text, pos, call, answer)
+    holds(rt, line.pos() == place, "the cursor", text, pos);
+    holds(rt, line.len() == left, "the length", text, pos);
 }
 
 // Where the listener refuses the first change, the call is refused if it makes one, and leaves the line.
@@ -87,28 +103,27 @@ fn is_refused(
     let mut line = line_of(rt, alloc, text, pos)?;
     let mut heard = Heard::new(0);
     let answer = make(&mut line, call, &mut heard);
-    assert_eq!(rt;
-        answer,
-        if changes {
-            Err(Refusal::Listener)
-        } else {
-            Ok(false)
-        },
-        "refused at {pos}"
+    let wanted = if changes {
+        Err(Refusal::Listener)
+    } else {
+        Ok(false)
+    };
+    holds(rt, answer == wanted, "a refusal", text, pos);
+    holds(
+        rt,
+        heard.starts == heard.stops,
+        "the start or stop",
+        text,
+        pos,
     );
-    assert!(rt; heard.starts == heard.stops, "refused at {pos}");
-    assert_eq!(rt; line.as_str(), text, "refused at {pos}");
-    assert_eq!(rt; line.pos(), pos, "refused at {pos}");
+    leaves(rt, &line, text, pos, text, pos);
     Ok(())
 }
 
 #[test]
-fn deletions(rt: HostRuntime) -> Result<(), Fail> {
+fn deletions_within_lines(rt: HostRuntime) -> Result<(), Fail> {
     let ahead = Direction::Forward;
     let back = Direction::Backward;
-    let greek = "αßγδε";
-    let words = "a ß  c";
-    let (big, emacs) = (Word::Big, Word::Emacs);
     // a text, the cursor, a call, and the place, the text and the side of what it deletes, if anything
     let rows = [
         (
@@ -126,8 +141,23 @@ fn deletions(rt: HostRuntime) -> Result<(), Fail> {
         ("δε", 0, Call::DiscardLine, None),
         ("a\r\nb", 3, Call::DiscardLine, Some((1, "\r\n", back))),
         ("a\n\nb", 3, Call::DiscardLine, Some((2, "\n", back))),
-        (greek, 6, Call::KillLine, Some((6, "δε", ahead))),
+        ("αßγδε", 6, Call::KillLine, Some((6, "δε", ahead))),
         ("αßγ", 4, Call::DiscardLine, Some((0, "αß", back))),
+    ];
+    for (text, pos, call, gone) in &rows {
+        deletes(&rt, rt.alloc(), text, *pos, call, *gone)?;
+    }
+    Ok(())
+}
+
+#[test]
+fn deletions_of_words_and_buffers(rt: HostRuntime) -> Result<(), Fail> {
+    let ahead = Direction::Forward;
+    let back = Direction::Backward;
+    let words = "a ß  c";
+    let (big, emacs) = (Word::Big, Word::Emacs);
+    // columns as above
+    let rows = [
         ("αß", 2, Call::Backspace(1), Some((0, "α", back))),
         ("aß", 3, Call::Backspace(9), Some((0, "aß", back))),
         ("αß", 0, Call::Backspace(1), None),
@@ -151,6 +181,20 @@ fn deletions(rt: HostRuntime) -> Result<(), Fail> {
             Some((2, "ß  ", ahead)),
         ),
         (words, 7, Call::NextWord(At::Start, emacs, 1), None),
+    ];
+    for (text, pos, call, gone) in &rows {
+        deletes(&rt, rt.alloc(), text, *pos, call, *gone)?;
+    }
+    Ok(())
+}
+
+#[test]
+fn deletions_to_places(rt: HostRuntime) -> Result<(), Fail> {
+    let ahead = Direction::Forward;
+    let back = Direction::Backward;
+    let greek = "αßγδε";
+    // columns as above
+    let rows = [
         (
             greek,
             2,
@@ -211,9 +255,29 @@ fn deletions(rt: HostRuntime) -> Result<(), Fail> {
         ),
         ("c", 0, Call::Kill(Movement::LineUp(1)), None),
     ];
-    for (text, pos, call, gone) in rows {
-        deletes(&rt, rt.alloc(), text, pos, &call, gone)?;
+    for (text, pos, call, gone) in &rows {
+        deletes(&rt, rt.alloc(), text, *pos, call, *gone)?;
     }
+    Ok(())
+}
+
+// It is so, of a movement on that text at that place.
+fn is_so(rt: &impl Abort, is_so: bool, mvt: &Movement, text: &str, pos: usize) {
+    assert!(rt; is_so, "{mvt:?} of {text:?} at {pos}");
+}
+
+// A copy of that text holds that, if there is one.
+fn copies_that(
+    rt: &impl Abort,
+    alloc: Global,
+    text: &str,
+    pos: usize,
+    mvt: &Movement,
+    want: Option<&str>,
+) -> Result<(), Fail> {
+    let line = line_of(rt, alloc, text, pos)?;
+    let copy = line.copy(mvt)?;
+    is_so(rt, copy.as_deref() == want, mvt, text, pos);
     Ok(())
 }
 
@@ -293,9 +357,7 @@ fn copies(rt: HostRuntime) -> Result<(), Fail> {
         ("text", 4, Movement::WholeLine, Some("text")),
     ];
     for (text, pos, mvt, want) in &rows {
-        let line = line_of(&rt, rt.alloc(), text, *pos)?;
-        let copy = line.copy(mvt)?;
-        assert_eq!(rt; copy.as_deref(), *want, "{mvt:?} of {text:?} at {pos}");
+        copies_that(&rt, rt.alloc(), text, *pos, mvt, *want)?;
     }
     Ok(())
 }
@@ -348,46 +410,86 @@ fn may_differ(mvt: &Movement) -> bool {
     )
 }
 
+// The listener heard that the copy was deleted, and the line is shorter by that.
+fn is_gone(
+    rt: &impl Abort,
+    line: &LineBuffer,
+    heard: &Heard,
+    text: &str,
+    copy: &str,
+    mvt: &Movement,
+    pos: usize,
+) {
+    let told = heard.text_in(text);
+    is_so(rt, told == Some(copy), mvt, text, pos);
+    let whole = line.len().checked_add(copy.len());
+    is_so(rt, whole == Some(text.len()), mvt, text, pos);
+}
+
+// How often, 1 or 0, the movement kills something there where it copies something. Then both are the same text.
+fn kills_its_copy(
+    rt: &impl Abort,
+    alloc: Global,
+    text: &str,
+    pos: usize,
+    mvt: &Movement,
+) -> Result<u16, Fail> {
+    let mut line = line_of(rt, alloc, text, pos)?;
+    let copy = line.copy(mvt)?;
+    let mut heard = Heard::new(usize::MAX);
+    let killed = line.kill(mvt, &mut heard)?;
+    if copy.is_some() != killed {
+        is_so(rt, may_differ(mvt), mvt, text, pos);
+        return Ok(0);
+    }
+    if let Some(copy) = copy {
+        is_gone(rt, &line, &heard, text, copy.as_str(), mvt, pos);
+    }
+    Ok(1)
+}
+
+// How many movements do that there, with each of four counts.
+fn kill_their_copies(rt: &impl Abort, alloc: Global, text: &str, pos: usize) -> Result<u16, Fail> {
+    let mut compared: u16 = 0;
+    for n in [0, 1, 2, 65535] {
+        for mvt in &movements(n) {
+            compared = compared.saturating_add(kills_its_copy(rt, alloc, text, pos, mvt)?);
+        }
+    }
+    Ok(compared)
+}
+
 #[test]
 fn kills_delete_what_copies_hold(rt: HostRuntime) -> Result<(), Fail> {
     let awkward = "e\u{301}\r\n\u{1f468}\u{200d}\u{1f469} a\n";
     let mut compared: u16 = 0;
-    for pos in (0..=awkward.len()).filter(|pos| awkward.is_char_boundary(*pos)) {
-        for n in [0, 1, 2, 65535] {
-            for mvt in &movements(n) {
-                let mut line = line_of(&rt, rt.alloc(), awkward, pos)?;
-                let copy = line.copy(mvt)?;
-                let mut heard = Heard::new(usize::MAX);
-                let killed = line.kill(mvt, &mut heard)?;
-                if copy.is_some() == killed {
-                    compared = compared.saturating_add(1);
-                    if let Some(copy) = copy {
-                        assert_eq!(rt;
-                            heard.text_in(awkward),
-                            Some(copy.as_str()),
-                            "{mvt:?} at {pos}"
-                        );
-                        assert_eq!(rt; line.len() + copy.len(), awkward.len(), "{mvt:?} at {pos}");
-                    }
-                } else {
-                    assert!(rt;
-                        may_differ(mvt),
-                        "{mvt:?} at {pos}: {killed}, where a copy is {copy:?}"
-                    );
-                }
-            }
+    for pos in 0..=awkward.len() {
+        if awkward.is_char_boundary(pos) {
+            let more = kill_their_copies(&rt, rt.alloc(), awkward, pos)?;
+            compared = compared.saturating_add(more);
         }
     }
     assert!(rt; compared > 1000, "only {compared} kills were compared");
     Ok(())
 }
 
+// Where the listener refuses it, a kill leaves the line.
+fn refused_kill(
+    rt: &impl Abort,
+    alloc: Global,
+    text: &str,
+    pos: usize,
+    mvt: Movement,
+) -> Result<(), Fail> {
+    let mut line = line_of(rt, alloc, text, pos)?;
+    let kills = line.kill(&mvt, &mut NoListener)?;
+    is_refused(rt, alloc, text, pos, &Call::Kill(mvt), kills)
+}
+
 #[test]
 fn refused_kills_leave_the_line(rt: HostRuntime) -> Result<(), Fail> {
     for mvt in movements(1) {
-        let mut line = line_of(&rt, rt.alloc(), "a\nb c\u{301}", 3)?;
-        let kills = line.kill(&mvt, &mut NoListener)?;
-        is_refused(&rt, rt.alloc(), "a\nb c\u{301}", 3, &Call::Kill(mvt), kills)?;
+        refused_kill(&rt, rt.alloc(), "a\nb c\u{301}", 3, mvt)?;
     }
     Ok(())
 }

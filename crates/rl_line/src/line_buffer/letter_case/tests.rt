@@ -1,7 +1,27 @@
 //! Edits of words with answers that were worked out by hand.
-use crate::line_buffer::motions::tests::line_of;
+use crate::line_buffer::motions::tests::{holds, leaves, line_of};
 use rl_base::{NoListener, WordAction};
+use std::alloc::Global;
+use std::process::Abort;
 use std::test::Fail;
+
+// Edits a word. That answers that, and leaves that text and cursor.
+fn recases(
+    rt: &impl Abort,
+    alloc: Global,
+    text: &str,
+    pos: usize,
+    action: WordAction,
+    answer: bool,
+    after: &str,
+    cursor: usize,
+) -> Result<(), Fail> {
+    let mut line = line_of(rt, alloc, text, pos)?;
+    let answered = line.edit_word(action, &mut NoListener)?;
+    holds(rt, answered == answer, "the answer", text, pos);
+    leaves(rt, &line, text, pos, after, cursor);
+    Ok(())
+}
 
 #[test]
 fn words_are_recased(rt: HostRuntime) -> Result<(), Fail> {
@@ -23,14 +43,7 @@ fn words_are_recased(rt: HostRuntime) -> Result<(), Fail> {
             7,
         ),
     ] {
-        let mut line = line_of(&rt, rt.alloc(), text, pos)?;
-        assert_eq!(rt;
-            line.edit_word(action, &mut NoListener)?,
-            answer,
-            "{text} at {pos}"
-        );
-        assert_eq!(rt; line.as_str(), after, "{text} at {pos}");
-        assert_eq!(rt; line.pos(), cursor, "{text} at {pos}");
+        recases(&rt, rt.alloc(), text, pos, action, answer, after, cursor)?;
     }
     Ok(())
 }

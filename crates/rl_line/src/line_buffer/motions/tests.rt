@@ -58,6 +58,32 @@ pub(crate) fn line_within(
     Ok(line)
 }
 
+// The line has that text and cursor, after a call on that text at that place.
+pub(crate) fn leaves(
+    rt: &impl Abort,
+    line: &LineBuffer,
+    text: &str,
+    pos: usize,
+    after: &str,
+    cursor: usize,
+) {
+    assert_eq!(rt; line.as_str(), after, "from {text:?} at {pos}");
+    assert_eq!(rt; line.pos(), cursor, "from {text:?} at {pos} to {after:?}");
+}
+
+// It is so, of a call on that text at that place.
+pub(crate) fn holds(rt: &impl Abort, is_so: bool, what: &str, text: &str, pos: usize) {
+    assert!(rt; is_so, "{what} of {text:?} at {pos}");
+}
+
+// Goes to the place.
+fn reaches(rt: &impl Abort, line: &mut LineBuffer, what: &str, motion: Motion, place: usize) {
+    let moved = go(line, motion);
+    assert!(rt; moved, "{what}: to {place}");
+    let at = line.pos();
+    assert_eq!(rt; at, place, "{what}");
+}
+
 // Goes again and again: to each place in turn, and then nowhere.
 fn goes(
     rt: &impl Abort,
@@ -70,8 +96,7 @@ fn goes(
 ) -> Result<(), Fail> {
     let mut line = line_of(rt, alloc, text, pos)?;
     for place in places {
-        assert!(rt; go(&mut line, motion), "{what}: to {place}");
-        assert_eq!(rt; line.pos(), *place, "{what}");
+        reaches(rt, &mut line, what, motion, *place);
     }
     let last = line.pos();
     assert!(rt; !go(&mut line, motion), "{what}: no further than {last}");
@@ -158,6 +183,22 @@ fn motions_repeated(rt: HostRuntime) -> Result<(), Fail> {
     for (what, text, pos, motion, places) in rows {
         goes(&rt, rt.alloc(), what, text, pos, motion, places)?;
     }
+    Ok(())
+}
+
+// Goes once, to the place.
+fn goes_once(
+    rt: &impl Abort,
+    alloc: Global,
+    what: &str,
+    text: &str,
+    pos: usize,
+    motion: Motion,
+    place: usize,
+) -> Result<(), Fail> {
+    let mut line = line_of(rt, alloc, text, pos)?;
+    reaches(rt, &mut line, what, motion, place);
+    assert_eq!(rt; line.as_str(), text, "{what}: the text stays");
     Ok(())
 }
 
@@ -262,10 +303,7 @@ fn motions_once(rt: HostRuntime) -> Result<(), Fail> {
         ("a marked letter ahead", "ag\u{308}", 1, Motion::Ahead(1), 4),
     ];
     for (what, text, pos, motion, place) in rows {
-        let mut line = line_of(&rt, rt.alloc(), text, pos)?;
-        assert!(rt; go(&mut line, motion), "{what}");
-        assert_eq!(rt; line.pos(), place, "{what}");
-        assert_eq!(rt; line.as_str(), text, "{what}: the text stays");
+        goes_once(&rt, rt.alloc(), what, text, pos, motion, place)?;
     }
     Ok(())
 }
@@ -285,6 +323,23 @@ fn ends_of_input(rt: HostRuntime) -> Result<(), Fail> {
     Ok(())
 }
 
+// A deletion answers its text, if any, and leaves that text, with the cursor where it was.
+fn deletes(
+    rt: &impl Abort,
+    alloc: Global,
+    text: &str,
+    pos: usize,
+    n: RepeatCount,
+    gone: Option<&str>,
+    left: &str,
+) -> Result<(), Fail> {
+    let mut line = line_of(rt, alloc, text, pos)?;
+    let answer = line.delete(n, &mut NoListener)?;
+    assert!(rt; answer.as_deref() == gone, "{text} at {pos}, {n} times");
+    leaves(rt, &line, text, pos, left, pos);
+    Ok(())
+}
+
 #[test]
 fn deletions_answer_their_text(rt: HostRuntime) -> Result<(), Fail> {
     for (text, pos, n, gone, left) in [
@@ -294,23 +349,16 @@ fn deletions_answer_their_text(rt: HostRuntime) -> Result<(), Fail> {
         ("αß", 2, 0, None, "αß"),
         ("αß", 4, 1, None, "αß"),
     ] {
-        let mut line = line_of(&rt, rt.alloc(), text, pos)?;
-        let answer = line.delete(n, &mut NoListener)?;
-        match answer {
-            Some(answer) => assert_eq!(rt;
-                Some(answer.as_str()),
-                gone,
-                "{text} at {pos}, {n} times"
-            ),
-            None => assert_eq!(rt; None, gone, "{text} at {pos}, {n} times"),
-        }
-        assert_eq!(rt; line.as_str(), left, "{text} at {pos}, {n} times");
-        assert_eq!(rt; line.pos(), pos, "{text} at {pos}, {n} times");
+        deletes(&rt, rt.alloc(), text, pos, n, gone, left)?;
     }
+    Ok(())
+}
+
+#[test]
+fn a_range_is_deleted(rt: HostRuntime) -> Result<(), Fail> {
     let mut line = line_of(&rt, rt.alloc(), "αßγ", 6)?;
     assert!(rt; line.as_str().is_char_boundary(2) && line.as_str().is_char_boundary(4));
     line.delete_range(2..4, &mut NoListener)?;
-    assert_eq!(rt; line.as_str(), "αγ");
-    assert_eq!(rt; line.pos(), 2);
+    leaves(&rt, &line, "αßγ", 6, "αγ", 2);
     Ok(())
 }

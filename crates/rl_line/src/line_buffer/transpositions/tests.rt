@@ -1,7 +1,26 @@
 //! Transpositions with answers that were worked out by hand.
-use crate::line_buffer::motions::tests::line_of;
-use rl_base::NoListener;
+use crate::line_buffer::motions::tests::{holds, leaves, line_of};
+use rl_base::{NoListener, RepeatCount};
+use std::alloc::Global;
+use std::process::Abort;
 use std::test::Fail;
+
+// Transposes clusters. That answers that, and leaves that text and cursor.
+fn transposes_clusters(
+    rt: &impl Abort,
+    alloc: Global,
+    text: &str,
+    pos: usize,
+    answer: bool,
+    after: &str,
+    cursor: usize,
+) -> Result<(), Fail> {
+    let mut line = line_of(rt, alloc, text, pos)?;
+    let answered = line.transpose_chars(&mut NoListener)?;
+    holds(rt, answered == answer, "the answer", text, pos);
+    leaves(rt, &line, text, pos, after, cursor);
+    Ok(())
+}
 
 #[test]
 fn clusters_are_transposed(rt: HostRuntime) -> Result<(), Fail> {
@@ -15,15 +34,26 @@ fn clusters_are_transposed(rt: HostRuntime) -> Result<(), Fail> {
         ("e\u{301}", 3, false, "e\u{301}", 3),
         ("", 0, false, "", 0),
     ] {
-        let mut line = line_of(&rt, rt.alloc(), text, pos)?;
-        assert_eq!(rt;
-            line.transpose_chars(&mut NoListener)?,
-            answer,
-            "{text:?} at {pos}"
-        );
-        assert_eq!(rt; line.as_str(), after, "{text:?} at {pos}");
-        assert_eq!(rt; line.pos(), cursor, "{text:?} at {pos}");
+        transposes_clusters(&rt, rt.alloc(), text, pos, answer, after, cursor)?;
     }
+    Ok(())
+}
+
+// The same of words.
+fn transposes_words(
+    rt: &impl Abort,
+    alloc: Global,
+    text: &str,
+    pos: usize,
+    n: RepeatCount,
+    answer: bool,
+    after: &str,
+    cursor: usize,
+) -> Result<(), Fail> {
+    let mut line = line_of(rt, alloc, text, pos)?;
+    let answered = line.transpose_words(n, &mut NoListener)?;
+    holds(rt, answered == answer, "the answer", text, pos);
+    leaves(rt, &line, text, pos, after, cursor);
     Ok(())
 }
 
@@ -39,14 +69,7 @@ fn words_are_transposed(rt: HostRuntime) -> Result<(), Fail> {
         (" / δelta", 8, 1, false, " / δelta", 9),
         ("", 0, 1, false, "", 0),
     ] {
-        let mut line = line_of(&rt, rt.alloc(), text, pos)?;
-        assert_eq!(rt;
-            line.transpose_words(n, &mut NoListener)?,
-            answer,
-            "{text} at {pos}"
-        );
-        assert_eq!(rt; line.as_str(), after, "{text} at {pos}");
-        assert_eq!(rt; line.pos(), cursor, "{text} at {pos}");
+        transposes_words(&rt, rt.alloc(), text, pos, n, answer, after, cursor)?;
     }
     Ok(())
 }
