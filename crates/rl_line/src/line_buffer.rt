@@ -40,8 +40,8 @@ pub const MAX_LINE: usize = 4096;
 /// A text, a cursor in it, and a limit on the text's length, all in bytes.
 ///
 /// The cursor always stands between two characters, at most at the end, and the text is never longer than
-/// the limit. Only `insert` asks whether a text gets too long: where the line may not grow, it is not made
-/// longer than the limit. Whatever else makes the text longer raises the limit.
+/// the limit. Only `insert`, `yank`, `yank_pop` and `update` ask whether a text gets too long: where the line
+/// may not grow, they do not make it longer than the limit. Whatever else makes it longer raises the limit.
 #[derive(Drop)]
 pub struct LineBuffer {
     buf: String,

@@ -34,7 +34,7 @@ use Rattle.rl_session.specs.Pair.{pair_step, pair_refused}
 use Rattle.rl_session.specs.State.{State, Stands, with_ring, fresh}
 use Rattle.rl_session.specs.Commands.{Asked, edit, other, asked, Telling, answers, inserts, hands_out, is_done, Tells, CutShort, Does, DoesAsked, Edited, Edits, Others, Step, is_vain_yank, lent as lent_state, lent_plan, readied}
 use Rattle.rl_session.specs.KillRuns.{IsDirected, AllDirected, IsNoKill, AnyTook, NoneRefused, GivenBack}
-use Rattle.rl_session.specs.Run.{Row, Leads, Run}
+use Rattle.rl_session.specs.Run.{Row, Leads, Run, before_last}
 use Rattle.rl_session.specs.declared.pair.Pair.{Pair}
 use Rattle.rl_session.specs.declared.session.Command.{Command}
 use Rattle.rl_session.specs.declared.session.Command.TheVariants.{SetPos, Move, Yank, YankPop, EditWord, Kill, Copy, Begin, End, Undo, Redo, Truncate}
@@ -197,7 +197,7 @@ Others-size old (Yank n) (says.Refused NoMemory) new s = borrowed-size _ _ new s
 Others-size old YankPop (says.Inserted a) new s =
     Done-size _ old.line new.line _ new.pair a s.1.done ∙ popped-size (yank_size old.pair.ring) old.pair.ring
 Others-size old YankPop (says.Refused BadYankSize) new s = same-size old new s.1
-Others-size old YankPop (says.Refused NoMemory) new s = borrowed-size _ _ new s.1 ∙ popped-size (yank_size old.pair.ring) old.pair.ring
+Others-size old YankPop (says.Refused NoMemory) new s = cut-size _ _ new s.1 ∙ popped-size (yank_size old.pair.ring) old.pair.ring
 Others-size old Begin (says.Mark n) new s = ap (λ (n : State). n.pair.ring.size) s.1
 Others-size old Begin (says.Refused NoMemory) new s = same-size old new s
 Others-size old End (says.Answer a) new s = ap (λ (n : State). n.pair.ring.size) s.1
@@ -491,7 +491,7 @@ back-text start now m text (inr e) =
     same_Some _ _ (sym e ∙ apply-InsertStr-Swaps now.line.text start now.line.cursor m.slot (Swaps-back start now.line.text now.line.cursor m.slot [] m.swaps))
 
 GivenBack-yanked : (old now left new : State) (m : Missing old.line.text now) (reset_after : Bool) → new ≡ with_ring (cond reset_after (reset left.pair.ring) left.pair.ring) left
-    → Yanked m.slot now.line left.line (yanked now.pair.ring) left.pair.ring → GivenBack old new
+    → Yanked m.slot now.line left.line (yanked now.pair.ring) left.pair.ring → GivenBack old now new
 GivenBack-yanked old now left new m reset_after settles y =
     let line : new.line ≡ left.line = ap (λ (s : State). s.line) settles in
     let text : new.line.text ≡ old.line.text = ap (λ (l : Line). l.text) line ∙ back-text old.line.text now m left.line.text y.text_is in
@@ -502,11 +502,13 @@ GivenBack-yanked old now left new m reset_after settles y =
           ∙ yank-lent (yank now.pair.ring) now.pair.ring ∙ m.newest.slot_is;
       front = m.swaps.front;
       behind = m.swaps.rest;
+      left = m.swaps.after_is;
+      place = sym m.swaps.place;
       stands = text ∙ m.swaps.text_is;
       cursor_is = omega (arith, ap (λ (l : Line). l.cursor) line, y.cursor_is, m.swaps.place);
     }
 
-GivenBack-Yank : (old now new : State) (reply : Reply) (more : List Reply) → Missing old.line.text now → NoneRefused (reply ∷ more) → Step now (Yank 1) reply new → GivenBack old new
+GivenBack-Yank : (old now new : State) (reply : Reply) (more : List Reply) → Missing old.line.text now → NoneRefused (reply ∷ more) → Step now (Yank 1) reply new → GivenBack old now new
 GivenBack-Yank old now new (says.Inserted a) more m none s =
     let room : length now.line.text + length m.slot ≤ now.line.limit = omega (arith, Missing-length old.line.text now m, m.within) in
     let done = subst (λ o. Done pair_step (lent_plan now.line o 1) now.line s.left.line (lent_state now).pair s.left.pair a) m.newest.slot_is s.does.done in
@@ -536,23 +538,28 @@ abbrev commands_of : List Row → List Command
 commands_of rows = map (λ (row : Row). row.command) rows
 
 GivenBack-last : (old now new : State) (row : Row) → Going old.line.text now (row.reply ∷ []) → NoneRefused (row.reply ∷ []) → row.before ≡ now → row.command ≡ Yank 1 → new ≡ row.after
-    → GivenBack old new
+    → GivenBack old row.before new
 GivenBack-last old now new row g none e f l =
     let step = step_of row now (Yank 1) e f in
     let m : Missing old.line.text now = elim g [ inl m ↦ m | inr r ↦ absurd (no_yank_took now row.after row.reply step r.1) ] in
-    subst (GivenBack old) (sym l) (GivenBack-Yank old now row.after row.reply [] m none step)
+    subst (GivenBack old row.before) (sym l) (subst (λ s. GivenBack old s row.after) (sym e) (GivenBack-Yank old now row.after row.reply [] m none step))
 
-GivenBack-rows : (movements : List Movement) (rows : List Row) (old now new : State) → AllDirected movements → Leads now rows new → commands_of rows ≡ map Kill movements ++ (Yank 1 ∷ [])
-    → NoneRefused (replies_of rows) → Going old.line.text now (replies_of rows) → GivenBack old new
-GivenBack-rows [] [] old now new directed l asked none g = cc
-GivenBack-rows [] (row ∷ []) old now new directed l asked none g = GivenBack-last old now new row g none l.0 (cc asked) l.1
-GivenBack-rows [] (row ∷ (next ∷ rows)) old now new directed l asked none g = cc
-GivenBack-rows (m ∷ ms) [] old now new directed l asked none g = cc
-GivenBack-rows (m ∷ ms) (row ∷ rows) old now new directed l asked none g =
+no_row : (movements : List Movement) → [] ≡ map Kill movements ++ (Yank 1 ∷ []) → ⊥
+no_row [] e = cc
+no_row (m ∷ ms) e = cc
+
+GivenBack-rows : (movements : List Movement) (rows : List Row) (old now new s : State) → AllDirected movements → Leads now rows new → commands_of rows ≡ map Kill movements ++ (Yank 1 ∷ [])
+    → NoneRefused (replies_of rows) → Going old.line.text now (replies_of rows) → GivenBack old (before_last s rows) new
+GivenBack-rows [] [] old now new s directed l asked none g = cc
+GivenBack-rows [] (row ∷ []) old now new s directed l asked none g = GivenBack-last old now new row g none l.0 (cc asked) l.1
+GivenBack-rows [] (row ∷ (next ∷ rows)) old now new s directed l asked none g = cc
+GivenBack-rows (m ∷ ms) [] old now new s directed l asked none g = cc
+GivenBack-rows (m ∷ ms) (row ∷ []) old now new s directed l asked none g = let rest : [] ≡ map Kill ms ++ (Yank 1 ∷ []) = cc in absurd (no_row ms rest)
+GivenBack-rows (m ∷ ms) (row ∷ (next ∷ rows)) old now new s directed l asked none g =
     let command : row.command ≡ Kill m = cc in
-    let rest : commands_of rows ≡ map Kill ms ++ (Yank 1 ∷ []) = cc in
-    let on = Going-Kill old.line.text now row.after m row.reply (replies_of rows) directed.0 (step_of row now (Kill m) l.0 command) none g in
-    GivenBack-rows ms rows old row.after new directed.1 l.1 rest on.1 on.0
+    let rest : commands_of (next ∷ rows) ≡ map Kill ms ++ (Yank 1 ∷ []) = cc in
+    let on = Going-Kill old.line.text now row.after m row.reply (replies_of (next ∷ rows)) directed.0 (step_of row now (Kill m) l.0 command) none g in
+    GivenBack-rows ms (next ∷ rows) old row.after new s directed.1 l.1 rest on.1 on.0
 
 AnyTook-append : (xs ys : List Reply) → AnyTook xs → AnyTook (xs ++ ys)
 AnyTook-append [] ys h = absurd h
@@ -567,10 +574,10 @@ AnyTook-append (says.Refused f ∷ xs) ys h = AnyTook-append xs ys h
 -- in every session
 pub kills-yank : (text : List ℕ) (pos limit ring_size : ℕ) (mode : GraphemeClusterMode) (earlier : List Command) (said : List Reply) (old new : State)
     (movements : List Movement) (replies : List Reply) (last : Reply) → IsUtf8 text → IsCharBoundary text pos → 0 < ring_size
-    → Run (fresh text pos limit ring_size mode) earlier said old → Run old (map Kill movements ++ (Yank 1 ∷ [])) (replies ++ (last ∷ [])) new
-    → IsNoKill old.pair.ring.last → AllDirected movements → AnyTook replies → NoneRefused (replies ++ (last ∷ [])) → GivenBack old new
+    → Run (fresh text pos limit ring_size mode) earlier said old → (run : Run old (map Kill movements ++ (Yank 1 ∷ [])) (replies ++ (last ∷ [])) new)
+    → IsNoKill old.pair.ring.last → AllDirected movements → AnyTook replies → NoneRefused (replies ++ (last ∷ [])) → GivenBack old (before_last old run.rows) new
 kills-yank text pos limit ring_size mode earlier said old new movements replies last u at some first run no_kill directed took none =
     let roomy = Roomy-Leads first.rows _ old first.leads (Roomy-fresh text pos limit ring_size mode u at some) in
     let ready : Ready old.line.text old = record { text_is = refl; within = roomy.stands.within; roomy = roomy; no_kill = no_kill } in
-    GivenBack-rows movements run.rows old old new directed run.leads run.asked (subst NoneRefused (sym run.answered) none)
+    GivenBack-rows movements run.rows old old new old directed run.leads run.asked (subst NoneRefused (sym run.answered) none)
     (inr (ready, subst AnyTook (sym run.answered) (AnyTook-append replies (last ∷ []) took)))

@@ -70,7 +70,7 @@ Kept-Others old (Yank n) (says.Inserted a) new u f s = Kept-pair _ (lent old).pa
 Kept-Others old (Yank n) (says.Refused NoMemory) new u f s = lent-Kept _ (lent old) new u s
 Kept-Others old YankPop (says.Inserted a) new u f s = Kept-pair _ (popped old).pair new.pair old.line new.line a u s.1.done
 Kept-Others old YankPop (says.Refused BadYankSize) new u f s = same_origin old new u s.1
-Kept-Others old YankPop (says.Refused NoMemory) new u f s = lent-Kept _ (popped old) new u s.1
+Kept-Others old YankPop (says.Refused NoMemory) new u f s = cut-Kept _ (popped old) new u s.1
 Kept-Others old Begin (says.Mark n) new u f s = changes-Kept _ old new (Kept-begun old.pair.changes old.line u) s.1
 Kept-Others old Begin (says.Refused NoMemory) new u f s = same_origin old new u s
 Kept-Others old End (says.Answer a) new u f s = changes-Kept _ old new (Kept-ended old.pair.changes old.line u) s.1
@@ -133,9 +133,9 @@ held_of-append : (xs ys : List Row) → held_of (xs ++ ys) ≡ held_of xs ++ hel
 held_of-append [] ys = refl
 held_of-append (x ∷ xs) ys = ap (λ h. held x ++ h) (held_of-append xs ys) ∙ sym (append_assoc (held x) (held_of xs) (held_of ys))
 
--- two runs, one after the other, are one, and hold their texts one after the other
+-- two runs, one after the other, are one of the same rows, and hold their texts one after the other
 pub Run-append : (old mid new : State) (cs ds : List Command) (rs ss : List Reply) (r : Run old cs rs mid) (s : Run mid ds ss new)
-    → (t : Run old (cs ++ ds) (rs ++ ss) new) × (held_of t.rows ≡ held_of r.rows ++ held_of s.rows)
+    → (t : Run old (cs ++ ds) (rs ++ ss) new) × (t.rows ≡ r.rows ++ s.rows) × (held_of t.rows ≡ held_of r.rows ++ held_of s.rows)
 Run-append old mid new cs ds rs ss r s = (
   record {
     rows = r.rows ++ s.rows;
@@ -143,8 +143,13 @@ Run-append old mid new cs ds rs ss r s = (
     asked = map-append (λ (row : Row). row.command) r.rows s.rows ∙ ap (λ x. x ++ map (λ (row : Row). row.command) s.rows) r.asked ∙ ap (λ x. cs ++ x) s.asked;
     answered = map-append (λ (row : Row). row.reply) r.rows s.rows ∙ ap (λ x. x ++ map (λ (row : Row). row.reply) s.rows) r.answered ∙ ap (λ x. rs ++ x) s.answered;
   },
+  refl,
   held_of-append r.rows s.rows,
 )
+
+-- a row is a run
+pub Run-row : (row : Row) → (t : Run row.before (row.command ∷ []) (row.reply ∷ []) row.after) × (t.rows ≡ row ∷ [])
+Run-row row = (record { rows = row ∷ []; leads = (refl, refl); asked = refl; answered = refl }, refl)
 
 Leads-replays : (start : List ℕ) (rows : List Row) (old new : State) → Leads old rows new → Replays start old → AfterEach (Replays start) rows × Replays start new
 Leads-replays start [] old new l h = (tt, subst (λ s. Replays start s) (sym l) h)

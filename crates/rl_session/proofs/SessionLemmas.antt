@@ -1,7 +1,7 @@
 -- What holds whatever a call answered.
-use Rattle.std.proofs.Common.{List, [], ◌∷◌, Result, Ok, Err, ◌≡◌, ◌∙◌, ap, refl, subst, sym, append-nil, inl, inr}
+use Rattle.std.proofs.Common.{List, [], ◌∷◌, Result, Ok, Err, ◌≡◌, ◌∙◌, ap, refl, subst, sym, append-nil, inl}
 use Rattle.std.proofs.lemmas.Str.{IsCharBoundary-start, IsUtf8-nil}
-use Rattle.std.specs.Prelude.{ℕ, ◌⊎◌, Bool, true, Option, None, false, max, length, option_and_then, IsSome, Some, IfOk, IfErr}
+use Rattle.std.specs.Prelude.{ℕ, Bool, true, Option, None, false, max, length, option_and_then, IsSome, Some, IfOk, IfErr}
 use Rattle.std.specs.Str.{IsUtf8}
 use Rattle.rl_base.specs.Event.{Event, InsertStr, Start, apply}
 use Rattle.rl_base.proofs.EventLemmas.{apply-InsertStr}
@@ -11,7 +11,7 @@ use Rattle.rl_base.specs.declared.motion.WordAction.{WordAction}
 use Rattle.rl_line.specs.Line.{Line, stepped}
 use Rattle.rl_line.specs.Motions.{Moved}
 use Rattle.rl_line.specs.Plan.{Plan, nothing, after, Done, Halted, or_no_memory}
-use Rattle.rl_line.specs.Edits.{insert_str_plan}
+use Rattle.rl_line.specs.Edits.{insert_str_plan, yank_pop_plan}
 use Rattle.rl_line.specs.Kills.{Told}
 use Rattle.rl_line.specs.LetterCase.{edit_word_plan, Recased}
 use Rattle.rl_line.specs.Record.{Record, replay_entries, unwind}
@@ -20,6 +20,7 @@ use Rattle.rl_line.specs.Undo.{Redone, Undone}
 use Rattle.rl_line.specs.Units.{adds_end, begun, ended, level}
 use Rattle.rl_line.proofs.OriginLemmas.{IsSome-Kept, Kept, Kept-Done, Kept-Halted, Kept-Undone}
 use Rattle.rl_session.specs.State.{State, Follows}
+use Rattle.rl_line.proofs.PlanLemmas.{Halted-at_first}
 use Rattle.rl_session.specs.Commands.{CutShort, Edited, lent, lent_plan, popped, popped_plan}
 use Rattle.rl_session.specs.Pair.{pair_step, pair_refused}
 use Rattle.rl_session.specs.declared.pair.Pair.{Pair}
@@ -151,12 +152,6 @@ pub Follows-end : (r now : Record) (line : Line) (result : Result Bool Refusal) 
 Follows-end r now line (Ok a) d h f = subst (λ (k : Record). Follows line k) (sym d.1) (Follows-forgotten r (ended r) line (unwind-ended r line.text) refl f)
 Follows-end r now line (Err w) d h f = subst (λ (k : Record). Follows line k) (sym h.1) f
 
-pub Kept-same : (old new : State) → IsUtf8 old.line.text → new ≡ old → Kept old.pair.changes new.pair.changes old.line new.line
-Kept-same old new u e = subst (λ (n : State). Kept old.pair.changes n.pair.changes old.line n.line) (sym e) (same_Kept old.pair.changes old.line u)
-
-pub Kept-cut : {A : Type 0} (plan : Plan A) (old new : State) → IsUtf8 old.line.text → (new ≡ old) ⊎ CutShort plan old new → Kept old.pair.changes new.pair.changes old.line new.line
-Kept-cut plan old new u h = elim h [ inl e ↦ Kept-same old new u e | inr c ↦ Kept-refused plan old.pair new.pair old.line new.line _ u c.halted ]
-
 Edited-nothing : {A : Type 0} (a : A) (s : State) → Edited (nothing s.line a) s s a
 Edited-nothing a s = record {
   done = record { last = s.line; taken = record { line = refl; listener = refl }; line = refl; answered = refl };
@@ -169,3 +164,10 @@ nothing_lent n old slot e left l = subst (λ s. Edited (lent_plan old.line s n) 
 
 pub nothing_popped : (old : State) (slot : Option (ℕ × List ℕ)) → slot ≡ None → (left : State) → left ≡ popped old → Edited (popped_plan old.line slot) (popped old) left None
 nothing_popped old slot e left l = subst (λ s. Edited (popped_plan old.line s) (popped old) left None) (sym e) (subst (λ s. Edited (popped_plan old.line None) (popped old) s None) (sym l) (Edited-nothing None (popped old)))
+
+-- a text was lent for which there was no memory, so that no step was taken
+pub popped_cut : (old : State) (slot : Option (ℕ × List ℕ)) → IsSome slot → (left : State) → left ≡ popped old → CutShort (popped_plan old.line slot) (popped old) left
+popped_cut old None h left l = cc
+popped_cut old (Some p) h left l =
+    subst (λ s. CutShort (popped_plan old.line (Some p)) (popped old) s) (sym l)
+    (record { halted = Halted-at_first pair_step pair_refused (yank_pop_plan old.line p.0 p.1) _ _ _ _ _ _ _ refl refl (refl, refl, inl refl); mode = refl })

@@ -1,19 +1,18 @@
 -- A group that was closed is one unit, whatever happened inside, so that one undo takes it off.
-use Rattle.std.proofs.Common.{◌≡◌, ℕ, ◌+◌, inl, inr, zero, suc, Bool, true, false, List, [], ◌∷◌, ◌++◌, length, drop, reverse, Some, refl, sym, ap, subst, ◌∙◌, arith, append_assoc, add-zero}
-use Rattle.std.proofs.lemmas.List.{reverse-append, reverse-reverse}
+use Rattle.std.proofs.Common.{◌≡◌, ℕ, ◌+◌, inl, inr, zero, suc, Bool, true, false, List, [], ◌∷◌, ◌++◌, length, drop, reverse, Some, refl, sym, ap, subst, ◌∙◌, arith, append_assoc}
+use Rattle.std.proofs.lemmas.List.{reverse-reverse}
 use Rattle.std.specs.Prelude.{max, ◌||◌}
 use Rattle.std.specs.Str.{IsCharBoundary, IsUtf8}
-use Rattle.rl_base.specs.Event.{Event, InsertChar, InsertStr, Delete, Replace, Start, Stop}
 use Rattle.rl_base.specs.declared.layout.GraphemeClusterMode.{GraphemeClusterMode}
 use Rattle.rl_line.specs.Line.{Line}
 use Rattle.rl_line.specs.Plan.{Step, heard}
-use Rattle.rl_line.specs.Record.{Begin, End, Entry, Record, entries_after, record_step, replay_entries}
+use Rattle.rl_line.specs.Record.{Begin, End, Entry, Record, record_step, replay_entries}
 use Rattle.rl_line.specs.Units.{UndoUnit, Open, Whole, IsMatched, begun, end_one, end_times, ended, has_change, kept_of, last_of, level, opens, together, units}
 use Rattle.rl_line.proofs.GroupLemmas.{has_change-append, Inside, Inside-event, Inside-begun, past_begin}
 use Rattle.rl_line.proofs.LevelLemmas.{level-append}
-use Rattle.rl_line.proofs.MatchLemmas.{EndsOne, IsMatched-after, IsMatched-begin, Lower-end_one, Lower-end_times, end_one-cons}
+use Rattle.rl_line.proofs.MatchLemmas.{EndsOne, Lower-end_one, Lower-end_times, end_one-cons}
 use Rattle.rl_line.proofs.RedoLemmas.{line_back-unwind}
-use Rattle.rl_line.proofs.UnitLemmas.{AllGood, AllGood-reverse, Gathers, Gathers-more, Gathers-nil, Settles-group, cut_more-append, on, opens-reverse, together-reverse, together-units, units-append, units-good}
+use Rattle.rl_line.proofs.UnitLemmas.{AllGood, AllGood-reverse, Gathers, Gathers-more, Gathers-nil, Settles-group, cut_more-append, on, opens-reverse, together-reverse, together-units, units-good}
 use Rattle.rl_session.specs.Commands.{Asked, Does, DoesAsked, Others, asked, edit, other, readied, with_changes}
 use Rattle.rl_session.specs.History.{AllStandInGroup, Holds, MayStandInGroup, WasRefused}
 use Rattle.rl_session.specs.Run.{Leads, Row, Run, held, held_by_edit, held_by_other, held_of}

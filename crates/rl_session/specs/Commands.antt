@@ -30,7 +30,7 @@ use Rattle.rl_session.specs.declared.session.Command.TheVariants.{SetPos, Move, 
 use Rattle.rl_session.specs.declared.session.Fault.TheVariants.{NoMemory, BadPlace, BadYankSize, NotReplaying}
 use Rattle.rl_session.specs.declared.session.Reply.{Reply}
 use Rattle.rl_session.specs.declared.session.Reply.TheVariants as says
-use Rattle.rl_session.specs.State.{State, Stands, with_ring}
+use Rattle.rl_session.specs.State.{State, Follows, Stands, with_ring}
 
 -- where a movement leads, if anywhere; columns are counted from the edge, since the prompt's column is 0
 abbrev pub destination : State → Movement → Option ℕ
@@ -186,7 +186,7 @@ Others old YankPop (says.Inserted a) new =
     StandsYanked (yank_size old.pair.ring) old.line × Edited (popped_plan old.line (yank_pop old.pair.ring)) (popped old) new a
 Others old YankPop (says.Refused BadYankSize) new = (¬ (StandsYanked (yank_size old.pair.ring) old.line)) × (new ≡ old)
 Others old YankPop (says.Refused NoMemory) new =
-    StandsYanked (yank_size old.pair.ring) old.line × ((new ≡ popped old) ⊎ CutShort (popped_plan old.line (yank_pop old.pair.ring)) (popped old) new)
+    StandsYanked (yank_size old.pair.ring) old.line × CutShort (popped_plan old.line (yank_pop old.pair.ring)) (popped old) new
 Others old Begin (says.Mark n) new = (n ≡ length old.pair.changes.recorded) × (new ≡ with_changes (begun old.pair.changes) old)
 Others old Begin (says.Refused NoMemory) new = new ≡ old
 Others old End (says.Answer a) new =
@@ -240,3 +240,4 @@ pub record Step (old : State) (command : Command) (reply : Reply) (new : State) 
   pub does : Does (readied command old) command reply left
   pub settles : new ≡ settled command reply left
   pub stands : Stands new
+  pub follows : Follows new.line new.pair.changes

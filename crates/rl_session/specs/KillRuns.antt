@@ -41,12 +41,14 @@ NoneRefused [] = Unit {0}
 NoneRefused (says.Refused _ ∷ replies) = ⊥
 NoneRefused (_ ∷ replies) = NoneRefused replies
 
--- new has the text of old, and the cursor stands at the end of what was yanked
-pub record GivenBack (old new : State) : Type 0 where
+-- new has the text of old; what was yanked went in where the cursor was in mid, and the cursor stands at its end
+pub record GivenBack (old mid new : State) : Type 0 where
   pub text_is : new.line.text ≡ old.line.text
   pub yanked : List ℕ
   pub slot_is : yank new.pair.ring ≡ Some yanked
   pub front : List ℕ
   pub behind : List ℕ
+  pub left : mid.line.text ≡ front ++ behind
+  pub place : mid.line.cursor ≡ length front
   pub stands : new.line.text ≡ front ++ (yanked ++ behind)
   pub cursor_is : new.line.cursor ≡ length front + length yanked

@@ -60,7 +60,7 @@ held_by_other old (Kill m) (says.Answer a) new d = texts_of (kill_plan old.line 
 held_by_other old (Yank n) (says.Inserted a) new d = texts_of (lent_plan old.line (yank old.pair.ring) n) old.line
 held_by_other old (Yank n) (says.Refused NoMemory) new d = texts_of_cut d
 held_by_other old YankPop (says.Inserted a) new d = texts_of (popped_plan old.line (yank_pop old.pair.ring)) old.line
-held_by_other old YankPop (says.Refused NoMemory) new d = texts_of_cut d.1
+held_by_other old YankPop (says.Refused NoMemory) new d = texts_of_first d.1
 held_by_other old (Undo n) (says.Answer a) new d = texts_back (last_of n old.pair.changes.recorded) old.line.text
 held_by_other old Redo (says.Answer a) new d = texts_ahead (redo_of old.pair.changes.pending) old.line.text
 held_by_other _ _ _ _ _ = []
@@ -92,6 +92,12 @@ held_of (row ∷ rows) = held row ++ held_of rows
 abbrev pub Leads : State → List Row → State → Type 0
 Leads old [] new = new ≡ old
 Leads old (row ∷ rows) new = (row.before ≡ old) × Leads row.after rows new
+
+-- the state before the last row, or this one where there is none
+abbrev pub before_last : State → List Row → State
+before_last s [] = s
+before_last s (row ∷ []) = row.before
+before_last s (row ∷ (next ∷ rows)) = before_last s (next ∷ rows)
 
 -- the commands, one after another, had these replies
 pub record Run (old : State) (commands : List Command) (replies : List Reply) (new : State) : Type 0 where

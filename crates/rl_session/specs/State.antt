@@ -14,6 +14,11 @@ pub record State : Type 0 where
   pub pair : Pair
   pub mode : GraphemeClusterMode
 
+-- the recorded changes can be taken back from the line's text, and what was undone can be made again on it
+pub record Follows (line : Line) (r : Record) : Type 0 where
+  pub back : IsSome (unwind r.recorded line.text)
+  pub ahead : IsSome (replay_entries r.pending line.text)
+
 -- what holds of every session: a text with the cursor between two of its characters, within the limit, and a ring
 pub record Stands (s : State) : Type 0 where
   pub utf8 : IsUtf8 s.line.text
@@ -44,8 +49,3 @@ Opens text pos limit ring_size mode (Err _) = ⊥
 pub record Replays (start : List ℕ) (s : State) : Type 0 where
   pub is_text : IsUtf8 start
   pub leads : replay_entries s.pair.changes.recorded start ≡ Some s.line.text
-
--- the recorded changes can be taken back from the line's text, and what was undone can be made again on it
-pub record Follows (line : Line) (r : Record) : Type 0 where
-  pub back : IsSome (unwind r.recorded line.text)
-  pub ahead : IsSome (replay_entries r.pending line.text)

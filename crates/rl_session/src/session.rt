@@ -1,9 +1,9 @@
 //! A session: a line with its kill ring and the record of its changes, which takes commands one after another.
-ghost use Rattle.std.specs.Prelude.{◌≡◌, ◌++◌, List, ℕ, max, length, false, IfOk, IfErr};
+ghost use Rattle.std.specs.Prelude.{◌≡◌, ◌++◌, ◌∷◌, [], List, ℕ, max, length, false, IfOk, IfErr};
 ghost use Rattle.std.specs.Str.{IsCharBoundary};
-ghost use Rattle.rl_session.specs.State.{State, Stands, Opens, Replays};
+ghost use Rattle.rl_session.specs.State.{State, Follows, Stands, Opens, Replays};
 ghost use Rattle.rl_session.specs.Commands.{Does, Step};
-ghost use Rattle.rl_session.specs.Run.{Run, AfterEach, held_of};
+ghost use Rattle.rl_session.specs.Run.{Row, Run, AfterEach, held_of};
 ghost use Rattle.rl_session.specs.declared.session.Command.{Command};
 ghost use Rattle.rl_session.specs.declared.session.Reply.{Reply};
 
@@ -221,6 +221,13 @@ impl Session {
         let _ = self.pair.ring.yank_size();
     }
 
+    // That the record and what was undone follow the text.
+    fn follows(&self)
+        ensures { Follows self.now.line self.now.pair.changes }
+    {
+        let _ = &self.line;
+    }
+
     fn obey(&mut self, command: &Command) -> Reply
         ensures { Does self.old command.now result self.new }
     {
@@ -269,6 +276,7 @@ impl Session {
         let reply = self.obey(command);
         self.settle(command, &reply);
         self.stands();
+        self.follows();
         reply
     }
 
@@ -276,12 +284,18 @@ impl Session {
     /// refused, it did none.
     pub fn run(&mut self, commands: &[Command]) -> Result<Vec<Reply>, Fault>
         ensures run { IfOk result (λ replies. Run self.old commands.now replies.items self.new) }
+        ensures stands { Stands self.new }
+        ensures follows { Follows self.new.line self.new.pair.changes }
         ensures replays { (start : List ℕ) → Replays start self.old → Replays start self.new }
         ensures err { IfErr result (λ f. (f ≡ Fault.NoMemory) × (self.new ≡ self.old)) }
     {
         let mut replies = match Vec::with_capacity(self.alloc, commands.len()) {
             Ok(replies) => replies,
-            Err(_) => return Err(Fault::NoMemory),
+            Err(_) => {
+                self.stands();
+                self.follows();
+                return Err(Fault::NoMemory);
+            }
         };
         for command in commands {
             let reply = self.apply(command);
@@ -289,14 +303,18 @@ impl Session {
                 unreachable!();
             }
         }
+        self.stands();
+        self.follows();
         Ok(replies)
     }
 }
 
-/// Two runs, one after the other, are one, and so are the texts that they held.
+/// Two runs, one after the other, are one of the same rows, and so are the texts that they held. A single row, as each
+/// command makes one, is a run.
 pub fn runs_compose()
-    ensures { (old mid new : State) (cs ds : List Command) (rs ss : List Reply) (first : Run old cs rs mid) (second : Run mid ds ss new)
-        → (both : Run old (cs ++ ds) (rs ++ ss) new) × (held_of both.rows ≡ held_of first.rows ++ held_of second.rows) }
+    ensures joined { (old mid new : State) (cs ds : List Command) (rs ss : List Reply) (first : Run old cs rs mid) (second : Run mid ds ss new)
+        → (both : Run old (cs ++ ds) (rs ++ ss) new) × (both.rows ≡ first.rows ++ second.rows) × (held_of both.rows ≡ held_of first.rows ++ held_of second.rows) }
+    ensures row { (row : Row) → (run : Run row.before (row.command ∷ []) (row.reply ∷ []) row.after) × (run.rows ≡ row ∷ []) }
 {}
 
 /// After every row of a run, also where a step was refused, the recorded changes replayed from the starting

@@ -1,5 +1,5 @@
 //! Kills and yanks, and when the ring is reset.
-ghost use Rattle.std.specs.Prelude.{◌≡◌, true, false, IfOk};
+ghost use Rattle.std.specs.Prelude.{◌≡◌, true, false, IfOk, IfErr, IsSome};
 ghost use Rattle.std.specs.Option.{option_map};
 ghost use Rattle.std.specs.String.{string_bytes};
 ghost use Rattle.rl_base.specs.KillRing.{yank, yanked, yank_pop, yank_popped, yank_size};
@@ -119,6 +119,7 @@ fn yanked(alloc: Global, ring: &mut KillRing) -> Result<Option<String>, AllocErr
 fn popped(alloc: Global, ring: &mut KillRing) -> Result<Option<(usize, String)>, AllocError>
     ensures ring { ring.new ≡ yank_popped ring.old }
     ensures text { IfOk result (λ found. option_map (λ p. (p.0, string_bytes p.1)) found ≡ yank_pop ring.old) }
+    ensures lent { IfErr result (λ _. IsSome (yank_pop ring.old)) }
 {
     match ring.yank_pop() {
         Some((size, text)) => Ok(Some((size, String::from_str(alloc, text.as_str())?))),

@@ -7,6 +7,7 @@ returns-clause-step c = record {
   does = rw c.ready.ensures at c.obey-reply.ensures;
   settles = c.settle.ensures;
   stands = c.stands.ensures;
+  follows = c.follows.ensures;
 }
 
 pub returns-clause-replays : goal.returns-clause-replays
