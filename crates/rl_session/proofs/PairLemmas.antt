@@ -50,7 +50,7 @@ cause-pair p q e w h = elim h [
 ]
 
 -- a refusal of the listener is a refusal of the two
-listener_alone : {A : Type 0} (plan : Plan A) (old new : Line) (p q : Pair) (w : Refusal) → Halted pair_step pair_refused plan old new p q w
+pub listener_alone : {A : Type 0} (plan : Plan A) (old new : Line) (p q : Pair) (w : Refusal) → Halted pair_step pair_refused plan old new p q w
     → Halted pair_step (or_no_memory pair_refused) plan old new p q w
 listener_alone plan old new p q w h =
     record { first = h.first; next = h.next; others = h.others; split = h.split; middle = h.middle; taken = h.taken; cause = inr h.cause }

@@ -1,6 +1,7 @@
 pub mod Pair
 pub mod Settings
 pub mod State
+pub mod Replies
 pub mod Commands
 pub mod Run
 pub mod KillRuns

@@ -7,6 +7,9 @@ ghost use Rattle.rl_session.specs.Print.{printed};
 ghost use Rattle.rl_session.specs.Script.{begun, started, MeaningOut, LineOut, Ran, Stopped};
 ghost use Rattle.rl_session.specs.Progress.{Took, Halts};
 
+#[cfg(test)]
+mod tests;
+
 use crate::grammar::{ScriptLine, parse};
 use crate::print::add_printed;
 use crate::session::{Command, Fault, Reply, Session};

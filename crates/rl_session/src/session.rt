@@ -11,6 +11,9 @@ mod deletions;
 mod edits;
 mod history;
 mod motions;
+mod replies;
+#[cfg(test)]
+mod tests;
 mod yanks;
 
 use crate::pair::Pair;

@@ -1,6 +1,14 @@
 //! Widths and positions with answers from outside.
 use crate::{GraphemeClusterMode, Layout, Position, Unit};
+use std::process::Abort;
 use std::test::Fail;
+
+// The width of a text in a mode, alone and in a layout.
+fn measures(rt: &impl Abort, text: &str, mode: GraphemeClusterMode, want: Unit) {
+    let (alone, laid_out) = (mode.width(text), Layout::new(mode).width(text));
+    assert_eq!(rt; alone, want, "{mode:?}");
+    assert_eq!(rt; laid_out, want, "a layout, {mode:?}");
+}
 
 const MODES: [GraphemeClusterMode; 3] = [
     GraphemeClusterMode::Unicode,
@@ -18,15 +26,10 @@ fn widths(rt: HostRuntime) {
         ("\u{1f469}\u{200d}\u{1f680}", [2, 4, 4]),
         ("\u{2764}\u{fe0f}", [2, 1, 2]),
     ];
-    for (text, wants) in rows {
-        for (mode, want) in MODES.into_iter().zip(wants) {
-            assert_eq!(rt; mode.width(text), want, "{text} in {mode:?}");
-            assert_eq!(rt;
-                Layout::new(mode).width(text),
-                want,
-                "{text} in a layout, {mode:?}"
-            );
-        }
+    for (text, [unicode, wc_width, no_zwj]) in rows {
+        measures(&rt, text, GraphemeClusterMode::Unicode, unicode);
+        measures(&rt, text, GraphemeClusterMode::WcWidth, wc_width);
+        measures(&rt, text, GraphemeClusterMode::NoZwj, no_zwj);
     }
 }
 

@@ -17,9 +17,10 @@ fn goes_by_clusters(
     next: Option<usize>,
     prev: Option<usize>,
 ) {
-    assert!(rt; text.is_char_boundary(pos), "{text} {pos}");
-    assert_eq!(rt; next_pos(text, pos, n), next, "{text} {pos} next {n}");
-    assert_eq!(rt; prev_pos(text, pos, n), prev, "{text} {pos} prev {n}");
+    assert!(rt; text.is_char_boundary(pos), "{pos}");
+    let (ahead, back) = (next_pos(text, pos, n), prev_pos(text, pos, n));
+    assert_eq!(rt; ahead, next, "{pos} next {n}");
+    assert_eq!(rt; back, prev, "{pos} prev {n}");
 }
 
 #[test]
@@ -48,9 +49,9 @@ fn goes_to_word(
     n: RepeatCount,
     want: Option<usize>,
 ) {
-    assert!(rt; text.is_char_boundary(pos), "{text} {pos}");
+    assert!(rt; text.is_char_boundary(pos), "{pos}");
     let place = next_word(text, pos, at, word, n);
-    assert_eq!(rt; place, want, "{text} {at:?} {word:?} {n} from {pos}");
+    assert_eq!(rt; place, want, "{at:?} {word:?} {n} from {pos}");
 }
 
 #[test]
@@ -95,9 +96,9 @@ fn goes_back_to_word(
     n: RepeatCount,
     want: Option<usize>,
 ) {
-    assert!(rt; text.is_char_boundary(pos), "{text} {pos}");
+    assert!(rt; text.is_char_boundary(pos), "{pos}");
     let place = prev_word(text, pos, word, n);
-    assert_eq!(rt; place, want, "{text} {word:?} {n} back from {pos}");
+    assert_eq!(rt; place, want, "{word:?} {n} back from {pos}");
 }
 
 #[test]
@@ -162,11 +163,10 @@ fn finds(
     hit: Option<usize>,
     place: Option<usize>,
 ) {
-    assert!(rt; text.is_char_boundary(pos), "{text} {pos}");
-    let found = search(text, pos, cs, n);
-    assert_eq!(rt; found, hit, "{text} {pos} {cs:?} {n}, the hit");
-    let goes = find_place(text, pos, cs, n);
-    assert_eq!(rt; goes, place, "{text} {pos} {cs:?} {n}, the place");
+    assert!(rt; text.is_char_boundary(pos), "{pos}");
+    let (found, goes) = (search(text, pos, cs, n), find_place(text, pos, cs, n));
+    assert_eq!(rt; found, hit, "{pos} {cs:?} {n}, the hit");
+    assert_eq!(rt; goes, place, "{pos} {cs:?} {n}, the place");
 }
 
 #[test]
@@ -355,8 +355,8 @@ enum Kind {
 
 /// What a cluster is, among those of the text above, whose letters are ASCII.
 fn kind_of(word: Word, cluster: &str) -> Kind {
-    let plain = cluster.chars().all(|c| c.is_ascii_alphanumeric());
-    let blank = cluster.chars().any(|c| c.is_ascii_whitespace());
+    let plain = matches!(cluster.as_bytes(), [byte] if byte.is_ascii_alphanumeric());
+    let blank = matches!(cluster.as_bytes(), [byte, ..] if byte.is_ascii_whitespace());
     match word {
         Word::Big if !blank => Kind::Word,
         Word::Emacs | Word::Vi if plain => Kind::Word,

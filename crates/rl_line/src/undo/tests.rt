@@ -10,7 +10,7 @@ use std::process::Abort;
 use std::test::Fail;
 
 // An undo, of a record that leads back.
-fn undo(
+pub(super) fn undo(
     rt: &impl Abort,
     line: &mut LineBuffer,
     record: &mut Changeset,
@@ -43,7 +43,7 @@ pub(crate) fn stands(
 
 // A call of a line that tells its record, or of the record, as a value of a table.
 #[derive(Clone, Copy)]
-enum Call {
+pub(super) enum Call {
     Insert(char, RepeatCount),
     Yank(&'static str),
     Back(RepeatCount),
@@ -68,7 +68,7 @@ enum Call {
 
 // What a record is told by itself, while the line stays as it is.
 #[derive(Clone, Copy)]
-enum Event {
+pub(super) enum Event {
     Char(usize, char),
     Text(usize, &'static str),
     Deletion(usize, &'static str, Direction),
@@ -108,7 +108,7 @@ fn replace(
 }
 
 // Makes the call. It answers the mark of a begin, or the limit, and else 1 for true and 0 for what is not true.
-fn make(
+pub(super) fn make(
     rt: &impl Abort,
     line: &mut LineBuffer,
     record: &mut Changeset,
@@ -148,10 +148,10 @@ fn make(
 }
 
 // A call, its answer, and what it leaves: the text, the cursor, the entries, and the open groups.
-type Step = (Call, usize, &'static str, usize, usize, usize);
+pub(super) type Step = (Call, usize, &'static str, usize, usize, usize);
 
 // Takes the steps on the line, with a new record.
-fn takes(
+pub(super) fn takes(
     rt: &impl Abort,
     line: &mut LineBuffer,
     alloc: Global,
@@ -168,7 +168,7 @@ fn takes(
 }
 
 // Takes the steps on a line that holds the text, with the cursor at its end.
-fn goes(rt: &impl Abort, alloc: Global, text: &str, steps: &[Step]) -> Result<(), Fail> {
+pub(super) fn goes(rt: &impl Abort, alloc: Global, text: &str, steps: &[Step]) -> Result<(), Fail> {
     let mut line = line_of(rt, alloc, text, text.len())?;
     takes(rt, &mut line, alloc, steps)
 }
@@ -361,169 +361,6 @@ fn other_calls_drop_what_was_undone(rt: HostRuntime) -> Result<(), Fail> {
     Ok(())
 }
 
-// Makes the calls, with a new record, and undoes once. That leaves that text and cursor, and so many entries.
-fn records(
-    rt: &impl Abort,
-    line: &mut LineBuffer,
-    alloc: Global,
-    calls: &[Call],
-    text: &str,
-    cursor: usize,
-    entries: usize,
-) -> Result<(), Fail> {
-    let mut record = Changeset::new(alloc);
-    for call in calls {
-        make(rt, line, &mut record, *call)?;
-    }
-    let undone = undo(rt, line, &mut record, 1)?;
-    assert!(rt; undone, "it leaves {entries} entries");
-    stands(rt, line, &record, text, cursor, entries);
-    Ok(())
-}
-
-#[test]
-fn neighbouring_changes_join(rt: HostRuntime) -> Result<(), Fail> {
-    let (space, dash) = (Call::Insert(' ', 1), Call::Insert('-', 1));
-    let (letter, other) = (Call::Insert('a', 1), Call::Insert('ß', 1));
-    let back = Call::Back(1);
-    // a text, the cursor, calls, and the text, the cursor and the entries after one undo
-    let rows: [(&str, usize, &[Call], &str, usize, usize); 8] = [
-        ("", 0, &[space, letter, other], "", 0, 0),
-        ("", 0, &[letter, space, letter], "a", 1, 1),
-        ("", 0, &[letter, dash, dash], "a-", 2, 2),
-        ("Hello", 3, &[back, back], "Hello", 3, 0),
-        (
-            "a,b",
-            0,
-            &[Call::Ahead, Call::Ahead, Call::Ahead],
-            ",b",
-            2,
-            1,
-        ),
-        ("abc", 1, &[Call::Ahead, back, Call::Ahead], "abc", 3, 0),
-        ("a e\u{301}", 5, &[back, back, back], "a ", 2, 1),
-        ("ab", 1, &[Call::Insert('c', 1), back], "acb", 2, 1),
-    ];
-    for (text, pos, calls, before, cursor, entries) in rows {
-        let mut line = line_of(&rt, rt.alloc(), text, pos)?;
-        records(&rt, &mut line, rt.alloc(), calls, before, cursor, entries)?;
-    }
-    Ok(())
-}
-
-#[test]
-fn characters_that_were_told_join(rt: HostRuntime) -> Result<(), Fail> {
-    let mut record = Changeset::new(rt.alloc());
-    for (idx, c, entries) in [
-        (0, 'H', 1),
-        (1, 'i', 1),
-        (0, ' ', 2),
-        (1, 'a', 2),
-        (usize::MAX, 'b', 3),
-        (0, 'c', 4),
-    ] {
-        record.insert_char(idx, c)?;
-        assert_eq!(rt; record.len(), entries, "{c:?} at {idx}");
-    }
-    Ok(())
-}
-
-// A deletion that the record is told.
-fn deletion(idx: usize, text: &'static str, side: Direction) -> Call {
-    Call::Told(Event::Deletion(idx, text, side))
-}
-
-#[test]
-fn deletions_that_were_told_join(rt: HostRuntime) -> Result<(), Fail> {
-    let end = deletion(2, "l", Direction::Forward);
-    let start = deletion(1, "e", Direction::Backward);
-    let mut line = line_of(&rt, rt.alloc(), "Hlo", 0)?;
-    takes(
-        &rt,
-        &mut line,
-        rt.alloc(),
-        &[
-            (end, 1, "Hlo", 0, 1, 0),
-            (start, 1, "Hlo", 0, 1, 0),
-            (Call::Undo(1), 1, "Hello", 3, 0, 0),
-        ],
-    )?;
-    let letter = deletion(0, "a", Direction::Forward);
-    let comma = deletion(0, ",", Direction::Forward);
-    let other = deletion(0, "b", Direction::Forward);
-    goes(
-        &rt,
-        rt.alloc(),
-        "",
-        &[
-            (letter, 1, "", 0, 1, 0),
-            (comma, 1, "", 0, 2, 0),
-            (other, 1, "", 0, 2, 0),
-            (Call::Undo(1), 1, ",b", 2, 1, 0),
-            (Call::Undo(1), 1, "a,b", 1, 0, 0),
-        ],
-    )
-}
-
-#[test]
-fn deletions_that_were_told_the_other_way_join(rt: HostRuntime) -> Result<(), Fail> {
-    let first = deletion(1, "e", Direction::Forward);
-    let second = deletion(1, "l", Direction::Backward);
-    let mut line = line_of(&rt, rt.alloc(), "Hlo", 0)?;
-    takes(
-        &rt,
-        &mut line,
-        rt.alloc(),
-        &[
-            (first, 1, "Hlo", 0, 1, 0),
-            (second, 1, "Hlo", 0, 1, 0),
-            (Call::Undo(1), 1, "Hello", 3, 0, 0),
-        ],
-    )
-}
-
-#[test]
-fn replacements_join(rt: HostRuntime) -> Result<(), Fail> {
-    let mut line = line_of(&rt, rt.alloc(), "Hello, world!", 0)?;
-    takes(
-        &rt,
-        &mut line,
-        rt.alloc(),
-        &[
-            (Call::Replace(1, 4, "i"), 1, "Hio, world!", 2, 1, 0),
-            (Call::Replace(2, 3, ""), 1, "Hi, world!", 2, 1, 0),
-            (Call::Undo(1), 1, "Hello, world!", 5, 0, 0),
-            (Call::Redo, 1, "Hi, world!", 2, 1, 0),
-        ],
-    )
-}
-
-#[test]
-fn a_replacement_that_was_told_comes_and_goes(rt: HostRuntime) -> Result<(), Fail> {
-    let told = Call::Told(Event::Replacement(1, "ello", "i"));
-    let nothing = deletion(0, "", Direction::Forward);
-    let empty = Call::Told(Event::Replacement(0, "", ""));
-    let mut line = line_of(&rt, rt.alloc(), "Hi, world!", 0)?;
-    takes(
-        &rt,
-        &mut line,
-        rt.alloc(),
-        &[
-            (told, 1, "Hi, world!", 0, 1, 0),
-            (Call::Undo(1), 1, "Hello, world!", 5, 0, 0),
-            // a kill that takes nothing leaves what was undone
-            (Call::Told(Event::Kill), 1, "Hello, world!", 5, 0, 0),
-            (Call::Redo, 1, "Hi, world!", 2, 1, 0),
-            (Call::Undo(1), 1, "Hello, world!", 5, 0, 0),
-            // an empty deletion is no entry, and still drops it
-            (nothing, 1, "Hello, world!", 5, 0, 0),
-            (Call::Redo, 0, "Hello, world!", 5, 0, 0),
-            // an empty replacement is an entry
-            (empty, 1, "Hello, world!", 5, 1, 0),
-        ],
-    )
-}
-
 // Whether the last change put that text in, or none where there is none.
 fn put_in(record: &Changeset, text: Option<&str>) -> Result<bool, Refusal> {
     match record.last_insert()? {
@@ -595,7 +432,7 @@ fn a_group_without_a_change_has_no_end(rt: HostRuntime) -> Result<(), Fail> {
 
 #[test]
 fn changes_behind_the_record_are_seen(rt: HostRuntime) -> Result<(), Fail> {
-    let foreign = deletion(5, "x", Direction::Forward);
+    let foreign = Call::Told(Event::Deletion(5, "x", Direction::Forward));
     goes(
         &rt,
         rt.alloc(),

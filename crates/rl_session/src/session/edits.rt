@@ -3,6 +3,7 @@ ghost use Rattle.std.specs.Prelude.{◌≡◌, true, false};
 ghost use Rattle.rl_session.specs.Commands.{Does, CanGoIn};
 ghost use Rattle.rl_session.specs.declared.session.Command.{Command};
 
+use crate::session::replies::{answered, done, inserted};
 use crate::session::{Fault, Reply, Session};
 use rl_base::{Movement, RepeatCount, WordAction};
 
@@ -11,20 +12,14 @@ impl Session {
         ensures { Does self.old (Command.Insert c n) result self.new }
     {
         self.stands();
-        match self.line.insert(c, n, &mut self.pair) {
-            Ok(answer) => Reply::Inserted(answer),
-            Err(_) => Reply::Refused(Fault::NoMemory),
-        }
+        inserted(self.line.insert(c, n, &mut self.pair))
     }
 
     pub(super) fn paste(&mut self, text: &String, n: RepeatCount) -> Reply
         ensures { Does self.old (Command.Paste text.now n) result self.new }
     {
         self.stands();
-        match self.line.yank(text.as_str(), n, &mut self.pair) {
-            Ok(answer) => Reply::Inserted(answer),
-            Err(_) => Reply::Refused(Fault::NoMemory),
-        }
+        inserted(self.line.yank(text.as_str(), n, &mut self.pair))
     }
 
     pub(super) fn update(&mut self, text: &String, pos: usize) -> Reply
@@ -34,10 +29,7 @@ impl Session {
         if !text.as_str().is_char_boundary(pos) {
             return Reply::Refused(Fault::BadPlace);
         }
-        match self.line.update(text.as_str(), pos, &mut self.pair) {
-            Ok(()) => Reply::Done,
-            Err(_) => Reply::Refused(Fault::NoMemory),
-        }
+        done(self.line.update(text.as_str(), pos, &mut self.pair))
     }
 
     // Whether a text can go in at a place, with the cursor where it is: on either side of the text, or between
@@ -68,10 +60,7 @@ impl Session {
         if !self.can_go_in(idx, text.as_str()) {
             return Reply::Refused(Fault::BadPlace);
         }
-        match self.line.insert_str(idx, text.as_str(), &mut self.pair) {
-            Ok(answer) => Reply::Answer(answer),
-            Err(_) => Reply::Refused(Fault::NoMemory),
-        }
+        answered(self.line.insert_str(idx, text.as_str(), &mut self.pair))
     }
 
     pub(super) fn replace(&mut self, from: usize, to: usize, text: &String) -> Reply
@@ -81,49 +70,34 @@ impl Session {
         if !self.is_range(from, to) {
             return Reply::Refused(Fault::BadPlace);
         }
-        match self.line.replace(from..to, text.as_str(), &mut self.pair) {
-            Ok(()) => Reply::Done,
-            Err(_) => Reply::Refused(Fault::NoMemory),
-        }
+        done(self.line.replace(from..to, text.as_str(), &mut self.pair))
     }
 
     pub(super) fn transpose_chars(&mut self) -> Reply
         ensures { Does self.old Command.TransposeChars result self.new }
     {
         self.stands();
-        match self.line.transpose_chars(&mut self.pair) {
-            Ok(answer) => Reply::Answer(answer),
-            Err(_) => Reply::Refused(Fault::NoMemory),
-        }
+        answered(self.line.transpose_chars(&mut self.pair))
     }
 
     pub(super) fn transpose_words(&mut self, n: RepeatCount) -> Reply
         ensures { Does self.old (Command.TransposeWords n) result self.new }
     {
         self.stands();
-        match self.line.transpose_words(n, &mut self.pair) {
-            Ok(answer) => Reply::Answer(answer),
-            Err(_) => Reply::Refused(Fault::NoMemory),
-        }
+        answered(self.line.transpose_words(n, &mut self.pair))
     }
 
     pub(super) fn edit_word(&mut self, action: WordAction) -> Reply
         ensures { Does self.old (Command.EditWord action) result self.new }
     {
         self.stands();
-        match self.line.edit_word(action, &mut self.pair) {
-            Ok(answer) => Reply::Answer(answer),
-            Err(_) => Reply::Refused(Fault::NoMemory),
-        }
+        answered(self.line.edit_word(action, &mut self.pair))
     }
 
     pub(super) fn indent(&mut self, movement: &Movement, amount: u8, dedent: bool) -> Reply
         ensures { Does self.old (Command.Indent movement.now amount dedent) result self.new }
     {
         self.stands();
-        match self.line.indent(movement, amount, dedent, &mut self.pair) {
-            Ok(answer) => Reply::Answer(answer),
-            Err(_) => Reply::Refused(Fault::NoMemory),
-        }
+        answered(self.line.indent(movement, amount, dedent, &mut self.pair))
     }
 }

@@ -2,6 +2,7 @@
 ghost use Rattle.rl_session.specs.Commands.{Does};
 ghost use Rattle.rl_session.specs.declared.session.Command.{Command};
 
+use crate::session::replies::answered;
 use crate::session::{Fault, Reply, Session};
 use rl_base::RepeatCount;
 
@@ -18,30 +19,21 @@ impl Session {
     pub(super) fn end(&mut self) -> Reply
         ensures { Does self.old Command.End result self.new }
     {
-        match self.pair.changes.end() {
-            Ok(answer) => Reply::Answer(answer),
-            Err(_) => Reply::Refused(Fault::NoMemory),
-        }
+        answered(self.pair.changes.end())
     }
 
     pub(super) fn undo(&mut self, n: RepeatCount) -> Reply
         ensures { Does self.old (Command.Undo n) result self.new }
     {
         self.stands();
-        match self.pair.changes.undo(&mut self.line, n) {
-            Ok(answer) => Reply::Answer(answer),
-            Err(_) => Reply::Refused(Fault::NoMemory),
-        }
+        answered(self.pair.changes.undo(&mut self.line, n))
     }
 
     pub(super) fn redo(&mut self) -> Reply
         ensures { Does self.old Command.Redo result self.new }
     {
         self.stands();
-        match self.pair.changes.redo(&mut self.line) {
-            Ok(answer) => Reply::Answer(answer),
-            Err(_) => Reply::Refused(Fault::NoMemory),
-        }
+        answered(self.pair.changes.redo(&mut self.line))
     }
 
     pub(super) fn truncate(&mut self, len: usize) -> Reply

@@ -2,6 +2,7 @@
 ghost use Rattle.rl_session.specs.Commands.{Does};
 ghost use Rattle.rl_session.specs.declared.session.Command.{Command};
 
+use crate::session::replies::handed_out;
 use crate::session::{Fault, Reply, Session};
 use rl_base::{Layout, Movement};
 
@@ -41,9 +42,6 @@ impl Session {
     pub(super) fn copy(&self, movement: &Movement) -> Reply
         ensures { Does self.now (Command.Copy movement.now) result self.now }
     {
-        match self.line.copy(movement) {
-            Ok(text) => Reply::Text(text),
-            Err(_) => Reply::Refused(Fault::NoMemory),
-        }
+        handed_out(self.line.copy(movement))
     }
 }

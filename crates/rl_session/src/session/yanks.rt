@@ -6,6 +6,7 @@ ghost use Rattle.rl_base.specs.KillRing.{yank, yanked, yank_pop, yank_popped, ya
 ghost use Rattle.rl_session.specs.Commands.{Does, StandsYanked, continues, is_vain_yank, readied, settled};
 ghost use Rattle.rl_session.specs.declared.session.Command.{Command};
 
+use crate::session::replies::{answered, inserted};
 use crate::session::{Command, Fault, Reply, Session};
 use rl_base::{KillRing, Movement, RepeatCount};
 use std::alloc::{AllocError, Global};
@@ -15,10 +16,7 @@ impl Session {
         ensures { Does self.old (Command.Kill movement.now) result self.new }
     {
         self.stands();
-        match self.line.kill(movement, &mut self.pair) {
-            Ok(answer) => Reply::Answer(answer),
-            Err(_) => Reply::Refused(Fault::NoMemory),
-        }
+        answered(self.line.kill(movement, &mut self.pair))
     }
 
     pub(super) fn yank(&mut self, n: RepeatCount) -> Reply
@@ -30,10 +28,7 @@ impl Session {
             Ok(None) => return Reply::Inserted(None),
             Err(_) => return Reply::Refused(Fault::NoMemory),
         };
-        match self.line.yank(text.as_str(), n, &mut self.pair) {
-            Ok(answer) => Reply::Inserted(answer),
-            Err(_) => Reply::Refused(Fault::NoMemory),
-        }
+        inserted(self.line.yank(text.as_str(), n, &mut self.pair))
     }
 
     // Whether the bytes that were yanked last can stand before the cursor.
@@ -60,10 +55,7 @@ impl Session {
             Ok(None) => return Reply::Inserted(None),
             Err(_) => return Reply::Refused(Fault::NoMemory),
         };
-        match self.line.yank_pop(size, text.as_str(), &mut self.pair) {
-            Ok(answer) => Reply::Inserted(answer),
-            Err(_) => Reply::Refused(Fault::NoMemory),
-        }
+        inserted(self.line.yank_pop(size, text.as_str(), &mut self.pair))
     }
 
     // Resets the ring before a command that does not go on from what it did last.

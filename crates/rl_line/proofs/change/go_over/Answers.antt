@@ -1,4 +1,4 @@
-use Rattle.std.proofs.Common.{arith, ◌∙◌, length, refl, sym, ap}
+use Rattle.std.proofs.Common.{rules, arith, ◌∙◌, length, refl, sym, ap}
 use Rattle.std.specs.String.{string_bytes}
 use Rattle.rl_line.specs.Undo.{faced}
 use Rattle.rl_line.proofs.ChangeLemmas.{StandsNew, StandsNew-from_IsSome, mark-leaves, place-faced}
@@ -26,3 +26,6 @@ returns-in-Some-clause-text c =
 pub returns-in-None-clause-text : goal.returns-in-None-clause-text
 returns-in-None-clause-text c =
     mark-leaves (faced c.args.way c.args.change.now) (string_bytes c.args.text.now) (place-faced c.args.way c.args.change.now ∙ sym c.place.ensures ∙ c.in-None.is)
+
+pub returns-in-Some-clause-cursor : goal.returns-in-Some-clause-cursor
+returns-in-Some-clause-cursor c = search rules

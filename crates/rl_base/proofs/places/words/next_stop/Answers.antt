@@ -7,3 +7,6 @@ pub returns-in-Some-clause-boundary : goal.returns-in-Some-clause-boundary
 returns-in-Some-clause-boundary c =
     let found : Some c.in-Some.stop ≡ nth c.args.n (stops c.args.at c.args.word (looked_at c.args.at (placed_clusters c.args.text.now))) = search rules in
     IsCharBoundary-stop c.args.text.now c.args.at c.args.word c.args.n c.in-Some.stop c.utf8.text found
+
+pub returns-clause-value : goal.returns-clause-value
+returns-clause-value c = search rules

@@ -1,3 +1,4 @@
+use Rattle.std.proofs.Common.{rules}
 use Rattle.std.proofs.lemmas.Str.{IsCharBoundary-start}
 use Rattle.rl_line.proofs.line_buffer.LineBuffer.covered.Goals as goal
 
@@ -11,3 +12,6 @@ unless_empty-requires-in-BeginningOfBuffer-clause-start c = rw (← c.as_str-tex
 
 pub returns-in-ViFirstPrint-clause-end : goal.returns-in-ViFirstPrint-clause-end
 returns-in-ViFirstPrint-clause-end c = rw (← c.as_str-text.ensures) c.from_first_print.ensures.end
+
+pub returns-in-WholeLine-clause-value : goal.returns-in-WholeLine-clause-value
+returns-in-WholeLine-clause-value c = search rules

@@ -10,3 +10,6 @@ returns c =
     c.range.ensures.value ∙ slice_range-front kept.result c.args.text.now
     ∙ sym (cut_to_limit-past c.args.self.now c.args.text.now kept.result (search rules) (search rules)
     (greatest_boundary-is c.args.text.now c.args.self.now.limit kept.result (search rules) kept.ensures.boundary (search rules)))
+
+pub range-requires-clause-end_boundary : goal.range-requires-clause-end_boundary
+range-requires-clause-end_boundary c = search rules

@@ -16,3 +16,6 @@ returns-clause-halted g c =
     (λ r h. Halted-followed _ _ _ _ _ _ _ _ _ _ _ _ _ c.in_ok-take_out.ensures.taken h
     (yank_pop_plan-is c.args.self.now _ c.args.yank_size _ _ c.args.text.now (search rules) refl (search rules)))
     c.yank.ensures.halted
+
+pub returns-clause-done : goal.returns-clause-done
+returns-clause-done g c = search rules

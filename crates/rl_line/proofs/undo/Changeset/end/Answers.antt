@@ -1,4 +1,4 @@
-use Rattle.std.proofs.Common.{sym, ◌≡◌, subst, ap, ◌∙◌, map}
+use Rattle.std.proofs.Common.{rules, sym, ◌≡◌, subst, ap, ◌∙◌, map}
 use Rattle.rl_line.specs.Record.{entry_of}
 use Rattle.rl_line.specs.Units.{AtLevel, end_times, level}
 use Rattle.rl_line.proofs.LevelLemmas.{AtLevel-ended}
@@ -16,3 +16,6 @@ invariant_of-self-2 c =
     let h = subst (AtLevel c.self.inside.level) c.self.view_is c.self.invariant in
     subst (AtLevel 0) (sym (dropped-view (λ es. end_times (level es) es) c.args.self.now c.self.inside.recorded.items c.self.inside.pending.items _ _ c.self.view_is (closed (goal.at.invariant_of-self-2 c).After-clear) c.clear.ensures.items))
     (AtLevel-ended c.self.inside.level c.args.self.now h)
+
+pub returns-clause-done : goal.returns-clause-done
+returns-clause-done c = search rules

@@ -1,6 +1,14 @@
+use Rattle.std.proofs.Common.{refl}
+use Rattle.rl_base.specs.declared.motion.Movement.TheVariants.{BackwardChar}
+use Rattle.rl_line.specs.Kills.{kill_plan}
+use Rattle.rl_session.proofs.ReplyLemmas.{Edits-answered, refused_alone}
 use Rattle.rl_session.proofs.SessionLemmas.{Follows-deletion}
 use Rattle.rl_session.proofs.session.Session.backspace.Goals as goal
 
 pub invariant_of-self : goal.invariant_of-self
 invariant_of-self c =
     Follows-deletion _ c.self.inside.pair c.backspace.new.listener c.self.inside.line c.backspace.new.self c.backspace.result (rw (← c.self.view_is) at c.stands.ensures.utf8) c.backspace.ensures.done c.backspace.ensures.halted c.self.invariant
+
+pub returns : goal.returns
+returns c =
+    Edits-answered _ (λ l. kill_plan l (BackwardChar c.args.n)) _ _ _ _ _ c.self.view_is tt c.answered.ensures (record { mode = refl; done = c.backspace.ensures.done; halted = refused_alone _ _ _ _ _ _ c.backspace.ensures.halted })

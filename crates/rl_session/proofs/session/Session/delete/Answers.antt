@@ -1,8 +1,15 @@
 use Rattle.std.specs.Option.{option_map}
 use Rattle.std.specs.String.{string_bytes}
+use Rattle.std.proofs.Common.{refl}
+use Rattle.rl_line.specs.Kills.{delete_plan}
+use Rattle.rl_session.proofs.ReplyLemmas.{Edits-handed_out}
 use Rattle.rl_session.proofs.SessionLemmas.{Follows-edit}
 use Rattle.rl_session.proofs.session.Session.delete.Goals as goal
 
 pub invariant_of-self : goal.invariant_of-self
 invariant_of-self c =
     Follows-edit _ (option_map string_bytes) c.self.inside.pair c.delete.new.listener c.self.inside.line c.delete.new.self c.delete.result (rw (← c.self.view_is) at c.stands.ensures.utf8) c.delete.ensures.done c.delete.ensures.halted c.self.invariant
+
+pub returns : goal.returns
+returns c =
+    Edits-handed_out _ (λ l. delete_plan l c.args.n) _ _ _ _ _ c.self.view_is tt c.handed_out.ensures (record { mode = refl; done = c.delete.ensures.done; halted = c.delete.ensures.halted })

@@ -1,6 +1,14 @@
+use Rattle.std.proofs.Common.{refl}
+use Rattle.rl_base.specs.declared.motion.Movement.TheVariants.{BeginningOfLine}
+use Rattle.rl_line.specs.Kills.{kill_plan}
+use Rattle.rl_session.proofs.ReplyLemmas.{Edits-answered, refused_alone}
 use Rattle.rl_session.proofs.SessionLemmas.{Follows-deletion}
 use Rattle.rl_session.proofs.session.Session.discard_line.Goals as goal
 
 pub invariant_of-self : goal.invariant_of-self
 invariant_of-self c =
     Follows-deletion _ c.self.inside.pair c.discard_line.new.listener c.self.inside.line c.discard_line.new.self c.discard_line.result (rw (← c.self.view_is) at c.stands.ensures.utf8) c.discard_line.ensures.done c.discard_line.ensures.halted c.self.invariant
+
+pub returns : goal.returns
+returns c =
+    Edits-answered _ (λ l. kill_plan l BeginningOfLine) _ _ _ _ _ c.self.view_is tt c.answered.ensures (record { mode = refl; done = c.discard_line.ensures.done; halted = refused_alone _ _ _ _ _ _ c.discard_line.ensures.halted })

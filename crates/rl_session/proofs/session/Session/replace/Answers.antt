@@ -1,6 +1,13 @@
+use Rattle.std.proofs.Common.{refl}
+use Rattle.rl_line.specs.Edits.{replace_plan}
+use Rattle.rl_session.proofs.ReplyLemmas.{Edits-done}
 use Rattle.rl_session.proofs.SessionLemmas.{Follows-edit}
 use Rattle.rl_session.proofs.session.Session.replace.Goals as goal
 
 pub invariant_of-self : goal.invariant_of-self
 invariant_of-self c =
     Follows-edit _ (λ a. a) c.self.inside.pair c.replace.new.listener c.self.inside.line c.replace.new.self c.replace.result (rw (← c.self.view_is) at c.stands.ensures.utf8) c.replace.ensures.done c.replace.ensures.halted c.self.invariant
+
+pub returns : goal.returns
+returns c =
+    rw (← c.as_str.ensures.value) (Edits-done _ (λ l. replace_plan l c.args.from c.args.to c.as_str.result.now) _ _ _ _ _ c.self.view_is (c.is_range.ensures.yes c.if-not-is_range.false) c.done.ensures (record { mode = refl; done = c.replace.ensures.done; halted = c.replace.ensures.halted }))

@@ -1,6 +1,13 @@
+use Rattle.std.proofs.Common.{refl}
+use Rattle.rl_line.specs.Transpositions.{transpose_chars_plan}
+use Rattle.rl_session.proofs.ReplyLemmas.{Edits-answered}
 use Rattle.rl_session.proofs.SessionLemmas.{Follows-edit}
 use Rattle.rl_session.proofs.session.Session.transpose_chars.Goals as goal
 
 pub invariant_of-self : goal.invariant_of-self
 invariant_of-self c =
     Follows-edit _ (λ a. a) c.self.inside.pair c.transpose_chars.new.listener c.self.inside.line c.transpose_chars.new.self c.transpose_chars.result (rw (← c.self.view_is) at c.stands.ensures.utf8) c.transpose_chars.ensures.done c.transpose_chars.ensures.halted c.self.invariant
+
+pub returns : goal.returns
+returns c =
+    Edits-answered _ (λ l. transpose_chars_plan l) _ _ _ _ _ c.self.view_is tt c.answered.ensures (record { mode = refl; done = c.transpose_chars.ensures.done; halted = c.transpose_chars.ensures.halted })

@@ -8,8 +8,5 @@ returns-in-Ok-None c = (c.stands_yanked.ensures.yes c.if-not-stands_yanked.false
 pub returns-in-Err : goal.returns-in-Err
 returns-in-Err c = (c.stands_yanked.ensures.yes c.if-not-stands_yanked.false, rw (← c.self.view_is) (popped_cut (record { line = c.self.inside.line; pair = c.self.inside.pair; mode = c.self.inside.mode }) _ c.in-Err.ensures.lent _ (rw c.in-Err.ensures.ring refl)))
 
-pub invariant_of-self-in-Ok : goal.invariant_of-self-in-Ok
-invariant_of-self-in-Ok c = Follows-edit _ (λ a. a) (record { ring = c.popped.new.ring; changes = c.self.inside.pair.changes }) c.yank_pop.new.listener c.self.inside.line c.yank_pop.new.self c.yank_pop.result (rw (← c.self.view_is) at c.stands.ensures.utf8) c.yank_pop.ensures.done c.yank_pop.ensures.halted c.self.invariant
-
 pub invariant_of-self-2 : goal.invariant_of-self-2
 invariant_of-self-2 c = Follows-edit _ (λ a. a) (record { ring = c.popped.new.ring; changes = c.self.inside.pair.changes }) c.yank_pop.new.listener c.self.inside.line c.yank_pop.new.self c.yank_pop.result (rw (← c.self.view_is) at c.stands.ensures.utf8) c.yank_pop.ensures.done c.yank_pop.ensures.halted c.self.invariant

@@ -1,0 +1,6 @@
+use Rattle.std.proofs.Common.{ap}
+use Rattle.rl_line.specs.Line.{Line}
+use Rattle.rl_line.proofs.line_buffer.LineBuffer.limit.Goals as goal
+
+pub returns-clause-limit : goal.returns-clause-limit
+returns-clause-limit c = ap (λ (l : Line). l.limit) c.self.view_is

@@ -1,0 +1,12 @@
+use Rattle.std.proofs.Common.{rules, arith}
+use Rattle.rl_base.proofs.EventLemmas.{fitting}
+use Rattle.rl_line.proofs.line_buffer.LineBuffer.put_instead.Goals as goal
+
+pub returns-then-is_err-clause-cause : goal.returns-then-is_err-clause-cause
+returns-then-is_err-clause-cause g c = search rules
+
+pub returns-clause-taken : goal.returns-clause-taken
+returns-clause-taken g c = grind (arith, fitting)
+
+pub returns-clause-line : goal.returns-clause-line
+returns-clause-line g c = search rules

@@ -1,0 +1,42 @@
+//! What a pair hears of the edits of a line.
+use crate::pair::Pair;
+use rl_base::{KillRing, Movement};
+use rl_line::{Changeset, LineBuffer};
+use std::process::Abort;
+use std::test::Fail;
+
+// The record has so many entries, and the ring lends that.
+fn holds(rt: &impl Abort, pair: &mut Pair, entries: usize, wanted: Option<&str>, what: &str) {
+    assert!(rt; pair.changes.len() == entries, "{what}");
+    match pair.ring.yank() {
+        Some(slot) => assert!(rt; Some(slot.as_str()) == wanted, "{what}"),
+        None => assert!(rt; wanted.is_none(), "{what}"),
+    }
+}
+
+#[test]
+fn a_pair_hears_as_one(rt: HostRuntime) -> Result<(), Fail> {
+    let alloc = rt.alloc();
+    let mut pair = Pair {
+        ring: KillRing::new(alloc, 2),
+        changes: Changeset::new(alloc),
+    };
+    let mut line = LineBuffer::with_capacity(alloc, 9)?;
+    line.yank("a bc", 1, &mut pair)?;
+    holds(&rt, &mut pair, 1, None, "an insertion is no kill");
+    line.backspace(1, &mut pair)?;
+    holds(&rt, &mut pair, 2, None, "nor is a deletion");
+    line.kill(&Movement::BeginningOfLine, &mut pair)?;
+    holds(&rt, &mut pair, 3, Some("a b"), "a kill is for both");
+    if pair.changes.can_undo(&line)? {
+        pair.changes.undo(&mut line, 3)?;
+    }
+    holds(
+        &rt,
+        &mut pair,
+        0,
+        Some("a b"),
+        "the ring does not hear of an undo",
+    );
+    Ok(())
+}

@@ -1,0 +1,462 @@
+//! Rows of scripts.
+use crate::run_script;
+use crate::script::ScriptFault;
+use crate::session::Fault;
+use std::alloc::Global;
+use std::io;
+use std::io::{Read, Write};
+use std::process::Abort;
+use std::test::Fail;
+
+// What a script prints.
+fn printed_by(alloc: Global, script: &[u8]) -> Result<Vec<u8>, ScriptFault> {
+    let mut reader = script;
+    let mut printed = Vec::new(alloc);
+    run_script(alloc, &mut reader, &mut printed)?;
+    Ok(printed)
+}
+
+// The script prints that.
+fn prints(
+    rt: &impl Abort,
+    alloc: Global,
+    what: &str,
+    script: &[u8],
+    wanted: &[u8],
+) -> Result<(), Fail> {
+    let printed = printed_by(alloc, script)?;
+    assert_eq!(rt; printed.as_slice(), wanted, "{what}");
+    Ok(())
+}
+
+#[test]
+fn scripts_print(rt: HostRuntime) -> Result<(), Fail> {
+    let rows: [(&str, &[u8], &[u8]); 9] = [
+        (
+            "an insertion inside the text is undone",
+            b"text ab\npos 1\nins 1 c\nundo 1\n",
+            b"ok 2 ab\nok 1 ab\nfalse 2 acb\ntrue 1 ab\n",
+        ),
+        (
+            "two insertions and a deletion are undone one by one",
+            b"text ab\nins 2 c\nback 1\nundo 1\nundo 1\nundo 1\npos 3\n",
+            b"ok 2 ab\ntrue 4 abcc\ntrue 3 abc\ntrue 4 abcc\ntrue 2 ab\nfalse 2 ab\nrefused:2 2 ab\n",
+        ),
+        (
+            "a number is judged by its value",
+            b"ins 1 a\nins 1 -\nundo 000000000000000000000000000000000001\n",
+            b"true 1 a\ntrue 2 a-\ntrue 1 a\n",
+        ),
+        (
+            "the last line needs no newline, and the empty script prints nothing for itself",
+            b"ins 2 x",
+            b"true 2 xx\n",
+        ),
+        ("no script, no output", b"", b""),
+        (
+            "escapes are read and printed",
+            b"text a\\tb\\s\\u{E9}\\\\\ntext\ntext \nins 1 \\n\nins 1  \n",
+            b"ok 7 a\\tb \xc3\xa9\\\\\nok 0 \nok 0 \ntrue 1 \\n\ntrue 2 \\n \n",
+        ),
+        (
+            "a place inside a character is refused, and none is left out",
+            b"text \xc3\xa9\npos 1\npos 0\npos 2\npos 18446744073709551615\n",
+            b"ok 2 \xc3\xa9\nrefused:2 2 \xc3\xa9\nok 0 \xc3\xa9\nok 2 \xc3\xa9\nrefused:2 2 \xc3\xa9\n",
+        ),
+        (
+            "a deletion takes whole clusters, and nothing is deleted at the start or for no count",
+            b"text ae\\u{301}\nback 0\nback 1\nback 9\nback 1\nundo 9\n",
+            b"ok 4 ae\xcc\x81\nfalse 4 ae\xcc\x81\ntrue 1 a\ntrue 0 \nfalse 0 \ntrue 4 ae\xcc\x81\n",
+        ),
+        (
+            "deleted text is handed out as one word, and the cursor moves by clusters",
+            b"text a b\npos 0\ndel 2\ndel 0\nmove fchar 1\nmove bchar 1\nmove bchar 1\nundo 1\n",
+            b"ok 3 a b\nok 0 a b\ntext:a\\s 0 b\nnone 0 b\ntrue 1 b\ntrue 0 b\nfalse 0 b\ntrue 2 a b\n",
+        ),
+    ];
+    for (what, script, wanted) in rows {
+        prints(&rt, rt.alloc(), what, script, wanted)?;
+    }
+    Ok(())
+}
+
+#[test]
+fn kills_come_back(rt: HostRuntime) -> Result<(), Fail> {
+    let rows: [(&str, &[u8], &[u8]); 11] = [
+        (
+            "kills to both sides are one text, and one yank gives it back",
+            b"text one two three\npos 4\nkill fword 1 after emacs\nkill home\nkill eol\nyank 1\n",
+            b"ok 13 one two three\nok 4 one two three\ntrue 4 one  three\ntrue 0  three\ntrue 0 \ntrue 13 one two three\n",
+        ),
+        (
+            "a text is yanked twice, replaced by itself, and both are undone",
+            b"text one two\nkill bword 1 emacs\nkill bword 1 emacs\nyank 2\nyankpop\nundo 1\nundo 1\n",
+            b"ok 7 one two\ntrue 4 one \ntrue 0 \ntrue 14 one twoone two\ntrue 14 one twoone two\ntrue 7 one two\ntrue 14 one twoone two\n",
+        ),
+        (
+            "kills by clusters are no kills for the ring, and are undone as one",
+            b"text Hello\npos 4\nkill bchar 1\nkill bchar 1\nundo 1\nkill fchar 9\nyank 1\n",
+            b"ok 5 Hello\nok 4 Hello\ntrue 3 Helo\ntrue 2 Heo\ntrue 4 Hello\ntrue 4 Hell\nnone 4 Hell\n",
+        ),
+        (
+            "what was yanked no time does not stand before the cursor",
+            b"text ab\nkill bword 1 emacs\nyank 0\nyankpop\nyankpop\n",
+            b"ok 2 ab\ntrue 0 \ntrue 0 \nrefused:3 0 \nnone 0 \n",
+        ),
+        (
+            "a kill of an empty text is one, and the yank of it none",
+            b"text ab\nkill find 1 T b\nyank 1\nyankpop\n",
+            b"ok 2 ab\ntrue 2 ab\nnone 2 ab\nnone 2 ab\n",
+        ),
+        (
+            "a kill of nothing leaves what the ring did last",
+            b"text one two\nkill bword 1 emacs\nyank 1\nkill eol\nyankpop\n",
+            b"ok 7 one two\ntrue 4 one \ntrue 7 one two\nfalse 7 one two\ntrue 7 one two\n",
+        ),
+        (
+            "but one by clusters resets the ring, as another command does",
+            b"text one two\nkill bword 1 emacs\nyank 1\nkill fchar 1\nyankpop\nyank 1\npos 0\nyankpop\n",
+            b"ok 7 one two\ntrue 4 one \ntrue 7 one two\nfalse 7 one two\nnone 7 one two\ntrue 10 one twotwo\nok 0 one twotwo\nnone 0 one twotwo\n",
+        ),
+        (
+            "a command between two kills parts them, and yankpop goes from one to the other",
+            b"text one two\nkill bword 1 emacs\npos 4\nkill bword 1 emacs\nyank 1\nyankpop\nyankpop\n",
+            b"ok 7 one two\ntrue 4 one \nok 4 one \ntrue 0 \ntrue 4 one \ntrue 3 two\ntrue 4 one \n",
+        ),
+        (
+            "a yank that is too long puts nothing in and resets the ring",
+            b"limit 3\ntext abc\nkill home\nyank 2\nyankpop\nyank 1\nyankpop\n",
+            b"ok 0 \nok 3 abc\ntrue 0 \nnone 0 \nnone 0 \ntrue 3 abc\ntrue 3 abc\n",
+        ),
+        (
+            "lines, the whole line and its newline, and the text are killed",
+            b"text a\\nb\\nc\npos 2\nkill down 0\nundo 1\npos 2\nkill up 1\nundo 1\npos 2\nkill line\nkill line\nkill first\nkill buf\nyank 1\n",
+            b"ok 5 a\\nb\\nc\nok 2 a\\nb\\nc\ntrue 1 ac\ntrue 4 a\\nb\\nc\nok 2 a\\nb\\nc\ntrue 0 c\ntrue 4 a\\nb\\nc\nok 2 a\\nb\\nc\ntrue 2 a\\n\\nc\ntrue 2 a\\nc\nfalse 2 a\\nc\ntrue 0 \ntrue 5 b\\na\\nc\n",
+        ),
+        (
+            "a new text has a new ring",
+            b"text ab\nkill bob\ntext cd\nyank 1\npos 0\nkill eob\nyank 1\n",
+            b"ok 2 ab\ntrue 0 \nok 2 cd\nnone 2 cd\nok 0 cd\ntrue 0 \ntrue 2 cd\n",
+        ),
+    ];
+    for (what, script, wanted) in rows {
+        prints(&rt, rt.alloc(), what, script, wanted)?;
+    }
+    Ok(())
+}
+
+#[test]
+fn settings_are_for_the_next_text(rt: HostRuntime) -> Result<(), Fail> {
+    let rows: [(&str, &[u8], &[u8]); 7] = [
+        (
+            "a setting prints the present text",
+            b"limit 5\n",
+            b"ok 0 \n",
+        ),
+        (
+            "and does not reset the ring",
+            b"text one two\nkill bword 1 emacs\nring 3\nkill bword 1 emacs\nyank 1\n",
+            b"ok 7 one two\ntrue 4 one \nok 4 one \ntrue 0 \ntrue 7 one two\n",
+        ),
+        (
+            "a limit for which there is no memory leaves the old text",
+            b"text a\nlimit 18446744073709551615\ntext b\nlimit 3\ntext c\n",
+            b"ok 1 a\nok 1 a\nrefused:1 1 a\nok 1 a\nok 1 c\n",
+        ),
+        (
+            "a line grows up to the limit, which a longer text raises",
+            b"limit 2\nins 3 a\ntext\nins 3 a\nins 2 a\ntext abc\nins 1 d\nback 1\nins 1 d\n",
+            b"ok 0 \ntrue 3 aaa\nok 0 \nnone 0 \ntrue 2 aa\nok 3 abc\nnone 3 abc\ntrue 2 ab\ntrue 3 abd\n",
+        ),
+        (
+            "a ring of size 0 keeps nothing, and one of size 1 the last kill",
+            b"ring 0\ntext ab\nkill home\nyank 1\nring 1\ntext ab\nkill bob\nyank 1\nyankpop\n",
+            b"ok 0 \nok 2 ab\ntrue 0 \nnone 0 \nok 0 \nok 2 ab\ntrue 0 \ntrue 2 ab\ntrue 2 ab\n",
+        ),
+        (
+            "columns are counted by clusters",
+            b"mode unicode\ntext \\u{1f44b}\\u{1f3ff}\\nabcdef\npos 8\nmove down 1\n",
+            b"ok 0 \nok 15 \xf0\x9f\x91\x8b\xf0\x9f\x8f\xbf\\nabcdef\nok 8 \xf0\x9f\x91\x8b\xf0\x9f\x8f\xbf\\nabcdef\ntrue 11 \xf0\x9f\x91\x8b\xf0\x9f\x8f\xbf\\nabcdef\n",
+        ),
+        (
+            "or by characters",
+            b"mode wcwidth\ntext \\u{1f44b}\\u{1f3ff}\\nabcdef\npos 8\nmode nozwj\nmove down 1\n",
+            b"ok 0 \nok 15 \xf0\x9f\x91\x8b\xf0\x9f\x8f\xbf\\nabcdef\nok 8 \xf0\x9f\x91\x8b\xf0\x9f\x8f\xbf\\nabcdef\nok 8 \xf0\x9f\x91\x8b\xf0\x9f\x8f\xbf\\nabcdef\ntrue 13 \xf0\x9f\x91\x8b\xf0\x9f\x8f\xbf\\nabcdef\n",
+        ),
+    ];
+    for (what, script, wanted) in rows {
+        prints(&rt, rt.alloc(), what, script, wanted)?;
+    }
+    Ok(())
+}
+
+#[test]
+fn movements_move(rt: HostRuntime) -> Result<(), Fail> {
+    let rows: [(&str, &[u8], &[u8]); 6] = [
+        (
+            "to the start and the end of the line, and of the text",
+            b"text ba\\nsdf bc\\nasdf\npos 6\nmove home\nmove home\nmove eol\nmove eol\nmove bob\nmove bob\nmove eob\nmove eob\n",
+            b"ok 14 ba\\nsdf bc\\nasdf\nok 6 ba\\nsdf bc\\nasdf\ntrue 3 ba\\nsdf bc\\nasdf\nfalse 3 ba\\nsdf bc\\nasdf\ntrue 9 ba\\nsdf bc\\nasdf\nfalse 9 ba\\nsdf bc\\nasdf\ntrue 0 ba\\nsdf bc\\nasdf\nfalse 0 ba\\nsdf bc\\nasdf\ntrue 14 ba\\nsdf bc\\nasdf\nfalse 14 ba\\nsdf bc\\nasdf\n",
+        ),
+        (
+            "by words back and ahead",
+            b"text a/b\nmove bword 2 vi\ntext a \xc3\x9f  c\npos 1\nmove fword 2 after emacs\nmove bword 1 big\npos 0\nmove fword 1 start big\nmove fword 1 before vi\n",
+            b"ok 3 a/b\ntrue 1 a/b\nok 7 a \xc3\x9f  c\nok 1 a \xc3\x9f  c\ntrue 7 a \xc3\x9f  c\ntrue 6 a \xc3\x9f  c\nok 0 a \xc3\x9f  c\ntrue 2 a \xc3\x9f  c\ntrue 6 a \xc3\x9f  c\n",
+        ),
+        (
+            "to a character, or next to it",
+            b"text abcbe\npos 0\nmove find 1 f b\nmove find 1 t e\nmove find 2 F b\nmove find 1 f e\nmove find 1 T a\nmove find 1 f x\n",
+            b"ok 5 abcbe\nok 0 abcbe\ntrue 1 abcbe\ntrue 3 abcbe\ntrue 1 abcbe\ntrue 4 abcbe\ntrue 1 abcbe\nfalse 1 abcbe\n",
+        ),
+        (
+            "by lines",
+            b"text aa123\\nsdf bc\\nasdf\npos 14\nmove up 1\nmove up 1\nmove up 1\nmove down 2\nmove up 2\n",
+            b"ok 17 aa123\\nsdf bc\\nasdf\nok 14 aa123\\nsdf bc\\nasdf\ntrue 7 aa123\\nsdf bc\\nasdf\ntrue 1 aa123\\nsdf bc\\nasdf\nfalse 1 aa123\\nsdf bc\\nasdf\ntrue 14 aa123\\nsdf bc\\nasdf\ntrue 1 aa123\\nsdf bc\\nasdf\n",
+        ),
+        (
+            "by clusters",
+            b"text ag\\u{308}\nmove bchar 1\nmove fchar 1\n",
+            b"ok 4 ag\xcc\x88\ntrue 1 ag\xcc\x88\ntrue 4 ag\xcc\x88\n",
+        ),
+        (
+            "and nowhere over a whole line or text, and to the first print place",
+            b"text a\\tb\nmove line\nmove buf\nmove first\n",
+            b"ok 3 a\\tb\nfalse 3 a\\tb\nfalse 3 a\\tb\nfalse 3 a\\tb\n",
+        ),
+    ];
+    for (what, script, wanted) in rows {
+        prints(&rt, rt.alloc(), what, script, wanted)?;
+    }
+    Ok(())
+}
+
+#[test]
+fn groups_are_undone_and_done_again(rt: HostRuntime) -> Result<(), Fail> {
+    let rows: [(&str, &[u8], &[u8]); 6] = [
+        (
+            "a group is undone whole, and done again",
+            b"text\nins 1 a\nbegin\nins 1 b\nins 1 c\nend\nundo 1\nredo\n",
+            b"ok 0 \ntrue 1 a\nmark:1 1 a\ntrue 2 ab\ntrue 3 abc\ntrue 3 abc\ntrue 1 a\ntrue 3 abc\n",
+        ),
+        (
+            "an undo of a group's beginning closes it",
+            b"text\nins 1 a\nbegin\nins 1 b\nundo 2\nend\n",
+            b"ok 0 \ntrue 1 a\nmark:1 1 a\ntrue 2 ab\ntrue 1 a\nfalse 1 a\n",
+        ),
+        (
+            "entries are kept only where they lead to the text",
+            b"text a\nbegin\nins 1 b\ntrunc 0\nback 1\ntrunc 0\nend\nundo 1\n",
+            b"ok 1 a\nmark:0 1 a\ntrue 2 ab\nrefused:4 2 ab\ntrue 1 a\nok 1 a\nfalse 1 a\nfalse 1 a\n",
+        ),
+        (
+            "what was undone is lost where entries are kept",
+            b"text\nins 1 a\nins 1 -\nundo 1\ntrunc 1\nredo\n",
+            b"ok 0 \ntrue 1 a\ntrue 2 a-\ntrue 1 a\nok 1 a\nfalse 1 a\n",
+        ),
+        (
+            "and where nothing is put in",
+            b"text\nins 1 a\nundo 1\nins 0 b\nredo\n",
+            b"ok 0 \ntrue 1 a\ntrue 0 \ntrue 0 \nfalse 0 \n",
+        ),
+        (
+            "but not where there is no event",
+            b"text\nins 1 a\nundo 1\npaste 1\nback 0\nmove bob\ncopy buf\nkill first\nredo\n",
+            b"ok 0 \ntrue 1 a\ntrue 0 \nnone 0 \nfalse 0 \nfalse 0 \nnone 0 \nfalse 0 \ntrue 1 a\n",
+        ),
+    ];
+    for (what, script, wanted) in rows {
+        prints(&rt, rt.alloc(), what, script, wanted)?;
+    }
+    Ok(())
+}
+
+#[test]
+fn texts_and_places_are_commanded(rt: HostRuntime) -> Result<(), Fail> {
+    let rows: [(&str, &[u8], &[u8]); 7] = [
+        (
+            "what is copied is handed out as one word, and a range has its ends in order within the text",
+            b"text a\\tb\ncopy line\nrange 2 1\nrange 0 4\nmove line\nrep 0 1\ncopy eob\ncase UP\n\ntext a b\ncopy buf\n",
+            b"ok 3 a\\tb\ntext:a\\tb 3 a\\tb\nrefused:2 3 a\\tb\nrefused:2 3 a\\tb\nfalse 3 a\\tb\nok 0 \\tb\ntext:\\tb 0 \\tb\nbad\nbad\nok 3 a b\ntext:a\\sb 3 a b\n",
+        ),
+        (
+            "a text may be empty, or left out",
+            b"text ab\npaste 1\npaste 1 \nstr 0\nstr 2 \nrep 0 1\nupdate 0\n",
+            b"ok 2 ab\nnone 2 ab\nnone 2 ab\nfalse 2 ab\ntrue 2 ab\nok 0 b\nok 0 \n",
+        ),
+        (
+            "and is read by its escapes",
+            b"text\npaste 2 \\s\\u{E9}\nupdate 1 \\\\ b\n",
+            b"ok 0 \ntrue 6  \xc3\xa9 \xc3\xa9\nok 1 \\\\ b\n",
+        ),
+        (
+            "a movement behind an amount has its own arguments",
+            b"text a\\nb\\nc\npos 0\nindent 1 down 1\ntext \\s\\sa\ndedent 255 buf\n",
+            b"ok 5 a\\nb\\nc\nok 0 a\\nb\\nc\ntrue 1  a\\n b\\nc\nok 3   a\ntrue 1 a\n",
+        ),
+        (
+            "words that can't be exchanged may still move the cursor",
+            b"text \\s/ \xce\xb4elta\npos 8\ntwords 1\n",
+            b"ok 9  / \xce\xb4elta\nok 8  / \xce\xb4elta\nfalse 9  / \xce\xb4elta\n",
+        ),
+        (
+            "up to the first print place, which may be the cursor's",
+            b"text  ab\npos 1\ncopy first\ntext ab\ncopy first\ntext a\ncopy first\n",
+            b"ok 3  ab\nok 1  ab\ntext: 1  ab\nok 2 ab\ntext:b 2 ab\nok 1 a\nnone 1 a\n",
+        ),
+        (
+            "the limit stays raised",
+            b"limit 2\ntext abc\nback 2\nins 2 d\nstr 0 zz\nundo 65535\nins 1 e\n",
+            b"ok 0 \nok 3 abc\ntrue 1 a\ntrue 3 add\nfalse 3 zzadd\ntrue 3 abc\ntrue 4 abce\n",
+        ),
+    ];
+    for (what, script, wanted) in rows {
+        prints(&rt, rt.alloc(), what, script, wanted)?;
+    }
+    Ok(())
+}
+
+#[test]
+fn every_word_does_something(rt: HostRuntime) -> Result<(), Fail> {
+    let rows: [(&str, &[u8], &[u8]); 2] = [
+        (
+            "each word once",
+            b"text ab cd\nins 1 e\nback 1\ntrunc 0\nbegin\npos 0\npaste 1 x y\nend\nundo 1\nredo\nprevword 1 emacs\nnextword 1 after emacs\ncase up\nto 1 F C\nmove bob\nupdate 7 one two\n",
+            b"ok 5 ab cd\ntrue 6 ab cde\ntrue 5 ab cd\nok 5 ab cd\nmark:0 5 ab cd\nok 0 ab cd\nfalse 3 x yab cd\ntrue 3 x yab cd\ntrue 0 ab cd\ntrue 3 x yab cd\ntrue 2 x ab cd\ntrue 2 x  cd\ntrue 5 x  CD\ntrue 3 x  \ntrue 0 x  \nok 7 one two\n",
+        ),
+        (
+            "and the others",
+            b"text one two\ntwords 1\ntchars\nkill bword 1 emacs\nyank 1\nyankpop\ncopy bword 1 emacs\nstr 0 ab\\n\nindent 2 buf\ndedent 1 line\nrep 0 4 cd\\ne\nrange 5 6\ndel 1\npos 3\nkillline\nkillbuf\ndiscline\ndiscbuf\n",
+            b"ok 7 one two\ntrue 7 two one\ntrue 7 two oen\ntrue 4 two \ntrue 7 two oen\ntrue 7 two oen\ntext:oen 7 two oen\nfalse 7 ab\\ntwo oen\ntrue 11   ab\\n  two oen\ntrue 10   ab\\n two oen\nok 4 cd\\ne\\n two oen\nok 5 cd\\ne\\ntwo oen\ntext:t 5 cd\\ne\\nwo oen\nok 3 cd\\ne\\nwo oen\ntrue 3 cd\\n\\nwo oen\ntrue 3 cd\\n\ntrue 2 cd\ntrue 0 \n",
+        ),
+    ];
+    for (what, script, wanted) in rows {
+        prints(&rt, rt.alloc(), what, script, wanted)?;
+    }
+    Ok(())
+}
+
+// Each of the lines prints `bad`, and the session goes on from where it was.
+fn prints_bad(rt: &impl Abort, alloc: Global, what: &str, lines: &[u8]) -> Result<(), Fail> {
+    let mut script = Vec::new(alloc);
+    script.extend_from_slice(b"text ab\n")?;
+    script.extend_from_slice(lines)?;
+    script.extend_from_slice(b"\nins 1 c\n")?;
+    let mut wanted = Vec::new(alloc);
+    wanted.extend_from_slice(b"ok 2 ab\nbad\n")?;
+    for b in lines {
+        if *b == b'\n' {
+            wanted.extend_from_slice(b"bad\n")?;
+        }
+    }
+    wanted.extend_from_slice(b"true 3 abc\n")?;
+    prints(rt, alloc, what, script.as_slice(), wanted.as_slice())
+}
+
+#[test]
+fn malformed_lines_print_bad(rt: HostRuntime) -> Result<(), Fail> {
+    let rows: [(&str, &[u8]); 15] = [
+        ("an empty line", b""),
+        (
+            "spaces too many or in the wrong place",
+            b"ins  1 a\nundo 1 \n undo 1\nrep 0  1 a\npaste  1 a\nindent 1  line",
+        ),
+        (
+            "unknown words, and words in capitals",
+            b"insert 1 a\nINS 1 a\nmove left 1\nmove HOME\nmode Unicode\ncase UP",
+        ),
+        (
+            "numbers that are none",
+            b"ins +1 a\nins -1 a\nback one\nback\nback \ntrunc -1\nring -1\nring ",
+        ),
+        (
+            "counts, places and amounts that are too great",
+            b"ins 65536 a\nundo 18446744073709551617\npos 18446744073709551616\nmove down 65536\nyank 65536\npaste 65536 a\nindent 256 line\nlimit 18446744073709551616\ntrunc 18446744073709551616",
+        ),
+        ("no UTF-8", b"text \xff\nins 1 a\xff"),
+        (
+            "numbers of no character",
+            b"text \\u{110000}\ntext \\u{D800}\ntext \\u{0000041}\ntext \\u{}\ntext \\u{41",
+        ),
+        (
+            "backslashes that say nothing",
+            b"text \\\ntext \\q\npaste 1 \\\nstr 0 \\q",
+        ),
+        (
+            "not one character",
+            b"ins 1 ab\nins 1 \nins 1\nmove find 1 f\nkill find 1 t ab\nto 1 f\nto 1 f ab",
+        ),
+        (
+            "movements without what they want",
+            b"move\nmove \nmove bchar\nmove bword 1\nmove fword 1 big\nkill\ncopy\ncopy up\nindent 1",
+        ),
+        (
+            "movements with more than they want",
+            b"move fchar 1 \nmove home 1\nkill bword 1 big \ndedent 1 line 2",
+        ),
+        (
+            "kinds of words and of searches that are none",
+            b"move bword 1 word\nmove bword 1  big\nmove fword 1 end vi\nmove fword 1 big start\nmove find 1 x a\nto 1 x a\nprevword big 1\nnextword 1 big",
+        ),
+        (
+            "words without their arguments",
+            b"yank\ndel\npaste\npaste a\nupdate\nstr ab\nrep 0\nrep 0 a\nrange 1\nprevword 1\ntwords\ncase\ntrunc\nlimit\nmode\nindent line",
+        ),
+        (
+            "words with more than they want",
+            b"yankpop 1\nkillline 1\ndiscbuf \nbegin 1\nend \nredo 1\nrange 0 1 2\nrange 0 1 \nnextword 1 after vi ",
+        ),
+        (
+            "arguments of another kind",
+            b"update 18446744073709551616 a\ncase title\nmode wide",
+        ),
+    ];
+    for (what, lines) in rows {
+        prints_bad(&rt, rt.alloc(), what, lines)?;
+    }
+    Ok(())
+}
+
+// A reader and a writer that fail at once.
+#[derive(Drop)]
+struct Broken;
+
+impl Read for Broken {
+    fn read(&mut self, _buf: &mut [u8]) -> io::Result<usize> {
+        Err(io::Error::from(io::ErrorKind::Other))
+    }
+}
+
+impl Write for Broken {
+    fn write(&mut self, _buf: &[u8]) -> io::Result<usize> {
+        Err(io::Error::from(io::ErrorKind::Other))
+    }
+
+    fn flush(&mut self) -> io::Result<()> {
+        Ok(())
+    }
+}
+
+#[test]
+fn broken_ends_are_told_apart(rt: HostRuntime) -> Result<(), Fail> {
+    let mut printed = Vec::new(rt.alloc());
+    let read = run_script(rt.alloc(), &mut Broken, &mut printed);
+    assert_eq!(rt; read, Err(ScriptFault::Read), "a read that fails");
+    let mut script = b"text ab\n".as_slice();
+    let written = run_script(rt.alloc(), &mut script, &mut Broken);
+    assert_eq!(rt; written, Err(ScriptFault::Write), "a write that fails");
+    let said = format!(in rt.alloc();
+        "{}, {}, {}, {}, {}, {}, {}",
+        ScriptFault::Read,
+        ScriptFault::Write,
+        ScriptFault::NoMemory,
+        Fault::NoMemory,
+        Fault::BadPlace,
+        Fault::BadYankSize,
+        Fault::NotReplaying
+    )?;
+    assert_eq!(rt;
+        said.as_str(),
+        "read failed, write failed, no memory, out of memory, no such place in the text, no yanked text before the cursor, the entries do not lead to the text"
+    );
+    Ok(())
+}
