@@ -1,20 +1,23 @@
 -- What a command did, by what is replied to the outcome of its call.
-use Rattle.std.proofs.Common.{◌≡◌, refl, subst, sym, Result, Ok, Err, String, Global, string_bytes}
+use Rattle.std.proofs.Common.{◌≡◌, ◌∙◌, ap, refl, subst, sym, Result, Ok, Err, String, Global, string_bytes}
 use Rattle.std.specs.Prelude.{List, ℕ, Bool, Option, IfOk, IfErr}
 use Rattle.std.specs.Option.{option_map}
 use Rattle.rl_base.specs.declared.listeners.Refusal.{Refusal}
+use Rattle.rl_base.specs.declared.listeners.Refusal.TheVariants as why
 use Rattle.rl_base.specs.declared.motion.Movement.{Movement}
 use Rattle.rl_base.specs.declared.motion.WordAction.{WordAction}
 use Rattle.rl_line.specs.Line.{Line}
 use Rattle.rl_line.specs.Plan.{Plan, Done, Halted, or_no_memory}
 use Rattle.rl_line.specs.Kills.{Told, copied, is_by_characters, kill_plan}
 use Rattle.rl_line.specs.LetterCase.{edit_word_plan, Recased}
-use Rattle.rl_session.specs.Commands.{Edits, Others, CutShort, answers, inserts, hands_out, is_done}
+use Rattle.rl_line.specs.Record.{Record}
+use Rattle.rl_line.specs.Undo.{Undone}
+use Rattle.rl_session.specs.Commands.{Edits, Others, CutShort, KeepsRing, answers, inserts, hands_out, is_done}
 use Rattle.rl_session.specs.Pair.{pair_step, pair_refused}
 use Rattle.rl_session.specs.Replies.{replied}
 use Rattle.rl_session.specs.State.{State}
 use Rattle.rl_session.specs.declared.pair.Pair.{Pair}
-use Rattle.rl_session.specs.declared.session.Command.TheVariants.{Copy, EditWord, Kill}
+use Rattle.rl_session.specs.declared.session.Command.TheVariants.{Copy, EditWord, Kill, Undo}
 use Rattle.rl_session.specs.declared.session.Reply.{Reply}
 use Rattle.rl_session.specs.declared.session.Reply.TheVariants as says
 use Rattle.rl_session.proofs.PairLemmas.{Halted-pair, Told-pair, listener_alone}
@@ -114,3 +117,21 @@ pub Copy-handed_out : (m : Movement) (inside s : State) (outcome : Result (Optio
     → IfOk outcome (λ t. option_map string_bytes t ≡ copied inside.line m) → Others s (Copy m) reply s
 Copy-handed_out m inside s outcome reply v e d =
     subst (λ k. Others k (Copy m) reply k) v (subst (λ r. Others inside (Copy m) r inside) (sym e) (told-copy m inside outcome d))
+
+-- a refused undo or redo changed nothing
+same_state : (old new : State) → KeepsRing old new → new.pair.changes ≡ old.pair.changes → new.line ≡ old.line → new ≡ old
+same_state old new k r l =
+    k ∙ ap (λ (line : Line). record old { line = line; pair = record old.pair { changes = new.pair.changes } }) l
+    ∙ ap (λ (changes : Record). record old { pair = record old.pair { changes = changes } }) r
+
+told-undo : (n : ℕ) (old new : State) (outcome : Result Bool Refusal) → KeepsRing old new
+    → IfOk outcome (λ a. Undone n old.pair.changes new.pair.changes old.line new.line a)
+    → IfErr outcome (λ w. (w ≡ why.NoMemory) × (new.pair.changes ≡ old.pair.changes) × (new.line ≡ old.line)) → Others old (Undo n) (replied says.Answer outcome) new
+told-undo n old new (Ok a) k d h = record { undone = d; others = k }
+told-undo n old new (Err w) k d h = same_state old new k h.1 h.2
+
+pub Undo-answered : (n : ℕ) (inside old new : State) (outcome : Result Bool Refusal) (reply : Reply) → inside ≡ old → reply ≡ replied says.Answer outcome → KeepsRing inside new
+    → IfOk outcome (λ a. Undone n inside.pair.changes new.pair.changes inside.line new.line a)
+    → IfErr outcome (λ w. (w ≡ why.NoMemory) × (new.pair.changes ≡ inside.pair.changes) × (new.line ≡ inside.line)) → Others old (Undo n) reply new
+Undo-answered n inside old new outcome reply v e k d h =
+    subst (λ s. Others s (Undo n) reply new) v (subst (λ r. Others inside (Undo n) r new) (sym e) (told-undo n inside new outcome k d h))
