@@ -8,6 +8,11 @@ use std::alloc::Global;
 use std::process::Abort;
 use std::test::Fail;
 
+// It is so, of a line that holds the text.
+fn is_so(rt: &impl Abort, is_so: bool, what: &str, text: &str) {
+    assert!(rt; is_so, "{what} of {text:?}");
+}
+
 // Sets the cursor, and inserts a character. That answers whether it was the end, and leaves that text and cursor.
 fn inserts(
     rt: &impl Abort,
@@ -21,18 +26,23 @@ fn inserts(
     assert!(rt; line.as_str().is_char_boundary(from), "{from} is a place");
     line.set_pos(from);
     let answer = line.insert(c, 1, &mut NoListener)?;
-    assert!(rt; answer == Some(at_end), "the answer to {c}");
-    assert_eq!(rt; line.as_str(), text, "the text after {c}");
-    assert_eq!(rt; line.pos(), cursor, "the cursor after {c}");
+    is_so(rt, answer == Some(at_end), "the answer", text);
+    is_so(rt, line.as_str() == text, "the text", text);
+    is_so(rt, line.pos() == cursor, "the cursor", text);
     Ok(())
 }
 
 #[test]
 fn inserts_on_an_empty_line(rt: HostRuntime) -> Result<(), Fail> {
     let mut line = LineBuffer::with_capacity(rt.alloc(), MAX_LINE)?;
-    inserts(&rt, &mut line, 0, 'α', true, "α", 2)?;
-    inserts(&rt, &mut line, 2, 'ß', true, "αß", 4)?;
-    inserts(&rt, &mut line, 0, 'γ', false, "γαß", 2)
+    for (from, c, at_end, text, cursor) in [
+        (0, 'α', true, "α", 2),
+        (2, 'ß', true, "αß", 4),
+        (0, 'γ', false, "γαß", 2),
+    ] {
+        inserts(&rt, &mut line, from, c, at_end, text, cursor)?;
+    }
+    Ok(())
 }
 
 // Inserts so often, on a line made with limit 2. That answers that, and leaves that text and so many entries.
@@ -47,10 +57,10 @@ fn inserts_within(
     entries: usize,
 ) -> Result<(), Fail> {
     let answered = line.insert(c, n, record)?;
-    assert!(rt; answered == answer, "the answer to {c}, {n} times");
+    is_so(rt, answered == answer, "the answer", text);
     stands(rt, line, record, text, text.len(), entries);
     let limit = text.len().max(2);
-    assert!(rt; line.limit() == limit, "the limit after {c}, {n} times");
+    is_so(rt, line.limit() == limit, "the limit", text);
     Ok(())
 }
 
@@ -74,16 +84,12 @@ fn insert_is_refused_past_the_limit(rt: HostRuntime) -> Result<(), Fail> {
 #[test]
 fn inserts_a_text(rt: HostRuntime) -> Result<(), Fail> {
     let mut line = LineBuffer::with_capacity(rt.alloc(), 2)?;
-    assert!(rt; line.insert_str(0, "abc", &mut NoListener)?);
-    assert_eq!(rt; line.as_str(), "abc");
-    assert_eq!(rt; line.pos(), 0);
-    assert_eq!(rt; line.limit(), 3);
+    let answer = line.insert_str(0, "abc", &mut NoListener)?;
+    is_so(&rt, answer, "the answer", "abc");
+    is_so(&rt, line.as_str() == "abc", "the text", "abc");
+    is_so(&rt, line.pos() == 0, "the cursor", "abc");
+    is_so(&rt, line.limit() == 3, "the limit", "abc");
     Ok(())
-}
-
-// It is so, of a line that holds the text.
-fn is_so(rt: &impl Abort, is_so: bool, what: &str, text: &str) {
-    assert!(rt; is_so, "{what} of {text:?}");
 }
 
 // What a line of limit 8 that holds the text answers.
@@ -116,10 +122,9 @@ fn answers_about_a_line(rt: HostRuntime) -> Result<(), Fail> {
 #[test]
 fn a_line_is_printed_and_used_up(rt: HostRuntime) -> Result<(), Fail> {
     let line = line_of(&rt, rt.alloc(), "ab", 1)?;
-    assert_eq!(rt;
-        format!(in rt.alloc(); "{line:?}")?.as_str(),
-        r#"LineBuffer { buf: "ab", pos: 1 }"#
-    );
-    assert_eq!(rt; line.into_string().as_str(), "ab");
+    let printed = format!(in rt.alloc(); "{line:?}")?;
+    assert_eq!(rt; printed.as_str(), r#"LineBuffer { buf: "ab", pos: 1 }"#);
+    let text = line.into_string();
+    assert_eq!(rt; text.as_str(), "ab");
     Ok(())
 }

@@ -58,6 +58,29 @@ fn delete_range(rt: &impl Abort, line: &mut LineBuffer, heard: &mut Heard) -> Op
     line.delete_range(0..end, heard).err()
 }
 
+// Puts the text in the place of the whole text, with the cursor at its start.
+fn update(
+    rt: &impl Abort,
+    line: &mut LineBuffer,
+    text: &str,
+    heard: &mut Heard,
+) -> Option<Refusal> {
+    assert!(rt; text.is_char_boundary(0));
+    line.update(text, 0, heard).err()
+}
+
+// Puts "cd" in at the cursor, which stays.
+fn insert_str(line: &mut LineBuffer, heard: &mut Heard) -> Option<Refusal> {
+    let at = line.pos();
+    line.insert_str(at, "cd", heard).err()
+}
+
+// Indents or dedents all lines.
+fn indent(line: &mut LineBuffer, amount: u8, dedent: bool, heard: &mut Heard) -> Option<Refusal> {
+    line.indent(&Movement::WholeBuffer, amount, dedent, heard)
+        .err()
+}
+
 // Makes the edit, from the start of the text where it takes a place. That answers why it was refused, if it was.
 fn make(rt: &impl Abort, line: &mut LineBuffer, edit: &Edit, heard: &mut Heard) -> Option<Refusal> {
     match edit {
@@ -67,28 +90,23 @@ fn make(rt: &impl Abort, line: &mut LineBuffer, edit: &Edit, heard: &mut Heard) 
             let at = line.pos();
             yank_pop(rt, line, at, text, heard)
         }
-        Edit::Update(text) => {
-            assert!(rt; text.is_char_boundary(0));
-            line.update(text, 0, heard).err()
-        }
+        Edit::Update(text) => update(rt, line, text, heard),
         Edit::Replace(text) => replace(rt, line, text, heard),
         Edit::Delete(n) => line.delete(*n, heard).err(),
         Edit::Kill(mvt) => line.kill(mvt, heard).err(),
         Edit::TransposeChars => line.transpose_chars(heard).err(),
         Edit::TransposeWords => line.transpose_words(1, heard).err(),
         Edit::EditWord(action) => line.edit_word(*action, heard).err(),
-        Edit::InsertStr => {
-            let at = line.pos();
-            line.insert_str(at, "cd", heard).err()
-        }
+        Edit::InsertStr => insert_str(line, heard),
         Edit::DeleteRange => delete_range(rt, line, heard),
-        Edit::Indent(amount) => line
-            .indent(&Movement::WholeBuffer, *amount, false, heard)
-            .err(),
-        Edit::Dedent(amount) => line
-            .indent(&Movement::WholeBuffer, *amount, true, heard)
-            .err(),
+        Edit::Indent(amount) => indent(line, *amount, false, heard),
+        Edit::Dedent(amount) => indent(line, *amount, true, heard),
     }
+}
+
+// It is so, of an edit of that text at that place with so many changes allowed.
+fn is_so(rt: &impl Abort, is_so: bool, text: &str, pos: usize, allowed: usize) {
+    assert!(rt; is_so, "{text:?} at {pos}, {allowed} allowed");
 }
 
 // The listener hears as many changes as are allowed, and the edit is refused or not, and leaves that text and cursor.
@@ -111,11 +129,9 @@ fn halts_after(
     } else {
         None
     };
-    assert!(rt; refusal == wanted, "{text} at {pos}, {allowed} allowed");
-    assert!(rt;
-        heard.left == 0 && heard.starts == heard.stops,
-        "{text} at {pos}, {allowed} allowed"
-    );
+    is_so(rt, refusal == wanted, text, pos, allowed);
+    let heard_all = heard.left == 0 && heard.starts == heard.stops;
+    is_so(rt, heard_all, text, pos, allowed);
     leaves(rt, &line, text, pos, after, cursor);
     Ok(())
 }
@@ -146,26 +162,37 @@ fn halts(
     Ok(())
 }
 
+// A text, the cursor, an edit of one change, and the text and the cursor after it.
+type Row = (&'static str, usize, Edit, &'static str, usize);
+
+// Makes each edit of the table, which is refused its only change first.
+fn halt_at_once(rt: &impl Abort, alloc: Global, rows: &[Row]) -> Result<(), Fail> {
+    for (text, pos, edit, after, cursor) in rows {
+        let states = [(*text, *pos), (*after, *cursor)];
+        halts(rt, alloc, text, *pos, edit, &states)?;
+    }
+    Ok(())
+}
+
 #[test]
 fn refused_edits_leave_the_line(rt: HostRuntime) -> Result<(), Fail> {
     let back = Movement::BackwardWord(1, Word::Vi);
-    // a text, the cursor, an edit of one change, and the text and the cursor after it
-    for (text, pos, edit, after, cursor) in &[
-        ("ab", 1, Edit::Insert('c', 1), "acb", 2),
-        ("ab", 1, Edit::Insert('c', 2), "accb", 3),
-        ("ab", 1, Edit::Yank("c"), "acb", 2),
-        ("ab", 1, Edit::InsertStr, "acdb", 1),
-        ("ab", 1, Edit::Replace("cde"), "cde", 3),
-        ("ab", 1, Edit::Delete(1), "a", 1),
-        ("ab", 1, Edit::DeleteRange, "", 0),
-        ("ab cd", 3, Edit::Kill(Movement::WholeLine), "", 0),
-        ("ab cd", 3, Edit::Kill(Movement::WholeBuffer), "", 0),
-        ("ab cd", 5, Edit::Kill(back), "ab ", 3),
-    ] {
-        let states = [(*text, *pos), (*after, *cursor)];
-        halts(&rt, rt.alloc(), text, *pos, edit, &states)?;
-    }
-    Ok(())
+    halt_at_once(
+        &rt,
+        rt.alloc(),
+        &[
+            ("ab", 1, Edit::Insert('c', 1), "acb", 2),
+            ("ab", 1, Edit::Insert('c', 2), "accb", 3),
+            ("ab", 1, Edit::Yank("c"), "acb", 2),
+            ("ab", 1, Edit::InsertStr, "acdb", 1),
+            ("ab", 1, Edit::Replace("cde"), "cde", 3),
+            ("ab", 1, Edit::Delete(1), "a", 1),
+            ("ab", 1, Edit::DeleteRange, "", 0),
+            ("ab cd", 3, Edit::Kill(Movement::WholeLine), "", 0),
+            ("ab cd", 3, Edit::Kill(Movement::WholeBuffer), "", 0),
+            ("ab cd", 5, Edit::Kill(back), "ab ", 3),
+        ],
+    )
 }
 
 #[test]

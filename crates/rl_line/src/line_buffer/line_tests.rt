@@ -29,6 +29,11 @@ fn take(line: &mut LineBuffer, step: &Step, layout: &Layout) -> bool {
 // Each step with its answer and the cursor behind it.
 type Taken = (Step, bool, usize);
 
+// It is so, of a step on that text below a prompt of that width.
+fn is_so(rt: &impl Abort, is_so: bool, text: &str, prompt: Unit, step: usize) {
+    assert!(rt; is_so, "{text:?}, prompt {prompt}, step {step}");
+}
+
 // Takes the steps on a line that holds the text, below a prompt of that width.
 fn goes(
     rt: &impl Abort,
@@ -42,11 +47,9 @@ fn goes(
     let mut layout = Layout::new(GraphemeClusterMode::Unicode);
     layout.prompt_size.col = prompt;
     for (i, (step, answer, cursor)) in steps.iter().enumerate() {
-        assert!(rt;
-            take(&mut line, step, &layout) == *answer,
-            "{text}, prompt {prompt}, step {i}"
-        );
-        assert_eq!(rt; line.pos(), *cursor, "{text}, prompt {prompt}, step {i}");
+        let answered = take(&mut line, step, &layout);
+        is_so(rt, answered == *answer, text, prompt, i);
+        is_so(rt, line.pos() == *cursor, text, prompt, i);
     }
     Ok(())
 }

@@ -2,10 +2,23 @@
 use crate::line_buffer::line_of;
 use crate::undo::tests::{Call, Event, goes, make, stands, takes, undo};
 use crate::{Changeset, LineBuffer};
-use rl_base::{ChangeListener, Direction};
+use rl_base::{ChangeListener, Direction, Refusal};
 use std::alloc::Global;
 use std::process::Abort;
 use std::test::Fail;
+
+// Makes the calls, one after the other.
+fn make_all(
+    rt: &impl Abort,
+    line: &mut LineBuffer,
+    record: &mut Changeset,
+    calls: &[Call],
+) -> Result<(), Refusal> {
+    for call in calls {
+        make(rt, line, record, *call)?;
+    }
+    Ok(())
+}
 
 // Makes the calls, with a new record, and undoes once. That leaves that text and cursor, and so many entries.
 fn records(
@@ -18,9 +31,7 @@ fn records(
     entries: usize,
 ) -> Result<(), Fail> {
     let mut record = Changeset::new(alloc);
-    for call in calls {
-        make(rt, line, &mut record, *call)?;
-    }
+    make_all(rt, line, &mut record, calls)?;
     let undone = undo(rt, line, &mut record, 1)?;
     assert!(rt; undone, "it leaves {entries} entries");
     stands(rt, line, &record, text, cursor, entries);
@@ -57,6 +68,20 @@ fn neighbouring_changes_join(rt: HostRuntime) -> Result<(), Fail> {
     Ok(())
 }
 
+// The record is told of a character, and has so many entries then.
+fn is_told(
+    rt: &impl Abort,
+    record: &mut Changeset,
+    idx: usize,
+    c: char,
+    entries: usize,
+) -> Result<(), Fail> {
+    record.insert_char(idx, c)?;
+    let told = record.len() == entries;
+    assert!(rt; told, "{c:?} at {idx}");
+    Ok(())
+}
+
 #[test]
 fn characters_that_were_told_join(rt: HostRuntime) -> Result<(), Fail> {
     let mut record = Changeset::new(rt.alloc());
@@ -68,8 +93,7 @@ fn characters_that_were_told_join(rt: HostRuntime) -> Result<(), Fail> {
         (usize::MAX, 'b', 3),
         (0, 'c', 4),
     ] {
-        record.insert_char(idx, c)?;
-        assert_eq!(rt; record.len(), entries, "{c:?} at {idx}");
+        is_told(&rt, &mut record, idx, c, entries)?;
     }
     Ok(())
 }

@@ -15,15 +15,23 @@ pub(super) fn undo(
     line: &mut LineBuffer,
     record: &mut Changeset,
     n: RepeatCount,
-) -> Result<bool, Fail> {
+) -> Result<bool, Refusal> {
     assert!(rt; record.can_undo(line)?, "the record leads back");
-    Ok(record.undo(line, n)?)
+    record.undo(line, n)
 }
 
 // A redo of changes that fit the line.
-fn redo(rt: &impl Abort, line: &mut LineBuffer, record: &mut Changeset) -> Result<bool, Fail> {
+fn redo(rt: &impl Abort, line: &mut LineBuffer, record: &mut Changeset) -> Result<bool, Refusal> {
     assert!(rt; record.can_redo(line)?, "the undone changes fit the line");
-    Ok(record.redo(line)?)
+    record.redo(line)
+}
+
+// It is so, of a line with that cursor, whose record has so many entries.
+fn is_so(rt: &impl Abort, is_so: bool, what: &str, cursor: usize, entries: usize) {
+    assert!(rt;
+        is_so,
+        "{what} with the cursor at {cursor} and {entries} entries"
+    );
 }
 
 // The text and the cursor of a line, and how many entries its record has.
@@ -35,10 +43,9 @@ pub(crate) fn stands(
     cursor: usize,
     entries: usize,
 ) {
-    let (pos, len) = (line.pos(), record.len());
-    assert_eq!(rt; line.as_str(), text, "with {entries} entries");
-    assert_eq!(rt; pos, cursor, "the cursor with {entries} entries");
-    assert_eq!(rt; len, entries, "the entries with the cursor at {cursor}");
+    is_so(rt, line.as_str() == text, "the text", cursor, entries);
+    is_so(rt, line.pos() == cursor, "the cursor", cursor, entries);
+    is_so(rt, record.len() == entries, "the entries", cursor, entries);
 }
 
 // A call of a line that tells its record, or of the record, as a value of a table.
@@ -91,7 +98,7 @@ fn tell(record: &mut Changeset, event: Event) -> Result<(), Refusal> {
     }
 }
 
-// Replaces what stands between two places of the line, and answers true.
+// Replaces what stands between two places of the line.
 fn replace(
     rt: &impl Abort,
     line: &mut LineBuffer,
@@ -99,12 +106,37 @@ fn replace(
     start: usize,
     end: usize,
     text: &str,
-) -> Result<bool, Fail> {
+) -> Result<(), Refusal> {
     let held = line.as_str();
     let places = held.is_char_boundary(start) && held.is_char_boundary(end);
     assert!(rt; start <= end && places, "from {start} to {end}");
-    line.replace(start..end, text, record)?;
-    Ok(true)
+    line.replace(start..end, text, record)
+}
+
+// Puts "zz" in at the cursor, which stays.
+fn put_text(line: &mut LineBuffer, record: &mut Changeset) -> Result<bool, Refusal> {
+    let at = line.pos();
+    line.insert_str(at, "zz", record)
+}
+
+// 1 for a call that answered true, and else 0.
+fn truth(answer: Result<bool, Refusal>) -> Result<usize, Refusal> {
+    Ok(usize::from(answer?))
+}
+
+// The same of a call that answers whether it came to the end, if it did anything.
+fn reached(answer: Result<Option<bool>, Refusal>) -> Result<usize, Refusal> {
+    match answer {
+        Ok(Some(true)) => Ok(1),
+        Ok(_) => Ok(0),
+        Err(refusal) => Err(refusal),
+    }
+}
+
+// Deletes a character ahead: 1 where there is one, and else 0.
+fn delete_ahead(line: &mut LineBuffer, record: &mut Changeset) -> Result<usize, Refusal> {
+    let gone = line.delete(1, record)?;
+    Ok(usize::from(gone.is_some()))
 }
 
 // Makes the call. It answers the mark of a begin, or the limit, and else 1 for true and 0 for what is not true.
@@ -113,38 +145,31 @@ pub(super) fn make(
     line: &mut LineBuffer,
     record: &mut Changeset,
     call: Call,
-) -> Result<usize, Fail> {
-    let answer = match call {
-        Call::Insert(c, n) => line.insert(c, n, record)? == Some(true),
-        Call::Yank(text) => line.yank(text, 1, record)? == Some(true),
-        Call::Back(n) => line.backspace(n, record)?,
-        Call::Ahead => line.delete(1, record)?.is_some(),
-        Call::KillFirstPrint => line.kill(&Movement::ViFirstPrint, record)?,
-        Call::Replace(start, end, text) => replace(rt, line, record, start, end, text)?,
-        Call::PutText => {
-            let at = line.pos();
-            line.insert_str(at, "zz", record)?
-        }
-        Call::UnheardInsert(c, n) => line.insert(c, n, &mut NoListener)? == Some(true),
-        Call::UnheardBack(n) => line.backspace(n, &mut NoListener)?,
-        Call::Limit => return Ok(line.limit()),
-        Call::Told(event) => {
-            tell(record, event)?;
-            true
-        }
-        Call::Begin => return Ok(record.begin()?),
-        Call::End => record.end()?,
+) -> Result<usize, Refusal> {
+    match call {
+        Call::Insert(c, n) => reached(line.insert(c, n, record)),
+        Call::Yank(text) => reached(line.yank(text, 1, record)),
+        Call::Back(n) => truth(line.backspace(n, record)),
+        Call::Ahead => delete_ahead(line, record),
+        Call::KillFirstPrint => truth(line.kill(&Movement::ViFirstPrint, record)),
+        Call::Replace(start, end, text) => replace(rt, line, record, start, end, text).and(Ok(1)),
+        Call::PutText => truth(put_text(line, record)),
+        Call::UnheardInsert(c, n) => reached(line.insert(c, n, &mut NoListener)),
+        Call::UnheardBack(n) => truth(line.backspace(n, &mut NoListener)),
+        Call::Limit => Ok(line.limit()),
+        Call::Told(event) => tell(record, event).and(Ok(1)),
+        Call::Begin => record.begin(),
+        Call::End => truth(record.end()),
         Call::Truncate(len) => {
             record.truncate(len);
-            true
+            Ok(1)
         }
-        Call::CanUndo => record.can_undo(line)?,
-        Call::CanRedo => record.can_redo(line)?,
-        Call::Replays(len) => record.replays_to(len, line)?,
-        Call::Undo(n) => undo(rt, line, record, n)?,
-        Call::Redo => redo(rt, line, record)?,
-    };
-    Ok(usize::from(answer))
+        Call::CanUndo => truth(record.can_undo(line)),
+        Call::CanRedo => truth(record.can_redo(line)),
+        Call::Replays(len) => truth(record.replays_to(len, line)),
+        Call::Undo(n) => truth(undo(rt, line, record, n)),
+        Call::Redo => truth(redo(rt, line, record)),
+    }
 }
 
 // A call, its answer, and what it leaves: the text, the cursor, the entries, and the open groups.
@@ -170,7 +195,8 @@ pub(super) fn takes(
 // Takes the steps on a line that holds the text, with the cursor at its end.
 pub(super) fn goes(rt: &impl Abort, alloc: Global, text: &str, steps: &[Step]) -> Result<(), Fail> {
     let mut line = line_of(rt, alloc, text, text.len())?;
-    takes(rt, &mut line, alloc, steps)
+    takes(rt, &mut line, alloc, steps)?;
+    Ok(())
 }
 
 #[test]
@@ -333,15 +359,31 @@ fn a_truncated_record_forgets_the_open_group(rt: HostRuntime) -> Result<(), Fail
     )
 }
 
+// Makes two changes, and undoes the second.
+fn go_back(
+    rt: &impl Abort,
+    line: &mut LineBuffer,
+    record: &mut Changeset,
+) -> Result<bool, Refusal> {
+    line.insert('a', 1, record)?;
+    line.insert('-', 1, record)?;
+    undo(rt, line, record, 1)
+}
+
 // Whether what was undone can still be redone after a call.
 fn keeps(rt: &impl Abort, alloc: Global, call: Call) -> Result<bool, Fail> {
     let mut line = line_of(rt, alloc, "", 0)?;
     let mut record = Changeset::new(alloc);
-    line.insert('a', 1, &mut record)?;
-    line.insert('-', 1, &mut record)?;
-    undo(rt, &mut line, &mut record, 1)?;
+    go_back(rt, &mut line, &mut record)?;
     make(rt, &mut line, &mut record, call)?;
-    redo(rt, &mut line, &mut record)
+    Ok(redo(rt, &mut line, &mut record)?)
+}
+
+// After that call it still can be redone, or not.
+fn is_kept(rt: &impl Abort, alloc: Global, what: &str, call: Call, kept: bool) -> Result<(), Fail> {
+    let redone = keeps(rt, alloc, call)?;
+    assert!(rt; redone == kept, "{what}");
+    Ok(())
 }
 
 #[test]
@@ -356,7 +398,7 @@ fn other_calls_drop_what_was_undone(rt: HostRuntime) -> Result<(), Fail> {
         ("the start and stop of a kill", Call::KillFirstPrint, true),
         ("a question", Call::Replays(0), true),
     ] {
-        assert_eq!(rt; keeps(&rt, rt.alloc(), call)?, kept, "{what}");
+        is_kept(&rt, rt.alloc(), what, call, kept)?;
     }
     Ok(())
 }
@@ -369,7 +411,19 @@ fn put_in(record: &Changeset, text: Option<&str>) -> Result<bool, Refusal> {
     }
 }
 
-// Makes the calls, with a new record, and looks after each at the text that the last change put in.
+// Makes the call, and looks then at the text that the last change put in.
+fn copies_after(
+    rt: &impl Abort,
+    line: &mut LineBuffer,
+    record: &mut Changeset,
+    call: Call,
+    text: Option<&str>,
+) -> Result<bool, Refusal> {
+    make(rt, line, record, call)?;
+    put_in(record, text)
+}
+
+// Makes the calls, with a new record, and looks so after each.
 fn copies(
     rt: &impl Abort,
     alloc: Global,
@@ -378,8 +432,7 @@ fn copies(
     let mut line = line_of(rt, alloc, "", 0)?;
     let mut record = Changeset::new(alloc);
     for (i, (call, text)) in steps.iter().enumerate() {
-        make(rt, &mut line, &mut record, *call)?;
-        let same = put_in(&record, *text)?;
+        let same = copies_after(rt, &mut line, &mut record, *call, *text)?;
         assert!(rt; same, "the copy after step {i}");
     }
     Ok(())

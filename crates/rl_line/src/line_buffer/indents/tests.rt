@@ -24,34 +24,45 @@ fn indents(
     Ok(())
 }
 
+// A text, the cursor, a movement and an amount, and the text and the cursor after it.
+type Row = (&'static str, usize, Movement, u8, &'static str, usize);
+
+// Indents by each row of the table.
+fn indent(rt: &impl Abort, alloc: Global, rows: &[Row]) -> Result<(), Fail> {
+    for (text, pos, mvt, amount, after, cursor) in rows {
+        indents(rt, alloc, text, *pos, mvt, *amount, after, *cursor)?;
+    }
+    Ok(())
+}
+
 #[test]
 fn lines_are_indented(rt: HostRuntime) -> Result<(), Fail> {
     let wide = "                                        a";
     let back = Movement::BackwardWord(2, Word::Emacs);
     let ahead = Movement::ForwardWord(1, At::Start, Word::Emacs);
-    // a text, the cursor, a movement and an amount, and the text and the cursor after it
-    for (text, pos, mvt, amount, after, cursor) in &[
-        ("a\nb\nc\nd", 2, Movement::WholeLine, 2, "a\n  b\nc\nd", 4),
-        ("a\n", 0, Movement::WholeBuffer, 2, "  a\n", 2),
-        ("a", 0, Movement::WholeLine, 40, wide, 40),
-        ("a", 0, Movement::WholeLine, 0, "a", 0),
-        ("a\nb", 0, Movement::EndOfLine, 1, " a\nb", 1),
-        ("a\nb", 3, Movement::BackwardChar(2), 1, "a\n b", 4),
-        ("a\nb", 0, Movement::ForwardChar(2), 1, " a\nb", 1),
-        ("ab\ncd", 5, Movement::ViFirstPrint, 1, "ab\n cd", 6),
-        ("a b\nc d", 6, back, 1, " a b\n c d", 8),
-        ("a\nb", 0, ahead, 1, " a\nb", 1),
-        ("a\nb", 0, Movement::EndOfBuffer, 1, " a\n b", 1),
-        ("a\nb", 2, Movement::BeginningOfBuffer, 1, " a\nb", 3),
-        ("a\n", 2, Movement::EndOfBuffer, 1, "a\n ", 3),
-        ("a\n", 2, Movement::LineUp(1), 1, " a\n", 3),
-        ("a\nb\nc", 2, Movement::LineUp(0), 1, "a\n b\nc", 3),
-        ("a\nb\nc", 2, Movement::LineDown(0), 1, " a\n b\nc", 4),
-        ("a\nb", 2, Movement::LineDown(1), 1, "a\n b", 3),
-    ] {
-        indents(&rt, rt.alloc(), text, *pos, mvt, *amount, after, *cursor)?;
-    }
-    Ok(())
+    indent(
+        &rt,
+        rt.alloc(),
+        &[
+            ("a\nb\nc\nd", 2, Movement::WholeLine, 2, "a\n  b\nc\nd", 4),
+            ("a\n", 0, Movement::WholeBuffer, 2, "  a\n", 2),
+            ("a", 0, Movement::WholeLine, 40, wide, 40),
+            ("a", 0, Movement::WholeLine, 0, "a", 0),
+            ("a\nb", 0, Movement::EndOfLine, 1, " a\nb", 1),
+            ("a\nb", 3, Movement::BackwardChar(2), 1, "a\n b", 4),
+            ("a\nb", 0, Movement::ForwardChar(2), 1, " a\nb", 1),
+            ("ab\ncd", 5, Movement::ViFirstPrint, 1, "ab\n cd", 6),
+            ("a b\nc d", 6, back, 1, " a b\n c d", 8),
+            ("a\nb", 0, ahead, 1, " a\nb", 1),
+            ("a\nb", 0, Movement::EndOfBuffer, 1, " a\n b", 1),
+            ("a\nb", 2, Movement::BeginningOfBuffer, 1, " a\nb", 3),
+            ("a\n", 2, Movement::EndOfBuffer, 1, "a\n ", 3),
+            ("a\n", 2, Movement::LineUp(1), 1, " a\n", 3),
+            ("a\nb\nc", 2, Movement::LineUp(0), 1, "a\n b\nc", 3),
+            ("a\nb\nc", 2, Movement::LineDown(0), 1, " a\n b\nc", 4),
+            ("a\nb", 2, Movement::LineDown(1), 1, "a\n b", 3),
+        ],
+    )
 }
 
 // Dedents all lines, by so many deletions, the last of that length at that place. That leaves that text and cursor.

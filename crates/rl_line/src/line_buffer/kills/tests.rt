@@ -36,6 +36,9 @@ fn make(line: &mut LineBuffer, call: &Call, heard: &mut Heard) -> Result<bool, R
     }
 }
 
+// The place, the text and the side of what a call deletes, if anything.
+type Gone = Option<(usize, &'static str, Direction)>;
+
 // On that text, the call deletes that, if anything, and its listener hears of nothing else.
 fn deletes(
     rt: &impl Abort,
@@ -43,7 +46,7 @@ fn deletes(
     text: &str,
     pos: usize,
     call: &Call,
-    gone: Option<(usize, &str, Direction)>,
+    gone: Gone,
 ) -> Result<(), Fail> {
     let mut line = line_of(rt, alloc, text, pos)?;
     let mut heard = Heard::new(usize::MAX);
@@ -58,13 +61,7 @@ fn deletes(
 }
 
 // The listener heard of that deletion in the text, if any, and of no other.
-fn is_told(
-    rt: &impl Abort,
-    heard: &Heard,
-    text: &str,
-    pos: usize,
-    gone: Option<(usize, &str, Direction)>,
-) {
+fn is_told(rt: &impl Abort, heard: &Heard, text: &str, pos: usize, gone: Gone) {
     let told = u16::from(gone.is_some());
     holds(rt, heard.deletions == told, "the deletions", text, pos);
     if let Some((place, deleted, side)) = gone {
@@ -76,13 +73,7 @@ fn is_told(
 }
 
 // The line holds the text without that deletion, if any, and the cursor is where that was.
-fn is_without(
-    rt: &impl Abort,
-    line: &LineBuffer,
-    text: &str,
-    pos: usize,
-    gone: Option<(usize, &str, Direction)>,
-) {
+fn is_without(rt: &impl Abort, line: &LineBuffer, text: &str, pos: usize, gone: Gone) {
     let (place, left) = match gone {
         Some((place, deleted, _)) => (place, text.len().saturating_sub(deleted.len())),
         None => (pos, text.len()),
@@ -120,11 +111,21 @@ fn is_refused(
     Ok(())
 }
 
+// A text, the cursor, a call, and what it deletes, if anything.
+type Row = (&'static str, usize, Call, Gone);
+
+// Makes each call of the table.
+fn delete(rt: &impl Abort, alloc: Global, rows: &[Row]) -> Result<(), Fail> {
+    for (text, pos, call, gone) in rows {
+        deletes(rt, alloc, text, *pos, call, *gone)?;
+    }
+    Ok(())
+}
+
 #[test]
 fn deletions_within_lines(rt: HostRuntime) -> Result<(), Fail> {
     let ahead = Direction::Forward;
     let back = Direction::Backward;
-    // a text, the cursor, a call, and the place, the text and the side of what it deletes, if anything
     let rows = [
         (
             "αß\nγδ 12\nε f4",
@@ -144,10 +145,7 @@ fn deletions_within_lines(rt: HostRuntime) -> Result<(), Fail> {
         ("αßγδε", 6, Call::KillLine, Some((6, "δε", ahead))),
         ("αßγ", 4, Call::DiscardLine, Some((0, "αß", back))),
     ];
-    for (text, pos, call, gone) in &rows {
-        deletes(&rt, rt.alloc(), text, *pos, call, *gone)?;
-    }
-    Ok(())
+    delete(&rt, rt.alloc(), &rows)
 }
 
 #[test]
@@ -156,7 +154,6 @@ fn deletions_of_words_and_buffers(rt: HostRuntime) -> Result<(), Fail> {
     let back = Direction::Backward;
     let words = "a ß  c";
     let (big, emacs) = (Word::Big, Word::Emacs);
-    // columns as above
     let rows = [
         ("αß", 2, Call::Backspace(1), Some((0, "α", back))),
         ("aß", 3, Call::Backspace(9), Some((0, "aß", back))),
@@ -182,10 +179,7 @@ fn deletions_of_words_and_buffers(rt: HostRuntime) -> Result<(), Fail> {
         ),
         (words, 7, Call::NextWord(At::Start, emacs, 1), None),
     ];
-    for (text, pos, call, gone) in &rows {
-        deletes(&rt, rt.alloc(), text, *pos, call, *gone)?;
-    }
-    Ok(())
+    delete(&rt, rt.alloc(), &rows)
 }
 
 #[test]
@@ -193,7 +187,6 @@ fn deletions_to_places(rt: HostRuntime) -> Result<(), Fail> {
     let ahead = Direction::Forward;
     let back = Direction::Backward;
     let greek = "αßγδε";
-    // columns as above
     let rows = [
         (
             greek,
@@ -255,10 +248,7 @@ fn deletions_to_places(rt: HostRuntime) -> Result<(), Fail> {
         ),
         ("c", 0, Call::Kill(Movement::LineUp(1)), None),
     ];
-    for (text, pos, call, gone) in &rows {
-        deletes(&rt, rt.alloc(), text, *pos, call, *gone)?;
-    }
-    Ok(())
+    delete(&rt, rt.alloc(), &rows)
 }
 
 // It is so, of a movement on that text at that place.
@@ -278,6 +268,17 @@ fn copies_that(
     let line = line_of(rt, alloc, text, pos)?;
     let copy = line.copy(mvt)?;
     is_so(rt, copy.as_deref() == want, mvt, text, pos);
+    Ok(())
+}
+
+// A text, the cursor, a movement, and what it copies, if anything.
+type Copied = (&'static str, usize, Movement, Option<&'static str>);
+
+// Copies by each movement of the table.
+fn copy(rt: &impl Abort, alloc: Global, rows: &[Copied]) -> Result<(), Fail> {
+    for (text, pos, mvt, want) in rows {
+        copies_that(rt, alloc, text, *pos, mvt, *want)?;
+    }
     Ok(())
 }
 
@@ -356,10 +357,7 @@ fn copies(rt: HostRuntime) -> Result<(), Fail> {
         ("text", 4, Movement::LineUp(1), None),
         ("text", 4, Movement::WholeLine, Some("text")),
     ];
-    for (text, pos, mvt, want) in &rows {
-        copies_that(&rt, rt.alloc(), text, *pos, mvt, *want)?;
-    }
-    Ok(())
+    copy(&rt, rt.alloc(), &rows)
 }
 
 // Each movement with that count.
@@ -479,16 +477,17 @@ fn refused_kill(
     alloc: Global,
     text: &str,
     pos: usize,
-    mvt: Movement,
+    mvt: &Movement,
 ) -> Result<(), Fail> {
     let mut line = line_of(rt, alloc, text, pos)?;
-    let kills = line.kill(&mvt, &mut NoListener)?;
-    is_refused(rt, alloc, text, pos, &Call::Kill(mvt), kills)
+    let kills = line.kill(mvt, &mut NoListener)?;
+    let call = Call::Kill(mvt.clone()?);
+    is_refused(rt, alloc, text, pos, &call, kills)
 }
 
 #[test]
 fn refused_kills_leave_the_line(rt: HostRuntime) -> Result<(), Fail> {
-    for mvt in movements(1) {
+    for mvt in &movements(1) {
         refused_kill(&rt, rt.alloc(), "a\nb c\u{301}", 3, mvt)?;
     }
     Ok(())
@@ -502,12 +501,20 @@ fn kill_unheard(line: &mut LineBuffer, mvt: &Movement) -> bool {
     }
 }
 
+// Nothing of an empty line is copied or killed.
+fn takes_nothing(rt: &impl Abort, alloc: Global, mvt: &Movement) -> Result<(), Fail> {
+    let mut line = line_of(rt, alloc, "", 0)?;
+    let copy = line.copy(mvt)?;
+    is_so(rt, copy.is_none(), mvt, "", 0);
+    let killed = kill_unheard(&mut line, mvt);
+    is_so(rt, !killed, mvt, "", 0);
+    Ok(())
+}
+
 #[test]
 fn nothing_is_on_an_empty_line(rt: HostRuntime) -> Result<(), Fail> {
     for mvt in &movements(1) {
-        let mut line = line_of(&rt, rt.alloc(), "", 0)?;
-        assert!(rt; line.copy(mvt)?.is_none(), "a copy by {mvt:?}");
-        assert!(rt; !kill_unheard(&mut line, mvt), "a kill by {mvt:?}");
+        takes_nothing(&rt, rt.alloc(), mvt)?;
     }
     Ok(())
 }

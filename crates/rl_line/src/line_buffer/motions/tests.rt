@@ -58,6 +58,11 @@ pub(crate) fn line_within(
     Ok(line)
 }
 
+// It is so, of a call on that text at that place.
+pub(crate) fn holds(rt: &impl Abort, is_so: bool, what: &str, text: &str, pos: usize) {
+    assert!(rt; is_so, "{what} of {text:?} at {pos}");
+}
+
 // The line has that text and cursor, after a call on that text at that place.
 pub(crate) fn leaves(
     rt: &impl Abort,
@@ -67,21 +72,28 @@ pub(crate) fn leaves(
     after: &str,
     cursor: usize,
 ) {
-    assert_eq!(rt; line.as_str(), after, "from {text:?} at {pos}");
-    assert_eq!(rt; line.pos(), cursor, "from {text:?} at {pos} to {after:?}");
+    holds(rt, line.as_str() == after, "the new text", text, pos);
+    holds(rt, line.pos() == cursor, "the new cursor", text, pos);
 }
 
-// It is so, of a call on that text at that place.
-pub(crate) fn holds(rt: &impl Abort, is_so: bool, what: &str, text: &str, pos: usize) {
-    assert!(rt; is_so, "{what} of {text:?} at {pos}");
+// It is so, of a motion that comes to the place.
+fn is_so(rt: &impl Abort, is_so: bool, what: &str, fact: &str, place: usize) {
+    assert!(rt; is_so, "{what}: {fact} {place}");
 }
 
 // Goes to the place.
 fn reaches(rt: &impl Abort, line: &mut LineBuffer, what: &str, motion: Motion, place: usize) {
     let moved = go(line, motion);
-    assert!(rt; moved, "{what}: to {place}");
-    let at = line.pos();
-    assert_eq!(rt; at, place, "{what}");
+    is_so(rt, moved, what, "it moves to", place);
+    is_so(rt, line.pos() == place, what, "it stands at", place);
+}
+
+// Goes nowhere.
+fn stays(rt: &impl Abort, line: &mut LineBuffer, what: &str, motion: Motion) {
+    let last = line.pos();
+    let moved = go(line, motion);
+    is_so(rt, !moved, what, "no further than", last);
+    is_so(rt, line.pos() == last, what, "it stays at", last);
 }
 
 // Goes again and again: to each place in turn, and then nowhere.
@@ -98,10 +110,19 @@ fn goes(
     for place in places {
         reaches(rt, &mut line, what, motion, *place);
     }
-    let last = line.pos();
-    assert!(rt; !go(&mut line, motion), "{what}: no further than {last}");
-    assert_eq!(rt; line.pos(), last, "{what}: it stays");
-    assert_eq!(rt; line.as_str(), text, "{what}: so does the text");
+    stays(rt, &mut line, what, motion);
+    is_so(rt, line.as_str() == text, what, "the text stays, from", pos);
+    Ok(())
+}
+
+// What the motion shows, the text, the cursor, a motion, and the places that it reaches in turn.
+type Repeated = (&'static str, &'static str, usize, Motion, &'static [usize]);
+
+// Goes again and again by each row of the table.
+fn go_on(rt: &impl Abort, alloc: Global, rows: &[Repeated]) -> Result<(), Fail> {
+    for (what, text, pos, motion, places) in rows {
+        goes(rt, alloc, what, text, *pos, *motion, places)?;
+    }
     Ok(())
 }
 
@@ -109,7 +130,7 @@ fn goes(
 fn motions_repeated(rt: HostRuntime) -> Result<(), Fail> {
     let beta = "alpha ,beta/rho; mu";
     let marks = "\u{f6}\u{332}g\u{308}";
-    let rows: [(&str, &str, usize, Motion, &[usize]); 15] = [
+    let rows: [Repeated; 15] = [
         ("clusters ahead", marks, 0, Motion::Ahead(1), &[4, 7]),
         ("clusters back", marks, 7, Motion::Back(1), &[4, 0]),
         ("no cluster", marks, 0, Motion::Ahead(0), &[]),
@@ -180,10 +201,7 @@ fn motions_repeated(rt: HostRuntime) -> Result<(), Fail> {
         ),
         ("no hit", "αßγδε", 2, Motion::To(Forward('x'), 1), &[]),
     ];
-    for (what, text, pos, motion, places) in rows {
-        goes(&rt, rt.alloc(), what, text, pos, motion, places)?;
-    }
-    Ok(())
+    go_on(&rt, rt.alloc(), &rows)
 }
 
 // Goes once, to the place.
@@ -198,7 +216,18 @@ fn goes_once(
 ) -> Result<(), Fail> {
     let mut line = line_of(rt, alloc, text, pos)?;
     reaches(rt, &mut line, what, motion, place);
-    assert_eq!(rt; line.as_str(), text, "{what}: the text stays");
+    is_so(rt, line.as_str() == text, what, "the text stays, from", pos);
+    Ok(())
+}
+
+// What the motion shows, the text, the cursor, a motion, and the place that it reaches.
+type Row = (&'static str, &'static str, usize, Motion, usize);
+
+// Goes once by each row of the table.
+fn go_once(rt: &impl Abort, alloc: Global, rows: &[Row]) -> Result<(), Fail> {
+    for (what, text, pos, motion, place) in rows {
+        goes_once(rt, alloc, what, text, *pos, *motion, *place)?;
+    }
     Ok(())
 }
 
@@ -302,9 +331,14 @@ fn motions_once(rt: HostRuntime) -> Result<(), Fail> {
         ("a marked letter back", "ag\u{308}", 4, Motion::Back(1), 1),
         ("a marked letter ahead", "ag\u{308}", 1, Motion::Ahead(1), 4),
     ];
-    for (what, text, pos, motion, place) in rows {
-        goes_once(&rt, rt.alloc(), what, text, pos, motion, place)?;
-    }
+    go_once(&rt, rt.alloc(), &rows)
+}
+
+// Whether there only is space behind the cursor.
+fn ends(rt: &impl Abort, alloc: Global, text: &str, pos: usize, want: bool) -> Result<(), Fail> {
+    let line = line_of(rt, alloc, text, pos)?;
+    let answer = line.is_end_of_input();
+    holds(rt, answer == want, "the answer", text, pos);
     Ok(())
 }
 
@@ -317,8 +351,7 @@ fn ends_of_input(rt: HostRuntime) -> Result<(), Fail> {
         ("", 0, true),
         (" ", 0, true),
     ] {
-        let line = line_of(&rt, rt.alloc(), text, pos)?;
-        assert_eq!(rt; line.is_end_of_input(), want, "{text:?} at {pos}");
+        ends(&rt, rt.alloc(), text, pos, want)?;
     }
     Ok(())
 }
@@ -335,7 +368,7 @@ fn deletes(
 ) -> Result<(), Fail> {
     let mut line = line_of(rt, alloc, text, pos)?;
     let answer = line.delete(n, &mut NoListener)?;
-    assert!(rt; answer.as_deref() == gone, "{text} at {pos}, {n} times");
+    holds(rt, answer.as_deref() == gone, "the answer", text, pos);
     leaves(rt, &line, text, pos, left, pos);
     Ok(())
 }

@@ -16,6 +16,7 @@ invariant_of-self-2 c =
     (AtLevel-begun c.self.inside.level c.args.self.now h)
 
 pub returns-clause-done : goal.returns-clause-done
-returns-clause-done c =
-    (rw (← c.self.view_is) (omega (arith, length-map c.self.inside.recorded.items entry_of, c.self.inside.recorded.ok.0)),
-    dropped-view (λ es. es ++ Begin ∷ []) c.args.self.now c.self.inside.recorded.items c.self.inside.pending.items _ _ c.self.view_is c.in_ok-add.ensures.ok c.clear.ensures.items)
+returns-clause-done c = (
+  rw (← c.self.view_is) (omega (arith, length-map c.self.inside.recorded.items entry_of, c.self.inside.recorded.ok.0)),
+  dropped-view (λ es. es ++ Begin ∷ []) c.args.self.now c.self.inside.recorded.items c.self.inside.pending.items _ _ c.self.view_is c.in_ok-add.ensures.ok c.clear.ensures.items,
+)
