@@ -2,14 +2,14 @@
 use Rattle.std.proofs.Common.{◌≡◌, ℕ, ◌<◌, ◌||◌, refl}
 use Rattle.std.specs.Char.{is_ascii_alphanumeric}
 use Rattle.std.specs.Bool.{beq}
-use Rattle.unicode.proofs.Facts.{Stepped-below, same_from_beq}
-use Rattle.unicode.proofs.Stepped.{zip_stepped}
+use Rattle.ucd_table.proofs.Facts.{Stepped-below, same_from_beq}
+use Rattle.ucd_table.proofs.Stepped.{zip_stepped}
 use Rattle.ucd_category.specs.GeneralCategory.{general_category}
-use Rattle.unicode.proofs.CategoryComputing.{ucd_category}
-use Rattle.unicode.proofs.GeneralCategoryLemmas.{general_category_stepped}
-use Rattle.unicode.proofs.DerivedComputing.{ucd_derived}
-use Rattle.unicode.proofs.BinaryLemmas.{is_alphabetic_stepped}
-use Rattle.unicode.specs.Binary.{is_alphabetic}
+use Rattle.ucd_category.proofs.Computing.{ucd_category}
+use Rattle.ucd_category.proofs.GeneralCategoryLemmas.{general_category_stepped}
+use Rattle.ucd_derived.proofs.Computing.{ucd_derived}
+use Rattle.ucd_derived.proofs.BinaryLemmas.{is_alphabetic_stepped}
+use Rattle.ucd_derived.specs.Binary.{is_alphabetic}
 use Rattle.rl_base.specs.Words.{is_number, is_alphanumeric}
 
 pub is_alphanumeric-ascii : (c : ℕ) → c < 128 → is_ascii_alphanumeric c ≡ is_alphanumeric c

@@ -3,8 +3,9 @@ use Rattle.std.specs.Prelude.{ℕ, ◌+◌, length, zero, suc, Bool, true, false
 use Rattle.std.specs.List.{find, list_all, list_any, zip, filter_map, last_or}
 use Rattle.std.specs.Option.{option_map, option_or}
 use Rattle.std.specs.Str.{chars}
-use Rattle.unicode.specs.Binary.{is_alphabetic, is_white_space}
-use Rattle.unicode.specs.GeneralCategory.{general_category}
+use Rattle.ucd_derived.specs.Binary.{is_alphabetic}
+use Rattle.ucd_props.specs.Binary.{is_white_space}
+use Rattle.ucd_category.specs.GeneralCategory.{general_category}
 use Rattle.ucd_category.specs.declared.GeneralCategory.{GeneralCategory}
 use Rattle.ucd_category.specs.declared.GeneralCategory.TheVariants.{DecimalNumber, LetterNumber, OtherNumber}
 use Rattle.unicode_segmentation.specs.Segments.{with_offsets}

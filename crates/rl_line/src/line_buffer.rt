@@ -119,8 +119,8 @@ impl LineBuffer {
     pub fn pos(&self) -> usize
         ensures place { result ≡ self.now.cursor }
         ensures boundary { IsCharBoundary self.now.text result }
-        ensures utf8 { IsUtf8 self.now.text }
         ensures fits { result < 2 ^ 63 }
+        ensures utf8 { IsUtf8 self.now.text }
     {
         self.pos
     }

@@ -1,11 +1,12 @@
 //! What a grapheme cluster is to each sense of a word.
 ghost use Rattle.std.specs.Prelude.{◌≡◌, List, ℕ};
-ghost use Rattle.unicode.specs.Binary.{is_white_space};
+ghost use Rattle.ucd_props.specs.Binary.{is_white_space};
 ghost use Rattle.rl_base.specs.Words.{is_alphanumeric, has_blank, is_word_cluster, all_alphanumeric, starts, ends};
 ghost use Rattle.rl_base.specs.Classes.{class_of};
 
 use crate::motion::Word;
-use unicode::properties::{GeneralCategory, is_alphabetic};
+use ucd_category::GeneralCategory;
+use ucd_derived::is_alphabetic;
 use unicode_segmentation::UnicodeSegmentation;
 
 /// What a cluster is to a sense of a word. A word goes on for as long as its clusters are of one class.

@@ -5,11 +5,18 @@ use rl_line::{Changeset, LineBuffer};
 use std::process::Abort;
 use std::test::Fail;
 
+fn is_text(found: &str, wanted: Option<&str>) -> bool {
+    match wanted {
+        Some(text) => found == text,
+        None => false,
+    }
+}
+
 // The record has so many entries, and the ring lends that.
 fn holds(rt: &impl Abort, pair: &mut Pair, entries: usize, wanted: Option<&str>, what: &str) {
     assert!(rt; pair.changes.len() == entries, "{what}");
     match pair.ring.yank() {
-        Some(slot) => assert!(rt; Some(slot.as_str()) == wanted, "{what}"),
+        Some(slot) => assert!(rt; is_text(slot.as_str(), wanted), "{what}"),
         None => assert!(rt; wanted.is_none(), "{what}"),
     }
 }

@@ -335,20 +335,32 @@ fn every_word_does_something(rt: HostRuntime) -> Result<(), Fail> {
     Ok(())
 }
 
-// Each of the lines prints `bad`, and the session goes on from where it was.
-fn prints_bad(rt: &impl Abort, alloc: Global, what: &str, lines: &[u8]) -> Result<(), Fail> {
-    let mut script = Vec::new(alloc);
-    script.extend_from_slice(b"text ab\n")?;
-    script.extend_from_slice(lines)?;
-    script.extend_from_slice(b"\nins 1 c\n")?;
-    let mut wanted = Vec::new(alloc);
-    wanted.extend_from_slice(b"ok 2 ab\nbad\n")?;
+// The middle between the two.
+fn between(alloc: Global, before: &[u8], middle: &[u8], after: &[u8]) -> Result<Vec<u8>, Fail> {
+    let mut whole = Vec::new(alloc);
+    whole.extend_from_slice(before)?;
+    whole.extend_from_slice(middle)?;
+    whole.extend_from_slice(after)?;
+    Ok(whole)
+}
+
+// What is printed for malformed lines.
+fn bad_lines(alloc: Global, lines: &[u8]) -> Result<Vec<u8>, Fail> {
+    let mut bad = Vec::new(alloc);
     for b in lines {
         if *b == b'\n' {
-            wanted.extend_from_slice(b"bad\n")?;
+            bad.extend_from_slice(b"bad\n")?;
         }
     }
-    wanted.extend_from_slice(b"true 3 abc\n")?;
+    bad.extend_from_slice(b"bad\n")?;
+    Ok(bad)
+}
+
+// Each of the lines prints `bad`, and the session goes on from where it was.
+fn prints_bad(rt: &impl Abort, alloc: Global, what: &str, lines: &[u8]) -> Result<(), Fail> {
+    let script = between(alloc, b"text ab\n", lines, b"\nins 1 c\n")?;
+    let bad = bad_lines(alloc, lines)?;
+    let wanted = between(alloc, b"ok 2 ab\n", bad.as_slice(), b"true 3 abc\n")?;
     prints(rt, alloc, what, script.as_slice(), wanted.as_slice())
 }
 
@@ -436,6 +448,10 @@ impl Write for Broken {
     }
 }
 
+fn is_so(rt: &impl Abort, is_so: bool, what: &str) {
+    assert!(rt; is_so, "{what}");
+}
+
 #[test]
 fn broken_ends_are_told_apart(rt: HostRuntime) -> Result<(), Fail> {
     let mut printed = Vec::new(rt.alloc());
@@ -454,9 +470,11 @@ fn broken_ends_are_told_apart(rt: HostRuntime) -> Result<(), Fail> {
         Fault::BadYankSize,
         Fault::NotReplaying
     )?;
-    assert_eq!(rt;
-        said.as_str(),
-        "read failed, write failed, no memory, out of memory, no such place in the text, no yanked text before the cursor, the entries do not lead to the text"
+    is_so(
+        &rt,
+        said.as_str()
+            == "read failed, write failed, no memory, out of memory, no such place in the text, no yanked text before the cursor, the entries do not lead to the text",
+        "the faults' words",
     );
     Ok(())
 }

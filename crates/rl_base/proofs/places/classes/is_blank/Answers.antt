@@ -1,5 +1,5 @@
 use Rattle.std.proofs.Common.{◌∙◌}
-use Rattle.unicode.proofs.PropsStdLemmas.{is_white_space-std}
+use Rattle.ucd_props.proofs.StdLemmas.{is_white_space-std}
 use Rattle.rl_base.proofs.places.classes.is_blank.Goals as goal
 
 pub returns : goal.returns

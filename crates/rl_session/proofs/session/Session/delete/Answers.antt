@@ -2,7 +2,8 @@ use Rattle.std.specs.Option.{option_map}
 use Rattle.std.specs.String.{string_bytes}
 use Rattle.std.proofs.Common.{refl}
 use Rattle.rl_line.specs.Kills.{delete_plan}
-use Rattle.rl_session.proofs.ReplyLemmas.{Edits-handed_out}
+use Rattle.rl_session.specs.Commands.{hands_out}
+use Rattle.rl_session.proofs.ReplyLemmas.{Edits-replied}
 use Rattle.rl_session.proofs.SessionLemmas.{Follows-edit}
 use Rattle.rl_session.proofs.session.Session.delete.Goals as goal
 
@@ -12,4 +13,4 @@ invariant_of-self c =
 
 pub returns : goal.returns
 returns c =
-    Edits-handed_out _ (λ l. delete_plan l c.args.n) _ _ _ _ _ c.self.view_is tt c.handed_out.ensures (record { mode = refl; done = c.delete.ensures.done; halted = c.delete.ensures.halted })
+    Edits-replied hands_out (λ l. delete_plan l c.args.n) c.self.view_is tt c.handed_out.ensures (record { mode = refl; done = c.delete.ensures.done; halted = c.delete.ensures.halted })

@@ -1,7 +1,8 @@
 use Rattle.std.proofs.Common.{refl}
 use Rattle.rl_base.specs.declared.motion.Movement.TheVariants.{BackwardWord}
 use Rattle.rl_line.specs.Kills.{kill_plan}
-use Rattle.rl_session.proofs.ReplyLemmas.{Edits-answered, refused_alone}
+use Rattle.rl_session.specs.Commands.{answers}
+use Rattle.rl_session.proofs.ReplyLemmas.{Edits-replied, refused_alone}
 use Rattle.rl_session.proofs.SessionLemmas.{Follows-deletion}
 use Rattle.rl_session.proofs.session.Session.delete_prev_word.Goals as goal
 
@@ -11,4 +12,4 @@ invariant_of-self c =
 
 pub returns : goal.returns
 returns c =
-    Edits-answered _ (λ l. kill_plan l (BackwardWord c.args.n c.args.word)) _ _ _ _ _ c.self.view_is tt c.answered.ensures (record { mode = refl; done = c.delete_prev_word.ensures.done; halted = refused_alone _ _ _ _ _ _ c.delete_prev_word.ensures.halted })
+    Edits-replied answers (λ l. kill_plan l (BackwardWord c.args.n c.args.word)) c.self.view_is tt c.answered.ensures (record { mode = refl; done = c.delete_prev_word.ensures.done; halted = refused_alone _ _ _ _ _ _ c.delete_prev_word.ensures.halted })

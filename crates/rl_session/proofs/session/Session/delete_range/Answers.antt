@@ -1,6 +1,7 @@
 use Rattle.std.proofs.Common.{refl}
 use Rattle.rl_line.specs.Edits.{delete_range_plan}
-use Rattle.rl_session.proofs.ReplyLemmas.{Edits-done, refused_alone}
+use Rattle.rl_session.specs.Commands.{is_done}
+use Rattle.rl_session.proofs.ReplyLemmas.{Edits-replied, refused_alone}
 use Rattle.rl_session.proofs.SessionLemmas.{Follows-deletion}
 use Rattle.rl_session.proofs.session.Session.delete_range.Goals as goal
 
@@ -10,4 +11,4 @@ invariant_of-self c =
 
 pub returns : goal.returns
 returns c =
-    Edits-done _ (λ l. delete_range_plan l c.args.from c.args.to) _ _ _ _ _ c.self.view_is (c.is_range.ensures.yes c.if-not-is_range.false) c.done.ensures (record { mode = refl; done = c.delete_range.ensures.done; halted = refused_alone _ _ _ _ _ _ c.delete_range.ensures.halted })
+    Edits-replied is_done (λ l. delete_range_plan l c.args.from c.args.to) c.self.view_is (c.is_range.ensures.yes c.if-not-is_range.false) c.done.ensures (record { mode = refl; done = c.delete_range.ensures.done; halted = refused_alone _ _ _ _ _ _ c.delete_range.ensures.halted })

@@ -1,5 +1,5 @@
 use Rattle.std.proofs.Common.{refl}
-use Rattle.rl_session.proofs.ReplyLemmas.{EditWord-answered}
+use Rattle.rl_session.proofs.ReplyLemmas.{EditWord-replied}
 use Rattle.rl_session.proofs.SessionLemmas.{Follows-recased}
 use Rattle.rl_session.proofs.session.Session.edit_word.Goals as goal
 
@@ -8,4 +8,4 @@ invariant_of-self c =
     Follows-recased _ c.self.inside.pair c.edit_word.new.listener c.self.inside.line c.edit_word.new.self c.edit_word.result (rw (← c.self.view_is) at c.stands.ensures.utf8) c.edit_word.ensures.done c.edit_word.ensures.halted c.self.invariant
 
 pub returns : goal.returns
-returns c = EditWord-answered c.args.action _ _ _ _ _ c.self.view_is c.answered.ensures refl c.edit_word.ensures.done c.edit_word.ensures.halted
+returns c = EditWord-replied c.args.action _ _ c.self.view_is c.answered.ensures refl c.edit_word.ensures.done c.edit_word.ensures.halted

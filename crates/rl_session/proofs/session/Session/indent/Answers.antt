@@ -1,6 +1,7 @@
 use Rattle.std.proofs.Common.{refl}
 use Rattle.rl_line.specs.Indents.{indent_plan}
-use Rattle.rl_session.proofs.ReplyLemmas.{Edits-answered}
+use Rattle.rl_session.specs.Commands.{answers}
+use Rattle.rl_session.proofs.ReplyLemmas.{Edits-replied}
 use Rattle.rl_session.proofs.SessionLemmas.{Follows-edit}
 use Rattle.rl_session.proofs.session.Session.indent.Goals as goal
 
@@ -10,4 +11,4 @@ invariant_of-self c =
 
 pub returns : goal.returns
 returns c =
-    Edits-answered _ (λ l. indent_plan l c.args.movement.now c.args.amount c.args.dedent) _ _ _ _ _ c.self.view_is tt c.answered.ensures (record { mode = refl; done = c.indent.ensures.done; halted = c.indent.ensures.halted })
+    Edits-replied answers (λ l. indent_plan l c.args.movement.now c.args.amount c.args.dedent) c.self.view_is tt c.answered.ensures (record { mode = refl; done = c.indent.ensures.done; halted = c.indent.ensures.halted })

@@ -1,6 +1,7 @@
 use Rattle.std.proofs.Common.{refl}
 use Rattle.rl_line.specs.Edits.{insert_plan}
-use Rattle.rl_session.proofs.ReplyLemmas.{Edits-inserted}
+use Rattle.rl_session.specs.Commands.{inserts}
+use Rattle.rl_session.proofs.ReplyLemmas.{Edits-replied}
 use Rattle.rl_session.proofs.SessionLemmas.{Follows-edit}
 use Rattle.rl_session.proofs.session.Session.insert.Goals as goal
 
@@ -10,4 +11,4 @@ invariant_of-self c =
 
 pub returns : goal.returns
 returns c =
-    Edits-inserted _ (λ l. insert_plan l c.args.c c.args.n) _ _ _ _ _ c.self.view_is tt c.inserted.ensures (record { mode = refl; done = c.insert.ensures.done; halted = c.insert.ensures.halted })
+    Edits-replied inserts (λ l. insert_plan l c.args.c c.args.n) c.self.view_is tt c.inserted.ensures (record { mode = refl; done = c.insert.ensures.done; halted = c.insert.ensures.halted })

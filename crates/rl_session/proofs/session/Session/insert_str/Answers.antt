@@ -1,6 +1,7 @@
 use Rattle.std.proofs.Common.{refl, rules}
 use Rattle.rl_line.specs.Edits.{insert_str_plan}
-use Rattle.rl_session.proofs.ReplyLemmas.{Edits-answered}
+use Rattle.rl_session.specs.Commands.{answers}
+use Rattle.rl_session.proofs.ReplyLemmas.{Edits-replied}
 use Rattle.rl_session.proofs.SessionLemmas.{Follows-edit}
 use Rattle.rl_session.proofs.session.Session.insert_str.Goals as goal
 
@@ -10,4 +11,4 @@ invariant_of-self c =
 
 pub returns : goal.returns
 returns c =
-    rw (← c.as_str-2.ensures.value) (Edits-answered _ (λ l. insert_str_plan l c.args.idx c.as_str-2.result.now) _ _ _ _ _ c.self.view_is (search rules) c.answered.ensures (record { mode = refl; done = c.insert_str.ensures.done; halted = c.insert_str.ensures.halted }))
+    rw (← c.as_str-2.ensures.value) (Edits-replied answers (λ l. insert_str_plan l c.args.idx c.as_str-2.result.now) c.self.view_is (search rules) c.answered.ensures (record { mode = refl; done = c.insert_str.ensures.done; halted = c.insert_str.ensures.halted }))

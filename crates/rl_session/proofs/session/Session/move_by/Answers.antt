@@ -1,3 +1,4 @@
+use Rattle.std.proofs.Common.{rules}
 use Rattle.rl_session.proofs.SessionLemmas.{Follows-Moved}
 use Rattle.rl_session.proofs.session.Session.move_by.Goals.{in-BeginningOfLine, in-EndOfLine, in-BackwardWord, in-ForwardWord, in-ViCharSearch, in-BackwardChar, in-ForwardChar, in-LineUp, in-LineDown, in-BeginningOfBuffer, in-EndOfBuffer, in-WholeLine, in-WholeLine-2, in-WholeLine-3}
 use Rattle.rl_session.proofs.session.Session.move_by.Goals as goal
@@ -19,3 +20,6 @@ invariant_of-self c = elim c.match-movement.branch [
   | in-WholeLine-2 w ↦ rw w.self-inside-is c.self.invariant
   | in-WholeLine-3 w ↦ rw w.self-inside-is c.self.invariant
 ]
+
+pub returns : goal.returns
+returns c = search rules

@@ -1,6 +1,7 @@
 use Rattle.std.proofs.Common.{refl}
 use Rattle.rl_line.specs.Edits.{yank_plan}
-use Rattle.rl_session.proofs.ReplyLemmas.{Edits-inserted}
+use Rattle.rl_session.specs.Commands.{inserts}
+use Rattle.rl_session.proofs.ReplyLemmas.{Edits-replied}
 use Rattle.rl_session.proofs.SessionLemmas.{Follows-edit}
 use Rattle.rl_session.proofs.session.Session.paste.Goals as goal
 
@@ -10,4 +11,4 @@ invariant_of-self c =
 
 pub returns : goal.returns
 returns c =
-    rw (← c.as_str.ensures.value) (Edits-inserted _ (λ l. yank_plan l c.as_str.result.now c.args.n) _ _ _ _ _ c.self.view_is tt c.inserted.ensures (record { mode = refl; done = c.yank.ensures.done; halted = c.yank.ensures.halted }))
+    rw (← c.as_str.ensures.value) (Edits-replied inserts (λ l. yank_plan l c.as_str.result.now c.args.n) c.self.view_is tt c.inserted.ensures (record { mode = refl; done = c.yank.ensures.done; halted = c.yank.ensures.halted }))

@@ -1,6 +1,7 @@
 use Rattle.std.proofs.Common.{refl}
 use Rattle.rl_line.specs.Edits.{replace_plan}
-use Rattle.rl_session.proofs.ReplyLemmas.{Edits-done}
+use Rattle.rl_session.specs.Commands.{is_done}
+use Rattle.rl_session.proofs.ReplyLemmas.{Edits-replied}
 use Rattle.rl_session.proofs.SessionLemmas.{Follows-edit}
 use Rattle.rl_session.proofs.session.Session.replace.Goals as goal
 
@@ -10,4 +11,4 @@ invariant_of-self c =
 
 pub returns : goal.returns
 returns c =
-    rw (← c.as_str.ensures.value) (Edits-done _ (λ l. replace_plan l c.args.from c.args.to c.as_str.result.now) _ _ _ _ _ c.self.view_is (c.is_range.ensures.yes c.if-not-is_range.false) c.done.ensures (record { mode = refl; done = c.replace.ensures.done; halted = c.replace.ensures.halted }))
+    rw (← c.as_str.ensures.value) (Edits-replied is_done (λ l. replace_plan l c.args.from c.args.to c.as_str.result.now) c.self.view_is (c.is_range.ensures.yes c.if-not-is_range.false) c.done.ensures (record { mode = refl; done = c.replace.ensures.done; halted = c.replace.ensures.halted }))

@@ -1,6 +1,7 @@
 use Rattle.std.proofs.Common.{refl}
 use Rattle.rl_line.specs.Transpositions.{transpose_words_plan}
-use Rattle.rl_session.proofs.ReplyLemmas.{Edits-answered}
+use Rattle.rl_session.specs.Commands.{answers}
+use Rattle.rl_session.proofs.ReplyLemmas.{Edits-replied}
 use Rattle.rl_session.proofs.SessionLemmas.{Follows-edit}
 use Rattle.rl_session.proofs.session.Session.transpose_words.Goals as goal
 
@@ -10,4 +11,4 @@ invariant_of-self c =
 
 pub returns : goal.returns
 returns c =
-    Edits-answered _ (λ l. transpose_words_plan l c.args.n) _ _ _ _ _ c.self.view_is tt c.answered.ensures (record { mode = refl; done = c.transpose_words.ensures.done; halted = c.transpose_words.ensures.halted })
+    Edits-replied answers (λ l. transpose_words_plan l c.args.n) c.self.view_is tt c.answered.ensures (record { mode = refl; done = c.transpose_words.ensures.done; halted = c.transpose_words.ensures.halted })

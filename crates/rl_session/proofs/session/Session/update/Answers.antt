@@ -1,6 +1,7 @@
 use Rattle.std.proofs.Common.{refl, rules}
 use Rattle.rl_line.specs.Edits.{update_plan}
-use Rattle.rl_session.proofs.ReplyLemmas.{Edits-done}
+use Rattle.rl_session.specs.Commands.{is_done}
+use Rattle.rl_session.proofs.ReplyLemmas.{Edits-replied}
 use Rattle.rl_session.proofs.SessionLemmas.{Follows-edit}
 use Rattle.rl_session.proofs.session.Session.update.Goals as goal
 
@@ -10,4 +11,4 @@ invariant_of-self c =
 
 pub returns : goal.returns
 returns c =
-    rw (← c.as_str-2.ensures.value) (Edits-done _ (λ l. update_plan l c.as_str-2.result.now c.args.pos) _ _ _ _ _ c.self.view_is (search rules) c.done.ensures (record { mode = refl; done = c.update.ensures.done; halted = c.update.ensures.halted }))
+    rw (← c.as_str-2.ensures.value) (Edits-replied is_done (λ l. update_plan l c.as_str-2.result.now c.args.pos) c.self.view_is (search rules) c.done.ensures (record { mode = refl; done = c.update.ensures.done; halted = c.update.ensures.halted }))

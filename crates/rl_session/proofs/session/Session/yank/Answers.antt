@@ -1,4 +1,4 @@
-use Rattle.std.proofs.Common.{refl, sym}
+use Rattle.std.proofs.Common.{rules, refl, sym}
 use Rattle.rl_session.proofs.SessionLemmas.{Follows-edit, nothing_lent}
 use Rattle.rl_session.proofs.session.Session.yank.Goals as goal
 
@@ -7,3 +7,6 @@ returns-in-Ok-None c = rw (← c.self.view_is) (nothing_lent _ (record { line = 
 
 pub invariant_of-self-2 : goal.invariant_of-self-2
 invariant_of-self-2 c = Follows-edit _ (λ a. a) (record { ring = c.yanked.new.ring; changes = c.self.inside.pair.changes }) c.yank.new.listener c.self.inside.line c.yank.new.self c.yank.result (rw (← c.self.view_is) at c.stands.ensures.utf8) c.yank.ensures.done c.yank.ensures.halted c.self.invariant
+
+pub returns : goal.returns
+returns c = search rules

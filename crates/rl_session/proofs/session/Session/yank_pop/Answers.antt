@@ -1,4 +1,4 @@
-use Rattle.std.proofs.Common.{refl, sym}
+use Rattle.std.proofs.Common.{rules, refl, sym}
 use Rattle.rl_session.proofs.SessionLemmas.{Follows-edit, nothing_popped, popped_cut}
 use Rattle.rl_session.proofs.session.Session.yank_pop.Goals as goal
 
@@ -10,3 +10,6 @@ returns-in-Err c = (c.stands_yanked.ensures.yes c.if-not-stands_yanked.false, rw
 
 pub invariant_of-self-2 : goal.invariant_of-self-2
 invariant_of-self-2 c = Follows-edit _ (λ a. a) (record { ring = c.popped.new.ring; changes = c.self.inside.pair.changes }) c.yank_pop.new.listener c.self.inside.line c.yank_pop.new.self c.yank_pop.result (rw (← c.self.view_is) at c.stands.ensures.utf8) c.yank_pop.ensures.done c.yank_pop.ensures.halted c.self.invariant
+
+pub returns : goal.returns
+returns c = search rules

@@ -1,0 +1,5 @@
+use Rattle.std.proofs.Common.{rules}
+use Rattle.rl_base.proofs.kill_ring.KillRing.new.Goals as goal
+
+pub returns : goal.returns
+returns c = search rules

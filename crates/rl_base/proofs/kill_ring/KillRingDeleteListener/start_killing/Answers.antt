@@ -1,0 +1,5 @@
+use Rattle.std.proofs.Common.{rules}
+use Rattle.rl_base.proofs.kill_ring.KillRingDeleteListener.start_killing.Goals as goal
+
+pub returns : goal.returns
+returns c = search rules
