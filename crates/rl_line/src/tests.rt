@@ -34,13 +34,14 @@ fn inserts(
 
 #[test]
 fn inserts_on_an_empty_line(rt: HostRuntime) -> Result<(), Fail> {
-    let mut line = LineBuffer::with_capacity(rt.alloc(), MAX_LINE)?;
-    for (from, c, at_end, text, cursor) in [
+    const ROWS: &[(usize, char, bool, &str, usize)] = &[
         (0, 'α', true, "α", 2),
         (2, 'ß', true, "αß", 4),
         (0, 'γ', false, "γαß", 2),
-    ] {
-        inserts(&rt, &mut line, from, c, at_end, text, cursor)?;
+    ];
+    let mut line = LineBuffer::with_capacity(rt.alloc(), MAX_LINE)?;
+    for (from, c, at_end, text, cursor) in ROWS {
+        inserts(&rt, &mut line, *from, *c, *at_end, text, *cursor)?;
     }
     Ok(())
 }
@@ -64,21 +65,35 @@ fn inserts_within(
     Ok(())
 }
 
-#[test]
-fn insert_is_refused_past_the_limit(rt: HostRuntime) -> Result<(), Fail> {
-    let mut line = LineBuffer::with_capacity(rt.alloc(), 2)?;
-    let mut record = Changeset::new(rt.alloc());
-    for (c, n, grows, answer, text, entries) in [
-        ('+', 1, false, Some(true), "+", 1),
-        ('-', 1, false, Some(true), "+-", 2),
-        ('*', 1, false, None, "+-", 2),
-        ('*', 0, false, Some(true), "+-", 2),
-        ('*', 1, true, Some(true), "+-*", 3),
-    ] {
-        line = line.can_growth(grows);
-        inserts_within(&rt, &mut line, &mut record, c, n, answer, text, entries)?;
+// A character, how often it is inserted, the answer, and the text and the entries after it.
+type Inserted = (char, RepeatCount, Option<bool>, &'static str, usize);
+
+// Inserts by each row of the table.
+fn insert_within(
+    rt: &impl Abort,
+    line: &mut LineBuffer,
+    record: &mut Changeset,
+    rows: &[Inserted],
+) -> Result<(), Fail> {
+    for (c, n, answer, text, entries) in rows {
+        inserts_within(rt, line, record, *c, *n, *answer, text, *entries)?;
     }
     Ok(())
+}
+
+#[test]
+fn insert_is_refused_past_the_limit(rt: HostRuntime) -> Result<(), Fail> {
+    const REFUSED: &[Inserted] = &[
+        ('+', 1, Some(true), "+", 1),
+        ('-', 1, Some(true), "+-", 2),
+        ('*', 1, None, "+-", 2),
+        ('*', 0, Some(true), "+-", 2),
+    ];
+    let mut line = LineBuffer::with_capacity(rt.alloc(), 2)?;
+    let mut record = Changeset::new(rt.alloc());
+    insert_within(&rt, &mut line, &mut record, REFUSED)?;
+    let mut line = line.can_growth(true);
+    inserts_within(&rt, &mut line, &mut record, '*', 1, Some(true), "+-*", 3)
 }
 
 #[test]

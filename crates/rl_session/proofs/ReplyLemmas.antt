@@ -64,19 +64,19 @@ module _ {A : Type 0} (telling : Telling A) (plan : Plan A) (old new : State) (o
 carried : (P : State → Reply → Type 0) {inside old : State} {given reply : Reply} → inside ≡ old → reply ≡ given → P inside given → P old reply
 carried P {reply = reply} v e p = subst (λ s. P s reply) v (subst (P _) (sym e) p)
 
-told : {A : Type 0} (telling : Telling A) (condition : Type 0) (plan : Plan A) (old new : State) (outcome : Result (Handed telling) Refusal) → condition
+Edits-told : {A : Type 0} (telling : Telling A) (condition : Type 0) (plan : Plan A) (old new : State) (outcome : Result (Handed telling) Refusal) → condition
     → Outcome telling plan old new outcome → Edits condition plan telling old (replied (said telling) outcome) new
-told answers condition plan old new (Ok a) c o = (c, record { done = o.done; mode = o.mode })
-told inserts condition plan old new (Ok a) c o = (c, record { done = o.done; mode = o.mode })
-told hands_out condition plan old new (Ok a) c o = (c, record { done = o.done; mode = o.mode })
-told is_done condition plan old new (Ok a) c o = (c, record { done = o.done; mode = o.mode })
-told telling condition plan old new (Err w) c o = (c, CutShort-refused plan old new w o.mode o.halted)
+Edits-told answers condition plan old new (Ok a) c o = (c, record { done = o.done; mode = o.mode })
+Edits-told inserts condition plan old new (Ok a) c o = (c, record { done = o.done; mode = o.mode })
+Edits-told hands_out condition plan old new (Ok a) c o = (c, record { done = o.done; mode = o.mode })
+Edits-told is_done condition plan old new (Ok a) c o = (c, record { done = o.done; mode = o.mode })
+Edits-told telling condition plan old new (Err w) c o = (c, CutShort-refused plan old new w o.mode o.halted)
 
 -- an edit of a line is one of the session
 pub Edits-replied : {A : Type 0} (telling : Telling A) {condition : Type 0} (plan : Line → Plan A) {inside old new : State} {outcome : Result (Handed telling) Refusal} {reply : Reply}
     → inside ≡ old → condition → reply ≡ replied (said telling) outcome → Outcome telling (plan inside.line) inside new outcome → Edits condition (plan old.line) telling old reply new
 Edits-replied telling {condition} plan {inside} {old} {new} {outcome} v c e o =
-    carried (λ s r. Edits condition (plan s.line) telling s r new) v e (told telling condition (plan inside.line) inside new outcome c o)
+    carried (λ s r. Edits condition (plan s.line) telling s r new) v e (Edits-told telling condition (plan inside.line) inside new outcome c o)
 
 pub Kill-replied : (m : Movement) {inside old : State} (new : State) (outcome : Result Bool Refusal) {reply : Reply} → inside ≡ old → reply ≡ replied says.Answer outcome → new.mode ≡ inside.mode
     → IfOk outcome (λ a. Told pair_step (is_by_characters m) (λ before now. Done pair_step (kill_plan inside.line m) inside.line new.line before now a) inside.pair new.pair)

@@ -52,13 +52,11 @@ fn make(ring: &mut KillRing, call: Call) -> Result<bool, Fail> {
     Ok(true)
 }
 
-// Makes the calls on a new ring of that size. Behind each stands the size of the last yank.
-fn goes(
-    rt: &impl Abort,
-    alloc: Global,
-    size: usize,
-    steps: &[(Call, Option<usize>)],
-) -> Result<(), Fail> {
+// A call, and the size of the last yank after it.
+type Step = (Call, Option<usize>);
+
+// Makes the calls on a new ring of that size.
+fn goes(rt: &impl Abort, alloc: Global, size: usize, steps: &[Step]) -> Result<(), Fail> {
     let mut ring = KillRing::new(alloc, size);
     for (i, (call, yanked)) in steps.iter().enumerate() {
         let expected = make(&mut ring, *call)?;
@@ -74,127 +72,99 @@ fn goes(
 
 #[test]
 fn kills_join(rt: HostRuntime) -> Result<(), Fail> {
-    goes(
-        &rt,
-        rt.alloc(),
-        2,
-        &[
-            (Call::Kill("word1"), None),
-            (Call::Kill(" word2"), None),
-            (Call::Yank("word1 word2"), Some(11)),
-            // a yank ends the text
-            (Call::KillBack("word1"), None),
-            (Call::KillBack("word2 "), None),
-            (Call::Yank("word2 word1"), Some(11)),
-            (Call::Pop(11, "word1 word2"), Some(11)),
-        ],
-    )
+    const STEPS: &[Step] = &[
+        (Call::Kill("word1"), None),
+        (Call::Kill(" word2"), None),
+        (Call::Yank("word1 word2"), Some(11)),
+        // a yank ends the text
+        (Call::KillBack("word1"), None),
+        (Call::KillBack("word2 "), None),
+        (Call::Yank("word2 word1"), Some(11)),
+        (Call::Pop(11, "word1 word2"), Some(11)),
+    ];
+    goes(&rt, rt.alloc(), 2, STEPS)
 }
 
 #[test]
 fn a_pop_goes_round(rt: HostRuntime) -> Result<(), Fail> {
-    goes(
-        &rt,
-        rt.alloc(),
-        2,
-        &[
-            (Call::PopNone, None),
-            (Call::Kill("word1"), None),
-            // a reset leaves the text
-            (Call::Reset, None),
-            (Call::Kill("longword2"), None),
-            (Call::PopNone, None),
-            (Call::Yank("longword2"), Some(9)),
-            (Call::Pop(9, "word1"), Some(5)),
-            (Call::Pop(5, "longword2"), Some(9)),
-            (Call::Pop(9, "word1"), Some(5)),
-            (Call::Reset, None),
-            (Call::PopNone, None),
-            (Call::Yank("word1"), Some(5)),
-        ],
-    )
+    const STEPS: &[Step] = &[
+        (Call::PopNone, None),
+        (Call::Kill("word1"), None),
+        // a reset leaves the text
+        (Call::Reset, None),
+        (Call::Kill("longword2"), None),
+        (Call::PopNone, None),
+        (Call::Yank("longword2"), Some(9)),
+        (Call::Pop(9, "word1"), Some(5)),
+        (Call::Pop(5, "longword2"), Some(9)),
+        (Call::Pop(9, "word1"), Some(5)),
+        (Call::Reset, None),
+        (Call::PopNone, None),
+        (Call::Yank("word1"), Some(5)),
+    ];
+    goes(&rt, rt.alloc(), 2, STEPS)
 }
 
 #[test]
 fn a_kill_overwrites_the_text_behind_the_current_one(rt: HostRuntime) -> Result<(), Fail> {
-    goes(
-        &rt,
-        rt.alloc(),
-        3,
-        &[
-            (Call::Kill("a"), None),
-            (Call::Reset, None),
-            (Call::Kill("b"), None),
-            (Call::Yank("b"), Some(1)),
-            (Call::Pop(1, "a"), Some(1)),
-            (Call::Reset, None),
-            (Call::Kill("c"), None),
-            (Call::Yank("c"), Some(1)),
-            (Call::Pop(1, "a"), Some(1)),
-            (Call::Pop(1, "c"), Some(1)),
-        ],
-    )
+    const STEPS: &[Step] = &[
+        (Call::Kill("a"), None),
+        (Call::Reset, None),
+        (Call::Kill("b"), None),
+        (Call::Yank("b"), Some(1)),
+        (Call::Pop(1, "a"), Some(1)),
+        (Call::Reset, None),
+        (Call::Kill("c"), None),
+        (Call::Yank("c"), Some(1)),
+        (Call::Pop(1, "a"), Some(1)),
+        (Call::Pop(1, "c"), Some(1)),
+    ];
+    goes(&rt, rt.alloc(), 3, STEPS)
 }
 
 #[test]
 fn the_smallest_rings(rt: HostRuntime) -> Result<(), Fail> {
-    goes(
-        &rt,
-        rt.alloc(),
-        0,
-        &[
-            (Call::YankNone, None),
-            (Call::Kill("x"), None),
-            (Call::YankNone, None),
-            (Call::PopNone, None),
-        ],
-    )?;
-    goes(
-        &rt,
-        rt.alloc(),
-        1,
-        &[
-            (Call::YankNone, None),
-            (Call::Kill("a"), None),
-            (Call::Reset, None),
-            (Call::Kill("\u{df}"), None),
-            (Call::Yank("\u{df}"), Some(2)),
-            (Call::Pop(2, "\u{df}"), Some(2)),
-        ],
-    )
+    const NO_SLOT: &[Step] = &[
+        (Call::YankNone, None),
+        (Call::Kill("x"), None),
+        (Call::YankNone, None),
+        (Call::PopNone, None),
+    ];
+    goes(&rt, rt.alloc(), 0, NO_SLOT)?;
+    const ONE_SLOT: &[Step] = &[
+        (Call::YankNone, None),
+        (Call::Kill("a"), None),
+        (Call::Reset, None),
+        (Call::Kill("\u{df}"), None),
+        (Call::Yank("\u{df}"), Some(2)),
+        (Call::Pop(2, "\u{df}"), Some(2)),
+    ];
+    goes(&rt, rt.alloc(), 1, ONE_SLOT)
 }
 
 #[test]
 fn an_empty_kill_is_a_slot(rt: HostRuntime) -> Result<(), Fail> {
-    goes(
-        &rt,
-        rt.alloc(),
-        2,
-        &[
-            (Call::Kill(""), None),
-            (Call::Yank(""), Some(0)),
-            (Call::Pop(0, ""), Some(0)),
-        ],
-    )
+    const STEPS: &[Step] = &[
+        (Call::Kill(""), None),
+        (Call::Yank(""), Some(0)),
+        (Call::Pop(0, ""), Some(0)),
+    ];
+    goes(&rt, rt.alloc(), 2, STEPS)
 }
 
 #[test]
 fn deletions_of_a_kill_are_heard(rt: HostRuntime) -> Result<(), Fail> {
-    goes(
-        &rt,
-        rt.alloc(),
-        2,
-        &[
-            (Call::Ahead("x"), None),
-            (Call::YankNone, None),
-            (Call::Start, None),
-            (Call::Ahead("b"), None),
-            (Call::Back("a"), None),
-            (Call::Stop, None),
-            (Call::Back("y"), None),
-            (Call::Start, None),
-            (Call::Ahead("c"), None),
-            (Call::Yank("abc"), Some(3)),
-        ],
-    )
+    const STEPS: &[Step] = &[
+        (Call::Ahead("x"), None),
+        (Call::YankNone, None),
+        (Call::Start, None),
+        (Call::Ahead("b"), None),
+        (Call::Back("a"), None),
+        (Call::Stop, None),
+        (Call::Back("y"), None),
+        (Call::Start, None),
+        (Call::Ahead("c"), None),
+        (Call::Yank("abc"), Some(3)),
+    ];
+    goes(&rt, rt.alloc(), 2, STEPS)
 }

@@ -18,18 +18,18 @@ const MODES: [GraphemeClusterMode; 3] = [
 
 #[test]
 fn widths(rt: HostRuntime) {
-    let rows: [(&str, [Unit; 3]); 6] = [
-        ("", [0, 0, 0]),
-        ("ab", [2, 2, 2]),
-        ("\u{6f22}a", [3, 3, 3]),
-        ("\u{1f44b}\u{1f3ff}", [2, 4, 2]),
-        ("\u{1f469}\u{200d}\u{1f680}", [2, 4, 4]),
-        ("\u{2764}\u{fe0f}", [2, 1, 2]),
+    const ROWS: &[(&str, Unit, Unit, Unit)] = &[
+        ("", 0, 0, 0),
+        ("ab", 2, 2, 2),
+        ("\u{6f22}a", 3, 3, 3),
+        ("\u{1f44b}\u{1f3ff}", 2, 4, 2),
+        ("\u{1f469}\u{200d}\u{1f680}", 2, 4, 4),
+        ("\u{2764}\u{fe0f}", 2, 1, 2),
     ];
-    for (text, [unicode, wc_width, no_zwj]) in rows {
-        measures(&rt, text, GraphemeClusterMode::Unicode, unicode);
-        measures(&rt, text, GraphemeClusterMode::WcWidth, wc_width);
-        measures(&rt, text, GraphemeClusterMode::NoZwj, no_zwj);
+    for (text, unicode, wc_width, no_zwj) in ROWS {
+        measures(&rt, text, GraphemeClusterMode::Unicode, *unicode);
+        measures(&rt, text, GraphemeClusterMode::WcWidth, *wc_width);
+        measures(&rt, text, GraphemeClusterMode::NoZwj, *no_zwj);
     }
 }
 
@@ -46,18 +46,20 @@ fn widths_are_cut(rt: HostRuntime) -> Result<(), Fail> {
     Ok(())
 }
 
+fn is_before(rt: &impl Abort, position: &Position, later: &Position) {
+    let is_so = position < later && later > position && position != later;
+    assert!(rt; is_so, "{position:?} before {later:?}");
+}
+
 #[test]
 fn positions_are_ordered_by_row(rt: HostRuntime) {
-    let rows = [((9, 0), (0, 1)), ((0, 0), (1, 0)), ((65535, 1), (0, 2))];
-    for ((col, row), (later_col, later_row)) in rows {
-        let position = Position { col, row };
-        let later = Position {
-            col: later_col,
-            row: later_row,
-        };
-        assert!(rt; position < later, "{position:?} before {later:?}");
-        assert!(rt; later > position, "{later:?} after {position:?}");
-        assert!(rt; position != later, "{position:?} is not {later:?}");
+    const ROWS: &[(Position, Position)] = &[
+        (Position { col: 9, row: 0 }, Position { col: 0, row: 1 }),
+        (Position { col: 0, row: 0 }, Position { col: 1, row: 0 }),
+        (Position { col: 65535, row: 1 }, Position { col: 0, row: 2 }),
+    ];
+    for (position, later) in ROWS {
+        is_before(&rt, position, later);
     }
     assert_eq!(rt; Position::default(), Position { col: 0, row: 0 }, "default");
 }

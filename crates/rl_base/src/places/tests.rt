@@ -19,13 +19,12 @@ fn goes_by_clusters(
 ) {
     assert!(rt; text.is_char_boundary(pos), "{pos}");
     let (ahead, back) = (next_pos(text, pos, n), prev_pos(text, pos, n));
-    assert_eq!(rt; ahead, next, "{pos} next {n}");
-    assert_eq!(rt; back, prev, "{pos} prev {n}");
+    assert_eq!(rt; (ahead, back), (next, prev), "{n} from {pos}");
 }
 
 #[test]
 fn clusters(rt: HostRuntime) {
-    let rows: [(&str, usize, RepeatCount, Option<usize>, Option<usize>); 8] = [
+    const ROWS: &[(&str, usize, RepeatCount, Option<usize>, Option<usize>)] = &[
         ("\u{f6}\u{332}g\u{308}", 0, 1, Some(4), None),
         ("\u{f6}\u{332}g\u{308}", 4, 1, Some(7), Some(0)),
         ("\u{f6}\u{332}g\u{308}", 7, 2, None, Some(0)),
@@ -35,8 +34,8 @@ fn clusters(rt: HostRuntime) {
         ("ag\u{308}", 1, 1, Some(4), Some(0)),
         ("a\r\nb", 3, 1, Some(4), Some(1)),
     ];
-    for (text, pos, n, next, prev) in rows {
-        goes_by_clusters(&rt, text, pos, n, next, prev);
+    for (text, pos, n, next, prev) in ROWS {
+        goes_by_clusters(&rt, text, *pos, *n, *next, *prev);
     }
 }
 
@@ -56,7 +55,7 @@ fn goes_to_word(
 
 #[test]
 fn words_ahead_repeated(rt: HostRuntime) {
-    let rows: [(&str, At, Word, &[usize]); 5] = [
+    const ROWS: &[(&str, At, Word, &[usize])] = &[
         (
             "alpha ,beta/rho; mu",
             At::BeforeEnd,
@@ -78,13 +77,13 @@ fn words_ahead_repeated(rt: HostRuntime) {
         ),
         ("ae\u{301}b", At::Start, Word::Vi, &[1, 4]),
     ];
-    for (text, at, word, stops) in rows {
+    for (text, at, word, stops) in ROWS {
         let mut pos = 0;
-        for want in stops {
-            goes_to_word(&rt, text, pos, at, word, 1, Some(*want));
+        for want in *stops {
+            goes_to_word(&rt, text, pos, *at, *word, 1, Some(*want));
             pos = *want;
         }
-        goes_to_word(&rt, text, pos, at, word, 1, None);
+        goes_to_word(&rt, text, pos, *at, *word, 1, None);
     }
 }
 
@@ -103,7 +102,7 @@ fn goes_back_to_word(
 
 #[test]
 fn words_back_repeated(rt: HostRuntime) {
-    let rows: [(&str, usize, Word, &[usize]); 2] = [
+    const ROWS: &[(&str, usize, Word, &[usize])] = &[
         (
             "alpha ,beta/rho; mu",
             19,
@@ -112,19 +111,19 @@ fn words_back_repeated(rt: HostRuntime) {
         ),
         ("alpha ,beta/rho; mu", 19, Word::Big, &[17, 6, 0]),
     ];
-    for (text, end, word, starts) in rows {
-        let mut pos = end;
-        for want in starts {
-            goes_back_to_word(&rt, text, pos, word, 1, Some(*want));
+    for (text, end, word, starts) in ROWS {
+        let mut pos = *end;
+        for want in *starts {
+            goes_back_to_word(&rt, text, pos, *word, 1, Some(*want));
             pos = *want;
         }
-        goes_back_to_word(&rt, text, pos, word, 1, None);
+        goes_back_to_word(&rt, text, pos, *word, 1, None);
     }
 }
 
 #[test]
 fn words_ahead_counted(rt: HostRuntime) {
-    let rows: [(&str, usize, At, Word, RepeatCount, Option<usize>); 10] = [
+    const ROWS: &[(&str, usize, At, Word, RepeatCount, Option<usize>)] = &[
         ("a/b", 0, At::Start, Word::Vi, 0, None),
         ("a/b", 0, At::Start, Word::Vi, 2, Some(2)),
         ("a/b", 0, At::Start, Word::Vi, 3, Some(2)),
@@ -136,21 +135,21 @@ fn words_ahead_counted(rt: HostRuntime) {
         ("a \u{df}  c", 2, At::Start, Word::Emacs, 1, Some(6)),
         ("a_b c", 0, At::AfterEnd, Word::Vi, 1, Some(3)),
     ];
-    for (text, pos, at, word, n, want) in rows {
-        goes_to_word(&rt, text, pos, at, word, n, want);
+    for (text, pos, at, word, n, want) in ROWS {
+        goes_to_word(&rt, text, *pos, *at, *word, *n, *want);
     }
 }
 
 #[test]
 fn words_back_counted(rt: HostRuntime) {
-    let rows: [(&str, usize, Word, RepeatCount, Option<usize>); 4] = [
+    const ROWS: &[(&str, usize, Word, RepeatCount, Option<usize>)] = &[
         ("a/b", 3, Word::Vi, 2, Some(1)),
         ("a/b", 3, Word::Vi, 0, Some(0)),
         ("a \u{df}  c", 6, Word::Emacs, 1, Some(2)),
         ("a \u{df}  c", 6, Word::Big, 1, Some(2)),
     ];
-    for (text, pos, word, n, want) in rows {
-        goes_back_to_word(&rt, text, pos, word, n, want);
+    for (text, pos, word, n, want) in ROWS {
+        goes_back_to_word(&rt, text, *pos, *word, *n, *want);
     }
 }
 
@@ -165,43 +164,42 @@ fn finds(
 ) {
     assert!(rt; text.is_char_boundary(pos), "{pos}");
     let (found, goes) = (search(text, pos, cs, n), find_place(text, pos, cs, n));
-    assert_eq!(rt; found, hit, "{pos} {cs:?} {n}, the hit");
-    assert_eq!(rt; goes, place, "{pos} {cs:?} {n}, the place");
+    assert_eq!(rt; (found, goes), (hit, place), "{cs:?} {n} from {pos}");
 }
 
 #[test]
 fn searches(rt: HostRuntime) {
-    let greek = "\u{3b1}\u{df}\u{3b3}\u{3b4}\u{3b5}";
-    let marked = "e\u{301}xe\u{301}";
-    let rows: [(
+    const GREEK: &str = "\u{3b1}\u{df}\u{3b3}\u{3b4}\u{3b5}";
+    const MARKED: &str = "e\u{301}xe\u{301}";
+    const ROWS: &[(
         &str,
         usize,
         CharSearch,
         RepeatCount,
         Option<usize>,
         Option<usize>,
-    ); 12] = [
-        (greek, 2, Forward('\u{3b5}'), 10, Some(8), Some(8)),
-        (greek, 2, ForwardBefore('\u{3b5}'), 1, Some(8), Some(6)),
-        (greek, 8, BackwardAfter('\u{3b1}'), 1, Some(0), Some(2)),
-        (greek, 8, BackwardAfter('\u{df}'), 1, Some(2), Some(4)),
-        (greek, 8, Backward('\u{df}'), 1, Some(2), Some(2)),
-        (greek, 8, Backward('x'), 1, None, None),
+    )] = &[
+        (GREEK, 2, Forward('\u{3b5}'), 10, Some(8), Some(8)),
+        (GREEK, 2, ForwardBefore('\u{3b5}'), 1, Some(8), Some(6)),
+        (GREEK, 8, BackwardAfter('\u{3b1}'), 1, Some(0), Some(2)),
+        (GREEK, 8, BackwardAfter('\u{df}'), 1, Some(2), Some(4)),
+        (GREEK, 8, Backward('\u{df}'), 1, Some(2), Some(2)),
+        (GREEK, 8, Backward('x'), 1, None, None),
         ("text", 4, Backward('t'), 2, Some(0), Some(0)),
         ("text", 0, Forward('t'), 1, Some(3), Some(3)),
         ("text", 4, Forward('t'), 1, None, None),
         ("abb", 0, ForwardBefore('b'), 1, Some(1), Some(0)),
         ("abb", 0, ForwardBefore('b'), 0, None, None),
-        (marked, 0, Forward('\u{301}'), 1, Some(5), Some(5)),
+        (MARKED, 0, Forward('\u{301}'), 1, Some(5), Some(5)),
     ];
-    for (text, pos, cs, n, hit, place) in rows {
-        finds(&rt, text, pos, cs, n, hit, place);
+    for (text, pos, cs, n, hit, place) in ROWS {
+        finds(&rt, text, *pos, *cs, *n, *hit, *place);
     }
 }
 
 #[test]
 fn alphanumerics(rt: HostRuntime) {
-    let rows = [
+    const ROWS: &[(char, bool)] = &[
         ('a', true),
         ('\u{df}', true),
         ('\u{4e2d}', true),
@@ -214,8 +212,8 @@ fn alphanumerics(rt: HostRuntime) {
         ('\u{301}', false),
         ('\u{1f468}', false),
     ];
-    for (c, want) in rows {
-        assert_eq!(rt; is_alphanumeric(c), want, "{c}");
+    for (c, want) in ROWS {
+        assert_eq!(rt; is_alphanumeric(*c), *want, "{c}");
     }
 }
 
@@ -262,8 +260,7 @@ fn clusters_agree(
             None => None,
         }
     };
-    assert_eq!(rt; next_pos(text, pos, n), next, "{pos} next {n}");
-    assert_eq!(rt; prev_pos(text, pos, n), prev, "{pos} prev {n}");
+    goes_by_clusters(rt, text, pos, n, next, prev);
     Ok(())
 }
 
@@ -282,11 +279,7 @@ fn words_agree(
         Some(place) => Some(*place),
         None => Some(0),
     };
-    assert_eq!(rt;
-        prev_word(text, pos, word, n),
-        prev,
-        "{pos} {word:?} prev {n}"
-    );
+    goes_back_to_word(rt, text, pos, word, n, prev);
     for at in [At::Start, At::BeforeEnd, At::AfterEnd] {
         let ahead = stops(alloc, &text[pos..], at, word)?;
         let next = match ahead.get(usize::from(n).wrapping_sub(1)) {
@@ -296,11 +289,7 @@ fn words_agree(
             None if n == 0 => None,
             None => last_behind(alloc, text, pos)?,
         };
-        assert_eq!(rt;
-            next_word(text, pos, at, word, n),
-            next,
-            "{pos} {at:?} {word:?} {n}"
-        );
+        goes_to_word(rt, text, pos, at, word, n, next);
     }
     Ok(())
 }

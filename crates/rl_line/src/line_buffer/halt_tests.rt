@@ -168,135 +168,123 @@ type Row = (&'static str, usize, Edit, &'static str, usize);
 // Makes each edit of the table, which is refused its only change first.
 fn halt_at_once(rt: &impl Abort, alloc: Global, rows: &[Row]) -> Result<(), Fail> {
     for (text, pos, edit, after, cursor) in rows {
-        let states = [(*text, *pos), (*after, *cursor)];
-        halts(rt, alloc, text, *pos, edit, &states)?;
+        halts_after(rt, alloc, text, *pos, edit, 0, true, text, *pos)?;
+        halts_after(rt, alloc, text, *pos, edit, 1, false, after, *cursor)?;
     }
     Ok(())
 }
 
 #[test]
 fn refused_edits_leave_the_line(rt: HostRuntime) -> Result<(), Fail> {
-    let back = Movement::BackwardWord(1, Word::Vi);
-    halt_at_once(
-        &rt,
-        rt.alloc(),
-        &[
-            ("ab", 1, Edit::Insert('c', 1), "acb", 2),
-            ("ab", 1, Edit::Insert('c', 2), "accb", 3),
-            ("ab", 1, Edit::Yank("c"), "acb", 2),
-            ("ab", 1, Edit::InsertStr, "acdb", 1),
-            ("ab", 1, Edit::Replace("cde"), "cde", 3),
-            ("ab", 1, Edit::Delete(1), "a", 1),
-            ("ab", 1, Edit::DeleteRange, "", 0),
-            ("ab cd", 3, Edit::Kill(Movement::WholeLine), "", 0),
-            ("ab cd", 3, Edit::Kill(Movement::WholeBuffer), "", 0),
-            ("ab cd", 5, Edit::Kill(back), "ab ", 3),
-        ],
-    )
+    const BACK: Movement = Movement::BackwardWord(1, Word::Vi);
+    const ROWS: &[Row] = &[
+        ("ab", 1, Edit::Insert('c', 1), "acb", 2),
+        ("ab", 1, Edit::Insert('c', 2), "accb", 3),
+        ("ab", 1, Edit::Yank("c"), "acb", 2),
+        ("ab", 1, Edit::InsertStr, "acdb", 1),
+        ("ab", 1, Edit::Replace("cde"), "cde", 3),
+        ("ab", 1, Edit::Delete(1), "a", 1),
+        ("ab", 1, Edit::DeleteRange, "", 0),
+        ("ab cd", 3, Edit::Kill(Movement::WholeLine), "", 0),
+        ("ab cd", 3, Edit::Kill(Movement::WholeBuffer), "", 0),
+        ("ab cd", 5, Edit::Kill(BACK), "ab ", 3),
+    ];
+    halt_at_once(&rt, rt.alloc(), ROWS)
+}
+
+// A text, the cursor, an edit, and the texts and the cursors that it leaves with 0, 1, 2 .. changes allowed.
+type Halting = (&'static str, usize, Edit, &'static [(&'static str, usize)]);
+
+// Makes each edit of the table, with more changes allowed each time.
+fn halt_in_turn(rt: &impl Abort, alloc: Global, rows: &[Halting]) -> Result<(), Fail> {
+    for (text, pos, edit, states) in rows {
+        halts(rt, alloc, text, *pos, edit, states)?;
+    }
+    Ok(())
 }
 
 #[test]
 fn refused_exchanges_stand_after_their_steps(rt: HostRuntime) -> Result<(), Fail> {
-    let edit = Edit::YankPop("xyz");
-    halts(
-        &rt,
-        rt.alloc(),
-        "abc",
-        2,
-        &edit,
-        &[("abc", 2), ("c", 0), ("xyzc", 3)],
-    )?;
-    let edit = Edit::Update("cde");
-    halts(
-        &rt,
-        rt.alloc(),
-        "ab",
-        1,
-        &edit,
-        &[("ab", 1), ("", 0), ("cde", 0)],
-    )?;
-    let edit = Edit::TransposeChars;
-    halts(
-        &rt,
-        rt.alloc(),
-        "abc",
-        1,
-        &edit,
-        &[("abc", 1), ("ac", 1), ("bac", 2)],
-    )?;
-    halts(
-        &rt,
-        rt.alloc(),
-        "ab",
-        2,
-        &edit,
-        &[("ab", 2), ("a", 1), ("ba", 2)],
-    )?;
-    let edit = Edit::EditWord(WordAction::Uppercase);
-    halts(
-        &rt,
-        rt.alloc(),
-        ", ab",
-        0,
-        &edit,
-        &[(", ab", 0), (", ", 0), (", AB", 4)],
-    )?;
-    let edit = Edit::TransposeWords;
-    halts(
-        &rt,
-        rt.alloc(),
-        "ab cd",
-        5,
-        &edit,
-        &[
-            ("ab cd", 5),
-            ("ab ", 2),
-            ("ab ab", 2),
-            (" ab", 0),
-            ("cd ab", 5),
-        ],
-    )
+    const ROWS: &[Halting] = &[
+        (
+            "abc",
+            2,
+            Edit::YankPop("xyz"),
+            &[("abc", 2), ("c", 0), ("xyzc", 3)],
+        ),
+        (
+            "ab",
+            1,
+            Edit::Update("cde"),
+            &[("ab", 1), ("", 0), ("cde", 0)],
+        ),
+        (
+            "abc",
+            1,
+            Edit::TransposeChars,
+            &[("abc", 1), ("ac", 1), ("bac", 2)],
+        ),
+        (
+            "ab",
+            2,
+            Edit::TransposeChars,
+            &[("ab", 2), ("a", 1), ("ba", 2)],
+        ),
+        (
+            ", ab",
+            0,
+            Edit::EditWord(WordAction::Uppercase),
+            &[(", ab", 0), (", ", 0), (", AB", 4)],
+        ),
+        (
+            "ab cd",
+            5,
+            Edit::TransposeWords,
+            &[
+                ("ab cd", 5),
+                ("ab ", 2),
+                ("ab ab", 2),
+                (" ab", 0),
+                ("cd ab", 5),
+            ],
+        ),
+    ];
+    halt_in_turn(&rt, rt.alloc(), ROWS)
 }
 
 #[test]
 fn refused_indents_stand_after_their_steps(rt: HostRuntime) -> Result<(), Fail> {
-    let edit = Edit::Indent(1);
-    halts(
-        &rt,
-        rt.alloc(),
-        "a\nb",
-        0,
-        &edit,
-        &[("a\nb", 0), (" a\nb", 1), (" a\n b", 1)],
-    )?;
-    let edit = Edit::Dedent(4);
-    halts(
-        &rt,
-        rt.alloc(),
-        "  a\n\tb",
-        5,
-        &edit,
-        &[("  a\n\tb", 5), ("a\n\tb", 3), ("a\nb", 2)],
-    )?;
-    let edit = Edit::Indent(40);
-    halts(
-        &rt,
-        rt.alloc(),
-        "a\nb",
-        3,
-        &edit,
-        &[
-            ("a\nb", 3),
-            ("                                a\nb", 35),
-            ("                                        a\nb", 43),
-            (
-                "                                        a\n                                b",
-                75,
-            ),
-            (
-                "                                        a\n                                        b",
-                83,
-            ),
-        ],
-    )
+    const ROWS: &[Halting] = &[
+        (
+            "a\nb",
+            0,
+            Edit::Indent(1),
+            &[("a\nb", 0), (" a\nb", 1), (" a\n b", 1)],
+        ),
+        (
+            "  a\n\tb",
+            5,
+            Edit::Dedent(4),
+            &[("  a\n\tb", 5), ("a\n\tb", 3), ("a\nb", 2)],
+        ),
+        (
+            "a\nb",
+            3,
+            Edit::Indent(40),
+            &[
+                ("a\nb", 3),
+                ("                                a\nb", 35),
+                ("                                        a\nb", 43),
+                (
+                    "                                        a\n                                b",
+                    75,
+                ),
+                (
+                    "                                        a\n                                        b",
+                    83,
+                ),
+            ],
+        ),
+    ];
+    halt_in_turn(&rt, rt.alloc(), ROWS)
 }

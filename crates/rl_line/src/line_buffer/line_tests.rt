@@ -54,124 +54,117 @@ fn goes(
     Ok(())
 }
 
+// A text, the cursor, the width of the prompt, and the steps.
+type Row = (&'static str, usize, Unit, &'static [Taken]);
+
+// Takes the steps of each row of the table.
+fn go_all(rt: &impl Abort, alloc: Global, rows: &[Row]) -> Result<(), Fail> {
+    for (text, pos, prompt, steps) in rows {
+        goes(rt, alloc, text, *pos, *prompt, steps)?;
+    }
+    Ok(())
+}
+
 #[test]
 fn ends_of_lines_and_texts(rt: HostRuntime) -> Result<(), Fail> {
-    goes(
-        &rt,
-        rt.alloc(),
-        "αa\nsdf ßc\nasdf",
-        7,
-        0,
-        &[
-            (Step::Home, true, 4),
-            (Step::Home, false, 4),
-            (Step::End, true, 11),
-            (Step::End, false, 11),
-            (Step::BufferStart, true, 0),
-            (Step::BufferEnd, true, 16),
-        ],
-    )?;
-    goes(
-        &rt,
-        rt.alloc(),
-        "",
-        0,
-        7,
-        &[
-            (Step::Home, false, 0),
-            (Step::End, false, 0),
-            (Step::Up(1), false, 0),
-            (Step::Down(1), false, 0),
-        ],
-    )
+    const ROWS: &[Row] = &[
+        (
+            "αa\nsdf ßc\nasdf",
+            7,
+            0,
+            &[
+                (Step::Home, true, 4),
+                (Step::Home, false, 4),
+                (Step::End, true, 11),
+                (Step::End, false, 11),
+                (Step::BufferStart, true, 0),
+                (Step::BufferEnd, true, 16),
+            ],
+        ),
+        (
+            "",
+            0,
+            7,
+            &[
+                (Step::Home, false, 0),
+                (Step::End, false, 0),
+                (Step::Up(1), false, 0),
+                (Step::Down(1), false, 0),
+            ],
+        ),
+    ];
+    go_all(&rt, rt.alloc(), ROWS)
 }
 
 #[test]
 fn lines_above_and_below(rt: HostRuntime) -> Result<(), Fail> {
-    goes(
-        &rt,
-        rt.alloc(),
-        "a\n\nbcd\nefgh",
-        11,
-        0,
-        &[(Step::Up(2), true, 2)],
-    )?;
-    goes(
-        &rt,
-        rt.alloc(),
-        "aa123\nsdf bc\nasdf",
-        14,
-        0,
-        &[
-            (Step::Up(1), true, 7),
-            (Step::Up(1), true, 1),
-            (Step::Up(1), false, 1),
-        ],
-    )?;
-    goes(
-        &rt,
-        rt.alloc(),
-        "aa123\nsdf bc\nasdf",
-        14,
-        2,
-        &[
-            (Step::Up(1), true, 7),
-            (Step::Up(1), true, 0),
-            (Step::Down(1), true, 8),
-        ],
-    )?;
-    goes(
-        &rt,
-        rt.alloc(),
-        "aa123\nsdf bc\nasdf",
-        1,
-        0,
-        &[(Step::Down(2), true, 14), (Step::Up(2), true, 1)],
-    )?;
-    goes(&rt, rt.alloc(), "a\nb", 2, 0, &[(Step::Up(0), true, 0)])?;
-    goes(&rt, rt.alloc(), "a\nb", 3, 0, &[(Step::Down(1), false, 3)])?;
-    goes(
-        &rt,
-        rt.alloc(),
-        "a\nb\nc\nd",
-        3,
-        0,
-        &[(Step::Down(65535), true, 7), (Step::Up(65535), true, 1)],
-    )?;
-    goes(
-        &rt,
-        rt.alloc(),
-        "a\n",
-        1,
-        0,
-        &[(Step::Down(0), true, 2), (Step::Up(9), true, 0)],
-    )
+    const ROWS: &[Row] = &[
+        ("a\n\nbcd\nefgh", 11, 0, &[(Step::Up(2), true, 2)]),
+        (
+            "aa123\nsdf bc\nasdf",
+            14,
+            0,
+            &[
+                (Step::Up(1), true, 7),
+                (Step::Up(1), true, 1),
+                (Step::Up(1), false, 1),
+            ],
+        ),
+        (
+            "aa123\nsdf bc\nasdf",
+            14,
+            2,
+            &[
+                (Step::Up(1), true, 7),
+                (Step::Up(1), true, 0),
+                (Step::Down(1), true, 8),
+            ],
+        ),
+        (
+            "aa123\nsdf bc\nasdf",
+            1,
+            0,
+            &[(Step::Down(2), true, 14), (Step::Up(2), true, 1)],
+        ),
+        ("a\nb", 2, 0, &[(Step::Up(0), true, 0)]),
+        ("a\nb", 3, 0, &[(Step::Down(1), false, 3)]),
+        (
+            "a\nb\nc\nd",
+            3,
+            0,
+            &[(Step::Down(65535), true, 7), (Step::Up(65535), true, 1)],
+        ),
+        (
+            "a\n",
+            1,
+            0,
+            &[(Step::Down(0), true, 2), (Step::Up(9), true, 0)],
+        ),
+    ];
+    go_all(&rt, rt.alloc(), ROWS)
 }
 
 #[test]
 fn columns_are_widths(rt: HostRuntime) -> Result<(), Fail> {
-    goes(
-        &rt,
-        rt.alloc(),
-        "ab\ncd",
-        1,
-        65535,
-        &[(Step::Down(1), true, 5), (Step::Up(1), true, 0)],
-    )?;
-    goes(
-        &rt,
-        rt.alloc(),
-        "\u{6f22}a\nbcd",
-        3,
-        0,
-        &[(Step::Down(1), true, 7), (Step::Up(1), true, 4)],
-    )?;
-    goes(
-        &rt,
-        rt.alloc(),
-        "e\u{301}b\nxy\u{301}z",
-        3,
-        0,
-        &[(Step::Down(1), true, 6), (Step::Up(1), true, 3)],
-    )
+    const ROWS: &[Row] = &[
+        (
+            "ab\ncd",
+            1,
+            65535,
+            &[(Step::Down(1), true, 5), (Step::Up(1), true, 0)],
+        ),
+        (
+            "\u{6f22}a\nbcd",
+            3,
+            0,
+            &[(Step::Down(1), true, 7), (Step::Up(1), true, 4)],
+        ),
+        (
+            "e\u{301}b\nxy\u{301}z",
+            3,
+            0,
+            &[(Step::Down(1), true, 6), (Step::Up(1), true, 3)],
+        ),
+    ];
+    go_all(&rt, rt.alloc(), ROWS)
 }

@@ -1,6 +1,6 @@
 //! Which changes join in the record, with answers that were worked out by hand.
 use crate::line_buffer::line_of;
-use crate::undo::tests::{Call, Event, goes, make, stands, takes, undo};
+use crate::undo::tests::{Call, Event, Step, goes, make, stands, takes, undo};
 use crate::{Changeset, LineBuffer};
 use rl_base::{ChangeListener, Direction, Refusal};
 use std::alloc::Global;
@@ -20,35 +20,39 @@ fn make_all(
     Ok(())
 }
 
-// Makes the calls, with a new record, and undoes once. That leaves that text and cursor, and so many entries.
+// Makes the calls on a line that holds the text, with a new record, and undoes once. That leaves that text and cursor, and so many entries.
 fn records(
     rt: &impl Abort,
-    line: &mut LineBuffer,
     alloc: Global,
-    calls: &[Call],
     text: &str,
+    pos: usize,
+    calls: &[Call],
+    before: &str,
     cursor: usize,
     entries: usize,
 ) -> Result<(), Fail> {
+    let mut line = line_of(rt, alloc, text, pos)?;
     let mut record = Changeset::new(alloc);
-    make_all(rt, line, &mut record, calls)?;
-    let undone = undo(rt, line, &mut record, 1)?;
+    make_all(rt, &mut line, &mut record, calls)?;
+    let undone = undo(rt, &mut line, &mut record, 1)?;
     assert!(rt; undone, "it leaves {entries} entries");
-    stands(rt, line, &record, text, cursor, entries);
+    stands(rt, &line, &record, before, cursor, entries);
     Ok(())
 }
 
 #[test]
 fn neighbouring_changes_join(rt: HostRuntime) -> Result<(), Fail> {
-    let (space, dash) = (Call::Insert(' ', 1), Call::Insert('-', 1));
-    let (letter, other) = (Call::Insert('a', 1), Call::Insert('ß', 1));
-    let back = Call::Back(1);
+    const SPACE: Call = Call::Insert(' ', 1);
+    const DASH: Call = Call::Insert('-', 1);
+    const LETTER: Call = Call::Insert('a', 1);
+    const OTHER: Call = Call::Insert('ß', 1);
+    const BACK: Call = Call::Back(1);
     // a text, the cursor, calls, and the text, the cursor and the entries after one undo
-    let rows: [(&str, usize, &[Call], &str, usize, usize); 8] = [
-        ("", 0, &[space, letter, other], "", 0, 0),
-        ("", 0, &[letter, space, letter], "a", 1, 1),
-        ("", 0, &[letter, dash, dash], "a-", 2, 2),
-        ("Hello", 3, &[back, back], "Hello", 3, 0),
+    const ROWS: &[(&str, usize, &[Call], &str, usize, usize)] = &[
+        ("", 0, &[SPACE, LETTER, OTHER], "", 0, 0),
+        ("", 0, &[LETTER, SPACE, LETTER], "a", 1, 1),
+        ("", 0, &[LETTER, DASH, DASH], "a-", 2, 2),
+        ("Hello", 3, &[BACK, BACK], "Hello", 3, 0),
         (
             "a,b",
             0,
@@ -57,13 +61,21 @@ fn neighbouring_changes_join(rt: HostRuntime) -> Result<(), Fail> {
             2,
             1,
         ),
-        ("abc", 1, &[Call::Ahead, back, Call::Ahead], "abc", 3, 0),
-        ("a e\u{301}", 5, &[back, back, back], "a ", 2, 1),
-        ("ab", 1, &[Call::Insert('c', 1), back], "acb", 2, 1),
+        ("abc", 1, &[Call::Ahead, BACK, Call::Ahead], "abc", 3, 0),
+        ("a e\u{301}", 5, &[BACK, BACK, BACK], "a ", 2, 1),
+        ("ab", 1, &[Call::Insert('c', 1), BACK], "acb", 2, 1),
     ];
-    for (text, pos, calls, before, cursor, entries) in rows {
-        let mut line = line_of(&rt, rt.alloc(), text, pos)?;
-        records(&rt, &mut line, rt.alloc(), calls, before, cursor, entries)?;
+    for (text, pos, calls, before, cursor, entries) in ROWS {
+        records(
+            &rt,
+            rt.alloc(),
+            text,
+            *pos,
+            calls,
+            before,
+            *cursor,
+            *entries,
+        )?;
     }
     Ok(())
 }
@@ -84,112 +96,88 @@ fn is_told(
 
 #[test]
 fn characters_that_were_told_join(rt: HostRuntime) -> Result<(), Fail> {
-    let mut record = Changeset::new(rt.alloc());
-    for (idx, c, entries) in [
+    const ROWS: &[(usize, char, usize)] = &[
         (0, 'H', 1),
         (1, 'i', 1),
         (0, ' ', 2),
         (1, 'a', 2),
         (usize::MAX, 'b', 3),
         (0, 'c', 4),
-    ] {
-        is_told(&rt, &mut record, idx, c, entries)?;
+    ];
+    let mut record = Changeset::new(rt.alloc());
+    for (idx, c, entries) in ROWS {
+        is_told(&rt, &mut record, *idx, *c, *entries)?;
     }
     Ok(())
 }
 
-// A deletion that the record is told.
-fn deletion(idx: usize, text: &'static str, side: Direction) -> Call {
-    Call::Told(Event::Deletion(idx, text, side))
-}
-
 #[test]
 fn deletions_that_were_told_join(rt: HostRuntime) -> Result<(), Fail> {
-    let end = deletion(2, "l", Direction::Forward);
-    let start = deletion(1, "e", Direction::Backward);
+    const END: Call = Call::Told(Event::Deletion(2, "l", Direction::Forward));
+    const START: Call = Call::Told(Event::Deletion(1, "e", Direction::Backward));
     let mut line = line_of(&rt, rt.alloc(), "Hlo", 0)?;
-    takes(
-        &rt,
-        &mut line,
-        rt.alloc(),
-        &[
-            (end, 1, "Hlo", 0, 1, 0),
-            (start, 1, "Hlo", 0, 1, 0),
-            (Call::Undo(1), 1, "Hello", 3, 0, 0),
-        ],
-    )?;
-    let letter = deletion(0, "a", Direction::Forward);
-    let comma = deletion(0, ",", Direction::Forward);
-    let other = deletion(0, "b", Direction::Forward);
-    goes(
-        &rt,
-        rt.alloc(),
-        "",
-        &[
-            (letter, 1, "", 0, 1, 0),
-            (comma, 1, "", 0, 2, 0),
-            (other, 1, "", 0, 2, 0),
-            (Call::Undo(1), 1, ",b", 2, 1, 0),
-            (Call::Undo(1), 1, "a,b", 1, 0, 0),
-        ],
-    )
+    const TURNED: &[Step] = &[
+        (END, 1, "Hlo", 0, 1, 0),
+        (START, 1, "Hlo", 0, 1, 0),
+        (Call::Undo(1), 1, "Hello", 3, 0, 0),
+    ];
+    takes(&rt, &mut line, rt.alloc(), TURNED)?;
+    const LETTER: Call = Call::Told(Event::Deletion(0, "a", Direction::Forward));
+    const COMMA: Call = Call::Told(Event::Deletion(0, ",", Direction::Forward));
+    const OTHER: Call = Call::Told(Event::Deletion(0, "b", Direction::Forward));
+    const APART: &[Step] = &[
+        (LETTER, 1, "", 0, 1, 0),
+        (COMMA, 1, "", 0, 2, 0),
+        (OTHER, 1, "", 0, 2, 0),
+        (Call::Undo(1), 1, ",b", 2, 1, 0),
+        (Call::Undo(1), 1, "a,b", 1, 0, 0),
+    ];
+    goes(&rt, rt.alloc(), "", APART)
 }
 
 #[test]
 fn deletions_that_were_told_the_other_way_join(rt: HostRuntime) -> Result<(), Fail> {
-    let first = deletion(1, "e", Direction::Forward);
-    let second = deletion(1, "l", Direction::Backward);
+    const FIRST: Call = Call::Told(Event::Deletion(1, "e", Direction::Forward));
+    const SECOND: Call = Call::Told(Event::Deletion(1, "l", Direction::Backward));
     let mut line = line_of(&rt, rt.alloc(), "Hlo", 0)?;
-    takes(
-        &rt,
-        &mut line,
-        rt.alloc(),
-        &[
-            (first, 1, "Hlo", 0, 1, 0),
-            (second, 1, "Hlo", 0, 1, 0),
-            (Call::Undo(1), 1, "Hello", 3, 0, 0),
-        ],
-    )
+    const STEPS: &[Step] = &[
+        (FIRST, 1, "Hlo", 0, 1, 0),
+        (SECOND, 1, "Hlo", 0, 1, 0),
+        (Call::Undo(1), 1, "Hello", 3, 0, 0),
+    ];
+    takes(&rt, &mut line, rt.alloc(), STEPS)
 }
 
 #[test]
 fn replacements_join(rt: HostRuntime) -> Result<(), Fail> {
     let mut line = line_of(&rt, rt.alloc(), "Hello, world!", 0)?;
-    takes(
-        &rt,
-        &mut line,
-        rt.alloc(),
-        &[
-            (Call::Replace(1, 4, "i"), 1, "Hio, world!", 2, 1, 0),
-            (Call::Replace(2, 3, ""), 1, "Hi, world!", 2, 1, 0),
-            (Call::Undo(1), 1, "Hello, world!", 5, 0, 0),
-            (Call::Redo, 1, "Hi, world!", 2, 1, 0),
-        ],
-    )
+    const STEPS: &[Step] = &[
+        (Call::Replace(1, 4, "i"), 1, "Hio, world!", 2, 1, 0),
+        (Call::Replace(2, 3, ""), 1, "Hi, world!", 2, 1, 0),
+        (Call::Undo(1), 1, "Hello, world!", 5, 0, 0),
+        (Call::Redo, 1, "Hi, world!", 2, 1, 0),
+    ];
+    takes(&rt, &mut line, rt.alloc(), STEPS)
 }
 
 #[test]
 fn a_replacement_that_was_told_comes_and_goes(rt: HostRuntime) -> Result<(), Fail> {
-    let told = Call::Told(Event::Replacement(1, "ello", "i"));
-    let nothing = deletion(0, "", Direction::Forward);
-    let empty = Call::Told(Event::Replacement(0, "", ""));
+    const TOLD: Call = Call::Told(Event::Replacement(1, "ello", "i"));
+    const NOTHING: Call = Call::Told(Event::Deletion(0, "", Direction::Forward));
+    const EMPTY: Call = Call::Told(Event::Replacement(0, "", ""));
     let mut line = line_of(&rt, rt.alloc(), "Hi, world!", 0)?;
-    takes(
-        &rt,
-        &mut line,
-        rt.alloc(),
-        &[
-            (told, 1, "Hi, world!", 0, 1, 0),
-            (Call::Undo(1), 1, "Hello, world!", 5, 0, 0),
-            // a kill that takes nothing leaves what was undone
-            (Call::Told(Event::Kill), 1, "Hello, world!", 5, 0, 0),
-            (Call::Redo, 1, "Hi, world!", 2, 1, 0),
-            (Call::Undo(1), 1, "Hello, world!", 5, 0, 0),
-            // an empty deletion is no entry, and still drops it
-            (nothing, 1, "Hello, world!", 5, 0, 0),
-            (Call::Redo, 0, "Hello, world!", 5, 0, 0),
-            // an empty replacement is an entry
-            (empty, 1, "Hello, world!", 5, 1, 0),
-        ],
-    )
+    const STEPS: &[Step] = &[
+        (TOLD, 1, "Hi, world!", 0, 1, 0),
+        (Call::Undo(1), 1, "Hello, world!", 5, 0, 0),
+        // a kill that takes nothing leaves what was undone
+        (Call::Told(Event::Kill), 1, "Hello, world!", 5, 0, 0),
+        (Call::Redo, 1, "Hi, world!", 2, 1, 0),
+        (Call::Undo(1), 1, "Hello, world!", 5, 0, 0),
+        // an empty deletion is no entry, and still drops it
+        (NOTHING, 1, "Hello, world!", 5, 0, 0),
+        (Call::Redo, 0, "Hello, world!", 5, 0, 0),
+        // an empty replacement is an entry
+        (EMPTY, 1, "Hello, world!", 5, 1, 0),
+    ];
+    takes(&rt, &mut line, rt.alloc(), STEPS)
 }

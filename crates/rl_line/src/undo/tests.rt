@@ -175,6 +175,11 @@ pub(super) fn make(
 // A call, its answer, and what it leaves: the text, the cursor, the entries, and the open groups.
 pub(super) type Step = (Call, usize, &'static str, usize, usize, usize);
 
+// It is so, of a step.
+fn is_step(rt: &impl Abort, is_so: bool, what: &str, i: usize) {
+    assert!(rt; is_so, "{what} after step {i}");
+}
+
 // Takes the steps on the line, with a new record.
 pub(super) fn takes(
     rt: &impl Abort,
@@ -185,9 +190,9 @@ pub(super) fn takes(
     let mut record = Changeset::new(alloc);
     for (i, (call, answer, text, cursor, entries, open)) in steps.iter().enumerate() {
         let answered = make(rt, line, &mut record, *call)?;
-        assert_eq!(rt; answered, *answer, "the answer of step {i}");
+        is_step(rt, answered == *answer, "the answer", i);
         stands(rt, line, &record, text, *cursor, *entries);
-        assert_eq!(rt; record.level(), *open, "the open groups after step {i}");
+        is_step(rt, record.level() == *open, "the open groups", i);
     }
     Ok(())
 }
@@ -201,162 +206,130 @@ pub(super) fn goes(rt: &impl Abort, alloc: Global, text: &str, steps: &[Step]) -
 
 #[test]
 fn a_group_comes_and_goes_as_one(rt: HostRuntime) -> Result<(), Fail> {
-    goes(
-        &rt,
-        rt.alloc(),
-        "",
-        &[
-            (Call::Insert('a', 1), 1, "a", 1, 1, 0),
-            (Call::Begin, 1, "a", 1, 2, 1),
-            (Call::Insert('b', 1), 1, "ab", 2, 3, 1),
-            (Call::Insert('c', 1), 1, "abc", 3, 3, 1),
-            (Call::End, 1, "abc", 3, 4, 0),
-            (Call::Undo(1), 1, "a", 1, 1, 0),
-            (Call::Redo, 1, "abc", 3, 4, 0),
-            // nothing joins what a closed group holds
-            (Call::Insert('d', 1), 1, "abcd", 4, 5, 0),
-        ],
-    )
+    const STEPS: &[Step] = &[
+        (Call::Insert('a', 1), 1, "a", 1, 1, 0),
+        (Call::Begin, 1, "a", 1, 2, 1),
+        (Call::Insert('b', 1), 1, "ab", 2, 3, 1),
+        (Call::Insert('c', 1), 1, "abc", 3, 3, 1),
+        (Call::End, 1, "abc", 3, 4, 0),
+        (Call::Undo(1), 1, "a", 1, 1, 0),
+        (Call::Redo, 1, "abc", 3, 4, 0),
+        // nothing joins what a closed group holds
+        (Call::Insert('d', 1), 1, "abcd", 4, 5, 0),
+    ];
+    goes(&rt, rt.alloc(), "", STEPS)
 }
 
 #[test]
 fn an_undo_goes_past_an_open_begin(rt: HostRuntime) -> Result<(), Fail> {
-    goes(
-        &rt,
-        rt.alloc(),
-        "",
-        &[
-            (Call::Insert('a', 1), 1, "a", 1, 1, 0),
-            (Call::Begin, 1, "a", 1, 2, 1),
-            (Call::Insert('b', 1), 1, "ab", 2, 3, 1),
-            (Call::Undo(2), 1, "a", 1, 1, 0),
-            (Call::End, 0, "a", 1, 1, 0),
-        ],
-    )?;
+    const OPEN: &[Step] = &[
+        (Call::Insert('a', 1), 1, "a", 1, 1, 0),
+        (Call::Begin, 1, "a", 1, 2, 1),
+        (Call::Insert('b', 1), 1, "ab", 2, 3, 1),
+        (Call::Undo(2), 1, "a", 1, 1, 0),
+        (Call::End, 0, "a", 1, 1, 0),
+    ];
+    goes(&rt, rt.alloc(), "", OPEN)?;
     // an undo takes the open begin, and then the closed group before it; the redo of an open begin takes the rest
-    goes(
-        &rt,
-        rt.alloc(),
-        "",
-        &[
-            (Call::Begin, 0, "", 0, 1, 1),
-            (Call::Insert('a', 1), 1, "a", 1, 2, 1),
-            (Call::Insert('-', 1), 1, "a-", 2, 3, 1),
-            (Call::End, 1, "a-", 2, 4, 0),
-            (Call::Begin, 4, "a-", 2, 5, 1),
-            (Call::Insert('b', 1), 1, "a-b", 3, 6, 1),
-            (Call::Undo(2), 1, "a-", 2, 4, 0),
-            (Call::Redo, 1, "a-b", 3, 6, 1),
-            (Call::Undo(3), 1, "", 0, 0, 0),
-            (Call::Redo, 1, "a-", 2, 4, 0),
-            (Call::Redo, 1, "a-b", 3, 6, 1),
-            (Call::Redo, 0, "a-b", 3, 6, 1),
-        ],
-    )
+    const CLOSED: &[Step] = &[
+        (Call::Begin, 0, "", 0, 1, 1),
+        (Call::Insert('a', 1), 1, "a", 1, 2, 1),
+        (Call::Insert('-', 1), 1, "a-", 2, 3, 1),
+        (Call::End, 1, "a-", 2, 4, 0),
+        (Call::Begin, 4, "a-", 2, 5, 1),
+        (Call::Insert('b', 1), 1, "a-b", 3, 6, 1),
+        (Call::Undo(2), 1, "a-", 2, 4, 0),
+        (Call::Redo, 1, "a-b", 3, 6, 1),
+        (Call::Undo(3), 1, "", 0, 0, 0),
+        (Call::Redo, 1, "a-", 2, 4, 0),
+        (Call::Redo, 1, "a-b", 3, 6, 1),
+        (Call::Redo, 0, "a-b", 3, 6, 1),
+    ];
+    goes(&rt, rt.alloc(), "", CLOSED)
 }
 
 #[test]
 fn groups_nest(rt: HostRuntime) -> Result<(), Fail> {
-    goes(
-        &rt,
-        rt.alloc(),
-        "",
-        &[
-            (Call::Begin, 0, "", 0, 1, 1),
-            (Call::Yank("a"), 1, "a", 1, 2, 1),
-            (Call::Begin, 2, "a", 1, 3, 2),
-            (Call::Yank("b"), 1, "ab", 2, 4, 2),
-            (Call::End, 1, "ab", 2, 6, 0),
-            (Call::Undo(1), 1, "", 0, 0, 0),
-            (Call::Redo, 1, "ab", 2, 6, 0),
-            (Call::Replays(5), 1, "ab", 2, 6, 0),
-            // the outer group is open again
-            (Call::Truncate(5), 1, "ab", 2, 5, 1),
-            (Call::Undo(1), 1, "a", 1, 2, 1),
-            (Call::Undo(1), 1, "", 0, 1, 1),
-            (Call::Undo(1), 0, "", 0, 0, 0),
-        ],
-    )?;
+    const NESTED: &[Step] = &[
+        (Call::Begin, 0, "", 0, 1, 1),
+        (Call::Yank("a"), 1, "a", 1, 2, 1),
+        (Call::Begin, 2, "a", 1, 3, 2),
+        (Call::Yank("b"), 1, "ab", 2, 4, 2),
+        (Call::End, 1, "ab", 2, 6, 0),
+        (Call::Undo(1), 1, "", 0, 0, 0),
+        (Call::Redo, 1, "ab", 2, 6, 0),
+        (Call::Replays(5), 1, "ab", 2, 6, 0),
+        // the outer group is open again
+        (Call::Truncate(5), 1, "ab", 2, 5, 1),
+        (Call::Undo(1), 1, "a", 1, 2, 1),
+        (Call::Undo(1), 1, "", 0, 1, 1),
+        (Call::Undo(1), 0, "", 0, 0, 0),
+    ];
+    goes(&rt, rt.alloc(), "", NESTED)?;
     // of several begins the one with nothing behind it is taken off, and the others are closed
-    goes(
-        &rt,
-        rt.alloc(),
-        "",
-        &[
-            (Call::Begin, 0, "", 0, 1, 1),
-            (Call::Begin, 1, "", 0, 2, 2),
-            (Call::Yank("a"), 1, "a", 1, 3, 2),
-            (Call::Begin, 3, "a", 1, 4, 3),
-            (Call::End, 1, "a", 1, 5, 0),
-            (Call::Undo(1), 1, "", 0, 0, 0),
-            (Call::Begin, 0, "", 0, 1, 1),
-            (Call::Begin, 1, "", 0, 2, 2),
-            (Call::End, 0, "", 0, 0, 0),
-        ],
-    )
+    const BEGINS: &[Step] = &[
+        (Call::Begin, 0, "", 0, 1, 1),
+        (Call::Begin, 1, "", 0, 2, 2),
+        (Call::Yank("a"), 1, "a", 1, 3, 2),
+        (Call::Begin, 3, "a", 1, 4, 3),
+        (Call::End, 1, "a", 1, 5, 0),
+        (Call::Undo(1), 1, "", 0, 0, 0),
+        (Call::Begin, 0, "", 0, 1, 1),
+        (Call::Begin, 1, "", 0, 2, 2),
+        (Call::End, 0, "", 0, 0, 0),
+    ];
+    goes(&rt, rt.alloc(), "", BEGINS)
 }
 
 #[test]
 fn every_call_keeps_count_of_the_open_groups(rt: HostRuntime) -> Result<(), Fail> {
     // two nested groups: both are open again where their ends are cut off, and are cut off themselves then
-    goes(
-        &rt,
-        rt.alloc(),
-        "",
-        &[
-            (Call::Begin, 0, "", 0, 1, 1),
-            (Call::Yank("a"), 1, "a", 1, 2, 1),
-            (Call::Begin, 2, "a", 1, 3, 2),
-            (Call::Yank("b"), 1, "ab", 2, 4, 2),
-            (Call::End, 1, "ab", 2, 6, 0),
-            (Call::Truncate(4), 1, "ab", 2, 4, 2),
-            (Call::End, 1, "ab", 2, 6, 0),
-            (Call::Begin, 6, "ab", 2, 7, 1),
-            (Call::Truncate(9), 1, "ab", 2, 7, 1),
-            (Call::Truncate(5), 1, "ab", 2, 5, 1),
-            (Call::Truncate(3), 1, "ab", 2, 3, 2),
-            (Call::Truncate(1), 1, "ab", 2, 1, 1),
-            (Call::End, 0, "ab", 2, 0, 0),
-        ],
-    )?;
+    const NESTED: &[Step] = &[
+        (Call::Begin, 0, "", 0, 1, 1),
+        (Call::Yank("a"), 1, "a", 1, 2, 1),
+        (Call::Begin, 2, "a", 1, 3, 2),
+        (Call::Yank("b"), 1, "ab", 2, 4, 2),
+        (Call::End, 1, "ab", 2, 6, 0),
+        (Call::Truncate(4), 1, "ab", 2, 4, 2),
+        (Call::End, 1, "ab", 2, 6, 0),
+        (Call::Begin, 6, "ab", 2, 7, 1),
+        (Call::Truncate(9), 1, "ab", 2, 7, 1),
+        (Call::Truncate(5), 1, "ab", 2, 5, 1),
+        (Call::Truncate(3), 1, "ab", 2, 3, 2),
+        (Call::Truncate(1), 1, "ab", 2, 1, 1),
+        (Call::End, 0, "ab", 2, 0, 0),
+    ];
+    goes(&rt, rt.alloc(), "", NESTED)?;
     // begins that are undone behind an open one, and redone
-    goes(
-        &rt,
-        rt.alloc(),
-        "",
-        &[
-            (Call::Begin, 0, "", 0, 1, 1),
-            (Call::Yank("a"), 1, "a", 1, 2, 1),
-            (Call::Begin, 2, "a", 1, 3, 2),
-            (Call::Begin, 3, "a", 1, 4, 3),
-            (Call::Yank("b"), 1, "ab", 2, 5, 3),
-            (Call::Undo(2), 1, "a", 1, 3, 2),
-            (Call::Undo(1), 0, "a", 1, 2, 1),
-            (Call::Redo, 1, "ab", 2, 5, 3),
-            (Call::End, 1, "ab", 2, 8, 0),
-            (Call::Undo(1), 1, "", 0, 0, 0),
-            (Call::Redo, 1, "ab", 2, 8, 0),
-        ],
-    )
+    const BEGINS: &[Step] = &[
+        (Call::Begin, 0, "", 0, 1, 1),
+        (Call::Yank("a"), 1, "a", 1, 2, 1),
+        (Call::Begin, 2, "a", 1, 3, 2),
+        (Call::Begin, 3, "a", 1, 4, 3),
+        (Call::Yank("b"), 1, "ab", 2, 5, 3),
+        (Call::Undo(2), 1, "a", 1, 3, 2),
+        (Call::Undo(1), 0, "a", 1, 2, 1),
+        (Call::Redo, 1, "ab", 2, 5, 3),
+        (Call::End, 1, "ab", 2, 8, 0),
+        (Call::Undo(1), 1, "", 0, 0, 0),
+        (Call::Redo, 1, "ab", 2, 8, 0),
+    ];
+    goes(&rt, rt.alloc(), "", BEGINS)
 }
 
 #[test]
 fn a_truncated_record_forgets_the_open_group(rt: HostRuntime) -> Result<(), Fail> {
-    goes(
-        &rt,
-        rt.alloc(),
-        "a",
-        &[
-            (Call::Begin, 0, "a", 1, 1, 1),
-            (Call::Insert('b', 1), 1, "ab", 2, 2, 1),
-            (Call::Replays(0), 0, "ab", 2, 2, 1),
-            (Call::Back(1), 1, "a", 1, 3, 1),
-            (Call::Replays(0), 1, "a", 1, 3, 1),
-            (Call::Truncate(0), 1, "a", 1, 0, 0),
-            (Call::End, 0, "a", 1, 0, 0),
-            (Call::Undo(1), 0, "a", 1, 0, 0),
-        ],
-    )
+    const STEPS: &[Step] = &[
+        (Call::Begin, 0, "a", 1, 1, 1),
+        (Call::Insert('b', 1), 1, "ab", 2, 2, 1),
+        (Call::Replays(0), 0, "ab", 2, 2, 1),
+        (Call::Back(1), 1, "a", 1, 3, 1),
+        (Call::Replays(0), 1, "a", 1, 3, 1),
+        (Call::Truncate(0), 1, "a", 1, 0, 0),
+        (Call::End, 0, "a", 1, 0, 0),
+        (Call::Undo(1), 0, "a", 1, 0, 0),
+    ];
+    goes(&rt, rt.alloc(), "a", STEPS)
 }
 
 // Makes two changes, and undoes the second.
@@ -388,7 +361,7 @@ fn is_kept(rt: &impl Abort, alloc: Global, what: &str, call: Call, kept: bool) -
 
 #[test]
 fn other_calls_drop_what_was_undone(rt: HostRuntime) -> Result<(), Fail> {
-    for (what, call, kept) in [
+    const ROWS: &[(&str, Call, bool)] = &[
         ("a text of length 0", Call::Insert('b', 0), false),
         ("a begin", Call::Begin, false),
         ("an end of nothing", Call::End, false),
@@ -397,8 +370,9 @@ fn other_calls_drop_what_was_undone(rt: HostRuntime) -> Result<(), Fail> {
         ("a deletion of nothing, not told", Call::Back(0), true),
         ("the start and stop of a kill", Call::KillFirstPrint, true),
         ("a question", Call::Replays(0), true),
-    ] {
-        is_kept(&rt, rt.alloc(), what, call, kept)?;
+    ];
+    for (what, call, kept) in ROWS {
+        is_kept(&rt, rt.alloc(), what, *call, *kept)?;
     }
     Ok(())
 }
@@ -433,116 +407,97 @@ fn copies(
     let mut record = Changeset::new(alloc);
     for (i, (call, text)) in steps.iter().enumerate() {
         let same = copies_after(rt, &mut line, &mut record, *call, *text)?;
-        assert!(rt; same, "the copy after step {i}");
+        is_step(rt, same, "the copy", i);
     }
     Ok(())
 }
 
 #[test]
 fn the_last_insert_is_copied(rt: HostRuntime) -> Result<(), Fail> {
-    copies(
-        &rt,
-        rt.alloc(),
-        &[
-            // an empty record
-            (Call::CanUndo, None),
-            (Call::Begin, None),
-            (
-                Call::Told(Event::Deletion(0, "Hello", Direction::Forward)),
-                None,
-            ),
-            // ends are passed over
-            (Call::Told(Event::Text(0, "Bye")), Some("Bye")),
-            (Call::End, Some("Bye")),
-            // characters that join
-            (Call::Told(Event::Char(3, ' ')), Some(" ")),
-            (Call::Told(Event::Char(4, 'a')), Some(" a")),
-            // a replacement by nothing
-            (Call::Told(Event::Replacement(3, " a", "")), Some("")),
-            (Call::Begin, None),
-            (Call::Begin, None),
-            (Call::Told(Event::Replacement(3, "", "b")), Some("b")),
-            (Call::End, Some("b")),
-        ],
-    )
+    const STEPS: &[(Call, Option<&str>)] = &[
+        // an empty record
+        (Call::CanUndo, None),
+        (Call::Begin, None),
+        (
+            Call::Told(Event::Deletion(0, "Hello", Direction::Forward)),
+            None,
+        ),
+        // ends are passed over
+        (Call::Told(Event::Text(0, "Bye")), Some("Bye")),
+        (Call::End, Some("Bye")),
+        // characters that join
+        (Call::Told(Event::Char(3, ' ')), Some(" ")),
+        (Call::Told(Event::Char(4, 'a')), Some(" a")),
+        // a replacement by nothing
+        (Call::Told(Event::Replacement(3, " a", "")), Some("")),
+        (Call::Begin, None),
+        (Call::Begin, None),
+        (Call::Told(Event::Replacement(3, "", "b")), Some("b")),
+        (Call::End, Some("b")),
+    ];
+    copies(&rt, rt.alloc(), STEPS)
 }
 
 #[test]
 fn a_group_without_a_change_has_no_end(rt: HostRuntime) -> Result<(), Fail> {
-    goes(
-        &rt,
-        rt.alloc(),
-        "",
-        &[
-            (Call::Begin, 0, "", 0, 1, 1),
-            (Call::End, 0, "", 0, 0, 0),
-            (Call::Begin, 0, "", 0, 1, 1),
-            (Call::Told(Event::Text(0, "Hi")), 1, "", 0, 2, 1),
-            (Call::End, 1, "", 0, 3, 0),
-        ],
-    )
+    const STEPS: &[Step] = &[
+        (Call::Begin, 0, "", 0, 1, 1),
+        (Call::End, 0, "", 0, 0, 0),
+        (Call::Begin, 0, "", 0, 1, 1),
+        (Call::Told(Event::Text(0, "Hi")), 1, "", 0, 2, 1),
+        (Call::End, 1, "", 0, 3, 0),
+    ];
+    goes(&rt, rt.alloc(), "", STEPS)
 }
 
 #[test]
 fn changes_behind_the_record_are_seen(rt: HostRuntime) -> Result<(), Fail> {
-    let foreign = Call::Told(Event::Deletion(5, "x", Direction::Forward));
-    goes(
-        &rt,
-        rt.alloc(),
-        "ab",
-        &[
-            (foreign, 1, "ab", 2, 1, 0),
-            (Call::CanUndo, 0, "ab", 2, 1, 0),
-            (Call::Replays(1), 0, "ab", 2, 1, 0),
-            (Call::Truncate(0), 1, "ab", 2, 0, 0),
-            (Call::Back(1), 1, "a", 1, 1, 0),
-            (Call::Undo(1), 1, "ab", 2, 0, 0),
-            (Call::UnheardBack(1), 1, "a", 1, 0, 0),
-            (Call::CanRedo, 0, "a", 1, 0, 0),
-            (Call::UnheardInsert('b', 1), 1, "ab", 2, 0, 0),
-            (Call::Redo, 1, "a", 1, 1, 0),
-        ],
-    )
+    const FOREIGN: Call = Call::Told(Event::Deletion(5, "x", Direction::Forward));
+    const STEPS: &[Step] = &[
+        (FOREIGN, 1, "ab", 2, 1, 0),
+        (Call::CanUndo, 0, "ab", 2, 1, 0),
+        (Call::Replays(1), 0, "ab", 2, 1, 0),
+        (Call::Truncate(0), 1, "ab", 2, 0, 0),
+        (Call::Back(1), 1, "a", 1, 1, 0),
+        (Call::Undo(1), 1, "ab", 2, 0, 0),
+        (Call::UnheardBack(1), 1, "a", 1, 0, 0),
+        (Call::CanRedo, 0, "a", 1, 0, 0),
+        (Call::UnheardInsert('b', 1), 1, "ab", 2, 0, 0),
+        (Call::Redo, 1, "a", 1, 1, 0),
+    ];
+    goes(&rt, rt.alloc(), "ab", STEPS)
 }
 
 #[test]
 fn undo_counts_changes(rt: HostRuntime) -> Result<(), Fail> {
-    goes(
-        &rt,
-        rt.alloc(),
-        "",
-        &[
-            (Call::Insert('a', 1), 1, "a", 1, 1, 0),
-            (Call::Insert('b', 2), 1, "abb", 3, 2, 0),
-            (Call::Back(1), 1, "ab", 2, 3, 0),
-            (Call::Undo(0), 1, "abb", 3, 2, 0),
-            (Call::Undo(1), 1, "a", 1, 1, 0),
-            (Call::Undo(65535), 1, "", 0, 0, 0),
-            (Call::Undo(1), 0, "", 0, 0, 0),
-            (Call::Redo, 1, "a", 1, 1, 0),
-            (Call::Redo, 1, "abb", 3, 2, 0),
-            (Call::Redo, 1, "ab", 2, 3, 0),
-            (Call::Redo, 0, "ab", 2, 3, 0),
-            (Call::Undo(65535), 1, "", 0, 0, 0),
-        ],
-    )
+    const STEPS: &[Step] = &[
+        (Call::Insert('a', 1), 1, "a", 1, 1, 0),
+        (Call::Insert('b', 2), 1, "abb", 3, 2, 0),
+        (Call::Back(1), 1, "ab", 2, 3, 0),
+        (Call::Undo(0), 1, "abb", 3, 2, 0),
+        (Call::Undo(1), 1, "a", 1, 1, 0),
+        (Call::Undo(65535), 1, "", 0, 0, 0),
+        (Call::Undo(1), 0, "", 0, 0, 0),
+        (Call::Redo, 1, "a", 1, 1, 0),
+        (Call::Redo, 1, "abb", 3, 2, 0),
+        (Call::Redo, 1, "ab", 2, 3, 0),
+        (Call::Redo, 0, "ab", 2, 3, 0),
+        (Call::Undo(65535), 1, "", 0, 0, 0),
+    ];
+    goes(&rt, rt.alloc(), "", STEPS)
 }
 
 #[test]
 fn nothing_undone_leaves_the_cursor(rt: HostRuntime) -> Result<(), Fail> {
     let mut line = line_of(&rt, rt.alloc(), "ab", 1)?;
-    takes(
-        &rt,
-        &mut line,
-        rt.alloc(),
-        &[
-            (Call::Undo(1), 0, "ab", 1, 0, 0),
-            (Call::Redo, 0, "ab", 1, 0, 0),
-            (Call::Begin, 0, "ab", 1, 1, 1),
-            (Call::Undo(65535), 0, "ab", 1, 0, 0),
-            (Call::Redo, 0, "ab", 1, 1, 1),
-        ],
-    )
+    const STEPS: &[Step] = &[
+        (Call::Undo(1), 0, "ab", 1, 0, 0),
+        (Call::Redo, 0, "ab", 1, 0, 0),
+        (Call::Begin, 0, "ab", 1, 1, 1),
+        (Call::Undo(65535), 0, "ab", 1, 0, 0),
+        (Call::Redo, 0, "ab", 1, 1, 1),
+    ];
+    takes(&rt, &mut line, rt.alloc(), STEPS)
 }
 
 #[test]
@@ -551,17 +506,13 @@ fn the_limit_stays_raised(rt: HostRuntime) -> Result<(), Fail> {
     line.insert_str(0, "abc", &mut NoListener)?;
     let moved = line.move_buffer_end();
     assert!(rt; moved, "the cursor stood before the end");
-    takes(
-        &rt,
-        &mut line,
-        rt.alloc(),
-        &[
-            (Call::Back(2), 1, "a", 1, 1, 0),
-            (Call::Insert('d', 2), 1, "add", 3, 2, 0),
-            (Call::PutText, 1, "addzz", 3, 3, 0),
-            (Call::Undo(65535), 1, "abc", 3, 0, 0),
-            (Call::Limit, 5, "abc", 3, 0, 0),
-            (Call::Insert('e', 1), 1, "abce", 4, 1, 0),
-        ],
-    )
+    const STEPS: &[Step] = &[
+        (Call::Back(2), 1, "a", 1, 1, 0),
+        (Call::Insert('d', 2), 1, "add", 3, 2, 0),
+        (Call::PutText, 1, "addzz", 3, 3, 0),
+        (Call::Undo(65535), 1, "abc", 3, 0, 0),
+        (Call::Limit, 5, "abc", 3, 0, 0),
+        (Call::Insert('e', 1), 1, "abce", 4, 1, 0),
+    ];
+    takes(&rt, &mut line, rt.alloc(), STEPS)
 }

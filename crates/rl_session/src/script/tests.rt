@@ -29,9 +29,20 @@ fn prints(
     Ok(())
 }
 
+// What the script shows, the script, and what it prints.
+type Row = (&'static str, &'static [u8], &'static [u8]);
+
+// Each script of the table prints what it should.
+fn print_all(rt: &impl Abort, alloc: Global, rows: &[Row]) -> Result<(), Fail> {
+    for (what, script, wanted) in rows {
+        prints(rt, alloc, what, script, wanted)?;
+    }
+    Ok(())
+}
+
 #[test]
 fn scripts_print(rt: HostRuntime) -> Result<(), Fail> {
-    let rows: [(&str, &[u8], &[u8]); 9] = [
+    const ROWS: &[Row] = &[
         (
             "an insertion inside the text is undone",
             b"text ab\npos 1\nins 1 c\nundo 1\n",
@@ -74,15 +85,12 @@ fn scripts_print(rt: HostRuntime) -> Result<(), Fail> {
             b"ok 3 a b\nok 0 a b\ntext:a\\s 0 b\nnone 0 b\ntrue 1 b\ntrue 0 b\nfalse 0 b\ntrue 2 a b\n",
         ),
     ];
-    for (what, script, wanted) in rows {
-        prints(&rt, rt.alloc(), what, script, wanted)?;
-    }
-    Ok(())
+    print_all(&rt, rt.alloc(), ROWS)
 }
 
 #[test]
 fn kills_come_back(rt: HostRuntime) -> Result<(), Fail> {
-    let rows: [(&str, &[u8], &[u8]); 11] = [
+    const ROWS: &[Row] = &[
         (
             "kills to both sides are one text, and one yank gives it back",
             b"text one two three\npos 4\nkill fword 1 after emacs\nkill home\nkill eol\nyank 1\n",
@@ -139,15 +147,12 @@ fn kills_come_back(rt: HostRuntime) -> Result<(), Fail> {
             b"ok 2 ab\ntrue 0 \nok 2 cd\nnone 2 cd\nok 0 cd\ntrue 0 \ntrue 2 cd\n",
         ),
     ];
-    for (what, script, wanted) in rows {
-        prints(&rt, rt.alloc(), what, script, wanted)?;
-    }
-    Ok(())
+    print_all(&rt, rt.alloc(), ROWS)
 }
 
 #[test]
 fn settings_are_for_the_next_text(rt: HostRuntime) -> Result<(), Fail> {
-    let rows: [(&str, &[u8], &[u8]); 7] = [
+    const ROWS: &[Row] = &[
         (
             "a setting prints the present text",
             b"limit 5\n",
@@ -184,15 +189,12 @@ fn settings_are_for_the_next_text(rt: HostRuntime) -> Result<(), Fail> {
             b"ok 0 \nok 15 \xf0\x9f\x91\x8b\xf0\x9f\x8f\xbf\\nabcdef\nok 8 \xf0\x9f\x91\x8b\xf0\x9f\x8f\xbf\\nabcdef\nok 8 \xf0\x9f\x91\x8b\xf0\x9f\x8f\xbf\\nabcdef\ntrue 13 \xf0\x9f\x91\x8b\xf0\x9f\x8f\xbf\\nabcdef\n",
         ),
     ];
-    for (what, script, wanted) in rows {
-        prints(&rt, rt.alloc(), what, script, wanted)?;
-    }
-    Ok(())
+    print_all(&rt, rt.alloc(), ROWS)
 }
 
 #[test]
 fn movements_move(rt: HostRuntime) -> Result<(), Fail> {
-    let rows: [(&str, &[u8], &[u8]); 6] = [
+    const ROWS: &[Row] = &[
         (
             "to the start and the end of the line, and of the text",
             b"text ba\\nsdf bc\\nasdf\npos 6\nmove home\nmove home\nmove eol\nmove eol\nmove bob\nmove bob\nmove eob\nmove eob\n",
@@ -224,15 +226,12 @@ fn movements_move(rt: HostRuntime) -> Result<(), Fail> {
             b"ok 3 a\\tb\nfalse 3 a\\tb\nfalse 3 a\\tb\nfalse 3 a\\tb\n",
         ),
     ];
-    for (what, script, wanted) in rows {
-        prints(&rt, rt.alloc(), what, script, wanted)?;
-    }
-    Ok(())
+    print_all(&rt, rt.alloc(), ROWS)
 }
 
 #[test]
 fn groups_are_undone_and_done_again(rt: HostRuntime) -> Result<(), Fail> {
-    let rows: [(&str, &[u8], &[u8]); 6] = [
+    const ROWS: &[Row] = &[
         (
             "a group is undone whole, and done again",
             b"text\nins 1 a\nbegin\nins 1 b\nins 1 c\nend\nundo 1\nredo\n",
@@ -264,15 +263,12 @@ fn groups_are_undone_and_done_again(rt: HostRuntime) -> Result<(), Fail> {
             b"ok 0 \ntrue 1 a\ntrue 0 \nnone 0 \nfalse 0 \nfalse 0 \nnone 0 \nfalse 0 \ntrue 1 a\n",
         ),
     ];
-    for (what, script, wanted) in rows {
-        prints(&rt, rt.alloc(), what, script, wanted)?;
-    }
-    Ok(())
+    print_all(&rt, rt.alloc(), ROWS)
 }
 
 #[test]
 fn texts_and_places_are_commanded(rt: HostRuntime) -> Result<(), Fail> {
-    let rows: [(&str, &[u8], &[u8]); 7] = [
+    const ROWS: &[Row] = &[
         (
             "what is copied is handed out as one word, and a range has its ends in order within the text",
             b"text a\\tb\ncopy line\nrange 2 1\nrange 0 4\nmove line\nrep 0 1\ncopy eob\ncase UP\n\ntext a b\ncopy buf\n",
@@ -309,15 +305,12 @@ fn texts_and_places_are_commanded(rt: HostRuntime) -> Result<(), Fail> {
             b"ok 0 \nok 3 abc\ntrue 1 a\ntrue 3 add\nfalse 3 zzadd\ntrue 3 abc\ntrue 4 abce\n",
         ),
     ];
-    for (what, script, wanted) in rows {
-        prints(&rt, rt.alloc(), what, script, wanted)?;
-    }
-    Ok(())
+    print_all(&rt, rt.alloc(), ROWS)
 }
 
 #[test]
 fn every_word_does_something(rt: HostRuntime) -> Result<(), Fail> {
-    let rows: [(&str, &[u8], &[u8]); 2] = [
+    const ROWS: &[Row] = &[
         (
             "each word once",
             b"text ab cd\nins 1 e\nback 1\ntrunc 0\nbegin\npos 0\npaste 1 x y\nend\nundo 1\nredo\nprevword 1 emacs\nnextword 1 after emacs\ncase up\nto 1 F C\nmove bob\nupdate 7 one two\n",
@@ -329,10 +322,7 @@ fn every_word_does_something(rt: HostRuntime) -> Result<(), Fail> {
             b"ok 7 one two\ntrue 7 two one\ntrue 7 two oen\ntrue 4 two \ntrue 7 two oen\ntrue 7 two oen\ntext:oen 7 two oen\nfalse 7 ab\\ntwo oen\ntrue 11   ab\\n  two oen\ntrue 10   ab\\n two oen\nok 4 cd\\ne\\n two oen\nok 5 cd\\ne\\ntwo oen\ntext:t 5 cd\\ne\\nwo oen\nok 3 cd\\ne\\nwo oen\ntrue 3 cd\\n\\nwo oen\ntrue 3 cd\\n\ntrue 2 cd\ntrue 0 \n",
         ),
     ];
-    for (what, script, wanted) in rows {
-        prints(&rt, rt.alloc(), what, script, wanted)?;
-    }
-    Ok(())
+    print_all(&rt, rt.alloc(), ROWS)
 }
 
 // The middle between the two.
@@ -366,7 +356,7 @@ fn prints_bad(rt: &impl Abort, alloc: Global, what: &str, lines: &[u8]) -> Resul
 
 #[test]
 fn malformed_lines_print_bad(rt: HostRuntime) -> Result<(), Fail> {
-    let rows: [(&str, &[u8]); 15] = [
+    const ROWS: &[(&str, &[u8])] = &[
         ("an empty line", b""),
         (
             "spaces too many or in the wrong place",
@@ -422,7 +412,7 @@ fn malformed_lines_print_bad(rt: HostRuntime) -> Result<(), Fail> {
             b"update 18446744073709551616 a\ncase title\nmode wide",
         ),
     ];
-    for (what, lines) in rows {
+    for (what, lines) in ROWS {
         prints_bad(&rt, rt.alloc(), what, lines)?;
     }
     Ok(())
@@ -448,6 +438,7 @@ impl Write for Broken {
     }
 }
 
+// A comparison of texts proves faster where it is handed on than within an assert.
 fn is_so(rt: &impl Abort, is_so: bool, what: &str) {
     assert!(rt; is_so, "{what}");
 }

@@ -5,6 +5,22 @@ use std::alloc::Global;
 use std::process::Abort;
 use std::test::Fail;
 
+// A comparison proves faster where it is handed on than within an assert.
+fn is_so(rt: &impl Abort, is_so: bool, what: &str) {
+    assert!(rt; is_so, "{what}");
+}
+
+// The record has so many entries and open groups.
+fn records(rt: &impl Abort, session: &Session, entries: usize, groups: usize) {
+    is_so(rt, session.record().len() == entries, "the entries");
+    is_so(rt, session.record().level() == groups, "the open groups");
+}
+
+// The ring's last text was yanked, of that size, or it was not.
+fn was_yanked(rt: &impl Abort, session: &Session, size: Option<usize>, what: &str) {
+    is_so(rt, session.ring().yank_size() == size, what);
+}
+
 // The session runs the commands with these replies, and then has that text and cursor.
 fn runs(
     rt: &impl Abort,
@@ -16,28 +32,26 @@ fn runs(
 ) -> Result<(), Fail> {
     let replies = session.run(commands)?;
     assert_eq!(rt; replies.as_slice(), wanted, "one reply for each command");
-    assert_eq!(rt; session.line().as_str(), text, "the text at the end");
-    assert_eq!(rt; session.line().pos(), cursor, "the cursor at the end");
+    is_so(rt, session.line().as_str() == text, "the text at the end");
+    is_so(rt, session.line().pos() == cursor, "the cursor at the end");
     Ok(())
 }
 
 #[test]
 fn deletions_side_by_side_are_one_entry(rt: HostRuntime) -> Result<(), Fail> {
-    let mut session = Session::new(rt.alloc(), "Hello", 4, 9, 60, GraphemeClusterMode::Unicode)?;
     let commands = [
         Command::Kill(Movement::BackwardChar(1)),
         Command::Kill(Movement::BackwardChar(1)),
     ];
     let wanted = [Reply::Answer(true), Reply::Answer(true)];
+    let mut session = Session::new(rt.alloc(), "Hello", 4, 9, 60, GraphemeClusterMode::Unicode)?;
     runs(&rt, &mut session, &commands, &wanted, "Heo", 2)?;
-    let entries = session.record().len();
-    assert_eq!(rt; entries, 1, "the entries");
+    records(&rt, &session, 1, 0);
     Ok(())
 }
 
 #[test]
 fn the_ring_knows_what_was_yanked(rt: HostRuntime) -> Result<(), Fail> {
-    let mut session = Session::new(rt.alloc(), "Heo", 2, 9, 60, GraphemeClusterMode::Unicode)?;
     let commands = [
         Command::Kill(Movement::BeginningOfLine),
         Command::Kill(Movement::EndOfLine),
@@ -48,13 +62,21 @@ fn the_ring_knows_what_was_yanked(rt: HostRuntime) -> Result<(), Fail> {
         Reply::Answer(true),
         Reply::Inserted(Some(true)),
     ];
+    let mut session = Session::new(rt.alloc(), "Heo", 2, 9, 60, GraphemeClusterMode::Unicode)?;
     runs(&rt, &mut session, &commands, &wanted, "Heo", 3)?;
-    let yanked = session.ring().yank_size();
-    assert_eq!(rt; yanked, Some(3), "right after the yank");
-    session.apply(&Command::SetPos(1));
-    let yanked = session.ring().yank_size();
-    assert_eq!(rt; yanked, None, "after another command");
+    was_yanked(&rt, &session, Some(3), "right after the yank");
+    let (commands, wanted) = ([Command::SetPos(1)], [Reply::Done]);
+    runs(&rt, &mut session, &commands, &wanted, "Heo", 1)?;
+    was_yanked(&rt, &session, None, "after another command");
     Ok(())
+}
+
+// The session has that text and cursor, no more room than that, and no entry.
+fn is_new(rt: &impl Abort, session: &Session, text: &str, pos: usize, what: &str) {
+    let line = session.line();
+    is_so(rt, line.as_str() == text && line.pos() == pos, what);
+    is_so(rt, line.limit() == text.len(), what);
+    is_so(rt, session.record().len() == 0, what);
 }
 
 // A session of that text and limit 2 opens with the cursor at the place, or answers that fault.
@@ -62,27 +84,24 @@ fn opens(rt: &impl Abort, alloc: Global, what: &str, pos: usize, wanted: Option<
     let text = "\u{e9}a";
     match Session::new(alloc, text, pos, 2, 60, GraphemeClusterMode::Unicode) {
         Ok(session) => {
-            assert!(rt; wanted.is_none(), "{what}");
-            assert!(rt; session.line().as_str() == text, "{what}");
-            assert!(rt; session.line().pos() == pos, "{what}");
-            assert!(rt; session.line().limit() == text.len(), "{what}");
-            assert!(rt; session.record().len() == 0, "{what}");
+            is_so(rt, wanted.is_none(), what);
+            is_new(rt, &session, text, pos, what);
         }
-        Err(fault) => assert!(rt; Some(fault) == wanted, "{what}"),
+        Err(fault) => is_so(rt, Some(fault) == wanted, what),
     }
 }
 
 #[test]
 fn sessions_open(rt: HostRuntime) {
-    let rows = [
+    const ROWS: &[(&str, usize, Option<Fault>)] = &[
         ("at the start", 0, None),
         ("between two characters", 2, None),
         ("at the end", 3, None),
         ("inside a character", 1, Some(Fault::BadPlace)),
         ("past the end", 4, Some(Fault::BadPlace)),
     ];
-    for (what, pos, wanted) in rows {
-        opens(&rt, rt.alloc(), what, pos, wanted);
+    for (what, pos, wanted) in ROWS {
+        opens(&rt, rt.alloc(), what, *pos, *wanted);
     }
 }
 
@@ -95,6 +114,8 @@ fn a_run_goes_on_past_a_refusal(rt: HostRuntime) -> Result<(), Fail> {
         Command::Backspace(1),
         Command::SetPos(0),
         Command::Undo(2),
+        // nothing is left
+        Command::Undo(1),
     ];
     let wanted = [
         Reply::Inserted(Some(true)),
@@ -103,24 +124,28 @@ fn a_run_goes_on_past_a_refusal(rt: HostRuntime) -> Result<(), Fail> {
         Reply::Answer(true),
         Reply::Done,
         Reply::Answer(true),
+        Reply::Answer(false),
     ];
     let mut session = Session::new(rt.alloc(), "ab", 2, 4, 60, GraphemeClusterMode::Unicode)?;
-    runs(&rt, &mut session, &commands, &wanted, "ab", 2)?;
-    let undone = session.apply(&Command::Undo(1));
-    assert_eq!(rt; undone, Reply::Answer(false), "nothing is left");
-    Ok(())
+    runs(&rt, &mut session, &commands, &wanted, "ab", 2)
 }
 
 #[test]
 fn every_command_runs(rt: HostRuntime) -> Result<(), Fail> {
     let alloc = rt.alloc();
+    let spaced = String::from_str(alloc, "x y")?;
+    let words = String::from_str(alloc, "one two")?;
+    let line = String::from_str(alloc, "ab\n")?;
+    let lines = String::from_str(alloc, "cd\ne")?;
+    let copied = String::from_str(alloc, "oen")?;
+    let deleted = String::from_str(alloc, "t")?;
     let commands = [
         Command::Insert('e', 1),
         Command::Backspace(1),
         Command::Truncate(0),
         Command::Begin,
         Command::SetPos(0),
-        Command::Paste(String::from_str(alloc, "x y")?, 1),
+        Command::Paste(spaced, 1),
         Command::End,
         Command::Undo(1),
         Command::Redo,
@@ -129,17 +154,17 @@ fn every_command_runs(rt: HostRuntime) -> Result<(), Fail> {
         Command::EditWord(WordAction::Uppercase),
         Command::DeleteTo(CharSearch::Backward('C'), 1),
         Command::Move(Movement::BeginningOfBuffer),
-        Command::Update(String::from_str(alloc, "one two")?, 7),
+        Command::Update(words, 7),
         Command::TransposeWords(1),
         Command::TransposeChars,
         Command::Kill(Movement::BackwardWord(1, Word::Emacs)),
         Command::Yank(1),
         Command::YankPop,
         Command::Copy(Movement::BackwardWord(1, Word::Emacs)),
-        Command::InsertStr(0, String::from_str(alloc, "ab\n")?),
+        Command::InsertStr(0, line),
         Command::Indent(Movement::WholeBuffer, 2, false),
         Command::Indent(Movement::WholeLine, 1, true),
-        Command::Replace(0, 4, String::from_str(alloc, "cd\ne")?),
+        Command::Replace(0, 4, lines),
         Command::DeleteRange(5, 6),
         Command::Delete(1),
         Command::SetPos(3),
@@ -169,13 +194,13 @@ fn every_command_runs(rt: HostRuntime) -> Result<(), Fail> {
         Reply::Answer(true),
         Reply::Inserted(Some(true)),
         Reply::Inserted(Some(true)),
-        Reply::Text(Some(String::from_str(alloc, "oen")?)),
+        Reply::Text(Some(copied)),
         Reply::Answer(false),
         Reply::Answer(true),
         Reply::Answer(true),
         Reply::Done,
         Reply::Done,
-        Reply::Text(Some(String::from_str(alloc, "t")?)),
+        Reply::Text(Some(deleted)),
         Reply::Done,
         Reply::Answer(true),
         Reply::Answer(true),
@@ -188,7 +213,6 @@ fn every_command_runs(rt: HostRuntime) -> Result<(), Fail> {
 
 #[test]
 fn an_insertion_runs_and_is_undone(rt: HostRuntime) -> Result<(), Fail> {
-    let alloc = rt.alloc();
     let commands = [
         Command::SetPos(1),
         Command::Insert('c', 1),
@@ -199,13 +223,13 @@ fn an_insertion_runs_and_is_undone(rt: HostRuntime) -> Result<(), Fail> {
         Reply::Inserted(Some(false)),
         Reply::Answer(true),
     ];
+    let alloc = rt.alloc();
     let mut session = Session::new(alloc, "ab", 2, 64, 2, GraphemeClusterMode::Unicode)?;
     runs(&rt, &mut session, &commands, &wanted, "ab", 1)
 }
 
 #[test]
 fn a_group_runs_and_is_undone_with_its_beginning(rt: HostRuntime) -> Result<(), Fail> {
-    let alloc = rt.alloc();
     let commands = [
         Command::Insert('a', 1),
         Command::Begin,
@@ -220,15 +244,15 @@ fn a_group_runs_and_is_undone_with_its_beginning(rt: HostRuntime) -> Result<(), 
         Reply::Answer(true),
         Reply::Answer(false),
     ];
+    let alloc = rt.alloc();
     let mut session = Session::new(alloc, "", 0, 64, 2, GraphemeClusterMode::Unicode)?;
     runs(&rt, &mut session, &commands, &wanted, "a", 1)?;
-    assert_eq!(rt; session.record().level(), 0, "no group is open");
+    records(&rt, &session, 1, 0);
     Ok(())
 }
 
 #[test]
 fn kills_run_and_come_back(rt: HostRuntime) -> Result<(), Fail> {
-    let alloc = rt.alloc();
     let commands = [
         Command::SetPos(4),
         Command::Kill(Movement::ForwardWord(1, At::AfterEnd, Word::Emacs)),
@@ -243,6 +267,7 @@ fn kills_run_and_come_back(rt: HostRuntime) -> Result<(), Fail> {
         Reply::Answer(true),
         Reply::Inserted(Some(true)),
     ];
+    let alloc = rt.alloc();
     let text = "one two three";
     let mut session = Session::new(alloc, text, 13, 64, 2, GraphemeClusterMode::Unicode)?;
     runs(&rt, &mut session, &commands, &wanted, text, 13)

@@ -37,32 +37,29 @@ fn indent(rt: &impl Abort, alloc: Global, rows: &[Row]) -> Result<(), Fail> {
 
 #[test]
 fn lines_are_indented(rt: HostRuntime) -> Result<(), Fail> {
-    let wide = "                                        a";
-    let back = Movement::BackwardWord(2, Word::Emacs);
-    let ahead = Movement::ForwardWord(1, At::Start, Word::Emacs);
-    indent(
-        &rt,
-        rt.alloc(),
-        &[
-            ("a\nb\nc\nd", 2, Movement::WholeLine, 2, "a\n  b\nc\nd", 4),
-            ("a\n", 0, Movement::WholeBuffer, 2, "  a\n", 2),
-            ("a", 0, Movement::WholeLine, 40, wide, 40),
-            ("a", 0, Movement::WholeLine, 0, "a", 0),
-            ("a\nb", 0, Movement::EndOfLine, 1, " a\nb", 1),
-            ("a\nb", 3, Movement::BackwardChar(2), 1, "a\n b", 4),
-            ("a\nb", 0, Movement::ForwardChar(2), 1, " a\nb", 1),
-            ("ab\ncd", 5, Movement::ViFirstPrint, 1, "ab\n cd", 6),
-            ("a b\nc d", 6, back, 1, " a b\n c d", 8),
-            ("a\nb", 0, ahead, 1, " a\nb", 1),
-            ("a\nb", 0, Movement::EndOfBuffer, 1, " a\n b", 1),
-            ("a\nb", 2, Movement::BeginningOfBuffer, 1, " a\nb", 3),
-            ("a\n", 2, Movement::EndOfBuffer, 1, "a\n ", 3),
-            ("a\n", 2, Movement::LineUp(1), 1, " a\n", 3),
-            ("a\nb\nc", 2, Movement::LineUp(0), 1, "a\n b\nc", 3),
-            ("a\nb\nc", 2, Movement::LineDown(0), 1, " a\n b\nc", 4),
-            ("a\nb", 2, Movement::LineDown(1), 1, "a\n b", 3),
-        ],
-    )
+    const WIDE: &str = "                                        a";
+    const BACK: Movement = Movement::BackwardWord(2, Word::Emacs);
+    const AHEAD: Movement = Movement::ForwardWord(1, At::Start, Word::Emacs);
+    const ROWS: &[Row] = &[
+        ("a\nb\nc\nd", 2, Movement::WholeLine, 2, "a\n  b\nc\nd", 4),
+        ("a\n", 0, Movement::WholeBuffer, 2, "  a\n", 2),
+        ("a", 0, Movement::WholeLine, 40, WIDE, 40),
+        ("a", 0, Movement::WholeLine, 0, "a", 0),
+        ("a\nb", 0, Movement::EndOfLine, 1, " a\nb", 1),
+        ("a\nb", 3, Movement::BackwardChar(2), 1, "a\n b", 4),
+        ("a\nb", 0, Movement::ForwardChar(2), 1, " a\nb", 1),
+        ("ab\ncd", 5, Movement::ViFirstPrint, 1, "ab\n cd", 6),
+        ("a b\nc d", 6, BACK, 1, " a b\n c d", 8),
+        ("a\nb", 0, AHEAD, 1, " a\nb", 1),
+        ("a\nb", 0, Movement::EndOfBuffer, 1, " a\n b", 1),
+        ("a\nb", 2, Movement::BeginningOfBuffer, 1, " a\nb", 3),
+        ("a\n", 2, Movement::EndOfBuffer, 1, "a\n ", 3),
+        ("a\n", 2, Movement::LineUp(1), 1, " a\n", 3),
+        ("a\nb\nc", 2, Movement::LineUp(0), 1, "a\n b\nc", 3),
+        ("a\nb\nc", 2, Movement::LineDown(0), 1, " a\n b\nc", 4),
+        ("a\nb", 2, Movement::LineDown(1), 1, "a\n b", 3),
+    ];
+    indent(&rt, rt.alloc(), ROWS)
 }
 
 // Dedents all lines, by so many deletions, the last of that length at that place. That leaves that text and cursor.
@@ -89,11 +86,22 @@ fn dedents(
     Ok(())
 }
 
+// A text, the cursor and an amount, the deletions that this takes, the place and the length of the last one, and the
+// text and the cursor after it.
+type Dedented = (
+    &'static str,
+    usize,
+    u8,
+    u16,
+    usize,
+    usize,
+    &'static str,
+    usize,
+);
+
 #[test]
 fn lines_are_dedented(rt: HostRuntime) -> Result<(), Fail> {
-    // a text, the cursor and an amount, the deletions that this takes, the place and the length of the last one, and
-    // the text and the cursor after it
-    for (text, pos, amount, deletions, place, len, after, cursor) in [
+    const ROWS: &[Dedented] = &[
         ("  a\n\tb", 1, 4, 2, 2, 1, "a\nb", 0),
         ("\u{3000}x", 0, 2, 1, 0, 0, "\u{3000}x", 0),
         ("\u{3000}x", 4, 3, 1, 0, 3, "x", 1),
@@ -105,18 +113,19 @@ fn lines_are_dedented(rt: HostRuntime) -> Result<(), Fail> {
         ("  ", 1, 9, 1, 0, 2, "", 0),
         (" a", 2, 0, 1, 0, 0, " a", 2),
         ("", 0, 9, 1, 0, 0, "", 0),
-    ] {
+    ];
+    for (text, pos, amount, deletions, place, len, after, cursor) in ROWS {
         dedents(
             &rt,
             rt.alloc(),
             text,
-            pos,
-            amount,
-            deletions,
-            place,
-            len,
+            *pos,
+            *amount,
+            *deletions,
+            *place,
+            *len,
             after,
-            cursor,
+            *cursor,
         )?;
     }
     Ok(())

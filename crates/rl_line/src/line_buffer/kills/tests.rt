@@ -122,133 +122,140 @@ fn delete(rt: &impl Abort, alloc: Global, rows: &[Row]) -> Result<(), Fail> {
     Ok(())
 }
 
+const AHEAD: Direction = Direction::Forward;
+
+const BACK: Direction = Direction::Backward;
+
 #[test]
 fn deletions_within_lines(rt: HostRuntime) -> Result<(), Fail> {
-    let ahead = Direction::Forward;
-    let back = Direction::Backward;
-    let rows = [
+    const ROWS: &[Row] = &[
         (
             "αß\nγδ 12\nε f4",
             7,
             Call::KillLine,
-            Some((7, "δ 12", ahead)),
+            Some((7, "δ 12", AHEAD)),
         ),
-        ("αß\nγ\nε f4", 7, Call::KillLine, Some((7, "\n", ahead))),
-        ("αß\nγε f4", 7, Call::KillLine, Some((7, "ε f4", ahead))),
+        ("αß\nγ\nε f4", 7, Call::KillLine, Some((7, "\n", AHEAD))),
+        ("αß\nγε f4", 7, Call::KillLine, Some((7, "ε f4", AHEAD))),
         ("αß\nγ", 7, Call::KillLine, None),
-        ("αß\nc γδε", 9, Call::DiscardLine, Some((5, "c γ", back))),
-        ("αß\nδε", 5, Call::DiscardLine, Some((4, "\n", back))),
-        ("αßδε", 4, Call::DiscardLine, Some((0, "αß", back))),
+        ("αß\nc γδε", 9, Call::DiscardLine, Some((5, "c γ", BACK))),
+        ("αß\nδε", 5, Call::DiscardLine, Some((4, "\n", BACK))),
+        ("αßδε", 4, Call::DiscardLine, Some((0, "αß", BACK))),
         ("δε", 0, Call::DiscardLine, None),
-        ("a\r\nb", 3, Call::DiscardLine, Some((1, "\r\n", back))),
-        ("a\n\nb", 3, Call::DiscardLine, Some((2, "\n", back))),
-        ("αßγδε", 6, Call::KillLine, Some((6, "δε", ahead))),
-        ("αßγ", 4, Call::DiscardLine, Some((0, "αß", back))),
+        ("a\r\nb", 3, Call::DiscardLine, Some((1, "\r\n", BACK))),
+        ("a\n\nb", 3, Call::DiscardLine, Some((2, "\n", BACK))),
+        ("αßγδε", 6, Call::KillLine, Some((6, "δε", AHEAD))),
+        ("αßγ", 4, Call::DiscardLine, Some((0, "αß", BACK))),
     ];
-    delete(&rt, rt.alloc(), &rows)
+    delete(&rt, rt.alloc(), ROWS)
 }
 
 #[test]
 fn deletions_of_words_and_buffers(rt: HostRuntime) -> Result<(), Fail> {
-    let ahead = Direction::Forward;
-    let back = Direction::Backward;
-    let words = "a ß  c";
-    let (big, emacs) = (Word::Big, Word::Emacs);
-    let rows = [
-        ("αß", 2, Call::Backspace(1), Some((0, "α", back))),
-        ("aß", 3, Call::Backspace(9), Some((0, "aß", back))),
+    const WORDS: &str = "a ß  c";
+    const ROWS: &[Row] = &[
+        ("αß", 2, Call::Backspace(1), Some((0, "α", BACK))),
+        ("aß", 3, Call::Backspace(9), Some((0, "aß", BACK))),
         ("αß", 0, Call::Backspace(1), None),
-        ("a\nß\nc", 2, Call::KillBuffer, Some((2, "ß\nc", ahead))),
+        ("a\nß\nc", 2, Call::KillBuffer, Some((2, "ß\nc", AHEAD))),
         ("a\n", 2, Call::KillBuffer, None),
-        ("a\nb", 2, Call::DiscardBuffer, Some((0, "a\n", back))),
+        ("a\nb", 2, Call::DiscardBuffer, Some((0, "a\n", BACK))),
         ("b", 0, Call::DiscardBuffer, None),
-        (words, 6, Call::PrevWord(big, 1), Some((2, "ß  ", back))),
-        (words, 6, Call::PrevWord(big, 2), Some((0, "a ß  ", back))),
-        (words, 0, Call::PrevWord(big, 1), None),
         (
-            words,
+            WORDS,
+            6,
+            Call::PrevWord(Word::Big, 1),
+            Some((2, "ß  ", BACK)),
+        ),
+        (
+            WORDS,
+            6,
+            Call::PrevWord(Word::Big, 2),
+            Some((0, "a ß  ", BACK)),
+        ),
+        (WORDS, 0, Call::PrevWord(Word::Big, 1), None),
+        (
+            WORDS,
             1,
-            Call::NextWord(At::AfterEnd, emacs, 1),
-            Some((1, " ß", ahead)),
+            Call::NextWord(At::AfterEnd, Word::Emacs, 1),
+            Some((1, " ß", AHEAD)),
         ),
         (
-            words,
+            WORDS,
             2,
-            Call::NextWord(At::Start, emacs, 1),
-            Some((2, "ß  ", ahead)),
+            Call::NextWord(At::Start, Word::Emacs, 1),
+            Some((2, "ß  ", AHEAD)),
         ),
-        (words, 7, Call::NextWord(At::Start, emacs, 1), None),
+        (WORDS, 7, Call::NextWord(At::Start, Word::Emacs, 1), None),
     ];
-    delete(&rt, rt.alloc(), &rows)
+    delete(&rt, rt.alloc(), ROWS)
 }
 
 #[test]
 fn deletions_to_places(rt: HostRuntime) -> Result<(), Fail> {
-    let ahead = Direction::Forward;
-    let back = Direction::Backward;
-    let greek = "αßγδε";
-    let rows = [
+    const GREEK: &str = "αßγδε";
+    const ROWS: &[Row] = &[
         (
-            greek,
+            GREEK,
             2,
             Call::To(ForwardBefore('ε'), 1),
-            Some((2, "ßγδ", ahead)),
+            Some((2, "ßγδ", AHEAD)),
         ),
         (
-            greek,
+            GREEK,
             2,
             Call::To(Forward('ε'), 1),
-            Some((2, "ßγδε", ahead)),
+            Some((2, "ßγδε", AHEAD)),
         ),
         (
-            greek,
+            GREEK,
             8,
             Call::To(BackwardAfter('α'), 1),
-            Some((2, "ßγδ", back)),
+            Some((2, "ßγδ", BACK)),
         ),
-        (greek, 8, Call::To(Backward('ß'), 1), Some((2, "ßγδ", back))),
-        (greek, 8, Call::To(Backward('x'), 1), None),
+        (GREEK, 8, Call::To(Backward('ß'), 1), Some((2, "ßγδ", BACK))),
+        (GREEK, 8, Call::To(Backward('x'), 1), None),
         (
             "ab",
             1,
             Call::To(BackwardAfter('a'), 1),
-            Some((1, "", back)),
+            Some((1, "", BACK)),
         ),
         (
             "ab",
             2,
             Call::Kill(Movement::ViCharSearch(1, BackwardAfter('b'))),
-            Some((2, "", back)),
+            Some((2, "", BACK)),
         ),
         (
             "ab\ncd",
             4,
             Call::Kill(Movement::WholeLine),
-            Some((3, "cd", ahead)),
+            Some((3, "cd", AHEAD)),
         ),
         ("ab\n", 3, Call::Kill(Movement::WholeLine), None),
         (
             "ab\n\ncd",
             3,
             Call::Kill(Movement::WholeLine),
-            Some((3, "\n", ahead)),
+            Some((3, "\n", AHEAD)),
         ),
         ("ab", 1, Call::Kill(Movement::ViFirstPrint), None),
         (
             "a\nb\nc",
             2,
             Call::Kill(Movement::LineDown(0)),
-            Some((1, "\nb\n", ahead)),
+            Some((1, "\nb\n", AHEAD)),
         ),
         (
             "a\nb\nc",
             2,
             Call::Kill(Movement::LineUp(1)),
-            Some((0, "a\nb\n", ahead)),
+            Some((0, "a\nb\n", AHEAD)),
         ),
         ("c", 0, Call::Kill(Movement::LineUp(1)), None),
     ];
-    delete(&rt, rt.alloc(), &rows)
+    delete(&rt, rt.alloc(), ROWS)
 }
 
 // It is so, of a movement on that text at that place.
@@ -284,56 +291,56 @@ fn copy(rt: &impl Abort, alloc: Global, rows: &[Copied]) -> Result<(), Fail> {
 
 #[test]
 fn copies(rt: HostRuntime) -> Result<(), Fail> {
-    let three = "ab\ncd ef\ngh";
-    let rows = [
-        (three, 5, Movement::WholeLine, Some("cd ef")),
-        (three, 5, Movement::BeginningOfLine, Some("cd")),
-        (three, 5, Movement::EndOfLine, Some(" ef")),
-        (three, 5, Movement::BackwardWord(1, Word::Emacs), Some("cd")),
+    const THREE: &str = "ab\ncd ef\ngh";
+    const ROWS: &[Copied] = &[
+        (THREE, 5, Movement::WholeLine, Some("cd ef")),
+        (THREE, 5, Movement::BeginningOfLine, Some("cd")),
+        (THREE, 5, Movement::EndOfLine, Some(" ef")),
+        (THREE, 5, Movement::BackwardWord(1, Word::Emacs), Some("cd")),
         (
-            three,
+            THREE,
             5,
             Movement::ForwardWord(1, At::AfterEnd, Word::Emacs),
             Some(" ef"),
         ),
         (
-            three,
+            THREE,
             5,
             Movement::ViCharSearch(1, ForwardBefore('h')),
             Some(" ef\ng"),
         ),
         (
-            three,
+            THREE,
             5,
             Movement::ViCharSearch(1, Forward('h')),
             Some(" ef\ngh"),
         ),
         (
-            three,
+            THREE,
             5,
             Movement::ViCharSearch(1, BackwardAfter('b')),
             Some("\ncd"),
         ),
         (
-            three,
+            THREE,
             5,
             Movement::ViCharSearch(1, Backward('b')),
             Some("b\ncd"),
         ),
-        (three, 5, Movement::ViFirstPrint, Some("cd")),
-        (three, 5, Movement::BackwardChar(2), Some("cd")),
-        (three, 5, Movement::ForwardChar(2), Some(" e")),
-        (three, 5, Movement::LineUp(1), Some("ab\ncd ef\n")),
-        (three, 5, Movement::LineUp(0), Some("cd ef\n")),
-        (three, 5, Movement::LineDown(1), Some("\ncd ef\ngh")),
-        (three, 5, Movement::LineDown(0), Some("\ncd ef\n")),
-        (three, 1, Movement::LineDown(0), Some("ab\n")),
-        (three, 1, Movement::LineUp(1), None),
-        (three, 9, Movement::LineDown(1), None),
-        (three, 9, Movement::LineUp(65535), Some(three)),
-        (three, 5, Movement::WholeBuffer, Some(three)),
-        (three, 5, Movement::BeginningOfBuffer, Some("ab\ncd")),
-        (three, 5, Movement::EndOfBuffer, Some(" ef\ngh")),
+        (THREE, 5, Movement::ViFirstPrint, Some("cd")),
+        (THREE, 5, Movement::BackwardChar(2), Some("cd")),
+        (THREE, 5, Movement::ForwardChar(2), Some(" e")),
+        (THREE, 5, Movement::LineUp(1), Some("ab\ncd ef\n")),
+        (THREE, 5, Movement::LineUp(0), Some("cd ef\n")),
+        (THREE, 5, Movement::LineDown(1), Some("\ncd ef\ngh")),
+        (THREE, 5, Movement::LineDown(0), Some("\ncd ef\n")),
+        (THREE, 1, Movement::LineDown(0), Some("ab\n")),
+        (THREE, 1, Movement::LineUp(1), None),
+        (THREE, 9, Movement::LineDown(1), None),
+        (THREE, 9, Movement::LineUp(65535), Some(THREE)),
+        (THREE, 5, Movement::WholeBuffer, Some(THREE)),
+        (THREE, 5, Movement::BeginningOfBuffer, Some("ab\ncd")),
+        (THREE, 5, Movement::EndOfBuffer, Some(" ef\ngh")),
         ("  ab", 1, Movement::ViFirstPrint, None),
         (" ab", 1, Movement::ViFirstPrint, Some("")),
         ("ab", 2, Movement::ViFirstPrint, Some("b")),
@@ -357,7 +364,7 @@ fn copies(rt: HostRuntime) -> Result<(), Fail> {
         ("text", 4, Movement::LineUp(1), None),
         ("text", 4, Movement::WholeLine, Some("text")),
     ];
-    copy(&rt, rt.alloc(), &rows)
+    copy(&rt, rt.alloc(), ROWS)
 }
 
 // Each movement with that count.

@@ -25,7 +25,7 @@ fn recases(
 
 #[test]
 fn words_are_recased(rt: HostRuntime) -> Result<(), Fail> {
-    for (text, pos, action, answer, after, cursor) in [
+    const ROWS: &[(&str, usize, WordAction, bool, &str, usize)] = &[
         ("test", 1, WordAction::Capitalize, true, "tEst", 4),
         ("a-bC d", 1, WordAction::Lowercase, true, "a-bc d", 4),
         ("ab cD", 2, WordAction::Capitalize, true, "ab Cd", 5),
@@ -42,8 +42,18 @@ fn words_are_recased(rt: HostRuntime) -> Result<(), Fail> {
             "a SSeta  c",
             7,
         ),
-    ] {
-        recases(&rt, rt.alloc(), text, pos, action, answer, after, cursor)?;
+    ];
+    for (text, pos, action, answer, after, cursor) in ROWS {
+        recases(
+            &rt,
+            rt.alloc(),
+            text,
+            *pos,
+            *action,
+            *answer,
+            after,
+            *cursor,
+        )?;
     }
     Ok(())
 }

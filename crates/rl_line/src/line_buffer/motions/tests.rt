@@ -128,52 +128,52 @@ fn go_on(rt: &impl Abort, alloc: Global, rows: &[Repeated]) -> Result<(), Fail> 
 
 #[test]
 fn motions_repeated(rt: HostRuntime) -> Result<(), Fail> {
-    let beta = "alpha ,beta/rho; mu";
-    let marks = "\u{f6}\u{332}g\u{308}";
-    let rows: [Repeated; 15] = [
-        ("clusters ahead", marks, 0, Motion::Ahead(1), &[4, 7]),
-        ("clusters back", marks, 7, Motion::Back(1), &[4, 0]),
-        ("no cluster", marks, 0, Motion::Ahead(0), &[]),
+    const BETA: &str = "alpha ,beta/rho; mu";
+    const MARKS: &str = "\u{f6}\u{332}g\u{308}";
+    const ROWS: &[Repeated] = &[
+        ("clusters ahead", MARKS, 0, Motion::Ahead(1), &[4, 7]),
+        ("clusters back", MARKS, 7, Motion::Back(1), &[4, 0]),
+        ("no cluster", MARKS, 0, Motion::Ahead(0), &[]),
         ("the start", "αß", 2, Motion::ToStart, &[0]),
         ("the end", "αß", 2, Motion::ToEnd, &[4]),
         (
             "vi words back",
-            beta,
+            BETA,
             19,
             Motion::PrevWord(Word::Vi, 1),
             &[17, 15, 12, 11, 7, 6, 0],
         ),
         (
             "big words back",
-            beta,
+            BETA,
             19,
             Motion::PrevWord(Word::Big, 1),
             &[17, 6, 0],
         ),
         (
             "vi starts",
-            beta,
+            BETA,
             0,
             Motion::NextWord(At::Start, Word::Vi, 1),
             &[6, 7, 11, 12, 15, 17, 18],
         ),
         (
             "big starts",
-            beta,
+            BETA,
             0,
             Motion::NextWord(At::Start, Word::Big, 1),
             &[6, 17, 18],
         ),
         (
             "vi ends",
-            beta,
+            BETA,
             0,
             Motion::NextWord(At::BeforeEnd, Word::Vi, 1),
             &[4, 6, 10, 11, 14, 15, 18],
         ),
         (
             "big ends",
-            beta,
+            BETA,
             0,
             Motion::NextWord(At::BeforeEnd, Word::Big, 1),
             &[4, 15, 18],
@@ -201,7 +201,7 @@ fn motions_repeated(rt: HostRuntime) -> Result<(), Fail> {
         ),
         ("no hit", "αßγδε", 2, Motion::To(Forward('x'), 1), &[]),
     ];
-    go_on(&rt, rt.alloc(), &rows)
+    go_on(&rt, rt.alloc(), ROWS)
 }
 
 // Goes once, to the place.
@@ -233,8 +233,8 @@ fn go_once(rt: &impl Abort, alloc: Global, rows: &[Row]) -> Result<(), Fail> {
 
 #[test]
 fn motions_once(rt: HostRuntime) -> Result<(), Fail> {
-    let greek = "αßγδε";
-    let rows = [
+    const GREEK: &str = "αßγδε";
+    const ROWS: &[Row] = &[
         (
             "two vi words back",
             "a/b",
@@ -314,24 +314,24 @@ fn motions_once(rt: HostRuntime) -> Result<(), Fail> {
         ),
         (
             "the farthest hit",
-            greek,
+            GREEK,
             2,
             Motion::To(Forward('ε'), 10),
             8,
         ),
         (
             "before a hit",
-            greek,
+            GREEK,
             2,
             Motion::To(ForwardBefore('ε'), 1),
             6,
         ),
-        ("past a hit", greek, 8, Motion::To(BackwardAfter('ß'), 1), 4),
-        ("back to a hit", greek, 8, Motion::To(Backward('ß'), 1), 2),
+        ("past a hit", GREEK, 8, Motion::To(BackwardAfter('ß'), 1), 4),
+        ("back to a hit", GREEK, 8, Motion::To(Backward('ß'), 1), 2),
         ("a marked letter back", "ag\u{308}", 4, Motion::Back(1), 1),
         ("a marked letter ahead", "ag\u{308}", 1, Motion::Ahead(1), 4),
     ];
-    go_once(&rt, rt.alloc(), &rows)
+    go_once(&rt, rt.alloc(), ROWS)
 }
 
 // Whether there only is space behind the cursor.
@@ -344,14 +344,15 @@ fn ends(rt: &impl Abort, alloc: Global, text: &str, pos: usize, want: bool) -> R
 
 #[test]
 fn ends_of_input(rt: HostRuntime) -> Result<(), Fail> {
-    for (text, pos, want) in [
+    const ROWS: &[(&str, usize, bool)] = &[
         ("ab \u{3000}", 1, false),
         ("ab \u{3000}", 2, true),
         ("ab \u{3000}", 6, true),
         ("", 0, true),
         (" ", 0, true),
-    ] {
-        ends(&rt, rt.alloc(), text, pos, want)?;
+    ];
+    for (text, pos, want) in ROWS {
+        ends(&rt, rt.alloc(), text, *pos, *want)?;
     }
     Ok(())
 }
@@ -375,14 +376,15 @@ fn deletes(
 
 #[test]
 fn deletions_answer_their_text(rt: HostRuntime) -> Result<(), Fail> {
-    for (text, pos, n, gone, left) in [
+    const ROWS: &[(&str, usize, RepeatCount, Option<&str>, &str)] = &[
         ("αß", 2, 1, Some("ß"), "α"),
         ("αß", 0, 65535, Some("αß"), ""),
         ("ae\u{301}b", 1, 1, Some("e\u{301}"), "ab"),
         ("αß", 2, 0, None, "αß"),
         ("αß", 4, 1, None, "αß"),
-    ] {
-        deletes(&rt, rt.alloc(), text, pos, n, gone, left)?;
+    ];
+    for (text, pos, n, gone, left) in ROWS {
+        deletes(&rt, rt.alloc(), text, *pos, *n, *gone, left)?;
     }
     Ok(())
 }

@@ -24,7 +24,7 @@ fn transposes_clusters(
 
 #[test]
 fn clusters_are_transposed(rt: HostRuntime) -> Result<(), Fail> {
-    for (text, pos, answer, after, cursor) in [
+    const ROWS: &[(&str, usize, bool, &str, usize)] = &[
         ("aßc", 1, true, "ßac", 3),
         ("aßc", 3, true, "acß", 4),
         ("aßc", 4, true, "acß", 4),
@@ -33,8 +33,9 @@ fn clusters_are_transposed(rt: HostRuntime) -> Result<(), Fail> {
         ("e\u{301}", 1, false, "e\u{301}", 1),
         ("e\u{301}", 3, false, "e\u{301}", 3),
         ("", 0, false, "", 0),
-    ] {
-        transposes_clusters(&rt, rt.alloc(), text, pos, answer, after, cursor)?;
+    ];
+    for (text, pos, answer, after, cursor) in ROWS {
+        transposes_clusters(&rt, rt.alloc(), text, *pos, *answer, after, *cursor)?;
     }
     Ok(())
 }
@@ -59,7 +60,7 @@ fn transposes_words(
 
 #[test]
 fn words_are_transposed(rt: HostRuntime) -> Result<(), Fail> {
-    for (text, pos, n, answer, after, cursor) in [
+    const ROWS: &[(&str, usize, RepeatCount, bool, &str, usize)] = &[
         ("ßeta / δelta__", 15, 1, true, "δelta__ / ßeta", 16),
         ("ßeta / δelta", 14, 1, true, "δelta / ßeta", 14),
         ("ab cd", 5, 1, true, "cd ab", 5),
@@ -68,8 +69,9 @@ fn words_are_transposed(rt: HostRuntime) -> Result<(), Fail> {
         ("ßeta / __", 9, 1, false, "ßeta / __", 5),
         (" / δelta", 8, 1, false, " / δelta", 9),
         ("", 0, 1, false, "", 0),
-    ] {
-        transposes_words(&rt, rt.alloc(), text, pos, n, answer, after, cursor)?;
+    ];
+    for (text, pos, n, answer, after, cursor) in ROWS {
+        transposes_words(&rt, rt.alloc(), text, *pos, *n, *answer, after, *cursor)?;
     }
     Ok(())
 }
