@@ -5,7 +5,7 @@ ghost use Rattle.rl_session.specs.Grammar.{NewText, Set, Do};
 ghost use Rattle.rl_session.specs.Lines.{HasNoNewline};
 ghost use Rattle.rl_session.specs.Print.{printed};
 ghost use Rattle.rl_session.specs.Script.{begun, started, MeaningOut, LineOut, Ran, Stopped};
-ghost use Rattle.rl_session.specs.Progress.{Took, Halts};
+ghost use Rattle.rl_session.specs.Progress.{Runs, Took, Halts};
 
 #[cfg(test)]
 mod tests;
@@ -212,6 +212,23 @@ pub fn run_script<R: Read, W: Write>(
     let mut interpreter = Interpreter::start(alloc)?;
     let mut part = Vec::new(alloc);
     let mut out = Vec::new(alloc);
+    run_blocks(alloc, &mut interpreter, &mut part, &mut out, reader, writer)
+}
+
+// Runs what is left to read, behind a part of a line.
+fn run_blocks<R: Read, W: Write>(
+    alloc: Global,
+    interpreter: &mut Interpreter,
+    part: &mut Vec<u8>,
+    out: &mut Vec<u8>,
+    reader: &mut R,
+    writer: &mut W,
+) -> Result<(), ScriptFault>
+    requires runs { Runs (R.remaining reader.old) (R.remaining reader.old) (W.contents writer.old) (W.contents writer.old) interpreter.old part.old.items }
+    requires clean { HasNoNewline part.old.items }
+    ensures ok { OnOk result (Ran (R.remaining reader.old) (R.remaining reader.new) (W.contents writer.old) (W.contents writer.new)) }
+    ensures err { OnErr result (Stopped (R.remaining reader.old) (W.contents writer.old) (W.contents writer.new)) }
+{
     let mut block = [0u8; BLOCK];
     for _ in 0..u64::MAX {
         let count = match reader.read(&mut block) {
@@ -222,16 +239,9 @@ pub fn run_script<R: Read, W: Write>(
             if part.is_empty() {
                 return Ok(());
             }
-            return run_and_put(alloc, &mut interpreter, part.as_slice(), &mut out, writer);
+            return run_and_put(alloc, interpreter, part.as_slice(), out, writer);
         }
-        take_block(
-            alloc,
-            &mut interpreter,
-            &mut part,
-            &mut out,
-            &block[..count],
-            writer,
-        )?;
+        take_block(alloc, interpreter, part, out, &block[..count], writer)?;
     }
     Err(ScriptFault::Read)
 }

@@ -50,6 +50,12 @@ fn deletions_side_by_side_are_one_entry(rt: HostRuntime) -> Result<(), Fail> {
     Ok(())
 }
 
+// The session sets the cursor.
+fn moves(rt: &impl Abort, session: &mut Session, pos: usize) {
+    let replied = session.apply(&Command::SetPos(pos));
+    is_so(rt, replied == Reply::Done, "the reply to a place");
+}
+
 #[test]
 fn the_ring_knows_what_was_yanked(rt: HostRuntime) -> Result<(), Fail> {
     let commands = [
@@ -65,8 +71,7 @@ fn the_ring_knows_what_was_yanked(rt: HostRuntime) -> Result<(), Fail> {
     let mut session = Session::new(rt.alloc(), "Heo", 2, 9, 60, GraphemeClusterMode::Unicode)?;
     runs(&rt, &mut session, &commands, &wanted, "Heo", 3)?;
     was_yanked(&rt, &session, Some(3), "right after the yank");
-    let (commands, wanted) = ([Command::SetPos(1)], [Reply::Done]);
-    runs(&rt, &mut session, &commands, &wanted, "Heo", 1)?;
+    moves(&rt, &mut session, 1);
     was_yanked(&rt, &session, None, "after another command");
     Ok(())
 }

@@ -1,7 +1,7 @@
 use Rattle.std.proofs.Common.{◌≡◌, length}
 use Rattle.rl_session.specs.Lines.{HasNoNewline}
 use Rattle.rl_session.specs.Progress.{Runs}
-use Rattle.rl_session.proofs.script.run_script.Given as goal
+use Rattle.rl_session.proofs.script.run_blocks.Given as goal
 
 abbrev pub invariant-loop : goal.invariant-loop
 invariant-loop g l = record {
