@@ -98,6 +98,21 @@ IsCharBoundary-pushed text i cursor s u v start at = from (nat_lt cursor i) refl
     from true e = IsCharBoundary-before text i i cursor s u v start start at (let l = ltb-true cursor i e in omega arith)
     from false e = let l : i ≤ cursor = ltb-false cursor i e in IsCharBoundary-behind text i i cursor (cursor + length s) s u start.0 at l (omega arith)
 
+-- a boundary of a part of a text is one of the text, where the part ends at one
+pub IsCharBoundary-from_part : (text : List ℕ) (i j k : ℕ) → i ≤ j → IsCharBoundary text j → IsCharBoundary (slice_range text i j) k → IsCharBoundary text (i + k)
+IsCharBoundary-from_part text i j k le end at = from (nat_lt k (j - i)) refl
+  where
+    from : (b : Bool) → nat_lt k (j - i) ≡ b → IsCharBoundary text (i + k)
+    from true e =
+        let inside : k < j - i = ltb-true k (j - i) e in
+        let width = length-between text i j end.0 in
+        let byte : get_or (slice_range text i j) k 0 ≡ get_or text (i + k) 0 = get_or-take (j - i) (drop i text) k 0 inside ∙ get_or-drop i text k 0 in
+        (omega (arith, end.0), λ l a. let m = at.1 (omega (arith, width)) (omega (arith, byte)) in omega (arith, byte))
+    from false e =
+        let past : j - i ≤ k = ltb-false k (j - i) e in
+        let width = length-between text i j end.0 in
+        subst (IsCharBoundary text) (omega (arith, at.0, width)) end
+
 pub IsCharBoundary-pulled : (text : List ℕ) (i j n cursor : ℕ) → IsUtf8 text → i ≤ j → n ≡ j - i → IsCharBoundary text i → IsCharBoundary text j → IsCharBoundary text cursor
     → IsCharBoundary (remove_range text i j) (pulled i n cursor)
 IsCharBoundary-pulled text i j n cursor u le is start end at = from (nat_lt cursor i) (nat_lt cursor j) refl refl

@@ -1,5 +1,8 @@
-use Rattle.std.proofs.Common.{rules, ◌+◌, [], true, slice_range, refl, inl, ap, ◌∙◌}
+use Rattle.std.proofs.Common.{arith, rules, ◌+◌, [], true, slice_range, refl, inl, ap, subst, ◌∙◌}
+use Rattle.std.specs.List.{replace_range}
+use Rattle.std.specs.Str.{IsCharBoundary}
 use Rattle.std.proofs.lemmas.Result.{err_from_is_err_and}
+use Rattle.rl_base.proofs.TextLemmas.{IsCharBoundary-before_removal, IsCharBoundary-past_replacement}
 use Rattle.rl_line.specs.Edits.{exchange_plan}
 use Rattle.rl_line.specs.LetterCase.{edit_word_plan, recased}
 use Rattle.rl_line.specs.Line.{Line}
@@ -53,3 +56,17 @@ returns-clause-done g c =
       holds = Done-as _ (edit_word_plan line made) (answering true plan) _ _ _ _ _ (Done-steps _ (answering true plan) _ _ _ _ _ c.in_ok-exchange.ensures.taken refl (ap (λ (l : Line). l.cursor) c.in_ok-exchange.ensures.line))
           (edit_word_plan-some line c.in-Some.word made c.pos-at.result (c.in-Some.word.start + c.len.result) c.in-Some.ensures.value c.pos-at.ensures.place (ap (λ n. c.in-Some.word.start + n) (search rules)));
     }
+
+pub exchange-requires-clause-between : goal.exchange-requires-clause-between
+exchange-requires-clause-between g c =
+    let word = c.in-Some.word in
+    IsCharBoundary-before_removal c.args.self.now.text word.start word.end c.pos-at.result c.pos-at.ensures.utf8 c.in-Some.ensures.start c.in-Some.ensures.end c.pos-at.ensures.boundary
+    (omega (arith, c.in-Some.ensures.ahead, c.pos-at.ensures.place))
+
+pub exchange-requires-clause-boundary : goal.exchange-requires-clause-boundary
+exchange-requires-clause-boundary g c =
+    let word = c.in-Some.word in
+    let text = c.args.self.now.text in
+    let made = c.as_str-2.result.now in
+    subst (λ n. IsCharBoundary (replace_range text word.start word.end made) (word.start + n)) (search rules)
+    (IsCharBoundary-past_replacement text word.start word.end made c.pos-at.ensures.utf8 c.in-Some.ensures.order c.in-Some.ensures.end)

@@ -1,9 +1,27 @@
-use Rattle.std.proofs.Common.{rules, ℕ, ◌≤◌, ◌+◌, ◌-◌, List, drop, ap, ◌∙◌, arith}
+use Rattle.std.proofs.Common.{rules, ℕ, ◌≤◌, ◌+◌, ◌-◌, List, drop, slice_range, ap, subst, sym, ◌∙◌, arith}
 use Rattle.std.proofs.lemmas.Result.{err_from_is_err_and}
+use Rattle.std.specs.List.{remove_range}
+use Rattle.std.specs.Str.{IsCharBoundary}
 use Rattle.rl_line.specs.Line.{Line}
-use Rattle.rl_line.proofs.IndentLemmas.{line_plan-dedent, drop-behind_removal}
+use Rattle.rl_line.proofs.IndentLemmas.{line_plan-dedent, drop-behind_removal, IsCharBoundary-from_part, IsCharBoundary-pulled}
 use Rattle.rl_line.proofs.PlanLemmas.{Completed-single, Halted-single}
 use Rattle.rl_line.proofs.line_buffer.LineBuffer.take_blanks.Goals as goal
+
+pub take_out_before-requires-clause-end : goal.take_out_before-requires-clause-end
+take_out_before-requires-clause-end g c =
+    let gone = c.floor_char_boundary-gone in
+    let part = c.range-text.ensures.value ∙ ap (λ t. slice_range t c.args.line.start c.args.line.end) c.as_str.ensures in
+    IsCharBoundary-from_part c.args.self.now.text c.args.line.start c.args.line.end gone.result c.requires.order c.requires.end (subst (λ t. IsCharBoundary t gone.result) part gone.ensures.boundary)
+
+pub take_out_before-requires-clause-boundary : goal.take_out_before-requires-clause-boundary
+take_out_before-requires-clause-boundary g c =
+    let text = c.args.self.now.text in
+    let start = c.args.line.start in
+    let gone = c.floor_char_boundary-gone in
+    let part = c.range-text.ensures.value ∙ ap (λ t. slice_range t start c.args.line.end) c.as_str.ensures in
+    let stop = IsCharBoundary-from_part text start c.args.line.end gone.result c.requires.order c.requires.end (subst (λ t. IsCharBoundary t gone.result) part gone.ensures.boundary) in
+    subst (IsCharBoundary (remove_range text start (start + gone.result))) (sym c.pulled-cursor.ensures)
+    (IsCharBoundary-pulled text start (start + gone.result) gone.result c.pos.result c.pos.ensures.utf8 (omega arith) (omega arith) c.requires.start stop c.pos.ensures.boundary)
 
 pub returns-in_err-take_out_before-clause-halted :
     goal.returns-in_err-take_out_before-clause-halted
