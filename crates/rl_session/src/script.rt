@@ -8,7 +8,7 @@ ghost use Rattle.rl_session.specs.Script.{begun, started, MeaningOut, LineOut, R
 ghost use Rattle.rl_session.specs.Progress.{Runs, Took, Halts};
 
 #[cfg(test)]
-mod tests;
+pub(crate) mod tests;
 
 use crate::grammar::{ScriptLine, parse};
 use crate::print::add_printed;

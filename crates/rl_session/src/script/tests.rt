@@ -439,7 +439,7 @@ impl Write for Broken {
 }
 
 // A comparison of texts proves faster where it is handed on than within an assert.
-fn is_so(rt: &impl Abort, is_so: bool, what: &str) {
+pub(crate) fn is_so(rt: &impl Abort, is_so: bool, what: &str) {
     assert!(rt; is_so, "{what}");
 }
 

@@ -1,14 +1,10 @@
 //! Rows of sessions.
+use crate::script::tests::is_so;
 use crate::session::{Command, Fault, Reply, Session};
 use rl_base::{At, CharSearch, GraphemeClusterMode, Movement, Word, WordAction};
 use std::alloc::Global;
 use std::process::Abort;
 use std::test::Fail;
-
-// A comparison proves faster where it is handed on than within an assert.
-fn is_so(rt: &impl Abort, is_so: bool, what: &str) {
-    assert!(rt; is_so, "{what}");
-}
 
 // The record has so many entries and open groups.
 fn records(rt: &impl Abort, session: &Session, entries: usize, groups: usize) {
