@@ -3,7 +3,7 @@ ghost use Rattle.std.specs.Prelude.{◌≡◌, ◌≤◌, List, ℕ, IfSome};
 ghost use Rattle.std.specs.Str.{IsCharBoundary};
 ghost use Rattle.unicode_segmentation.specs.Iter.{grapheme_indices_left};
 ghost use Rattle.rl_base.specs.Classes.{class_of};
-ghost use Rattle.rl_base.specs.Words.{prev_word, next_word, first_word_cluster, first_member, placed_clusters, next_stop, last_stop, last_place, stop_between, stops, nth};
+ghost use Rattle.rl_base.specs.Words.{prev_word, next_word, first_word_cluster, first_member, placed_clusters, next_stop, looked_at, last_stop, last_place, stop_between, stops, nth};
 
 use crate::motion::{At, RepeatCount, Word};
 use crate::places::classes::{Class, class_of, ends, starts};
@@ -83,14 +83,21 @@ fn next_stop(text: &str, at: At, word: Word, n: RepeatCount) -> Option<usize>
     ensures value { result ≡ next_stop at word n text.now }
     ensures boundary { IfSome result (IsCharBoundary text.now) }
 {
+    if let Some(stop) = nth_stop(looked_at(text, at), at, word, n) {
+        return Some(stop);
+    }
+    last_stop(text, at, word, n)
+}
+
+/// The clusters that a motion looks at: one to the last cluster of a word leaves out the first.
+fn looked_at(text: &str, at: At) -> GraphemeIndices<'_>
+    ensures { grapheme_indices_left result ≡ looked_at at (placed_clusters text.now) }
+{
     let mut clusters = text.grapheme_indices(true);
     if at == At::BeforeEnd {
         let _ = clusters.next();
     }
-    if let Some(stop) = nth_stop(clusters, at, word, n) {
-        return Some(stop);
-    }
-    last_stop(text, at, word, n)
+    clusters
 }
 
 /// Where a motion ends that finds fewer stops than were asked for.
