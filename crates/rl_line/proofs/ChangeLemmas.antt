@@ -1,11 +1,10 @@
 -- What stands in a text where it can go over an entry.
 use Rattle.std.proofs.Common.{◌≡◌, ℕ, ◌+◌, ◌-◌, ◌<◌, ◌≤◌, Bool, true, false, List, [], ◌∷◌, ◌++◌, length, take, drop, get_or, map, slice_range, Option, Some, None, refl, sym, ap, subst, ◌∙◌, arith, append-nil}
 use Rattle.std.proofs.lemmas.Grind.{take_at_read}
-use Rattle.std.proofs.lemmas.List.{length-take-le, map-append}
-use Rattle.std.proofs.Math.Seq.{drop-append_seam, take-append_seam}
+use Rattle.std.proofs.lemmas.List.{map-append}
 use Rattle.std.proofs.lemmas.Str.{IsUtf8-nil, IsUtf8-string_bytes, is_utf8-from_IsUtf8}
 use Rattle.std.specs.Prelude.{◌&&◌, IsSome, cond, is_some, option_and_then}
-use Rattle.std.specs.List.{insert_slice, replace_range}
+use Rattle.std.specs.List.{replace_range}
 use Rattle.std.specs.Str.{IsCharBoundary, IsUtf8, bytes_eq, is_utf8}
 use Rattle.rl_base.specs.declared.listeners.Direction.TheVariants.{Forward}
 use Rattle.rl_base.specs.Event.{apply}
@@ -155,13 +154,3 @@ GoesOver-not way xs m x text now lt e g h = sym (ap (option_and_then (unwind (ma
     none : (o : Option (List ℕ)) → is_some o ≡ false → o ≡ None
     none None h = refl
     none (Some t) h = cc
-
--- ---- what goes in where a part was taken out stands in its place
-pub insert-at_removal : (text : List ℕ) (i j : ℕ) (s : List ℕ) → i ≤ length text → insert_slice (replace_range text i j []) i s ≡ replace_range text i j s
-insert-at_removal text i j s le =
-    let front = take i text ++ [] in
-    let back = drop j text in
-    let len : length front ≡ i = ap length (append-nil (take i text)) ∙ length-take-le i text le in
-    let before : take i (front ++ back) ≡ take i text = subst (λ k. take k (front ++ back) ≡ front) len (take-append_seam front back) ∙ append-nil (take i text) in
-    let behind : drop i (front ++ back) ≡ back = subst (λ k. drop k (front ++ back) ≡ back) len (drop-append_seam front back) in
-    ap (λ l. (l ++ s) ++ drop i (front ++ back)) before ∙ ap (λ l. (take i text ++ s) ++ l) behind

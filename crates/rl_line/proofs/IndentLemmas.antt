@@ -8,7 +8,7 @@ use Rattle.std.specs.declared.ops.Range.{Range}
 use Rattle.std.specs.List.{repeat, insert_slice, remove_range, replace_range}
 use Rattle.std.specs.Str.{IsAscii, IsCharBoundary, IsUtf8, trim_start}
 use Rattle.std.proofs.lemmas.Bool.Decides.{nat_tests}
-use Rattle.std.proofs.lemmas.List.{drop-drop, drop_at, append-nil, get_or-drop, get_or-take, nil_from_length, take-append-drop, take-take, length-drop, length-take-le}
+use Rattle.std.proofs.lemmas.List.{drop-drop, append-nil, get_or-drop, get_or-take, nil_from_length, take-append-drop, take-take, length-drop, length-take-le}
 use Rattle.std.proofs.lemmas.List.Edits.{length-between}
 use Rattle.std.proofs.lemmas.Str.{IsCharBoundary-from_rest}
 use Rattle.std.proofs.lemmas.Str.Ascii.{IsAscii-nil, IsAscii-cons}
@@ -18,7 +18,7 @@ use Rattle.rl_base.specs.Text.{greatest_boundary}
 use Rattle.rl_base.specs.declared.listeners.Direction.TheVariants.{Forward}
 use Rattle.rl_base.specs.declared.listeners.Refusal.{Refusal}
 use Rattle.rl_base.proofs.LineLemmas.{bytes_of-append, bytes_of-lines, end-from, lines-from, lines-next, number-behind, number-mono, number-within, start-next, starts_with_line}
-use Rattle.rl_base.proofs.TextLemmas.{IsCharBoundary-before, IsCharBoundary-behind, IsCharBoundary-before_removal, IsCharBoundary-at_removal, removed-is_replaced, greatest_boundary-is}
+use Rattle.rl_base.proofs.TextLemmas.{drop-behind, IsCharBoundary-before, IsCharBoundary-behind, IsCharBoundary-before_removal, IsCharBoundary-at_removal, removed-is_replaced, greatest_boundary-is}
 use Rattle.rl_line.specs.Indents.{blanks, final_line, first_line, line_plan, lines_plan, spaces, parts, put_spaces, pushed, pulled}
 use Rattle.rl_line.specs.Plan.{Plan, Step, Taken, Completed, Done, Halted, after_steps, single}
 use Rattle.rl_line.specs.Line.{Line}
@@ -76,13 +76,6 @@ pub pushed-none : (i cursor : ℕ) → pushed i 0 cursor ≡ cursor
 pushed-none i cursor = grind (arith, nat_tests)
 
 -- ---- what stands behind a change
-pub drop-behind : (text : List ℕ) (i j q k : ℕ) (s : List ℕ) → i ≤ length text → j ≤ q → k ≡ i + length s + (q - j) → drop k (replace_range text i j s) ≡ drop q text
-drop-behind text i j q k s within le e =
-    let front = take i text ++ s in
-    let len : k ≡ length front + (q - j) = omega (arith, length-append (take i text) s, length-take-le i text within, e) in
-    ap (λ n. drop n (front ++ drop j text)) len ∙ sym (drop-drop (q - j) (length front) (front ++ drop j text))
-    ∙ ap (drop (q - j)) (drop_at front (drop j text) (length front) refl) ∙ drop-drop (q - j) j text ∙ ap (λ n. drop n text) (omega arith)
-
 pub drop-behind_removal : (text : List ℕ) (i j q k : ℕ) → i ≤ length text → j ≤ q → k ≡ i + (q - j) → drop k (remove_range text i j) ≡ drop q text
 drop-behind_removal text i j q k within le e = ap (drop k) (removed-is_replaced text i j) ∙ drop-behind text i j q k [] within le (omega (arith, e))
 

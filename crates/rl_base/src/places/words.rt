@@ -67,6 +67,7 @@ pub fn first_word_cluster(text: &str, pos: usize) -> Option<usize>
     Some(pos + place)
 }
 
+/// The place of the first cluster that belongs to Emacs words.
 fn first_member(text: &str) -> Option<usize>
     ensures value { result ≡ first_member (placed_clusters text.now) }
     ensures boundary { IfSome result (IsCharBoundary text.now) }
@@ -79,6 +80,7 @@ fn first_member(text: &str) -> Option<usize>
     None
 }
 
+/// The `n`-th stop in the text, or where the motion ends instead.
 fn next_stop(text: &str, at: At, word: Word, n: RepeatCount) -> Option<usize>
     ensures value { result ≡ next_stop at word n text.now }
     ensures boundary { IfSome result (IsCharBoundary text.now) }

@@ -1,12 +1,18 @@
-use Rattle.std.proofs.Common.{◌≡◌, List, Some, sym, ap, ◌∙◌}
+use Rattle.std.proofs.Common.{◌≡◌, ℕ, List, Option, Some, sym, ap, ◌∙◌}
 use Rattle.std.specs.Option.{option_or}
+use Rattle.rl_base.specs.declared.motion.At.{At}
+use Rattle.rl_base.specs.declared.motion.Word.{Word}
 use Rattle.rl_base.specs.Words.{PlacedCluster, nth, stops, looked_at, placed_clusters, last_stop}
 use Rattle.rl_base.proofs.WordLemmas.{IsCharBoundary-stop}
 use Rattle.rl_base.proofs.places.words.next_stop.Goals as goal
 
--- the stop that was found is the one that was asked for
+-- the stop among the clusters looked at
+asked : (text : List ℕ) (at : At) (word : Word) (n : ℕ) (left : List PlacedCluster) (stop : Option ℕ) → left ≡ looked_at at (placed_clusters text) → stop ≡ nth n (stops at word left)
+    → stop ≡ nth n (stops at word (looked_at at (placed_clusters text)))
+asked text at word n left stop e f = f ∙ ap (λ l. nth n (stops at word l)) e
+
 found : (c : goal.In-Some) → Some c.in-Some.stop ≡ nth c.args.n (stops c.args.at c.args.word (looked_at c.args.at (placed_clusters c.args.text.now)))
-found c = sym c.in-Some.is ∙ c.nth_stop.ensures ∙ ap (λ (l : List PlacedCluster). nth c.args.n (stops c.args.at c.args.word l)) c.looked_at.ensures
+found c = asked c.args.text.now c.args.at c.args.word c.args.n _ _ c.looked_at.ensures (sym c.in-Some.is ∙ c.nth_stop.ensures)
 
 pub returns-in-Some-clause-value : goal.returns-in-Some-clause-value
 returns-in-Some-clause-value c = ap (λ o. option_or o (last_stop c.args.at c.args.word c.args.n c.args.text.now)) (found c)
@@ -16,5 +22,5 @@ returns-in-Some-clause-boundary c = IsCharBoundary-stop c.args.text.now c.args.a
 
 pub returns-clause-value : goal.returns-clause-value
 returns-clause-value c =
-    let none = sym c.in_default.is ∙ c.nth_stop.ensures ∙ ap (λ (l : List PlacedCluster). nth c.args.n (stops c.args.at c.args.word l)) c.looked_at.ensures in
+    let none = asked c.args.text.now c.args.at c.args.word c.args.n _ _ c.looked_at.ensures (sym c.in_default.is ∙ c.nth_stop.ensures) in
     c.last_stop.ensures.value ∙ ap (λ o. option_or o (last_stop c.args.at c.args.word c.args.n c.args.text.now)) none
