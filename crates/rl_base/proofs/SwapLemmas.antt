@@ -79,7 +79,7 @@ deleted front old rest side u w =
     ∙ ap (λ x. front ++ x) (past front old rest)))
 
 -- an event that was applied swaps
-some_is : {A : Type 0} (o : Option A) (a : A) → o ≡ Some a → IsSome o
+pub some_is : {A : Type 0} (o : Option A) (a : A) → o ≡ Some a → IsSome o
 some_is None a h = cc
 some_is (Some b) a h = refl
 

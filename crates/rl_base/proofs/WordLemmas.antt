@@ -19,19 +19,19 @@ use Rattle.unicode_segmentation.proofs.SegmentsLemmas.{IsPieceOf, All-IsPieceOf,
 use Rattle.rl_base.specs.Clusters.{clusters, bytes_in}
 use Rattle.rl_base.proofs.ClusterLemmas.{bytes_in-clusters}
 use Rattle.rl_base.proofs.TextLemmas.{IsCharBoundary-in_front}
-use Rattle.rl_base.specs.Words.{PlacedCluster, is_word, placed_clusters, prev_word, looked_at, last_place, neighbors, stop_between, stops, nth, starts, ends, first_member}
+use Rattle.rl_base.specs.Words.{PlacedCluster, is_word, placed_clusters, prev_word, looked_at, last_place, neighbours, stop_between, stops, nth, starts, ends, first_member}
 
 -- one more element at the end is one more pair at the end
-pub neighbors_push : {X : Type 0} (xs : List X) (x y : X) → neighbors ((xs ++ x ∷ []) ++ y ∷ []) ≡ neighbors (xs ++ x ∷ []) ++ (x, y) ∷ []
-neighbors_push [] x y = refl
-neighbors_push (z ∷ []) x y = refl
-neighbors_push (z ∷ (w ∷ xs)) x y = ap (λ ps. (z, w) ∷ ps) (neighbors_push (w ∷ xs) x y)
+pub neighbours_push : {X : Type 0} (xs : List X) (x y : X) → neighbours ((xs ++ x ∷ []) ++ y ∷ []) ≡ neighbours (xs ++ x ∷ []) ++ (x, y) ∷ []
+neighbours_push [] x y = refl
+neighbours_push (z ∷ []) x y = refl
+neighbours_push (z ∷ (w ∷ xs)) x y = ap (λ ps. (z, w) ∷ ps) (neighbours_push (w ∷ xs) x y)
 
 -- one more cluster at the end is one more stop at the end, if there is one between the last two
 pub stops_push : (at : At) (sense : Word) (xs : List PlacedCluster) (x y : PlacedCluster)
     → stops at sense ((xs ++ x ∷ []) ++ y ∷ []) ≡ stops at sense (xs ++ x ∷ []) ++ cons_option (stop_between at sense (x, y)) []
 stops_push at sense xs x y =
-    ap (filter_map (stop_between at sense)) (neighbors_push xs x y) ∙ filter_map-append (stop_between at sense) (neighbors (xs ++ x ∷ [])) ((x, y) ∷ [])
+    ap (filter_map (stop_between at sense)) (neighbours_push xs x y) ∙ filter_map-append (stop_between at sense) (neighbours (xs ++ x ∷ [])) ((x, y) ∷ [])
 
 -- the n-th start of a word from the back, or 0
 abbrev pub start_before : Word → ℕ → List PlacedCluster → ℕ

@@ -72,8 +72,8 @@ abbrev pub placed_clusters : List ℕ → List PlacedCluster
 placed_clusters text = with_offsets 0 (clusters text)
 
 -- each element with the one after it
-abbrev pub neighbors : {X : Type 0} → List X → List (X × X)
-neighbors xs = zip xs (drop 1 xs)
+abbrev pub neighbours : {X : Type 0} → List X → List (X × X)
+neighbours xs = zip xs (drop 1 xs)
 
 -- where a motion stops between x and y, the cluster after it, if it does
 abbrev pub stop_between : At → Word → PlacedCluster × PlacedCluster → Option ℕ
@@ -84,7 +84,7 @@ stop_between BeforeEnd sense (x, y) = if ends sense x.1 y.1 then Some x.0 else N
 
 -- all places where a motion over the clusters stops
 abbrev pub stops : At → Word → List PlacedCluster → List ℕ
-stops at sense pieces = filter_map (stop_between at sense) (neighbors pieces)
+stops at sense pieces = filter_map (stop_between at sense) (neighbours pieces)
 
 -- the n-th element, counted from 1
 abbrev pub nth : ℕ → List ℕ → Option ℕ

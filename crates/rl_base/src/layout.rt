@@ -15,10 +15,10 @@ mod tests;
 /// A number of columns or rows.
 pub type Unit = u16;
 
-/// How the columns of a grapheme cluster are counted.
+/// How the columns of a text are counted.
 #[derive(Clone, Copy, Debug, PartialEq, Eq)]
 pub enum GraphemeClusterMode {
-    /// The width of the whole cluster (UAX #11 and emoji sequences).
+    /// The width of the whole (UAX #11 and emoji sequences).
     Unicode,
     /// The widths of its characters, added up, as `wcwidth` counts them.
     WcWidth,

@@ -11,8 +11,10 @@ use thiserror::Error;
 /// The side of the cursor from which a text is taken.
 #[derive(Clone, Copy, Debug, Default, PartialEq, Eq)]
 pub enum Direction {
+    /// From the cursor on.
     #[default]
     Forward,
+    /// Up to the cursor.
     Backward,
 }
 

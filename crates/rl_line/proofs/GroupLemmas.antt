@@ -5,7 +5,7 @@ use Rattle.rl_base.specs.Event.{Event, InsertChar, InsertStr, Delete, Replace, S
 use Rattle.rl_line.specs.Record.{Entry, Begin, End, Inserted, Deleted, Replaced, Record, entries_after, record_step}
 use Rattle.rl_line.specs.Units.{UndoUnit, Open, Whole, close, units, together, opens, level, has_change, is_change, end_one, end_times, ends_in_begin, adds_end, begun, ended, marks, mark, IsMatched, GroupAt, InGroup, Hears, Begins, after_in_group}
 use Rattle.rl_line.proofs.RecordLemmas.{value_of}
-use Rattle.rl_line.proofs.UnitLemmas.{AllGood, AllGood-left, together-append, Settles, flags_on, cut_good, cut_more-append, good_cuts, units-good, together-units, IsMatched-front, IsMatched-together}
+use Rattle.rl_line.proofs.UnitLemmas.{AllGood, AllGood-left, or_true, together-append, Settles, flags_on, cut_good, cut_more-append, good_cuts, units-good, together-units, IsMatched-front, IsMatched-together}
 use Rattle.rl_line.proofs.MatchLemmas.{marks-last, level-is, end_one-cons, IsMatched-after, IsMatched-begin}
 
 pub has_change-append : (xs ys : List Entry) → has_change (xs ++ ys) ≡ has_change xs || has_change ys
@@ -60,10 +60,6 @@ closes (Whole es ∷ us) inner n h =
       whole = r.whole;
       is = r.is ∙ ap (λ x. Whole (Begin ∷ (x ++ (End ∷ []))) ∷ r.others) (sym (append_assoc (together r.within) es inner));
     }
-
-or_true : (b : Bool) → (b || true) ≡ true
-or_true true = refl
-or_true false = refl
 
 -- where an End may stand, a group with a change stands before it
 pub group_at : (xs : List Entry) → IsMatched (xs ++ (End ∷ [])) → GroupAt xs

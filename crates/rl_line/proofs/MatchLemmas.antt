@@ -3,6 +3,7 @@ use Rattle.std.proofs.Common.{◌≡◌, ℕ, ◌+◌, suc, arith, Bool, true, f
 use Rattle.std.proofs.lemmas.List.{take-append-drop, reverse-append, reverse-reverse}
 use Rattle.std.specs.Option.{option_map_or}
 use Rattle.std.specs.Prelude.{option_and_then, IsSome, zero, max, ◌&&◌, ◌==◌, not, encode_utf8}
+use Rattle.rl_base.proofs.SwapLemmas.{some_is}
 use Rattle.rl_base.specs.Event.{Event, InsertChar, InsertStr, Delete, Replace, Start, Stop}
 use Rattle.rl_base.specs.Words.{is_alphanumeric, is_word_cluster}
 use Rattle.rl_line.specs.Record.{Entry, Begin, End, Inserted, Deleted, Replaced, Record, entries_of, joined, entries_after, pending_after, record_step}
@@ -159,10 +160,6 @@ marks-last front e fs h =
 pub record Lower (es : List Entry) (n : ℕ) : Type 0 where
   pub matched : IsMatched es
   pub level_is : level es ≡ n
-
-pub some_is : {A : Type 0} (o : Option A) (a : A) → o ≡ Some a → IsSome o
-some_is None a h = cc
-some_is (Some b) a h = refl
 
 pub Lower-end_one : (es : List Entry) (n : ℕ) → IsMatched es → level es ≡ suc n → Lower (end_one es) n
 Lower-end_one [] n h k = absurd (omega arith)

@@ -4,6 +4,7 @@ use Rattle.std.proofs.lemmas.Bool.{eqb-true}
 use Rattle.std.specs.Option.{option_map_or}
 use Rattle.std.specs.Prelude.{option_and_then, encode_utf8, IsSome, ◌==◌, ◌&&◌, cond, not}
 use Rattle.std.specs.Str.{IsUtf8}
+use Rattle.rl_base.proofs.TextLemmas.{and_right}
 use Rattle.rl_base.specs.declared.listeners.Direction.TheVariants.{Forward}
 use Rattle.rl_base.specs.Event.{Event, InsertChar, InsertStr, Delete, Replace, Start, Stop, apply}
 use Rattle.rl_base.proofs.SwapLemmas.{Swaps, Swaps-back, Swaps-nothing, Swaps-behind, Swaps-before, Swaps-InsertStr, Swaps-InsertChar, Swaps-Delete, Swaps-Replace, apply-InsertStr-Swaps, apply-Delete-Swaps, apply-Replace-Swaps, apply-IsUtf8}
@@ -123,16 +124,12 @@ pub unless : {A : Type 0} (b : Bool) (c : A) (o : Option A) → cond b None o �
 unless true c o h = cc
 unless false c o h = h
 
-right : (a b : Bool) → a && b ≡ true → b ≡ true
-right true b h = h
-right false b h = cc
-
 -- the joint entry does what the entry and the event do
 redone-joined : (event : Event) (e joint : Entry) (x y z : List ℕ) → joined event e ≡ Some joint → IsUtf8 x → apply (event_of e) x ≡ Some y → apply event y ≡ Some z
     → apply (event_of joint) x ≡ Some z
 redone-joined (InsertChar i c) (Inserted j s) joint x y z h u p q =
     let b = if_some (is_alphanumeric c && (j + length s == i)) (Inserted j (s ++ encode_utf8 c)) joint h in
-    let at = eqb-true (j + length s) i (right (is_alphanumeric c) (j + length s == i) b.0) in
+    let at = eqb-true (j + length s) i (and_right (is_alphanumeric c) (j + length s == i) b.0) in
     ap (λ k. apply (event_of k) x) (sym b.1)
     ∙ apply-InsertStr-Swaps x z j (s ++ encode_utf8 c)
     (Swaps-behind x y z j i [] s [] (encode_utf8 c) (Swaps-InsertStr x y j s u p) (Swaps-InsertChar y z i c (apply-IsUtf8 (InsertStr j s) x y u p) q) at)

@@ -11,7 +11,8 @@ use Rattle.rl_line.specs.Units.{UndoUnit, Open, Whole, units, together, opens, l
 use Rattle.rl_line.specs.Undo.{cursor_after, line_after, line_ahead, line_back, Undone, Redos}
 use Rattle.rl_line.proofs.RecordLemmas.{replay-append, through, replay-unwind}
 use Rattle.rl_line.proofs.UnitLemmas.{AllGood, Settles, kept-last, opens-reverse, units-good, units-append, IsMatched-append, on, together-reverse, AllGood-reverse}
-use Rattle.rl_line.proofs.MatchLemmas.{AllGood-take, some_is}
+use Rattle.rl_base.proofs.SwapLemmas.{some_is}
+use Rattle.rl_line.proofs.MatchLemmas.{AllGood-take}
 
 IsMatched-on : (vs : List UndoUnit) → AllGood vs → opens vs ≡ 0 → IsMatched (on vs)
 IsMatched-on [] g o = refl
@@ -79,7 +80,7 @@ line_after-text e line next h =
     let same : stepped line p.0 (cursor_after line.cursor e) ≡ next = let k = p.2 in cc in
     p.1 ∙ ap (λ (l : Line). Some l.text) same
 
--- a line that goes back has the text of `unwind` then
+-- and a line that goes back has the text of `unwind`
 pub line_back-unwind : (es : List Entry) (line now : Line) → line_back es line ≡ Some now → unwind es line.text ≡ Some now.text
 line_back-unwind [] line now h = let e : line ≡ now = cc in ap (λ (l : Line). Some l.text) e
 line_back-unwind (e ∷ es) line now h =

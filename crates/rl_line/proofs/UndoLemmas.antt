@@ -70,7 +70,7 @@ IsBack-next way xs m x start now next text lt e b fits is =
       rest = subst IsSome (rest_split way xs m x now lt e ∙ ap (option_and_then (line_back (map (faced way) (take m xs)))) one) b.rest;
     }
 
--- a line that goes back has the text of `unwind` then
+-- where a text is unwound, a line goes back, and has that text then
 pub line_back-text : (es : List Entry) (line : Line) (text : List ℕ) → unwind es line.text ≡ Some text → (l : Line) × (line_back es line ≡ Some l) × (l.text ≡ text)
 line_back-text [] line text h = (line, refl, cc)
 line_back-text (e ∷ es) line text h =

@@ -156,7 +156,7 @@ or_false : (f b : Bool) → f ≡ false → f || b ≡ true → b ≡ true
 or_false false b e h = h
 or_false true b e h = cc
 
-or_true : (f : Bool) → f || true ≡ true
+pub or_true : (f : Bool) → f || true ≡ true
 or_true false = refl
 or_true true = refl
 

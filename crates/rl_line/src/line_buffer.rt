@@ -25,6 +25,8 @@ mod ranges;
 mod transpositions;
 
 use crate::change::{Change, Way, go_over, greatest_len_over, swap_in};
+#[cfg(test)]
+pub(crate) use edits::tests::replace;
 pub use kills::kill_agrees_with_copy;
 #[cfg(test)]
 pub(crate) use motions::tests::line_of;

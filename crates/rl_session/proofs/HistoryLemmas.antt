@@ -205,7 +205,7 @@ Holds-other start held old End (says.Answer a) new d h =
     History-changes start held new (with_changes (ended old.pair.changes) old) (History-ended start held old.line.text old.pair.changes h) d.1
 Holds-other start held old End (says.Refused NoMemory) new d h = History-changes start held new old h d
 Holds-other start held old End _ new d h = absurd d
-Holds-other start held old (Undo n) (says.Answer a) new d h = History-TookBack n start held _ old new a h d.undone
+Holds-other start held old (Undo n) (says.Answer a) new d h = History-TookBack _ start held _ old new a h d.undone
 Holds-other start held old (Undo n) (says.Refused NoMemory) new d h = History-changes start held new old h d
 Holds-other start held old (Undo n) _ new d h = absurd d
 Holds-other start held old Redo (says.Answer a) new d h = History-PutAgain start held _ old new a h d.redone

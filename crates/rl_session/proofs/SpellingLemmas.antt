@@ -8,6 +8,7 @@ use Rattle.std.specs.Char.{IsScalar}
 use Rattle.std.proofs.lemmas.Bool.Decides.{eqb_tells}
 use Rattle.std.proofs.lemmas.Str.{encode_same, encode_ascii, inside_one, length-encode, len_utf8_bounds, cons_from_encodes}
 use Rattle.std.proofs.lemmas.List.{append_cancel_left}
+use Rattle.rl_base.proofs.TextLemmas.{and_left}
 use Rattle.rl_session.proofs.PartLemmas.{Lacks, Lacks-by_index, same_parts}
 use Rattle.rl_session.specs.Grammar.{hex_digit, hex_from, letter_of, Escapes, Spells, SpellsChar, letter, braced, nothing, plain, escape}
 use Rattle.rl_session.specs.Reads.{BeginsEscape, BeginsNoEscape, Begins, BeginsChar, SpellsNothing, SpellsNoChar}
@@ -212,14 +213,10 @@ escaped_char bytes behind None e h = no_escaped_char bytes behind e h
 escaped_char bytes behind (Some found) e h = subst (λ b. BeginsChar b found.0 found.1.now) (sym e) (Begins-escape behind found.1.now found.0 h)
 
 -- a character of a text is a scalar value
-first : (x y : Bool) → (x && y) ≡ true → x ≡ true
-first true y h = refl
-first false y h = absurd cc
-
 pub IsScalar-first : (bytes rest : List ℕ) (c : ℕ) → IsUtf8 bytes → bytes ≡ encode_utf8 c ++ rest → IsScalar c
 IsScalar-first bytes rest c u e =
     let parts = cons_from_encodes u.0 rest c (u.1.1 ∙ e) in
-    first (scalar c) (scalars parts.0) (subst (λ l. scalars l ≡ true) parts.1 u.1.0)
+    and_left (scalar c) (scalars parts.0) (subst (λ l. scalars l ≡ true) parts.1 u.1.0)
 
 pub not_slash : (bytes rest : List ℕ) (c : ℕ) → bytes ≡ encode_utf8 c ++ rest → ((more : List ℕ) → bytes ≢ 92 ∷ more) → c ≢ 92
 not_slash bytes rest c e n is = n rest (e ∙ ap (λ l. l ++ rest) (ap encode_utf8 is ∙ encode_ascii 92 (omega arith)))

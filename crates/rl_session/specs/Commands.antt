@@ -222,7 +222,7 @@ continues _ = false
 abbrev pub readied : Command → State → State
 readied command s = with_ring (if continues command then s.pair.ring else reset s.pair.ring) s
 
--- whether a yank put nothing in
+-- whether it is a yank that was not replied with Inserted (Some _)
 abbrev pub is_vain_yank : Command → Reply → Bool
 is_vain_yank (Yank _) (says.Inserted (Some _)) = false
 is_vain_yank YankPop (says.Inserted (Some _)) = false
@@ -230,7 +230,7 @@ is_vain_yank (Yank _) _ = true
 is_vain_yank YankPop _ = true
 is_vain_yank _ _ = false
 
--- the state in which a command ends: the ring is reset after such a yank
+-- the state in which a command ends: the ring is reset after a vain yank
 abbrev pub settled : Command → Reply → State → State
 settled command reply s = with_ring (if is_vain_yank command reply then reset s.pair.ring else s.pair.ring) s
 

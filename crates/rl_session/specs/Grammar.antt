@@ -190,7 +190,7 @@ pub data Names : List ℕ → Option (List ℕ) → Movement → Type 0 where
 abbrev pub NamesMovement : List ℕ → Movement → Type 0
 NamesMovement bytes movement = Names (word bytes) (rest bytes) movement
 
--- an amount of columns and a movement
+-- an amount to indent by and a movement
 pub record AmountMovement (given : List ℕ) (amount : ℕ) (movement : Movement) : Type 0 where
   pub behind : List ℕ
   pub amounts : Numbered 255 given amount behind

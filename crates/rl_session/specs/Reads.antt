@@ -66,7 +66,7 @@ HasNoAt given = (n : ℕ) (a : At) (w : Word) → CountAtWord given n a w → �
 abbrev pub HasNoSearch : List ℕ → Type 0
 HasNoSearch given = (n : ℕ) (cs : CharSearch) → CountSearch given n cs → ⊥
 
--- the bytes are no amount of columns and movement
+-- the bytes are no amount to indent by and movement
 abbrev pub HasNoMovement : List ℕ → Type 0
 HasNoMovement given = (amount : ℕ) (movement : Movement) → AmountMovement given amount movement → ⊥
 

@@ -380,7 +380,7 @@ fn range_deletion(given: &str) -> Option<Command>
     Some(Command::DeleteRange(start, number(behind, usize::MAX)?))
 }
 
-// An amount of columns and a movement.
+// An amount to indent by and a movement.
 fn amount_and_movement(given: &str) -> Option<(u8, Movement)>
     ensures { MatchOption result (HasNoMovement given.now) (λ found. AmountMovement given.now found.0 found.1) }
 {

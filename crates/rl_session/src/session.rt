@@ -43,7 +43,7 @@ pub enum Command {
     YankPop,
     /// Puts a text in the place of the line's, with the cursor at a place of it.
     Update(String, usize),
-    /// Inserts a text at a place, and leaves the cursor at its own.
+    /// Inserts a text at a place, and leaves the cursor at its own. Answers whether the place was the end.
     InsertStr(usize, String),
     /// Puts a text in the place of what stands between two places.
     Replace(usize, usize, String),
@@ -69,7 +69,7 @@ pub enum Command {
     DeleteTo(CharSearch, RepeatCount),
     /// Exchanges the clusters at the cursor.
     TransposeChars,
-    /// Exchanges the word at the cursor with the n-th word before it.
+    /// Exchanges the word before the n-th word's end ahead with the word n words before it.
     TransposeWords(RepeatCount),
     /// Changes the letter case of the word at the cursor or ahead.
     EditWord(WordAction),
@@ -77,7 +77,7 @@ pub enum Command {
     Kill(Movement),
     /// Copies what a movement covers.
     Copy(Movement),
-    /// Indents the lines of a movement by so many columns, or dedents them.
+    /// Indents the lines of a movement by so many spaces, or dedents them by up to so many bytes of blanks.
     Indent(Movement, u8, bool),
     /// Opens a group of changes.
     Begin,
@@ -94,10 +94,11 @@ pub enum Command {
 /// Why a command was refused.
 #[derive(Clone, Copy, Debug, PartialEq, Eq, Error)]
 pub enum Fault {
-    /// A growth found no memory.
+    /// A growth found no memory, or a length does not fit a `usize`.
     #[error("out of memory")]
     NoMemory = 1,
-    /// A place is past the text's end or inside a character.
+    /// A place is past the text's end or inside a character, two places are out of order, or the cursor would
+    /// stand inside a character.
     #[error("no such place in the text")]
     BadPlace = 2,
     /// What was yanked does not stand before the cursor.
@@ -113,9 +114,9 @@ pub enum Fault {
 pub enum Reply {
     /// It is done.
     Done,
-    /// Whether it did something.
+    /// The command's own yes or no, mostly whether there was anything to do.
     Answer(bool),
-    /// Whether the cursor was at the end, or None where nothing went in.
+    /// Whether the cursor was at the end, or None where there was no text to insert, or no room for it.
     Inserted(Option<bool>),
     /// The text that was deleted or copied, or None where there was none.
     Text(Option<String>),
@@ -165,9 +166,10 @@ fn line_of(alloc: Global, text: &str, pos: usize, limit: usize) -> Result<LineBu
 }
 
 impl Session {
-    /// A session on a text, with the cursor at the byte place `pos`. Its line may not grow past `limit`
-    /// bytes, or past the text where that is longer. `BadPlace` comes exactly where `pos` is no boundary
-    /// between two characters.
+    /// A session on a text, with the cursor at the byte place `pos`. Its line has the limit `limit`, in bytes,
+    /// or the text's length where that is greater, and may not grow; its ring has room for `ring_size` texts;
+    /// `mode` says how columns are counted. `BadPlace` comes exactly where `pos` is no boundary between two
+    /// characters.
     pub fn new(
         alloc: Global,
         text: &str,
@@ -269,8 +271,8 @@ impl Session {
     }
 
     /// Does one command. The ring is reset first, unless the command is a yank, or a kill by another movement
-    /// than by clusters, and again after a yank that put nothing in. Whatever it answers, the recorded changes
-    /// lead from the starting text to the present one.
+    /// than by clusters, and again after a yank that was not replied with `Inserted(Some(..))`. Whatever it
+    /// answers, the recorded changes lead from the starting text to the present one.
     pub fn apply(&mut self, command: &Command) -> Reply
         ensures step { Step self.old command.now result self.new }
         ensures replays { (start : List ℕ) → Replays start self.old → Replays start self.new }

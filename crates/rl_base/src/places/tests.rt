@@ -314,7 +314,7 @@ fn last_behind(alloc: Global, text: &str, pos: usize) -> Result<Option<usize>, A
     }
 }
 
-/// The places where a motion over the text stops, by the kinds of each two neighbors.
+/// The places where a motion over the text stops, by the kinds of each two neighbours.
 fn stops(alloc: Global, text: &str, at: At, word: Word) -> Result<Vec<usize>, AllocError> {
     let mut found = Vec::new(alloc);
     let first = usize::from(at == At::BeforeEnd);

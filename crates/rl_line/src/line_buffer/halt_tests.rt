@@ -1,5 +1,6 @@
 //! Edits that their listener refuses halfway, and what they leave.
 use crate::LineBuffer;
+use crate::line_buffer::edits::tests::{replace, update, yank_pop};
 use crate::line_buffer::heard::Heard;
 use crate::line_buffer::motions::tests::{leaves, line_of};
 use rl_base::{Movement, Refusal, RepeatCount, Word, WordAction};
@@ -26,47 +27,11 @@ enum Edit {
     Dedent(u8),
 }
 
-// Puts the text in the place of what stands before the cursor.
-fn yank_pop(
-    rt: &impl Abort,
-    line: &mut LineBuffer,
-    size: usize,
-    text: &str,
-    heard: &mut Heard,
-) -> Option<Refusal> {
-    let at = line.pos();
-    assert!(rt; size <= at && line.as_str().is_char_boundary(at - size));
-    line.yank_pop(size, text, heard).err()
-}
-
-// Puts the text in the place of the whole text.
-fn replace(
-    rt: &impl Abort,
-    line: &mut LineBuffer,
-    text: &str,
-    heard: &mut Heard,
-) -> Option<Refusal> {
-    let end = line.len();
-    assert!(rt; line.as_str().is_char_boundary(0) && line.as_str().is_char_boundary(end));
-    line.replace(0..end, text, heard).err()
-}
-
 // Takes the whole text out.
 fn delete_range(rt: &impl Abort, line: &mut LineBuffer, heard: &mut Heard) -> Option<Refusal> {
     let end = line.len();
     assert!(rt; line.as_str().is_char_boundary(0) && line.as_str().is_char_boundary(end));
     line.delete_range(0..end, heard).err()
-}
-
-// Puts the text in the place of the whole text, with the cursor at its start.
-fn update(
-    rt: &impl Abort,
-    line: &mut LineBuffer,
-    text: &str,
-    heard: &mut Heard,
-) -> Option<Refusal> {
-    assert!(rt; text.is_char_boundary(0));
-    line.update(text, 0, heard).err()
 }
 
 // Puts "cd" in at the cursor, which stays.
@@ -88,10 +53,13 @@ fn make(rt: &impl Abort, line: &mut LineBuffer, edit: &Edit, heard: &mut Heard) 
         Edit::Yank(text) => line.yank(text, 1, heard).err(),
         Edit::YankPop(text) => {
             let at = line.pos();
-            yank_pop(rt, line, at, text, heard)
+            yank_pop(rt, line, at, text, heard).err()
         }
-        Edit::Update(text) => update(rt, line, text, heard),
-        Edit::Replace(text) => replace(rt, line, text, heard),
+        Edit::Update(text) => update(rt, line, text, 0, heard).err(),
+        Edit::Replace(text) => {
+            let end = line.len();
+            replace(rt, line, 0, end, text, heard).err()
+        }
         Edit::Delete(n) => line.delete(*n, heard).err(),
         Edit::Kill(mvt) => line.kill(mvt, heard).err(),
         Edit::TransposeChars => line.transpose_chars(heard).err(),

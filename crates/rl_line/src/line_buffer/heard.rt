@@ -1,5 +1,5 @@
 //! A listener for tests, which hears so many changes and refuses the next.
-ghost use Rattle.std.specs.Prelude.{◌≡◌, ◌+◌, ◌-◌, length, min};
+ghost use Rattle.std.specs.Prelude.{◌≡◌, ◌+◌, ◌-◌, ◌<◌, length, min, IfErr, OnOk};
 ghost use Rattle.rl_base.specs.Event.{InsertChar, InsertStr, Delete, Replace, Start, Stop};
 ghost use Rattle.rl_base.specs.declared.listeners.Refusal.TheVariants.{Listener};
 
@@ -30,6 +30,18 @@ impl Heard {
         }
     }
 
+    // Hears a change more, if it will hear one yet.
+    fn hear(&mut self) -> Result<(), Refusal>
+        ensures ok { OnOk result ((0 < self.old.left) × (self.new ≡ record self.old { left = self.old.left - 1 })) }
+        ensures err { IfErr result (λ r. (self.old.left ≡ 0) × (r ≡ Listener) × (self.new ≡ self.old)) }
+    {
+        if self.left == 0 {
+            return Err(Refusal::Listener);
+        }
+        self.left -= 1;
+        Ok(())
+    }
+
     // What was deleted last, in the text before.
     pub(super) fn text_in<'a>(&self, text: &'a str) -> Option<&'a str> {
         text.get(self.place..self.place.saturating_add(self.len))
@@ -53,10 +65,7 @@ impl DeleteListener for Heard {
     }
 
     fn delete(&mut self, idx: usize, string: &str, dir: Direction) -> Result<(), Refusal> {
-        if self.left == 0 {
-            return Err(Refusal::Listener);
-        }
-        self.left -= 1;
+        self.hear()?;
         self.deletions = self.deletions.saturating_add(1);
         self.place = idx;
         self.len = string.len();
@@ -71,26 +80,14 @@ impl DeleteListener for Heard {
 
 impl ChangeListener for Heard {
     fn insert_char(&mut self, _idx: usize, _c: char) -> Result<(), Refusal> {
-        if self.left == 0 {
-            return Err(Refusal::Listener);
-        }
-        self.left -= 1;
-        Ok(())
+        self.hear()
     }
 
     fn insert_str(&mut self, _idx: usize, _string: &str) -> Result<(), Refusal> {
-        if self.left == 0 {
-            return Err(Refusal::Listener);
-        }
-        self.left -= 1;
-        Ok(())
+        self.hear()
     }
 
     fn replace(&mut self, _idx: usize, _old: &str, _new: &str) -> Result<(), Refusal> {
-        if self.left == 0 {
-            return Err(Refusal::Listener);
-        }
-        self.left -= 1;
-        Ok(())
+        self.hear()
     }
 }

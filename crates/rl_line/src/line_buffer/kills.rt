@@ -15,6 +15,7 @@ ghost use Rattle.rl_line.specs.Ranges.{text_in};
 #[cfg(test)]
 mod tests;
 
+use crate::change::copied;
 use crate::line_buffer::LineBuffer;
 use rl_base::{At, CharSearch, DeleteListener, Direction, Movement, Refusal, RepeatCount, Word};
 use std::ops::Range;
@@ -39,18 +40,13 @@ impl LineBuffer {
         ensures ok { IfOk result (λ copy. string_bytes copy ≡ text_in self.now range.now) }
         ensures err { IfErr result (λ r. r ≡ NoMemory) }
     {
-        match String::from_str(
-            *self.buf.allocator(),
-            &self.as_str()[range.start..range.end],
-        ) {
-            Ok(copy) => Ok(copy),
-            Err(_) => Err(Refusal::NoMemory),
-        }
+        let text = &self.as_str()[range.start..range.end];
+        copied(*self.buf.allocator(), text)
     }
 
     /// Deletes the next `n` grapheme clusters (GNU readline: delete-char), and answers their text, or None
-    /// where there is none. The answer is copied before the listener hears of it: refused, it leaves the
-    /// line as it was.
+    /// at the end and for `n` = 0. The answer is copied before the listener hears of it: refused, it leaves
+    /// the line as it was.
     pub fn delete<L: DeleteListener>(
         &mut self,
         n: RepeatCount,
@@ -110,7 +106,8 @@ impl LineBuffer {
     }
 
     /// Deletes the last `n` grapheme clusters before the cursor (GNU readline: backward-delete-char).
-    /// Answers whether there was one. It takes no memory; where its listener refuses, the line stays as it was.
+    /// Answers whether it deleted one: not at the start, nor for `n` = 0. It takes no memory; where its listener
+    /// refuses, the line stays as it was.
     pub fn backspace<L: DeleteListener>(
         &mut self,
         n: RepeatCount,
@@ -191,8 +188,8 @@ impl LineBuffer {
     }
 
     /// Deletes between the cursor and the `n`-th hit of a search, or the farthest, with the hit's character
-    /// for `Forward` and `Backward` (vi's `df`, `dt`, `dF` and `dT`). Answers whether there is one. It takes
-    /// no memory; where its listener refuses, the line stays as it was.
+    /// for `Forward` and `Backward` (vi's `df`, `dt`, `dF` and `dT`). Answers whether there is one; for
+    /// `n` = 0 there is none. It takes no memory; where its listener refuses, the line stays as it was.
     pub fn delete_to<L: DeleteListener>(
         &mut self,
         cs: CharSearch,

@@ -9,8 +9,8 @@ ghost use Rattle.rl_line.specs.LetterCase.{Recased, edit_word_plan, recased, wor
 mod tests;
 
 use crate::line_buffer::LineBuffer;
-use crate::line_buffer::transpositions::word_end;
-use rl_base::places::{first_word_cluster, next_pos};
+use crate::line_buffer::transpositions::{end_of_cluster, word_end};
+use rl_base::places::first_word_cluster;
 use rl_base::{ChangeListener, Refusal, WordAction};
 use std::alloc::{AllocError, Global};
 use std::ops::Range;
@@ -83,8 +83,5 @@ fn first_len(word: &str) -> usize
     if word.is_ascii() {
         return word.len().min(1);
     }
-    match next_pos(word, 0, 1) {
-        Some(end) => end,
-        None => 0,
-    }
+    end_of_cluster(word, 0)
 }

@@ -10,7 +10,8 @@ use crate::lines::{end_of_line, line_above, line_below, place_of_column, start_o
 use rl_base::{Layout, RepeatCount, Unit};
 
 impl LineBuffer {
-    /// Moves to the start of the cursor's line. Answers whether the cursor was elsewhere.
+    /// Moves to the start of the cursor's line (GNU readline: beginning-of-line). Answers whether the cursor
+    /// was elsewhere.
     pub fn move_home(&mut self) -> bool
         ensures { Moved (unless_there self.old (home self.old)) self.old self.new result }
     {
@@ -18,7 +19,8 @@ impl LineBuffer {
         self.move_elsewhere(start)
     }
 
-    /// Moves to the end of the cursor's line, before its newline. Answers whether the cursor was elsewhere.
+    /// Moves to the end of the cursor's line, before its newline (GNU readline: end-of-line). Answers whether
+    /// the cursor was elsewhere.
     pub fn move_end(&mut self) -> bool
         ensures { Moved (unless_there self.old (line_end self.old)) self.old self.new result }
     {
@@ -27,7 +29,8 @@ impl LineBuffer {
     }
 
     /// Moves up by `n` lines, at least one, or to the first, to the cluster with the number of the cursor's
-    /// column, or to the line's end. Answers whether there is a line above.
+    /// column, or to the line's end (GNU readline: previous-screen-line). The layout counts the columns, and
+    /// says how far its prompt pushes the first line. Answers whether there is a line above.
     pub fn move_to_line_up(&mut self, n: RepeatCount, layout: &Layout) -> bool
         ensures { Moved (place_above layout.now self.old.text self.old.cursor n) self.old self.new result }
     {
@@ -36,7 +39,8 @@ impl LineBuffer {
     }
 
     /// Moves down by `n` lines, at least one, or to the last, to the cluster with the number of the cursor's
-    /// column, or to the line's end. Answers whether there is a line below.
+    /// column, or to the line's end (GNU readline: next-screen-line). The layout counts the columns, and says
+    /// how far its prompt pushes the first line. Answers whether there is a line below.
     pub fn move_to_line_down(&mut self, n: RepeatCount, layout: &Layout) -> bool
         ensures { Moved (place_below layout.now self.old.text self.old.cursor n) self.old self.new result }
     {

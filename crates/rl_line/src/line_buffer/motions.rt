@@ -21,8 +21,8 @@ impl LineBuffer {
         self.pos >= self.buf.as_str().trim_end().len()
     }
 
-    /// The byte place past the next `n` grapheme clusters, or past all of them where there are fewer. None
-    /// at the end and for `n` = 0.
+    /// The byte place past the next `n` grapheme clusters (UAX #29), or past all of them where there are
+    /// fewer. None at the end and for `n` = 0.
     pub fn next_pos(&self, n: RepeatCount) -> Option<usize>
         ensures place { result ≡ next_pos self.now.text self.now.cursor n }
         ensures boundary { IfSome result (IsCharBoundary self.now.text) }
@@ -56,7 +56,7 @@ impl LineBuffer {
     }
 
     /// Moves back by `n` grapheme clusters, or to the start (GNU readline: backward-char). Answers whether
-    /// there was one.
+    /// it moved: not at the start, nor for `n` = 0.
     pub fn move_backward(&mut self, n: RepeatCount) -> bool
         ensures { Moved (prev_pos self.old.text self.old.cursor n) self.old self.new result }
     {
@@ -65,7 +65,7 @@ impl LineBuffer {
     }
 
     /// Moves ahead by `n` grapheme clusters, or to the end (GNU readline: forward-char). Answers whether
-    /// there was one.
+    /// it moved: not at the end, nor for `n` = 0.
     pub fn move_forward(&mut self, n: RepeatCount) -> bool
         ensures { Moved (next_pos self.old.text self.old.cursor n) self.old self.new result }
     {
@@ -109,7 +109,7 @@ impl LineBuffer {
     }
 
     /// Moves to the `n`-th hit of a search for a character, or to the farthest (GNU readline:
-    /// character-search). Answers whether there is one.
+    /// character-search). Answers whether there is one; for `n` = 0 there is none.
     pub fn move_to(&mut self, cs: CharSearch, n: RepeatCount) -> bool
         ensures { Moved (find_place self.old.text self.old.cursor cs n) self.old self.new result }
     {

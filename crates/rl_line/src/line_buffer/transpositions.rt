@@ -61,17 +61,23 @@ impl LineBuffer {
         ensures start { IfSome result (λ pair. IsCharBoundary self.now.text pair.1.start) }
         ensures end { IfSome result (λ pair. IsCharBoundary self.now.text pair.1.end) }
     {
+        let place = self.meeting_place()?;
+        clusters_around(self.as_str(), place)
+    }
+
+    // Where two clusters meet.
+    fn meeting_place(&self) -> Option<usize>
+        ensures value { result ≡ meeting_place self.now }
+        ensures boundary { IfSome result (IsCharBoundary self.now.text) }
+    {
         let text = self.as_str();
         let at = self.pos();
         text.graphemes(true).nth(1)?;
-        let place = if at == text.len() {
-            prev_pos(text, at, 1)?
+        if at == text.len() {
+            prev_pos(text, at, 1)
         } else {
-            at
-        };
-        let start = prev_pos(text, place, 1)?;
-        let stop = next_pos(text, place, 1)?;
-        Some((start, place..stop))
+            Some(at)
+        }
     }
 
     /// Exchanges the Emacs word before the `n`-th word's end ahead with the word `n` words before it (GNU
@@ -148,6 +154,20 @@ impl LineBuffer {
     }
 }
 
+// The place of the cluster before a place, and the range of the one behind it, if there are both.
+fn clusters_around(text: &str, place: usize) -> Option<(usize, Range<usize>)>
+    requires { IsCharBoundary text.now place }
+    ensures value { result ≡ clusters_around text.now place }
+    ensures order { IfSome result (λ pair. pair.0 ≤ pair.1.start × pair.1.start ≤ pair.1.end) }
+    ensures front { IfSome result (λ pair. IsCharBoundary text.now pair.0) }
+    ensures start { IfSome result (λ pair. IsCharBoundary text.now pair.1.start) }
+    ensures end { IfSome result (λ pair. IsCharBoundary text.now pair.1.end) }
+{
+    let front = prev_pos(text, place, 1)?;
+    let stop = next_pos(text, place, 1)?;
+    Some((front, place..stop))
+}
+
 pub(super) fn word_end(text: &str, pos: usize, n: RepeatCount) -> usize
     requires { IsCharBoundary text.now pos }
     ensures value { result ≡ word_end text.now pos n }
@@ -180,7 +200,7 @@ fn are_two(first: &Range<usize>, second: &Range<usize>) -> bool
 }
 
 // The end of the cluster at a place, or the place itself at the end of the text.
-fn end_of_cluster(text: &str, pos: usize) -> usize
+pub(super) fn end_of_cluster(text: &str, pos: usize) -> usize
     requires { IsCharBoundary text.now pos }
     ensures value { result ≡ end_of_cluster text.now pos }
     ensures ahead { pos ≤ result }

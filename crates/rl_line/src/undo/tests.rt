@@ -1,6 +1,6 @@
 //! The record, with answers that were worked out by hand, and what no clause says: that a call comes back with
 //! an answer.
-use crate::line_buffer::line_of;
+use crate::line_buffer::{line_of, replace};
 use crate::{Changeset, LineBuffer};
 use rl_base::{
     ChangeListener, DeleteListener, Direction, Movement, NoListener, Refusal, RepeatCount,
@@ -98,21 +98,6 @@ fn tell(record: &mut Changeset, event: Event) -> Result<(), Refusal> {
     }
 }
 
-// Replaces what stands between two places of the line.
-fn replace(
-    rt: &impl Abort,
-    line: &mut LineBuffer,
-    record: &mut Changeset,
-    start: usize,
-    end: usize,
-    text: &str,
-) -> Result<(), Refusal> {
-    let held = line.as_str();
-    let places = held.is_char_boundary(start) && held.is_char_boundary(end);
-    assert!(rt; start <= end && places, "from {start} to {end}");
-    line.replace(start..end, text, record)
-}
-
 // Puts "zz" in at the cursor, which stays.
 fn put_text(line: &mut LineBuffer, record: &mut Changeset) -> Result<bool, Refusal> {
     let at = line.pos();
@@ -152,7 +137,7 @@ pub(super) fn make(
         Call::Back(n) => truth(line.backspace(n, record)),
         Call::Ahead => delete_ahead(line, record),
         Call::KillFirstPrint => truth(line.kill(&Movement::ViFirstPrint, record)),
-        Call::Replace(start, end, text) => replace(rt, line, record, start, end, text).and(Ok(1)),
+        Call::Replace(from, to, text) => replace(rt, line, from, to, text, record).and(Ok(1)),
         Call::PutText => truth(put_text(line, record)),
         Call::UnheardInsert(c, n) => reached(line.insert(c, n, &mut NoListener)),
         Call::UnheardBack(n) => truth(line.backspace(n, &mut NoListener)),

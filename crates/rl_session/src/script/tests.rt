@@ -164,7 +164,12 @@ fn settings_are_for_the_next_text(rt: HostRuntime) -> Result<(), Fail> {
             b"ok 7 one two\ntrue 4 one \nok 4 one \ntrue 0 \ntrue 7 one two\n",
         ),
         (
-            "a limit for which there is no memory leaves the old text",
+            "a limit for which there is no memory leaves the first text",
+            b"limit 18446744073709551615\ntext a\n",
+            b"ok 0 \nrefused:1 0 \n",
+        ),
+        (
+            "and a later one",
             b"text a\nlimit 18446744073709551615\ntext b\nlimit 3\ntext c\n",
             b"ok 1 a\nok 1 a\nrefused:1 1 a\nok 1 a\nok 1 c\n",
         ),

@@ -6,7 +6,7 @@ ghost use Rattle.rl_session.specs.declared.session.Reply.{Reply};
 use crate::session::{Fault, Reply};
 use rl_base::Refusal;
 
-// The reply to a call that answers whether it did something.
+// The reply to a call that answers yes or no.
 pub(super) fn answered(outcome: Result<bool, Refusal>) -> Reply
     ensures { result ≡ replied Reply.Answer outcome }
 {

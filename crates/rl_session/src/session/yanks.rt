@@ -67,7 +67,7 @@ impl Session {
         }
     }
 
-    // Resets the ring after a yank that put nothing in.
+    // Resets the ring after a vain yank.
     pub(super) fn settle(&mut self, command: &Command, reply: &Reply)
         ensures { self.new ≡ settled command.now reply.now self.old }
     {
@@ -88,7 +88,7 @@ fn continues(command: &Command) -> bool
     }
 }
 
-// Whether a yank put nothing in.
+// Whether it is a yank that was not replied with `Inserted(Some(..))`.
 fn is_vain_yank(command: &Command, reply: &Reply) -> bool
     ensures { result ≡ is_vain_yank command.now reply.now }
 {

@@ -1,7 +1,7 @@
 //! Edits that put texts in, with answers that were worked out by hand.
 use crate::LineBuffer;
 use crate::line_buffer::motions::tests::{holds, leaves, line_within};
-use rl_base::{NoListener, Refusal, RepeatCount};
+use rl_base::{ChangeListener, NoListener, Refusal, RepeatCount};
 use std::alloc::Global;
 use std::process::Abort;
 use std::test::Fail;
@@ -16,44 +16,53 @@ enum Call {
 }
 
 // Puts the text in the place of what stands before the cursor.
-fn yank_pop(
+pub(crate) fn yank_pop<L: ChangeListener>(
     rt: &impl Abort,
     line: &mut LineBuffer,
     size: usize,
     text: &str,
+    listener: &mut L,
 ) -> Result<Option<bool>, Refusal> {
     let at = line.pos();
     assert!(rt; size <= at && line.as_str().is_char_boundary(at - size));
-    line.yank_pop(size, text, &mut NoListener)
+    line.yank_pop(size, text, listener)
 }
 
 // Puts the text in the place of a range.
-fn replace(
+pub(crate) fn replace<L: ChangeListener>(
     rt: &impl Abort,
     line: &mut LineBuffer,
     from: usize,
     to: usize,
     text: &str,
+    listener: &mut L,
 ) -> Result<(), Refusal> {
     let held = line.as_str();
     let places = held.is_char_boundary(from) && held.is_char_boundary(to);
     assert!(rt; from <= to && places, "from {from} to {to}");
-    line.replace(from..to, text, &mut NoListener)
+    line.replace(from..to, text, listener)
 }
 
 // Puts the text in the place of the whole text, with the cursor at that place of it.
-fn update(rt: &impl Abort, line: &mut LineBuffer, text: &str, pos: usize) -> Result<(), Refusal> {
+pub(crate) fn update<L: ChangeListener>(
+    rt: &impl Abort,
+    line: &mut LineBuffer,
+    text: &str,
+    pos: usize,
+    listener: &mut L,
+) -> Result<(), Refusal> {
     assert!(rt; text.is_char_boundary(pos), "{pos} is a place");
-    line.update(text, pos, &mut NoListener)
+    line.update(text, pos, listener)
 }
 
 // Makes the call, if its places are places. The answer is that of a yank.
 fn make(rt: &impl Abort, line: &mut LineBuffer, call: Call) -> Result<Option<bool>, Refusal> {
+    let none = &mut NoListener;
     match call {
-        Call::Yank(text, n) => line.yank(text, n, &mut NoListener),
-        Call::YankPop(size, text) => yank_pop(rt, line, size, text),
-        Call::Update(text, pos) => update(rt, line, text, pos).and(Ok(None)),
-        Call::Replace(from, to, text) => replace(rt, line, from, to, text).and(Ok(None)),
+        Call::Yank(text, n) => line.yank(text, n, none),
+        Call::YankPop(size, text) => yank_pop(rt, line, size, text, none),
+        Call::Update(text, pos) => update(rt, line, text, pos, none).and(Ok(None)),
+        Call::Replace(from, to, text) => replace(rt, line, from, to, text, none).and(Ok(None)),
     }
 }
 
