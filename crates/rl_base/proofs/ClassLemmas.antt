@@ -10,7 +10,7 @@ use Rattle.ucd_category.proofs.GeneralCategoryLemmas.{general_category_stepped}
 use Rattle.ucd_derived.proofs.Computing.{ucd_derived}
 use Rattle.ucd_derived.proofs.BinaryLemmas.{is_alphabetic_stepped}
 use Rattle.ucd_derived.specs.Binary.{is_alphabetic}
-use Rattle.rl_base.specs.Words.{is_number, is_alphanumeric}
+use Rattle.rl_base.specs.Classes.{is_number, is_alphanumeric}
 
 pub is_alphanumeric-ascii : (c : ℕ) → c < 128 → is_ascii_alphanumeric c ≡ is_alphanumeric c
 unfolding ucd_category ucd_derived

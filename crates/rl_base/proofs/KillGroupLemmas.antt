@@ -155,35 +155,42 @@ new-holds (suc n) h = record {
   begun = λ k. cc;
 }
 
-done-size : (ds : List Doing) (size : ℕ) → 0 < size → (ring_done ds (new_ring size)).size ≡ size
-done-size ds size h = all ds (new_ring size) no_groups (new-holds size h)
-  where
-    flags : (b : Bool) (text : List ℕ) (side : Direction) (r : Ring) → IsRing r → (heard b text side r).size ≡ r.size
-    flags false text side r h = refl
-    flags true text side r h = (killed-kept text (side_mode side) r h).size_is
+-- a ring keeps its size
+killed_as-size : (size : ℕ) (last : Action) (text : List ℕ) (mode : Mode) (r : Ring) → (killed_as size last text mode r).size ≡ r.size
+killed_as-size zero last text mode r = refl
+killed_as-size (suc n) Kill text mode r = refl
+killed_as-size (suc n) (Yank m) text mode r = refl
+killed_as-size (suc n) Other text mode r = refl
 
-    lends : (o : Option (List ℕ)) (r : Ring) → (lent o r).size ≡ r.size
-    lends None r = refl
-    lends (Some text) r = refl
+heard-size : (b : Bool) (text : List ℕ) (side : Direction) (r : Ring) → (heard b text side r).size ≡ r.size
+heard-size false text side r = refl
+heard-size true text side r = killed_as-size r.size r.last text (side_mode side) r
 
-    one : (d : Doing) (r : Ring) → IsRing r → (ring_do d r).size ≡ r.size
-    one (Kills text mode) r h = (killed-kept text mode r h).size_is
-    one Resets r h = refl
-    one Yanks r h = lends (yank r) r
-    one (Hears (Delete i text side)) r h = flags r.killing text side r h
-    one (Hears Start) r h = refl
-    one (Hears Stop) r h = refl
-    one (Hears (InsertChar i c)) r h = refl
-    one (Hears (InsertStr i s)) r h = refl
-    one (Hears (Replace i s t)) r h = refl
+pub ring_step-size : (r : Ring) (event : Event) → (ring_step r event).size ≡ r.size
+ring_step-size r (Delete i text side) = heard-size r.killing text side r
+ring_step-size r Start = refl
+ring_step-size r Stop = refl
+ring_step-size r (InsertChar i c) = refl
+ring_step-size r (InsertStr i s) = refl
+ring_step-size r (Replace i s t) = refl
 
-    all : (ds : List Doing) (r : Ring) (g : Groups) → Holds r g → (ring_done ds r).size ≡ r.size
-    all [] r g h = refl
-    all (d ∷ ds) r g h = all ds (ring_do d r) (group_do d g) (do-holds d r g h) ∙ one d r h.ring
+pub lent-size : (o : Option (List ℕ)) (r : Ring) → (lent o r).size ≡ r.size
+lent-size None r = refl
+lent-size (Some s) r = refl
+
+do-size : (d : Doing) (r : Ring) → (ring_do d r).size ≡ r.size
+do-size (Kills text mode) r = killed_as-size r.size r.last text mode r
+do-size Resets r = refl
+do-size Yanks r = lent-size (yank r) r
+do-size (Hears event) r = ring_step-size r event
+
+done-size : (ds : List Doing) (r : Ring) → (ring_done ds r).size ≡ r.size
+done-size [] r = refl
+done-size (d ∷ ds) r = done-size ds (ring_do d r) ∙ do-size d r
 
 pub ring-holds : (size : ℕ) (ds : List Doing) → 0 < size → newest_first (ring_done ds (new_ring size)) ≡ take size (groups_of ds)
 ring-holds size ds h =
-    (done-holds ds (new_ring size) no_groups (new-holds size h)).lists ∙ ap (λ k. take k (groups_of ds)) (done-size ds size h)
+    (done-holds ds (new_ring size) no_groups (new-holds size h)).lists ∙ ap (λ k. take k (groups_of ds)) (done-size ds (new_ring size))
 
 first-of : (n : ℕ) (gs : List (List ℕ)) → 0 < n → slice_get (take n gs) 0 ≡ slice_get gs 0
 first-of zero gs h = absurd (omega arith)

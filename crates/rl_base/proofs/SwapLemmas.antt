@@ -172,19 +172,6 @@ apply-IsUtf8 (Replace i s t) text after u h = Swaps-IsUtf8 _ _ _ _ _ (Swaps-Repl
 apply-IsUtf8 Start text after u h = let e : text ≡ after = cc in subst IsUtf8 e u
 apply-IsUtf8 Stop text after u h = let e : text ≡ after = cc in subst IsUtf8 e u
 
--- how the length changes
-pub Swaps-length : (text after : List ℕ) (i : ℕ) (old new : List ℕ) → Swaps text after i old new → length after + length old ≡ length text + length new
-Swaps-length text after i old new s =
-    omega (
-      arith,
-      ap length s.text_is,
-      ap length s.after_is,
-      length-append s.front (old ++ s.rest),
-      length-append s.front (new ++ s.rest),
-      length-append old s.rest,
-      length-append new s.rest,
-    )
-
 -- nothing gave way to nothing
 pub Swaps-nothing : (text after : List ℕ) (i : ℕ) (old new : List ℕ) → length old ≡ 0 → length new ≡ 0 → Swaps text after i old new → after ≡ text
 Swaps-nothing text after i old new e f s =

@@ -19,7 +19,8 @@ use Rattle.unicode_segmentation.proofs.SegmentsLemmas.{IsPieceOf, All-IsPieceOf,
 use Rattle.rl_base.specs.Clusters.{clusters, bytes_in}
 use Rattle.rl_base.proofs.ClusterLemmas.{bytes_in-clusters}
 use Rattle.rl_base.proofs.TextLemmas.{IsCharBoundary-in_front}
-use Rattle.rl_base.specs.Words.{PlacedCluster, is_word, placed_clusters, prev_word, looked_at, last_place, neighbours, stop_between, stops, nth, starts, ends, first_member}
+use Rattle.rl_base.specs.Classes.{is_word, starts, ends}
+use Rattle.rl_base.specs.Words.{PlacedCluster, placed_clusters, prev_word, looked_at, last_place, neighbours, stop_between, stops, nth, first_member}
 
 -- one more element at the end is one more pair at the end
 pub neighbours_push : {X : Type 0} (xs : List X) (x y : X) → neighbours ((xs ++ x ∷ []) ++ y ∷ []) ≡ neighbours (xs ++ x ∷ []) ++ (x, y) ∷ []
@@ -63,11 +64,6 @@ module _ (sense : Word) (left xs : List PlacedCluster) (x y : PlacedCluster) (e 
   start_before-miss n h =
       let front = stops Start sense (xs ++ x ∷ []) in
       ap (λ l. unwrap_or (nth n (reverse l)) 0) (split ∙ ap (λ b. front ++ cons_option (if b then Some y.0 else None) []) h ∙ append-nil front)
-
--- a lone cluster starts no word
-pub start_before-one : (sense : Word) (n : ℕ) (x : PlacedCluster) → start_before sense n (x ∷ []) ≡ 0
-start_before-one sense zero x = refl
-start_before-one sense (suc n) x = refl
 
 -- ---- the whole answer
 pub prev_word-some : (text : List ℕ) (pos : ℕ) (sense : Word) (n : ℕ) → 0 < pos → prev_word text pos sense n ≡ Some (start_before sense n (placed_clusters (take pos text)))

@@ -6,7 +6,7 @@ use Rattle.std.proofs.lemmas.List.{length-map, map-append, take-append-drop, tak
 use Rattle.std.specs.Option.{option_map_or}
 use Rattle.std.specs.Prelude.{◌&&◌, ◌==◌, encode_utf8, max, not}
 use Rattle.rl_base.specs.Event.{Event, InsertChar, InsertStr, Delete, Replace, Start, Stop}
-use Rattle.rl_base.specs.Words.{is_alphanumeric, is_word_cluster}
+use Rattle.rl_base.specs.Classes.{is_alphanumeric, is_word_cluster}
 use Rattle.rl_line.specs.declared.change.Change.{Change}
 use Rattle.rl_line.specs.Record.{Entry, Begin, End, Inserted, Deleted, Replaced, Record, entries_after, entries_of, entry_of, joined, record_step}
 use Rattle.rl_line.specs.Units.{AtLevel, IsMatched, begun, deep, ended, is_change, kept_of, last_of, level, mark, marks, opens, redo_of, redone, touched, truncated, undone, units}
@@ -148,13 +148,6 @@ pub record LevelAt (xs : List Change) (len at n : ℕ) : Type 0 where
   pub within : at ≤ length xs
   pub cut : length xs - at ≤ length xs - len
   pub level : n ≡ level (map entry_of (take at xs))
-
-pub LevelAt-all : (xs : List Change) (len n : ℕ) → n ≡ level (map entry_of xs) → LevelAt xs len (length xs) n
-LevelAt-all xs len n e = record {
-  within = omega arith;
-  cut = omega arith;
-  level = e ∙ ap (λ l. level (map entry_of l)) (sym (take_all (length xs) xs (omega arith)));
-}
 
 -- the entries behind which the count stands are those before the last of them, and that one
 front-last : (xs : List Change) (len at : ℕ) (z x : Change) → len < at → at ≤ length xs → get_or xs (at - 1) z ≡ x

@@ -5,7 +5,7 @@ use Rattle.std.specs.Option.{option_map_or}
 use Rattle.std.specs.Prelude.{option_and_then, IsSome, zero, max, ◌&&◌, ◌==◌, not, encode_utf8}
 use Rattle.rl_base.proofs.SwapLemmas.{some_is}
 use Rattle.rl_base.specs.Event.{Event, InsertChar, InsertStr, Delete, Replace, Start, Stop}
-use Rattle.rl_base.specs.Words.{is_alphanumeric, is_word_cluster}
+use Rattle.rl_base.specs.Classes.{is_alphanumeric, is_word_cluster}
 use Rattle.rl_line.specs.Record.{Entry, Begin, End, Inserted, Deleted, Replaced, Record, entries_of, joined, entries_after, pending_after, record_step}
 use Rattle.rl_line.specs.Units.{UndoUnit, Open, Whole, units, together, opens, level, last_of, kept_of, redo_from, redo_of, end_one, end_times, begun, ended, undone, redone, truncated, touched, mark, marks, IsMatched, BothMatched}
 use Rattle.rl_line.proofs.RecordLemmas.{through, value_of, if_some, if_else, unless}

@@ -1,8 +1,8 @@
 -- Exchanging two ranges: the plan by its halves, and the places between them.
-use Rattle.std.proofs.Common.{◌≡◌, ℕ, ◌+◌, ◌-◌, ◌≤◌, [], ◌∷◌, ◌++◌, List, length, length-append, take, drop, append_assoc, None, Bool, cond, true, false, slice_range, sym, ap, ap₂, subst, ◌∙◌, arith}
+use Rattle.std.proofs.Common.{◌≡◌, ℕ, ◌+◌, ◌-◌, ◌≤◌, [], ◌∷◌, ◌++◌, List, length, take, drop, append_assoc, None, Bool, cond, true, false, slice_range, sym, ap, ap₂, subst, ◌∙◌, arith}
 use Rattle.std.proofs.lemmas.List.Edits.{length-between}
 use Rattle.std.specs.Prelude.{option_and_then}
-use Rattle.std.proofs.lemmas.List.{length-take-le, length-drop, drop-take, drop-append-le}
+use Rattle.std.proofs.lemmas.List.{length-take-le, drop-take, drop-append-le}
 use Rattle.std.specs.List.{insert_slice, remove_range, replace_range}
 use Rattle.std.specs.Str.{IsCharBoundary, IsUtf8}
 use Rattle.std.specs.declared.ops.Range.{Range}
@@ -80,22 +80,6 @@ exchanged line front behind x e le within =
     drop-append-le front (take behind.start text) (drop behind.end text) (omega (arith, length-take-le behind.start text within)) ∙ ap (λ l. l ++ drop behind.end text) middle in
     ap₂ (λ f r. (f ++ x) ++ r) front_is rest ∙ append_assoc (take front text) x (slice_range text front behind.start ++ drop behind.end text)
     ∙ ap (λ t. take front text ++ (t ++ (slice_range text front behind.start ++ drop behind.end text))) e
-
-pub length-exchanged : (line : Line) (front : ℕ) (behind : Range ℕ) → front ≤ behind.start → behind.start ≤ behind.end → behind.end ≤ length line.text
-    → length (exchanged_text line front behind) ≡ length line.text
-length-exchanged line front behind le order within =
-    let text = line.text in
-    let middle = slice_range text front behind.start in
-    omega (
-      arith,
-      length-append (take front text) (text_in line behind ++ (middle ++ drop behind.end text)),
-      length-append (text_in line behind) (middle ++ drop behind.end text),
-      length-append middle (drop behind.end text),
-      length-take-le front text (omega arith),
-      length-between text behind.start behind.end within,
-      length-between text front behind.start (omega arith),
-      length-drop behind.end text,
-    )
 
 pub transpose_chars-nothing : (line : Line) → None ≡ option_and_then (clusters_around line.text) (meeting_place line) → transpose_chars_plan line ≡ nothing line false
 transpose_chars-nothing line e = ap (pulled_back line) (sym e)

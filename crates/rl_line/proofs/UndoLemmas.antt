@@ -1,7 +1,7 @@
 -- A line that goes over changes of its record, back or ahead.
-use Rattle.std.proofs.Common.{◌≡◌, ℕ, ◌+◌, ◌<◌, ◌≤◌, zero, suc, List, [], ◌∷◌, ◌++◌, length, take, drop, get_or, map, reverse, Option, Some, None, refl, sym, ap, subst, ◌∙◌, arith, add-one, take_all, drop-cons}
+use Rattle.std.proofs.Common.{◌≡◌, ℕ, ◌+◌, ◌<◌, ◌≤◌, zero, suc, List, [], ◌∷◌, ◌++◌, length, take, drop, get_or, map, reverse, Option, Some, None, refl, sym, ap, subst, ◌∙◌, arith, add-one, drop-cons}
 use Rattle.std.proofs.lemmas.Grind.{take_at_read}
-use Rattle.std.proofs.lemmas.List.{map-append, drop_all, reverse-append}
+use Rattle.std.proofs.lemmas.List.{map-append, reverse-append}
 use Rattle.std.specs.Prelude.{option_and_then, IsSome}
 use Rattle.rl_base.specs.Event.{apply}
 use Rattle.rl_line.specs.declared.change.Change.{Change}
@@ -32,12 +32,6 @@ line_back-append (x ∷ xs) ys line =
 pub record IsBack (way : Way) (xs : List Change) (n : ℕ) (start now : Line) : Type 0 where
   pub so_far : line_back (map (faced way) (drop n xs)) start ≡ Some now
   pub rest : IsSome (line_back (map (faced way) (take n xs)) now)
-
-pub IsBack-start : (way : Way) (xs : List Change) (n : ℕ) (start : Line) → n ≡ length xs → IsSome (line_back (map (faced way) xs) start) → IsBack way xs n start start
-IsBack-start way xs n start e h = record {
-  so_far = ap (λ ys. line_back (map (faced way) ys) start) (drop_all n xs (omega arith));
-  rest = subst (λ ys. IsSome (line_back (map (faced way) ys) start)) (sym (take_all n xs (omega arith))) h;
-}
 
 -- the last of the entries that are left
 rest_split : (way : Way) (xs : List Change) (m : ℕ) (x : Change) (now : Line) → m < length xs → x ≡ get_or xs m x

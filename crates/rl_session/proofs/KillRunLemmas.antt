@@ -9,7 +9,7 @@ use Rattle.std.specs.Prelude.{max, ◌==◌, slice_get, slice_set, slice_range, 
 use Rattle.std.specs.List.{repeat}
 use Rattle.std.specs.Str.{IsCharBoundary, IsUtf8}
 use Rattle.std.specs.declared.ops.Range.{Range}
-use Rattle.rl_base.specs.Event.{Event, InsertChar, InsertStr, Delete, Replace, Start, Stop, apply}
+use Rattle.rl_base.specs.Event.{Event, InsertStr, Delete, Start, Stop, apply}
 use Rattle.rl_base.specs.KillRing.{Ring, IsRing, joined, next_index, put_at, join_at, in_new_slot, killed_as, killed, reset, yank, lent, yanked, yank_size, turned, popped_ring, side_mode, heard, ring_step}
 use Rattle.rl_base.specs.declared.kill_ring.Action.{Action}
 use Rattle.rl_base.specs.declared.kill_ring.Action.TheVariants as did
@@ -20,6 +20,7 @@ use Rattle.rl_base.specs.declared.listeners.Direction.TheVariants.{Forward, Back
 use Rattle.rl_base.specs.declared.listeners.Refusal.{Refusal}
 use Rattle.rl_base.specs.declared.motion.Movement.{Movement}
 use Rattle.rl_base.specs.declared.motion.Movement.TheVariants.{BeginningOfLine, EndOfLine, BackwardWord, ForwardWord, ViCharSearch, BeginningOfBuffer, EndOfBuffer}
+use Rattle.rl_base.proofs.KillGroupLemmas.{lent-size, ring_step-size}
 use Rattle.rl_base.proofs.RingLemmas.{next_index-is}
 use Rattle.rl_base.proofs.SwapLemmas.{Swaps, Swaps-back, Swaps-Delete, Swaps-behind, Swaps-before, apply-InsertStr-Swaps}
 use Rattle.rl_line.specs.Line.{Line, stepped}
@@ -107,31 +108,9 @@ newest-more old taken side r some n =
     (more_as r.size r.last old taken (side_mode side) (record r { killing = true }) some n.last_is (flag-newest r true old n))
 
 -- ---- the size of the ring
-killed_as-size : (size : ℕ) (last : Action) (text : List ℕ) (mode : Mode) (r : Ring) → (killed_as size last text mode r).size ≡ r.size
-killed_as-size zero last text mode r = refl
-killed_as-size (suc n) did.Kill text mode r = refl
-killed_as-size (suc n) (did.Yank m) text mode r = refl
-killed_as-size (suc n) did.Other text mode r = refl
-
-heard-size : (b : Bool) (text : List ℕ) (side : Direction) (r : Ring) → (heard b text side r).size ≡ r.size
-heard-size false text side r = refl
-heard-size true text side r = killed_as-size r.size r.last text (side_mode side) r
-
-ring_step-size : (r : Ring) (event : Event) → (ring_step r event).size ≡ r.size
-ring_step-size r (Delete i text side) = heard-size r.killing text side r
-ring_step-size r Start = refl
-ring_step-size r Stop = refl
-ring_step-size r (InsertChar i c) = refl
-ring_step-size r (InsertStr i s) = refl
-ring_step-size r (Replace i s t) = refl
-
 steps-size : (steps : List PlanStep) (p : Pair) → (heard_steps pair_step steps p).ring.size ≡ p.ring.size
 steps-size [] p = refl
 steps-size (s ∷ ss) p = steps-size ss (pair_step p s.0) ∙ ring_step-size p.ring s.0
-
-lent-size : (o : Option (List ℕ)) (r : Ring) → (lent o r).size ≡ r.size
-lent-size None r = refl
-lent-size (Some s) r = refl
 
 popped-size : (o : Option ℕ) (r : Ring) → (popped_ring o r).size ≡ r.size
 popped-size None r = refl

@@ -34,9 +34,6 @@ Outputs-append [] ys old mid new first others h k =
 Outputs-append (x ∷ xs) ys old mid new first others h k =
     (h.0, h.1, h.2 ++ others, ap (λ l. l ++ others) h.3 ∙ append_assoc h.1 h.2 others, h.4, Outputs-append xs ys h.0 mid new h.2 others h.5 k)
 
-pub Took-none : (old : Interpreter) (part : List ℕ) (held : Option (List ℕ)) → Took old part [] held held old part
-Took-none old part held = record { lines = []; out = []; split = λ more. refl; outputs = (refl, refl); written = Appends-nil held }
-
 -- one byte more of a line
 pub Took-byte : (old : Interpreter) (part : List ℕ) (b : ℕ) (held : Option (List ℕ)) → Took old part (b ∷ []) held held old (part ++ b ∷ [])
 Took-byte old part b held = record {

@@ -1,6 +1,6 @@
 -- What a command did, by what is replied to the outcome of its call.
 use Rattle.std.proofs.Common.{◌≡◌, ◌∙◌, ap, refl, subst, sym, Result, Ok, Err, String, Global, string_bytes}
-use Rattle.std.specs.Prelude.{List, ℕ, Bool, Option, IfOk, IfErr}
+use Rattle.std.specs.Prelude.{ℕ, Bool, Option, IfOk, IfErr}
 use Rattle.std.specs.Option.{option_map}
 use Rattle.rl_base.specs.declared.listeners.Refusal.{Refusal}
 use Rattle.rl_base.specs.declared.listeners.Refusal.TheVariants as why

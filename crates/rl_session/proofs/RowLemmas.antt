@@ -122,9 +122,6 @@ Run-more commands replies command reply old mid new run step =
       answered = map-append (λ (r : Row). r.reply) run.rows (row ∷ []) ∙ ap (λ cs. cs ++ reply ∷ []) run.answered;
     }
 
-pub Run-none : (s : State) → Run s [] [] s
-Run-none s = record { rows = []; leads = refl; asked = refl; answered = refl }
-
 Leads-append : (xs ys : List Row) (old mid new : State) → Leads old xs mid → Leads mid ys new → Leads old (xs ++ ys) new
 Leads-append [] ys old mid new l k = subst (λ s. Leads s ys new) l k
 Leads-append (x ∷ xs) ys old mid new l k = (l.0, Leads-append xs ys x.after mid new l.1 k)

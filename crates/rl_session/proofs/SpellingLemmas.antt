@@ -1,6 +1,6 @@
 -- One text at most is spelled by given bytes, and by which parts.
-use Rattle.std.proofs.Common.{arith, ◌≡◌, ◌≢◌, ℕ, ◌+◌, ◌*◌, ◌<◌, Bool, true, false, List, [], ◌∷◌, ◌++◌, length, get_or, Option, Some, None, refl, sym, ap, subst, ◌∙◌, append_assoc, append-nil, length-append, inl, inr}
-use Rattle.std.specs.Prelude.{encode_utf8, option_and_then, ◌&&◌, MatchOption}
+use Rattle.std.proofs.Common.{arith, ◌≡◌, ◌≢◌, ℕ, ◌+◌, ◌*◌, ◌<◌, true, List, [], ◌∷◌, ◌++◌, length, get_or, Option, Some, None, refl, sym, ap, subst, ◌∙◌, append_assoc, append-nil, length-append, inl, inr}
+use Rattle.std.specs.Prelude.{encode_utf8, option_and_then, MatchOption}
 use Rattle.std.specs.Borrow.{Bor}
 use Rattle.std.specs.Str.{IsUtf8}
 use lib.Utf8.{scalar, scalars}
@@ -14,9 +14,6 @@ use Rattle.rl_session.specs.Grammar.{hex_digit, hex_from, letter_of, Escapes, Sp
 use Rattle.rl_session.specs.Reads.{BeginsEscape, BeginsNoEscape, Begins, BeginsChar, SpellsNothing, SpellsNoChar}
 
 -- parts that follow each other
-
-pub Begins-nothing : (bytes : List ℕ) → Begins bytes [] bytes
-Begins-nothing bytes = record { on = λ more s. s; only = λ whole s. (whole, s, refl) }
 
 pub Begins-then : (bytes s middle t others : List ℕ) → Begins bytes s middle → Begins middle t others → Begins bytes (s ++ t) others
 Begins-then bytes s middle t others p q = record {
