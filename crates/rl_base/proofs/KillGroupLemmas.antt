@@ -8,7 +8,7 @@ use Rattle.rl_base.specs.declared.kill_ring.Action.TheVariants.{Kill, Yank, Othe
 use Rattle.rl_base.specs.declared.kill_ring.Mode.{Mode}
 use Rattle.rl_base.specs.KillRing.{Ring, in_new_slot, joined, new_ring, side_mode, next_index, put_at, killed_as, killed, yank, lent, heard, ring_step, IsRing}
 use Rattle.rl_base.specs.KillGroups.{Doing, Kills, Resets, Yanks, Hears, ring_do, ring_done, Groups, no_groups, grown, with_kill, with_deletion, group_step, group_do, group_done, groups_of, back_from, newest_first, AllKills, all_joined}
-use Rattle.rl_base.proofs.RingLemmas.{killed-kept, length-join}
+use Rattle.rl_base.proofs.RingLemmas.{IsRing-killed, length-join}
 use Rattle.rl_base.proofs.SlotLemmas.{Puts, puts, take-grown, back-join, back-first}
 
 abbrev is_kill : Action → Bool
@@ -66,7 +66,7 @@ holds_as (suc n) Kill text mode r g e l h ring =
     }
 
 killed-holds : (text : List ℕ) (mode : Mode) (r : Ring) (g : Groups) → Holds r g → Holds (killed text mode r) (with_kill text mode g)
-killed-holds text mode r g h = holds_as r.size r.last text mode r g refl refl h (killed-kept text mode r h.ring).ring
+killed-holds text mode r g h = holds_as r.size r.last text mode r g refl refl h (IsRing-killed text mode r h.ring)
 
 -- the ring with another last action or flag
 closed-holds : (last : Action) (r : Ring) (g : Groups) → is_kill last ≡ false → Holds r g → Holds (record r { last = last }) (record g { growing = false })

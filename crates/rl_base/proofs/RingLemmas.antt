@@ -54,28 +54,23 @@ length-put slots i size text h k le = through (i == length slots) refl
         let n = eqb-false i (length slots) e in
         let l : length (slice_set slots i text) ≡ length slots = length-set slots i text in (omega arith, omega arith)
 
--- a kill keeps the size and the flag, and a ring stays a ring
-pub record Kept (old new : Ring) : Type 0 where
-  pub size_is : new.size ≡ old.size
-  pub killing_is : new.killing ≡ old.killing
-  pub ring : IsRing new
-
-put_kept : (text : List ℕ) (r : Ring) → 0 < r.size → IsRing r → Kept r (in_new_slot text r)
-put_kept text r some h =
+-- a ring stays a ring by a kill
+IsRing-in_new_slot : (text : List ℕ) (r : Ring) → 0 < r.size → IsRing r → IsRing (in_new_slot text r)
+IsRing-in_new_slot text r some h =
     let n = next_index-is r.size r.index r.slots some h.within h.at_slot in
     let l = length-put r.slots (next_index r.size r.index r.slots) r.size text n.behind n.below h.within in
-    record { size_is = refl; killing_is = refl; ring = record { within = l.0; at_slot = omega arith } }
+    record { within = l.0; at_slot = omega arith }
 
-kept_as : (size : ℕ) (last : Action) (text : List ℕ) (mode : Mode) (r : Ring) → size ≡ r.size → IsRing r → Kept r (killed_as size last text mode r)
-kept_as zero last text mode r e h = record { size_is = refl; killing_is = refl; ring = record { within = h.within; at_slot = h.at_slot } }
-kept_as (suc n) Kill text mode r e h =
+IsRing-killed_as : (size : ℕ) (last : Action) (text : List ℕ) (mode : Mode) (r : Ring) → size ≡ r.size → IsRing r → IsRing (killed_as size last text mode r)
+IsRing-killed_as zero last text mode r e h = record { within = h.within; at_slot = h.at_slot }
+IsRing-killed_as (suc n) Kill text mode r e h =
     let l = length-join r.slots r.index mode text in
-    record { size_is = refl; killing_is = refl; ring = record { within = rw l h.within; at_slot = rw l h.at_slot } }
-kept_as (suc n) (Yank m) text mode r e h = put_kept text r (omega arith) h
-kept_as (suc n) Other text mode r e h = put_kept text r (omega arith) h
+    record { within = rw l h.within; at_slot = rw l h.at_slot }
+IsRing-killed_as (suc n) (Yank m) text mode r e h = IsRing-in_new_slot text r (omega arith) h
+IsRing-killed_as (suc n) Other text mode r e h = IsRing-in_new_slot text r (omega arith) h
 
-pub killed-kept : (text : List ℕ) (mode : Mode) (r : Ring) → IsRing r → Kept r (killed text mode r)
-killed-kept text mode r h = kept_as r.size r.last text mode r refl h
+pub IsRing-killed : (text : List ℕ) (mode : Mode) (r : Ring) → IsRing r → IsRing (killed text mode r)
+IsRing-killed text mode r h = IsRing-killed_as r.size r.last text mode r refl h
 
 -- ---- joining, in the code's list
 join-set : (xs : List (String Global)) (i : ℕ) (mode : Mode) (text : List ℕ) (x y : String Global) → i < length xs → x ≡ get_or xs i x

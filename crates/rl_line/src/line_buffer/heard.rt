@@ -30,7 +30,7 @@ impl Heard {
         }
     }
 
-    // Hears a change more, if it will hear one yet.
+    // Hears one change more, if it will hear one yet.
     fn hear(&mut self) -> Result<(), Refusal>
         ensures ok { OnOk result ((0 < self.old.left) × (self.new ≡ record self.old { left = self.old.left - 1 })) }
         ensures err { IfErr result (λ r. (self.old.left ≡ 0) × (r ≡ Listener) × (self.new ≡ self.old)) }
