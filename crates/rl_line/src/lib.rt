@@ -5,8 +5,6 @@ mod change;
 mod entries;
 pub mod line_buffer;
 mod lines;
-#[cfg(test)]
-mod tests;
 pub mod undo;
 
 pub use line_buffer::{LineBuffer, MAX_LINE};

@@ -10,26 +10,16 @@ ghost use Rattle.rl_line.specs.Plan.{Taken, or_no_memory};
 ghost use Rattle.rl_line.specs.Undo.{faced, line_back};
 
 mod edits;
-#[cfg(test)]
-mod halt_tests;
-#[cfg(test)]
-mod heard;
 mod indents;
 mod kills;
 mod letter_case;
 mod line_motions;
-#[cfg(test)]
-mod line_tests;
 mod motions;
 mod ranges;
 mod transpositions;
 
 use crate::change::{Change, Way, go_over, greatest_len_over, swap_in};
-#[cfg(test)]
-pub(crate) use edits::tests::replace;
 pub use kills::kill_agrees_with_copy;
-#[cfg(test)]
-pub(crate) use motions::tests::line_of;
 use rl_base::{ChangeListener, DeleteListener, Direction, Refusal};
 use std::alloc::Global;
 use std::fmt;

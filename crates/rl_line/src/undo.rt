@@ -9,11 +9,6 @@ ghost use Rattle.rl_line.specs.Record.{Entry, End, Record, last_insert, replay_e
 ghost use Rattle.rl_line.specs.Undo.{Redone, Redos, Undone};
 ghost use Rattle.rl_line.specs.Units.{BothMatched, GroupAt, InGroup, IsMatched, adds_end, after_in_group, begun, ended, has_change, last_units, level, opens, truncated};
 
-#[cfg(test)]
-mod join_tests;
-#[cfg(test)]
-pub(crate) mod tests;
-
 use crate::change::{Change, Way, text_over};
 use crate::entries;
 use crate::line_buffer::LineBuffer;

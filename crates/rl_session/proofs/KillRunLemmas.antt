@@ -10,7 +10,7 @@ use Rattle.std.specs.List.{repeat}
 use Rattle.std.specs.Str.{IsCharBoundary, IsUtf8}
 use Rattle.std.specs.declared.ops.Range.{Range}
 use Rattle.rl_base.specs.Event.{Event, InsertStr, Delete, Start, Stop, apply}
-use Rattle.rl_base.specs.KillRing.{Ring, IsRing, joined, next_index, put_at, join_at, in_new_slot, killed_as, killed, reset, yank, lent, yanked, yank_size, turned, popped_ring, side_mode, heard, ring_step}
+use Rattle.rl_base.specs.KillRing.{Ring, IsRing, joined, next_index, put_at, join_at, in_new_slot, killed_as, killed, reset, yank, lent, yanked, yank_size, turned, popped_ring, side_mode, ring_step}
 use Rattle.rl_base.specs.declared.kill_ring.Action.{Action}
 use Rattle.rl_base.specs.declared.kill_ring.Action.TheVariants as did
 use Rattle.rl_base.specs.declared.kill_ring.Mode.{Mode}

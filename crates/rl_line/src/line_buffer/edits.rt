@@ -7,9 +7,6 @@ ghost use Rattle.rl_line.specs.Line.{stepped};
 ghost use Rattle.rl_line.specs.Plan.{Taken, Done, Halted, or_no_memory};
 ghost use Rattle.rl_line.specs.Edits.{too_long, insert_event, insert_plan, insert_str_plan, yank_plan, yank_pop_plan, exchange_plan, cut_to_limit, update_plan, replace_plan, delete_range_plan};
 
-#[cfg(test)]
-pub(super) mod tests;
-
 use crate::line_buffer::LineBuffer;
 use rl_base::{ChangeListener, DeleteListener, Direction, Refusal, RepeatCount};
 use std::ops::Range;

@@ -6,9 +6,6 @@ ghost use Rattle.rl_line.specs.Indents.{final_line, indent_plan, line_plan, pull
 ghost use Rattle.rl_line.specs.Plan.{Completed, Done, Halted, or_no_memory};
 ghost use Rattle.rl_line.specs.Ranges.{text_in};
 
-#[cfg(test)]
-mod tests;
-
 use crate::line_buffer::LineBuffer;
 use crate::lines::{end_of_line, start_of_line};
 use rl_base::{ChangeListener, DeleteListener, Direction, Movement, Refusal};

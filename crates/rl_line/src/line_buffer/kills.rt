@@ -12,9 +12,6 @@ ghost use Rattle.rl_line.specs.Plan.{Done, Halted, or_no_memory};
 ghost use Rattle.rl_line.specs.Kills.{Told, copied, delete_plan, is_by_characters, is_exact, kill_plan, side_of};
 ghost use Rattle.rl_line.specs.Ranges.{text_in};
 
-#[cfg(test)]
-mod tests;
-
 use crate::change::copied;
 use crate::line_buffer::LineBuffer;
 use rl_base::{At, CharSearch, DeleteListener, Direction, Movement, Refusal, RepeatCount, Word};

@@ -5,9 +5,6 @@ ghost use Rattle.rl_line.specs.Plan.{Done, Halted, or_no_memory};
 ghost use Rattle.rl_base.specs.declared.motion.WordAction.TheVariants.{Capitalize};
 ghost use Rattle.rl_line.specs.LetterCase.{Recased, edit_word_plan, recased, word_ahead};
 
-#[cfg(test)]
-mod tests;
-
 use crate::line_buffer::LineBuffer;
 use crate::line_buffer::transpositions::{end_of_cluster, word_end};
 use rl_base::places::first_word_cluster;

@@ -6,9 +6,6 @@ ghost use Rattle.rl_base.specs.Words.{next_word, prev_word};
 ghost use Rattle.rl_base.specs.Search.{find_place};
 ghost use Rattle.rl_line.specs.Motions.{Moved, unless_there, IsEndOfInput};
 
-#[cfg(test)]
-pub(super) mod tests;
-
 use crate::line_buffer::LineBuffer;
 use rl_base::places::{find_place, next_pos, next_word, prev_pos, prev_word};
 use rl_base::{At, CharSearch, RepeatCount, Word};

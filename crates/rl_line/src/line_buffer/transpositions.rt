@@ -4,9 +4,6 @@ ghost use Rattle.std.specs.Str.{IsCharBoundary};
 ghost use Rattle.rl_line.specs.Plan.{Done, Halted, or_no_memory};
 ghost use Rattle.rl_line.specs.Transpositions.{are_two, clusters_around, end_of_cluster, exchanged_text, first_word, meeting_place, pull_back_plan, SwapsClusters, second_word, swap_plan, transpose_chars_plan, transpose_words_plan, word_end, word_start};
 
-#[cfg(test)]
-mod tests;
-
 use crate::line_buffer::LineBuffer;
 use rl_base::places::{next_pos, next_word, prev_pos, prev_word};
 use rl_base::{At, ChangeListener, Direction, Refusal, RepeatCount, Word};

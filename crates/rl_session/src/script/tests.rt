@@ -40,6 +40,34 @@ fn print_all(rt: &impl Abort, alloc: Global, rows: &[Row]) -> Result<(), Fail> {
     Ok(())
 }
 
+// The lines, on that text with the cursor at that place, print that last.
+pub(crate) fn prints_last(
+    rt: &impl Abort,
+    alloc: Global,
+    text: &str,
+    pos: usize,
+    lines: &str,
+    wanted: &str,
+) -> Result<(), Fail> {
+    let script = format!(in alloc; "text {text}\npos {pos}\n{lines}\n")?;
+    let printed = printed_by(alloc, script.as_bytes())?;
+    let last = format!(in alloc; "\n{wanted}\n")?;
+    let ends = printed.as_slice().ends_with(last.as_bytes());
+    assert!(rt; ends, "{lines:?} on {text:?} at {pos}");
+    Ok(())
+}
+
+// A text, the cursor, lines of a script, and what these print.
+pub(crate) type Lines = (&'static str, usize, &'static str, &'static str);
+
+// The lines of each row print what they should.
+pub(crate) fn print_each(rt: &impl Abort, alloc: Global, rows: &[Lines]) -> Result<(), Fail> {
+    for (text, pos, lines, wanted) in rows {
+        prints_last(rt, alloc, text, *pos, lines, wanted)?;
+    }
+    Ok(())
+}
+
 #[test]
 fn scripts_print(rt: HostRuntime) -> Result<(), Fail> {
     const ROWS: &[Row] = &[

@@ -1,9 +1,9 @@
 //! Edits that their listener refuses halfway, and what they leave.
-use crate::LineBuffer;
-use crate::line_buffer::edits::tests::{replace, update, yank_pop};
-use crate::line_buffer::heard::Heard;
-use crate::line_buffer::motions::tests::{leaves, line_of};
+use crate::tests::edits::{replace, update, yank_pop};
+use crate::tests::heard::Heard;
+use crate::tests::line_buffer::{leaves, line_of};
 use rl_base::{Movement, Refusal, RepeatCount, Word, WordAction};
+use rl_line::LineBuffer;
 use std::alloc::Global;
 use std::process::Abort;
 use std::test::Fail;

@@ -1,10 +1,11 @@
 //! The record, with answers that were worked out by hand, and what no clause says: that a call comes back with
 //! an answer.
-use crate::line_buffer::{line_of, replace};
-use crate::{Changeset, LineBuffer};
+use crate::tests::edits::replace;
+use crate::tests::line_buffer::line_of;
 use rl_base::{
     ChangeListener, DeleteListener, Direction, Movement, NoListener, Refusal, RepeatCount,
 };
+use rl_line::{Changeset, LineBuffer};
 use std::alloc::Global;
 use std::process::Abort;
 use std::test::Fail;
@@ -35,7 +36,7 @@ fn is_so(rt: &impl Abort, is_so: bool, what: &str, cursor: usize, entries: usize
 }
 
 // The text and the cursor of a line, and how many entries its record has.
-pub(crate) fn stands(
+pub(super) fn stands(
     rt: &impl Abort,
     line: &LineBuffer,
     record: &Changeset,

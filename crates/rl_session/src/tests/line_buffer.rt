@@ -1,12 +1,57 @@
 //! Edits with answers that were worked out by hand, and what no clause says: that a call comes back with an
 //! answer, and printed text.
-use crate::line_buffer::line_of;
-use crate::undo::tests::stands;
-use crate::{Changeset, LineBuffer, MAX_LINE};
+use crate::tests::undo::stands;
 use rl_base::{NoListener, RepeatCount};
+use rl_line::{Changeset, LineBuffer, MAX_LINE};
 use std::alloc::Global;
 use std::process::Abort;
 use std::test::Fail;
+
+// A line that holds the text, with the cursor at the place.
+pub(super) fn line_of(
+    rt: &impl Abort,
+    alloc: Global,
+    text: &str,
+    pos: usize,
+) -> Result<LineBuffer, Fail> {
+    line_within(rt, alloc, MAX_LINE, false, text, pos)
+}
+
+// The same of that limit, with leave to grow past it, or without.
+pub(super) fn line_within(
+    rt: &impl Abort,
+    alloc: Global,
+    limit: usize,
+    grows: bool,
+    text: &str,
+    pos: usize,
+) -> Result<LineBuffer, Fail> {
+    let mut line = LineBuffer::with_capacity(alloc, limit)?.can_growth(grows);
+    for c in text.chars() {
+        line.insert(c, 1, &mut NoListener)?;
+    }
+    assert!(rt; line.as_str().is_char_boundary(pos), "{pos} is a place");
+    line.set_pos(pos);
+    Ok(line)
+}
+
+// It is so, of a call on that text at that place.
+pub(super) fn holds(rt: &impl Abort, is_so: bool, what: &str, text: &str, pos: usize) {
+    assert!(rt; is_so, "{what} of {text:?} at {pos}");
+}
+
+// The line has that text and cursor, after a call on that text at that place.
+pub(super) fn leaves(
+    rt: &impl Abort,
+    line: &LineBuffer,
+    text: &str,
+    pos: usize,
+    after: &str,
+    cursor: usize,
+) {
+    holds(rt, line.as_str() == after, "the new text", text, pos);
+    holds(rt, line.pos() == cursor, "the new cursor", text, pos);
+}
 
 // It is so, of a line that holds the text.
 fn is_so(rt: &impl Abort, is_so: bool, what: &str, text: &str) {

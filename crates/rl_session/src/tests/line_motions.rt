@@ -1,7 +1,7 @@
 //! Motions over lines with answers from outside.
-use crate::LineBuffer;
-use crate::line_buffer::motions::tests::line_of;
+use crate::tests::line_buffer::line_of;
 use rl_base::{GraphemeClusterMode, Layout, RepeatCount, Unit};
+use rl_line::LineBuffer;
 use std::alloc::Global;
 use std::process::Abort;
 use std::test::Fail;

@@ -1,8 +1,8 @@
 //! Which changes join in the record, with answers that were worked out by hand.
-use crate::line_buffer::line_of;
-use crate::undo::tests::{Call, Event, Step, goes, make, stands, takes, undo};
-use crate::{Changeset, LineBuffer};
+use crate::tests::line_buffer::line_of;
+use crate::tests::undo::{Call, Event, Step, goes, make, stands, takes, undo};
 use rl_base::{ChangeListener, Direction, Refusal};
+use rl_line::{Changeset, LineBuffer};
 use std::alloc::Global;
 use std::process::Abort;
 use std::test::Fail;

@@ -1,7 +1,7 @@
 //! Edits that put texts in, with answers that were worked out by hand.
-use crate::LineBuffer;
-use crate::line_buffer::motions::tests::{holds, leaves, line_within};
+use crate::tests::line_buffer::{holds, leaves, line_within};
 use rl_base::{ChangeListener, NoListener, Refusal, RepeatCount};
+use rl_line::LineBuffer;
 use std::alloc::Global;
 use std::process::Abort;
 use std::test::Fail;
@@ -16,7 +16,7 @@ enum Call {
 }
 
 // Puts the text in the place of what stands before the cursor.
-pub(crate) fn yank_pop<L: ChangeListener>(
+pub(super) fn yank_pop<L: ChangeListener>(
     rt: &impl Abort,
     line: &mut LineBuffer,
     size: usize,
@@ -29,7 +29,7 @@ pub(crate) fn yank_pop<L: ChangeListener>(
 }
 
 // Puts the text in the place of a range.
-pub(crate) fn replace<L: ChangeListener>(
+pub(super) fn replace<L: ChangeListener>(
     rt: &impl Abort,
     line: &mut LineBuffer,
     from: usize,
@@ -44,7 +44,7 @@ pub(crate) fn replace<L: ChangeListener>(
 }
 
 // Puts the text in the place of the whole text, with the cursor at that place of it.
-pub(crate) fn update<L: ChangeListener>(
+pub(super) fn update<L: ChangeListener>(
     rt: &impl Abort,
     line: &mut LineBuffer,
     text: &str,

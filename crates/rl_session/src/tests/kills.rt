@@ -1,9 +1,10 @@
 //! Copies, deletions and kills with answers that were worked out by hand.
-use crate::LineBuffer;
-use crate::line_buffer::heard::Heard;
-use crate::line_buffer::motions::tests::{holds, leaves, line_of};
+use crate::script::tests::{Lines, print_each};
+use crate::tests::heard::Heard;
+use crate::tests::line_buffer::{holds, leaves, line_of};
 use rl_base::CharSearch::{Backward, BackwardAfter, Forward, ForwardBefore};
 use rl_base::{At, CharSearch, Direction, Movement, NoListener, Refusal, RepeatCount, Word};
+use rl_line::LineBuffer;
 use std::alloc::Global;
 use std::process::Abort;
 use std::test::Fail;
@@ -263,108 +264,156 @@ fn is_so(rt: &impl Abort, is_so: bool, mvt: &Movement, text: &str, pos: usize) {
     assert!(rt; is_so, "{mvt:?} of {text:?} at {pos}");
 }
 
-// A copy of that text holds that, if there is one.
-fn copies_that(
-    rt: &impl Abort,
-    alloc: Global,
-    text: &str,
-    pos: usize,
-    mvt: &Movement,
-    want: Option<&str>,
-) -> Result<(), Fail> {
-    let line = line_of(rt, alloc, text, pos)?;
-    let copy = line.copy(mvt)?;
-    is_so(rt, copy.as_deref() == want, mvt, text, pos);
-    Ok(())
-}
-
-// A text, the cursor, a movement, and what it copies, if anything.
-type Copied = (&'static str, usize, Movement, Option<&'static str>);
-
-// Copies by each movement of the table.
-fn copy(rt: &impl Abort, alloc: Global, rows: &[Copied]) -> Result<(), Fail> {
-    for (text, pos, mvt, want) in rows {
-        copies_that(rt, alloc, text, *pos, mvt, *want)?;
-    }
-    Ok(())
-}
-
 #[test]
 fn copies(rt: HostRuntime) -> Result<(), Fail> {
-    const THREE: &str = "ab\ncd ef\ngh";
-    const ROWS: &[Copied] = &[
-        (THREE, 5, Movement::WholeLine, Some("cd ef")),
-        (THREE, 5, Movement::BeginningOfLine, Some("cd")),
-        (THREE, 5, Movement::EndOfLine, Some(" ef")),
-        (THREE, 5, Movement::BackwardWord(1, Word::Emacs), Some("cd")),
+    const ROWS: &[Lines] = &[
         (
-            THREE,
+            "ab\\ncd ef\\ngh",
             5,
-            Movement::ForwardWord(1, At::AfterEnd, Word::Emacs),
-            Some(" ef"),
+            "copy line",
+            "text:cd\\sef 5 ab\\ncd ef\\ngh",
         ),
         (
-            THREE,
+            "ab\\ncd ef\\ngh",
             5,
-            Movement::ViCharSearch(1, ForwardBefore('h')),
-            Some(" ef\ng"),
+            "copy home",
+            "text:cd 5 ab\\ncd ef\\ngh",
         ),
         (
-            THREE,
+            "ab\\ncd ef\\ngh",
             5,
-            Movement::ViCharSearch(1, Forward('h')),
-            Some(" ef\ngh"),
+            "copy eol",
+            "text:\\sef 5 ab\\ncd ef\\ngh",
         ),
         (
-            THREE,
+            "ab\\ncd ef\\ngh",
             5,
-            Movement::ViCharSearch(1, BackwardAfter('b')),
-            Some("\ncd"),
+            "copy bword 1 emacs",
+            "text:cd 5 ab\\ncd ef\\ngh",
         ),
         (
-            THREE,
+            "ab\\ncd ef\\ngh",
             5,
-            Movement::ViCharSearch(1, Backward('b')),
-            Some("b\ncd"),
+            "copy fword 1 after emacs",
+            "text:\\sef 5 ab\\ncd ef\\ngh",
         ),
-        (THREE, 5, Movement::ViFirstPrint, Some("cd")),
-        (THREE, 5, Movement::BackwardChar(2), Some("cd")),
-        (THREE, 5, Movement::ForwardChar(2), Some(" e")),
-        (THREE, 5, Movement::LineUp(1), Some("ab\ncd ef\n")),
-        (THREE, 5, Movement::LineUp(0), Some("cd ef\n")),
-        (THREE, 5, Movement::LineDown(1), Some("\ncd ef\ngh")),
-        (THREE, 5, Movement::LineDown(0), Some("\ncd ef\n")),
-        (THREE, 1, Movement::LineDown(0), Some("ab\n")),
-        (THREE, 1, Movement::LineUp(1), None),
-        (THREE, 9, Movement::LineDown(1), None),
-        (THREE, 9, Movement::LineUp(65535), Some(THREE)),
-        (THREE, 5, Movement::WholeBuffer, Some(THREE)),
-        (THREE, 5, Movement::BeginningOfBuffer, Some("ab\ncd")),
-        (THREE, 5, Movement::EndOfBuffer, Some(" ef\ngh")),
-        ("  ab", 1, Movement::ViFirstPrint, None),
-        (" ab", 1, Movement::ViFirstPrint, Some("")),
-        ("ab", 2, Movement::ViFirstPrint, Some("b")),
-        ("a", 1, Movement::ViFirstPrint, None),
         (
-            "ab",
+            "ab\\ncd ef\\ngh",
+            5,
+            "copy find 1 t h",
+            "text:\\sef\\ng 5 ab\\ncd ef\\ngh",
+        ),
+        (
+            "ab\\ncd ef\\ngh",
+            5,
+            "copy find 1 f h",
+            "text:\\sef\\ngh 5 ab\\ncd ef\\ngh",
+        ),
+        (
+            "ab\\ncd ef\\ngh",
+            5,
+            "copy find 1 T b",
+            "text:\\ncd 5 ab\\ncd ef\\ngh",
+        ),
+        (
+            "ab\\ncd ef\\ngh",
+            5,
+            "copy find 1 F b",
+            "text:b\\ncd 5 ab\\ncd ef\\ngh",
+        ),
+        (
+            "ab\\ncd ef\\ngh",
+            5,
+            "copy first",
+            "text:cd 5 ab\\ncd ef\\ngh",
+        ),
+        (
+            "ab\\ncd ef\\ngh",
+            5,
+            "copy bchar 2",
+            "text:cd 5 ab\\ncd ef\\ngh",
+        ),
+        (
+            "ab\\ncd ef\\ngh",
+            5,
+            "copy fchar 2",
+            "text:\\se 5 ab\\ncd ef\\ngh",
+        ),
+        (
+            "ab\\ncd ef\\ngh",
+            5,
+            "copy up 1",
+            "text:ab\\ncd\\sef\\n 5 ab\\ncd ef\\ngh",
+        ),
+        (
+            "ab\\ncd ef\\ngh",
+            5,
+            "copy up 0",
+            "text:cd\\sef\\n 5 ab\\ncd ef\\ngh",
+        ),
+        (
+            "ab\\ncd ef\\ngh",
+            5,
+            "copy down 1",
+            "text:\\ncd\\sef\\ngh 5 ab\\ncd ef\\ngh",
+        ),
+        (
+            "ab\\ncd ef\\ngh",
+            5,
+            "copy down 0",
+            "text:\\ncd\\sef\\n 5 ab\\ncd ef\\ngh",
+        ),
+        (
+            "ab\\ncd ef\\ngh",
             1,
-            Movement::ViCharSearch(1, BackwardAfter('a')),
-            Some(""),
+            "copy down 0",
+            "text:ab\\n 1 ab\\ncd ef\\ngh",
         ),
-        ("ab\n\ncd", 3, Movement::WholeLine, None),
-        ("a\nb", 2, Movement::LineUp(0), Some("b")),
-        ("a\nb\nc", 2, Movement::LineUp(1), Some("a\nb\n")),
+        ("ab\\ncd ef\\ngh", 1, "copy up 1", "none 1 ab\\ncd ef\\ngh"),
         (
-            "text",
-            4,
-            Movement::ViCharSearch(2, Backward('t')),
-            Some("text"),
+            "ab\\ncd ef\\ngh",
+            9,
+            "copy down 1",
+            "none 9 ab\\ncd ef\\ngh",
         ),
-        ("text", 4, Movement::EndOfLine, None),
-        ("text", 4, Movement::LineUp(1), None),
-        ("text", 4, Movement::WholeLine, Some("text")),
+        (
+            "ab\\ncd ef\\ngh",
+            9,
+            "copy up 65535",
+            "text:ab\\ncd\\sef\\ngh 9 ab\\ncd ef\\ngh",
+        ),
+        (
+            "ab\\ncd ef\\ngh",
+            5,
+            "copy buf",
+            "text:ab\\ncd\\sef\\ngh 5 ab\\ncd ef\\ngh",
+        ),
+        (
+            "ab\\ncd ef\\ngh",
+            5,
+            "copy bob",
+            "text:ab\\ncd 5 ab\\ncd ef\\ngh",
+        ),
+        (
+            "ab\\ncd ef\\ngh",
+            5,
+            "copy eob",
+            "text:\\sef\\ngh 5 ab\\ncd ef\\ngh",
+        ),
+        ("  ab", 1, "copy first", "none 1   ab"),
+        (" ab", 1, "copy first", "text: 1  ab"),
+        ("ab", 2, "copy first", "text:b 2 ab"),
+        ("a", 1, "copy first", "none 1 a"),
+        ("ab", 1, "copy find 1 T a", "text: 1 ab"),
+        ("ab\\n\\ncd", 3, "copy line", "none 3 ab\\n\\ncd"),
+        ("a\\nb", 2, "copy up 0", "text:b 2 a\\nb"),
+        ("a\\nb\\nc", 2, "copy up 1", "text:a\\nb\\n 2 a\\nb\\nc"),
+        ("text", 4, "copy find 2 F t", "text:text 4 text"),
+        ("text", 4, "copy eol", "none 4 text"),
+        ("text", 4, "copy up 1", "none 4 text"),
+        ("text", 4, "copy line", "text:text 4 text"),
     ];
-    copy(&rt, rt.alloc(), ROWS)
+    print_each(&rt, rt.alloc(), ROWS)
 }
 
 // Each movement with that count.

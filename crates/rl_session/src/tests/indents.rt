@@ -1,0 +1,116 @@
+//! Indents and dedents with answers that were worked out by hand.
+use crate::script::tests::{Lines, print_each};
+use crate::tests::heard::Heard;
+use crate::tests::line_buffer::{holds, leaves, line_of};
+use rl_base::Movement;
+use std::alloc::Global;
+use std::process::Abort;
+use std::test::Fail;
+
+#[test]
+fn lines_are_indented(rt: HostRuntime) -> Result<(), Fail> {
+    const ROWS: &[Lines] = &[
+        (
+            "a\\nb\\nc\\nd",
+            2,
+            "indent 2 line",
+            "true 4 a\\n  b\\nc\\nd",
+        ),
+        ("a\\n", 0, "indent 2 buf", "true 2   a\\n"),
+        (
+            "a",
+            0,
+            "indent 40 line",
+            "true 40                                         a",
+        ),
+        ("a", 0, "indent 0 line", "true 0 a"),
+        ("a\\nb", 0, "indent 1 eol", "true 1  a\\nb"),
+        ("a\\nb", 3, "indent 1 bchar 2", "true 4 a\\n b"),
+        ("a\\nb", 0, "indent 1 fchar 2", "true 1  a\\nb"),
+        ("ab\\ncd", 5, "indent 1 first", "true 6 ab\\n cd"),
+        (
+            "a b\\nc d",
+            6,
+            "indent 1 bword 2 emacs",
+            "true 8  a b\\n c d",
+        ),
+        ("a\\nb", 0, "indent 1 fword 1 start emacs", "true 1  a\\nb"),
+        ("a\\nb", 0, "indent 1 eob", "true 1  a\\n b"),
+        ("a\\nb", 2, "indent 1 bob", "true 3  a\\nb"),
+        ("a\\n", 2, "indent 1 eob", "true 3 a\\n "),
+        ("a\\n", 2, "indent 1 up 1", "true 3  a\\n"),
+        ("a\\nb\\nc", 2, "indent 1 up 0", "true 3 a\\n b\\nc"),
+        ("a\\nb\\nc", 2, "indent 1 down 0", "true 4  a\\n b\\nc"),
+        ("a\\nb", 2, "indent 1 down 1", "true 3 a\\n b"),
+    ];
+    print_each(&rt, rt.alloc(), ROWS)
+}
+
+// Dedents all lines, by so many deletions, the last of that length at that place. That leaves that text and cursor.
+fn dedents(
+    rt: &impl Abort,
+    alloc: Global,
+    text: &str,
+    pos: usize,
+    amount: u8,
+    deletions: u16,
+    place: usize,
+    len: usize,
+    after: &str,
+    cursor: usize,
+) -> Result<(), Fail> {
+    let mut line = line_of(rt, alloc, text, pos)?;
+    let mut heard = Heard::new(usize::MAX);
+    let answer = line.indent(&Movement::WholeBuffer, amount, true, &mut heard)?;
+    holds(rt, answer, "the answer", text, pos);
+    holds(rt, heard.deletions == deletions, "the deletions", text, pos);
+    let last = heard.place == place && heard.len == len;
+    holds(rt, last, "the last deletion", text, pos);
+    leaves(rt, &line, text, pos, after, cursor);
+    Ok(())
+}
+
+// A text, the cursor and an amount, the deletions that this takes, the place and the length of the last one, and the
+// text and the cursor after it.
+type Dedented = (
+    &'static str,
+    usize,
+    u8,
+    u16,
+    usize,
+    usize,
+    &'static str,
+    usize,
+);
+
+#[test]
+fn lines_are_dedented(rt: HostRuntime) -> Result<(), Fail> {
+    const ROWS: &[Dedented] = &[
+        ("  a\n\tb", 1, 4, 2, 2, 1, "a\nb", 0),
+        ("\u{3000}x", 0, 2, 1, 0, 0, "\u{3000}x", 0),
+        ("\u{3000}x", 4, 3, 1, 0, 3, "x", 1),
+        (" \u{3000}x", 4, 2, 1, 0, 1, "\u{3000}x", 3),
+        ("   a", 2, 2, 1, 0, 2, " a", 0),
+        ("   a", 3, 2, 1, 0, 2, " a", 1),
+        ("a\n  b", 1, 1, 2, 2, 1, "a\n b", 1),
+        ("a\n  b", 2, 9, 2, 2, 2, "a\nb", 2),
+        ("  ", 1, 9, 1, 0, 2, "", 0),
+        (" a", 2, 0, 1, 0, 0, " a", 2),
+        ("", 0, 9, 1, 0, 0, "", 0),
+    ];
+    for (text, pos, amount, deletions, place, len, after, cursor) in ROWS {
+        dedents(
+            &rt,
+            rt.alloc(),
+            text,
+            *pos,
+            *amount,
+            *deletions,
+            *place,
+            *len,
+            after,
+            *cursor,
+        )?;
+    }
+    Ok(())
+}
