@@ -7,6 +7,8 @@ pub mod layout;
 pub mod listeners;
 pub mod motion;
 pub mod places;
+#[cfg(test)]
+mod tests;
 
 pub use kill_ring::{KillRing, Mode};
 pub use layout::{GraphemeClusterMode, Layout, Position, Unit};

@@ -1,18 +1,14 @@
-//! What the crates below do by themselves, module by module, as a caller sees it. A crate with tests is proved once
-//! more for them, so those of all three libraries stand in this one.
+//! What a line and its record do by themselves, as any caller sees it, in a file for each module of `rl_line`. They
+//! stand here since a crate with tests is proved once more from nothing for them, as this one is.
 mod edits;
 mod halts;
 mod heard;
 mod indents;
 mod joins;
-mod kill_ring;
 mod kills;
-mod layout;
 mod letter_case;
 mod line_buffer;
 mod line_motions;
-mod listeners;
 mod motions;
-mod places;
 mod transpositions;
 mod undo;

@@ -21,6 +21,27 @@ fn holds(rt: &impl Abort, pair: &mut Pair, entries: usize, wanted: Option<&str>,
     }
 }
 
+// Edits the line before the pair, and undoes it all.
+fn hears(rt: &impl Abort, line: &mut LineBuffer, pair: &mut Pair) -> Result<(), Fail> {
+    line.yank("a bc", 1, pair)?;
+    holds(rt, pair, 1, None, "an insertion is no kill");
+    line.backspace(1, pair)?;
+    holds(rt, pair, 2, None, "nor is a deletion");
+    line.kill(&Movement::BeginningOfLine, pair)?;
+    holds(rt, pair, 3, Some("a b"), "a kill is for both");
+    if pair.changes.can_undo(line)? {
+        pair.changes.undo(line, 3)?;
+    }
+    holds(
+        rt,
+        pair,
+        0,
+        Some("a b"),
+        "the ring does not hear of an undo",
+    );
+    Ok(())
+}
+
 #[test]
 fn a_pair_hears_as_one(rt: HostRuntime) -> Result<(), Fail> {
     let alloc = rt.alloc();
@@ -29,21 +50,5 @@ fn a_pair_hears_as_one(rt: HostRuntime) -> Result<(), Fail> {
         changes: Changeset::new(alloc),
     };
     let mut line = LineBuffer::with_capacity(alloc, 9)?;
-    line.yank("a bc", 1, &mut pair)?;
-    holds(&rt, &mut pair, 1, None, "an insertion is no kill");
-    line.backspace(1, &mut pair)?;
-    holds(&rt, &mut pair, 2, None, "nor is a deletion");
-    line.kill(&Movement::BeginningOfLine, &mut pair)?;
-    holds(&rt, &mut pair, 3, Some("a b"), "a kill is for both");
-    if pair.changes.can_undo(&line)? {
-        pair.changes.undo(&mut line, 3)?;
-    }
-    holds(
-        &rt,
-        &mut pair,
-        0,
-        Some("a b"),
-        "the ring does not hear of an undo",
-    );
-    Ok(())
+    hears(&rt, &mut line, &mut pair)
 }

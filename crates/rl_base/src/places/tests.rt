@@ -1,7 +1,7 @@
 //! Rows of places, and a plain count of clusters and words beside the proved one.
-use rl_base::motion::CharSearch::{Backward, BackwardAfter, Forward, ForwardBefore};
-use rl_base::motion::{At, CharSearch, RepeatCount, Word};
-use rl_base::places::{
+use crate::motion::CharSearch::{Backward, BackwardAfter, Forward, ForwardBefore};
+use crate::motion::{At, CharSearch, RepeatCount, Word};
+use crate::places::{
     find_place, is_alphanumeric, next_pos, next_word, prev_pos, prev_word, search,
 };
 use std::alloc::{AllocError, Global};

@@ -1,5 +1,5 @@
 //! Widths and positions with answers from outside.
-use rl_base::{GraphemeClusterMode, Layout, Position, Unit};
+use crate::{GraphemeClusterMode, Layout, Position, Unit};
 use std::process::Abort;
 use std::test::Fail;
 
