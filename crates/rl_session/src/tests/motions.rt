@@ -38,43 +38,29 @@ fn goes_on(
 
 #[test]
 fn motions_repeated(rt: HostRuntime) -> Result<(), Fail> {
+    const BETA: &str = "alpha ,beta/rho; mu";
     const ROWS: &[(&str, usize, &str, &[usize])] = &[
         ("ö\u{332}g\u{308}", 0, "move fchar 1", &[4, 7]),
         ("ö\u{332}g\u{308}", 7, "move bchar 1", &[4, 0]),
         ("ö\u{332}g\u{308}", 0, "move fchar 0", &[]),
         ("αß", 2, "move bob", &[0]),
         ("αß", 2, "move eob", &[4]),
+        (BETA, 19, "move bword 1 vi", &[17, 15, 12, 11, 7, 6, 0]),
+        (BETA, 19, "move bword 1 big", &[17, 6, 0]),
         (
-            "alpha ,beta/rho; mu",
-            19,
-            "move bword 1 vi",
-            &[17, 15, 12, 11, 7, 6, 0],
-        ),
-        ("alpha ,beta/rho; mu", 19, "move bword 1 big", &[17, 6, 0]),
-        (
-            "alpha ,beta/rho; mu",
+            BETA,
             0,
             "move fword 1 start vi",
             &[6, 7, 11, 12, 15, 17, 18],
         ),
+        (BETA, 0, "move fword 1 start big", &[6, 17, 18]),
         (
-            "alpha ,beta/rho; mu",
-            0,
-            "move fword 1 start big",
-            &[6, 17, 18],
-        ),
-        (
-            "alpha ,beta/rho; mu",
+            BETA,
             0,
             "move fword 1 before vi",
             &[4, 6, 10, 11, 14, 15, 18],
         ),
-        (
-            "alpha ,beta/rho; mu",
-            0,
-            "move fword 1 before big",
-            &[4, 15, 18],
-        ),
+        (BETA, 0, "move fword 1 before big", &[4, 15, 18]),
         ("ae\u{301}b", 0, "move fword 1 start vi", &[1, 4]),
         ("a/b", 0, "move fword 0 start vi", &[]),
         ("abb", 0, "move find 0 t b", &[]),
