@@ -1,5 +1,7 @@
-//! What a line and its record do by themselves, as any caller sees it, in a file for each module of `rl_line`. They
-//! stand here since a crate with tests is proved once more from nothing for them, as this one is.
+//! What a line and its record do by themselves, as any caller sees it. Each file is named for the module of `rl_line`
+//! that it is of; `halts` is of edits that are refused halfway, by the listener in `heard`, and `joins` of changes
+//! that join in the record. They stand here since a crate with tests is proved once more from nothing for them, as
+//! this one is.
 mod edits;
 mod halts;
 mod heard;

@@ -40,8 +40,8 @@ fn print_all(rt: &impl Abort, alloc: Global, rows: &[Row]) -> Result<(), Fail> {
     Ok(())
 }
 
-// The lines, on that text with the cursor at that place, print that last.
-pub(crate) fn prints_last(
+// On that text, with the cursor at that place, the lines print that.
+pub(crate) fn prints_on(
     rt: &impl Abort,
     alloc: Global,
     text: &str,
@@ -51,19 +51,19 @@ pub(crate) fn prints_last(
 ) -> Result<(), Fail> {
     let script = format!(in alloc; "text {text}\npos {pos}\n{lines}\n")?;
     let printed = printed_by(alloc, script.as_bytes())?;
-    let last = format!(in alloc; "\n{wanted}\n")?;
+    let last = format!(in alloc; "\nok {pos} {text}\n{wanted}\n")?;
     let ends = printed.as_slice().ends_with(last.as_bytes());
     assert!(rt; ends, "{lines:?} on {text:?} at {pos}");
     Ok(())
 }
 
-// A text, the cursor, lines of a script, and what these print.
+// A text as a script prints it, the cursor, lines of a script, and what these print.
 pub(crate) type Lines = (&'static str, usize, &'static str, &'static str);
 
 // The lines of each row print what they should.
 pub(crate) fn print_each(rt: &impl Abort, alloc: Global, rows: &[Lines]) -> Result<(), Fail> {
     for (text, pos, lines, wanted) in rows {
-        prints_last(rt, alloc, text, *pos, lines, wanted)?;
+        prints_on(rt, alloc, text, *pos, lines, wanted)?;
     }
     Ok(())
 }

@@ -1,5 +1,5 @@
 //! Motions with places that were worked out by hand, as lines of scripts.
-use crate::script::tests::{Lines, print_each, prints_last};
+use crate::script::tests::{Lines, print_each, prints_on};
 use crate::tests::line_buffer::{holds, line_of};
 use std::alloc::Global;
 use std::process::Abort;
@@ -16,7 +16,7 @@ fn goes(
     place: usize,
 ) -> Result<(), Fail> {
     let wanted = format!(in alloc; "{moves} {place} {text}")?;
-    prints_last(rt, alloc, text, pos, line, wanted.as_str())
+    prints_on(rt, alloc, text, pos, line, wanted.as_str())
 }
 
 // Goes again and again: to each place in turn, and then nowhere.
