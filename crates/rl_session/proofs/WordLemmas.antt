@@ -6,7 +6,7 @@ use Rattle.rl_base.specs.declared.motion.WordAction.{WordAction}
 use Rattle.rl_session.specs.declared.session.Command.TheVariants.{SetPos, Move, Yank, Delete, Backspace, TransposeWords, EditWord, Kill, Copy, Undo, Truncate}
 use Rattle.rl_session.specs.declared.settings.Setting.TheVariants.{Limit, RingSize, Mode}
 use Rattle.rl_session.specs.Grammar.{NamesAction, Meaning, NewText, Set, Do, number_of, word, rest, SpellsChar, Numbered, SpellsRest, NumberedText, RangeText, Says, no_text, text, pos, move, ins, paste, yank, yankpop, update, str, rep, range, del, back, killline, killbuf, discline, discbuf, prevword, nextword, to, tchars, twords, cased, kill, copy, indent, dedent, begin, end, undo, redo, trunc, limit, ring, mode, Means, Same, same, pastes, updates, puts_in, replaces}
-use Rattle.rl_session.specs.Reads.{SpellsNoChar, HasNoNumber, HasNoWord, HasNoAt, HasNoSearch, HasNoMovement, NamesNoMovement, SaysNoCommand}
+use Rattle.rl_session.specs.Reads.{SpellsNoChar, HasNoNumber, HasNoWord, HasNoAt, HasNoSearch, HasNoMovement, NamesNoMovement, SaysNoDeletion, SaysNoCommand}
 use Rattle.rl_session.proofs.NumberLemmas.{some_same, none_holds}
 use Rattle.rl_session.proofs.PartLemmas.{Lacks}
 use Rattle.rl_session.proofs.SpellingLemmas.{Spells-one, SpellsChar-one}
@@ -105,10 +105,10 @@ no-trunc given none command even (trunc p) = none_holds _ none p
 pub no-yank : (given : List ℕ) → None ≡ number_of 65535 given → SaysNoCommand (codes "yank") given
 no-yank given none command even (yank p) = none_holds _ none p
 
-pub no-del : (given : List ℕ) → None ≡ number_of 65535 given → SaysNoCommand (codes "del") given
+pub no-del : (given : List ℕ) → None ≡ number_of 65535 given → SaysNoDeletion (codes "del") given
 no-del given none command even (del p) = none_holds _ none p
 
-pub no-back : (given : List ℕ) → None ≡ number_of 65535 given → SaysNoCommand (codes "back") given
+pub no-back : (given : List ℕ) → None ≡ number_of 65535 given → SaysNoDeletion (codes "back") given
 no-back given none command even (back p) = none_holds _ none p
 
 pub no-twords : (given : List ℕ) → None ≡ number_of 65535 given → SaysNoCommand (codes "twords") given
@@ -132,13 +132,13 @@ no-indent given none command even (indent p) = none _ _ p
 pub no-dedent : (given : List ℕ) → HasNoMovement given → SaysNoCommand (codes "dedent") given
 no-dedent given none command even (dedent p) = none _ _ p
 
-pub no-prevword : (given : List ℕ) → HasNoWord given → SaysNoCommand (codes "prevword") given
+pub no-prevword : (given : List ℕ) → HasNoWord given → SaysNoDeletion (codes "prevword") given
 no-prevword given none command even (prevword p) = none _ _ p
 
-pub no-nextword : (given : List ℕ) → HasNoAt given → SaysNoCommand (codes "nextword") given
+pub no-nextword : (given : List ℕ) → HasNoAt given → SaysNoDeletion (codes "nextword") given
 no-nextword given none command even (nextword p) = none _ _ _ p
 
-pub no-to : (given : List ℕ) → HasNoSearch given → SaysNoCommand (codes "to") given
+pub no-to : (given : List ℕ) → HasNoSearch given → SaysNoDeletion (codes "to") given
 no-to given none command even (to p) = none _ _ p
 
 pub no-case : (given : List ℕ) → ((action : WordAction) → NamesAction given action → ⊥) → SaysNoCommand (codes "case") given
@@ -150,8 +150,8 @@ ins-no_count given none command even (ins p s) = none _ _ p
 pub ins-no_char : (given bytes : List ℕ) (n : ℕ) → Numbered 65535 given n bytes → SpellsNoChar bytes → SaysNoCommand (codes "ins") given
 ins-no_char given bytes n h none command even (ins {c = c} p s) = none c (subst (λ l. SpellsChar l c) (sym (Numbered-one h p).1) s)
 
-pub range-no_start : (given : List ℕ) → HasNoNumber (2 ^ 64 - 1) given → SaysNoCommand (codes "range") given
+pub range-no_start : (given : List ℕ) → HasNoNumber (2 ^ 64 - 1) given → SaysNoDeletion (codes "range") given
 range-no_start given none command even (range p s) = none _ _ p
 
-pub range-no_end : (given digits : List ℕ) (a : ℕ) → Numbered (2 ^ 64 - 1) given a digits → None ≡ number_of (2 ^ 64 - 1) digits → SaysNoCommand (codes "range") given
+pub range-no_end : (given digits : List ℕ) (a : ℕ) → Numbered (2 ^ 64 - 1) given a digits → None ≡ number_of (2 ^ 64 - 1) digits → SaysNoDeletion (codes "range") given
 range-no_end given digits a h none command even (range p s) = none_holds _ (none ∙ ap (number_of (2 ^ 64 - 1)) (Numbered-one h p).1) s

@@ -11,7 +11,7 @@ use Rattle.rl_base.specs.declared.motion.CharSearch.{CharSearch}
 use Rattle.rl_base.specs.declared.motion.Movement.{Movement}
 use Rattle.rl_base.specs.declared.motion.Word.{Word}
 use Rattle.rl_session.specs.declared.session.Command.{Command}
-use Rattle.rl_session.specs.declared.session.Command.TheVariants.{Paste, Update, InsertStr, Replace}
+use Rattle.rl_session.specs.declared.session.Command.TheVariants.{Paste, Update, InsertStr, Replace, DeleteRange, Delete, Backspace, DeletePrevWord, DeleteWord, DeleteTo}
 
 -- what a line of the program means
 abbrev pub meaning_of : ScriptLine → Meaning
@@ -94,7 +94,21 @@ holds_text _ = false
 abbrev pub SaysNoTextCommand : List ℕ → List ℕ → Type 0
 SaysNoTextCommand word given = (command : Command) → holds_text command ≡ true → Says word (Some given) (Do command) → ⊥
 
--- the word says no other command, with what stands behind its space
+-- whether a command deletes what a count or a range tells
+abbrev pub deletes : Command → Bool
+deletes (DeleteRange _ _) = true
+deletes (Delete _) = true
+deletes (Backspace _) = true
+deletes (DeletePrevWord _ _) = true
+deletes (DeleteWord _ _ _) = true
+deletes (DeleteTo _ _) = true
+deletes _ = false
+
+-- the word says no such deletion, with what stands behind its space
+abbrev pub SaysNoDeletion : List ℕ → List ℕ → Type 0
+SaysNoDeletion word given = (command : Command) → deletes command ≡ true → Says word (Some given) (Do command) → ⊥
+
+-- the word says no command without a text, with what stands behind its space
 abbrev pub SaysNoCommand : List ℕ → List ℕ → Type 0
 SaysNoCommand word given = (command : Command) → holds_text command ≡ false → Says word (Some given) (Do command) → ⊥
 

@@ -3,7 +3,7 @@ ghost use Rattle.std.specs.Prelude.{◌≡◌, ◌<◌, ◌≤◌, ℕ, Some, No
 ghost use Rattle.std.specs.Str.{IsUtf8};
 ghost use Rattle.std.specs.String.{string_bytes};
 ghost use Rattle.rl_session.specs.Grammar.{Set, Do, number_of, letter_of, hex_digit, NamesChar, Spells, SpellsChar, word, rest, Numbered, NumberedText, NamesWord, NamesAt, NamesSearch, NamesAction, NamesMode, CountWord, CountAtWord, CountSearch, Names, NamesMovement, AmountMovement, Says, Means, MeansNothing};
-ghost use Rattle.rl_session.specs.Reads.{BeginsEscape, BeginsNoEscape, BeginsChar, SpellsNothing, SpellsNoChar, HasNoNumber, HasNoText, HasNoWord, HasNoAt, HasNoSearch, HasNoMovement, NamesNothing, NamesNoMovement, SaysNothing, SaysNoTextCommand, SaysNoCommand, SaysNoSetting, SaysNoneWithoutText, SaysNoLoneCommand, meaning_of};
+ghost use Rattle.rl_session.specs.Reads.{BeginsEscape, BeginsNoEscape, BeginsChar, SpellsNothing, SpellsNoChar, HasNoNumber, HasNoText, HasNoWord, HasNoAt, HasNoSearch, HasNoMovement, NamesNothing, NamesNoMovement, SaysNothing, SaysNoTextCommand, SaysNoDeletion, SaysNoCommand, SaysNoSetting, SaysNoneWithoutText, SaysNoLoneCommand, meaning_of};
 ghost use Rattle.rl_base.specs.declared.layout.GraphemeClusterMode.{GraphemeClusterMode};
 ghost use Rattle.rl_base.specs.declared.motion.At.{At};
 ghost use Rattle.rl_base.specs.declared.motion.CharSearch.{CharSearch};
@@ -373,7 +373,7 @@ fn insertion(given: &str) -> Option<Command>
 
 // The deletion between two places.
 fn range_deletion(given: &str) -> Option<Command>
-    ensures { MatchOption result (SaysNoCommand (codes "range") given.now)
+    ensures { MatchOption result (SaysNoDeletion (codes "range") given.now)
         (λ command. Says (codes "range") (Some given.now) (Do command)) }
 {
     let (start, behind) = numbered(given, usize::MAX)?;
@@ -388,16 +388,12 @@ fn amount_and_movement(given: &str) -> Option<(u8, Movement)>
     Some((amount as u8, movement(named)?))
 }
 
-// The command of a word and of what stands behind its space, but a text.
-fn command(word: &str, given: &str) -> Option<Command>
-    ensures { MatchOption result (SaysNoCommand word.now given.now)
+// The deletion of a word and of what stands behind its space.
+fn deletion(word: &str, given: &str) -> Option<Command>
+    ensures { MatchOption result (SaysNoDeletion word.now given.now)
         (λ command. Says word.now (Some given.now) (Do command)) }
 {
     match word {
-        "pos" => Some(Command::SetPos(number(given, usize::MAX)?)),
-        "move" => Some(Command::Move(movement(given)?)),
-        "ins" => insertion(given),
-        "yank" => Some(Command::Yank(count(given)?)),
         "range" => range_deletion(given),
         "del" => Some(Command::Delete(count(given)?)),
         "back" => Some(Command::Backspace(count(given)?)),
@@ -413,6 +409,20 @@ fn command(word: &str, given: &str) -> Option<Command>
             let (n, search) = count_and_search(given)?;
             Some(Command::DeleteTo(search, n))
         }
+        _ => None,
+    }
+}
+
+// The command of a word and of what stands behind its space, but a text.
+fn command(word: &str, given: &str) -> Option<Command>
+    ensures { MatchOption result (SaysNoCommand word.now given.now)
+        (λ command. Says word.now (Some given.now) (Do command)) }
+{
+    match word {
+        "pos" => Some(Command::SetPos(number(given, usize::MAX)?)),
+        "move" => Some(Command::Move(movement(given)?)),
+        "ins" => insertion(given),
+        "yank" => Some(Command::Yank(count(given)?)),
         "twords" => Some(Command::TransposeWords(count(given)?)),
         "case" => Some(Command::EditWord(named_action(given)?)),
         "kill" => Some(Command::Kill(movement(given)?)),
@@ -427,7 +437,7 @@ fn command(word: &str, given: &str) -> Option<Command>
         }
         "undo" => Some(Command::Undo(count(given)?)),
         "trunc" => Some(Command::Truncate(number(given, usize::MAX)?)),
-        _ => None,
+        _ => deletion(word, given),
     }
 }
 

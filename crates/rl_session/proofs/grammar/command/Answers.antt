@@ -1,10 +1,11 @@
-use Rattle.std.proofs.Common.{◌≡◌, ℕ, false, List, Some, refl, sym}
+use Rattle.std.proofs.Common.{◌≡◌, ℕ, true, false, List, Option, None, Some, refl, sym}
+use Rattle.std.specs.Prelude.{MatchOption}
 use Rattle.rl_session.specs.Grammar.{Says, Do, pos, move, ins, paste, yank, update, str, rep, range, del, back, prevword, nextword, to, twords, cased, kill, copy, indent, dedent, undo, trunc}
-use Rattle.rl_session.proofs.WordLemmas.{no-pos, no-move, no-yank, no-del, no-back, no-prevword, no-nextword, no-to, no-twords, no-case, no-kill, no-copy, no-indent, no-dedent, no-undo, no-trunc}
-use Rattle.rl_session.specs.Reads.{holds_text}
+use Rattle.rl_session.proofs.WordLemmas.{no-pos, no-move, no-yank, no-twords, no-case, no-kill, no-copy, no-indent, no-dedent, no-undo, no-trunc}
+use Rattle.rl_session.specs.Reads.{holds_text, deletes, SaysNoDeletion, SaysNoCommand}
 use Rattle.rl_session.specs.declared.session.Command.{Command}
 use Rattle.rl_session.proofs.grammar.command.Goals as goal
-use Rattle.rl_session.proofs.grammar.command.Goals.{In_default}
+use Rattle.rl_session.proofs.grammar.command.Goals.{After-deletion}
 
 pub returns-in_err-number-in-pos : goal.returns-in_err-number-in-pos
 returns-in_err-number-in-pos c = rw (c.in-pos.is, c.from_residual.ensures) (no-pos c.args.given.now c.in_err-number-in-pos.ensures.value)
@@ -23,36 +24,6 @@ returns-in_err-count-in-yank c = rw (c.in-yank.is, c.from_residual-in_err-count-
 
 pub returns-in_ok-count-in-yank : goal.returns-in_ok-count-in-yank
 returns-in_ok-count-in-yank c = rw c.in-yank.is (yank (sym c.in_ok-count-in-yank.ensures))
-
-pub returns-in_err-count-in-del : goal.returns-in_err-count-in-del
-returns-in_err-count-in-del c = rw (c.in-del.is, c.from_residual-in_err-count-in-del.ensures) (no-del c.args.given.now c.in_err-count-in-del.ensures)
-
-pub returns-in_ok-count-in-del : goal.returns-in_ok-count-in-del
-returns-in_ok-count-in-del c = rw c.in-del.is (del (sym c.in_ok-count-in-del.ensures))
-
-pub returns-in_err-count-in-back : goal.returns-in_err-count-in-back
-returns-in_err-count-in-back c = rw (c.in-back.is, c.from_residual-in_err-count-in-back.ensures) (no-back c.args.given.now c.in_err-count-in-back.ensures)
-
-pub returns-in_ok-count-in-back : goal.returns-in_ok-count-in-back
-returns-in_ok-count-in-back c = rw c.in-back.is (back (sym c.in_ok-count-in-back.ensures))
-
-pub returns-in_err-n-in-prevword : goal.returns-in_err-n-in-prevword
-returns-in_err-n-in-prevword c = rw (c.in-prevword.is, c.from_residual-in_err-n-in-prevword.ensures) (no-prevword c.args.given.now c.in_err-n-in-prevword.ensures)
-
-pub returns-in_ok-n-in-prevword : goal.returns-in_ok-n-in-prevword
-returns-in_ok-n-in-prevword c = rw c.in-prevword.is (prevword c.in_ok-n-in-prevword.ensures)
-
-pub returns-in_err-n-in-nextword : goal.returns-in_err-n-in-nextword
-returns-in_err-n-in-nextword c = rw (c.in-nextword.is, c.from_residual-in_err-n-in-nextword.ensures) (no-nextword c.args.given.now c.in_err-n-in-nextword.ensures)
-
-pub returns-in_ok-n-in-nextword : goal.returns-in_ok-n-in-nextword
-returns-in_ok-n-in-nextword c = rw c.in-nextword.is (nextword c.in_ok-n-in-nextword.ensures)
-
-pub returns-in_err-n-in-to : goal.returns-in_err-n-in-to
-returns-in_err-n-in-to c = rw (c.in-to.is, c.from_residual-in_err-n-in-to.ensures) (no-to c.args.given.now c.in_err-n-in-to.ensures)
-
-pub returns-in_ok-n-in-to : goal.returns-in_ok-n-in-to
-returns-in_ok-n-in-to c = rw c.in-to.is (to c.in_ok-n-in-to.ensures)
 
 pub returns-in_err-count-in-twords : goal.returns-in_err-count-in-twords
 returns-in_err-count-in-twords c = rw (c.in-twords.is, c.from_residual-in_err-count-in-twords.ensures) (no-twords c.args.given.now c.in_err-count-in-twords.ensures)
@@ -102,30 +73,36 @@ returns-in_err-number-in-trunc c = rw (c.in-trunc.is, c.from_residual-in_err-num
 pub returns-in_ok-number-in-trunc : goal.returns-in_ok-number-in-trunc
 returns-in_ok-number-in-trunc c = rw c.in-trunc.is (trunc (sym c.in_ok-number-in-trunc.ensures.value))
 
--- none of these words stands there
-others : (c : In_default) (w given : List ℕ) (command : Command) → c.args.word.now ≡ w → holds_text command ≡ false → Says w (Some given) (Do command) → ⊥
-others c w given command e even (ins p s) = c.in_default.not-ins e
-others c w given command e even (range p s) = c.in_default.not-range e
-others c w given command e even (pos p) = c.in_default.not-pos e
-others c w given command e even (move p) = c.in_default.not-move e
-others c w given command e even (yank p) = c.in_default.not-yank e
-others c w given command e even (del p) = c.in_default.not-del e
-others c w given command e even (back p) = c.in_default.not-back e
-others c w given command e even (prevword p) = c.in_default.not-prevword e
-others c w given command e even (nextword p) = c.in_default.not-nextword e
-others c w given command e even (to p) = c.in_default.not-to e
-others c w given command e even (twords p) = c.in_default.not-twords e
-others c w given command e even (cased p) = c.in_default.not-case e
-others c w given command e even (kill p) = c.in_default.not-kill e
-others c w given command e even (copy p) = c.in_default.not-copy e
-others c w given command e even (indent p) = c.in_default.not-indent e
-others c w given command e even (dedent p) = c.in_default.not-dedent e
-others c w given command e even (undo p) = c.in_default.not-undo e
-others c w given command e even (trunc p) = c.in_default.not-trunc e
+-- none of these words stands there, so only a deletion can be said
+others : (c : After-deletion) (w given : List ℕ) (command : Command) → c.args.word.now ≡ w → holds_text command ≡ false → Says w (Some given) (Do command) → deletes command ≡ true
+others c w given command e even (ins p s) = absurd (c.in_default.not-ins e)
+others c w given command e even (range p s) = refl
+others c w given command e even (pos p) = absurd (c.in_default.not-pos e)
+others c w given command e even (move p) = absurd (c.in_default.not-move e)
+others c w given command e even (yank p) = absurd (c.in_default.not-yank e)
+others c w given command e even (del p) = refl
+others c w given command e even (back p) = refl
+others c w given command e even (prevword p) = refl
+others c w given command e even (nextword p) = refl
+others c w given command e even (to p) = refl
+others c w given command e even (twords p) = absurd (c.in_default.not-twords e)
+others c w given command e even (cased p) = absurd (c.in_default.not-case e)
+others c w given command e even (kill p) = absurd (c.in_default.not-kill e)
+others c w given command e even (copy p) = absurd (c.in_default.not-copy e)
+others c w given command e even (indent p) = absurd (c.in_default.not-indent e)
+others c w given command e even (dedent p) = absurd (c.in_default.not-dedent e)
+others c w given command e even (undo p) = absurd (c.in_default.not-undo e)
+others c w given command e even (trunc p) = absurd (c.in_default.not-trunc e)
 others c w given command e even (paste p) = absurd cc
 others c w given command e even (update p) = absurd cc
 others c w given command e even (str p) = absurd cc
 others c w given command e even (rep p) = absurd cc
 
+-- so the word says no more than the deletion does
+or_deletion : (c : After-deletion) (said : Option Command) → MatchOption said (SaysNoDeletion c.args.word.now c.args.given.now) (λ command. Says c.args.word.now (Some c.args.given.now) (Do command))
+    → MatchOption said (SaysNoCommand c.args.word.now c.args.given.now) (λ command. Says c.args.word.now (Some c.args.given.now) (Do command))
+or_deletion c None none = λ command even is. none command (others c c.args.word.now c.args.given.now command refl even is) is
+or_deletion c (Some command) is = is
+
 pub returns-in_default : goal.returns-in_default
-returns-in_default c = λ command even said. others c c.args.word.now c.args.given.now command refl even said
+returns-in_default c = or_deletion c c.deletion.result c.deletion.ensures

@@ -1,0 +1,65 @@
+use Rattle.std.proofs.Common.{◌≡◌, ℕ, true, List, Some, refl, sym}
+use Rattle.rl_session.specs.Grammar.{Says, Do, pos, move, ins, paste, yank, update, str, rep, range, del, back, prevword, nextword, to, twords, cased, kill, copy, indent, dedent, undo, trunc}
+use Rattle.rl_session.proofs.WordLemmas.{no-del, no-back, no-prevword, no-nextword, no-to}
+use Rattle.rl_session.specs.Reads.{deletes}
+use Rattle.rl_session.specs.declared.session.Command.{Command}
+use Rattle.rl_session.proofs.grammar.deletion.Goals as goal
+use Rattle.rl_session.proofs.grammar.deletion.Goals.{In_default}
+
+pub returns-in_err-count-in-del : goal.returns-in_err-count-in-del
+returns-in_err-count-in-del c = rw (c.in-del.is, c.from_residual.ensures) (no-del c.args.given.now c.in_err-count-in-del.ensures)
+
+pub returns-in_ok-count-in-del : goal.returns-in_ok-count-in-del
+returns-in_ok-count-in-del c = rw c.in-del.is (del (sym c.in_ok-count-in-del.ensures))
+
+pub returns-in_err-count-in-back : goal.returns-in_err-count-in-back
+returns-in_err-count-in-back c = rw (c.in-back.is, c.from_residual-in_err-count-in-back.ensures) (no-back c.args.given.now c.in_err-count-in-back.ensures)
+
+pub returns-in_ok-count-in-back : goal.returns-in_ok-count-in-back
+returns-in_ok-count-in-back c = rw c.in-back.is (back (sym c.in_ok-count-in-back.ensures))
+
+pub returns-in_err-n-in-prevword : goal.returns-in_err-n-in-prevword
+returns-in_err-n-in-prevword c = rw (c.in-prevword.is, c.from_residual-in_err-n-in-prevword.ensures) (no-prevword c.args.given.now c.in_err-n-in-prevword.ensures)
+
+pub returns-in_ok-n-in-prevword : goal.returns-in_ok-n-in-prevword
+returns-in_ok-n-in-prevword c = rw c.in-prevword.is (prevword c.in_ok-n-in-prevword.ensures)
+
+pub returns-in_err-n-in-nextword : goal.returns-in_err-n-in-nextword
+returns-in_err-n-in-nextword c = rw (c.in-nextword.is, c.from_residual-in_err-n-in-nextword.ensures) (no-nextword c.args.given.now c.in_err-n-in-nextword.ensures)
+
+pub returns-in_ok-n-in-nextword : goal.returns-in_ok-n-in-nextword
+returns-in_ok-n-in-nextword c = rw c.in-nextword.is (nextword c.in_ok-n-in-nextword.ensures)
+
+pub returns-in_err-n-in-to : goal.returns-in_err-n-in-to
+returns-in_err-n-in-to c = rw (c.in-to.is, c.from_residual-in_err-n-in-to.ensures) (no-to c.args.given.now c.in_err-n-in-to.ensures)
+
+pub returns-in_ok-n-in-to : goal.returns-in_ok-n-in-to
+returns-in_ok-n-in-to c = rw c.in-to.is (to c.in_ok-n-in-to.ensures)
+
+-- none of these words stands there
+others : (c : In_default) (w given : List ℕ) (command : Command) → c.args.word.now ≡ w → deletes command ≡ true → Says w (Some given) (Do command) → ⊥
+others c w given command e gone (ins p s) = absurd cc
+others c w given command e gone (range p s) = c.in_default.not-range e
+others c w given command e gone (pos p) = absurd cc
+others c w given command e gone (move p) = absurd cc
+others c w given command e gone (yank p) = absurd cc
+others c w given command e gone (del p) = c.in_default.not-del e
+others c w given command e gone (back p) = c.in_default.not-back e
+others c w given command e gone (prevword p) = c.in_default.not-prevword e
+others c w given command e gone (nextword p) = c.in_default.not-nextword e
+others c w given command e gone (to p) = c.in_default.not-to e
+others c w given command e gone (twords p) = absurd cc
+others c w given command e gone (cased p) = absurd cc
+others c w given command e gone (kill p) = absurd cc
+others c w given command e gone (copy p) = absurd cc
+others c w given command e gone (indent p) = absurd cc
+others c w given command e gone (dedent p) = absurd cc
+others c w given command e gone (undo p) = absurd cc
+others c w given command e gone (trunc p) = absurd cc
+others c w given command e gone (paste p) = absurd cc
+others c w given command e gone (update p) = absurd cc
+others c w given command e gone (str p) = absurd cc
+others c w given command e gone (rep p) = absurd cc
+
+pub returns-in_default : goal.returns-in_default
+returns-in_default c = λ command gone said. others c c.args.word.now c.args.given.now command refl gone said
