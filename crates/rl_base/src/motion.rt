@@ -25,10 +25,10 @@ pub enum At {
     AfterEnd,
 }
 
-/// What an edit of a word makes of its letters.
+/// What an edit of a word makes of its letters; it stands among the motions, since it is asked for as they are.
 #[derive(Clone, Copy, Debug, Eq, PartialEq)]
 pub enum WordAction {
-    /// The first one upper case, the others lower case (readline's `capitalize-word`).
+    /// The first character in upper case, the others in lower case (readline's `capitalize-word`).
     Capitalize,
     /// Lower case (readline's `downcase-word`).
     Lowercase,

@@ -8,6 +8,7 @@ use Rattle.std.specs.Str.{chars}
 use Rattle.unicode_segmentation.specs.Segments.{cut, segments}
 use Rattle.rl_base.specs.Event.{Event, InsertStr, Delete, Start, Stop}
 use Rattle.rl_base.specs.declared.listeners.Direction.{Direction}
+use Rattle.rl_base.specs.declared.listeners.Direction.TheVariants.{Forward}
 use Rattle.rl_base.specs.declared.listeners.Refusal.{Refusal}
 use Rattle.rl_base.specs.declared.listeners.Refusal.TheVariants.{NoMemory}
 use Rattle.rl_line.specs.declared.change.Change.{Change}
@@ -86,6 +87,24 @@ after-Delete-nothing es i s side e =
     none (Inserted j t) = refl
     none (Deleted j t) = refl
     none (Replaced j o w) = refl
+
+-- ---- the side from which a text is taken is not recorded
+joined-side : (i : ℕ) (s : List ℕ) (side : Direction) (e : Entry) → joined (Delete i s Forward) e ≡ joined (Delete i s side) e
+joined-side i s side Begin = refl
+joined-side i s side End = refl
+joined-side i s side (Inserted j t) = refl
+joined-side i s side (Deleted j t) = refl
+joined-side i s side (Replaced j o w) = refl
+
+after-side : (i : ℕ) (s : List ℕ) (side : Direction) (es : List Entry) → entries_after (Delete i s Forward) es ≡ entries_after (Delete i s side) es
+unfolding entries_of
+after-side i s side [] = refl
+after-side i s side (e ∷ []) = ap (λ o. option_map_or (λ joint. joint ∷ []) o (e ∷ entries_of (Delete i s Forward))) (joined-side i s side e)
+after-side i s side (e ∷ (d ∷ ds)) = ap (λ es. e ∷ es) (after-side i s side (d ∷ ds))
+
+pub record_step-side : (i : ℕ) (s : List ℕ) (side : Direction) (r : Record) → record_step r (Delete i s Forward) ≡ record_step r (Delete i s side)
+unfolding record_step
+record_step-side i s side r = ap (λ es. record { recorded = es; pending = [] }) (after-side i s side r.recorded)
 
 pub ruleset alone = (record_step-Start, record_step-Stop)
 

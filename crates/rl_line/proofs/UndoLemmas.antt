@@ -1,13 +1,14 @@
 -- A line that goes over changes of its record, back or ahead.
-use Rattle.std.proofs.Common.{◌≡◌, ℕ, ◌+◌, ◌<◌, ◌≤◌, zero, suc, List, [], ◌∷◌, ◌++◌, length, take, drop, get_or, map, reverse, Option, Some, None, refl, sym, ap, subst, ◌∙◌, arith, add-one, drop-cons}
+use Rattle.std.proofs.Common.{◌≡◌, ℕ, ◌+◌, ◌<◌, ◌≤◌, zero, suc, List, [], ◌∷◌, ◌++◌, length, take, drop, get_or, map, reverse, Option, Some, None, false, refl, sym, ap, subst, ◌∙◌, arith, add-one, drop-cons}
 use Rattle.std.proofs.lemmas.Grind.{take_at_read}
 use Rattle.std.proofs.lemmas.List.{map-append, reverse-append}
 use Rattle.std.specs.Prelude.{option_and_then, IsSome}
 use Rattle.rl_base.specs.Event.{apply}
 use Rattle.rl_line.specs.declared.change.Change.{Change}
 use Rattle.rl_line.specs.Line.{Line, stepped}
-use Rattle.rl_line.specs.Record.{Entry, event_of, inverse, replay_entries, unwind}
+use Rattle.rl_line.specs.Record.{Entry, Begin, End, Inserted, Deleted, Replaced, event_of, inverse, replay_entries, unwind}
 use Rattle.rl_line.specs.declared.change.Way.{Way}
+use Rattle.rl_line.specs.Units.{has_change}
 use Rattle.rl_line.specs.Undo.{cursor_after, faced, line_after, line_ahead, line_back, length_back_over, greatest_back_over}
 use Rattle.rl_line.proofs.RecordLemmas.{through, value_of, IsSome-through, inverse-inverse, unwind-append}
 
@@ -80,6 +81,31 @@ line_back-IsSome es line h =
     let t = value_of (unwind es line.text) h in
     let l = line_back-text es line t.0 t.1 in
     subst IsSome (sym l.1) refl
+
+-- the marks of groups leave text and cursor
+left_by_a_mark : (mid now : Line) → Some (stepped mid mid.text mid.cursor) ≡ Some now → (now.text ≡ mid.text) × (now.cursor ≡ mid.cursor)
+left_by_a_mark mid now is =
+    let same : stepped mid mid.text mid.cursor ≡ now = cc in
+    (ap (λ (l : Line). l.text) (sym same), ap (λ (l : Line). l.cursor) (sym same))
+
+pub line_back-marks : (es : List Entry) (line now : Line) → has_change es ≡ false → line_back es line ≡ Some now → (now.text ≡ line.text) × (now.cursor ≡ line.cursor)
+unfolding apply
+line_back-marks [] line now none is =
+    let same : line ≡ now = cc in
+    (ap (λ (l : Line). l.text) (sym same), ap (λ (l : Line). l.cursor) (sym same))
+line_back-marks (Begin ∷ es) line now none is =
+    let p = through (line_after Begin) (line_back es line) now is in
+    let m = line_back-marks es line p.0 none p.1 in
+    let l = left_by_a_mark p.0 now p.2 in
+    (l.0 ∙ m.0, l.1 ∙ m.1)
+line_back-marks (End ∷ es) line now none is =
+    let p = through (line_after End) (line_back es line) now is in
+    let m = line_back-marks es line p.0 none p.1 in
+    let l = left_by_a_mark p.0 now p.2 in
+    (l.0 ∙ m.0, l.1 ∙ m.1)
+line_back-marks (Inserted i s ∷ es) line now none is = cc
+line_back-marks (Deleted i s ∷ es) line now none is = cc
+line_back-marks (Replaced i s t ∷ es) line now none is = cc
 
 then-same : {A B : Type 0} (f g : A → Option B) → ((a : A) → f a ≡ g a) → (o : Option A) → option_and_then f o ≡ option_and_then g o
 then-same f g same None = refl

@@ -6,13 +6,14 @@ ghost use Rattle.std.specs.List.{replace_range};
 ghost use Rattle.std.specs.Str.{IsCharBoundary};
 ghost use Rattle.rl_base.specs.Event.{InsertChar, Delete, Replace, apply};
 ghost use Rattle.rl_base.specs.Text.{stands_at};
+ghost use Rattle.rl_base.specs.declared.listeners.Direction.TheVariants.{Forward};
 ghost use Rattle.rl_base.specs.declared.listeners.Refusal.TheVariants.{NoMemory};
 ghost use Rattle.rl_line.specs.Record.{TakesIn, entry_of, event_of, inverse, new_text, old_text, place, unwind};
 ghost use Rattle.rl_line.specs.Undo.{cursor_after, faced, greatest_back_over, length_back};
 ghost use Rattle.rl_line.specs.Units.{is_begin, is_change};
 
+use rl_base::Refusal;
 use rl_base::places::{is_alphanumeric, is_word_cluster};
-use rl_base::{Direction, Refusal};
 use std::alloc::Global;
 
 /// An entry of a record: the begin or the end of a group, or one change of a text: its byte place, with what
@@ -255,13 +256,8 @@ impl Change {
     }
 
     /// An alphanumeric cluster that stood right behind what was deleted, or right before it.
-    pub(crate) fn join_deletion(
-        &mut self,
-        idx: usize,
-        string: &str,
-        dir: Direction,
-    ) -> Result<bool, Refusal>
-        ensures ok { IfOk result (λ answer. TakesIn (Delete idx string.now dir) (entry_of self.old) (entry_of self.new) answer) }
+    pub(crate) fn join_deletion(&mut self, idx: usize, string: &str) -> Result<bool, Refusal>
+        ensures ok { IfOk result (λ answer. TakesIn (Delete idx string.now Forward) (entry_of self.old) (entry_of self.new) answer) }
         ensures err { IfErr result (λ r. (r ≡ NoMemory) × (entry_of self.new ≡ entry_of self.old)) }
     {
         match self {

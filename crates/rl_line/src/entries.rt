@@ -4,6 +4,7 @@ ghost use Rattle.std.specs.Option.{option_map};
 ghost use Rattle.std.specs.String.{string_bytes};
 ghost use Rattle.std.specs.Vec.{vec_len, vec_capacity};
 ghost use Rattle.rl_base.specs.Event.{InsertChar, InsertStr, Delete, Replace};
+ghost use Rattle.rl_base.specs.declared.listeners.Direction.TheVariants.{Forward};
 ghost use Rattle.rl_base.specs.declared.listeners.Refusal.TheVariants.{NoMemory};
 ghost use Rattle.rl_line.specs.Record.{JoinsLast, entries_after, entry_of, last_insert};
 ghost use Rattle.rl_line.specs.Undo.{faced, line_back};
@@ -11,7 +12,7 @@ ghost use Rattle.rl_line.specs.Units.{IsMatched, adds_end, end_one, end_times, d
 
 use crate::change::{Change, Way, copied};
 use crate::line_buffer::LineBuffer;
-use rl_base::{Direction, Refusal, RepeatCount};
+use rl_base::{Refusal, RepeatCount};
 use std::alloc::Global;
 
 /// Records that a character was put in.
@@ -41,18 +42,13 @@ pub(crate) fn insert_str(entries: &mut Vec<Change>, idx: usize, string: &str) ->
     add(entries, Change::Insert(idx, text))
 }
 
-/// Records that a text was taken out.
+/// Records that a text was taken out, from whichever side of the cursor.
 #[tactic(auto, using(crate::proofs::JoinLemmas::alone_in_list), unfolding(crate::specs::Record::entries_of))]
-pub(crate) fn delete(
-    entries: &mut Vec<Change>,
-    idx: usize,
-    string: &str,
-    dir: Direction,
-) -> Result<(), Refusal>
-    ensures ok { OnOk result (map entry_of entries.new.items ≡ entries_after (Delete idx string.now dir) (map entry_of entries.old.items)) }
+pub(crate) fn delete(entries: &mut Vec<Change>, idx: usize, string: &str) -> Result<(), Refusal>
+    ensures ok { OnOk result (map entry_of entries.new.items ≡ entries_after (Delete idx string.now Forward) (map entry_of entries.old.items)) }
     ensures err { IfErr result (λ r. (r ≡ NoMemory) × (map entry_of entries.new.items ≡ map entry_of entries.old.items)) }
 {
-    if string.is_empty() || join_deletion(entries, idx, string, dir)? {
+    if string.is_empty() || join_deletion(entries, idx, string)? {
         return Ok(());
     }
     let text = copied(*entries.allocator(), string)?;
@@ -90,17 +86,12 @@ fn join_char(entries: &mut Vec<Change>, idx: usize, c: char) -> Result<bool, Ref
 }
 
 // Joins a deletion to the last entry, if it does.
-fn join_deletion(
-    entries: &mut Vec<Change>,
-    idx: usize,
-    string: &str,
-    dir: Direction,
-) -> Result<bool, Refusal>
-    ensures ok { IfOk result (λ answer. JoinsLast (Delete idx string.now dir) (map entry_of entries.old.items) (map entry_of entries.new.items) answer) }
+fn join_deletion(entries: &mut Vec<Change>, idx: usize, string: &str) -> Result<bool, Refusal>
+    ensures ok { IfOk result (λ answer. JoinsLast (Delete idx string.now Forward) (map entry_of entries.old.items) (map entry_of entries.new.items) answer) }
     ensures err { IfErr result (λ r. (r ≡ NoMemory) × (map entry_of entries.new.items ≡ map entry_of entries.old.items)) }
 {
     if let Some(last) = entries.last_mut() {
-        return last.join_deletion(idx, string, dir);
+        return last.join_deletion(idx, string);
     }
     Ok(false)
 }

@@ -1,11 +1,13 @@
 //! The record of the changes of a line, which undoes them, in groups where they were made in groups, and redoes them.
-ghost use Rattle.std.specs.Prelude.{◌≡◌, ℕ, List, Bool, [], ◌∷◌, ◌++◌, suc, false, drop, is_some, length, IsSome, IfOk, IfErr};
+ghost use Rattle.std.specs.Prelude.{◌≡◌, ℕ, List, Bool, [], ◌∷◌, ◌++◌, suc, false, drop, is_some, length, IsSome, IfOk, IfErr, OnOk};
 ghost use Rattle.std.specs.Option.{option_map};
 ghost use Rattle.std.specs.String.{string_bytes};
 ghost use Rattle.std.specs.Str.{IsUtf8};
+ghost use Rattle.rl_base.specs.Event.{InsertChar, InsertStr, Delete, Replace};
+ghost use Rattle.rl_base.specs.declared.listeners.Direction.TheVariants.{Forward};
 ghost use Rattle.rl_base.specs.declared.listeners.Refusal.TheVariants.{NoMemory};
 ghost use Rattle.rl_line.specs.Line.{Line};
-ghost use Rattle.rl_line.specs.Record.{Entry, End, Record, last_insert, replay_entries, replays_to, unwind};
+ghost use Rattle.rl_line.specs.Record.{Entry, End, Record, last_insert, record_step, replay_entries, replays_to, unwind};
 ghost use Rattle.rl_line.specs.Undo.{Redone, Redos, Undone};
 ghost use Rattle.rl_line.specs.Units.{BothMatched, GroupAt, InGroup, IsMatched, adds_end, after_in_group, begun, ended, has_change, last_units, level, opens, truncated};
 
@@ -19,8 +21,8 @@ use std::marker::Model;
 /// The changes of a line in the order in which they were made, with the marks of their groups, and those that
 /// were undone and may be redone. It is a listener of the line, and a refused call leaves it as it was.
 ///
-/// Every call of the listener but the start and the stop of a kill, every `begin`, `end` and `truncate` drops
-/// what was undone.
+/// Every call that records a change, also an empty one, and every `begin`, `end` and `truncate` drops what was
+/// undone; the start and the stop of a kill do not.
 #[derive(Drop)]
 pub struct Changeset {
     recorded: Vec<Change>,
@@ -98,6 +100,50 @@ impl Changeset {
         Ok(added)
     }
 
+    /// Records that `c` was inserted at the byte place `idx`: an alphanumeric character joins an insertion that
+    /// ends there. Refused, as every call that records, it changes nothing.
+    pub fn insert(&mut self, idx: usize, c: char) -> Result<(), Refusal>
+        ensures done { OnOk result (self.new ≡ record_step self.old (InsertChar idx c)) }
+        ensures err { IfErr result (λ r. (r ≡ NoMemory) × (self.new ≡ self.old)) }
+    {
+        entries::insert_char(&mut self.recorded, idx, c)?;
+        self.pending.clear();
+        Ok(())
+    }
+
+    /// Records that `string` was inserted at the byte place `idx`. An empty one is no entry.
+    pub fn insert_str(&mut self, idx: usize, string: &str) -> Result<(), Refusal>
+        ensures done { OnOk result (self.new ≡ record_step self.old (InsertStr idx string.now)) }
+        ensures err { IfErr result (λ r. (r ≡ NoMemory) × (self.new ≡ self.old)) }
+    {
+        entries::insert_str(&mut self.recorded, idx, string)?;
+        self.pending.clear();
+        Ok(())
+    }
+
+    /// Records that `string` was deleted from the byte place `idx`, from whichever side of the cursor: an
+    /// alphanumeric grapheme cluster joins a deletion that it stood right behind, or right before. An empty one
+    /// is no entry.
+    pub fn delete(&mut self, idx: usize, string: &str) -> Result<(), Refusal>
+        ensures done { OnOk result (self.new ≡ record_step self.old (Delete idx string.now Forward)) }
+        ensures err { IfErr result (λ r. (r ≡ NoMemory) × (self.new ≡ self.old)) }
+    {
+        entries::delete(&mut self.recorded, idx, string)?;
+        self.pending.clear();
+        Ok(())
+    }
+
+    /// Records that `old`, which stood at the byte place `idx`, gave way to `new`: it joins a replacement that
+    /// ends there.
+    pub fn replace(&mut self, idx: usize, old: &str, new: &str) -> Result<(), Refusal>
+        ensures done { OnOk result (self.new ≡ record_step self.old (Replace idx old.now new.now)) }
+        ensures err { IfErr result (λ r. (r ≡ NoMemory) × (self.new ≡ self.old)) }
+    {
+        entries::replace(&mut self.recorded, idx, old, new)?;
+        self.pending.clear();
+        Ok(())
+    }
+
     /// Undoes the last `n` units, or one where `n` is 0, or all where there are fewer (GNU readline: undo). A
     /// unit is a change, a closed group, or the begin of an open one. Answers whether there was a change.
     /// The cursor goes to the place of the last change that is undone, past what that puts back.
@@ -106,6 +152,7 @@ impl Changeset {
     pub fn undo(&mut self, line: &mut LineBuffer, n: RepeatCount) -> Result<bool, Refusal>
         requires { IsSome (unwind self.old.recorded line.old.text) }
         ensures done { IfOk result (λ answer. Undone n self.old self.new line.old line.new answer) }
+        ensures unmoved { IfOk result (λ answer. answer ≡ false → (line.new.text ≡ line.old.text) × (line.new.cursor ≡ line.old.cursor)) }
         ensures err { IfErr result (λ r. (r ≡ NoMemory) × (self.new ≡ self.old) × (line.new ≡ line.old)) }
     {
         let count = entries::last_len(&self.recorded, n);
@@ -213,10 +260,8 @@ impl DeleteListener for Changeset {
 
     fn start_killing(&mut self) {}
 
-    fn delete(&mut self, idx: usize, string: &str, dir: Direction) -> Result<(), Refusal> {
-        entries::delete(&mut self.recorded, idx, string, dir)?;
-        self.pending.clear();
-        Ok(())
+    fn delete(&mut self, idx: usize, string: &str, _dir: Direction) -> Result<(), Refusal> {
+        Changeset::delete(self, idx, string)
     }
 
     fn stop_killing(&mut self) {}
@@ -224,21 +269,15 @@ impl DeleteListener for Changeset {
 
 impl ChangeListener for Changeset {
     fn insert_char(&mut self, idx: usize, c: char) -> Result<(), Refusal> {
-        entries::insert_char(&mut self.recorded, idx, c)?;
-        self.pending.clear();
-        Ok(())
+        self.insert(idx, c)
     }
 
     fn insert_str(&mut self, idx: usize, string: &str) -> Result<(), Refusal> {
-        entries::insert_str(&mut self.recorded, idx, string)?;
-        self.pending.clear();
-        Ok(())
+        Changeset::insert_str(self, idx, string)
     }
 
     fn replace(&mut self, idx: usize, old: &str, new: &str) -> Result<(), Refusal> {
-        entries::replace(&mut self.recorded, idx, old, new)?;
-        self.pending.clear();
-        Ok(())
+        Changeset::replace(self, idx, old, new)
     }
 }
 

@@ -61,11 +61,12 @@ pub enum Command {
     DiscardLine,
     /// Deletes from the start of the text to the cursor.
     DiscardBuffer,
-    /// Deletes so many words before the cursor.
+    /// Deletes back to the start of the word so many words before the cursor; all before it for 0, or where there
+    /// are fewer.
     DeletePrevWord(Word, RepeatCount),
     /// Deletes to the start or the end of a word ahead.
     DeleteWord(At, Word, RepeatCount),
-    /// Deletes to the n-th hit of a search.
+    /// Deletes to the n-th hit of a search, or the farthest where there are fewer.
     DeleteTo(CharSearch, RepeatCount),
     /// Exchanges the clusters at the cursor.
     TransposeChars,
@@ -83,7 +84,7 @@ pub enum Command {
     Begin,
     /// Closes all open groups.
     End,
-    /// Undoes so many units.
+    /// Undoes so many units: one for 0, and all where there are fewer.
     Undo(RepeatCount),
     /// Does again what was undone last.
     Redo,

@@ -89,8 +89,8 @@ impl LineBuffer {
     }
 
     /// Inserts a text at the cursor, `n` times, and moves the cursor past it (GNU readline: yank). Answers
-    /// whether the cursor was at the end, or None where there is nothing to insert or the text would get too
-    /// long. Refused, it leaves the line as it was.
+    /// whether the cursor was at the end, or None where `text` is empty or the line would get too long. Refused,
+    /// it leaves the line as it was.
     pub fn yank<L: ChangeListener>(
         &mut self,
         text: &str,

@@ -1,10 +1,11 @@
-use Rattle.std.proofs.Common.{◌≡◌, ◌-◌, ap, arith, drop, length, map, reverse, subst, sym, take, ◌∙◌}
+use Rattle.std.proofs.Common.{◌≡◌, ◌-◌, ap, arith, drop, length, map, refl, reverse, subst, sym, take, ◌∙◌}
 use Rattle.std.specs.Prelude.{IsSome}
 use Rattle.rl_line.specs.Record.{Record, entry_of, unwind}
-use Rattle.rl_line.specs.Undo.{line_back}
+use Rattle.rl_line.specs.Undo.{Undone, line_back}
 use Rattle.rl_line.specs.Units.{AtLevel, IsMatched, has_change, last_of, level, undone}
 use Rattle.rl_line.proofs.LevelLemmas.{AtLevel-undone, IsMatched-last, undone-within}
 use Rattle.rl_line.proofs.MoveLemmas.{undo-count, undo-fits, undo-part, undo-slice, undone-view}
+use Rattle.rl_line.proofs.UndoLemmas.{line_back-marks}
 use Rattle.rl_line.proofs.undo.Changeset.undo.Goals as goal
 use Rattle.rl_line.proofs.undo.Changeset.undo.Goals.{After-last_len-count, After-len, In_ok-changed}
 
@@ -52,12 +53,31 @@ invariant_of-self-2 c =
     subst (AtLevel (c.self.inside.level - c.level-opened.result)) (sym (moved d))
     (AtLevel-undone c.args.n c.self.inside.level c.level-opened.result c.args.self.now (opened d) (stood d))
 
+-- what was moved to the undone entries is the last units
+part : (c : In_ok-changed) → map entry_of (drop (length c.self.inside.recorded.items - c.last_len-count.result) c.self.inside.recorded.items) ≡ last_of c.args.n c.args.self.now.recorded
+part c =
+    undo-part c.args.n _ c.self.inside.recorded.items (count (goal.at.In_ok-changed c).After-last_len-count)
+    ∙ ap (λ (r : Record). last_of c.args.n r.recorded) c.self.view_is
+
+undone_is : (c : In_ok-changed) → Undone c.args.n c.args.self.now (undone c.args.n c.args.self.now) c.args.line.now c.carry_over.new.line c.in_ok-changed.changed
+undone_is c =
+    record {
+      line_is = ap (λ l. line_back l c.args.line.now) (sym (part c)) ∙ c.in_ok-changed.ensures.line;
+      record_is = refl;
+      answer_is = c.in_ok-changed.ensures.answer ∙ ap has_change (part c);
+    }
+
 pub returns-clause-done : goal.returns-clause-done
 returns-clause-done c =
-    let n = c.args.n in
-    let part = undo-part n _ c.self.inside.recorded.items (count (goal.at.returns-clause-done c).After-last_len-count) in
+    let d = (goal.at.returns-clause-done c).In_ok-changed in
+    let u = undone_is d in
     record {
-      line_is = ap (λ (r : Record). line_back (last_of n r.recorded) c.args.line.now) (sym c.self.view_is) ∙ ap (λ l. line_back l c.args.line.now) (sym part) ∙ c.in_ok-changed.ensures.line;
-      record_is = moved (goal.at.returns-clause-done c).In_ok-changed;
-      answer_is = c.in_ok-changed.ensures.answer ∙ ap has_change part ∙ ap (λ (r : Record). has_change (last_of n r.recorded)) c.self.view_is;
+      line_is = u.line_is;
+      record_is = moved d;
+      answer_is = u.answer_is;
     }
+
+pub returns-clause-unmoved : goal.returns-clause-unmoved
+returns-clause-unmoved c =
+    let u = undone_is (goal.at.returns-clause-unmoved c).In_ok-changed in
+    λ none. line_back-marks (last_of c.args.n c.args.self.now.recorded) c.args.line.now c.carry_over.new.line (sym u.answer_is ∙ none) u.line_is

@@ -1,21 +1,4 @@
-use Rattle.std.proofs.Common.{sym, ◌≡◌, refl, subst, map, reverse}
-use Rattle.rl_base.specs.Event.{InsertChar}
-use Rattle.rl_line.specs.Record.{entry_of, record_step}
-use Rattle.rl_line.specs.Units.{AtLevel}
-use Rattle.rl_line.proofs.LevelLemmas.{AtLevel-step}
-use Rattle.rl_line.proofs.MoveLemmas.{hears}
 use Rattle.rl_line.proofs.undo.ChangesetChangeListener.insert_char.Goals as goal
-use Rattle.rl_line.proofs.undo.ChangesetChangeListener.insert_char.Goals.{After-clear}
-
-heard : (c : After-clear) → record { recorded = map entry_of c.insert_char.new.entries.items; pending = reverse (map entry_of c.clear.new.self.items) } ≡ record_step c.args.self.now (InsertChar c.args.idx c.args.c)
-heard c =
-    hears (InsertChar c.args.idx c.args.c) c.args.self.now c.self.inside.recorded.items c.self.inside.pending.items _ _ refl c.self.view_is c.in_ok-insert_char.ensures.ok c.clear.ensures.items
-
-pub invariant_of-self-2 : goal.invariant_of-self-2
-invariant_of-self-2 c =
-    let h = subst (AtLevel c.self.inside.level) c.self.view_is c.self.invariant in
-    subst (AtLevel c.self.inside.level) (sym (heard (goal.at.invariant_of-self-2 c).After-clear))
-    (AtLevel-step (InsertChar c.args.idx c.args.c) c.self.inside.level c.args.self.now h)
 
 pub returns-clause-done : goal.returns-clause-done
-returns-clause-done c = heard (goal.at.returns-clause-done c).After-clear
+returns-clause-done c = c.insert.ensures.done
