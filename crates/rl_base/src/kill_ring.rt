@@ -6,9 +6,6 @@ ghost use Rattle.rl_base.specs.declared.listeners.Refusal.TheVariants.{NoMemory}
 ghost use Rattle.rl_base.specs.KillRing.{IsRing, index_before, join_at, joined, killed, new_ring, next_index, put_at, reset, yank, yank_pop, yank_popped, yank_size, yanked};
 ghost use Rattle.rl_base.specs.RingLends.{EndsAs};
 
-#[cfg(test)]
-mod tests;
-
 use crate::listeners::{DeleteListener, Direction, Refusal};
 use std::alloc::Global;
 use std::marker::Model;

@@ -9,9 +9,6 @@ ghost use Rattle.rl_base.specs.Widths.{char_columns, blank_layout, by_row, width
 use std::cmp::Ordering;
 use unicode_width::{UnicodeWidthChar, UnicodeWidthStr};
 
-#[cfg(test)]
-mod tests;
-
 /// A number of columns or rows.
 pub type Unit = u16;
 

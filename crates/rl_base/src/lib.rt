@@ -7,8 +7,6 @@ pub mod layout;
 pub mod listeners;
 pub mod motion;
 pub mod places;
-#[cfg(test)]
-mod tests;
 
 pub use kill_ring::{KillRing, Mode};
 pub use layout::{GraphemeClusterMode, Layout, Position, Unit};

@@ -8,8 +8,6 @@ use unicode_segmentation::UnicodeSegmentation;
 
 mod classes;
 mod hits;
-#[cfg(test)]
-mod tests;
 mod words;
 
 pub use classes::{is_alphanumeric, is_word_cluster};

@@ -1,6 +1,7 @@
 //! Edits that put texts in, with answers that were worked out by hand.
+use crate::tests::heard::{AHEAD, Heard, Told};
 use crate::tests::line_buffer::{holds, leaves, line_within};
-use rl_base::{ChangeListener, NoListener, Refusal, RepeatCount};
+use rl_base::{ChangeListener, Refusal, RepeatCount};
 use rl_line::LineBuffer;
 use std::alloc::Global;
 use std::process::Abort;
@@ -56,17 +57,27 @@ pub(super) fn update<L: ChangeListener>(
 }
 
 // Makes the call, if its places are places. The answer is that of a yank.
-fn make(rt: &impl Abort, line: &mut LineBuffer, call: Call) -> Result<Option<bool>, Refusal> {
-    let none = &mut NoListener;
+fn make(
+    rt: &impl Abort,
+    line: &mut LineBuffer,
+    call: Call,
+    heard: &mut Heard,
+) -> Result<Option<bool>, Refusal> {
     match call {
-        Call::Yank(text, n) => line.yank(text, n, none),
-        Call::YankPop(size, text) => yank_pop(rt, line, size, text, none),
-        Call::Update(text, pos) => update(rt, line, text, pos, none).and(Ok(None)),
-        Call::Replace(from, to, text) => replace(rt, line, from, to, text, none).and(Ok(None)),
+        Call::Yank(text, n) => line.yank(text, n, heard),
+        Call::YankPop(size, text) => yank_pop(rt, line, size, text, heard),
+        Call::Update(text, pos) => update(rt, line, text, pos, heard).and(Ok(None)),
+        Call::Replace(from, to, text) => replace(rt, line, from, to, text, heard).and(Ok(None)),
     }
 }
 
-// On a line of that limit that holds the text, the call answers that, and leaves that text and cursor.
+// How many changes a call makes, and the last one.
+type Changes = (usize, Told);
+
+const NOTHING: Changes = (0, (0, "", None));
+
+// On a line of that limit that holds the text, the call answers that, makes these changes, and leaves that text and
+// cursor.
 fn comes_in(
     rt: &impl Abort,
     alloc: Global,
@@ -76,19 +87,25 @@ fn comes_in(
     pos: usize,
     call: Call,
     answer: Option<bool>,
+    changes: Changes,
     after: &str,
     cursor: usize,
 ) -> Result<(), Fail> {
     let mut line = line_within(rt, alloc, limit, grows, text, pos)?;
-    let answered = make(rt, &mut line, call)?;
+    let (count, last) = changes;
+    let mut heard = Heard::new(count);
+    let answered = make(rt, &mut line, call, &mut heard)?;
     holds(rt, answered == answer, "the answer", text, pos);
+    let told = heard.left == 0 && heard.is_told(last, text, after);
+    holds(rt, told, "the changes", text, pos);
     leaves(rt, &line, text, pos, after, cursor);
     let room = limit.max(line.len());
     holds(rt, line.limit() == room, "the limit", text, pos);
     Ok(())
 }
 
-// The limit, whether the line may grow, the text, the cursor, a call, its answer, and the text and the cursor after it.
+// The limit, whether the line may grow, the text, the cursor, a call, its answer, its changes, and the text and the
+// cursor after it.
 type Row = (
     usize,
     bool,
@@ -96,15 +113,16 @@ type Row = (
     usize,
     Call,
     Option<bool>,
+    Changes,
     &'static str,
     usize,
 );
 
 // Makes each call of the table.
 fn come_in(rt: &impl Abort, alloc: Global, rows: &[Row]) -> Result<(), Fail> {
-    for (limit, grows, text, pos, call, answer, after, cursor) in rows {
+    for (limit, grows, text, pos, call, answer, changes, after, cursor) in rows {
         comes_in(
-            rt, alloc, *limit, *grows, text, *pos, *call, *answer, after, *cursor,
+            rt, alloc, *limit, *grows, text, *pos, *call, *answer, *changes, after, *cursor,
         )?;
     }
     Ok(())
@@ -120,6 +138,7 @@ fn texts_are_yanked(rt: HostRuntime) -> Result<(), Fail> {
             2,
             Call::Yank("ßγδ", 1),
             Some(false),
+            (1, (2, "ßγδ", None)),
             "αßγδε",
             8,
         ),
@@ -130,6 +149,7 @@ fn texts_are_yanked(rt: HostRuntime) -> Result<(), Fail> {
             1,
             Call::Yank("xyz", 2),
             Some(false),
+            (1, (1, "xyzxyz", None)),
             "axyzxyzb",
             7,
         ),
@@ -140,6 +160,7 @@ fn texts_are_yanked(rt: HostRuntime) -> Result<(), Fail> {
             7,
             Call::Yank("xyz", 1),
             None,
+            NOTHING,
             "axyzxyzb",
             7,
         ),
@@ -150,6 +171,7 @@ fn texts_are_yanked(rt: HostRuntime) -> Result<(), Fail> {
             7,
             Call::Yank("xyz", 0),
             Some(false),
+            (1, (7, "", None)),
             "axyzxyzb",
             7,
         ),
@@ -160,6 +182,7 @@ fn texts_are_yanked(rt: HostRuntime) -> Result<(), Fail> {
             7,
             Call::YankPop(3, ""),
             None,
+            (1, (4, "xyz", AHEAD)),
             "axyzb",
             4,
         ),
@@ -170,13 +193,44 @@ fn texts_are_yanked(rt: HostRuntime) -> Result<(), Fail> {
             7,
             Call::YankPop(3, "cd"),
             Some(false),
+            (2, (4, "cd", None)),
             "axyzcdb",
             6,
         ),
-        (5, false, "abc", 3, Call::YankPop(1, "defg"), None, "ab", 2),
-        (2, false, "ab", 2, Call::Yank("c", 1), None, "ab", 2),
-        (2, true, "ab", 2, Call::Yank("c", 1), Some(true), "abc", 3),
-        (2, true, "ab", 2, Call::Yank("", 1), None, "ab", 2),
+        (
+            5,
+            false,
+            "abc",
+            3,
+            Call::YankPop(1, "defg"),
+            None,
+            (1, (2, "c", AHEAD)),
+            "ab",
+            2,
+        ),
+        (
+            2,
+            false,
+            "ab",
+            2,
+            Call::Yank("c", 1),
+            None,
+            NOTHING,
+            "ab",
+            2,
+        ),
+        (
+            2,
+            true,
+            "ab",
+            2,
+            Call::Yank("c", 1),
+            Some(true),
+            (1, (2, "c", None)),
+            "abc",
+            3,
+        ),
+        (2, true, "ab", 2, Call::Yank("", 1), None, NOTHING, "ab", 2),
     ];
     come_in(&rt, rt.alloc(), ROWS)
 }
@@ -185,10 +239,50 @@ fn texts_are_yanked(rt: HostRuntime) -> Result<(), Fail> {
 fn texts_come_in_the_place_of_others(rt: HostRuntime) -> Result<(), Fail> {
     const HELLO: &str = "Hello, world!";
     const ROWS: &[Row] = &[
-        (2, false, "", 0, Call::Update("aßß", 5), None, "a", 1),
-        (2, false, "ab", 2, Call::Update("ß", 0), None, "ß", 0),
-        (9, false, "ab", 1, Call::Update("cdef", 2), None, "cdef", 2),
-        (2, true, "ab", 1, Call::Update("aßß", 5), None, "aßß", 5),
+        (
+            2,
+            false,
+            "",
+            0,
+            Call::Update("aßß", 5),
+            None,
+            (2, (0, "a", None)),
+            "a",
+            1,
+        ),
+        (
+            2,
+            false,
+            "ab",
+            2,
+            Call::Update("ß", 0),
+            None,
+            (2, (0, "ß", None)),
+            "ß",
+            0,
+        ),
+        (
+            9,
+            false,
+            "ab",
+            1,
+            Call::Update("cdef", 2),
+            None,
+            (2, (0, "cdef", None)),
+            "cdef",
+            2,
+        ),
+        (
+            2,
+            true,
+            "ab",
+            1,
+            Call::Update("aßß", 5),
+            None,
+            (2, (0, "aßß", None)),
+            "aßß",
+            5,
+        ),
         (
             99,
             false,
@@ -196,6 +290,7 @@ fn texts_come_in_the_place_of_others(rt: HostRuntime) -> Result<(), Fail> {
             0,
             Call::Replace(1, 4, "i"),
             None,
+            (1, (1, "i", None)),
             "Hio, world!",
             2,
         ),
@@ -206,6 +301,7 @@ fn texts_come_in_the_place_of_others(rt: HostRuntime) -> Result<(), Fail> {
             2,
             Call::Replace(2, 3, ""),
             None,
+            (1, (2, "", None)),
             "Hi, world!",
             2,
         ),
@@ -216,6 +312,7 @@ fn texts_come_in_the_place_of_others(rt: HostRuntime) -> Result<(), Fail> {
             0,
             Call::Replace(1, 1, "ßß"),
             None,
+            (1, (1, "ßß", None)),
             "aßßb",
             5,
         ),

@@ -1,6 +1,6 @@
 //! Edits that their listener refuses halfway, and what they leave.
 use crate::tests::edits::{replace, update, yank_pop};
-use crate::tests::heard::Heard;
+use crate::tests::heard::{AHEAD, Heard, Told};
 use crate::tests::line_buffer::{leaves, line_of};
 use rl_base::{Movement, Refusal, RepeatCount, Word, WordAction};
 use rl_line::LineBuffer;
@@ -23,8 +23,8 @@ enum Edit {
     EditWord(WordAction),
     InsertStr,
     DeleteRange,
-    Indent(u8),
-    Dedent(u8),
+    Indent(Movement, u8),
+    Dedent(Movement, u8),
 }
 
 // Takes the whole text out.
@@ -38,12 +38,6 @@ fn delete_range(rt: &impl Abort, line: &mut LineBuffer, heard: &mut Heard) -> Op
 fn insert_str(line: &mut LineBuffer, heard: &mut Heard) -> Option<Refusal> {
     let at = line.pos();
     line.insert_str(at, "cd", heard).err()
-}
-
-// Indents or dedents all lines.
-fn indent(line: &mut LineBuffer, amount: u8, dedent: bool, heard: &mut Heard) -> Option<Refusal> {
-    line.indent(&Movement::WholeBuffer, amount, dedent, heard)
-        .err()
 }
 
 // Makes the edit, from the start of the text where it takes a place. That answers why it was refused, if it was.
@@ -67,8 +61,8 @@ fn make(rt: &impl Abort, line: &mut LineBuffer, edit: &Edit, heard: &mut Heard) 
         Edit::EditWord(action) => line.edit_word(*action, heard).err(),
         Edit::InsertStr => insert_str(line, heard),
         Edit::DeleteRange => delete_range(rt, line, heard),
-        Edit::Indent(amount) => indent(line, *amount, false, heard),
-        Edit::Dedent(amount) => indent(line, *amount, true, heard),
+        Edit::Indent(mvt, amount) => line.indent(mvt, *amount, false, heard).err(),
+        Edit::Dedent(mvt, amount) => line.indent(mvt, *amount, true, heard).err(),
     }
 }
 
@@ -78,6 +72,7 @@ fn is_so(rt: &impl Abort, is_so: bool, text: &str, pos: usize, allowed: usize) {
 }
 
 // The listener hears as many changes as are allowed, and the edit is refused or not, and leaves that text and cursor.
+// It hands the listener out.
 fn halts_after(
     rt: &impl Abort,
     alloc: Global,
@@ -88,7 +83,7 @@ fn halts_after(
     refused: bool,
     after: &str,
     cursor: usize,
-) -> Result<(), Fail> {
+) -> Result<Heard, Fail> {
     let mut line = line_of(rt, alloc, text, pos)?;
     let mut heard = Heard::new(allowed);
     let refusal = make(rt, &mut line, edit, &mut heard);
@@ -101,31 +96,30 @@ fn halts_after(
     let heard_all = heard.left == 0 && heard.starts == heard.stops;
     is_so(rt, heard_all, text, pos, allowed);
     leaves(rt, &line, text, pos, after, cursor);
-    Ok(())
+    Ok(heard)
 }
 
-// With 0, 1, 2 .. changes allowed, the edit leaves the line so each time; only the last time it is not refused.
+// A change, and the text and the cursor that it leaves.
+type Step = (Told, &'static str, usize);
+
+// With 0, 1, 2 .. changes allowed, the edit takes so many of the steps; only with all of them it is not refused.
 fn halts(
     rt: &impl Abort,
     alloc: Global,
     text: &str,
     pos: usize,
     edit: &Edit,
-    states: &[(&str, usize)],
+    steps: &[Step],
 ) -> Result<(), Fail> {
-    let last = states.len().saturating_sub(1);
-    for (allowed, (after, cursor)) in states.iter().enumerate() {
-        halts_after(
-            rt,
-            alloc,
-            text,
-            pos,
-            edit,
-            allowed,
-            allowed < last,
-            after,
-            *cursor,
-        )?;
+    let refused = !steps.is_empty();
+    halts_after(rt, alloc, text, pos, edit, 0, refused, text, pos)?;
+    let mut before = text;
+    for (taken, (told, after, cursor)) in steps.iter().enumerate() {
+        let allowed = taken.saturating_add(1);
+        let refused = allowed < steps.len();
+        let heard = halts_after(rt, alloc, text, pos, edit, allowed, refused, after, *cursor)?;
+        is_so(rt, heard.is_told(*told, before, after), text, pos, allowed);
+        before = *after;
     }
     Ok(())
 }
@@ -160,13 +154,13 @@ fn refused_edits_leave_the_line(rt: HostRuntime) -> Result<(), Fail> {
     halt_at_once(&rt, rt.alloc(), ROWS)
 }
 
-// A text, the cursor, an edit, and the texts and the cursors that it leaves with 0, 1, 2 .. changes allowed.
-type Halting = (&'static str, usize, Edit, &'static [(&'static str, usize)]);
+// A text, the cursor, an edit, and its steps.
+type Halting = (&'static str, usize, Edit, &'static [Step]);
 
 // Makes each edit of the table, with more changes allowed each time.
 fn halt_in_turn(rt: &impl Abort, alloc: Global, rows: &[Halting]) -> Result<(), Fail> {
-    for (text, pos, edit, states) in rows {
-        halts(rt, alloc, text, *pos, edit, states)?;
+    for (text, pos, edit, steps) in rows {
+        halts(rt, alloc, text, *pos, edit, steps)?;
     }
     Ok(())
 }
@@ -178,42 +172,50 @@ fn refused_exchanges_stand_after_their_steps(rt: HostRuntime) -> Result<(), Fail
             "abc",
             2,
             Edit::YankPop("xyz"),
-            &[("abc", 2), ("c", 0), ("xyzc", 3)],
+            &[((0, "ab", AHEAD), "c", 0), ((0, "xyz", None), "xyzc", 3)],
         ),
         (
             "ab",
             1,
             Edit::Update("cde"),
-            &[("ab", 1), ("", 0), ("cde", 0)],
+            &[((0, "ab", AHEAD), "", 0), ((0, "cde", None), "cde", 0)],
         ),
         (
             "abc",
             1,
             Edit::TransposeChars,
-            &[("abc", 1), ("ac", 1), ("bac", 2)],
+            &[((1, "b", AHEAD), "ac", 1), ((0, "b", None), "bac", 2)],
         ),
         (
             "ab",
             2,
             Edit::TransposeChars,
-            &[("ab", 2), ("a", 1), ("ba", 2)],
+            &[((1, "b", AHEAD), "a", 1), ((0, "b", None), "ba", 2)],
         ),
         (
             ", ab",
             0,
             Edit::EditWord(WordAction::Uppercase),
-            &[(", ab", 0), (", ", 0), (", AB", 4)],
+            &[((2, "ab", AHEAD), ", ", 0), ((2, "AB", None), ", AB", 4)],
+        ),
+        (
+            "a-bC d",
+            1,
+            Edit::EditWord(WordAction::Lowercase),
+            &[
+                ((2, "bC", AHEAD), "a- d", 1),
+                ((2, "bc", None), "a-bc d", 4),
+            ],
         ),
         (
             "ab cd",
             5,
             Edit::TransposeWords,
             &[
-                ("ab cd", 5),
-                ("ab ", 2),
-                ("ab ab", 2),
-                (" ab", 0),
-                ("cd ab", 5),
+                ((3, "cd", AHEAD), "ab ", 2),
+                ((3, "ab", None), "ab ab", 2),
+                ((0, "ab", AHEAD), " ab", 0),
+                ((0, "cd", None), "cd ab", 5),
             ],
         ),
     ];
@@ -222,32 +224,55 @@ fn refused_exchanges_stand_after_their_steps(rt: HostRuntime) -> Result<(), Fail
 
 #[test]
 fn refused_indents_stand_after_their_steps(rt: HostRuntime) -> Result<(), Fail> {
+    const ALL: Movement = Movement::WholeBuffer;
     const ROWS: &[Halting] = &[
         (
             "a\nb",
             0,
-            Edit::Indent(1),
-            &[("a\nb", 0), (" a\nb", 1), (" a\n b", 1)],
+            Edit::Indent(ALL, 1),
+            &[((0, " ", None), " a\nb", 1), ((3, " ", None), " a\n b", 1)],
         ),
+        ("a", 0, Edit::Indent(Movement::WholeLine, 0), &[]),
         (
             "  a\n\tb",
             5,
-            Edit::Dedent(4),
-            &[("  a\n\tb", 5), ("a\n\tb", 3), ("a\nb", 2)],
+            Edit::Dedent(ALL, 4),
+            &[
+                ((0, "  ", AHEAD), "a\n\tb", 3),
+                ((2, "\t", AHEAD), "a\nb", 2),
+            ],
+        ),
+        (
+            "  a\n\tb",
+            1,
+            Edit::Dedent(ALL, 4),
+            &[
+                ((0, "  ", AHEAD), "a\n\tb", 0),
+                ((2, "\t", AHEAD), "a\nb", 0),
+            ],
         ),
         (
             "a\nb",
             3,
-            Edit::Indent(40),
+            Edit::Indent(ALL, 40),
             &[
-                ("a\nb", 3),
-                ("                                a\nb", 35),
-                ("                                        a\nb", 43),
                 (
+                    (0, "                                ", None),
+                    "                                a\nb",
+                    35,
+                ),
+                (
+                    (0, "        ", None),
+                    "                                        a\nb",
+                    43,
+                ),
+                (
+                    (42, "                                ", None),
                     "                                        a\n                                b",
                     75,
                 ),
                 (
+                    (42, "        ", None),
                     "                                        a\n                                        b",
                     83,
                 ),

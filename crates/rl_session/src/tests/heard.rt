@@ -1,11 +1,12 @@
 //! A listener for tests, which hears so many changes and refuses the next.
-ghost use Rattle.std.specs.Prelude.{◌≡◌, ◌+◌, ◌-◌, ◌<◌, length, min, IfErr, OnOk};
+ghost use Rattle.std.specs.Prelude.{◌≡◌, ◌+◌, ◌-◌, ◌<◌, length, min, None, Some, IfErr, OnOk};
 ghost use Rattle.rl_base.specs.Event.{InsertChar, InsertStr, Delete, Replace, Start, Stop};
 ghost use Rattle.rl_base.specs.declared.listeners.Refusal.TheVariants.{Listener};
 
 use rl_base::{ChangeListener, DeleteListener, Direction, Refusal};
 
-// How many changes it will hear yet, the starts and ends of kills, and the last deletion.
+// How many changes it will hear yet, the starts and ends of kills, the deletions, and the last change but a character:
+// its place, the length of its text, and the side of a deletion. Of a replacement it is the new text.
 #[derive(Drop)]
 pub(super) struct Heard {
     pub left: usize,
@@ -14,8 +15,14 @@ pub(super) struct Heard {
     pub deletions: u16,
     pub place: usize,
     pub len: usize,
-    pub side: Direction,
+    pub side: Option<Direction>,
 }
+
+// A change: its place, its text, and the side of a deletion.
+pub(super) type Told = (usize, &'static str, Option<Direction>);
+
+// The side of a deletion ahead.
+pub(super) const AHEAD: Option<Direction> = Some(Direction::Forward);
 
 impl Heard {
     pub(super) fn new(left: usize) -> Self {
@@ -26,7 +33,7 @@ impl Heard {
             deletions: 0,
             place: 0,
             len: 0,
-            side: Direction::Forward,
+            side: None,
         }
     }
 
@@ -42,7 +49,14 @@ impl Heard {
         Ok(())
     }
 
-    // What was deleted last, in the text before.
+    // It heard that change last: the text of a deletion in the text before it, of another change in that after it.
+    pub(super) fn is_told(&self, told: Told, before: &str, after: &str) -> bool {
+        let (place, text, side) = told;
+        let held = if side.is_some() { before } else { after };
+        self.place == place && self.side == side && self.text_in(held) == Some(text)
+    }
+
+    // The text of the last change, in the text in which it stands.
     pub(super) fn text_in<'a>(&self, text: &'a str) -> Option<&'a str> {
         text.get(self.place..self.place.saturating_add(self.len))
     }
@@ -51,9 +65,9 @@ impl Heard {
 impl DeleteListener for Heard {
     ghost step = { λ h e. elim e [
       | InsertChar _ _ ↦ record h { left = h.left - 1 }
-      | InsertStr _ _ ↦ record h { left = h.left - 1 }
-      | Delete i s side ↦ record h { left = h.left - 1; deletions = min (h.deletions + 1) 65535; place = i; len = length s; side = side }
-      | Replace _ _ _ ↦ record h { left = h.left - 1 }
+      | InsertStr i s ↦ record h { left = h.left - 1; place = i; len = length s; side = None }
+      | Delete i s side ↦ record h { left = h.left - 1; deletions = min (h.deletions + 1) 65535; place = i; len = length s; side = Some side }
+      | Replace i _ s ↦ record h { left = h.left - 1; place = i; len = length s; side = None }
       | Start ↦ record h { starts = min (h.starts + 1) 65535 }
       | Stop ↦ record h { stops = min (h.stops + 1) 65535 }
     ] };
@@ -69,7 +83,7 @@ impl DeleteListener for Heard {
         self.deletions = self.deletions.saturating_add(1);
         self.place = idx;
         self.len = string.len();
-        self.side = dir;
+        self.side = Some(dir);
         Ok(())
     }
 
@@ -83,11 +97,19 @@ impl ChangeListener for Heard {
         self.hear()
     }
 
-    fn insert_str(&mut self, _idx: usize, _string: &str) -> Result<(), Refusal> {
-        self.hear()
+    fn insert_str(&mut self, idx: usize, string: &str) -> Result<(), Refusal> {
+        self.hear()?;
+        self.place = idx;
+        self.len = string.len();
+        self.side = None;
+        Ok(())
     }
 
-    fn replace(&mut self, _idx: usize, _old: &str, _new: &str) -> Result<(), Refusal> {
-        self.hear()
+    fn replace(&mut self, idx: usize, _old: &str, new: &str) -> Result<(), Refusal> {
+        self.hear()?;
+        self.place = idx;
+        self.len = new.len();
+        self.side = None;
+        Ok(())
     }
 }

@@ -1,6 +1,6 @@
 //! Indents and dedents with answers that were worked out by hand.
 use crate::script::tests::{Lines, print_each};
-use crate::tests::heard::Heard;
+use crate::tests::heard::{AHEAD, Heard};
 use crate::tests::line_buffer::{holds, leaves, line_of};
 use rl_base::Movement;
 use std::alloc::Global;
@@ -46,12 +46,14 @@ fn lines_are_indented(rt: HostRuntime) -> Result<(), Fail> {
     print_each(&rt, rt.alloc(), ROWS)
 }
 
-// Dedents all lines, by so many deletions, the last of that length at that place. That leaves that text and cursor.
+// Dedents lines by so many deletions and nothing else, the last of that length at that place. That leaves that text
+// and cursor.
 fn dedents(
     rt: &impl Abort,
     alloc: Global,
     text: &str,
     pos: usize,
+    mvt: &Movement,
     amount: u8,
     deletions: u16,
     place: usize,
@@ -60,21 +62,24 @@ fn dedents(
     cursor: usize,
 ) -> Result<(), Fail> {
     let mut line = line_of(rt, alloc, text, pos)?;
-    let mut heard = Heard::new(usize::MAX);
-    let answer = line.indent(&Movement::WholeBuffer, amount, true, &mut heard)?;
+    let mut heard = Heard::new(usize::from(deletions));
+    let answer = line.indent(mvt, amount, true, &mut heard)?;
     holds(rt, answer, "the answer", text, pos);
-    holds(rt, heard.deletions == deletions, "the deletions", text, pos);
+    let all = heard.left == 0 && heard.deletions == deletions;
+    holds(rt, all, "the deletions", text, pos);
     let last = heard.place == place && heard.len == len;
     holds(rt, last, "the last deletion", text, pos);
+    holds(rt, heard.side == AHEAD, "its side", text, pos);
     leaves(rt, &line, text, pos, after, cursor);
     Ok(())
 }
 
-// A text, the cursor and an amount, the deletions that this takes, the place and the length of the last one, and the
-// text and the cursor after it.
+// A text, the cursor, a movement and an amount, the deletions that this takes, the place and the length of the last
+// one, and the text and the cursor after it.
 type Dedented = (
     &'static str,
     usize,
+    Movement,
     u8,
     u16,
     usize,
@@ -85,25 +90,37 @@ type Dedented = (
 
 #[test]
 fn lines_are_dedented(rt: HostRuntime) -> Result<(), Fail> {
+    const ALL: Movement = Movement::WholeBuffer;
     const ROWS: &[Dedented] = &[
-        ("  a\n\tb", 1, 4, 2, 2, 1, "a\nb", 0),
-        ("\u{3000}x", 0, 2, 1, 0, 0, "\u{3000}x", 0),
-        ("\u{3000}x", 4, 3, 1, 0, 3, "x", 1),
-        (" \u{3000}x", 4, 2, 1, 0, 1, "\u{3000}x", 3),
-        ("   a", 2, 2, 1, 0, 2, " a", 0),
-        ("   a", 3, 2, 1, 0, 2, " a", 1),
-        ("a\n  b", 1, 1, 2, 2, 1, "a\n b", 1),
-        ("a\n  b", 2, 9, 2, 2, 2, "a\nb", 2),
-        ("  ", 1, 9, 1, 0, 2, "", 0),
-        (" a", 2, 0, 1, 0, 0, " a", 2),
-        ("", 0, 9, 1, 0, 0, "", 0),
+        ("  a\n\tb", 1, ALL, 4, 2, 2, 1, "a\nb", 0),
+        (
+            "\u{3000}x",
+            0,
+            Movement::WholeLine,
+            2,
+            1,
+            0,
+            0,
+            "\u{3000}x",
+            0,
+        ),
+        ("\u{3000}x", 4, ALL, 3, 1, 0, 3, "x", 1),
+        (" \u{3000}x", 4, ALL, 2, 1, 0, 1, "\u{3000}x", 3),
+        ("   a", 2, ALL, 2, 1, 0, 2, " a", 0),
+        ("   a", 3, ALL, 2, 1, 0, 2, " a", 1),
+        ("a\n  b", 1, ALL, 1, 2, 2, 1, "a\n b", 1),
+        ("a\n  b", 2, ALL, 9, 2, 2, 2, "a\nb", 2),
+        ("  ", 1, ALL, 9, 1, 0, 2, "", 0),
+        (" a", 2, ALL, 0, 1, 0, 0, " a", 2),
+        ("", 0, ALL, 9, 1, 0, 0, "", 0),
     ];
-    for (text, pos, amount, deletions, place, len, after, cursor) in ROWS {
+    for (text, pos, mvt, amount, deletions, place, len, after, cursor) in ROWS {
         dedents(
             &rt,
             rt.alloc(),
             text,
             *pos,
+            mvt,
             *amount,
             *deletions,
             *place,

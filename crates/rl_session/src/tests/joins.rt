@@ -111,6 +111,72 @@ fn characters_that_were_told_join(rt: HostRuntime) -> Result<(), Fail> {
     Ok(())
 }
 
+// A change that is recorded by itself, as a value of a table.
+#[derive(Clone, Copy)]
+enum Change {
+    Char(usize, char),
+    Text(usize, &'static str),
+    Deletion(usize, &'static str),
+    Replacement(usize, &'static str, &'static str),
+}
+
+// Records the change, which makes so many entries of the record.
+fn is_recorded(
+    rt: &impl Abort,
+    record: &mut Changeset,
+    change: Change,
+    entries: usize,
+    step: usize,
+) -> Result<(), Fail> {
+    let recorded = match change {
+        Change::Char(idx, c) => record.insert(idx, c),
+        Change::Text(idx, text) => record.insert_str(idx, text),
+        Change::Deletion(idx, text) => record.delete(idx, text),
+        Change::Replacement(idx, old, new) => record.replace(idx, old, new),
+    };
+    recorded?;
+    let told = record.len() == entries;
+    assert!(rt; told, "step {step}");
+    Ok(())
+}
+
+#[test]
+fn changes_that_were_recorded_are_undone(rt: HostRuntime) -> Result<(), Fail> {
+    // from "ab" to "xy", with the entries after each change
+    const ROWS: &[(Change, usize)] = &[
+        (Change::Char(2, 'c'), 1),
+        (Change::Char(3, 'd'), 1),
+        (Change::Char(4, '-'), 2),
+        (Change::Char(5, 'e'), 2),
+        (Change::Char(0, 'f'), 3),
+        (Change::Text(1, ""), 3),
+        // a text joins nothing, and a character joins it
+        (Change::Text(1, "g"), 4),
+        (Change::Char(2, 'h'), 4),
+        (Change::Deletion(3, "a"), 5),
+        (Change::Deletion(3, "b"), 5),
+        (Change::Deletion(2, "h"), 5),
+        (Change::Deletion(2, ""), 5),
+        (Change::Deletion(2, "cd"), 6),
+        (Change::Deletion(2, "-"), 7),
+        (Change::Deletion(2, "e"), 7),
+        (Change::Replacement(0, "f", "xy"), 8),
+        (Change::Replacement(2, "g", ""), 8),
+        (Change::Replacement(2, "", ""), 8),
+        // an empty replacement is an entry
+        (Change::Replacement(0, "", ""), 9),
+    ];
+    let mut line = line_of(&rt, rt.alloc(), "xy", 0)?;
+    let mut record = Changeset::new(rt.alloc());
+    for (step, (change, entries)) in ROWS.iter().enumerate() {
+        is_recorded(&rt, &mut record, *change, *entries, step)?;
+    }
+    let undone = undo(&rt, &mut line, &mut record, 65535)?;
+    assert!(rt; undone, "the changes are undone");
+    stands(&rt, &line, &record, "ab", 2, 0);
+    Ok(())
+}
+
 #[test]
 fn deletions_that_were_told_join(rt: HostRuntime) -> Result<(), Fail> {
     const END: Call = Call::Told(Event::Deletion(2, "l", Direction::Forward));

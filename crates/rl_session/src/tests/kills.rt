@@ -50,7 +50,7 @@ fn deletes(
     gone: Gone,
 ) -> Result<(), Fail> {
     let mut line = line_of(rt, alloc, text, pos)?;
-    let mut heard = Heard::new(usize::MAX);
+    let mut heard = Heard::new(usize::from(gone.is_some()));
     let answer = make(&mut line, call, &mut heard)?;
     holds(rt, answer == gone.is_some(), "the answer", text, pos);
     let told = u16::from(matches!(call, Call::Kill(_)));
@@ -65,11 +65,12 @@ fn deletes(
 fn is_told(rt: &impl Abort, heard: &Heard, text: &str, pos: usize, gone: Gone) {
     let told = u16::from(gone.is_some());
     holds(rt, heard.deletions == told, "the deletions", text, pos);
+    holds(rt, heard.left == 0, "the changes", text, pos);
     if let Some((place, deleted, side)) = gone {
         let told = heard.text_in(text);
         holds(rt, told == Some(deleted), "the deleted text", text, pos);
         holds(rt, heard.place == place, "its place", text, pos);
-        holds(rt, heard.side == side, "its side", text, pos);
+        holds(rt, heard.side == Some(side), "its side", text, pos);
     }
 }
 
@@ -255,6 +256,13 @@ fn deletions_to_places(rt: HostRuntime) -> Result<(), Fail> {
             Some((0, "a\nb\n", AHEAD)),
         ),
         ("c", 0, Call::Kill(Movement::LineUp(1)), None),
+        // a last, empty line is killed as an empty text
+        (
+            "\n",
+            1,
+            Call::Kill(Movement::LineUp(0)),
+            Some((1, "", AHEAD)),
+        ),
     ];
     delete(&rt, rt.alloc(), ROWS)
 }
@@ -338,6 +346,7 @@ fn copies(rt: HostRuntime) -> Result<(), Fail> {
         ("ab", 1, "copy find 1 T a", "text: 1 ab"),
         ("ab\\n\\ncd", 3, "copy line", "none 3 ab\\n\\ncd"),
         ("a\\nb", 2, "copy up 0", "text:b 2 a\\nb"),
+        ("\\n", 1, "copy up 0", "text: 1 \\n"),
         ("a\\nb\\nc", 2, "copy up 1", "text:a\\nb\\n 2 a\\nb\\nc"),
         ("text", 4, "copy find 2 F t", "text:text 4 text"),
         ("text", 4, "copy eol", "none 4 text"),

@@ -6,6 +6,7 @@ use std::test::Fail;
 fn words_are_recased(rt: HostRuntime) -> Result<(), Fail> {
     const ROWS: &[Lines] = &[
         ("test", 1, "case cap", "true 4 tEst"),
+        ("1ab", 0, "case cap", "true 3 1ab"),
         ("a-bC d", 1, "case low", "true 4 a-bc d"),
         ("ab cD", 2, "case cap", "true 5 ab Cd"),
         ("ab", 0, "case up", "true 2 AB"),

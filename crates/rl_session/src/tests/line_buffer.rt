@@ -152,7 +152,23 @@ fn inserts_a_text(rt: HostRuntime) -> Result<(), Fail> {
     Ok(())
 }
 
-// What a line of limit 8 that holds the text answers.
+// What the line, of limit 8, answers, also of the place behind the next cluster.
+fn says(
+    rt: &impl Abort,
+    line: &LineBuffer,
+    text: &str,
+    is_empty: bool,
+    at_end: bool,
+    next: Option<usize>,
+) {
+    is_so(rt, line.is_empty() == is_empty, "whether it is empty", text);
+    is_so(rt, line.is_cursor_at_end() == at_end, "the end", text);
+    is_so(rt, line.len() == text.len(), "the length", text);
+    is_so(rt, line.limit() == 8, "the limit", text);
+    is_so(rt, line.next_pos(1) == next, "the next place", text);
+}
+
+// A line of limit 8 that holds the text, with the cursor at the place, answers that.
 fn answers(
     rt: &impl Abort,
     alloc: Global,
@@ -160,23 +176,26 @@ fn answers(
     from: usize,
     is_empty: bool,
     at_end: bool,
+    next: Option<usize>,
 ) -> Result<(), Fail> {
-    let mut line = LineBuffer::with_capacity(alloc, 8)?;
-    line.yank(text, 1, &mut NoListener)?;
-    assert!(rt; line.as_str().is_char_boundary(from), "{from} is a place");
-    line.set_pos(from);
-    is_so(rt, line.is_empty() == is_empty, "whether it is empty", text);
-    is_so(rt, line.is_cursor_at_end() == at_end, "the end", text);
-    is_so(rt, line.len() == text.len(), "the length", text);
-    is_so(rt, line.limit() == 8, "the limit", text);
+    let line = line_within(rt, alloc, 8, false, text, from)?;
+    says(rt, &line, text, is_empty, at_end, next);
     Ok(())
 }
 
 #[test]
 fn answers_about_a_line(rt: HostRuntime) -> Result<(), Fail> {
-    answers(&rt, rt.alloc(), "", 0, true, true)?;
-    answers(&rt, rt.alloc(), "a", 1, false, true)?;
-    answers(&rt, rt.alloc(), "ab", 1, false, false)
+    const ROWS: &[(&str, usize, bool, bool, Option<usize>)] = &[
+        ("", 0, true, true, None),
+        ("a", 1, false, true, None),
+        ("ab", 1, false, false, Some(2)),
+        ("\u{f6}\u{332}g\u{308}", 0, false, false, Some(4)),
+        ("\u{f6}\u{332}g\u{308}", 4, false, false, Some(7)),
+    ];
+    for (text, from, is_empty, at_end, next) in ROWS {
+        answers(&rt, rt.alloc(), text, *from, *is_empty, *at_end, *next)?;
+    }
+    Ok(())
 }
 
 #[test]

@@ -88,9 +88,9 @@ pub(super) enum Event {
 fn tell(record: &mut Changeset, event: Event) -> Result<(), Refusal> {
     match event {
         Event::Char(idx, c) => record.insert_char(idx, c),
-        Event::Text(idx, text) => record.insert_str(idx, text),
-        Event::Deletion(idx, text, side) => record.delete(idx, text, side),
-        Event::Replacement(idx, old, new) => record.replace(idx, old, new),
+        Event::Text(idx, text) => ChangeListener::insert_str(record, idx, text),
+        Event::Deletion(idx, text, side) => DeleteListener::delete(record, idx, text, side),
+        Event::Replacement(idx, old, new) => ChangeListener::replace(record, idx, old, new),
         Event::Kill => {
             record.start_killing();
             record.stop_killing();

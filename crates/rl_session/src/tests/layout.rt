@@ -1,5 +1,5 @@
 //! Widths and positions with answers from outside.
-use crate::{GraphemeClusterMode, Layout, Position, Unit};
+use rl_base::{GraphemeClusterMode, Layout, Position, Unit};
 use std::process::Abort;
 use std::test::Fail;
 

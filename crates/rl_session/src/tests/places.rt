@@ -1,9 +1,9 @@
 //! Rows of places, and a plain count of clusters and words beside the proved one.
-use crate::motion::CharSearch::{Backward, BackwardAfter, Forward, ForwardBefore};
-use crate::motion::{At, CharSearch, RepeatCount, Word};
-use crate::places::{
+use rl_base::motion::CharSearch::{Backward, BackwardAfter, Forward, ForwardBefore};
+use rl_base::places::{
     find_place, is_alphanumeric, next_pos, next_word, prev_pos, prev_word, search,
 };
+use rl_base::{At, CharSearch, RepeatCount, Word};
 use std::alloc::{AllocError, Global};
 use std::process::Abort;
 use std::test::Fail;

@@ -1,6 +1,6 @@
 //! The ring, with answers that were worked out by hand, and what no clause says: that a call comes back with an
 //! answer.
-use crate::{DeleteListener, Direction, KillRing, Mode};
+use rl_base::{DeleteListener, Direction, KillRing, Mode};
 use std::alloc::Global;
 use std::process::Abort;
 use std::test::Fail;
