@@ -25,10 +25,10 @@ pub enum At {
     AfterEnd,
 }
 
-/// What an edit of a word makes of its letters; it stands among the motions, since it is asked for as they are.
+/// What an edit of a word makes of its letters.
 #[derive(Clone, Copy, Debug, Eq, PartialEq)]
 pub enum WordAction {
-    /// The first character in upper case, the others in lower case (readline's `capitalize-word`).
+    /// The first cluster in upper case, the others in lower case (readline's `capitalize-word`).
     Capitalize,
     /// Lower case (readline's `downcase-word`).
     Lowercase,
@@ -36,7 +36,7 @@ pub enum WordAction {
     Uppercase,
 }
 
-/// Where a text is put, relative to the cursor.
+/// Where a text is put, relative to the cursor: a word for an editor's commands, which no call here takes.
 #[derive(Clone, Copy, Debug, Eq, PartialEq)]
 pub enum Anchor {
     /// Behind the cursor (vi's `p`).

@@ -100,8 +100,8 @@ impl Changeset {
         Ok(added)
     }
 
-    /// Records that `c` was inserted at the byte place `idx`: an alphanumeric character joins an insertion that
-    /// ends there. Refused, as every call that records, it changes nothing.
+    /// Records that `c` was inserted at the byte place `idx`: an alphanumeric character joins the last entry, where
+    /// that is an insertion that ends there. Refused, as every call that records, it changes nothing.
     pub fn insert(&mut self, idx: usize, c: char) -> Result<(), Refusal>
         ensures done { OnOk result (self.new ≡ record_step self.old (InsertChar idx c)) }
         ensures err { IfErr result (λ r. (r ≡ NoMemory) × (self.new ≡ self.old)) }
@@ -122,8 +122,8 @@ impl Changeset {
     }
 
     /// Records that `string` was deleted from the byte place `idx`, from whichever side of the cursor: an
-    /// alphanumeric grapheme cluster joins a deletion that it stood right behind, or right before. An empty one
-    /// is no entry.
+    /// alphanumeric grapheme cluster joins the last entry, where that is a deletion that it stood right behind, or
+    /// right before. An empty one is no entry.
     pub fn delete(&mut self, idx: usize, string: &str) -> Result<(), Refusal>
         ensures done { OnOk result (self.new ≡ record_step self.old (Delete idx string.now Forward)) }
         ensures err { IfErr result (λ r. (r ≡ NoMemory) × (self.new ≡ self.old)) }
@@ -133,8 +133,8 @@ impl Changeset {
         Ok(())
     }
 
-    /// Records that `old`, which stood at the byte place `idx`, gave way to `new`: it joins a replacement that
-    /// ends there.
+    /// Records that `old`, which stood at the byte place `idx`, gave way to `new`: it joins the last entry, where
+    /// that is a replacement that ends there.
     pub fn replace(&mut self, idx: usize, old: &str, new: &str) -> Result<(), Refusal>
         ensures done { OnOk result (self.new ≡ record_step self.old (Replace idx old.now new.now)) }
         ensures err { IfErr result (λ r. (r ≡ NoMemory) × (self.new ≡ self.old)) }
@@ -147,8 +147,8 @@ impl Changeset {
     /// Undoes the last `n` units, or one where `n` is 0, or all where there are fewer (GNU readline: undo). A
     /// unit is a change, a closed group, or the begin of an open one. Answers whether there was a change.
     /// The cursor goes to the place of the last change that is undone, past what that puts back.
-    /// `can_undo` tells whether the recorded changes are those of the line. It finds all room first, so
-    /// refused it changes nothing.
+    /// `can_undo` tells whether the recorded changes can be taken back from the line's text. It finds all room
+    /// first, so refused it changes nothing.
     pub fn undo(&mut self, line: &mut LineBuffer, n: RepeatCount) -> Result<bool, Refusal>
         requires { IsSome (unwind self.old.recorded line.old.text) }
         ensures done { IfOk result (λ answer. Undone n self.old self.new line.old line.new answer) }

@@ -50,8 +50,8 @@ pub fn undo_leaves_a_held_text()
         × (row.before.pair.changes.recorded ≡ row.after.pair.changes.recorded ++ last_of n row.before.pair.changes.recorded) }
 {}
 
-/// One undo right after the end of a group leaves the text at its begin, where the group was opened with no other open,
-/// a change was recorded in it, and no undo, redo or truncation ran inside, unless it was refused.
+/// One undo right after the end of a group leaves the text at its begin, where none of the three was refused, the group
+/// was opened with no other open, a change was recorded in it, and each undo, redo or truncation inside was refused.
 pub fn group_is_undone_at_once()
     ensures { (text : List ℕ) (pos limit ring_size : ℕ) (mode : GraphemeClusterMode) (commands : List Command) (replies : List Reply) (new : State)
         (earlier inside later : List Row) (b e u : Row)
@@ -65,7 +65,7 @@ pub fn group_is_undone_at_once()
 {}
 
 /// As many redos right after an undo as it took units give back the text, the recorded entries and the undone ones from
-/// before it, unless it took the begin of an open group.
+/// before it, where none of these was refused and the undo took no begin of an open group.
 pub fn redo_gives_back()
     ensures { (text : List ℕ) (pos limit ring_size : ℕ) (mode : GraphemeClusterMode) (commands : List Command) (replies : List Reply) (new : State)
         (earlier redos : List Row) (u : Row) (n : ℕ)
