@@ -36,7 +36,7 @@ pub enum WordAction {
     Uppercase,
 }
 
-/// Where a text is put, relative to the cursor: a word for an editor's commands, which no call here takes.
+/// Where a text is put, relative to the cursor. No call of these crates takes it: it is for an editor's commands.
 #[derive(Clone, Copy, Debug, Eq, PartialEq)]
 pub enum Anchor {
     /// Behind the cursor (vi's `p`).

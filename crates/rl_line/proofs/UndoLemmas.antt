@@ -82,24 +82,22 @@ line_back-IsSome es line h =
     let l = line_back-text es line t.0 t.1 in
     subst IsSome (sym l.1) refl
 
--- the mark of a group leaves text and cursor where the entries behind it do
-behind_a_mark : (mark : Line → Option Line) (es : List Entry) (line now : Line) → ((l : Line) → mark l ≡ Some (stepped l l.text l.cursor))
-    → ((mid : Line) → line_back es line ≡ Some mid → (mid.text ≡ line.text) × (mid.cursor ≡ line.cursor)) → option_and_then mark (line_back es line) ≡ Some now
+-- where the entries behind a mark leave text and cursor, the mark does too
+left_by_a_mark : (line mid now : Line) → (mid.text ≡ line.text) × (mid.cursor ≡ line.cursor) → Some (stepped mid mid.text mid.cursor) ≡ Some now
     → (now.text ≡ line.text) × (now.cursor ≡ line.cursor)
-behind_a_mark mark es line now marks behind is =
-    let p = through mark (line_back es line) now is in
-    let one = sym (marks p.0) ∙ p.2 in
-    let same : now ≡ stepped p.0 p.0.text p.0.cursor = cc in
-    let b = behind p.0 p.1 in
-    (ap (λ (l : Line). l.text) same ∙ b.0, ap (λ (l : Line). l.cursor) same ∙ b.1)
+left_by_a_mark line mid now behind is =
+    let same : now ≡ stepped mid mid.text mid.cursor = cc in
+    (ap (λ (l : Line). l.text) same ∙ behind.0, ap (λ (l : Line). l.cursor) same ∙ behind.1)
 
 pub line_back-marks : (es : List Entry) (line now : Line) → has_change es ≡ false → line_back es line ≡ Some now → (now.text ≡ line.text) × (now.cursor ≡ line.cursor)
 unfolding apply
 line_back-marks [] line now none is =
     let same : line ≡ now = cc in
     (ap (λ (l : Line). l.text) (sym same), ap (λ (l : Line). l.cursor) (sym same))
-line_back-marks (Begin ∷ es) line now none is = behind_a_mark (line_after Begin) es line now (λ l. refl) (λ mid. line_back-marks es line mid none) is
-line_back-marks (End ∷ es) line now none is = behind_a_mark (line_after End) es line now (λ l. refl) (λ mid. line_back-marks es line mid none) is
+line_back-marks (Begin ∷ es) line now none is =
+    let p = through (line_after Begin) (line_back es line) now is in left_by_a_mark line p.0 now (line_back-marks es line p.0 none p.1) p.2
+line_back-marks (End ∷ es) line now none is =
+    let p = through (line_after End) (line_back es line) now is in left_by_a_mark line p.0 now (line_back-marks es line p.0 none p.1) p.2
 line_back-marks (Inserted i s ∷ es) line now none is = cc
 line_back-marks (Deleted i s ∷ es) line now none is = cc
 line_back-marks (Replaced i s t ∷ es) line now none is = cc
