@@ -15,8 +15,8 @@ use Rattle.rl_line.specs.declared.change.Change.{Change}
 use Rattle.rl_line.specs.declared.change.Change.TheVariants as made
 use Rattle.rl_line.specs.declared.change.Way.{Way}
 use Rattle.rl_line.specs.declared.change.Way.TheVariants.{Back, Ahead}
-use Rattle.rl_line.specs.Record.{Entry, Begin, End, Inserted, Deleted, Replaced, entry_of, event_of, inverse, new_text, old_text, place, unwind}
-use Rattle.rl_line.specs.Undo.{faced}
+use Rattle.rl_line.specs.Record.{Entry, Begin, End, Inserted, Deleted, Replaced, entry_of, event_of, inverse, unwind}
+use Rattle.rl_line.specs.Change.{new_text, old_text, place, faced}
 use Rattle.rl_line.proofs.RecordLemmas.{unwind-append}
 
 -- an entry's new text stands at its place, and the old one may take its place

@@ -3,7 +3,8 @@ use Rattle.std.proofs.Common.{◌≡◌, ℕ, ◌+◌, ◌-◌, suc, arith, Bool
 use Rattle.std.proofs.lemmas.List.{reverse-append, reverse-reverse}
 use Rattle.std.specs.Prelude.{zero, max}
 use Rattle.rl_line.specs.Record.{Entry, Begin, End, Inserted, Deleted, Replaced}
-use Rattle.rl_line.specs.Units.{deep, UndoUnit, Open, Whole, units, together, level, last_of, redo_from, redo_of, touched, marks, IsMatched}
+use Rattle.rl_line.specs.Units.{UndoUnit, Open, Whole, units, together, level, last_of, redo_from, redo_of, touched, marks, IsMatched}
+use Rattle.rl_line.specs.Entries.{deep}
 use Rattle.rl_line.proofs.Counts.{back_len, ahead_len}
 use Rattle.rl_line.proofs.RecordLemmas.{value_of}
 use Rattle.rl_line.proofs.UnitLemmas.{AllGood, units-good, together-units, on, together-reverse, AllGood-reverse}

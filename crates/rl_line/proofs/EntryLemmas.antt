@@ -6,7 +6,8 @@ use Rattle.std.specs.Prelude.{zero, max, slice_get, cond, IsSome, Bool, true, fa
 use Rattle.std.specs.Option.{option_to_list}
 use Rattle.rl_line.specs.declared.change.Change.{Change}
 use Rattle.rl_line.specs.Record.{Entry, Begin, End, Inserted, Deleted, Replaced, entry_of}
-use Rattle.rl_line.specs.Units.{deep, last_of, kept_of, redo_of, adds_end, end_one, end_times, ends_in_begin, has_change, is_begin, is_change, IsMatched}
+use Rattle.rl_line.specs.Units.{last_of, kept_of, redo_of, adds_end, end_one, end_times, ends_in_begin, has_change, is_begin, is_change, IsMatched}
+use Rattle.rl_line.specs.Entries.{deep}
 use Rattle.rl_line.proofs.Counts.{ahead_len, back_len}
 use Rattle.rl_line.proofs.CountLemmas.{last-counted, redo-counted}
 use Rattle.rl_line.proofs.RecordLemmas.{value_of}

@@ -12,7 +12,9 @@ use Rattle.rl_base.specs.declared.listeners.Direction.TheVariants.{Forward}
 use Rattle.rl_base.specs.declared.listeners.Refusal.{Refusal}
 use Rattle.rl_base.specs.declared.listeners.Refusal.TheVariants.{NoMemory}
 use Rattle.rl_line.specs.declared.change.Change.{Change}
-use Rattle.rl_line.specs.Record.{Entry, Begin, End, Inserted, Deleted, Replaced, Record, JoinsLast, TakesIn, entries_after, entries_of, entry_of, joined, record_step}
+use Rattle.rl_line.specs.Record.{Entry, Begin, End, Inserted, Deleted, Replaced, Record, entries_after, entries_of, entry_of, joined, record_step}
+use Rattle.rl_line.specs.Change.{TakesIn}
+use Rattle.rl_line.specs.Entries.{JoinsLast}
 
 joined-last : (event : Event) (xs : List Change) (k : ℕ) (x y : Change) → suc k ≡ length xs → x ≡ get_or xs k x → joined event (entry_of x) ≡ Some (entry_of y)
     → map entry_of (set xs k y) ≡ entries_after event (map entry_of xs)

@@ -9,7 +9,8 @@ use Rattle.rl_base.specs.Event.{Event, InsertChar, InsertStr, Delete, Replace, S
 use Rattle.rl_base.specs.Classes.{is_alphanumeric, is_word_cluster}
 use Rattle.rl_line.specs.declared.change.Change.{Change}
 use Rattle.rl_line.specs.Record.{Entry, Begin, End, Inserted, Deleted, Replaced, Record, entries_after, entries_of, entry_of, joined, record_step}
-use Rattle.rl_line.specs.Units.{AtLevel, IsMatched, begun, deep, ended, is_change, kept_of, last_of, level, mark, marks, opens, redo_of, redone, touched, truncated, undone, units}
+use Rattle.rl_line.specs.Units.{AtLevel, IsMatched, begun, ended, is_change, kept_of, last_of, level, mark, marks, opens, redo_of, redone, touched, truncated, undone, units}
+use Rattle.rl_line.specs.Entries.{deep}
 use Rattle.rl_line.proofs.CountLemmas.{level-counted}
 use Rattle.rl_line.proofs.EntryLemmas.{deep-append}
 use Rattle.rl_line.proofs.MatchLemmas.{AllGood-take, BothMatched-begun, BothMatched-ended, BothMatched-redone, BothMatched-step, BothMatched-truncated, BothMatched-undone, IsMatched-after, Lower-end_times, Redoes-of, length-touched, level-is, marks-last}

@@ -7,7 +7,8 @@ use Rattle.rl_base.specs.Lines.{is_newline, lines, last_line, line_number, start
 use Rattle.rl_base.specs.declared.layout.Layout.{Layout}
 use Rattle.rl_base.proofs.LineLemmas.{count_of_lines, count-parts, number-within, start-zero, go_up, go_down, at_last, text-between, lies}
 use Rattle.rl_line.specs.Line.{between}
-use Rattle.rl_line.specs.LineMotions.{line_above, line_below, range_of_line, column_above, column_below, columns_before, place_in_line, place_above, place_below}
+use Rattle.rl_line.specs.LineMotions.{line_above, line_below, column_above, column_below, columns_before, place_in_line, place_above, place_below}
+use Rattle.rl_line.specs.Lines.{range_of_line}
 
 -- from the start of the line i above line k one line further up
 pub record WentUp (text : List ℕ) (k i start : ℕ) : Type 0 where

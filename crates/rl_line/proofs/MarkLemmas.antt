@@ -11,7 +11,7 @@ use Rattle.rl_line.specs.Undo.{Redone}
 use Rattle.rl_line.specs.Units.{UndoUnit, Open, Whole, units, together, level, begun, end_one, end_times, ended, redo_from, redo_of, truncated}
 use Rattle.rl_line.proofs.OriginLemmas.{Kept}
 use Rattle.rl_line.proofs.RecordLemmas.{replay-append, replay-IsUtf8, unwind-append, unwind-replay}
-use Rattle.rl_line.proofs.RedoLemmas.{line_ahead-replay}
+use Rattle.rl_line.proofs.UndoLemmas.{line_ahead-replay}
 use Rattle.rl_line.proofs.UnitLemmas.{together-append, together-units}
 
 -- a mark changes nothing

@@ -3,18 +3,20 @@ use Rattle.std.proofs.Common.{◌≡◌, ℕ, ◌-◌, ◌≤◌, min, leb, arit
 use Rattle.std.proofs.lemmas.Bool.{leb-true, leb-false}
 use Rattle.std.proofs.lemmas.List.{map-append, reverse-append, length-drop, length-map, length-reverse, reverse-reverse, take-map, take-append-drop}
 use Rattle.std.specs.Prelude.{IsSome, is_some, ◌||◌}
+use Rattle.std.specs.Str.{IsCharBoundary, IsUtf8}
 use Rattle.rl_base.specs.Event.{Event}
 use Rattle.rl_line.specs.declared.change.Change.{Change}
 use Rattle.rl_line.specs.declared.change.Way.TheVariants.{Ahead}
 use Rattle.rl_line.specs.Line.{Line}
-use Rattle.rl_line.specs.Record.{Entry, Record, entries_after, entry_of, inverse, pending_after, record_step, replay_entries, unwind}
-use Rattle.rl_line.specs.Undo.{faced, line_ahead, line_back}
+use Rattle.rl_line.specs.Record.{Entry, Record, entries_after, entry_of, inverse, pending_after, record_step, unwind}
+use Rattle.rl_line.specs.Undo.{line_ahead, line_back}
 use Rattle.rl_line.specs.Units.{BothMatched, has_change, is_change, kept_of, last_of, redo_of, redone, undone}
+use Rattle.rl_line.specs.Change.{faced}
 use Rattle.rl_line.proofs.EntryLemmas.{drop-view, kept-take, map-reverse, pending-view}
 use Rattle.rl_line.proofs.GroupLemmas.{has_change-append}
 use Rattle.rl_line.proofs.MatchLemmas.{Redoes-of}
-use Rattle.rl_line.proofs.RecordLemmas.{IsSome-through, replay-append, unwind-append}
-use Rattle.rl_line.proofs.UndoLemmas.{line_ahead-back, line_back-IsSome, unwind-ahead}
+use Rattle.rl_line.proofs.RecordLemmas.{IsSome-through}
+use Rattle.rl_line.proofs.UndoLemmas.{line_ahead-append, line_ahead-back, line_back-append, line_back-is_some}
 use Rattle.rl_line.proofs.UnitLemmas.{kept-last}
 
 abbrev pub view : List Change → List Change → Record
@@ -56,13 +58,12 @@ undo-slice n count len xs slice e l s =
     ap (λ zs. map entry_of (take (length zs - (len - count)) (drop (len - count) zs))) s ∙ ap (map entry_of) (rest xs (len - count))
     ∙ ap (λ k. map entry_of (drop (k - count) xs)) l ∙ undo-part n count xs e
 
-pub undo-fits : (n count : ℕ) (xs : List Change) (line : Line) → count ≡ length (last_of n (map entry_of xs)) → IsSome (unwind (map entry_of xs) line.text)
+pub undo-fits : (n count : ℕ) (xs : List Change) (line : Line) → count ≡ length (last_of n (map entry_of xs)) → IsSome (line_back (map entry_of xs) line)
     → IsSome (line_back (map entry_of (drop (length xs - count) xs)) line)
 undo-fits n count xs line e h =
     let es = map entry_of xs in
-    let all : unwind es line.text ≡ _ = ap (λ l. unwind l line.text) (sym (kept-last n es)) ∙ unwind-append (kept_of n es) (last_of n es) line.text in
-    subst (λ l. IsSome (line_back l line)) (sym (undo-part n count xs e))
-    (line_back-IsSome (last_of n es) line (IsSome-through (unwind (kept_of n es)) (unwind (last_of n es) line.text) (subst IsSome all h)))
+    let all : line_back es line ≡ _ = ap (λ l. line_back l line) (sym (kept-last n es)) ∙ line_back-append (kept_of n es) (last_of n es) line in
+    subst (λ l. IsSome (line_back l line)) (sym (undo-part n count xs e)) (IsSome-through (line_back (kept_of n es)) (line_back (last_of n es) line) (subst IsSome all h))
 
 pub undone-view : (n count : ℕ) (r : Record) (xs ys now_xs now_ys : List Change) → view xs ys ≡ r → count ≡ length (last_of n (map entry_of xs))
     → now_xs ≡ take (length xs - count) xs → now_ys ≡ ys ++ reverse (drop (length xs - count) xs) → view now_xs now_ys ≡ undone n r
@@ -113,10 +114,13 @@ faced-ahead : (xs : List Change) → map (faced Ahead) xs ≡ map inverse (map e
 faced-ahead [] = refl
 faced-ahead (x ∷ xs) = ap (λ l. inverse (entry_of x) ∷ l) (faced-ahead xs)
 
--- a text that goes over all that waits replays it
-pub all-ahead : (ys : List Change) (text : List ℕ) → unwind (map (faced Ahead) ys) text ≡ replay_entries (reverse (map entry_of ys)) text
-all-ahead ys text =
-    ap (λ l. unwind l text) (faced-ahead ys ∙ ap (map inverse) (sym (reverse-reverse (map entry_of ys)))) ∙ unwind-ahead (reverse (map entry_of ys)) text
+-- a text can go over all that waits where a line can go ahead over it
+pub all-ahead : (ys : List Change) (line : Line) → IsUtf8 line.text → IsCharBoundary line.text line.cursor
+    → is_some (unwind (map (faced Ahead) ys) line.text) ≡ is_some (line_ahead (reverse (map entry_of ys)) line)
+all-ahead ys line u at =
+    let p = reverse (map entry_of ys) in
+    let turned : map (faced Ahead) ys ≡ map inverse (reverse p) = faced-ahead ys ∙ ap (map inverse) (sym (reverse-reverse (map entry_of ys))) in
+    line_back-is_some (map (faced Ahead) ys) line u at ∙ ap (λ l. is_some (line_back l line)) turned ∙ ap is_some (line_ahead-back p line)
 
 redo-faced : (count : ℕ) (ys : List Change) → BothMatched (view [] ys) → count ≡ length (redo_of (reverse (map entry_of ys)))
     → map (faced Ahead) (drop (length ys - count) ys) ≡ map inverse (reverse (redo_of (reverse (map entry_of ys))))
@@ -129,13 +133,12 @@ pub redo-line : (count : ℕ) (ys : List Change) (line : Line) → BothMatched (
 redo-line count ys line m e = ap (λ l. line_back l line) (redo-faced count ys m e) ∙ line_ahead-back (redo_of (reverse (map entry_of ys))) line
 
 pub redo-fits : (count : ℕ) (ys : List Change) (line : Line) → BothMatched (view [] ys) → count ≡ length (redo_of (reverse (map entry_of ys)))
-    → IsSome (replay_entries (reverse (map entry_of ys)) line.text) → IsSome (line_back (map (faced Ahead) (drop (length ys - count) ys)) line)
+    → IsSome (line_ahead (reverse (map entry_of ys)) line) → IsSome (line_back (map (faced Ahead) (drop (length ys - count) ys)) line)
 redo-fits count ys line m e h =
     let p = reverse (map entry_of ys) in
     let unit = redo_of p in
-    let all : replay_entries p line.text ≡ _ = ap (λ l. replay_entries l line.text) (sym (Redoes-of p m.pending).list_is) ∙ replay-append unit (drop (length unit) p) line.text in
-    let some = IsSome-through (replay_entries (drop (length unit) p)) (replay_entries unit line.text) (subst IsSome all h) in
-    subst (λ l. IsSome (line_back l line)) (sym (redo-faced count ys m e)) (line_back-IsSome (map inverse (reverse unit)) line (subst IsSome (sym (unwind-ahead unit line.text)) some))
+    let all : line_ahead p line ≡ _ = ap (λ l. line_ahead l line) (sym (Redoes-of p m.pending).list_is) ∙ line_ahead-append unit (drop (length unit) p) line in
+    subst IsSome (sym (redo-line count ys line m e)) (IsSome-through (line_ahead (drop (length unit) p)) (line_ahead unit line) (subst IsSome all h))
 
 has_change-reverse : (es : List Entry) → has_change (reverse es) ≡ has_change es
 has_change-reverse [] = refl

@@ -10,8 +10,8 @@ use Rattle.rl_line.specs.Plan.{Step, Plan, after, heard, Taken, Done, Halted}
 use Rattle.rl_line.specs.Record.{Record, record_step, unwind}
 use Rattle.rl_line.specs.Undo.{Undone}
 use Rattle.rl_line.specs.Units.{kept_of, last_of}
-use Rattle.rl_line.proofs.RecordLemmas.{through, value_of, IsSome-through, record_step-unwind, unwind-append, unwind-IsUtf8}
-use Rattle.rl_line.proofs.UndoLemmas.{line_back-text}
+use Rattle.rl_line.proofs.RecordLemmas.{through, value_of, record_step-unwind, unwind-append, unwind-IsUtf8}
+use Rattle.rl_line.proofs.UndoLemmas.{line_back-unwind}
 use Rattle.rl_line.proofs.UnitLemmas.{kept-last}
 
 -- the text from which the record came
@@ -46,18 +46,16 @@ pub Kept-Halted : {A : Type 0} (refused : Record → Event → Refusal → Recor
 Kept-Halted refused plan r now old new why stays u h =
     subst (λ (k : Record). Kept r k old new) (sym (stays h.middle h.next.0 why now h.cause)) (Kept-Taken h.first r h.middle old new u h.taken)
 
-pub Kept-Undone : (n : ℕ) (r now : Record) (old new : Line) (a : Bool) → IsUtf8 old.text → IsSome (origin r old.text) → Undone n r now old new a → Kept r now old new
-Kept-Undone n r now old new a u h d =
+pub Kept-Undone : (n : ℕ) (r now : Record) (old new : Line) (a : Bool) → IsUtf8 old.text → Undone n r now old new a → Kept r now old new
+Kept-Undone n r now old new a u d =
     let kept = kept_of n r.recorded in
     let last = last_of n r.recorded in
-    let all : origin r old.text ≡ option_and_then (unwind kept) (unwind last old.text) = ap (λ es. unwind es old.text) (sym (kept-last n r.recorded)) ∙ unwind-append kept last old.text in
-    let t = value_of (unwind last old.text) (IsSome-through (unwind kept) (unwind last old.text) (subst IsSome all h)) in
-    let l = line_back-text last old t.0 t.1 in
-    let same : new ≡ l.0 = let both : Some new ≡ Some l.0 = sym d.line_is ∙ l.1 in cc in
-    let text : new.text ≡ t.0 = ap (λ (m : Line). m.text) same ∙ l.2 in
+    let back : unwind last old.text ≡ Some new.text = line_back-unwind last old new d.line_is in
+    let all : origin r old.text ≡ unwind kept new.text =
+    ap (λ es. unwind es old.text) (sym (kept-last n r.recorded)) ∙ unwind-append kept last old.text ∙ ap (option_and_then (unwind kept)) back in
     record {
-      origin_is = λ start e. ap (λ (m : Record). unwind m.recorded new.text) d.record_is ∙ ap (unwind kept) text ∙ sym (all ∙ ap (option_and_then (unwind kept)) t.1) ∙ e;
-      utf8 = subst IsUtf8 (sym text) (unwind-IsUtf8 last old.text t.0 u t.1);
+      origin_is = λ start e. ap (λ (m : Record). unwind m.recorded new.text) d.record_is ∙ sym all ∙ e;
+      utf8 = unwind-IsUtf8 last old.text new.text u back;
     }
 
 pub IsSome-Kept : (r now : Record) (old new : Line) → Kept r now old new → IsSome (origin r old.text) → IsSome (origin now new.text)

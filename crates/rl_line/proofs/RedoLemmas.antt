@@ -3,13 +3,12 @@ use Rattle.std.proofs.Common.{◌≡◌, ℕ, suc, Bool, List, [], ◌∷◌, �
 use Rattle.std.proofs.lemmas.List.{reverse-append, reverse-reverse, length-reverse}
 use Rattle.std.specs.Prelude.{option_and_then, zero, max}
 use Rattle.std.specs.Str.{IsUtf8}
-use Rattle.rl_base.specs.Event.{apply}
-use Rattle.rl_line.specs.Line.{Line, stepped}
-use Rattle.rl_line.specs.Plan.{after}
-use Rattle.rl_line.specs.Record.{Entry, Record, event_of, inverse, replay_entries, unwind}
-use Rattle.rl_line.specs.Units.{UndoUnit, Open, Whole, units, together, opens, last_of, kept_of, last_units, redo_from, redo_of, undone, redone, redone_times, marks, IsMatched, BothMatched}
-use Rattle.rl_line.specs.Undo.{cursor_after, line_after, line_ahead, line_back, Undone, Redos}
-use Rattle.rl_line.proofs.RecordLemmas.{replay-append, through, replay-unwind}
+use Rattle.rl_line.specs.Line.{Line}
+use Rattle.rl_line.specs.Record.{Entry, Record, replay_entries}
+use Rattle.rl_line.specs.Units.{UndoUnit, Open, Whole, units, together, opens, last_of, kept_of, last_units, redo_from, redo_of, undone, redone, marks, IsMatched, BothMatched}
+use Rattle.rl_line.specs.Undo.{line_ahead, Undone, Redos}
+use Rattle.rl_line.proofs.RecordLemmas.{replay-append, replay-unwind}
+use Rattle.rl_line.proofs.UndoLemmas.{line_ahead-replay, line_back-unwind}
 use Rattle.rl_line.proofs.UnitLemmas.{AllGood, Settles, kept-last, opens-reverse, units-good, units-append, IsMatched-append, on, together-reverse, AllGood-reverse}
 use Rattle.rl_base.proofs.SwapLemmas.{some_is}
 use Rattle.rl_line.proofs.MatchLemmas.{AllGood-take}
@@ -24,6 +23,11 @@ redo_of-front : (es rest : List Entry) → Settles es → IsMatched rest → red
 redo_of-front es rest s h =
     ap (λ us. redo_from (es ++ rest) (reverse us)) (units-append es rest h ∙ ap (λ us. units rest ++ us) (s.cuts []))
     ∙ ap (redo_from (es ++ rest)) (reverse-append (units rest) (Whole es ∷ []))
+
+-- the record after so many redos
+abbrev redone_times : ℕ → Record → Record
+redone_times zero r = r
+redone_times (suc n) r = redone_times n (redone r)
 
 abbrev lists : List Entry → List Entry → Record
 lists r p = record { recorded = r; pending = p }
@@ -74,26 +78,6 @@ redo-undone n r b o =
     ∙ ap (λ l. lists l r.pending) (kept-last n r.recorded)
 
 -- ---- the text
-line_after-text : (e : Entry) (line next : Line) → line_after e line ≡ Some next → apply (event_of e) line.text ≡ Some next.text
-line_after-text e line next h =
-    let p = through (λ text. after [] (stepped line text (cursor_after line.cursor e))) (apply (event_of e) line.text) next h in
-    let same : stepped line p.0 (cursor_after line.cursor e) ≡ next = let k = p.2 in cc in
-    p.1 ∙ ap (λ (l : Line). Some l.text) same
-
--- and a line that goes back has the text of `unwind`
-pub line_back-unwind : (es : List Entry) (line now : Line) → line_back es line ≡ Some now → unwind es line.text ≡ Some now.text
-line_back-unwind [] line now h = let e : line ≡ now = cc in ap (λ (l : Line). Some l.text) e
-line_back-unwind (e ∷ es) line now h =
-    let p = through (line_after (inverse e)) (line_back es line) now h in
-    ap (option_and_then (apply (event_of (inverse e)))) (line_back-unwind es line p.0 p.1) ∙ line_after-text (inverse e) p.0 now p.2
-
--- and one that goes ahead, that of `replay_entries`
-pub line_ahead-replay : (es : List Entry) (line now : Line) → line_ahead es line ≡ Some now → replay_entries es line.text ≡ Some now.text
-line_ahead-replay [] line now h = let e : line ≡ now = cc in ap (λ (l : Line). Some l.text) e
-line_ahead-replay (e ∷ es) line now h =
-    let p = through (line_ahead es) (line_after e line) now h in
-    ap (option_and_then (replay_entries es)) (line_after-text e line p.0 p.1) ∙ line_ahead-replay es p.0 now p.2
-
 Redos-record : (n : ℕ) (old new : Record) (line line' : Line) → Redos n old new line line' → new ≡ redone_times n old
 Redos-record zero old new line line' h = h.0
 Redos-record (suc n) old new line line' h = let (mid, between, answer, first, others) = h in Redos-record n mid new between line' others ∙ ap (redone_times n) first.record_is
@@ -114,7 +98,7 @@ Redos-text (Whole es ∷ vs) kept rest new line line' g o h d =
 pub redos-give-back : (n : ℕ) (r mid now : Record) (line back ahead : Line) (answer : Bool) → IsUtf8 line.text → BothMatched r
     → opens (last_units n r.recorded) ≡ 0 → Undone n r mid line back answer
     → Redos (length (last_units n r.recorded)) mid now back ahead
-    → (now ≡ r) × (ahead.text ≡ line.text)
+    → (now.recorded ≡ r.recorded) × (now.pending ≡ r.pending) × (ahead.text ≡ line.text)
 redos-give-back n r mid now line back ahead answer u b o un d =
     let t = taken-off n r b o in
     let whole = Redos-record (length (last_units n r.recorded)) mid now back ahead d ∙ ap (redone_times (length (last_units n r.recorded))) un.record_is ∙ redo-undone n r b o in
@@ -123,4 +107,4 @@ redos-give-back n r mid now line back ahead answer u b o un d =
     let there = Redos-text t.taken (kept_of n r.recorded) r.pending now back ahead t.good t.whole b.pending redos in
     let here = replay-unwind (last_of n r.recorded) line.text back.text u (line_back-unwind (last_of n r.recorded) line back un.line_is) in
     let both : Some ahead.text ≡ Some line.text = sym there ∙ ap (λ es. replay_entries es back.text) (sym t.is) ∙ here in
-    (whole, cc)
+    (ap (λ (k : Record). k.recorded) whole, ap (λ (k : Record). k.pending) whole, cc)

@@ -1,22 +1,50 @@
 -- A line that goes over changes of its record, back or ahead.
-use Rattle.std.proofs.Common.{◌≡◌, ℕ, ◌+◌, ◌<◌, ◌≤◌, zero, suc, List, [], ◌∷◌, ◌++◌, length, take, drop, get_or, map, reverse, Option, Some, None, false, refl, sym, ap, subst, ◌∙◌, arith, add-one, drop-cons}
+use Rattle.std.proofs.Common.{◌≡◌, ℕ, ◌+◌, ◌<◌, ◌≤◌, zero, suc, List, [], ◌∷◌, ◌++◌, length, take, drop, get_or, map, reverse, Option, Some, None, false, refl, sym, ap, subst, ◌∙◌, arith, add-one, append_assoc, drop-cons, length-append}
 use Rattle.std.proofs.lemmas.Grind.{take_at_read}
 use Rattle.std.proofs.lemmas.List.{map-append, reverse-append}
-use Rattle.std.specs.Prelude.{option_and_then, IsSome}
+use Rattle.std.proofs.lemmas.Str.{IsCharBoundary-at_seam}
+use Rattle.std.specs.Prelude.{option_and_then, IsSome, is_some}
+use Rattle.std.specs.Str.{IsCharBoundary, IsUtf8}
+use Rattle.rl_base.proofs.SwapLemmas.{Swaps, Swaps-Delete, Swaps-InsertStr, Swaps-Replace}
+use Rattle.rl_base.proofs.TextLemmas.{is_boundary-true}
+use Rattle.rl_base.specs.declared.listeners.Direction.TheVariants.{Forward}
+use Rattle.rl_base.specs.Text.{is_boundary}
 use Rattle.rl_base.specs.Event.{apply}
 use Rattle.rl_line.specs.declared.change.Change.{Change}
 use Rattle.rl_line.specs.Line.{Line, stepped}
 use Rattle.rl_line.specs.Record.{Entry, Begin, End, Inserted, Deleted, Replaced, event_of, inverse, replay_entries, unwind}
 use Rattle.rl_line.specs.declared.change.Way.{Way}
 use Rattle.rl_line.specs.Units.{has_change}
-use Rattle.rl_line.specs.Undo.{cursor_after, faced, line_after, line_ahead, line_back, length_back_over, greatest_back_over}
-use Rattle.rl_line.proofs.RecordLemmas.{through, value_of, IsSome-through, inverse-inverse, unwind-append}
+use Rattle.rl_line.specs.Undo.{cursor_after, if_standing, line_after, line_ahead, line_back}
+use Rattle.rl_line.specs.Change.{faced, length_back_over, greatest_back_over}
+use Rattle.rl_line.proofs.RecordLemmas.{if_some, through, value_of, IsSome-through, inverse-inverse, unwind-append, unwind-IsUtf8}
 
 -- one entry back
 abbrev back_one : Entry → Line → Option Line
 back_one e line = line_after (inverse e) line
 
-line_back-append : (xs ys : List Entry) (line : Line) → line_back (xs ++ ys) line ≡ option_and_then (line_back xs) (line_back ys line)
+-- a line that stands is what the test lets through
+standing-is : (line now : Line) → if_standing line ≡ Some now → line ≡ now
+standing-is line now h = (if_some (is_boundary line.text line.cursor) line now h).1
+
+standing : (line : Line) → IsCharBoundary line.text line.cursor → if_standing line ≡ Some line
+standing line h = rw (is_boundary-true line.text line.cursor h) refl
+
+-- an entry that fits the text leaves the cursor between two characters, where it stood so before
+Swaps-past : (text after : List ℕ) (i : ℕ) (old new : List ℕ) → Swaps text after i old new → IsCharBoundary after (i + length new)
+Swaps-past text after i old new s =
+    subst (IsCharBoundary after) (length-append s.front new ∙ ap (λ k. k + length new) s.place)
+    (IsCharBoundary-at_seam after (s.front ++ new) s.rest (s.after_is ∙ sym (append_assoc s.front new s.rest)) s.rest_utf8)
+
+cursor_after-stands : (e : Entry) (text now : List ℕ) (cursor : ℕ) → IsUtf8 text → IsCharBoundary text cursor → apply (event_of e) text ≡ Some now → IsCharBoundary now (cursor_after cursor e)
+unfolding apply
+cursor_after-stands Begin text now cursor u at h = let e : text ≡ now = cc in subst (λ t. IsCharBoundary t cursor) e at
+cursor_after-stands End text now cursor u at h = let e : text ≡ now = cc in subst (λ t. IsCharBoundary t cursor) e at
+cursor_after-stands (Inserted i s) text now cursor u at h = Swaps-past text now i [] s (Swaps-InsertStr text now i s u h)
+cursor_after-stands (Deleted i s) text now cursor u at h = subst (IsCharBoundary now) (omega arith) (Swaps-past text now i s [] (Swaps-Delete text now i s Forward u h))
+cursor_after-stands (Replaced i s t) text now cursor u at h = Swaps-past text now i s t (Swaps-Replace text now i s t u h)
+
+pub line_back-append : (xs ys : List Entry) (line : Line) → line_back (xs ++ ys) line ≡ option_and_then (line_back xs) (line_back ys line)
 line_back-append [] ys line = some_again (line_back ys line)
   where
     some_again : (o : Option Line) → o ≡ option_and_then (λ l. Some l) o
@@ -52,41 +80,84 @@ entries_from way xs m x lt e =
 pub IsBack-fits : (way : Way) (xs : List Change) (m : ℕ) (x : Change) (start now : Line) → m < length xs → x ≡ get_or xs m x → IsBack way xs (m + 1) start now
     → IsSome (apply (event_of (inverse (faced way x))) now.text)
 IsBack-fits way xs m x start now lt e b =
-    IsSome-through (λ text. Some (stepped now text (cursor_after now.cursor (inverse (faced way x))))) (apply (event_of (inverse (faced way x))) now.text)
+    IsSome-through (λ text. if_standing (stepped now text (cursor_after now.cursor (inverse (faced way x))))) (apply (event_of (inverse (faced way x))) now.text)
     (IsSome-through (line_back (map (faced way) (take m xs))) (back_one (faced way x) now) (subst IsSome (rest_split way xs m x now lt e) b.rest))
 
 pub IsBack-next : (way : Way) (xs : List Change) (m : ℕ) (x : Change) (start now next : Line) (text : List ℕ) → m < length xs → x ≡ get_or xs m x → IsBack way xs (m + 1) start now
-    → apply (event_of (inverse (faced way x))) now.text ≡ Some text → next ≡ stepped now text (cursor_after now.cursor (inverse (faced way x))) → IsBack way xs m start next
-IsBack-next way xs m x start now next text lt e b fits is =
+    → apply (event_of (inverse (faced way x))) now.text ≡ Some text → next ≡ stepped now text (cursor_after now.cursor (inverse (faced way x)))
+    → IsCharBoundary text (cursor_after now.cursor (inverse (faced way x))) → IsBack way xs m start next
+IsBack-next way xs m x start now next text lt e b fits is at =
     let one : back_one (faced way x) now ≡ Some next =
-    ap (option_and_then (λ t. Some (stepped now t (cursor_after now.cursor (inverse (faced way x)))))) fits ∙ ap Some (sym is) in
+    ap (option_and_then (λ t. if_standing (stepped now t (cursor_after now.cursor (inverse (faced way x)))))) fits
+    ∙ standing (stepped now text (cursor_after now.cursor (inverse (faced way x)))) at ∙ ap Some (sym is) in
     record {
       so_far = ap (λ es. line_back es start) (entries_from way xs m x lt e) ∙ ap (option_and_then (back_one (faced way x))) b.so_far ∙ one;
       rest = subst IsSome (rest_split way xs m x now lt e ∙ ap (option_and_then (line_back (map (faced way) (take m xs)))) one) b.rest;
     }
 
--- where a text is unwound, a line goes back, and has that text then
-pub line_back-text : (es : List Entry) (line : Line) (text : List ℕ) → unwind es line.text ≡ Some text → (l : Line) × (line_back es line ≡ Some l) × (l.text ≡ text)
-line_back-text [] line text h = (line, refl, cc)
-line_back-text (e ∷ es) line text h =
+-- where a text is unwound, a line whose cursor stands between two of its characters goes back, and has that text then
+record GoesBack (es : List Entry) (line : Line) (text : List ℕ) : Type 0 where
+  now : Line
+  is : line_back es line ≡ Some now
+  text_is : now.text ≡ text
+  stands : IsCharBoundary text now.cursor
+
+goes_back : (es : List Entry) (line : Line) (text : List ℕ) → IsUtf8 line.text → IsCharBoundary line.text line.cursor → unwind es line.text ≡ Some text → GoesBack es line text
+goes_back [] line text u at h =
+    let e : line.text ≡ text = cc in record { now = line; is = refl; text_is = e; stands = subst (λ t. IsCharBoundary t line.cursor) e at }
+goes_back (e ∷ es) line text u at h =
     let p = through (apply (event_of (inverse e))) (unwind es line.text) text h in
-    let l = line_back-text es line p.0 p.1 in (
-      stepped l.0 text (cursor_after l.0.cursor (inverse e)),
-      ap (option_and_then (back_one e)) l.1 ∙ ap (option_and_then (λ u. Some (stepped l.0 u (cursor_after l.0.cursor (inverse e))))) (ap (apply (event_of (inverse e))) l.2 ∙ p.2),
-      refl,
-    )
+    let l = goes_back es line p.0 u at p.1 in
+    let place = cursor_after l.now.cursor (inverse e) in
+    let there = cursor_after-stands (inverse e) p.0 text l.now.cursor (unwind-IsUtf8 es line.text p.0 u p.1) l.stands p.2 in
+    record {
+      now = stepped l.now text place;
+      is = ap (option_and_then (back_one e)) l.is ∙ ap (option_and_then (λ t. if_standing (stepped l.now t place))) (ap (apply (event_of (inverse e))) l.text_is ∙ p.2)
+          ∙ standing (stepped l.now text place) there;
+      text_is = refl;
+      stands = there;
+    }
 
-pub line_back-IsSome : (es : List Entry) (line : Line) → IsSome (unwind es line.text) → IsSome (line_back es line)
-line_back-IsSome es line h =
+pub line_back-IsSome : (es : List Entry) (line : Line) → IsUtf8 line.text → IsCharBoundary line.text line.cursor → IsSome (unwind es line.text) → IsSome (line_back es line)
+line_back-IsSome es line u at h =
     let t = value_of (unwind es line.text) h in
-    let l = line_back-text es line t.0 t.1 in
-    subst IsSome (sym l.1) refl
+    let l = goes_back es line t.0 u at t.1 in
+    subst IsSome (sym l.is) refl
 
--- where the entries behind a mark leave text and cursor, the mark does too
-left_by_a_mark : (line mid now : Line) → (mid.text ≡ line.text) × (mid.cursor ≡ line.cursor) → Some (stepped mid mid.text mid.cursor) ≡ Some now
+-- and a line that goes back has the text that is unwound
+line_after-text : (e : Entry) (line next : Line) → line_after e line ≡ Some next → apply (event_of e) line.text ≡ Some next.text
+line_after-text e line next h =
+    let p = through (λ text. if_standing (stepped line text (cursor_after line.cursor e))) (apply (event_of e) line.text) next h in
+    p.1 ∙ ap (λ (l : Line). Some l.text) (standing-is (stepped line p.0 (cursor_after line.cursor e)) next p.2)
+
+pub line_back-unwind : (es : List Entry) (line now : Line) → line_back es line ≡ Some now → unwind es line.text ≡ Some now.text
+line_back-unwind [] line now h = let e : line ≡ now = cc in ap (λ (l : Line). Some l.text) e
+line_back-unwind (e ∷ es) line now h =
+    let p = through (line_after (inverse e)) (line_back es line) now h in
+    ap (option_and_then (apply (event_of (inverse e)))) (line_back-unwind es line p.0 p.1) ∙ line_after-text (inverse e) p.0 now p.2
+
+-- and one that goes ahead, that of the replay
+pub line_ahead-replay : (es : List Entry) (line now : Line) → line_ahead es line ≡ Some now → replay_entries es line.text ≡ Some now.text
+line_ahead-replay [] line now h = let e : line ≡ now = cc in ap (λ (l : Line). Some l.text) e
+line_ahead-replay (e ∷ es) line now h =
+    let p = through (line_ahead es) (line_after e line) now h in
+    ap (option_and_then (replay_entries es)) (line_after-text e line p.0 p.1) ∙ line_ahead-replay es p.0 now p.2
+
+-- so the two ask the same
+pub line_back-is_some : (es : List Entry) (line : Line) → IsUtf8 line.text → IsCharBoundary line.text line.cursor → is_some (unwind es line.text) ≡ is_some (line_back es line)
+line_back-is_some es line u at = from (unwind es line.text) (line_back es line) (line_back-IsSome es line u at) (λ now h. subst IsSome (sym (line_back-unwind es line now h)) refl)
+  where
+    from : (o : Option (List ℕ)) (p : Option Line) → (IsSome o → IsSome p) → ((now : Line) → p ≡ Some now → IsSome o) → is_some o ≡ is_some p
+    from None None there back = refl
+    from None (Some now) there back = back now refl
+    from (Some t) None there back = sym (there refl)
+    from (Some t) (Some now) there back = refl
+
+-- where the entries before a mark leave text and cursor, the mark does too
+left_by_a_mark : (line mid now : Line) → (mid.text ≡ line.text) × (mid.cursor ≡ line.cursor) → if_standing (stepped mid mid.text mid.cursor) ≡ Some now
     → (now.text ≡ line.text) × (now.cursor ≡ line.cursor)
 left_by_a_mark line mid now behind is =
-    let same : now ≡ stepped mid mid.text mid.cursor = cc in
+    let same : now ≡ stepped mid mid.text mid.cursor = sym (standing-is (stepped mid mid.text mid.cursor) now is) in
     (ap (λ (l : Line). l.text) same ∙ behind.0, ap (λ (l : Line). l.cursor) same ∙ behind.1)
 
 pub line_back-marks : (es : List Entry) (line now : Line) → has_change es ≡ false → line_back es line ≡ Some now → (now.text ≡ line.text) × (now.cursor ≡ line.cursor)
@@ -102,9 +173,35 @@ line_back-marks (Inserted i s ∷ es) line now none is = cc
 line_back-marks (Deleted i s ∷ es) line now none is = cc
 line_back-marks (Replaced i s t ∷ es) line now none is = cc
 
+pub line_ahead-marks : (es : List Entry) (line now : Line) → has_change es ≡ false → line_ahead es line ≡ Some now → (now.text ≡ line.text) × (now.cursor ≡ line.cursor)
+unfolding apply
+line_ahead-marks [] line now none is =
+    let same : line ≡ now = cc in
+    (ap (λ (l : Line). l.text) (sym same), ap (λ (l : Line). l.cursor) (sym same))
+line_ahead-marks (Begin ∷ es) line now none is =
+    let p = through (line_ahead es) (line_after Begin line) now is in
+    let mark = left_by_a_mark line line p.0 (refl, refl) p.1 in
+    let rest = line_ahead-marks es p.0 now none p.2 in (rest.0 ∙ mark.0, rest.1 ∙ mark.1)
+line_ahead-marks (End ∷ es) line now none is =
+    let p = through (line_ahead es) (line_after End line) now is in
+    let mark = left_by_a_mark line line p.0 (refl, refl) p.1 in
+    let rest = line_ahead-marks es p.0 now none p.2 in (rest.0 ∙ mark.0, rest.1 ∙ mark.1)
+line_ahead-marks (Inserted i s ∷ es) line now none is = cc
+line_ahead-marks (Deleted i s ∷ es) line now none is = cc
+line_ahead-marks (Replaced i s t ∷ es) line now none is = cc
+
 then-same : {A B : Type 0} (f g : A → Option B) → ((a : A) → f a ≡ g a) → (o : Option A) → option_and_then f o ≡ option_and_then g o
 then-same f g same None = refl
 then-same f g same (Some a) = same a
+
+pub line_ahead-append : (xs ys : List Entry) (line : Line) → line_ahead (xs ++ ys) line ≡ option_and_then (line_ahead ys) (line_ahead xs line)
+line_ahead-append [] ys line = refl
+line_ahead-append (x ∷ xs) ys line = joined (λ l. line_ahead-append xs ys l) (line_after x line)
+  where
+    joined : ((l : Line) → line_ahead (xs ++ ys) l ≡ option_and_then (line_ahead ys) (line_ahead xs l)) → (o : Option Line)
+        → option_and_then (line_ahead (xs ++ ys)) o ≡ option_and_then (line_ahead ys) (option_and_then (line_ahead xs) o)
+    joined one None = refl
+    joined one (Some l) = one l
 
 -- going ahead takes the inverses back, the first first
 pub line_ahead-back : (es : List Entry) (line : Line) → line_back (map inverse (reverse es)) line ≡ line_ahead es line
@@ -122,6 +219,11 @@ unwind-ahead (e ∷ es) text =
     ∙ unwind-append (map inverse (reverse es)) (inverse e ∷ []) text
     ∙ ap (λ f. option_and_then (unwind (map inverse (reverse es))) (apply (event_of f) text)) (inverse-inverse e)
     ∙ then-same (unwind (map inverse (reverse es))) (replay_entries es) (unwind-ahead es) (apply (event_of e) text)
+
+-- so where the entries are replayed on the text, such a line goes ahead
+pub line_ahead-IsSome : (es : List Entry) (line : Line) → IsUtf8 line.text → IsCharBoundary line.text line.cursor → IsSome (replay_entries es line.text) → IsSome (line_ahead es line)
+line_ahead-IsSome es line u at h =
+    subst IsSome (line_ahead-back es line) (line_back-IsSome (map inverse (reverse es)) line u at (subst IsSome (sym (unwind-ahead es line.text)) h))
 
 -- no length on the way is past the greatest
 pub length_back_over-within : (m : ℕ) (es : List Entry) (n : ℕ) → length_back_over (drop m es) n ≤ greatest_back_over es n

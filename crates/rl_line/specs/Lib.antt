@@ -2,6 +2,7 @@ pub mod Line
 pub mod Plan
 pub mod Motions
 pub mod LineMotions
+pub mod Lines
 pub mod Ranges
 pub mod Edits
 pub mod Kills
@@ -9,5 +10,7 @@ pub mod Transpositions
 pub mod LetterCase
 pub mod Indents
 pub mod Record
+pub mod Change
+pub mod Entries
 pub mod Units
 pub mod Undo

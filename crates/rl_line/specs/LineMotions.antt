@@ -23,10 +23,6 @@ abbrev pub line_below : List ℕ → ℕ → ℕ → Option ℕ
 line_below text pos n =
     if count_by is_newline (drop pos text) == 0 then None else Some (min (last_line text) (line_number text pos + max n 1))
 
--- from the start of line k to its end
-abbrev pub range_of_line : List ℕ → ℕ → Range ℕ
-range_of_line text k = between (start_of_line text k) (end_of_line text k)
-
 -- the columns from the start of the line to the place
 abbrev pub columns_before : Layout → List ℕ → ℕ → ℕ
 columns_before layout text pos = width layout.grapheme_cluster_mode (slice_range text (start_of_line text (line_number text pos)) pos)

@@ -1,9 +1,11 @@
 -- The record of the changes of a line.
-use Rattle.std.specs.Prelude.{◌≡◌, Bool, true, false, ℕ, ◌+◌, not, ◌==◌, ◌&&◌, List, [], ◌∷◌, ◌++◌, length, map, take, reverse, encode_utf8, Option, Some, None, option_and_then, if◌then◌else◌}
+use Rattle.std.specs.Prelude.{◌≡◌, Bool, true, false, ℕ, ◌+◌, not, ◌==◌, ◌&&◌, ◌<◌, List, [], ◌∷◌, ◌++◌, length, map, take, reverse, encode_utf8, Option, Some, None, option_and_then, if◌then◌else◌}
 use Rattle.std.specs.Option.{option_map_or}
 use Rattle.std.specs.Str.{bytes_eq}
 use Rattle.std.specs.String.{string_bytes}
 use Rattle.rl_base.specs.declared.listeners.Direction.TheVariants.{Forward}
+use Rattle.rl_base.specs.declared.listeners.Refusal.{Refusal}
+use Rattle.rl_base.specs.declared.listeners.Refusal.TheVariants.{NoMemory}
 use Rattle.rl_base.specs.Event.{Event, InsertChar, InsertStr, Delete, Replace, Start, Stop, apply, replay}
 use Rattle.rl_base.specs.Classes.{is_alphanumeric, is_word_cluster}
 use Rattle.rl_line.specs.declared.change.Change.{Change}
@@ -24,25 +26,6 @@ entry_of made.End = End
 entry_of (made.Insert i s) = Inserted i (string_bytes s)
 entry_of (made.Delete i s) = Deleted i (string_bytes s)
 entry_of (made.Replace i s t) = Replaced i (string_bytes s) (string_bytes t)
-
--- the byte place of a change; a mark has none
-abbrev pub place : Entry → Option ℕ
-place Begin = None
-place End = None
-place (Inserted i s) = Some i
-place (Deleted i s) = Some i
-place (Replaced i s t) = Some i
-
--- the text that stood at a change's place before it, and the one that stood there after it
-abbrev pub old_text : Entry → List ℕ
-old_text (Deleted i s) = s
-old_text (Replaced i s t) = s
-old_text _ = []
-
-abbrev pub new_text : Entry → List ℕ
-new_text (Inserted i s) = s
-new_text (Replaced i s t) = t
-new_text _ = []
 
 -- what was recorded, the oldest first, and what was undone and waits to be redone, in the order in which it was made
 pub record Record : Type 0 where
@@ -72,10 +55,6 @@ joined (Delete i s _) (Deleted j t) =
 joined (Replace i s t) (Replaced j o w) = if j + length w == i then Some (Replaced j (o ++ s) (w ++ t)) else None
 joined _ _ = None
 
--- what an entry makes of an event: it takes the event in, where they join, and else stays as it is
-abbrev pub TakesIn : Event → Entry → Entry → Bool → Type 0
-TakesIn event old new answer = joined event old ≡ (if answer then Some new else None) × (answer ≡ false → new ≡ old)
-
 -- an entry and an event that comes after it
 abbrev pub joined_or_added : Event → Entry → List Entry
 joined_or_added event e = option_map_or (λ joint. joint ∷ []) (joined event e) (e ∷ entries_of event)
@@ -96,10 +75,18 @@ pending_after _ pending = []
 unfoldable pub record_step : Record → Event → Record
 record_step r event = record { recorded = entries_after event r.recorded; pending = pending_after event r.pending }
 
--- what a try to join an event to the last of these entries does: it joins, or they stay and the event is to be added
-abbrev pub JoinsLast : Event → List Entry → List Entry → Bool → Type 0
-JoinsLast event old new true = new ≡ entries_after event old
-JoinsLast event old new false = (new ≡ old) × (entries_after event old ≡ old ++ entries_of event)
+-- an event that adds an entry or joins one: what is put in or taken out is no empty text
+abbrev pub IsRecorded : Event → Type 0
+IsRecorded (InsertChar i c) = Unit {0}
+IsRecorded (InsertStr i s) = 0 < length s
+IsRecorded (Delete i s _) = 0 < length s
+IsRecorded (Replace i s t) = Unit {0}
+IsRecorded Start = ⊥
+IsRecorded Stop = ⊥
+
+-- a record is refused an event that it would keep, for want of memory, and is as it was then
+abbrev pub record_refused : Record → Event → Refusal → Record → Type 0
+record_refused old event why now = (why ≡ NoMemory) × (now ≡ old) × IsRecorded event
 
 -- the event that makes an entry again; a mark changes nothing
 abbrev pub event_of : Entry → Event

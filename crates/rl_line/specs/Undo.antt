@@ -1,11 +1,9 @@
 -- How a line goes back over its record, and ahead again.
-use Rattle.std.specs.Prelude.{◌≡◌, ℕ, zero, suc, ◌+◌, ◌-◌, max, Bool, List, [], ◌∷◌, length, Option, Some, option_and_then}
-use Rattle.rl_line.specs.declared.change.Change.{Change}
-use Rattle.rl_line.specs.declared.change.Way.{Way}
-use Rattle.rl_line.specs.declared.change.Way.TheVariants.{Back, Ahead}
-use Rattle.rl_line.specs.Line.{Line}
-use Rattle.rl_line.specs.Plan.{after}
-use Rattle.rl_line.specs.Record.{Entry, Begin, End, Inserted, Deleted, Replaced, Record, entry_of, event_of, inverse, old_text, new_text}
+use Rattle.std.specs.Prelude.{◌≡◌, ℕ, zero, suc, ◌+◌, Bool, List, [], ◌∷◌, length, Option, Some, None, option_and_then, if◌then◌else◌}
+use Rattle.rl_base.specs.Event.{apply}
+use Rattle.rl_base.specs.Text.{is_boundary}
+use Rattle.rl_line.specs.Line.{Line, stepped}
+use Rattle.rl_line.specs.Record.{Entry, Begin, End, Inserted, Deleted, Replaced, Record, event_of, inverse}
 use Rattle.rl_line.specs.Units.{last_of, redo_of, has_change, undone, redone}
 
 -- the cursor after an entry was made: at its place, past what it put in; a mark leaves it
@@ -16,9 +14,13 @@ cursor_after cursor (Inserted i s) = i + length s
 cursor_after cursor (Deleted i s) = i
 cursor_after cursor (Replaced i s t) = i + length t
 
--- the line after an entry was made
+-- a line, where its cursor stands between two characters
+abbrev pub if_standing : Line → Option Line
+if_standing line = if is_boundary line.text line.cursor then Some line else None
+
+-- the line after an entry was made, where the entry fits the text and the cursor comes to stand between two characters
 abbrev pub line_after : Entry → Line → Option Line
-line_after e line = after ((event_of e, cursor_after line.cursor e) ∷ []) line
+line_after e line = option_and_then (λ text. if_standing (stepped line text (cursor_after line.cursor e))) (apply (event_of e) line.text)
 
 -- the line after the entries were made, the first first
 abbrev pub line_ahead : List Entry → Line → Option Line
@@ -46,22 +48,3 @@ pub record Redone (old new : Record) (line line' : Line) (answer : Bool) : Type 
 abbrev pub Redos : ℕ → Record → Record → Line → Line → Type 0
 Redos zero old new line line' = (new ≡ old) × (line' ≡ line)
 Redos (suc n) old new line line' = (mid : Record) × (between : Line) × (answer : Bool) × Redone old mid line between answer × Redos n mid new between line'
-
--- the entry that is taken back where a line goes over a change: going ahead, its inverse
-abbrev pub faced : Way → Change → Entry
-faced Back change = entry_of change
-faced Ahead change = inverse (entry_of change)
-
--- the length of a text of length n once an entry was taken back in it
-abbrev pub length_back : Entry → ℕ → ℕ
-length_back e n = (n - length (new_text e)) + length (old_text e)
-
--- the same of several entries, the last first
-abbrev pub length_back_over : List Entry → ℕ → ℕ
-length_back_over [] n = n
-length_back_over (e ∷ es) n = length_back e (length_back_over es n)
-
--- the greatest length on that way
-abbrev pub greatest_back_over : List Entry → ℕ → ℕ
-greatest_back_over [] n = n
-greatest_back_over (e ∷ es) n = max (greatest_back_over es n) (length_back_over (e ∷ es) n)

@@ -30,7 +30,8 @@ abbrev pub cut_more : List UndoUnit → List Entry → List UndoUnit
 cut_more us [] = us
 cut_more us (e ∷ es) = cut_more (add_entry e us) es
 
--- the units of entries, the latest first
+-- the units of entries, the latest first. Of an insertion of a, a Begin, and insertions of b and c they are the last of these,
+-- that of b, the Begin, and that of a; with an End behind them they are two, all from the Begin to the End, and that of a.
 abbrev pub units : List Entry → List UndoUnit
 units es = cut_more [] es
 
@@ -47,13 +48,6 @@ opens (Whole es ∷ us) = opens us
 
 abbrev pub level : List Entry → ℕ
 level es = opens (units es)
-
--- how many groups are open after the entries, where d are open before them
-abbrev pub deep : ℕ → List Entry → ℕ
-deep d [] = d
-deep d (Begin ∷ es) = deep (suc d) es
-deep d (End ∷ es) = deep (d - 1) es
-deep d (e ∷ es) = deep d es
 
 -- the units that an undo of n takes off: the last n, of which there is one at least, or all
 abbrev pub last_units : ℕ → List Entry → List UndoUnit
@@ -104,7 +98,7 @@ abbrev pub end_times : ℕ → List Entry → List Entry
 end_times zero es = es
 end_times (suc n) es = end_times n (end_one es)
 
--- an End is added for one of n groups
+-- whether the entries have an End more once n groups are closed: a group that is not empty gets one
 abbrev pub adds_end : ℕ → List Entry → Bool
 adds_end zero es = false
 adds_end (suc n) es = not (ends_in_begin es) || adds_end n (end_one es)
@@ -124,11 +118,6 @@ redone r = record { recorded = r.recorded ++ redo_of r.pending; pending = drop (
 
 abbrev pub truncated : ℕ → Record → Record
 truncated len r = record { recorded = take len r.recorded; pending = [] }
-
--- the record after so many redos
-abbrev pub redone_times : ℕ → Record → Record
-redone_times zero r = r
-redone_times (suc n) r = redone_times n (redone r)
 
 -- the open groups, the latest first, each with whether it holds a change; the latest comes to hold one
 abbrev pub touched : List Bool → List Bool

@@ -1,5 +1,5 @@
 //! An entry of a record, and how a text goes over it.
-ghost use Rattle.std.specs.Prelude.{◌≡◌, IfOk, IfErr, ◌+◌, ◌-◌, ◌≤◌, IsSome, IfSome, is_some, length, map};
+ghost use Rattle.std.specs.Prelude.{◌≡◌, IfOk, IfErr, IfNone, ◌+◌, ◌-◌, ◌<◌, ◌≤◌, IsSome, IfSome, is_some, length, map};
 ghost use Rattle.std.specs.Option.{option_map};
 ghost use Rattle.std.specs.String.{string_bytes, string_len, string_capacity};
 ghost use Rattle.std.specs.List.{replace_range};
@@ -8,9 +8,10 @@ ghost use Rattle.rl_base.specs.Event.{InsertChar, Delete, Replace, apply};
 ghost use Rattle.rl_base.specs.Text.{stands_at};
 ghost use Rattle.rl_base.specs.declared.listeners.Direction.TheVariants.{Forward};
 ghost use Rattle.rl_base.specs.declared.listeners.Refusal.TheVariants.{NoMemory};
-ghost use Rattle.rl_line.specs.Record.{TakesIn, entry_of, event_of, inverse, new_text, old_text, place, unwind};
-ghost use Rattle.rl_line.specs.Undo.{cursor_after, faced, greatest_back_over, length_back};
+ghost use Rattle.rl_line.specs.Record.{entry_of, event_of, inverse, unwind};
+ghost use Rattle.rl_line.specs.Undo.{cursor_after};
 ghost use Rattle.rl_line.specs.Units.{is_begin, is_change};
+ghost use Rattle.rl_line.specs.Change.{TakesIn, new_text, old_text, place, faced, greatest_back_over, length_back};
 
 use rl_base::Refusal;
 use rl_base::places::{is_alphanumeric, is_word_cluster};
@@ -182,7 +183,8 @@ pub(crate) fn swap_in(text: &mut String, from: usize, to: usize, part: &str) -> 
 
 /// The greatest length that a text of length `len` has on the way over the changes, the last first.
 pub(crate) fn greatest_len_over(changes: &[Change], way: Way, len: usize) -> Option<usize>
-    ensures { IfSome result (λ n. n ≡ greatest_back_over (map (faced way) changes.now) len) }
+    ensures some { IfSome result (λ n. n ≡ greatest_back_over (map (faced way) changes.now) len) }
+    ensures none { IfNone result (0 < length changes.now) }
 {
     let mut now = len;
     let mut greatest = len;

@@ -6,9 +6,11 @@ ghost use Rattle.std.specs.Vec.{vec_len, vec_capacity};
 ghost use Rattle.rl_base.specs.Event.{InsertChar, InsertStr, Delete, Replace};
 ghost use Rattle.rl_base.specs.declared.listeners.Direction.TheVariants.{Forward};
 ghost use Rattle.rl_base.specs.declared.listeners.Refusal.TheVariants.{NoMemory};
-ghost use Rattle.rl_line.specs.Record.{JoinsLast, entries_after, entry_of, last_insert};
-ghost use Rattle.rl_line.specs.Undo.{faced, line_back};
-ghost use Rattle.rl_line.specs.Units.{IsMatched, adds_end, end_one, end_times, deep, ends_in_begin, has_change, last_of, level, redo_of};
+ghost use Rattle.rl_line.specs.Record.{entries_after, entry_of, last_insert};
+ghost use Rattle.rl_line.specs.Undo.{line_back};
+ghost use Rattle.rl_line.specs.Units.{IsMatched, adds_end, end_one, end_times, ends_in_begin, has_change, last_of, level, redo_of};
+ghost use Rattle.rl_line.specs.Change.{faced};
+ghost use Rattle.rl_line.specs.Entries.{JoinsLast, deep};
 
 use crate::change::{Change, Way, copied};
 use crate::line_buffer::LineBuffer;
@@ -24,8 +26,10 @@ pub(crate) fn insert_char(entries: &mut Vec<Change>, idx: usize, c: char) -> Res
     if join_char(entries, idx, c)? {
         return Ok(());
     }
-    let mut bytes = [0; 4];
-    let text = copied(*entries.allocator(), c.encode_utf8(&mut bytes))?;
+    let mut text = String::new(*entries.allocator());
+    if text.push(c).is_err() {
+        return Err(Refusal::NoMemory);
+    }
     add(entries, Change::Insert(idx, text))
 }
 
@@ -33,7 +37,7 @@ pub(crate) fn insert_char(entries: &mut Vec<Change>, idx: usize, c: char) -> Res
 #[tactic(auto, using(crate::proofs::JoinLemmas::alone_in_list), unfolding(crate::specs::Record::entries_of))]
 pub(crate) fn insert_str(entries: &mut Vec<Change>, idx: usize, string: &str) -> Result<(), Refusal>
     ensures ok { OnOk result (map entry_of entries.new.items ≡ entries_after (InsertStr idx string.now) (map entry_of entries.old.items)) }
-    ensures err { IfErr result (λ r. (r ≡ NoMemory) × (map entry_of entries.new.items ≡ map entry_of entries.old.items)) }
+    ensures err { IfErr result (λ r. (r ≡ NoMemory) × (map entry_of entries.new.items ≡ map entry_of entries.old.items) × (0 < length string.now)) }
 {
     if string.is_empty() {
         return Ok(());
@@ -46,7 +50,7 @@ pub(crate) fn insert_str(entries: &mut Vec<Change>, idx: usize, string: &str) ->
 #[tactic(auto, using(crate::proofs::JoinLemmas::alone_in_list), unfolding(crate::specs::Record::entries_of))]
 pub(crate) fn delete(entries: &mut Vec<Change>, idx: usize, string: &str) -> Result<(), Refusal>
     ensures ok { OnOk result (map entry_of entries.new.items ≡ entries_after (Delete idx string.now Forward) (map entry_of entries.old.items)) }
-    ensures err { IfErr result (λ r. (r ≡ NoMemory) × (map entry_of entries.new.items ≡ map entry_of entries.old.items)) }
+    ensures err { IfErr result (λ r. (r ≡ NoMemory) × (map entry_of entries.new.items ≡ map entry_of entries.old.items) × (0 < length string.now)) }
 {
     if string.is_empty() || join_deletion(entries, idx, string)? {
         return Ok(());
@@ -270,7 +274,7 @@ pub(crate) fn next_len(entries: &[Change]) -> usize
 /// A copy of what the last entry put in, Ends passed over.
 pub(crate) fn last_insert(entries: &[Change], alloc: Global) -> Result<Option<String>, Refusal>
     ensures ok { IfOk result (λ text. option_map string_bytes text ≡ last_insert (map entry_of entries.now)) }
-    ensures err { IfErr result (λ r. r ≡ NoMemory) }
+    ensures err { IfErr result (λ r. (r ≡ NoMemory) × IsSome (last_insert (map entry_of entries.now))) }
 {
     let mut left = entries.len();
     while left > 0 {
@@ -301,7 +305,7 @@ pub(crate) fn carry_over(
     ensures from { OnOk result (from.new.items ≡ take (length from.old.items - count) from.old.items) }
     ensures to { OnOk result (to.new.items ≡ to.old.items ++ reverse (drop (length from.old.items - count) from.old.items)) }
     ensures answer { IfOk result (λ answer. answer ≡ has_change (map entry_of (drop (length from.old.items - count) from.old.items))) }
-    ensures err { IfErr result (λ r. (r ≡ NoMemory) × (from.new.items ≡ from.old.items) × (to.new.items ≡ to.old.items) × (line.new ≡ line.old)) }
+    ensures err { IfErr result (λ r. (r ≡ NoMemory) × (from.new.items ≡ from.old.items) × (to.new.items ≡ to.old.items) × (line.new ≡ line.old) × (0 < count)) }
 {
     if to.reserve(count).is_err() {
         return Err(Refusal::NoMemory);

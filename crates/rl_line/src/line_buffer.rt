@@ -7,7 +7,8 @@ ghost use Rattle.rl_base.specs.Event.{InsertChar, InsertStr, Delete, Replace};
 ghost use Rattle.rl_base.specs.declared.listeners.Refusal.TheVariants.{NoMemory};
 ghost use Rattle.rl_line.specs.Line.{stepped};
 ghost use Rattle.rl_line.specs.Plan.{Taken, or_no_memory};
-ghost use Rattle.rl_line.specs.Undo.{faced, line_back};
+ghost use Rattle.rl_line.specs.Undo.{line_back};
+ghost use Rattle.rl_line.specs.Change.{faced};
 
 mod edits;
 mod indents;
@@ -291,7 +292,7 @@ impl LineBuffer {
     pub(crate) fn go_over_all(&mut self, changes: &[Change], way: Way) -> Result<(), Refusal>
         requires { IsSome (line_back (map (faced way) changes.now) self.old) }
         ensures ok { OnOk result (line_back (map (faced way) changes.now) self.old ≡ Some self.new) }
-        ensures err { IfErr result (λ r. (r ≡ NoMemory) × (self.new ≡ self.old)) }
+        ensures err { IfErr result (λ r. (r ≡ NoMemory) × (self.new ≡ self.old) × (0 < length changes.now)) }
     {
         let len = self.buf.len();
         let greatest = match greatest_len_over(changes, way, len) {

@@ -3,7 +3,8 @@ ghost use Rattle.std.specs.Prelude.{◌≡◌, ◌≢◌, ◌-◌, ◌+◌, ◌�
 ghost use Rattle.std.specs.Option.{option_map};
 ghost use Rattle.std.specs.Str.{IsCharBoundary};
 ghost use Rattle.rl_base.specs.Lines.{last_line, line_number, start_of_line, end_of_line, place_of_column};
-ghost use Rattle.rl_line.specs.LineMotions.{line_above, line_below, range_of_line};
+ghost use Rattle.rl_line.specs.LineMotions.{line_above, line_below};
+ghost use Rattle.rl_line.specs.Lines.{range_of_line};
 
 use rl_base::RepeatCount;
 use std::ops::Range;

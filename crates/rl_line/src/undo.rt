@@ -1,5 +1,5 @@
 //! The record of the changes of a line, which undoes them, in groups where they were made in groups, and redoes them.
-ghost use Rattle.std.specs.Prelude.{◌≡◌, ℕ, List, Bool, [], ◌∷◌, ◌++◌, suc, false, drop, is_some, length, IsSome, IfOk, IfErr, OnOk};
+ghost use Rattle.std.specs.Prelude.{◌≡◌, ◌<◌, ℕ, List, Bool, [], ◌∷◌, ◌++◌, suc, false, drop, is_some, length, IsSome, Some, IfOk, IfErr, OnOk};
 ghost use Rattle.std.specs.Option.{option_map};
 ghost use Rattle.std.specs.String.{string_bytes};
 ghost use Rattle.std.specs.Str.{IsUtf8};
@@ -8,8 +8,8 @@ ghost use Rattle.rl_base.specs.declared.listeners.Direction.TheVariants.{Forward
 ghost use Rattle.rl_base.specs.declared.listeners.Refusal.TheVariants.{NoMemory};
 ghost use Rattle.rl_line.specs.Line.{Line};
 ghost use Rattle.rl_line.specs.Record.{Entry, End, Record, last_insert, record_step, replay_entries, replays_to, unwind};
-ghost use Rattle.rl_line.specs.Undo.{Redone, Redos, Undone};
-ghost use Rattle.rl_line.specs.Units.{BothMatched, GroupAt, InGroup, IsMatched, adds_end, after_in_group, begun, ended, has_change, last_units, level, opens, truncated};
+ghost use Rattle.rl_line.specs.Undo.{Redone, Redos, Undone, line_ahead, line_back};
+ghost use Rattle.rl_line.specs.Units.{BothMatched, GroupAt, InGroup, IsMatched, adds_end, after_in_group, begun, ended, has_change, last_of, last_units, level, opens, redo_of, truncated};
 
 use crate::change::{Change, Way, text_over};
 use crate::entries;
@@ -89,7 +89,7 @@ impl Changeset {
     /// was one that holds something.
     pub fn end(&mut self) -> Result<bool, Refusal>
         ensures done { IfOk result (λ answer. (answer ≡ adds_end (level self.old.recorded) self.old.recorded) × (self.new ≡ ended self.old)) }
-        ensures err { IfErr result (λ r. (r ≡ NoMemory) × (self.new ≡ self.old)) }
+        ensures err { IfErr result (λ r. (r ≡ NoMemory) × (self.new ≡ self.old) × (0 < level self.old.recorded)) }
     {
         if self.recorded.reserve(self.level).is_err() {
             return Err(Refusal::NoMemory);
@@ -114,7 +114,7 @@ impl Changeset {
     /// Records that `string` was inserted at the byte place `idx`. An empty one is no entry.
     pub fn insert_str(&mut self, idx: usize, string: &str) -> Result<(), Refusal>
         ensures done { OnOk result (self.new ≡ record_step self.old (InsertStr idx string.now)) }
-        ensures err { IfErr result (λ r. (r ≡ NoMemory) × (self.new ≡ self.old)) }
+        ensures err { IfErr result (λ r. (r ≡ NoMemory) × (self.new ≡ self.old) × (0 < length string.now)) }
     {
         entries::insert_str(&mut self.recorded, idx, string)?;
         self.pending.clear();
@@ -126,7 +126,7 @@ impl Changeset {
     /// right before. An empty one is no entry.
     pub fn delete(&mut self, idx: usize, string: &str) -> Result<(), Refusal>
         ensures done { OnOk result (self.new ≡ record_step self.old (Delete idx string.now Forward)) }
-        ensures err { IfErr result (λ r. (r ≡ NoMemory) × (self.new ≡ self.old)) }
+        ensures err { IfErr result (λ r. (r ≡ NoMemory) × (self.new ≡ self.old) × (0 < length string.now)) }
     {
         entries::delete(&mut self.recorded, idx, string)?;
         self.pending.clear();
@@ -150,10 +150,10 @@ impl Changeset {
     /// `can_undo` tells whether the recorded changes can be taken back from the line's text. It finds all room
     /// first, so refused it changes nothing.
     pub fn undo(&mut self, line: &mut LineBuffer, n: RepeatCount) -> Result<bool, Refusal>
-        requires { IsSome (unwind self.old.recorded line.old.text) }
+        requires { IsSome (line_back self.old.recorded line.old) }
         ensures done { IfOk result (λ answer. Undone n self.old self.new line.old line.new answer) }
         ensures unmoved { IfOk result (λ answer. answer ≡ false → (line.new.text ≡ line.old.text) × (line.new.cursor ≡ line.old.cursor)) }
-        ensures err { IfErr result (λ r. (r ≡ NoMemory) × (self.new ≡ self.old) × (line.new ≡ line.old)) }
+        ensures err { IfErr result (λ r. (r ≡ NoMemory) × (self.new ≡ self.old) × (line.new ≡ line.old) × (0 < length self.old.recorded)) }
     {
         let count = entries::last_len(&self.recorded, n);
         let opened = entries::level(&self.recorded[self.recorded.len() - count..]);
@@ -173,9 +173,10 @@ impl Changeset {
     /// is redone, past what that puts in. `can_redo` tells whether the undone changes fit the line. It
     /// finds all room first, so refused it changes nothing.
     pub fn redo(&mut self, line: &mut LineBuffer) -> Result<bool, Refusal>
-        requires { IsSome (replay_entries self.old.pending line.old.text) }
+        requires { IsSome (line_ahead self.old.pending line.old) }
         ensures done { IfOk result (λ answer. Redone self.old self.new line.old line.new answer) }
-        ensures err { IfErr result (λ r. (r ≡ NoMemory) × (self.new ≡ self.old) × (line.new ≡ line.old)) }
+        ensures unmoved { IfOk result (λ answer. answer ≡ false → (line.new.text ≡ line.old.text) × (line.new.cursor ≡ line.old.cursor)) }
+        ensures err { IfErr result (λ r. (r ≡ NoMemory) × (self.new ≡ self.old) × (line.new ≡ line.old) × (0 < length self.old.pending)) }
     {
         let len = self.recorded.len();
         let count = entries::next_len(&self.pending);
@@ -204,16 +205,18 @@ impl Changeset {
     /// it are passed over.
     pub fn last_insert(&self) -> Result<Option<String>, Refusal>
         ensures ok { IfOk result (λ text. option_map string_bytes text ≡ last_insert self.now.recorded) }
-        ensures err { IfErr result (λ r. r ≡ NoMemory) }
+        ensures err { IfErr result (λ r. (r ≡ NoMemory) × IsSome (last_insert self.now.recorded)) }
     {
         entries::last_insert(&self.recorded, *self.recorded.allocator())
     }
 
     /// Whether all recorded changes can be taken back from the line's text, the last first.
     pub fn can_undo(&self, line: &LineBuffer) -> Result<bool, Refusal>
-        ensures ok { IfOk result (λ answer. answer ≡ is_some (unwind self.now.recorded line.now.text)) }
+        ensures ok { IfOk result (λ answer. answer ≡ is_some (line_back self.now.recorded line.now)) }
         ensures err { IfErr result (λ r. r ≡ NoMemory) }
     {
+        // So the proof knows that the cursor stands between two characters.
+        let _cursor = line.pos();
         let alloc = *self.recorded.allocator();
         let text = text_over(alloc, line.as_str(), &self.recorded, Way::Back)?;
         Ok(text.is_some())
@@ -221,9 +224,11 @@ impl Changeset {
 
     /// Whether all undone changes can be made again on the line's text, the last undone first.
     pub fn can_redo(&self, line: &LineBuffer) -> Result<bool, Refusal>
-        ensures ok { IfOk result (λ answer. answer ≡ is_some (replay_entries self.now.pending line.now.text)) }
+        ensures ok { IfOk result (λ answer. answer ≡ is_some (line_ahead self.now.pending line.now)) }
         ensures err { IfErr result (λ r. r ≡ NoMemory) }
     {
+        // So the proof knows that the cursor stands between two characters.
+        let _cursor = line.pos();
         let alloc = *self.recorded.allocator();
         let text = text_over(alloc, line.as_str(), &self.pending, Way::Ahead)?;
         Ok(text.is_some())
@@ -250,13 +255,11 @@ impl Changeset {
 
 #[tactic(auto, using(crate::proofs::JoinLemmas::alone))]
 impl DeleteListener for Changeset {
-    ghost use Rattle.std.specs.Prelude.{◌≡◌};
-    ghost use Rattle.rl_base.specs.declared.listeners.Refusal.TheVariants.{NoMemory};
-    ghost use Rattle.rl_line.specs.Record.{record_step};
+    ghost use Rattle.rl_line.specs.Record.{record_refused, record_step};
 
     ghost step = { record_step };
 
-    ghost refused = { λ old _ why now. (why ≡ NoMemory) × (now ≡ old) };
+    ghost refused = { record_refused };
 
     fn start_killing(&mut self) {}
 
@@ -287,6 +290,15 @@ pub fn unwinding_is_replaying()
     ensures replayed { (es : List Entry) (before after : List ℕ) → IsUtf8 after → unwind es after ≡ Some before → replay_entries es before ≡ Some after }
 {}
 
+/// What an undo leaves is the text unwound over the units that it took off the record, and what a redo leaves is the replay of
+/// the unit that it recorded again.
+pub fn undo_unwinds_and_redo_replays()
+    ensures undone { (n : ℕ) (old new : Record) (line line' : Line) (answer : Bool) → Undone n old new line line' answer
+        → unwind (last_of n old.recorded) line.text ≡ Some line'.text }
+    ensures redone { (old new : Record) (line line' : Line) (answer : Bool) → Redone old new line line' answer
+        → replay_entries (redo_of old.pending) line.text ≡ Some line'.text }
+{}
+
 /// Where an End stands in matched entries, its group stands before it, and holds a change.
 pub fn ends_close_groups()
     ensures { (xs ys : List Entry) → IsMatched (xs ++ End ∷ ys) → GroupAt xs }
@@ -309,5 +321,5 @@ pub fn redo_gives_back()
     ensures { (n : ℕ) (r mid now : Record) (line back ahead : Line) (answer : Bool) → IsUtf8 line.text → BothMatched r
         → opens (last_units n r.recorded) ≡ 0 → Undone n r mid line back answer
         → Redos (length (last_units n r.recorded)) mid now back ahead
-        → (now ≡ r) × (ahead.text ≡ line.text) }
+        → (now.recorded ≡ r.recorded) × (now.pending ≡ r.pending) × (ahead.text ≡ line.text) }
 {}

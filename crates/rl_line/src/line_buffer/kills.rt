@@ -21,7 +21,7 @@ impl LineBuffer {
     /// Copies what a movement covers, or answers None where that is nothing. The line stays as it is.
     pub fn copy(&self, mvt: &Movement) -> Result<Option<String>, Refusal>
         ensures ok { IfOk result (λ answer. option_map string_bytes answer ≡ copied self.now mvt.now) }
-        ensures err { IfErr result (λ r. r ≡ NoMemory) }
+        ensures err { IfErr result (λ r. (r ≡ NoMemory) × IsSome (copied self.now mvt.now)) }
     {
         match self.covered(mvt) {
             Some(range) => Ok(Some(self.text_of(&range)?)),

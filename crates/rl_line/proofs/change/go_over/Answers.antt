@@ -1,6 +1,6 @@
 use Rattle.std.proofs.Common.{rules, arith, ◌∙◌, length, refl, sym, ap}
 use Rattle.std.specs.String.{string_bytes}
-use Rattle.rl_line.specs.Undo.{faced}
+use Rattle.rl_line.specs.Change.{faced}
 use Rattle.rl_line.proofs.ChangeLemmas.{StandsNew, StandsNew-from_IsSome, mark-leaves, place-faced}
 use Rattle.rl_line.proofs.change.go_over.Goals as goal
 use Rattle.rl_line.proofs.change.go_over.Goals.{In-Some}

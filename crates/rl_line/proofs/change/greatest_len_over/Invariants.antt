@@ -1,5 +1,5 @@
 use Rattle.std.proofs.Common.{◌≡◌, ◌≤◌, length, map, drop}
-use Rattle.rl_line.specs.Undo.{faced, length_back_over, greatest_back_over}
+use Rattle.rl_line.specs.Change.{faced, length_back_over, greatest_back_over}
 use Rattle.rl_line.proofs.change.greatest_len_over.Given as goal
 
 abbrev pub invariant-loop-left : goal.invariant-loop-left

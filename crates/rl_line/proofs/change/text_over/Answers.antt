@@ -4,7 +4,7 @@ use Rattle.std.specs.String.{string_bytes}
 use Rattle.std.specs.Prelude.{is_some}
 use Rattle.rl_base.specs.Event.{apply}
 use Rattle.rl_line.specs.Record.{event_of, inverse}
-use Rattle.rl_line.specs.Undo.{faced}
+use Rattle.rl_line.specs.Change.{faced}
 use Rattle.rl_line.proofs.ChangeLemmas.{GoesOver, GoesOver-next, GoesOver-not}
 use Rattle.rl_line.proofs.change.text_over.Goals as goal
 use Rattle.rl_line.proofs.change.text_over.Goals.{After-fits}

@@ -1,6 +1,6 @@
 use Rattle.std.proofs.Common.{◌≡◌, ◌≤◌, map, take}
 use Rattle.rl_line.specs.Record.{entry_of}
-use Rattle.rl_line.specs.Units.{deep}
+use Rattle.rl_line.specs.Entries.{deep}
 use Rattle.rl_line.proofs.entries.level.Given as goal
 
 abbrev pub invariant-loop-entry : goal.invariant-loop-entry

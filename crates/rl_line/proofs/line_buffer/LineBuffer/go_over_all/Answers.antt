@@ -1,7 +1,8 @@
 use Rattle.std.proofs.Common.{arith, ◌≡◌, ◌+◌, ◌-◌, ◌<◌, length, map, drop, refl, sym, ap, subst, ◌∙◌}
+use Rattle.std.specs.Str.{IsCharBoundary}
 use Rattle.std.specs.String.{string_bytes, string_len}
 use Rattle.rl_line.specs.Line.{Line}
-use Rattle.rl_line.specs.Undo.{faced, length_back, length_back_over}
+use Rattle.rl_line.specs.Change.{faced, length_back, length_back_over}
 use Rattle.std.proofs.lemmas.List.{drop-map}
 use Rattle.rl_line.proofs.UndoLemmas.{IsBack, IsBack-fits, IsBack-next, entries_from, length_back_over-within}
 use Rattle.rl_line.proofs.line_buffer.LineBuffer.go_over_all.Goals as goal
@@ -53,7 +54,7 @@ loop-left-preserved c =
     let width : c.len.result ≡ length (string_bytes text) = c.len.ensures ∙ text.bytes.ok.0 in
     record {
       back = IsBack-next c.args.way c.args.changes.now (c.loop-left.left - 1) x c.args.self.now (now d) _ (string_bytes text) (inside d) c.index-changes-left.is (back d) taken.text
-          (rw (taken.cursor, c.max-self-inside.ensures, width) refl);
+          (rw (taken.cursor, c.max-self-inside.ensures, width) refl) (subst (IsCharBoundary (string_bytes text)) taken.cursor taken.boundary);
       len = taken.len ∙ len d;
       room = omega (arith, c.loop-left.invariant.room, taken.capacity);
       is_line = record { at_boundary = taken.boundary; within = omega (arith, c.max-self-inside.ensures, width) };

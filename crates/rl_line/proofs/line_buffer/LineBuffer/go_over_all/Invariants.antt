@@ -1,7 +1,7 @@
 use Rattle.std.proofs.Common.{◌≡◌, ◌≤◌, length, map, drop}
 use Rattle.std.specs.String.{string_bytes, string_len, string_capacity}
 use Rattle.rl_line.specs.Line.{IsLine}
-use Rattle.rl_line.specs.Undo.{faced, length_back_over, greatest_back_over}
+use Rattle.rl_line.specs.Change.{faced, length_back_over, greatest_back_over}
 use Rattle.rl_line.proofs.UndoLemmas.{IsBack}
 use Rattle.rl_line.proofs.line_buffer.LineBuffer.go_over_all.Given as goal
 

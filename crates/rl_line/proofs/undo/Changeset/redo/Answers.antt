@@ -1,12 +1,13 @@
 use Rattle.std.proofs.Common.{◌≡◌, ◌+◌, ◌-◌, [], ap, arith, drop, length, map, refl, reverse, subst, sym, take, ◌∙◌}
 use Rattle.std.proofs.lemmas.List.{length-map}
 use Rattle.std.specs.Prelude.{IsSome}
-use Rattle.rl_line.specs.Record.{Record, entry_of, replay_entries}
-use Rattle.rl_line.specs.Undo.{line_ahead}
+use Rattle.rl_line.specs.Record.{Record, entry_of}
+use Rattle.rl_line.specs.Undo.{Redone, line_ahead}
 use Rattle.rl_line.specs.Units.{AtLevel, BothMatched, IsMatched, has_change, level, redo_of, redone}
 use Rattle.rl_line.proofs.LevelLemmas.{AtLevel-redone, level-within}
 use Rattle.rl_line.proofs.MatchLemmas.{Redoes-of}
 use Rattle.rl_line.proofs.MoveLemmas.{redo-change, redo-count, redo-fits, redo-line, redo-slice, redone-view, view}
+use Rattle.rl_line.proofs.UndoLemmas.{line_ahead-marks}
 use Rattle.rl_line.proofs.undo.Changeset.redo.Goals as goal
 use Rattle.rl_line.proofs.undo.Changeset.redo.Goals.{After-level, After-deref-2, After-next_len-count, In_ok-changed}
 
@@ -25,7 +26,7 @@ pub carry_over-requires-clause-fits : goal.carry_over-requires-clause-fits
 carry_over-requires-clause-fits c =
     let d = (goal.at.carry_over-requires-clause-fits c).After-next_len-count in
     redo-fits _ c.self.inside.pending.items c.args.line.now (waiting d) (count d)
-    (subst (λ (r : Record). IsSome (replay_entries r.pending c.args.line.now.text)) (sym c.self.view_is) c.requires)
+    (subst (λ (r : Record). IsSome (line_ahead r.pending c.args.line.now)) (sym c.self.view_is) c.requires)
 
 moved : (c : In_ok-changed) → record { recorded = map entry_of c.carry_over.new.to.items; pending = reverse (map entry_of c.carry_over.new.from.items) } ≡ redone c.args.self.now
 moved c =
@@ -58,12 +59,23 @@ overflow_add-self c =
 pub invariant_of-self-2 : goal.invariant_of-self-2
 invariant_of-self-2 c = stands (goal.at.invariant_of-self-2 c).After-level
 
-pub returns-clause-done : goal.returns-clause-done
-returns-clause-done c =
-    let d = (goal.at.returns-clause-done c).After-next_len-count in
+redone_is : (c : In_ok-changed) → Redone c.args.self.now (redone c.args.self.now) c.args.line.now c.carry_over.new.line c.in_ok-changed.changed
+redone_is c =
+    let d = (goal.at.In_ok-changed c).After-next_len-count in
     let ys = c.self.inside.pending.items in
     record {
       line_is = ap (λ (r : Record). line_ahead (redo_of r.pending) c.args.line.now) (sym c.self.view_is) ∙ sym (redo-line _ ys c.args.line.now (waiting d) (count d)) ∙ c.in_ok-changed.ensures.line;
-      record_is = moved (goal.at.returns-clause-done c).In_ok-changed;
+      record_is = refl;
       answer_is = c.in_ok-changed.ensures.answer ∙ redo-change _ ys (waiting d) (count d) ∙ ap (λ (r : Record). has_change (redo_of r.pending)) c.self.view_is;
     }
+
+pub returns-clause-done : goal.returns-clause-done
+returns-clause-done c =
+    let d = (goal.at.returns-clause-done c).In_ok-changed in
+    let u = redone_is d in
+    record { line_is = u.line_is; record_is = moved d; answer_is = u.answer_is }
+
+pub returns-clause-unmoved : goal.returns-clause-unmoved
+returns-clause-unmoved c =
+    let u = redone_is (goal.at.returns-clause-unmoved c).In_ok-changed in
+    λ none. line_ahead-marks (redo_of c.args.self.now.pending) c.args.line.now c.carry_over.new.line (sym u.answer_is ∙ none) u.line_is

@@ -1,6 +1,6 @@
 use Rattle.std.proofs.Common.{◌≡◌, ◌-◌, ap, arith, drop, length, map, refl, reverse, subst, sym, take, ◌∙◌}
 use Rattle.std.specs.Prelude.{IsSome}
-use Rattle.rl_line.specs.Record.{Record, entry_of, unwind}
+use Rattle.rl_line.specs.Record.{Record, entry_of}
 use Rattle.rl_line.specs.Undo.{Undone, line_back}
 use Rattle.rl_line.specs.Units.{AtLevel, IsMatched, has_change, last_of, level, undone}
 use Rattle.rl_line.proofs.LevelLemmas.{AtLevel-undone, IsMatched-last, undone-within}
@@ -40,7 +40,7 @@ carry_over-requires-clause-count c = undo-count c.args.n _ c.self.inside.recorde
 pub carry_over-requires-clause-fits : goal.carry_over-requires-clause-fits
 carry_over-requires-clause-fits c =
     undo-fits c.args.n _ c.self.inside.recorded.items c.args.line.now (count (goal.at.carry_over-requires-clause-fits c).After-last_len-count)
-    (subst (λ (r : Record). IsSome (unwind r.recorded c.args.line.now.text)) (sym c.self.view_is) c.requires)
+    (subst (λ (r : Record). IsSome (line_back r.recorded c.args.line.now)) (sym c.self.view_is) c.requires)
 
 moved : (c : In_ok-changed) → record { recorded = map entry_of c.carry_over.new.from.items; pending = reverse (map entry_of c.carry_over.new.to.items) } ≡ undone c.args.n c.args.self.now
 moved c =
@@ -71,11 +71,7 @@ pub returns-clause-done : goal.returns-clause-done
 returns-clause-done c =
     let d = (goal.at.returns-clause-done c).In_ok-changed in
     let u = undone_is d in
-    record {
-      line_is = u.line_is;
-      record_is = moved d;
-      answer_is = u.answer_is;
-    }
+    record { line_is = u.line_is; record_is = moved d; answer_is = u.answer_is }
 
 pub returns-clause-unmoved : goal.returns-clause-unmoved
 returns-clause-unmoved c =

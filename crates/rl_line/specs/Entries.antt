@@ -1,0 +1,16 @@
+-- What the private functions of a list of entries say of it.
+use Rattle.std.specs.Prelude.{◌≡◌, ℕ, suc, ◌-◌, Bool, true, false, List, [], ◌∷◌, ◌++◌}
+use Rattle.rl_base.specs.Event.{Event}
+use Rattle.rl_line.specs.Record.{Entry, Begin, End, entries_after, entries_of}
+
+-- what a try to join an event to the last of these entries does: it joins, or they stay and the event is to be added
+abbrev pub JoinsLast : Event → List Entry → List Entry → Bool → Type 0
+JoinsLast event old new true = new ≡ entries_after event old
+JoinsLast event old new false = (new ≡ old) × (entries_after event old ≡ old ++ entries_of event)
+
+-- how many groups are open after the entries, where d are open before them
+abbrev pub deep : ℕ → List Entry → ℕ
+deep d [] = d
+deep d (Begin ∷ es) = deep (suc d) es
+deep d (End ∷ es) = deep (d - 1) es
+deep d (e ∷ es) = deep d es
