@@ -2,7 +2,6 @@
 ghost use Rattle.std.specs.Prelude.{◌≡◌, IfOk, IfErr, IfNone, ◌+◌, ◌-◌, ◌<◌, ◌≤◌, IsSome, IfSome, is_some, length, map};
 ghost use Rattle.std.specs.Option.{option_map};
 ghost use Rattle.std.specs.String.{string_bytes, string_len, string_capacity};
-ghost use Rattle.std.specs.List.{replace_range};
 ghost use Rattle.std.specs.Str.{IsCharBoundary};
 ghost use Rattle.rl_base.specs.Event.{InsertChar, Delete, Replace, apply};
 ghost use Rattle.rl_base.specs.Text.{stands_at};
@@ -13,6 +12,7 @@ ghost use Rattle.rl_line.specs.Undo.{cursor_after};
 ghost use Rattle.rl_line.specs.Units.{is_begin, is_change};
 ghost use Rattle.rl_line.specs.Change.{TakesIn, new_text, old_text, place, faced, greatest_back_over, length_back};
 
+use crate::swap::swap_in;
 use rl_base::Refusal;
 use rl_base::places::{is_alphanumeric, is_word_cluster};
 use std::alloc::Global;
@@ -157,28 +157,6 @@ fn stands_at(text: &str, at: usize, part: &str) -> bool
         return false;
     }
     &text[at..end] == part
-}
-
-/// Puts a part in the place of another, where there is room for the text that this makes. Answers the part's end.
-pub(crate) fn swap_in(text: &mut String, from: usize, to: usize, part: &str) -> usize
-    requires order { from ≤ to }
-    requires start { IsCharBoundary (string_bytes text.old) from }
-    requires end { IsCharBoundary (string_bytes text.old) to }
-    requires room { (string_len text.old - (to - from)) + length part.now ≤ string_capacity text.old }
-    ensures text { string_bytes text.new ≡ replace_range (string_bytes text.old) from to part.now }
-    ensures end { result ≡ from + length part.now }
-    ensures boundary { IsCharBoundary (string_bytes text.new) result }
-    ensures capacity { string_capacity text.old ≤ string_capacity text.new }
-    ensures len { string_len text.new ≡ (string_len text.old - (to - from)) + length part.now }
-{
-    match text.replace_range(from..to, "") {
-        Ok(()) => {}
-        Err(_) => unreachable!(),
-    }
-    match text.insert_str(from, part) {
-        Ok(()) => from + part.len(),
-        Err(_) => unreachable!(),
-    }
 }
 
 /// The greatest length that a text of length `len` has on the way over the changes, the last first.

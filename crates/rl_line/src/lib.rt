@@ -5,6 +5,7 @@ mod change;
 mod entries;
 pub mod line_buffer;
 mod lines;
+mod swap;
 pub mod undo;
 
 pub use line_buffer::{LineBuffer, MAX_LINE};

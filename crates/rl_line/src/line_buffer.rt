@@ -19,7 +19,8 @@ mod motions;
 mod ranges;
 mod transpositions;
 
-use crate::change::{Change, Way, go_over, greatest_len_over, swap_in};
+use crate::change::{Change, Way, go_over, greatest_len_over};
+use crate::swap::swap_in;
 pub use kills::kill_agrees_with_copy;
 use rl_base::{ChangeListener, DeleteListener, Direction, Refusal};
 use std::alloc::Global;
@@ -176,10 +177,7 @@ impl LineBuffer {
             return Err(Refusal::NoMemory);
         }
         listener.insert_str(idx, text)?;
-        match self.buf.insert_str(idx, text) {
-            Ok(()) => {}
-            Err(_) => unreachable!(),
-        }
+        swap_in(&mut self.buf, idx, idx, text);
         self.pos = cursor;
         self.limit = self.limit.max(self.buf.len());
         Ok(())
@@ -205,10 +203,8 @@ impl LineBuffer {
             return Err(Refusal::NoMemory);
         }
         listener.insert_char(idx, c)?;
-        match self.buf.insert(idx, c) {
-            Ok(()) => {}
-            Err(_) => unreachable!(),
-        }
+        let mut bytes = [0; 4];
+        swap_in(&mut self.buf, idx, idx, c.encode_utf8(&mut bytes));
         self.pos = cursor;
         self.limit = self.limit.max(self.buf.len());
         Ok(())
@@ -280,10 +276,7 @@ impl LineBuffer {
     {
         let (from, to) = (range.start, range.end);
         listener.delete(from, &self.buf.as_str()[from..to], dir)?;
-        match self.buf.replace_range(from..to, "") {
-            Ok(()) => {}
-            Err(_) => unreachable!(),
-        }
+        swap_in(&mut self.buf, from, to, "");
         self.pos = cursor;
         Ok(())
     }
