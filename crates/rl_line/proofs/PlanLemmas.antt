@@ -1,20 +1,28 @@
 -- How the steps of a plan are put together.
-use Rattle.std.proofs.Common.{◌≡◌, ℕ, List, [], ◌∷◌, ◌++◌, Option, Some, None, refl, sym, ap, subst, append_assoc, ◌∙◌}
+use Rattle.std.proofs.Common.{◌≡◌, ℕ, List, [], ◌∷◌, ◌++◌, Option, Some, None, refl, sym, ap, subst, append_assoc, ◌∙◌, Bool, true, false, inr}
 use Rattle.std.specs.Prelude.{option_and_then}
-use Rattle.rl_base.specs.Event.{Event, apply}
+use Rattle.rl_base.specs.Event.{Event, apply, replay}
 use Rattle.rl_base.specs.declared.listeners.Refusal.{Refusal}
 use Rattle.rl_line.specs.Line.{Line, stepped}
-use Rattle.rl_line.specs.Plan.{Step, Plan, nothing, single, followed_by, after, heard, Taken, Completed, Done, Halted}
+use Rattle.rl_line.specs.Plan.{Step, Plan, nothing, single, followed_by, after, events_of, heard, or_no_memory, or_no_memory_if, Taken, Completed, Done, Halted}
+use Rattle.rl_line.proofs.RecordLemmas.{through}
 
 after-append : (xs ys : List Step) (old mid : Line) → after xs old ≡ Some mid → after (xs ++ ys) old ≡ after ys mid
 after-append [] ys old mid e = ap (option_and_then (after ys)) e
-after-append (x ∷ xs) ys old mid e = through (apply x.0 old.text) (λ text. after-append xs ys (stepped old text x.1) mid) e
+after-append (x ∷ xs) ys old mid e = on (apply x.0 old.text) (λ text. after-append xs ys (stepped old text x.1) mid) e
   where
-    through : (o : Option (List ℕ)) → ((text : List ℕ) → after xs (stepped old text x.1) ≡ Some mid → after (xs ++ ys) (stepped old text x.1) ≡ after ys mid)
+    on : (o : Option (List ℕ)) → ((text : List ℕ) → after xs (stepped old text x.1) ≡ Some mid → after (xs ++ ys) (stepped old text x.1) ≡ after ys mid)
         → option_and_then (λ text. after xs (stepped old text x.1)) o ≡ Some mid
         → option_and_then (λ text. after (xs ++ ys) (stepped old text x.1)) o ≡ after ys mid
-    through None go e = cc
-    through (Some text) go e = go text e
+    on None go e = cc
+    on (Some text) go e = go text e
+
+-- the events of the steps that lead a line to a text lead its old text there
+pub after-replay : (ss : List Step) (old new : Line) → after ss old ≡ Some new → replay (events_of ss) old.text ≡ Some new.text
+after-replay [] old new h = let e : old ≡ new = cc in ap (λ (l : Line). Some l.text) e
+after-replay (s ∷ ss) old new h =
+    let p = through (λ text. after ss (stepped old text s.1)) (apply s.0 old.text) new h in
+    ap (option_and_then (replay (events_of ss))) p.1 ∙ after-replay ss (stepped old p.0 s.1) new p.2
 
 module _ {L : Type 0} (step : L → Event → L) where
   heard-append : (xs ys : List Step) (l : L) → heard step (xs ++ ys) l ≡ heard step ys (heard step xs l)
@@ -166,3 +174,17 @@ module _ {L : Type 0} (step : L → Event → L) where
       taken = Taken-append first h.first old mid new b m h.middle t h.taken;
       cause = h.cause;
     }
+
+  -- a plan that its listener alone may have halted
+  pub Halted-or_no_memory : {A : Type 0} (takes : Bool) (refused : L → Event → Refusal → L → Type 0) (plan : Plan A) (old new : Line) (b n : L) (r : Refusal)
+      → Halted step (or_no_memory_if takes refused) plan old new b n r → Halted step (or_no_memory refused) plan old new b n r
+  Halted-or_no_memory true refused plan old new b n r h = h
+  Halted-or_no_memory false refused plan old new b n r h = record {
+    first = h.first;
+    next = h.next;
+    others = h.others;
+    split = h.split;
+    middle = h.middle;
+    taken = h.taken;
+    cause = inr h.cause;
+  }

@@ -1,11 +1,10 @@
 -- Where the motions over lines go.
 use Rattle.std.specs.Prelude.{ℕ, ◌+◌, ◌-◌, ◌==◌, List, drop, slice_range, min, max, count_by, Option, Some, None, if◌then◌else◌}
 use Rattle.std.specs.Option.{option_map}
-use Rattle.std.specs.declared.ops.Range.{Range}
 use Rattle.rl_base.specs.Lines.{is_newline, last_line, line_number, start_of_line, end_of_line, text_of_line, place_of_column}
 use Rattle.rl_base.specs.Widths.{width}
 use Rattle.rl_base.specs.declared.layout.Layout.{Layout}
-use Rattle.rl_line.specs.Line.{Line, between}
+use Rattle.rl_line.specs.Line.{Line}
 
 -- the start and the end of the cursor's line
 abbrev pub home : Line → ℕ

@@ -1,5 +1,5 @@
 -- What an edit does: its steps, each one event and the cursor after it, the cursor at the end, and its answer.
-use Rattle.std.specs.Prelude.{◌≡◌, ℕ, List, [], ◌∷◌, ◌++◌, Option, Some, option_and_then, ◌⊎◌}
+use Rattle.std.specs.Prelude.{◌≡◌, ℕ, Bool, true, false, map, List, [], ◌∷◌, ◌++◌, Option, Some, option_and_then, ◌⊎◌}
 use Rattle.rl_base.specs.Event.{Event, apply}
 use Rattle.rl_base.specs.declared.listeners.Refusal.{Refusal}
 use Rattle.rl_base.specs.declared.listeners.Refusal.TheVariants.{NoMemory}
@@ -13,6 +13,10 @@ pub record Plan (A : Type 0) : Type 0 where
   pub steps : List Step
   pub cursor : ℕ
   pub answer : A
+
+-- the events of steps
+abbrev pub events_of : List Step → List Event
+events_of steps = map (λ (s : Step). s.0) steps
 
 -- no step
 abbrev pub nothing : {A : Type 0} → Line → A → Plan A
@@ -42,6 +46,11 @@ after (s ∷ ss) line = option_and_then (λ text. after ss (stepped line text s.
 -- the refusals of a listener, and want of memory, of which the listener hears nothing
 abbrev pub or_no_memory : {L : Type 0} → (L → Event → Refusal → L → Type 0) → L → Event → Refusal → L → Type 0
 or_no_memory refused before event r now = ((r ≡ NoMemory) × (now ≡ before)) ⊎ refused before event r now
+
+-- the same where a step takes memory of its own, and else the refusals of its listener alone
+abbrev pub or_no_memory_if : {L : Type 0} → Bool → (L → Event → Refusal → L → Type 0) → L → Event → Refusal → L → Type 0
+or_no_memory_if true refused = or_no_memory refused
+or_no_memory_if false refused = refused
 
 module _ {L : Type 0} (step : L → Event → L) where
   -- the listener after the events of the steps

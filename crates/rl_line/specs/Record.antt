@@ -1,5 +1,5 @@
 -- The record of the changes of a line.
-use Rattle.std.specs.Prelude.{◌≡◌, Bool, true, false, ℕ, ◌+◌, not, ◌==◌, ◌&&◌, ◌<◌, List, [], ◌∷◌, ◌++◌, length, map, take, reverse, encode_utf8, Option, Some, None, option_and_then, if◌then◌else◌}
+use Rattle.std.specs.Prelude.{◌≡◌, Bool, false, ℕ, ◌+◌, not, ◌==◌, ◌&&◌, ◌<◌, List, [], ◌∷◌, ◌++◌, length, map, take, reverse, encode_utf8, Option, Some, None, option_and_then, if◌then◌else◌}
 use Rattle.std.specs.Option.{option_map_or}
 use Rattle.std.specs.Str.{bytes_eq}
 use Rattle.std.specs.String.{string_bytes}

@@ -1,12 +1,12 @@
 //! The line: its text, its cursor, and the few steps through which every change of its text goes.
-ghost use Rattle.std.specs.Prelude.{◌≡◌, ℕ, [], ◌∷◌, ◌+◌, ◌^◌, ◌<◌, ◌≤◌, ◌↔◌, false, map, length, slice_range, encode_utf8, IsTrue, IsSome, IfOk, IfErr, OnOk, OnErr};
+ghost use Rattle.std.specs.Prelude.{◌≡◌, ℕ, List, [], ◌∷◌, ◌+◌, ◌^◌, ◌<◌, ◌≤◌, ◌↔◌, false, map, length, slice_range, encode_utf8, IsTrue, IsSome, Some, IfOk, IfErr, OnOk, OnErr};
 ghost use Rattle.std.specs.Str.{IsCharBoundary, IsUtf8};
 ghost use Rattle.std.specs.String.{string_bytes};
 ghost use Rattle.std.specs.List.{insert_slice, remove_range, replace_range};
-ghost use Rattle.rl_base.specs.Event.{InsertChar, InsertStr, Delete, Replace};
+ghost use Rattle.rl_base.specs.Event.{InsertChar, InsertStr, Delete, Replace, replay};
 ghost use Rattle.rl_base.specs.declared.listeners.Refusal.TheVariants.{NoMemory};
-ghost use Rattle.rl_line.specs.Line.{stepped};
-ghost use Rattle.rl_line.specs.Plan.{Taken, or_no_memory};
+ghost use Rattle.rl_line.specs.Line.{Line, stepped};
+ghost use Rattle.rl_line.specs.Plan.{Step, Taken, after, events_of, or_no_memory};
 ghost use Rattle.rl_line.specs.Undo.{line_back};
 ghost use Rattle.rl_line.specs.Change.{faced};
 
@@ -27,6 +27,13 @@ use std::alloc::Global;
 use std::fmt;
 use std::marker::Model;
 use std::ops::Range;
+
+/// The steps that an edit took, replayed on the old text, give the new one: all steps of an edit that was done, and the first
+/// ones of one that was halted.
+pub fn steps_are_a_replay<L: DeleteListener>()
+    ensures steps { (steps : List Step) (old new : Line) → after steps old ≡ Some new → replay (events_of steps) old.text ≡ Some new.text }
+    ensures taken { (steps : List Step) (old new : Line) (before now : L) → Taken L.step steps old new before now → replay (events_of steps) old.text ≡ Some new.text }
+{}
 
 /// The length in bytes that a line of an editor is made for.
 pub const MAX_LINE: usize = 4096;

@@ -1,9 +1,9 @@
 //! Indenting and dedenting the lines of a range.
-ghost use Rattle.std.specs.Prelude.{◌≡◌, ◌+◌, ◌^◌, ◌<◌, ◌≤◌, true, false, length, drop, IfOk, IfErr};
+ghost use Rattle.std.specs.Prelude.{◌≡◌, ◌+◌, ◌^◌, ◌<◌, ◌≤◌, true, false, not, length, drop, IfOk, IfErr};
 ghost use Rattle.std.specs.Str.{IsCharBoundary};
 ghost use Rattle.rl_base.specs.Lines.{end_of_line};
 ghost use Rattle.rl_line.specs.Indents.{final_line, indent_plan, line_plan, pulled, pushed};
-ghost use Rattle.rl_line.specs.Plan.{Completed, Done, Halted, or_no_memory};
+ghost use Rattle.rl_line.specs.Plan.{Completed, Done, Halted, or_no_memory, or_no_memory_if};
 ghost use Rattle.rl_line.specs.Ranges.{text_in};
 
 use crate::line_buffer::LineBuffer;
@@ -19,7 +19,8 @@ impl LineBuffer {
     /// start, at most 32 at once; or, with `dedent`, takes up to `amount` bytes of its leading blanks out, up
     /// to a character's end (vi's `>` and `<`). By a movement within a line, or one that covers nothing, it is
     /// the cursor's line. A cursor at the start of a line or behind goes with the text, to that start at
-    /// least. Answers true. Refused, it leaves the line after the steps that it took.
+    /// least. Answers true. Refused, it leaves the line after the steps that it took. A dedent takes no memory: it is
+    /// refused only where its listener refuses.
     pub fn indent<L: ChangeListener>(
         &mut self,
         mvt: &Movement,
@@ -28,7 +29,7 @@ impl LineBuffer {
         listener: &mut L,
     ) -> Result<bool, Refusal>
         ensures done { IfOk result (λ answer. Done L.step (indent_plan self.old mvt.now amount dedent) self.old self.new listener.old listener.new answer) }
-        ensures halted { IfErr result (λ r. Halted L.step (or_no_memory L.refused) (indent_plan self.old mvt.now amount dedent) self.old self.new listener.old listener.new r) }
+        ensures halted { IfErr result (λ r. Halted L.step (or_no_memory_if (not dedent) L.refused) (indent_plan self.old mvt.now amount dedent) self.old self.new listener.old listener.new r) }
     {
         let range = self.indented(mvt);
         let behind = self.len() - self.end_of_lines(&range);
@@ -72,7 +73,7 @@ impl LineBuffer {
         ensures done { IfOk result (λ stop. Completed L.step (line_plan dedent amount (text_in self.old line) line.start self.old.cursor) self.old self.new listener.old listener.new stop) }
         ensures boundary { IfOk result (λ stop. IsCharBoundary self.new.text stop) }
         ensures others { IfOk result (λ stop. drop stop self.new.text ≡ drop line.end self.old.text) }
-        ensures halted { IfErr result (λ r. Halted L.step (or_no_memory L.refused) (line_plan dedent amount (text_in self.old line) line.start self.old.cursor) self.old self.new listener.old listener.new r) }
+        ensures halted { IfErr result (λ r. Halted L.step (or_no_memory_if (not dedent) L.refused) (line_plan dedent amount (text_in self.old line) line.start self.old.cursor) self.old self.new listener.old listener.new r) }
     {
         if dedent {
             return self.take_blanks(line, amount, listener);

@@ -1,9 +1,10 @@
 //! Editing the letters of a word.
-ghost use Rattle.std.specs.Prelude.{◌≡◌, ◌≤◌, min, length, string_bytes, IsAscii, IfSome, IfOk, IfErr};
+ghost use Rattle.std.specs.Prelude.{◌≡◌, ◌≤◌, min, length, string_bytes, IsAscii, IfSome, IfOk, IfErr, OnOk};
 ghost use Rattle.std.specs.Str.{IsCharBoundary};
 ghost use Rattle.rl_line.specs.Plan.{Done, Halted, or_no_memory};
 ghost use Rattle.rl_base.specs.declared.motion.WordAction.TheVariants.{Capitalize};
-ghost use Rattle.rl_line.specs.LetterCase.{Recased, edit_word_plan, recased, word_ahead};
+ghost use Rattle.rl_line.specs.LetterCase.{Maps, Recased, edit_word_plan, mapped, recased, word_ahead};
+ghost use Rattle.rl_line.specs.Transpositions.{end_of_cluster};
 
 use crate::line_buffer::LineBuffer;
 use crate::line_buffer::transpositions::{end_of_cluster, word_end};
@@ -22,6 +23,7 @@ impl LineBuffer {
         listener: &mut L,
     ) -> Result<bool, Refusal>
         ensures done { IfOk result (λ answer. Recased self.old action (λ made. Done L.step (edit_word_plan self.old made) self.old self.new listener.old listener.new answer)) }
+        ensures mapped { OnOk result (Maps self.old action self.new) }
         ensures halted { IfErr result (λ r. Recased self.old action (λ made. Halted L.step (or_no_memory L.refused) (edit_word_plan self.old made) self.old self.new listener.old listener.new r)) }
     {
         let at = self.pos();
@@ -53,7 +55,8 @@ impl LineBuffer {
 
 // The word in the case that is asked for.
 fn recased(alloc: Global, word: &str, action: WordAction) -> Result<String, AllocError>
-    ensures { IfOk result (λ made. IsAscii word.now → string_bytes made ≡ recased action word.now) }
+    ensures ascii { IfOk result (λ made. IsAscii word.now → string_bytes made ≡ recased action word.now) }
+    ensures others { IfOk result (λ made. ¬ (IsAscii word.now) → string_bytes made ≡ mapped action word.now) }
 {
     match action {
         WordAction::Capitalize => capitalized(alloc, word),
@@ -63,7 +66,8 @@ fn recased(alloc: Global, word: &str, action: WordAction) -> Result<String, Allo
 }
 
 fn capitalized(alloc: Global, word: &str) -> Result<String, AllocError>
-    ensures { IfOk result (λ made. IsAscii word.now → string_bytes made ≡ recased Capitalize word.now) }
+    ensures ascii { IfOk result (λ made. IsAscii word.now → string_bytes made ≡ recased Capitalize word.now) }
+    ensures others { IfOk result (λ made. ¬ (IsAscii word.now) → string_bytes made ≡ mapped Capitalize word.now) }
 {
     let first = first_len(word);
     let mut made = word[..first].to_uppercase(alloc)?;
@@ -75,6 +79,7 @@ fn capitalized(alloc: Global, word: &str) -> Result<String, AllocError>
 // The length of the first cluster, which is one character of an ASCII word.
 fn first_len(word: &str) -> usize
     ensures ascii { IsAscii word.now → result ≡ min 1 (length word.now) }
+    ensures others { ¬ (IsAscii word.now) → result ≡ end_of_cluster word.now 0 }
     ensures boundary { IsCharBoundary word.now result }
 {
     if word.is_ascii() {

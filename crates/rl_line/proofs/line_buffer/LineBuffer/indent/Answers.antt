@@ -1,8 +1,9 @@
 use Rattle.std.proofs.Common.{rules, ℕ, ◌≡◌, List, subst}
 use Rattle.std.proofs.lemmas.Result.{err_from_is_err_and}
+use Rattle.std.specs.Prelude.{not}
 use Rattle.rl_base.specs.Lines.{end_of_line, line_number}
 use Rattle.rl_line.specs.Indents.{line_plan}
-use Rattle.rl_line.specs.Plan.{Completed, Halted, or_no_memory}
+use Rattle.rl_line.specs.Plan.{Completed, Halted, or_no_memory_if}
 use Rattle.rl_line.proofs.IndentLemmas.{LinesDone-all, LinesDone-halted, LinesDone-less, LinesDone-more, LinesDone-none, text_is}
 use Rattle.rl_line.proofs.line_buffer.LineBuffer.indent.Goals as goal
 
@@ -17,7 +18,7 @@ returns-in_err-end-clause-halted g c =
     let inv = c.loop-end.invariant in
     let line_end : c.end_of_line.result ≡ end_of_line now.text (line_number now.text c.loop-end.start) = search rules in
     let text = text_is _ _ _ _ _ now _ _ _ _ inv c.end_of_line.result line_end in
-    let one = subst (λ (t : List ℕ). Halted g.L.DeleteListener.step (or_no_memory g.L.DeleteListener.refused) (line_plan c.args.dedent c.args.amount t c.loop-end.start now.cursor) now c.shift_line.new.self c.loop-end.listener c.shift_line.new.listener c.in_err-end.field-0.0)
+    let one = subst (λ (t : List ℕ). Halted g.L.DeleteListener.step (or_no_memory_if (not c.args.dedent) g.L.DeleteListener.refused) (line_plan c.args.dedent c.args.amount t c.loop-end.start now.cursor) now c.shift_line.new.self c.loop-end.listener c.shift_line.new.listener c.in_err-end.field-0.0)
     text c.in_err-end.ensures.halted in
     rw (p.1, p.2) (LinesDone-halted _ _ _ _ _ now _ _ _ _ inv _ _ _ _ one)
 
