@@ -58,7 +58,8 @@ fn all_alphanumeric(cluster: &str) -> bool
 pub fn is_word_cluster(text: &str) -> bool
     ensures { result ≡ is_word_cluster text.now }
 {
-    text.graphemes(true).count() == 1 && all_alphanumeric(text)
+    let mut clusters = text.graphemes(true);
+    clusters.next().is_some() && clusters.next().is_none() && all_alphanumeric(text)
 }
 
 /// What the cluster is to the sense of a word.
