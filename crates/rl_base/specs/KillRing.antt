@@ -1,11 +1,13 @@
 -- A ring of killed texts, and what each of its steps makes of it.
-use Rattle.std.specs.Prelude.{ℕ, ◌+◌, ◌-◌, ◌==◌, zero, suc, Bool, true, false, List, [], ◌∷◌, ◌++◌, max, ◌<◌, ◌≤◌, length, slice_set, slice_get, Option, Some, None, option_map, if◌then◌else◌}
+use Rattle.std.specs.Prelude.{◌≡◌, ℕ, ◌+◌, ◌-◌, ◌==◌, zero, suc, Bool, true, false, List, [], ◌∷◌, ◌++◌, max, ◌<◌, ◌≤◌, length, slice_set, slice_get, Option, Some, None, option_map, if◌then◌else◌}
 use Rattle.rl_base.specs.declared.kill_ring.Action.{Action}
 use Rattle.rl_base.specs.declared.kill_ring.Action.TheVariants.{Kill, Yank, Other}
 use Rattle.rl_base.specs.declared.kill_ring.Mode.{Mode}
 use Rattle.rl_base.specs.declared.kill_ring.Mode.TheVariants.{Append, Prepend}
 use Rattle.rl_base.specs.declared.listeners.Direction.{Direction}
 use Rattle.rl_base.specs.declared.listeners.Direction.TheVariants.{Forward, Backward}
+use Rattle.rl_base.specs.declared.listeners.Refusal.{Refusal}
+use Rattle.rl_base.specs.declared.listeners.Refusal.TheVariants.{NoMemory}
 use Rattle.rl_base.specs.Event.{Event, InsertChar, InsertStr, Delete, Replace, Start, Stop}
 
 -- the most slots there may be, the slots, the index of the current one, what was done last, and whether a kill is on
@@ -141,3 +143,16 @@ ring_step r Stop = record r { killing = false }
 ring_step r (InsertChar _ _) = r
 ring_step r (InsertStr _ _) = r
 ring_step r (Replace _ _ _) = r
+
+-- the ring keeps an event's text: a deletion while a kill is on, where the ring has a place for texts
+abbrev pub KeepsText : Ring → Event → Type 0
+KeepsText r (Delete _ _ _) = (r.killing ≡ true) × (0 < r.size)
+KeepsText r (InsertChar _ _) = ⊥
+KeepsText r (InsertStr _ _) = ⊥
+KeepsText r (Replace _ _ _) = ⊥
+KeepsText r Start = ⊥
+KeepsText r Stop = ⊥
+
+-- a refusal: for want of memory, of an event whose text the ring keeps, and the ring is as before
+abbrev pub ring_refused : Ring → Event → Refusal → Ring → Type 0
+ring_refused old event why now = (why ≡ NoMemory) × (now ≡ old) × KeepsText old event

@@ -29,6 +29,8 @@ enum Action {
 
 /// Killed texts, as many as its size (GNU readline: kill ring). Kills right after each other make one text.
 /// One of the texts is the current one, which `yank` lends.
+///
+/// As a listener it keeps what is deleted while a kill is on. No other event can be refused, and at size 0 none.
 #[derive(Drop)]
 pub struct KillRing {
     size: usize,
@@ -67,10 +69,11 @@ impl KillRing {
 
     /// Puts a killed text into the ring (GNU readline: kill-line and its like). Right after another kill it is
     /// joined to that one's text, at the side that `dir` says. Else it goes right behind the current text, over
-    /// one that stands there, and is the current one. Refused, for want of memory, it changes nothing.
+    /// one that stands there, and is the current one. Refused, for want of memory, it changes nothing; a ring of
+    /// size 0, which keeps no text, never refuses.
     pub fn kill(&mut self, text: &str, dir: Mode) -> Result<(), Refusal>
         ensures done { OnOk result (self.new ≡ killed text.now dir self.old) }
-        ensures err { IfErr result (λ r. (r ≡ NoMemory) × (self.new ≡ self.old)) }
+        ensures err { IfErr result (λ r. (r ≡ NoMemory) × (self.new ≡ self.old) × (0 < self.old.size)) }
     {
         if self.size == 0 {
             self.last = Action::Kill;
@@ -136,13 +139,11 @@ impl KillRing {
 }
 
 impl DeleteListener for KillRing {
-    ghost use Rattle.std.specs.Prelude.{◌≡◌};
-    ghost use Rattle.rl_base.specs.declared.listeners.Refusal.TheVariants.{NoMemory};
-    ghost use Rattle.rl_base.specs.KillRing.{ring_step};
+    ghost use Rattle.rl_base.specs.KillRing.{ring_step, ring_refused};
 
     ghost step = { ring_step };
 
-    ghost refused = { λ old _ why now. (why ≡ NoMemory) × (now ≡ old) };
+    ghost refused = { ring_refused };
 
     fn start_killing(&mut self) {
         self.killing = true;
