@@ -4,6 +4,7 @@ pub mod LineLemmas
 pub mod ClusterLemmas
 pub mod WordLemmas
 pub mod ClassLemmas
+pub mod BlankLemmas
 pub mod SearchLemmas
 pub mod EventLemmas
 pub mod SwapLemmas

@@ -1,11 +1,15 @@
 //! Laws that hold of the definitions alone.
 ghost use Rattle.std.specs.Prelude.{◌≡◌, ℕ, ◌<◌, ◌↔◌, false, List, ◌∷◌, ◌++◌, None, take, slice_get};
+ghost use Rattle.std.specs.Char.{is_whitespace};
+ghost use Rattle.std.specs.Str.{trim_start, trim_end};
 ghost use Rattle.std.specs.Cmp.{IsTotalOrder};
 ghost use Rattle.std.specs.declared.cmp.Ordering.TheVariants.{Less, Equal};
+ghost use Rattle.ucd_props.specs.Binary.{is_white_space};
 ghost use Rattle.rl_base.specs.declared.layout.Position.{Position};
 ghost use Rattle.rl_base.specs.declared.kill_ring.Mode.{Mode};
 ghost use Rattle.rl_base.specs.KillRing.{new_ring, yank};
 ghost use Rattle.rl_base.specs.KillGroups.{Doing, Kills, ring_done, group_done, no_groups, groups_of, newest_first, AllKills, all_joined};
+ghost use Rattle.rl_base.specs.Blanks.{without_leading_blanks, without_trailing_blanks};
 ghost use Rattle.rl_base.specs.Widths.{by_row};
 
 /// The order of positions is total, goes by row and within a row by column, and two positions are equal in
@@ -15,6 +19,14 @@ pub fn positions_are_ordered()
     ensures rows { (a b : Position) → a.row < b.row → by_row a b ≡ Less }
     ensures columns { (a b : Position) → a.row ≡ b.row → a.col < b.col → by_row a b ≡ Less }
     ensures equal { (a b : Position) → (by_row a b ≡ Equal) ↔ ((a.row ≡ b.row) × (a.col ≡ b.col)) }
+{}
+
+/// Blanks are White_Space everywhere: where a cluster holds one, and where the standard library cuts leading and
+/// trailing ones off a text.
+pub fn blanks_are_white_space()
+    ensures same { (c : ℕ) → is_whitespace c ≡ is_white_space c }
+    ensures leading { (text : List ℕ) → trim_start text ≡ without_leading_blanks text }
+    ensures trailing { (text : List ℕ) → trim_end text ≡ without_trailing_blanks text }
 {}
 
 /// Whatever is done with a new ring but `yank_pop`, and where no kill is refused, it holds the latest groups of
