@@ -29,6 +29,11 @@ pub enum Refusal {
     Listener = 2,
 }
 
+// The numbers are part of the interface.
+const _: () = prove!(Refusal::NoMemory as u8 == 1);
+
+const _: () = prove!(Refusal::Listener as u8 == 2);
+
 /// Hears deletions.
 pub trait DeleteListener {
     /// What an event makes of the listener.
