@@ -1,5 +1,5 @@
 -- What a grapheme cluster is to each sense of a word.
-use Rattle.std.specs.Prelude.{ℕ, length, Bool, true, false, not, ◌&&◌, ◌||◌, ◌==◌, List, [], ◌∷◌, if◌then◌else◌}
+use Rattle.std.specs.Prelude.{ℕ, length, Bool, true, false, not, ◌&&◌, ◌||◌, ◌==◌, List, [], ◌∷◌}
 use Rattle.std.specs.List.{list_all, list_any}
 use Rattle.std.specs.Str.{chars}
 use Rattle.ucd_derived.specs.Binary.{is_alphabetic}
@@ -10,8 +10,6 @@ use Rattle.ucd_category.specs.declared.GeneralCategory.TheVariants.{DecimalNumbe
 use Rattle.rl_base.specs.Clusters.{clusters}
 use Rattle.rl_base.specs.declared.motion.Word.{Word}
 use Rattle.rl_base.specs.declared.motion.Word.TheVariants.{Big, Emacs, Vi}
-use Rattle.rl_base.specs.declared.places.classes.Class.{Class}
-use Rattle.rl_base.specs.declared.places.classes.Class.TheVariants.{Member, Other, Outside}
 
 -- a number, by its general category
 abbrev pub is_number : GeneralCategory → Bool
@@ -60,8 +58,3 @@ starts sense x y = not (is_word sense x) && is_word sense y
 abbrev pub ends : Word → List ℕ → List ℕ → Bool
 ends Vi x y = (is_word Vi x && not (is_word Vi y)) || (is_other x && not (is_other y))
 ends sense x y = is_word sense x && not (is_word sense y)
-
--- what the cluster is to the sense, as one value
-abbrev pub class_of : Word → List ℕ → Class
-class_of Vi cluster = if is_word Vi cluster then Member else if is_other cluster then Other else Outside
-class_of sense cluster = if is_word sense cluster then Member else Outside

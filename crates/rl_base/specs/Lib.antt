@@ -4,6 +4,7 @@ pub mod Lines
 pub mod Clusters
 pub mod Words
 pub mod Classes
+pub mod ClusterClass
 pub mod Blanks
 pub mod Search
 pub mod Event

@@ -1,7 +1,8 @@
 //! What a grapheme cluster is to each sense of a word.
 ghost use Rattle.std.specs.Prelude.{◌≡◌, List, ℕ};
 ghost use Rattle.ucd_props.specs.Binary.{is_white_space};
-ghost use Rattle.rl_base.specs.Classes.{is_alphanumeric, has_blank, is_word_cluster, all_alphanumeric, starts, ends, class_of};
+ghost use Rattle.rl_base.specs.Classes.{is_alphanumeric, has_blank, is_word_cluster, all_alphanumeric, starts, ends};
+ghost use Rattle.rl_base.specs.ClusterClass.{class_of};
 
 use crate::motion::Word;
 use ucd_category::GeneralCategory;

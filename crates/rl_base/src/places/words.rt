@@ -2,7 +2,7 @@
 ghost use Rattle.std.specs.Prelude.{◌≡◌, ◌≤◌, List, ℕ, IfSome};
 ghost use Rattle.std.specs.Str.{IsCharBoundary};
 ghost use Rattle.unicode_segmentation.specs.Iter.{grapheme_indices_left};
-ghost use Rattle.rl_base.specs.Classes.{class_of};
+ghost use Rattle.rl_base.specs.ClusterClass.{class_of};
 ghost use Rattle.rl_base.specs.Words.{prev_word, next_word, first_word_cluster, first_member, placed_clusters, next_stop, looked_at, last_stop, last_place, stop_between, stops, nth};
 
 use crate::motion::{At, RepeatCount, Word};

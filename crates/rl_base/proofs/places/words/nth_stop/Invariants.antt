@@ -1,5 +1,5 @@
 use Rattle.std.proofs.Common.{◌≡◌, ℕ, ◌<◌, List, ◌∷◌}
-use Rattle.rl_base.specs.Classes.{class_of}
+use Rattle.rl_base.specs.ClusterClass.{class_of}
 use Rattle.unicode_segmentation.specs.Iter.{grapheme_indices_left}
 use Rattle.rl_base.specs.Words.{stops, nth}
 use Rattle.rl_base.proofs.places.words.nth_stop.Given as goal

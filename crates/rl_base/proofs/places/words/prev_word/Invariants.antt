@@ -1,6 +1,6 @@
 use Rattle.std.proofs.Common.{◌≡◌, ℕ, ◌<◌, List, ◌++◌, ◌∷◌, [], take}
 use Rattle.std.specs.Iterator.Adapters.{rev_source}
-use Rattle.rl_base.specs.Classes.{class_of}
+use Rattle.rl_base.specs.ClusterClass.{class_of}
 use Rattle.unicode_segmentation.specs.Iter.{grapheme_indices_left}
 use Rattle.rl_base.specs.Words.{placed_clusters}
 use Rattle.rl_base.proofs.WordLemmas.{start_before}
