@@ -256,6 +256,7 @@ done-append (x ∷ xs) ys g = done-append xs ys (group_do x g)
 pub groups-are-runs : (ds ks : List Doing) (text : List ℕ) (mode : Mode) → (group_done ds no_groups).growing ≡ false → AllKills ks
     → groups_of (ds ++ (Kills text mode ∷ ks)) ≡ all_joined text ks ∷ groups_of ds
 groups-are-runs ds ks text mode e h =
+    let before = group_done ds no_groups in
     ap (λ (g : Groups). g.groups) (done-append ds (Kills text mode ∷ ks) no_groups)
-    ∙ ap (λ b. (group_done ks (record { groups = grown b text mode (group_done ds no_groups).groups; growing = true; killing = (group_done ds no_groups).killing })).groups) e
-    ∙ kills-group ks text (group_done ds no_groups).groups (group_done ds no_groups).killing h
+    ∙ ap (λ b. (group_done ks (record before { groups = grown b text mode before.groups; growing = true })).groups) e
+    ∙ kills-group ks text before.groups before.killing h

@@ -42,7 +42,7 @@ grown true text mode (g ∷ gs) = joined mode g text ∷ gs
 
 -- the groups after a kill, to which the next kill belongs
 abbrev pub with_kill : List ℕ → Mode → Groups → Groups
-with_kill text mode g = record { groups = grown g.growing text mode g.groups; growing = true; killing = g.killing }
+with_kill text mode g = record g { groups = grown g.growing text mode g.groups; growing = true }
 
 -- the groups after a deletion, by whether a kill is on
 abbrev pub with_deletion : Bool → List ℕ → Direction → Groups → Groups
