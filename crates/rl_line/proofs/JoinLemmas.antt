@@ -65,11 +65,11 @@ added event none (e ∷ (d ∷ ds)) = ap (λ es. e ∷ es) (added event none (d 
 
 pub record_step-Start : (r : Record) → record_step r Start ≡ r
 unfolding record_step entries_of
-record_step-Start r = ap (λ es. record { recorded = es; pending = r.pending }) (added Start (λ e. refl) r.recorded ∙ append-nil r.recorded)
+record_step-Start r = ap (λ es. record r { recorded = es }) (added Start (λ e. refl) r.recorded ∙ append-nil r.recorded)
 
 pub record_step-Stop : (r : Record) → record_step r Stop ≡ r
 unfolding record_step entries_of
-record_step-Stop r = ap (λ es. record { recorded = es; pending = r.pending }) (added Stop (λ e. refl) r.recorded ∙ append-nil r.recorded)
+record_step-Stop r = ap (λ es. record r { recorded = es }) (added Stop (λ e. refl) r.recorded ∙ append-nil r.recorded)
 
 pub after-InsertStr : (es : List Entry) (i : ℕ) (s : List ℕ) → entries_after (InsertStr i s) es ≡ es ++ entries_of (InsertStr i s)
 after-InsertStr es i s = added (InsertStr i s) (λ e. refl) es
