@@ -1,9 +1,8 @@
 -- The blanks of the standard library are White_Space.
 use Rattle.std.proofs.Common.{◌≡◌, ℕ, Bool, true, false, List, [], ◌∷◌, ◌++◌, reverse, length, refl, sym, ap, ◌∙◌, arith}
 use Rattle.std.proofs.lemmas.Bool.Decides.{nat_tests}
-use Rattle.std.proofs.lemmas.List.{reverse-append, length-reverse, length_push}
-use Rattle.std.specs.Prelude.{cond, ◌&&◌, ◌==◌, if◌then◌else◌}
-use Rattle.std.specs.Char.{is_whitespace}
+use Rattle.std.proofs.lemmas.List.{reverse-append, length-reverse}
+use Rattle.std.specs.Prelude.{cond, ◌&&◌, ◌==◌}
 use Rattle.std.specs.Str.{chars, encode_utf8_all, skip_leading_whitespace, drop_trailing_whitespace, trim_start, trim_end}
 use Rattle.ucd_props.specs.Binary.{is_white_space}
 use Rattle.ucd_props.proofs.StdLemmas.{is_white_space-std}
