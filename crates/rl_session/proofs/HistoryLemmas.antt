@@ -36,6 +36,7 @@ use Rattle.rl_session.specs.declared.session.Fault.TheVariants.{NoMemory, BadPla
 use Rattle.rl_session.specs.declared.session.Reply.{Reply}
 use Rattle.rl_session.specs.declared.session.Reply.TheVariants as says
 use Rattle.rl_session.proofs.PairLemmas.{Done-changes, Halted-changes, Taken-changes}
+use Rattle.rl_session.proofs.RowLemmas.{Leads-split}
 use Rattle.rl_session.proofs.PlaceLemmas.{History-more, History-steps, History-begun, History-ended, History-undone, History-redone, History-truncated, undo-held}
 
 -- ---- what changes the line and the record by steps alone
@@ -253,11 +254,6 @@ Holds-run text pos limit ring_size mode commands replies new u run =
     Holds-Leads text run.rows (text ∷ []) (fresh text pos limit ring_size mode) new (Holds-fresh text pos limit ring_size mode u) run.leads
 
 -- ---- rows in a run
--- rows fall into two parts, with a state between
-pub Leads-split : (xs ys : List Row) (old new : State) → Leads old (xs ++ ys) new → (mid : State) × Leads old xs mid × Leads mid ys new
-Leads-split [] ys old new l = (old, refl, l)
-Leads-split (x ∷ xs) ys old new l = let p = Leads-split xs ys x.after new l.1 in (p.0, (l.0, p.1), p.2)
-
 -- what holds before a row of a run, and that the later rows go on from it
 pub record At (text : List ℕ) (earlier later : List Row) (row : Row) (new : State) : Type 0 where
   pub holds : Holds text (text ∷ held_of earlier) row.before

@@ -35,7 +35,7 @@ use Rattle.rl_session.specs.Pair.{pair_step, pair_refused}
 use Rattle.rl_session.specs.State.{State, Stands, with_ring, fresh}
 use Rattle.rl_session.specs.Commands.{Asked, edit, other, asked, Telling, answers, inserts, hands_out, is_done, Tells, CutShort, Does, DoesAsked, Edited, Edits, Others, Step, is_vain_yank, lent as lent_state, lent_plan, readied}
 use Rattle.rl_session.specs.KillRuns.{IsDirected, AllDirected, IsNoKill, AnyTook, NoneRefused, GivenBack}
-use Rattle.rl_session.specs.Run.{Row, Leads, Run, before_last}
+use Rattle.rl_session.specs.Run.{Row, Leads, Run, before_last, commands_of, replies_of}
 use Rattle.rl_session.specs.declared.pair.Pair.{Pair}
 use Rattle.rl_session.specs.declared.session.Command.{Command}
 use Rattle.rl_session.specs.declared.session.Command.TheVariants.{SetPos, Move, Yank, YankPop, EditWord, Kill, Copy, Begin, End, Undo, Redo, Truncate}
@@ -509,12 +509,6 @@ no_yank_took old new (says.Refused f) s h = h
 -- ---- row after row
 step_of : (row : Row) (old : State) (command : Command) → row.before ≡ old → row.command ≡ command → Step old command row.reply row.after
 step_of row old command e f = subst (λ (c : Command). Step old c row.reply row.after) f (subst (λ (s : State). Step s row.command row.reply row.after) e row.step)
-
-abbrev replies_of : List Row → List Reply
-replies_of rows = map (λ (row : Row). row.reply) rows
-
-abbrev commands_of : List Row → List Command
-commands_of rows = map (λ (row : Row). row.command) rows
 
 GivenBack-last : (old now new : State) (row : Row) → Going old.line.text now (row.reply ∷ []) → NoneRefused (row.reply ∷ []) → row.before ≡ now → row.command ≡ Yank 1 → new ≡ row.after
     → GivenBack old row.before new

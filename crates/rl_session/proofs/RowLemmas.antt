@@ -16,7 +16,7 @@ use Rattle.rl_session.specs.declared.session.Reply.{Reply}
 use Rattle.rl_session.specs.declared.session.Reply.TheVariants as says
 use Rattle.rl_session.specs.State.{State, Replays}
 use Rattle.rl_session.specs.Commands.{Asked, edit, other, asked, Telling, answers, inserts, hands_out, is_done, Tells, CutShort, Does, DoesAsked, Edited, Edits, Others, Step, destination, lent, popped, readied, with_changes}
-use Rattle.rl_session.specs.Run.{Row, held, held_of, Leads, Run, AfterEach}
+use Rattle.rl_session.specs.Run.{Row, held, held_of, Leads, Run, AfterEach, commands_of, replies_of}
 use Rattle.rl_session.proofs.SessionLemmas.{Kept-Moved, Kept-pair, Kept-refused, Kept-Told}
 
 -- the record leads back to the same text
@@ -137,8 +137,8 @@ Run-append old mid new cs ds rs ss r s = (
   record {
     rows = r.rows ++ s.rows;
     leads = Leads-append r.rows s.rows old mid new r.leads s.leads;
-    asked = map-append (λ (row : Row). row.command) r.rows s.rows ∙ ap (λ x. x ++ map (λ (row : Row). row.command) s.rows) r.asked ∙ ap (λ x. cs ++ x) s.asked;
-    answered = map-append (λ (row : Row). row.reply) r.rows s.rows ∙ ap (λ x. x ++ map (λ (row : Row). row.reply) s.rows) r.answered ∙ ap (λ x. rs ++ x) s.answered;
+    asked = map-append (λ (row : Row). row.command) r.rows s.rows ∙ ap (λ x. x ++ commands_of s.rows) r.asked ∙ ap (λ x. cs ++ x) s.asked;
+    answered = map-append (λ (row : Row). row.reply) r.rows s.rows ∙ ap (λ x. x ++ replies_of s.rows) r.answered ∙ ap (λ x. rs ++ x) s.answered;
   },
   refl,
   held_of-append r.rows s.rows,
@@ -150,6 +150,23 @@ Run-row row = (record { rows = row ∷ []; leads = (refl, refl); asked = refl; a
 
 Leads-replays : (start : List ℕ) (rows : List Row) (old new : State) → Leads old rows new → Replays start old → AfterEach (Replays start) rows × Replays start new
 Leads-replays start [] old new l h = (tt, subst (λ s. Replays start s) (sym l) h)
+-- rows fall into two parts, with a state between
+pub Leads-split : (xs ys : List Row) (old new : State) → Leads old (xs ++ ys) new → (mid : State) × Leads old xs mid × Leads mid ys new
+Leads-split [] ys old new l = (old, refl, l)
+Leads-split (x ∷ xs) ys old new l = let p = Leads-split xs ys x.after new l.1 in (p.0, (l.0, p.1), p.2)
+
+-- so does a run
+pub Run-parts : (old new : State) (cs : List Command) (rs : List Reply) (run : Run old cs rs new) (xs ys : List Row) → run.rows ≡ xs ++ ys
+    → (mid : State) × (first : Run old (commands_of xs) (replies_of xs) mid) × (second : Run mid (commands_of ys) (replies_of ys) new) × (first.rows ≡ xs) × (second.rows ≡ ys)
+Run-parts old new cs rs run xs ys e =
+    let p = Leads-split xs ys old new (subst (λ rows. Leads old rows new) e run.leads) in (
+      p.0,
+      record { rows = xs; leads = p.1; asked = refl; answered = refl },
+      record { rows = ys; leads = p.2; asked = refl; answered = refl },
+      refl,
+      refl,
+    )
+
 Leads-replays start (row ∷ rows) old new l h =
     let next = step_replays start row.before row.command row.reply row.after row.step (subst (λ s. Replays start s) (sym l.0) h) in
     let rest = Leads-replays start rows row.after new l.1 next in

@@ -22,7 +22,8 @@ use Rattle.rl_session.specs.declared.session.Command.TheVariants as asks
 use Rattle.rl_session.specs.declared.session.Fault.TheVariants.{NoMemory, NotReplaying}
 use Rattle.rl_session.specs.declared.session.Reply.{Reply}
 use Rattle.rl_session.specs.declared.session.Reply.TheVariants as says
-use Rattle.rl_session.proofs.HistoryLemmas.{Heard, Heard-edit, Heard-other, Holds-Leads, Holds-row, Leads-split, at_row, does_as, undo-row}
+use Rattle.rl_session.proofs.RowLemmas.{Leads-split}
+use Rattle.rl_session.proofs.HistoryLemmas.{Heard, Heard-edit, Heard-other, Holds-Leads, Holds-row, at_row, does_as, undo-row}
 use Rattle.rl_session.proofs.PlaceLemmas.{end_one-cases, kept-leads}
 
 -- ---- the end of a group

@@ -99,12 +99,19 @@ before_last s [] = s
 before_last s (row ∷ []) = row.before
 before_last s (row ∷ (next ∷ rows)) = before_last s (next ∷ rows)
 
+-- what was asked in these rows, and what was replied
+abbrev pub commands_of : List Row → List Command
+commands_of rows = map (λ (row : Row). row.command) rows
+
+abbrev pub replies_of : List Row → List Reply
+replies_of rows = map (λ (row : Row). row.reply) rows
+
 -- the commands, one after another, had these replies
 pub record Run (old : State) (commands : List Command) (replies : List Reply) (new : State) : Type 0 where
   pub rows : List Row
   pub leads : Leads old rows new
-  pub asked : map (λ (row : Row). row.command) rows ≡ commands
-  pub answered : map (λ (row : Row). row.reply) rows ≡ replies
+  pub asked : commands_of rows ≡ commands
+  pub answered : replies_of rows ≡ replies
 
 -- the fact holds of the state after each row
 abbrev pub AfterEach : (State → Type 0) → List Row → Type 0

@@ -3,7 +3,7 @@ ghost use Rattle.std.specs.Prelude.{◌≡◌, ◌++◌, ◌∷◌, [], List, �
 ghost use Rattle.std.specs.Str.{IsCharBoundary};
 ghost use Rattle.rl_session.specs.State.{State, Follows, Stands, Opens, Replays};
 ghost use Rattle.rl_session.specs.Commands.{Does, Step};
-ghost use Rattle.rl_session.specs.Run.{Row, Run, AfterEach, held_of};
+ghost use Rattle.rl_session.specs.Run.{Row, Run, AfterEach, commands_of, held_of, replies_of};
 ghost use Rattle.rl_session.specs.declared.session.Command.{Command};
 ghost use Rattle.rl_session.specs.declared.session.Reply.{Reply};
 
@@ -315,8 +315,9 @@ impl Session {
     }
 }
 
-/// Two runs, one after the other, are one of the same rows, and so are the texts that they held. A single row, as each
-/// command makes one, is a run.
+/// Two runs, one after the other, are one of the same rows, and so are the texts that they held. The rows of a run up
+/// to any of them are a run, and so are those behind: so what a law says of the last row of a run holds of any row, with
+/// the texts that were held by then. A single row, as each command makes one, is a run.
 pub fn runs_compose()
     ensures joined { (old mid new : State) (cs ds : List Command) (rs ss : List Reply) (first : Run old cs rs mid) (second : Run mid ds ss new)
         → (both : Run old (cs ++ ds) (rs ++ ss) new) × (both.rows ≡ first.rows ++ second.rows) × (held_of both.rows ≡ held_of first.rows ++ held_of second.rows) }
@@ -325,6 +326,9 @@ pub fn runs_compose()
 
 /// After every row of a run, also where a step was refused, the recorded changes replayed from the starting
 /// text give the present text.
+    ensures parts { (old new : State) (cs : List Command) (rs : List Reply) (run : Run old cs rs new) (xs ys : List Row) → run.rows ≡ xs ++ ys
+        → (mid : State) × (first : Run old (commands_of xs) (replies_of xs) mid) × (second : Run mid (commands_of ys) (replies_of ys) new)
+        × (first.rows ≡ xs) × (second.rows ≡ ys) }
 pub fn each_row_replays()
     ensures { (start : List ℕ) (old new : State) (commands : List Command) (replies : List Reply) (run : Run old commands replies new)
         → Replays start old → AfterEach (Replays start) run.rows }
