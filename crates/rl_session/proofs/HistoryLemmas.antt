@@ -334,7 +334,8 @@ pub redo-in_run : (text : List ℕ) (pos limit ring_size : ℕ) (mode : Grapheme
     (earlier redos : List Row) (row : Row) (n : ℕ) → IsUtf8 text → IsCharBoundary text pos → (run : Run (fresh text pos limit ring_size mode) commands replies new)
     → run.rows ≡ earlier ++ (row ∷ redos) → row.command ≡ Undo n → ¬ (WasRefused row.reply) → opens (last_units n row.before.pair.changes.recorded) ≡ 0
     → AllRedone redos → length redos ≡ length (last_units n row.before.pair.changes.recorded)
-    → (new.line.text ≡ row.before.line.text) × (new.pair.changes ≡ row.before.pair.changes)
+    → (new.line.text ≡ row.before.line.text) × (new.pair.changes.recorded ≡ row.before.pair.changes.recorded)
+    × (new.pair.changes.pending ≡ row.before.pair.changes.pending)
 redo-in_run text pos limit ring_size mode commands replies new earlier redos row n u b run e is_undo done whole all long =
     let at = at_row text pos limit ring_size mode commands replies new earlier redos row u run e in
     let d = undo-row row n is_undo done in
@@ -342,4 +343,4 @@ redo-in_run text pos limit ring_size mode commands replies new earlier redos row
     let again = subst (λ k. Redos k row.after.pair.changes new.pair.changes row.after.line new.line) long (redo-rows redos row.after new all at.goes_on) in
     let text_of = replay-IsUtf8 r.recorded text row.before.line.text u at.holds.leads in
     let back = redos-give-back n r row.after.pair.changes new.pair.changes row.before.line row.after.line new.line d.0 text_of at.holds.matched whole d.1 again in
-    (back.1, back.0)
+    (back.1, ap (λ (k : Record). k.recorded) back.0, ap (λ (k : Record). k.pending) back.0)

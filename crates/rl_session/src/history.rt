@@ -73,5 +73,6 @@ pub fn redo_gives_back()
         → run.rows ≡ earlier ++ (u ∷ redos)
         → u.command ≡ Undo n → ¬ (WasRefused u.reply) → opens (last_units n u.before.pair.changes.recorded) ≡ 0
         → AllRedone redos → length redos ≡ length (last_units n u.before.pair.changes.recorded)
-        → (new.line.text ≡ u.before.line.text) × (new.pair.changes ≡ u.before.pair.changes) }
+        → (new.line.text ≡ u.before.line.text) × (new.pair.changes.recorded ≡ u.before.pair.changes.recorded)
+        × (new.pair.changes.pending ≡ u.before.pair.changes.pending) }
 {}
