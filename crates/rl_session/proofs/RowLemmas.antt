@@ -8,13 +8,13 @@ use Rattle.rl_line.specs.Kills.{is_by_characters, kill_plan}
 use Rattle.rl_line.specs.Record.{Record, unwind}
 use Rattle.rl_line.proofs.MarkLemmas.{Kept-begun, Kept-ended, Kept-Redone, Kept-truncated}
 use Rattle.rl_line.proofs.OriginLemmas.{Kept, Kept-Undone}
-use Rattle.rl_line.proofs.RecordLemmas.{unwind-replay, replay-unwind, replay-IsUtf8}
+use Rattle.rl_line.proofs.RecordLemmas.{unwind-replay, replay-unwind, replay-IsUtf8, value_of}
 use Rattle.rl_session.specs.declared.session.Command.{Command}
 use Rattle.rl_session.specs.declared.session.Command.TheVariants.{SetPos, Move, Yank, YankPop, EditWord, Kill, Copy, Begin, End, Undo, Redo, Truncate}
 use Rattle.rl_session.specs.declared.session.Fault.TheVariants.{NoMemory, BadPlace, BadYankSize, NotReplaying}
 use Rattle.rl_session.specs.declared.session.Reply.{Reply}
 use Rattle.rl_session.specs.declared.session.Reply.TheVariants as says
-use Rattle.rl_session.specs.State.{State, Replays}
+use Rattle.rl_session.specs.State.{State, Replays, origin}
 use Rattle.rl_session.specs.Commands.{Asked, edit, other, asked, Telling, answers, inserts, hands_out, is_done, Tells, CutShort, Does, DoesAsked, Edited, Edits, Others, Step, destination, lent, popped, readied, with_changes}
 use Rattle.rl_session.specs.Run.{Row, held, held_of, Leads, Run, AfterEach, commands_of, replies_of}
 use Rattle.rl_session.proofs.SessionLemmas.{Kept-Moved, Kept-pair, Kept-refused, Kept-Told}
@@ -98,6 +98,12 @@ Kept-Step : (old : State) (command : Command) (reply : Reply) (new : State) → 
     → IsSome (unwind old.pair.changes.recorded old.line.text) → KeepsOrigin old new
 Kept-Step old command reply new s u f = subst (KeepsOrigin old) (sym s.settles) (Kept-Does (readied command old) command reply s.left u f s.does)
 
+-- so the origin stays, whatever the start was called
+pub step_origin : (old : State) (command : Command) (reply : Reply) (new : State) → Step old command reply new → IsUtf8 old.line.text → IsSome (origin old) → origin new ≡ origin old
+step_origin old command reply new s u f =
+    let start = value_of (origin old) f in
+    (Kept-Step old command reply new s u f).origin_is start.0 start.1 ∙ sym start.1
+
 -- so it keeps what the recorded changes lead to
 pub step_replays : (start : List ℕ) (old : State) (command : Command) (reply : Reply) (new : State) → Step old command reply new → Replays start old → Replays start new
 step_replays start old command reply new s h =
@@ -144,12 +150,6 @@ Run-append old mid new cs ds rs ss r s = (
   held_of-append r.rows s.rows,
 )
 
--- a row is a run
-pub Run-row : (row : Row) → (t : Run row.before (row.command ∷ []) (row.reply ∷ []) row.after) × (t.rows ≡ row ∷ [])
-Run-row row = (record { rows = row ∷ []; leads = (refl, refl); asked = refl; answered = refl }, refl)
-
-Leads-replays : (start : List ℕ) (rows : List Row) (old new : State) → Leads old rows new → Replays start old → AfterEach (Replays start) rows × Replays start new
-Leads-replays start [] old new l h = (tt, subst (λ s. Replays start s) (sym l) h)
 -- rows fall into two parts, with a state between
 pub Leads-split : (xs ys : List Row) (old new : State) → Leads old (xs ++ ys) new → (mid : State) × Leads old xs mid × Leads mid ys new
 Leads-split [] ys old new l = (old, refl, l)
@@ -167,6 +167,12 @@ Run-parts old new cs rs run xs ys e =
       refl,
     )
 
+-- a row is a run
+pub Run-row : (row : Row) → (t : Run row.before (row.command ∷ []) (row.reply ∷ []) row.after) × (t.rows ≡ row ∷ [])
+Run-row row = (record { rows = row ∷ []; leads = (refl, refl); asked = refl; answered = refl }, refl)
+
+Leads-replays : (start : List ℕ) (rows : List Row) (old new : State) → Leads old rows new → Replays start old → AfterEach (Replays start) rows × Replays start new
+Leads-replays start [] old new l h = (tt, subst (λ s. Replays start s) (sym l) h)
 Leads-replays start (row ∷ rows) old new l h =
     let next = step_replays start row.before row.command row.reply row.after row.step (subst (λ s. Replays start s) (sym l.0) h) in
     let rest = Leads-replays start rows row.after new l.1 next in

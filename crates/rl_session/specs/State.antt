@@ -1,5 +1,5 @@
 -- What a session holds.
-use Rattle.std.specs.Prelude.{◌≡◌, ℕ, ◌≤◌, max, false, IsSome, List, [], length, Some, Result, Ok, Err}
+use Rattle.std.specs.Prelude.{◌≡◌, ℕ, ◌≤◌, max, false, IsSome, List, [], length, Option, Some, Result, Ok, Err}
 use Rattle.std.specs.Str.{IsCharBoundary, IsUtf8}
 use Rattle.rl_base.specs.KillRing.{Ring, IsRing, new_ring}
 use Rattle.rl_base.specs.declared.layout.GraphemeClusterMode.{GraphemeClusterMode}
@@ -44,6 +44,10 @@ Opens text pos limit ring_size mode (Ok session) = IsCharBoundary text pos × (s
 Opens text pos limit ring_size mode (Err NoMemory) = IsCharBoundary text pos
 Opens text pos limit ring_size mode (Err BadPlace) = ¬ (IsCharBoundary text pos)
 Opens text pos limit ring_size mode (Err _) = ⊥
+
+-- the text from which a state came: the recorded changes, taken back from the present text
+abbrev pub origin : State → Option (List ℕ)
+origin s = unwind s.pair.changes.recorded s.line.text
 
 -- the recorded changes, replayed from the starting text, give the present text
 pub record Replays (start : List ℕ) (s : State) : Type 0 where

@@ -1,7 +1,7 @@
 //! A session: a line with its kill ring and the record of its changes, which takes commands one after another.
 ghost use Rattle.std.specs.Prelude.{◌≡◌, ◌++◌, ◌∷◌, [], List, ℕ, max, length, false, IfOk, IfErr};
 ghost use Rattle.std.specs.Str.{IsCharBoundary};
-ghost use Rattle.rl_session.specs.State.{State, Follows, Stands, Opens, Replays};
+ghost use Rattle.rl_session.specs.State.{State, Follows, Stands, Opens, Replays, origin};
 ghost use Rattle.rl_session.specs.Commands.{Does, Step};
 ghost use Rattle.rl_session.specs.Run.{Row, Run, AfterEach, commands_of, held_of, replies_of};
 ghost use Rattle.rl_session.specs.declared.session.Command.{Command};
@@ -273,11 +273,15 @@ impl Session {
 
     /// Does one command. The ring is reset first, unless the command is a yank, or a kill by another movement
     /// than by clusters, and again after a yank that was not replied with `Inserted(Some(..))`. Whatever it
-    /// answers, the recorded changes lead from the starting text to the present one.
+    /// answers, the recorded changes lead from the starting text to the present one, and back to the text from which
+    /// they came before.
     pub fn apply(&mut self, command: &Command) -> Reply
         ensures step { Step self.old command.now result self.new }
         ensures replays { (start : List ℕ) → Replays start self.old → Replays start self.new }
+        ensures origin { origin self.new ≡ origin self.old }
     {
+        self.stands();
+        self.follows();
         self.ready(command);
         let reply = self.obey(command);
         self.settle(command, &reply);
@@ -287,12 +291,13 @@ impl Session {
     }
 
     /// Does the commands in order, and answers one reply for each. It finds room for the replies first:
-    /// refused, it did none.
+    /// refused, it did none. In either case the record leads back to the text from which it came before.
     pub fn run(&mut self, commands: &[Command]) -> Result<Vec<Reply>, Fault>
         ensures run { IfOk result (λ replies. Run self.old commands.now replies.items self.new) }
         ensures stands { Stands self.new }
         ensures follows { Follows self.new.line self.new.pair.changes }
         ensures replays { (start : List ℕ) → Replays start self.old → Replays start self.new }
+        ensures origin { origin self.new ≡ origin self.old }
         ensures err { IfErr result (λ f. (f ≡ Fault.NoMemory) × (self.new ≡ self.old)) }
     {
         let mut replies = match Vec::with_capacity(self.alloc, commands.len()) {
@@ -321,14 +326,14 @@ impl Session {
 pub fn runs_compose()
     ensures joined { (old mid new : State) (cs ds : List Command) (rs ss : List Reply) (first : Run old cs rs mid) (second : Run mid ds ss new)
         → (both : Run old (cs ++ ds) (rs ++ ss) new) × (both.rows ≡ first.rows ++ second.rows) × (held_of both.rows ≡ held_of first.rows ++ held_of second.rows) }
+    ensures parts { (old new : State) (cs : List Command) (rs : List Reply) (run : Run old cs rs new) (xs ys : List Row) → run.rows ≡ xs ++ ys
+        → (mid : State) × (first : Run old (commands_of xs) (replies_of xs) mid) × (second : Run mid (commands_of ys) (replies_of ys) new)
+        × (first.rows ≡ xs) × (second.rows ≡ ys) }
     ensures row { (row : Row) → (run : Run row.before (row.command ∷ []) (row.reply ∷ []) row.after) × (run.rows ≡ row ∷ []) }
 {}
 
 /// After every row of a run, also where a step was refused, the recorded changes replayed from the starting
 /// text give the present text.
-    ensures parts { (old new : State) (cs : List Command) (rs : List Reply) (run : Run old cs rs new) (xs ys : List Row) → run.rows ≡ xs ++ ys
-        → (mid : State) × (first : Run old (commands_of xs) (replies_of xs) mid) × (second : Run mid (commands_of ys) (replies_of ys) new)
-        × (first.rows ≡ xs) × (second.rows ≡ ys) }
 pub fn each_row_replays()
     ensures { (start : List ℕ) (old new : State) (commands : List Command) (replies : List Reply) (run : Run old commands replies new)
         → Replays start old → AfterEach (Replays start) run.rows }

@@ -1,4 +1,4 @@
-use Rattle.rl_session.proofs.RowLemmas.{step_replays}
+use Rattle.rl_session.proofs.RowLemmas.{step_origin, step_replays}
 use Rattle.rl_session.proofs.session.Session.apply.Goals as goal
 
 pub returns-clause-step : goal.returns-clause-step
@@ -6,9 +6,12 @@ returns-clause-step c = record {
   left = c.obey-reply.new.self;
   does = rw c.ready.ensures at c.obey-reply.ensures;
   settles = c.settle.ensures;
-  stands = c.stands.ensures;
-  follows = c.follows.ensures;
+  stands = c.stands-2.ensures;
+  follows = c.follows-2.ensures;
 }
 
 pub returns-clause-replays : goal.returns-clause-replays
 returns-clause-replays c = λ start. step_replays start _ _ _ _ (returns-clause-step c)
+
+pub returns-clause-origin : goal.returns-clause-origin
+returns-clause-origin c = step_origin _ _ _ _ (returns-clause-step c) c.stands.ensures.utf8 c.follows.ensures.back

@@ -16,6 +16,7 @@ loop-command-preserved c =
       run = rw (items, next)
           (Run-more _ _ _ _ _ c.loop-command.self _ c.loop-command.invariant.run c.apply-reply.ensures.step);
       count = len ∙ ap (λ n. n + 1) c.loop-command.invariant.count;
+      origin = c.apply-reply.ensures.origin ∙ c.loop-command.invariant.origin;
       room = omega (arith, c.loop-command.invariant.room, c.push.ensures.capacity);
     }
 
