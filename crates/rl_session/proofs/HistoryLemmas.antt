@@ -154,7 +154,7 @@ Heard-other old (Kill m) (says.Answer a) new d i = Heard-Told (is_by_characters 
 Heard-other old (Kill m) (says.Refused NoMemory) new d i =
     Heard-refused (is_by_characters m) (killed old.line m) (side_of m) old.line new.line old.pair new.pair why.NoMemory d.told
 Heard-other old (Yank n) (says.Inserted a) new d i = Heard-Edited (lent_plan old.line (yank old.pair.ring) n) (lent old) new a d
-Heard-other old (Yank n) (says.Refused NoMemory) new d i = Heard-cut (lent_plan old.line (yank old.pair.ring) n) (lent old) new d
+Heard-other old (Yank n) (says.Refused NoMemory) new d i = Heard-cut (lent_plan old.line (yank old.pair.ring) n) (lent old) new d.1
 Heard-other old YankPop (says.Inserted a) new d i = Heard-Edited (popped_plan old.line (yank_pop old.pair.ring)) (popped old) new a d.1
 Heard-other old YankPop (says.Refused BadYankSize) new d i = Heard-same old new d.1
 Heard-other old YankPop (says.Refused NoMemory) new d i = Heard-CutShort (popped_plan old.line (yank_pop old.pair.ring)) (popped old) new d.1

@@ -172,7 +172,7 @@ Others-size old (Kill m) (says.Refused NoMemory) new s =
     Told-size (is_by_characters m) _ old.pair new.pair (λ before now h. Halted-size (kill_plan old.line m) old.line new.line before now _ h) s.told
 Others-size old (Yank n) (says.Inserted a) new s =
     Done-size _ old.line new.line _ new.pair a s.done ∙ lent-size (yank old.pair.ring) old.pair.ring
-Others-size old (Yank n) (says.Refused NoMemory) new s = borrowed-size _ _ new s ∙ lent-size (yank old.pair.ring) old.pair.ring
+Others-size old (Yank n) (says.Refused NoMemory) new s = borrowed-size _ _ new s.1 ∙ lent-size (yank old.pair.ring) old.pair.ring
 Others-size old YankPop (says.Inserted a) new s =
     Done-size _ old.line new.line _ new.pair a s.1.done ∙ popped-size (yank_size old.pair.ring) old.pair.ring
 Others-size old YankPop (says.Refused BadYankSize) new s = same-size old new s.1

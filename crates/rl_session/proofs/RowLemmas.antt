@@ -67,7 +67,7 @@ Kept-Others old (Kill m) (says.Answer a) new u f s =
 Kept-Others old (Kill m) (says.Refused NoMemory) new u f s =
     Kept-Told (is_by_characters m) _ old.pair new.pair old.line new.line (λ before now h. Kept-refused (kill_plan old.line m) before now old.line new.line _ u h) s.told
 Kept-Others old (Yank n) (says.Inserted a) new u f s = Kept-pair _ (lent old).pair new.pair old.line new.line a u s.done
-Kept-Others old (Yank n) (says.Refused NoMemory) new u f s = lent-Kept _ (lent old) new u s
+Kept-Others old (Yank n) (says.Refused NoMemory) new u f s = lent-Kept _ (lent old) new u s.1
 Kept-Others old YankPop (says.Inserted a) new u f s = Kept-pair _ (popped old).pair new.pair old.line new.line a u s.1.done
 Kept-Others old YankPop (says.Refused BadYankSize) new u f s = same_origin old new u s.1
 Kept-Others old YankPop (says.Refused NoMemory) new u f s = cut-Kept _ (popped old) new u s.1

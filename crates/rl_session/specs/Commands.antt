@@ -1,5 +1,5 @@
 -- What each command does.
-use Rattle.std.specs.Prelude.{◌≡◌, ℕ, ◌-◌, ◌≤◌, Bool, true, false, not, length, List, Option, Some, None, ◌⊎◌, if◌then◌else◌}
+use Rattle.std.specs.Prelude.{◌≡◌, ℕ, ◌-◌, ◌≤◌, Bool, true, false, not, length, List, Option, Some, None, IsSome, ◌⊎◌, if◌then◌else◌}
 use Rattle.std.specs.List.{insert_slice}
 use Rattle.std.specs.Option.{option_map}
 use Rattle.std.specs.String.{string_bytes}
@@ -179,9 +179,10 @@ Others old (EditWord action) (says.Answer a) new = Recased old.line action (λ m
 Others old (EditWord action) (says.Refused NoMemory) new = Recased old.line action (λ made. CutShort (edit_word_plan old.line made) old new)
 Others old (Kill m) (says.Answer a) new = Killed m old new a
 Others old (Kill m) (says.Refused NoMemory) new = KillRefused m old new
--- a yanked text is copied out of the ring, for which there may be no memory either
+-- a yanked text is copied out of the ring, for which there may be no memory either; where none is lent, nothing is refused
 Others old (Yank n) (says.Inserted a) new = Edited (lent_plan old.line (yank old.pair.ring) n) (lent old) new a
-Others old (Yank n) (says.Refused NoMemory) new = (new ≡ lent old) ⊎ CutShort (lent_plan old.line (yank old.pair.ring) n) (lent old) new
+Others old (Yank n) (says.Refused NoMemory) new =
+    IsSome (yank old.pair.ring) × ((new ≡ lent old) ⊎ CutShort (lent_plan old.line (yank old.pair.ring) n) (lent old) new)
 Others old YankPop (says.Inserted a) new =
     StandsYanked (yank_size old.pair.ring) old.line × Edited (popped_plan old.line (yank_pop old.pair.ring)) (popped old) new a
 Others old YankPop (says.Refused BadYankSize) new = (¬ (StandsYanked (yank_size old.pair.ring) old.line)) × (new ≡ old)

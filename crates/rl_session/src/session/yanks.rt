@@ -100,6 +100,7 @@ fn is_vain_yank(command: &Command, reply: &Reply) -> bool
 fn yanked(alloc: Global, ring: &mut KillRing) -> Result<Option<String>, AllocError>
     ensures ring { ring.new ≡ yanked ring.old }
     ensures text { IfOk result (λ text. option_map string_bytes text ≡ yank ring.old) }
+    ensures lent { IfErr result (λ _. IsSome (yank ring.old)) }
 {
     match ring.yank() {
         Some(text) => Ok(Some(String::from_str(alloc, text.as_str())?)),
