@@ -10,8 +10,6 @@ mod print;
 pub mod script;
 pub mod session;
 mod settings;
-#[cfg(test)]
-mod tests;
 
 pub use pair::Pair;
 pub use script::{ScriptFault, run_script};

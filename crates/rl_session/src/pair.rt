@@ -1,7 +1,4 @@
 //! A kill ring and a record of changes, which hear of a line's changes as one.
-#[cfg(test)]
-mod tests;
-
 use rl_base::{ChangeListener, DeleteListener, Direction, KillRing, Refusal};
 use rl_line::Changeset;
 

@@ -7,9 +7,6 @@ ghost use Rattle.rl_session.specs.Print.{printed};
 ghost use Rattle.rl_session.specs.Script.{begun, started, MeaningOut, LineOut, Ran, Stopped};
 ghost use Rattle.rl_session.specs.Progress.{Runs, Took, Halts};
 
-#[cfg(test)]
-pub(crate) mod tests;
-
 use crate::grammar::{ScriptLine, parse};
 use crate::print::add_printed;
 use crate::session::{Command, Fault, Reply, Session};

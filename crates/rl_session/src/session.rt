@@ -12,8 +12,6 @@ mod edits;
 mod history;
 mod motions;
 mod replies;
-#[cfg(test)]
-mod tests;
 mod yanks;
 
 use crate::pair::Pair;

@@ -1,7 +1,7 @@
 //! Copies, deletions and kills with answers that were worked out by hand.
-use crate::script::tests::{Lines, print_each};
-use crate::tests::heard::Heard;
-use crate::tests::line_buffer::{holds, leaves, line_of};
+use crate::heard::Heard;
+use crate::line_buffer::{holds, leaves, line_of};
+use crate::script::{Lines, print_each};
 use rl_base::CharSearch::{Backward, BackwardAfter, Forward, ForwardBefore};
 use rl_base::{At, CharSearch, Direction, Movement, NoListener, Refusal, RepeatCount, Word};
 use rl_line::LineBuffer;

@@ -1,7 +1,7 @@
 //! What a pair hears of the edits of a line.
-use crate::pair::Pair;
 use rl_base::{KillRing, Movement};
 use rl_line::{Changeset, LineBuffer};
+use rl_session::Pair;
 use std::process::Abort;
 use std::test::Fail;
 

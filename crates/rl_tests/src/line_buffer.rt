@@ -1,6 +1,6 @@
 //! Edits with answers that were worked out by hand, and what no clause says: that a call comes back with an
 //! answer, and printed text.
-use crate::tests::undo::stands;
+use crate::undo::stands;
 use rl_base::{NoListener, RepeatCount};
 use rl_line::{Changeset, LineBuffer, MAX_LINE};
 use std::alloc::Global;
@@ -8,7 +8,7 @@ use std::process::Abort;
 use std::test::Fail;
 
 // A line that holds the text, with the cursor at the place.
-pub(super) fn line_of(
+pub(crate) fn line_of(
     rt: &impl Abort,
     alloc: Global,
     text: &str,
@@ -18,7 +18,7 @@ pub(super) fn line_of(
 }
 
 // The same of that limit, with leave to grow past it, or without.
-pub(super) fn line_within(
+pub(crate) fn line_within(
     rt: &impl Abort,
     alloc: Global,
     limit: usize,
@@ -36,12 +36,12 @@ pub(super) fn line_within(
 }
 
 // It is so, of a call on that text at that place.
-pub(super) fn holds(rt: &impl Abort, is_so: bool, what: &str, text: &str, pos: usize) {
+pub(crate) fn holds(rt: &impl Abort, is_so: bool, what: &str, text: &str, pos: usize) {
     assert!(rt; is_so, "{what} of {text:?} at {pos}");
 }
 
 // The line has that text and cursor, after a call on that text at that place.
-pub(super) fn leaves(
+pub(crate) fn leaves(
     rt: &impl Abort,
     line: &LineBuffer,
     text: &str,

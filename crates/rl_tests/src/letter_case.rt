@@ -1,5 +1,5 @@
 //! Edits of words with answers that were worked out by hand, as lines of scripts.
-use crate::script::tests::{Lines, print_each};
+use crate::script::{Lines, print_each};
 use std::test::Fail;
 
 #[test]

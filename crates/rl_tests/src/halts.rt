@@ -1,7 +1,7 @@
 //! Edits that their listener refuses halfway, and what they leave.
-use crate::tests::edits::{replace, update, yank_pop};
-use crate::tests::heard::{AHEAD, Heard, Told};
-use crate::tests::line_buffer::{leaves, line_of};
+use crate::edits::{replace, update, yank_pop};
+use crate::heard::{AHEAD, Heard, Told};
+use crate::line_buffer::{leaves, line_of};
 use rl_base::{Movement, Refusal, RepeatCount, Word, WordAction};
 use rl_line::LineBuffer;
 use std::alloc::Global;

@@ -1,7 +1,7 @@
 //! Rows of sessions.
-use crate::script::tests::is_so;
-use crate::session::{Command, Fault, Reply, Session};
+use crate::script::is_so;
 use rl_base::{At, CharSearch, GraphemeClusterMode, Movement, Word, WordAction};
+use rl_session::{Command, Fault, Reply, Session};
 use std::alloc::Global;
 use std::process::Abort;
 use std::test::Fail;

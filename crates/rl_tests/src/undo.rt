@@ -1,7 +1,7 @@
 //! The record, with answers that were worked out by hand, and what no clause says: that a call comes back with
 //! an answer.
-use crate::tests::edits::replace;
-use crate::tests::line_buffer::line_of;
+use crate::edits::replace;
+use crate::line_buffer::line_of;
 use rl_base::{
     ChangeListener, DeleteListener, Direction, Movement, NoListener, Refusal, RepeatCount,
 };
@@ -11,7 +11,7 @@ use std::process::Abort;
 use std::test::Fail;
 
 // An undo, of a record that leads back.
-pub(super) fn undo(
+pub(crate) fn undo(
     rt: &impl Abort,
     line: &mut LineBuffer,
     record: &mut Changeset,
@@ -36,7 +36,7 @@ fn is_so(rt: &impl Abort, is_so: bool, what: &str, cursor: usize, entries: usize
 }
 
 // The text and the cursor of a line, and how many entries its record has.
-pub(super) fn stands(
+pub(crate) fn stands(
     rt: &impl Abort,
     line: &LineBuffer,
     record: &Changeset,
@@ -51,7 +51,7 @@ pub(super) fn stands(
 
 // A call of a line that tells its record, or of the record, as a value of a table.
 #[derive(Clone, Copy)]
-pub(super) enum Call {
+pub(crate) enum Call {
     Insert(char, RepeatCount),
     Yank(&'static str),
     Back(RepeatCount),
@@ -76,7 +76,7 @@ pub(super) enum Call {
 
 // What a record is told by itself, while the line stays as it is.
 #[derive(Clone, Copy)]
-pub(super) enum Event {
+pub(crate) enum Event {
     Char(usize, char),
     Text(usize, &'static str),
     Deletion(usize, &'static str, Direction),
@@ -126,7 +126,7 @@ fn delete_ahead(line: &mut LineBuffer, record: &mut Changeset) -> Result<usize, 
 }
 
 // Makes the call. It answers the mark of a begin, or the limit, and else 1 for true and 0 for what is not true.
-pub(super) fn make(
+pub(crate) fn make(
     rt: &impl Abort,
     line: &mut LineBuffer,
     record: &mut Changeset,
@@ -159,7 +159,7 @@ pub(super) fn make(
 }
 
 // A call, its answer, and what it leaves: the text, the cursor, the entries, and the open groups.
-pub(super) type Step = (Call, usize, &'static str, usize, usize, usize);
+pub(crate) type Step = (Call, usize, &'static str, usize, usize, usize);
 
 // It is so, of a step.
 fn is_step(rt: &impl Abort, is_so: bool, what: &str, i: usize) {
@@ -167,7 +167,7 @@ fn is_step(rt: &impl Abort, is_so: bool, what: &str, i: usize) {
 }
 
 // Takes the steps on the line, with a new record.
-pub(super) fn takes(
+pub(crate) fn takes(
     rt: &impl Abort,
     line: &mut LineBuffer,
     alloc: Global,
@@ -184,7 +184,7 @@ pub(super) fn takes(
 }
 
 // Takes the steps on a line that holds the text, with the cursor at its end.
-pub(super) fn goes(rt: &impl Abort, alloc: Global, text: &str, steps: &[Step]) -> Result<(), Fail> {
+pub(crate) fn goes(rt: &impl Abort, alloc: Global, text: &str, steps: &[Step]) -> Result<(), Fail> {
     let mut line = line_of(rt, alloc, text, text.len())?;
     takes(rt, &mut line, alloc, steps)?;
     Ok(())

@@ -8,7 +8,7 @@ use rl_base::{ChangeListener, DeleteListener, Direction, Refusal};
 // How many changes it will hear yet, the starts and ends of kills, the deletions, and the last change but a character:
 // its place, the length of its text, and the side of a deletion. Of a replacement it is the new text.
 #[derive(Drop)]
-pub(super) struct Heard {
+pub(crate) struct Heard {
     pub left: usize,
     pub starts: u16,
     pub stops: u16,
@@ -19,13 +19,13 @@ pub(super) struct Heard {
 }
 
 // A change: its place, its text, and the side of a deletion.
-pub(super) type Told = (usize, &'static str, Option<Direction>);
+pub(crate) type Told = (usize, &'static str, Option<Direction>);
 
 // The side of a deletion ahead.
-pub(super) const AHEAD: Option<Direction> = Some(Direction::Forward);
+pub(crate) const AHEAD: Option<Direction> = Some(Direction::Forward);
 
 impl Heard {
-    pub(super) fn new(left: usize) -> Self {
+    pub(crate) fn new(left: usize) -> Self {
         Heard {
             left,
             starts: 0,
@@ -50,14 +50,14 @@ impl Heard {
     }
 
     // It heard that change last: the text of a deletion in the text before it, of another change in that after it.
-    pub(super) fn is_told(&self, told: Told, before: &str, after: &str) -> bool {
+    pub(crate) fn is_told(&self, told: Told, before: &str, after: &str) -> bool {
         let (place, text, side) = told;
         let held = if side.is_some() { before } else { after };
         self.place == place && self.side == side && self.text_in(held) == Some(text)
     }
 
     // The text of the last change, in the text in which it stands.
-    pub(super) fn text_in<'a>(&self, text: &'a str) -> Option<&'a str> {
+    pub(crate) fn text_in<'a>(&self, text: &'a str) -> Option<&'a str> {
         text.get(self.place..self.place.saturating_add(self.len))
     }
 }

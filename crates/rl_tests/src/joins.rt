@@ -1,6 +1,6 @@
 //! Which changes join in the record, with answers that were worked out by hand.
-use crate::tests::line_buffer::line_of;
-use crate::tests::undo::{Call, Event, Step, goes, make, stands, takes, undo};
+use crate::line_buffer::line_of;
+use crate::undo::{Call, Event, Step, goes, make, stands, takes, undo};
 use rl_base::{ChangeListener, Direction, Refusal};
 use rl_line::{Changeset, LineBuffer};
 use std::alloc::Global;

@@ -1,7 +1,7 @@
 //! Indents and dedents with answers that were worked out by hand.
-use crate::script::tests::{Lines, print_each};
-use crate::tests::heard::{AHEAD, Heard};
-use crate::tests::line_buffer::{holds, leaves, line_of};
+use crate::heard::{AHEAD, Heard};
+use crate::line_buffer::{holds, leaves, line_of};
+use crate::script::{Lines, print_each};
 use rl_base::Movement;
 use std::alloc::Global;
 use std::process::Abort;

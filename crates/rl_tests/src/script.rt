@@ -1,7 +1,5 @@
 //! Rows of scripts.
-use crate::run_script;
-use crate::script::ScriptFault;
-use crate::session::Fault;
+use rl_session::{Fault, ScriptFault, run_script};
 use std::alloc::Global;
 use std::io;
 use std::io::{Read, Write};

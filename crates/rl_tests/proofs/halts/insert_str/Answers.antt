@@ -4,7 +4,7 @@ use Rattle.std.proofs.lemmas.Str.Ascii.{IsAscii-cons, IsAscii-nil}
 use Rattle.std.specs.List.{insert_slice}
 use Rattle.std.specs.Str.{IsCharBoundary}
 use Rattle.rl_base.proofs.TextLemmas.{IsCharBoundary-before}
-use Rattle.rl_session.proofs.tests.halts.insert_str.Goals as goal
+use Rattle.rl_tests.proofs.halts.insert_str.Goals as goal
 
 pub insert_str-requires-clause-stays : goal.insert_str-requires-clause-stays
 insert_str-requires-clause-stays c =

@@ -1,6 +1,6 @@
 //! Motions with places that were worked out by hand, as lines of scripts.
-use crate::script::tests::{Lines, print_each, prints_on};
-use crate::tests::line_buffer::{holds, line_of};
+use crate::line_buffer::{holds, line_of};
+use crate::script::{Lines, print_each, prints_on};
 use std::alloc::Global;
 use std::process::Abort;
 use std::test::Fail;

@@ -1,5 +1,5 @@
 //! Motions over lines with answers from outside.
-use crate::tests::line_buffer::line_of;
+use crate::line_buffer::line_of;
 use rl_base::{GraphemeClusterMode, Layout, RepeatCount, Unit};
 use rl_line::LineBuffer;
 use std::alloc::Global;

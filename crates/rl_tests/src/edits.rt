@@ -1,6 +1,6 @@
 //! Edits that put texts in, with answers that were worked out by hand.
-use crate::tests::heard::{AHEAD, Heard, Told};
-use crate::tests::line_buffer::{holds, leaves, line_within};
+use crate::heard::{AHEAD, Heard, Told};
+use crate::line_buffer::{holds, leaves, line_within};
 use rl_base::{ChangeListener, Refusal, RepeatCount};
 use rl_line::LineBuffer;
 use std::alloc::Global;
@@ -17,7 +17,7 @@ enum Call {
 }
 
 // Puts the text in the place of what stands before the cursor.
-pub(super) fn yank_pop<L: ChangeListener>(
+pub(crate) fn yank_pop<L: ChangeListener>(
     rt: &impl Abort,
     line: &mut LineBuffer,
     size: usize,
@@ -30,7 +30,7 @@ pub(super) fn yank_pop<L: ChangeListener>(
 }
 
 // Puts the text in the place of a range.
-pub(super) fn replace<L: ChangeListener>(
+pub(crate) fn replace<L: ChangeListener>(
     rt: &impl Abort,
     line: &mut LineBuffer,
     from: usize,
@@ -45,7 +45,7 @@ pub(super) fn replace<L: ChangeListener>(
 }
 
 // Puts the text in the place of the whole text, with the cursor at that place of it.
-pub(super) fn update<L: ChangeListener>(
+pub(crate) fn update<L: ChangeListener>(
     rt: &impl Abort,
     line: &mut LineBuffer,
     text: &str,

@@ -1,0 +1,43 @@
+//! What places, widths, the ring, lines, records, sessions and scripts do, as any caller sees it. Each file is named
+//! for the module that it is of; `halts` is of edits that are refused halfway, by the listener in `heard`, and `joins`
+//! of changes that join in the record. Tests stand alone, so that no other crate is proved again for them.
+#![tactic(auto)]
+
+#[cfg(test)]
+mod edits;
+#[cfg(test)]
+mod halts;
+#[cfg(test)]
+mod heard;
+#[cfg(test)]
+mod indents;
+#[cfg(test)]
+mod joins;
+#[cfg(test)]
+mod kill_ring;
+#[cfg(test)]
+mod kills;
+#[cfg(test)]
+mod layout;
+#[cfg(test)]
+mod letter_case;
+#[cfg(test)]
+mod line_buffer;
+#[cfg(test)]
+mod line_motions;
+#[cfg(test)]
+mod listeners;
+#[cfg(test)]
+mod motions;
+#[cfg(test)]
+mod pair;
+#[cfg(test)]
+mod places;
+#[cfg(test)]
+mod script;
+#[cfg(test)]
+mod session;
+#[cfg(test)]
+mod transpositions;
+#[cfg(test)]
+mod undo;
