@@ -10,7 +10,7 @@ use Rattle.rl_line.specs.Record.{Record, record_step, replay_entries}
 use Rattle.rl_line.specs.Undo.{Undone}
 use Rattle.rl_line.specs.Units.{last_of}
 use Rattle.rl_line.proofs.RecordLemmas.{through, replay-append, replay-unwind}
-use Rattle.rl_line.proofs.RedoLemmas.{line_back-unwind}
+use Rattle.rl_line.proofs.UndoLemmas.{line_back-unwind}
 use Rattle.rl_session.proofs.PairLemmas.{keeps_changes}
 
 -- what was undone can be made again on the line's text

@@ -22,7 +22,8 @@ use Rattle.rl_line.specs.Undo.{Undone, Redone, Redos}
 use Rattle.rl_line.specs.Units.{begun, ended, last_of, last_units, opens, redo_of, truncated, undone}
 use Rattle.rl_line.proofs.JoinLemmas.{record_step-Start, record_step-Stop}
 use Rattle.rl_line.proofs.RecordLemmas.{replay-IsUtf8}
-use Rattle.rl_line.proofs.RedoLemmas.{redos-give-back, line_back-unwind, line_ahead-replay}
+use Rattle.rl_line.proofs.RedoLemmas.{redos-give-back}
+use Rattle.rl_line.proofs.UndoLemmas.{line_ahead-replay, line_back-unwind}
 use Rattle.rl_line.proofs.UnitLemmas.{kept-last}
 use Rattle.rl_session.specs.Commands.{Step, Asked, Telling, answers, inserts, hands_out, is_done, edit, other, asked, CutShort, Does, DoesAsked, Edited, Edits, Others, Tells, destination, lent, lent_plan, popped, popped_plan, readied, with_changes}
 use Rattle.rl_session.specs.History.{AllRedone, History, Holds, WasHeld, WasRefused}
@@ -35,7 +36,7 @@ use Rattle.rl_session.specs.declared.session.Command.TheVariants.{SetPos, Move, 
 use Rattle.rl_session.specs.declared.session.Fault.TheVariants.{NoMemory, BadPlace, BadYankSize, NotReplaying}
 use Rattle.rl_session.specs.declared.session.Reply.{Reply}
 use Rattle.rl_session.specs.declared.session.Reply.TheVariants as says
-use Rattle.rl_session.proofs.PairLemmas.{Done-changes, Halted-changes, Taken-changes}
+use Rattle.rl_session.proofs.PairLemmas.{Done-changes, Halted-changes, Taken-changes, cause-changes}
 use Rattle.rl_session.proofs.RowLemmas.{Leads-split}
 use Rattle.rl_session.proofs.PlaceLemmas.{History-more, History-steps, History-begun, History-ended, History-undone, History-redone, History-truncated, undo-held}
 
@@ -64,15 +65,15 @@ Heard-Edited : {A : Type 0} (plan : Plan A) (old new : State) (a : A) → Edited
 Heard-Edited plan old new a d =
     Heard-Done plan old.line new.line old.pair.changes new.pair.changes a (Done-changes plan old.line new.line old.pair new.pair a d.done)
 
-Heard-CutShort : {A : Type 0} (plan : Plan A) (old new : State) (c : CutShort plan old new) → Heard (texts_of_first c) old.line old.pair.changes new.line.text new.pair.changes
-Heard-CutShort plan old new c =
+Heard-CutShort : {A : Type 0} (takes : Bool) (plan : Plan A) (old new : State) (c : CutShort takes plan old new) → Heard (texts_of_first c) old.line old.pair.changes new.line.text new.pair.changes
+Heard-CutShort takes plan old new c =
     let h = c.halted in
     let t = Taken-changes h.first old.line new.line old.pair h.middle h.taken in
-    record { steps = h.first; last = new.line; line = t.line; text_is = refl; changes = h.cause.1 ∙ t.listener; held_is = refl }
+    record { steps = h.first; last = new.line; line = t.line; text_is = refl; changes = cause-changes takes h.middle new.pair h.next.0 why.NoMemory h.cause ∙ t.listener; held_is = refl }
 
-Heard-cut : {A : Type 0} (plan : Plan A) (old new : State) (c : (new ≡ old) ⊎ CutShort plan old new) → Heard (texts_of_cut c) old.line old.pair.changes new.line.text new.pair.changes
-Heard-cut plan old new (inl e) = Heard-same old new e
-Heard-cut plan old new (inr c) = Heard-CutShort plan old new c
+Heard-cut : {A : Type 0} (takes : Bool) (plan : Plan A) (old new : State) (c : (new ≡ old) ⊎ CutShort takes plan old new) → Heard (texts_of_cut c) old.line old.pair.changes new.line.text new.pair.changes
+Heard-cut takes plan old new (inl e) = Heard-same old new e
+Heard-cut takes plan old new (inr c) = Heard-CutShort takes plan old new c
 
 Heard-Moved : (place : Option ℕ) (old new : Line) (r now : Record) (a : Bool) → Moved place old new a → now ≡ r → Heard [] old r new.text now
 Heard-Moved None old new r now a m e = Heard-nothing old r new.text now (ap (λ (l : Line). l.text) m.1) e
@@ -99,7 +100,7 @@ removal_first line (Some range) side (s ∷ (t ∷ ts)) others next e = cc
 Heard-kept : (range : Option (Range ℕ)) (side : Direction) (old new : Line) (p q : Pair) (w : Refusal) → Halted pair_step pair_refused (removal old range side) old new p q w
     → Heard [] old p.changes new.text q.changes
 Heard-kept range side old new p q w h =
-    let c = Halted-changes (removal old range side) old new p q w h in
+    let c = Halted-changes false (removal old range side) old new p q w h in
     let none = removal_first old range side c.first c.others c.next c.split in
     let same : Some old ≡ Some new = ap (λ ss. after ss old) (sym none) ∙ c.taken.line in
     let line : new ≡ old = cc in
@@ -133,11 +134,11 @@ Heard-told hands_out plan old new (says.Text x) t = Heard-Edited plan old new (o
 Heard-told is_done plan old new says.Done t = Heard-Edited plan old new tt t
 Heard-told _ plan old new _ t = absurd t
 
-pub Heard-edit : {A : Type 0} (condition : Type 0) (plan : Plan A) (telling : Telling A) (old : State) (reply : Reply) (new : State) (d : Edits condition plan telling old reply new)
-    → Heard (held_by_edit condition plan telling old reply new d) old.line old.pair.changes new.line.text new.pair.changes
-Heard-edit condition plan telling old (says.Refused BadPlace) new d = Heard-same old new d.1
-Heard-edit condition plan telling old (says.Refused NoMemory) new d = Heard-CutShort plan old new d.1
-Heard-edit condition plan telling old reply new d = Heard-told telling plan old new reply d.1
+pub Heard-edit : {A : Type 0} (takes : Bool) (condition : Type 0) (plan : Plan A) (telling : Telling A) (old : State) (reply : Reply) (new : State) (d : Edits takes condition plan telling old reply new)
+    → Heard (held_by_edit takes condition plan telling old reply new d) old.line old.pair.changes new.line.text new.pair.changes
+Heard-edit takes condition plan telling old (says.Refused BadPlace) new d = Heard-same old new d.1
+Heard-edit takes condition plan telling old (says.Refused NoMemory) new d = Heard-CutShort takes plan old new d.1
+Heard-edit takes condition plan telling old reply new d = Heard-told telling plan old new reply d.1
 
 pub Heard-other : (old : State) (command : Command) (reply : Reply) (new : State) (d : Others old command reply new) → IsPlain command
     → Heard (held_by_other old command reply new d) old.line old.pair.changes new.line.text new.pair.changes
@@ -147,17 +148,17 @@ Heard-other old (SetPos q) (says.Refused BadPlace) new d i = Heard-same old new 
 Heard-other old (Move m) (says.Answer a) new d i =
     Heard-Moved (destination old m) old.line new.line old.pair.changes new.pair.changes a d.moved (ap (λ (s : State). s.pair.changes) d.others)
 Heard-other old (Copy m) (says.Text t) new d i = Heard-same old new d.1
-Heard-other old (Copy m) (says.Refused NoMemory) new d i = Heard-same old new d
+Heard-other old (Copy m) (says.Refused NoMemory) new d i = Heard-same old new d.1
 Heard-other old (EditWord action) (says.Answer a) new d i = Heard-Edited (edit_word_plan old.line d.made) old new a d.holds
-Heard-other old (EditWord action) (says.Refused NoMemory) new d i = Heard-CutShort (edit_word_plan old.line d.made) old new d.holds
+Heard-other old (EditWord action) (says.Refused NoMemory) new d i = Heard-CutShort true (edit_word_plan old.line d.made) old new d.holds
 Heard-other old (Kill m) (says.Answer a) new d i = Heard-Told (is_by_characters m) (kill_plan old.line m) old.line new.line old.pair new.pair a d.told
 Heard-other old (Kill m) (says.Refused NoMemory) new d i =
     Heard-refused (is_by_characters m) (killed old.line m) (side_of m) old.line new.line old.pair new.pair why.NoMemory d.told
 Heard-other old (Yank n) (says.Inserted a) new d i = Heard-Edited (lent_plan old.line (yank old.pair.ring) n) (lent old) new a d
-Heard-other old (Yank n) (says.Refused NoMemory) new d i = Heard-cut (lent_plan old.line (yank old.pair.ring) n) (lent old) new d.1
+Heard-other old (Yank n) (says.Refused NoMemory) new d i = Heard-cut true (lent_plan old.line (yank old.pair.ring) n) (lent old) new d.1
 Heard-other old YankPop (says.Inserted a) new d i = Heard-Edited (popped_plan old.line (yank_pop old.pair.ring)) (popped old) new a d.1
 Heard-other old YankPop (says.Refused BadYankSize) new d i = Heard-same old new d.1
-Heard-other old YankPop (says.Refused NoMemory) new d i = Heard-CutShort (popped_plan old.line (yank_pop old.pair.ring)) (popped old) new d.1
+Heard-other old YankPop (says.Refused NoMemory) new d i = Heard-CutShort true (popped_plan old.line (yank_pop old.pair.ring)) (popped old) new d.1
 Heard-other old Begin reply new d i = absurd i
 Heard-other old End reply new d i = absurd i
 Heard-other old (Undo n) reply new d i = absurd i
@@ -204,13 +205,13 @@ Holds-other start held old Begin (says.Refused NoMemory) new d h = History-chang
 Holds-other start held old Begin _ new d h = absurd d
 Holds-other start held old End (says.Answer a) new d h =
     History-changes start held new (with_changes (ended old.pair.changes) old) (History-ended start held old.line.text old.pair.changes h) d.1
-Holds-other start held old End (says.Refused NoMemory) new d h = History-changes start held new old h d
+Holds-other start held old End (says.Refused NoMemory) new d h = History-changes start held new old h d.1
 Holds-other start held old End _ new d h = absurd d
 Holds-other start held old (Undo n) (says.Answer a) new d h = History-TookBack _ start held _ old new a h d.undone
-Holds-other start held old (Undo n) (says.Refused NoMemory) new d h = History-changes start held new old h d
+Holds-other start held old (Undo n) (says.Refused NoMemory) new d h = History-changes start held new old h d.1
 Holds-other start held old (Undo n) _ new d h = absurd d
 Holds-other start held old Redo (says.Answer a) new d h = History-PutAgain start held _ old new a h d.redone
-Holds-other start held old Redo (says.Refused NoMemory) new d h = History-changes start held new old h d
+Holds-other start held old Redo (says.Refused NoMemory) new d h = History-changes start held new old h d.1
 Holds-other start held old Redo _ new d h = absurd d
 Holds-other start held old (Truncate len) says.Done new d h =
     let r = old.pair.changes in
@@ -224,9 +225,9 @@ Holds-other start held old command reply new d h =
 
 Holds-asked : (asks : Asked) (start : List ℕ) (held : List (List ℕ)) (old : State) (command : Command) (reply : Reply) (new : State) (d : DoesAsked asks old command reply new)
     → Holds start held old → Holds start (held ++ held_by asks old command reply new d) new
-Holds-asked (edit condition plan telling) start held old command reply new d h =
-    History-Heard start held (held_by_edit condition plan telling old reply new d) old.line old.pair.changes new.line.text new.pair.changes h
-    (Heard-edit condition plan telling old reply new d)
+Holds-asked (edit takes condition plan telling) start held old command reply new d h =
+    History-Heard start held (held_by_edit takes condition plan telling old reply new d) old.line old.pair.changes new.line.text new.pair.changes h
+    (Heard-edit takes condition plan telling old reply new d)
 Holds-asked other start held old command reply new d h = Holds-other start held old command reply new d h
 
 -- a row adds its texts to those that were held
@@ -343,4 +344,4 @@ redo-in_run text pos limit ring_size mode commands replies new earlier redos row
     let again = subst (λ k. Redos k row.after.pair.changes new.pair.changes row.after.line new.line) long (redo-rows redos row.after new all at.goes_on) in
     let text_of = replay-IsUtf8 r.recorded text row.before.line.text u at.holds.leads in
     let back = redos-give-back n r row.after.pair.changes new.pair.changes row.before.line row.after.line new.line d.0 text_of at.holds.matched whole d.1 again in
-    (back.1, ap (λ (k : Record). k.recorded) back.0, ap (λ (k : Record). k.pending) back.0)
+    (back.2, back.0, back.1)

@@ -5,7 +5,7 @@ use Rattle.rl_base.specs.KillRing.{ring_step}
 use Rattle.rl_base.specs.declared.listeners.Refusal.{Refusal}
 use Rattle.rl_base.specs.declared.listeners.Refusal.TheVariants as why
 use Rattle.rl_line.specs.Line.{Line}
-use Rattle.rl_line.specs.Plan.{Step, Plan, heard, Taken, Done, Halted, or_no_memory}
+use Rattle.rl_line.specs.Plan.{Step, Plan, heard, Taken, Done, Halted, or_no_memory_if}
 use Rattle.rl_line.specs.Kills.{Told}
 use Rattle.rl_line.specs.Record.{Record, record_step}
 use Rattle.rl_session.specs.Pair.{pair_step, pair_refused}
@@ -30,47 +30,43 @@ Done-changes plan old new p q a d = record { last = d.last; taken = Taken-change
 abbrev pub keeps_changes : Record → Event → Refusal → Record → Type 0
 keeps_changes r _ _ now = now ≡ r
 
-pub Halted-changes : {A : Type 0} (plan : Plan A) (old new : Line) (p q : Pair) (w : Refusal) → Halted pair_step pair_refused plan old new p q w
+-- whatever refused, a pair or the line for want of memory, the record is as it was
+pub cause-changes : (takes : Bool) (p q : Pair) (e : Event) (w : Refusal) → or_no_memory_if takes pair_refused p e w q → q.changes ≡ p.changes
+cause-changes true p q e w h = elim h [ inl c ↦ ap (λ (k : Pair). k.changes) c.1 | inr c ↦ c.1 ]
+cause-changes false p q e w h = h.1
+
+-- and it was for want of memory
+cause-memory : (takes : Bool) (p q : Pair) (e : Event) (w : Refusal) → or_no_memory_if takes pair_refused p e w q → or_no_memory_if takes pair_refused p e why.NoMemory q
+cause-memory true p q e w h = elim h [ inl c ↦ inl (refl, c.1) | inr c ↦ inr (refl, c.1, c.2) ]
+cause-memory false p q e w h = (refl, h.1, h.2)
+
+pub Halted-changes : {A : Type 0} (takes : Bool) (plan : Plan A) (old new : Line) (p q : Pair) (w : Refusal) → Halted pair_step (or_no_memory_if takes pair_refused) plan old new p q w
     → Halted record_step keeps_changes plan old new p.changes q.changes w
-Halted-changes plan old new p q w h = record {
+Halted-changes takes plan old new p q w h = record {
   first = h.first;
   next = h.next;
   others = h.others;
   split = h.split;
   middle = h.middle.changes;
   taken = Taken-changes h.first old new p h.middle h.taken;
-  cause = h.cause.1;
+  cause = cause-changes takes h.middle q h.next.0 w h.cause;
 }
 
--- want of memory for the line itself is no other refusal than one that the pair may answer
-cause-pair : (p q : Pair) (e : Event) (w : Refusal) → or_no_memory pair_refused p e w q → pair_refused p e why.NoMemory q
-cause-pair p q e w h = elim h [
-  | inl c ↦ (refl, ap (λ (k : Pair). k.changes) c.1, inl (ap (λ (k : Pair). k.ring) c.1))
-  | inr c ↦ (refl, c.1, c.2)
-]
-
--- a refusal of the listener is a refusal of the two
-pub listener_alone : {A : Type 0} (plan : Plan A) (old new : Line) (p q : Pair) (w : Refusal) → Halted pair_step pair_refused plan old new p q w
-    → Halted pair_step (or_no_memory pair_refused) plan old new p q w
-listener_alone plan old new p q w h =
-    record { first = h.first; next = h.next; others = h.others; split = h.split; middle = h.middle; taken = h.taken; cause = inr h.cause }
-
-pub Halted-pair : {A : Type 0} (plan : Plan A) (old new : Line) (p q : Pair) (w : Refusal) → Halted pair_step (or_no_memory pair_refused) plan old new p q w
-    → Halted pair_step pair_refused plan old new p q why.NoMemory
-Halted-pair plan old new p q w h = record {
+pub Halted-pair : {A : Type 0} (takes : Bool) (plan : Plan A) (old new : Line) (p q : Pair) (w : Refusal) → Halted pair_step (or_no_memory_if takes pair_refused) plan old new p q w
+    → Halted pair_step (or_no_memory_if takes pair_refused) plan old new p q why.NoMemory
+Halted-pair takes plan old new p q w h = record {
   first = h.first;
   next = h.next;
   others = h.others;
   split = h.split;
   middle = h.middle;
   taken = h.taken;
-  cause = cause-pair h.middle q h.next.0 w h.cause;
+  cause = cause-memory takes h.middle q h.next.0 w h.cause;
 }
 
 -- a kill that the pair refused, whatever refusal was handed on
 pub Told-pair : {A : Type 0} (b : Bool) (plan : Plan A) (old new : Line) (p q : Pair) (w : Refusal)
     → Told pair_step b (λ before now. Halted pair_step pair_refused plan old new before now w) p q
     → Told pair_step b (λ before now. Halted pair_step pair_refused plan old new before now why.NoMemory) p q
-Told-pair true plan old new p q w t = Halted-pair plan old new p q w (listener_alone plan old new p q w t)
-Told-pair false plan old new p q w t =
-    record { last = t.last; inside = Halted-pair plan old new _ t.last w (listener_alone plan old new _ t.last w t.inside); ended = t.ended }
+Told-pair true plan old new p q w t = Halted-pair false plan old new p q w t
+Told-pair false plan old new p q w t = record { last = t.last; inside = Halted-pair false plan old new _ t.last w t.inside; ended = t.ended }

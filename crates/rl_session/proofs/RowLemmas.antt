@@ -1,5 +1,5 @@
 -- What each row of a session keeps, and how a run goes on.
-use Rattle.std.proofs.Common.{List, [], ◌∷◌, ◌++◌, ◌≡◌, ◌∙◌, ap, map, refl, subst, sym, append_assoc, inl, inr}
+use Rattle.std.proofs.Common.{Bool, true, false, List, [], ◌∷◌, ◌++◌, ◌≡◌, ◌∙◌, ap, refl, subst, sym, append_assoc, inl, inr}
 use Rattle.std.proofs.lemmas.List.{map-append}
 use Rattle.std.specs.Prelude.{ℕ, ◌⊎◌, IsSome}
 use Rattle.std.specs.Str.{IsUtf8}
@@ -35,18 +35,18 @@ told-Kept hands_out plan old new (says.Text x) u t = Kept-pair plan old.pair new
 told-Kept is_done plan old new says.Done u t = Kept-pair plan old.pair new.pair old.line new.line tt u t.done
 told-Kept _ plan old new _ u t = absurd t
 
-cut-Kept : {A : Type 0} (plan : Plan A) (old new : State) → IsUtf8 old.line.text → CutShort plan old new → KeepsOrigin old new
-cut-Kept plan old new u c = Kept-refused plan old.pair new.pair old.line new.line _ u c.halted
+cut-Kept : {A : Type 0} (takes : Bool) (plan : Plan A) (old new : State) → IsUtf8 old.line.text → CutShort takes plan old new → KeepsOrigin old new
+cut-Kept takes plan old new u c = Kept-refused takes plan old.pair new.pair old.line new.line _ u c.halted
 
-Kept-Edits : {A : Type 0} (condition : Type 0) (plan : Plan A) (telling : Telling A) (old : State) (reply : Reply) (new : State) → IsUtf8 old.line.text
-    → Edits condition plan telling old reply new → KeepsOrigin old new
-Kept-Edits condition plan telling old (says.Refused BadPlace) new u d = same_origin old new u d.1
-Kept-Edits condition plan telling old (says.Refused NoMemory) new u d = cut-Kept plan old new u d.1
-Kept-Edits condition plan telling old reply new u d = told-Kept telling plan old new reply u d.1
+Kept-Edits : {A : Type 0} (takes : Bool) (condition : Type 0) (plan : Plan A) (telling : Telling A) (old : State) (reply : Reply) (new : State) → IsUtf8 old.line.text
+    → Edits takes condition plan telling old reply new → KeepsOrigin old new
+Kept-Edits takes condition plan telling old (says.Refused BadPlace) new u d = same_origin old new u d.1
+Kept-Edits takes condition plan telling old (says.Refused NoMemory) new u d = cut-Kept takes plan old new u d.1
+Kept-Edits takes condition plan telling old reply new u d = told-Kept telling plan old new reply u d.1
 
 -- an edit of a text that the ring may have lent
-lent-Kept : {A : Type 0} (plan : Plan A) (lent new : State) → IsUtf8 lent.line.text → (new ≡ lent) ⊎ CutShort plan lent new → KeepsOrigin lent new
-lent-Kept plan lent new u h = elim h [ inl e ↦ same_origin lent new u e | inr c ↦ cut-Kept plan lent new u c ]
+lent-Kept : {A : Type 0} (plan : Plan A) (lent new : State) → IsUtf8 lent.line.text → (new ≡ lent) ⊎ CutShort true plan lent new → KeepsOrigin lent new
+lent-Kept plan lent new u h = elim h [ inl e ↦ same_origin lent new u e | inr c ↦ cut-Kept true plan lent new u c ]
 
 -- a record in the place of another
 changes-Kept : (changes : Record) (old new : State) → Kept old.pair.changes changes old.line old.line → new ≡ with_changes changes old → KeepsOrigin old new
@@ -59,26 +59,26 @@ Kept-Others old (SetPos q) (says.Refused BadPlace) new u f s = same_origin old n
 Kept-Others old (Move m) (says.Answer a) new u f s =
     Kept-Moved (destination old m) old.pair.changes new.pair.changes old.line new.line a u (ap (λ (n : State). n.pair.changes) s.others) s.moved
 Kept-Others old (Copy m) (says.Text t) new u f s = same_origin old new u s.1
-Kept-Others old (Copy m) (says.Refused NoMemory) new u f s = same_origin old new u s
+Kept-Others old (Copy m) (says.Refused NoMemory) new u f s = same_origin old new u s.1
 Kept-Others old (EditWord action) (says.Answer a) new u f s = Kept-pair _ old.pair new.pair old.line new.line a u s.holds.done
-Kept-Others old (EditWord action) (says.Refused NoMemory) new u f s = cut-Kept _ old new u s.holds
+Kept-Others old (EditWord action) (says.Refused NoMemory) new u f s = cut-Kept true _ old new u s.holds
 Kept-Others old (Kill m) (says.Answer a) new u f s =
     Kept-Told (is_by_characters m) _ old.pair new.pair old.line new.line (λ before now d. Kept-pair (kill_plan old.line m) before now old.line new.line a u d) s.told
 Kept-Others old (Kill m) (says.Refused NoMemory) new u f s =
-    Kept-Told (is_by_characters m) _ old.pair new.pair old.line new.line (λ before now h. Kept-refused (kill_plan old.line m) before now old.line new.line _ u h) s.told
+    Kept-Told (is_by_characters m) _ old.pair new.pair old.line new.line (λ before now h. Kept-refused false (kill_plan old.line m) before now old.line new.line _ u h) s.told
 Kept-Others old (Yank n) (says.Inserted a) new u f s = Kept-pair _ (lent old).pair new.pair old.line new.line a u s.done
 Kept-Others old (Yank n) (says.Refused NoMemory) new u f s = lent-Kept _ (lent old) new u s.1
 Kept-Others old YankPop (says.Inserted a) new u f s = Kept-pair _ (popped old).pair new.pair old.line new.line a u s.1.done
 Kept-Others old YankPop (says.Refused BadYankSize) new u f s = same_origin old new u s.1
-Kept-Others old YankPop (says.Refused NoMemory) new u f s = cut-Kept _ (popped old) new u s.1
+Kept-Others old YankPop (says.Refused NoMemory) new u f s = cut-Kept true _ (popped old) new u s.1
 Kept-Others old Begin (says.Mark n) new u f s = changes-Kept _ old new (Kept-begun old.pair.changes old.line u) s.1
 Kept-Others old Begin (says.Refused NoMemory) new u f s = same_origin old new u s
 Kept-Others old End (says.Answer a) new u f s = changes-Kept _ old new (Kept-ended old.pair.changes old.line u) s.1
-Kept-Others old End (says.Refused NoMemory) new u f s = same_origin old new u s
-Kept-Others old (Undo n) (says.Answer a) new u f s = Kept-Undone _ old.pair.changes new.pair.changes old.line new.line a u f s.undone
-Kept-Others old (Undo n) (says.Refused NoMemory) new u f s = same_origin old new u s
+Kept-Others old End (says.Refused NoMemory) new u f s = same_origin old new u s.1
+Kept-Others old (Undo n) (says.Answer a) new u f s = Kept-Undone _ old.pair.changes new.pair.changes old.line new.line a u s.undone
+Kept-Others old (Undo n) (says.Refused NoMemory) new u f s = same_origin old new u s.1
 Kept-Others old Redo (says.Answer a) new u f s = Kept-Redone old.pair.changes new.pair.changes old.line new.line a u s.redone
-Kept-Others old Redo (says.Refused NoMemory) new u f s = same_origin old new u s
+Kept-Others old Redo (says.Refused NoMemory) new u f s = same_origin old new u s.1
 Kept-Others old (Truncate len) says.Done new u f s = changes-Kept _ old new (Kept-truncated len old.pair.changes old.line u s.0) s.1
 Kept-Others old (Truncate len) (says.Refused NotReplaying) new u f s = same_origin old new u s.1
 Kept-Others old (Truncate len) (says.Refused NoMemory) new u f s = same_origin old new u s
@@ -86,7 +86,7 @@ Kept-Others _ _ _ _ u f s = absurd s
 
 Kept-Asked : (asks : Asked) (old : State) (command : Command) (reply : Reply) (new : State) → IsUtf8 old.line.text → IsSome (unwind old.pair.changes.recorded old.line.text)
     → DoesAsked asks old command reply new → KeepsOrigin old new
-Kept-Asked (edit condition plan telling) old command reply new u f d = Kept-Edits condition plan telling old reply new u d
+Kept-Asked (edit takes condition plan telling) old command reply new u f d = Kept-Edits takes condition plan telling old reply new u d
 Kept-Asked other old command reply new u f d = Kept-Others old command reply new u f d
 
 Kept-Does : (old : State) (command : Command) (reply : Reply) (new : State) → IsUtf8 old.line.text → IsSome (unwind old.pair.changes.recorded old.line.text)

@@ -1,30 +1,32 @@
 -- What holds whatever a call answered.
 use Rattle.std.proofs.Common.{List, [], ◌∷◌, Result, Ok, Err, ◌≡◌, ◌∙◌, ap, refl, subst, sym, append-nil, inl}
 use Rattle.std.proofs.lemmas.Str.{IsCharBoundary-start, IsUtf8-nil}
-use Rattle.std.specs.Prelude.{ℕ, Bool, true, Option, None, false, max, length, option_and_then, IsSome, Some, IfOk, IfErr}
+use Rattle.std.specs.Prelude.{ℕ, ◌<◌, Bool, true, Option, None, false, max, length, option_and_then, IsSome, Some, IfOk, IfErr}
 use Rattle.std.specs.Str.{IsUtf8}
 use Rattle.rl_base.specs.Event.{Event, InsertStr, Start, apply}
 use Rattle.rl_base.proofs.EventLemmas.{apply-InsertStr}
 use Rattle.rl_base.specs.declared.listeners.Refusal.{Refusal}
 use Rattle.rl_base.specs.declared.listeners.Refusal.TheVariants as why
+use Rattle.rl_base.specs.declared.motion.Movement.{Movement}
 use Rattle.rl_base.specs.declared.motion.WordAction.{WordAction}
 use Rattle.rl_line.specs.Line.{Line, stepped}
 use Rattle.rl_line.specs.Motions.{Moved}
-use Rattle.rl_line.specs.Plan.{Plan, nothing, after, Done, Halted, or_no_memory}
+use Rattle.rl_line.specs.Plan.{Plan, nothing, after, Done, Halted, or_no_memory, or_no_memory_if}
 use Rattle.rl_line.specs.Edits.{insert_str_plan, yank_pop_plan}
-use Rattle.rl_line.specs.Kills.{Told}
+use Rattle.rl_line.specs.Kills.{Told, is_by_characters, kill_plan}
 use Rattle.rl_line.specs.LetterCase.{edit_word_plan, Recased}
 use Rattle.rl_line.specs.Record.{Record, replay_entries, unwind}
 use Rattle.rl_line.proofs.JoinLemmas.{record_step-Start, record_step-Stop}
 use Rattle.rl_line.specs.Undo.{Redone, Undone}
 use Rattle.rl_line.specs.Units.{adds_end, begun, ended, level}
 use Rattle.rl_line.proofs.OriginLemmas.{IsSome-Kept, Kept, Kept-Done, Kept-Halted, Kept-Undone}
-use Rattle.rl_session.specs.State.{State, Follows}
+use Rattle.rl_session.specs.State.{State, AtRest, Follows}
 use Rattle.rl_line.proofs.PlanLemmas.{Halted-at_first}
 use Rattle.rl_session.specs.Commands.{CutShort, Edited, lent, lent_plan, popped, popped_plan}
 use Rattle.rl_session.specs.Pair.{pair_step, pair_refused}
 use Rattle.rl_session.specs.declared.pair.Pair.{Pair}
-use Rattle.rl_session.proofs.PairLemmas.{Done-changes, Halted-changes, Halted-pair, keeps_changes}
+use Rattle.rl_session.proofs.IdleLemmas.{NoneStarts, NoneStarts-edit_word, NoneStarts-kill, idle-Done, idle-Halted, idle-Told}
+use Rattle.rl_session.proofs.PairLemmas.{Done-changes, Halted-changes, keeps_changes}
 use Rattle.rl_session.proofs.AheadLemmas.{Ahead-Done, Ahead-Halted, Ahead-Undone}
 use Rattle.rl_line.proofs.MarkLemmas.{replay-redone, unwind-begun, unwind-ended, unwind-redone}
 
@@ -50,7 +52,7 @@ Kept-Moved None r now old new a u e m = subst (λ (l : Line). Kept r now old l) 
 Kept-Moved (Some place) r now old new a u e m =
     subst (λ (l : Line). Kept r now old l) (sym m.1) (subst (λ (k : Record). Kept r k old (record old { cursor = place })) (sym e) (record { origin_is = λ start e. e; utf8 = u }))
 
-pub Follows-Moved : (place : Option ℕ) (r : Record) (old new : Line) (a : Bool) → Moved place old new a → Follows old r → Follows new r
+Follows-Moved : (place : Option ℕ) (r : Record) (old new : Line) (a : Bool) → Moved place old new a → Follows old r → Follows new r
 Follows-Moved None r old new a m f = subst (λ (l : Line). Follows l r) (sym m.1) f
 Follows-Moved (Some place) r old new a m f = subst (λ (l : Line). Follows l r) (sym m.1) (record { back = f.back; ahead = f.ahead })
 
@@ -61,44 +63,51 @@ keeps m e w k h = h
 pub Kept-pair : {A : Type 0} (plan : Plan A) (p q : Pair) (old new : Line) (a : A) → IsUtf8 old.text → Done pair_step plan old new p q a → Kept p.changes q.changes old new
 Kept-pair plan p q old new a u d = Kept-Done plan p.changes q.changes old new a u (Done-changes plan old new p q a d)
 
-pub Kept-refused : {A : Type 0} (plan : Plan A) (p q : Pair) (old new : Line) (w : Refusal) → IsUtf8 old.text → Halted pair_step pair_refused plan old new p q w
+pub Kept-refused : {A : Type 0} (takes : Bool) (plan : Plan A) (p q : Pair) (old new : Line) (w : Refusal) → IsUtf8 old.text → Halted pair_step (or_no_memory_if takes pair_refused) plan old new p q w
     → Kept p.changes q.changes old new
-Kept-refused plan p q old new w u h = Kept-Halted keeps_changes plan p.changes q.changes old new w keeps u (Halted-changes plan old new p q w h)
+Kept-refused takes plan p q old new w u h = Kept-Halted keeps_changes plan p.changes q.changes old new w keeps u (Halted-changes takes plan old new p q w h)
 
--- so the session's invariant holds again
-pub Follows-pair : {A : Type 0} (plan : Plan A) (p q : Pair) (old new : Line) (a : A) → IsUtf8 old.text → Done pair_step plan old new p q a → Follows old p.changes → Follows new q.changes
+-- so the record follows the text again
+Follows-pair : {A : Type 0} (plan : Plan A) (p q : Pair) (old new : Line) (a : A) → IsUtf8 old.text → Done pair_step plan old new p q a → Follows old p.changes → Follows new q.changes
 Follows-pair plan p q old new a u d f = record {
   back = IsSome-Kept p.changes q.changes old new (Kept-pair plan p q old new a u d) f.back;
   ahead = Ahead-Done plan p.changes q.changes old new a (Done-changes plan old new p q a d) f.ahead;
 }
 
-pub Follows-refused : {A : Type 0} (plan : Plan A) (p q : Pair) (old new : Line) (w : Refusal) → IsUtf8 old.text → Halted pair_step pair_refused plan old new p q w
+Follows-refused : {A : Type 0} (takes : Bool) (plan : Plan A) (p q : Pair) (old new : Line) (w : Refusal) → IsUtf8 old.text → Halted pair_step (or_no_memory_if takes pair_refused) plan old new p q w
     → Follows old p.changes → Follows new q.changes
-Follows-refused plan p q old new w u h f = record {
-  back = IsSome-Kept p.changes q.changes old new (Kept-refused plan p q old new w u h) f.back;
-  ahead = Ahead-Halted plan p.changes q.changes old new w (Halted-changes plan old new p q w h) f.ahead;
+Follows-refused takes plan p q old new w u h f = record {
+  back = IsSome-Kept p.changes q.changes old new (Kept-refused takes plan p q old new w u h) f.back;
+  ahead = Ahead-Halted plan p.changes q.changes old new w (Halted-changes takes plan old new p q w h) f.ahead;
 }
 
--- an edit that may also be refused by the line itself
-pub Follows-edit : {A B : Type 0} (plan : Plan A) (shown : B → A) (p q : Pair) (old new : Line) (result : Result B Refusal) → IsUtf8 old.text
-    → IfOk result (λ b. Done pair_step plan old new p q (shown b)) → IfErr result (λ w. Halted pair_step (or_no_memory pair_refused) plan old new p q w)
-    → Follows old p.changes → Follows new q.changes
-Follows-edit plan shown p q old new (Ok b) u d h = Follows-pair plan p q old new (shown b) u d
-Follows-edit plan shown p q old new (Err w) u d h = Follows-refused plan p q old new _ u (Halted-pair plan old new p q w h)
+-- ---- the session's invariant
+pub AtRest-Moved : (place : Option ℕ) (p : Pair) (old new : Line) (a : Bool) → Moved place old new a → AtRest old p → AtRest new p
+AtRest-Moved place p old new a m h = record { follows = Follows-Moved place p.changes old new a m h.follows; idle = h.idle }
+
+AtRest-pair : {A : Type 0} (plan : Plan A) (p q : Pair) (old new : Line) (a : A) → IsUtf8 old.text → NoneStarts plan.steps → Done pair_step plan old new p q a
+    → AtRest old p → AtRest new q
+AtRest-pair plan p q old new a u none d h = record { follows = Follows-pair plan p q old new a u d h.follows; idle = idle-Done plan old new p q a none d h.idle }
+
+AtRest-refused : {A : Type 0} (takes : Bool) (plan : Plan A) (p q : Pair) (old new : Line) (w : Refusal) → IsUtf8 old.text → NoneStarts plan.steps → Halted pair_step (or_no_memory_if takes pair_refused) plan old new p q w
+    → AtRest old p → AtRest new q
+AtRest-refused takes plan p q old new w u none d h =
+    record { follows = Follows-refused takes plan p q old new w u d h.follows; idle = idle-Halted takes plan old new p q w none d h.idle }
+
+-- an edit, which may take memory of its own
+pub AtRest-edit : {A B : Type 0} (takes : Bool) (plan : Plan A) (shown : B → A) (p q : Pair) (old new : Line) (result : Result B Refusal) → IsUtf8 old.text → NoneStarts plan.steps
+    → IfOk result (λ b. Done pair_step plan old new p q (shown b)) → IfErr result (λ w. Halted pair_step (or_no_memory_if takes pair_refused) plan old new p q w)
+    → AtRest old p → AtRest new q
+AtRest-edit takes plan shown p q old new (Ok b) u none d h = AtRest-pair plan p q old new (shown b) u none d
+AtRest-edit takes plan shown p q old new (Err w) u none d h = AtRest-refused takes plan p q old new w u none h
 
 -- an edit of the letters of a word, whose text is not told
-pub Follows-recased : (action : WordAction) (p q : Pair) (old new : Line) (result : Result Bool Refusal) → IsUtf8 old.text
+pub AtRest-recased : (action : WordAction) (p q : Pair) (old new : Line) (result : Result Bool Refusal) → IsUtf8 old.text
     → IfOk result (λ a. Recased old action (λ made. Done pair_step (edit_word_plan old made) old new p q a))
     → IfErr result (λ w. Recased old action (λ made. Halted pair_step (or_no_memory pair_refused) (edit_word_plan old made) old new p q w))
-    → Follows old p.changes → Follows new q.changes
-Follows-recased action p q old new (Ok a) u d h = Follows-pair (edit_word_plan old d.made) p q old new a u d.holds
-Follows-recased action p q old new (Err w) u d h = Follows-refused (edit_word_plan old h.made) p q old new _ u (Halted-pair (edit_word_plan old h.made) old new p q w h.holds)
-
--- an edit that only its listener may refuse
-pub Follows-deletion : {A : Type 0} (plan : Plan A) (p q : Pair) (old new : Line) (result : Result A Refusal) → IsUtf8 old.text
-    → IfOk result (λ a. Done pair_step plan old new p q a) → IfErr result (λ w. Halted pair_step pair_refused plan old new p q w) → Follows old p.changes → Follows new q.changes
-Follows-deletion plan p q old new (Ok a) u d h = Follows-pair plan p q old new a u d
-Follows-deletion plan p q old new (Err w) u d h = Follows-refused plan p q old new w u h
+    → AtRest old p → AtRest new q
+AtRest-recased action p q old new (Ok a) u d h = AtRest-pair (edit_word_plan old d.made) p q old new a u (NoneStarts-edit_word old d.made) d.holds
+AtRest-recased action p q old new (Err w) u d h = AtRest-refused true (edit_word_plan old h.made) p q old new w u (NoneStarts-edit_word old h.made) h.holds
 
 -- the record hears nothing of the start and the end of a kill
 pub Kept-Told : (b : Bool) (P : Pair → Pair → Type 0) (p q : Pair) (old new : Line)
@@ -117,24 +126,31 @@ Follows-Told false P p q old new keeps t f =
     let ended : q.changes ≡ t.last.changes = ap (λ (k : Pair). k.changes) t.ended ∙ record_step-Stop t.last.changes in
     subst (λ (r : Record). Follows new r) (sym ended) inside
 
-pub Follows-kill : (b : Bool) (plan : Plan Bool) (p q : Pair) (old new : Line) (result : Result Bool Refusal) → IsUtf8 old.text
-    → IfOk result (λ a. Told pair_step b (λ before now. Done pair_step plan old new before now a) p q)
-    → IfErr result (λ w. Told pair_step b (λ before now. Halted pair_step pair_refused plan old new before now w) p q) → Follows old p.changes → Follows new q.changes
-Follows-kill b plan p q old new (Ok a) u d h = Follows-Told b _ p q old new (λ before now i. Follows-pair plan before now old new a u i) d
-Follows-kill b plan p q old new (Err w) u d h = Follows-Told b _ p q old new (λ before now i. Follows-refused plan before now old new w u i) h
+pub AtRest-kill : (m : Movement) (p q : Pair) (old new : Line) (result : Result Bool Refusal) → IsUtf8 old.text
+    → IfOk result (λ a. Told pair_step (is_by_characters m) (λ before now. Done pair_step (kill_plan old m) old new before now a) p q)
+    → IfErr result (λ w. Told pair_step (is_by_characters m) (λ before now. Halted pair_step pair_refused (kill_plan old m) old new before now w) p q)
+    → AtRest old p → AtRest new q
+AtRest-kill m p q old new (Ok a) u d h r = record {
+  follows = Follows-Told (is_by_characters m) _ p q old new (λ before now i. Follows-pair (kill_plan old m) before now old new a u i) d r.follows;
+  idle = idle-Told (is_by_characters m) _ p q (λ i. idle-Done (kill_plan old m) old new p q a (NoneStarts-kill old m) i r.idle) d;
+}
+AtRest-kill m p q old new (Err w) u d h r = record {
+  follows = Follows-Told (is_by_characters m) _ p q old new (λ before now i. Follows-refused false (kill_plan old m) before now old new w u i) h r.follows;
+  idle = idle-Told (is_by_characters m) _ p q (λ i. idle-Halted false (kill_plan old m) old new p q w (NoneStarts-kill old m) i r.idle) h;
+}
 
 -- nothing was done for want of memory
 Follows-same : (r now : Record) (old new : Line) → (now ≡ r) × (new ≡ old) → Follows old r → Follows new now
 Follows-same r now old new h f = subst (λ (k : Record). Follows new k) (sym h.0) (subst (λ (l : Line). Follows l r) (sym h.1) f)
 
 pub Follows-undo : (n : ℕ) (r now : Record) (old new : Line) (result : Result Bool Refusal) → IsUtf8 old.text
-    → IfOk result (λ a. Undone n r now old new a) → IfErr result (λ w. (w ≡ why.NoMemory) × (now ≡ r) × (new ≡ old)) → Follows old r → Follows new now
+    → IfOk result (λ a. Undone n r now old new a) → IfErr result (λ w. (w ≡ why.NoMemory) × (now ≡ r) × (new ≡ old) × (0 < length r.recorded)) → Follows old r → Follows new now
 Follows-undo n r now old new (Ok a) u d h f =
-    record { back = IsSome-Kept r now old new (Kept-Undone n r now old new a u f.back d) f.back; ahead = Ahead-Undone n r now old new a u d f.ahead }
+    record { back = IsSome-Kept r now old new (Kept-Undone n r now old new a u d) f.back; ahead = Ahead-Undone n r now old new a u d f.ahead }
 Follows-undo n r now old new (Err w) u d h f = Follows-same r now old new (h.1, h.2) f
 
 pub Follows-redo : (r now : Record) (old new : Line) (result : Result Bool Refusal) → IsUtf8 old.text
-    → IfOk result (λ a. Redone r now old new a) → IfErr result (λ w. (w ≡ why.NoMemory) × (now ≡ r) × (new ≡ old)) → Follows old r → Follows new now
+    → IfOk result (λ a. Redone r now old new a) → IfErr result (λ w. (w ≡ why.NoMemory) × (now ≡ r) × (new ≡ old) × (0 < length r.pending)) → Follows old r → Follows new now
 Follows-redo r now old new (Ok a) u d h f = record { back = subst IsSome (sym (unwind-redone r now old new a u d)) f.back; ahead = subst IsSome (sym (replay-redone r now old new a d)) f.ahead }
 Follows-redo r now old new (Err w) u d h f = Follows-same r now old new (h.1, h.2) f
 
@@ -148,7 +164,7 @@ Follows-begin r now line (Ok a) d h f = subst (λ (k : Record). Follows line k) 
 Follows-begin r now line (Err w) d h f = subst (λ (k : Record). Follows line k) (sym h.1) f
 
 pub Follows-end : (r now : Record) (line : Line) (result : Result Bool Refusal) → IfOk result (λ a. (a ≡ adds_end (level r.recorded) r.recorded) × (now ≡ ended r))
-    → IfErr result (λ w. (w ≡ why.NoMemory) × (now ≡ r)) → Follows line r → Follows line now
+    → IfErr result (λ w. (w ≡ why.NoMemory) × (now ≡ r) × (0 < level r.recorded)) → Follows line r → Follows line now
 Follows-end r now line (Ok a) d h f = subst (λ (k : Record). Follows line k) (sym d.1) (Follows-forgotten r (ended r) line (unwind-ended r line.text) refl f)
 Follows-end r now line (Err w) d h f = subst (λ (k : Record). Follows line k) (sym h.1) f
 
@@ -166,8 +182,8 @@ pub nothing_popped : (old : State) (slot : Option (ℕ × List ℕ)) → slot �
 nothing_popped old slot e left l = subst (λ s. Edited (popped_plan old.line s) (popped old) left None) (sym e) (subst (λ s. Edited (popped_plan old.line None) (popped old) s None) (sym l) (Edited-nothing None (popped old)))
 
 -- a text was lent for which there was no memory, so that no step was taken
-pub popped_cut : (old : State) (slot : Option (ℕ × List ℕ)) → IsSome slot → (left : State) → left ≡ popped old → CutShort (popped_plan old.line slot) (popped old) left
+pub popped_cut : (old : State) (slot : Option (ℕ × List ℕ)) → IsSome slot → (left : State) → left ≡ popped old → CutShort true (popped_plan old.line slot) (popped old) left
 popped_cut old None h left l = cc
 popped_cut old (Some p) h left l =
-    subst (λ s. CutShort (popped_plan old.line (Some p)) (popped old) s) (sym l)
-    (record { halted = Halted-at_first pair_step pair_refused (yank_pop_plan old.line p.0 p.1) _ _ _ _ _ _ _ refl refl (refl, refl, inl refl); mode = refl })
+    subst (λ s. CutShort true (popped_plan old.line (Some p)) (popped old) s) (sym l)
+    (record { halted = Halted-at_first pair_step (or_no_memory pair_refused) (yank_pop_plan old.line p.0 p.1) _ _ _ _ _ _ _ refl refl (inl (refl, refl)); mode = refl })

@@ -11,7 +11,7 @@ use Rattle.rl_line.specs.Units.{UndoUnit, Open, Whole, IsMatched, begun, end_one
 use Rattle.rl_line.proofs.GroupLemmas.{has_change-append, Inside, Inside-event, Inside-begun, past_begin}
 use Rattle.rl_line.proofs.LevelLemmas.{level-append}
 use Rattle.rl_line.proofs.MatchLemmas.{EndsOne, Lower-end_one, Lower-end_times, end_one-cons}
-use Rattle.rl_line.proofs.RedoLemmas.{line_back-unwind}
+use Rattle.rl_line.proofs.UndoLemmas.{line_back-unwind}
 use Rattle.rl_line.proofs.UnitLemmas.{AllGood, AllGood-reverse, Gathers, Gathers-more, Gathers-nil, Settles-group, cut_more-append, on, opens-reverse, together-reverse, together-units, units-good}
 use Rattle.rl_session.specs.Commands.{Asked, Does, DoesAsked, Others, asked, edit, other, readied, with_changes}
 use Rattle.rl_session.specs.History.{AllStandInGroup, Holds, MayStandInGroup, WasRefused}
@@ -128,13 +128,13 @@ Inside-other : (front : List Entry) (old : State) (command : Command) (reply : R
 Inside-other front old asks.Begin (says.Mark n) new i d k = Inside-same front (with_changes (begun old.pair.changes) old) new (Inside-begun front old.pair.changes k) d.1
 Inside-other front old asks.Begin (says.Refused NoMemory) new i d k = Inside-same front old new k d
 Inside-other front old asks.Begin _ new i d k = absurd d
-Inside-other front old asks.End (says.Refused NoMemory) new i d k = Inside-same front old new k d
+Inside-other front old asks.End (says.Refused NoMemory) new i d k = Inside-same front old new k d.1
 Inside-other front old asks.End (says.Answer a) new i d k = absurd i
 Inside-other front old asks.End _ new i d k = absurd d
-Inside-other front old (asks.Undo n) (says.Refused NoMemory) new i d k = Inside-same front old new k d
+Inside-other front old (asks.Undo n) (says.Refused NoMemory) new i d k = Inside-same front old new k d.1
 Inside-other front old (asks.Undo n) (says.Answer a) new i d k = absurd i
 Inside-other front old (asks.Undo n) _ new i d k = absurd d
-Inside-other front old asks.Redo (says.Refused NoMemory) new i d k = Inside-same front old new k d
+Inside-other front old asks.Redo (says.Refused NoMemory) new i d k = Inside-same front old new k d.1
 Inside-other front old asks.Redo (says.Answer a) new i d k = absurd i
 Inside-other front old asks.Redo _ new i d k = absurd d
 Inside-other front old (asks.Truncate len) (says.Refused NotReplaying) new i d k = Inside-same front old new k d.1
@@ -146,9 +146,9 @@ Inside-other front old command reply new i d k =
 
 Inside-asked : (what : Asked) (front : List Entry) (old : State) (command : Command) (reply : Reply) (new : State) → MayStandInGroup command reply
     → DoesAsked what old command reply new → Inside front old.pair.changes → Inside front new.pair.changes
-Inside-asked (edit condition plan telling) front old command reply new i d k =
-    Inside-Heard front (held_by_edit condition plan telling old reply new d) old.line old.pair.changes new.line.text new.pair.changes k
-    (Heard-edit condition plan telling old reply new d)
+Inside-asked (edit takes condition plan telling) front old command reply new i d k =
+    Inside-Heard front (held_by_edit takes condition plan telling old reply new d) old.line old.pair.changes new.line.text new.pair.changes k
+    (Heard-edit takes condition plan telling old reply new d)
 Inside-asked other front old command reply new i d k = Inside-other front old command reply new i d k
 
 Inside-row : (front : List Entry) (row : Row) → MayStandInGroup row.command row.reply → Inside front row.before.pair.changes → Inside front row.after.pair.changes

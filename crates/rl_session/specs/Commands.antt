@@ -1,5 +1,5 @@
 -- What each command does.
-use Rattle.std.specs.Prelude.{◌≡◌, ℕ, ◌-◌, ◌≤◌, Bool, true, false, not, length, List, Option, Some, None, IsSome, ◌⊎◌, if◌then◌else◌}
+use Rattle.std.specs.Prelude.{◌≡◌, ℕ, ◌-◌, ◌<◌, ◌≤◌, Bool, true, false, not, length, List, Option, Some, None, IsSome, ◌⊎◌, if◌then◌else◌}
 use Rattle.std.specs.List.{insert_slice}
 use Rattle.std.specs.Option.{option_map}
 use Rattle.std.specs.String.{string_bytes}
@@ -15,7 +15,7 @@ use Rattle.rl_base.specs.declared.motion.Movement.TheVariants.{BeginningOfLine, 
 use Rattle.rl_line.specs.Line.{Line}
 use Rattle.rl_line.specs.LineMotions.{home, line_end, place_above, place_below}
 use Rattle.rl_line.specs.Motions.{Moved, unless_there}
-use Rattle.rl_line.specs.Plan.{Plan, nothing, Done, Halted}
+use Rattle.rl_line.specs.Plan.{Plan, nothing, Done, Halted, or_no_memory_if}
 use Rattle.rl_line.specs.Edits.{insert_plan, insert_str_plan, yank_plan, yank_pop_plan, update_plan, replace_plan, delete_range_plan}
 use Rattle.rl_line.specs.Indents.{indent_plan}
 use Rattle.rl_line.specs.Kills.{copied, delete_plan, kill_plan, is_by_characters, Told}
@@ -57,9 +57,9 @@ pub record Edited {A : Type 0} (plan : Plan A) (old new : State) (answer : A) : 
   pub done : Done pair_step plan old.line new.line old.pair new.pair answer
   pub mode : new.mode ≡ old.mode
 
--- an edit was refused for want of memory, after its first steps
-pub record CutShort {A : Type 0} (plan : Plan A) (old new : State) : Type 0 where
-  pub halted : Halted pair_step pair_refused plan old.line new.line old.pair new.pair why.NoMemory
+-- an edit was refused for want of memory, after its first steps; one that takes none of its own was refused by its listener
+pub record CutShort {A : Type 0} (takes : Bool) (plan : Plan A) (old new : State) : Type 0 where
+  pub halted : Halted pair_step (or_no_memory_if takes pair_refused) plan old.line new.line old.pair new.pair why.NoMemory
   pub mode : new.mode ≡ old.mode
 
 -- a kill was done, and told
@@ -136,67 +136,69 @@ Tells hands_out P (says.Text t) = P (option_map string_bytes t)
 Tells is_done P says.Done = P tt
 Tells _ P _ = ⊥
 
--- what a command asks for: an edit, with a condition on its places, its plan, and the reply that tells its answer; or something else
+-- what a command asks for: an edit, with whether it takes memory of its own, a condition on its places, its plan, and the reply
+-- that tells its answer; or something else
 pub data Asked : Type 1 where
-  edit : {A : Type 0} → (condition : Type 0) → (plan : Plan A) → (telling : Telling A) → Asked
+  edit : {A : Type 0} → (takes : Bool) → (condition : Type 0) → (plan : Plan A) → (telling : Telling A) → Asked
   other : Asked
 
 abbrev pub asked : Line → Command → Asked
-asked line (Insert c n) = edit (Unit {0}) (insert_plan line c n) inserts
-asked line (Paste s n) = edit (Unit {0}) (yank_plan line (string_bytes s) n) inserts
-asked line (Update s q) = edit (IsCharBoundary (string_bytes s) q) (update_plan line (string_bytes s) q) is_done
-asked line (InsertStr i s) = edit (CanGoIn line i (string_bytes s)) (insert_str_plan line i (string_bytes s)) answers
-asked line (Replace i j s) = edit (IsRange line.text i j) (replace_plan line i j (string_bytes s)) is_done
-asked line (DeleteRange i j) = edit (IsRange line.text i j) (delete_range_plan line i j) is_done
-asked line (Delete n) = edit (Unit {0}) (delete_plan line n) hands_out
-asked line (Backspace n) = edit (Unit {0}) (kill_plan line (BackwardChar n)) answers
-asked line KillLine = edit (Unit {0}) (kill_plan line EndOfLine) answers
-asked line KillBuffer = edit (Unit {0}) (kill_plan line EndOfBuffer) answers
-asked line DiscardLine = edit (Unit {0}) (kill_plan line BeginningOfLine) answers
-asked line DiscardBuffer = edit (Unit {0}) (kill_plan line BeginningOfBuffer) answers
-asked line (DeletePrevWord word n) = edit (Unit {0}) (kill_plan line (BackwardWord n word)) answers
-asked line (DeleteWord at word n) = edit (Unit {0}) (kill_plan line (ForwardWord n at word)) answers
-asked line (DeleteTo cs n) = edit (Unit {0}) (kill_plan line (ViCharSearch n cs)) answers
-asked line TransposeChars = edit (Unit {0}) (transpose_chars_plan line) answers
-asked line (TransposeWords n) = edit (Unit {0}) (transpose_words_plan line n) answers
-asked line (Indent m amount dedent) = edit (Unit {0}) (indent_plan line m amount dedent) answers
+asked line (Insert c n) = edit true (Unit {0}) (insert_plan line c n) inserts
+asked line (Paste s n) = edit true (Unit {0}) (yank_plan line (string_bytes s) n) inserts
+asked line (Update s q) = edit true (IsCharBoundary (string_bytes s) q) (update_plan line (string_bytes s) q) is_done
+asked line (InsertStr i s) = edit true (CanGoIn line i (string_bytes s)) (insert_str_plan line i (string_bytes s)) answers
+asked line (Replace i j s) = edit true (IsRange line.text i j) (replace_plan line i j (string_bytes s)) is_done
+asked line (DeleteRange i j) = edit false (IsRange line.text i j) (delete_range_plan line i j) is_done
+asked line (Delete n) = edit true (Unit {0}) (delete_plan line n) hands_out
+asked line (Backspace n) = edit false (Unit {0}) (kill_plan line (BackwardChar n)) answers
+asked line KillLine = edit false (Unit {0}) (kill_plan line EndOfLine) answers
+asked line KillBuffer = edit false (Unit {0}) (kill_plan line EndOfBuffer) answers
+asked line DiscardLine = edit false (Unit {0}) (kill_plan line BeginningOfLine) answers
+asked line DiscardBuffer = edit false (Unit {0}) (kill_plan line BeginningOfBuffer) answers
+asked line (DeletePrevWord word n) = edit false (Unit {0}) (kill_plan line (BackwardWord n word)) answers
+asked line (DeleteWord at word n) = edit false (Unit {0}) (kill_plan line (ForwardWord n at word)) answers
+asked line (DeleteTo cs n) = edit false (Unit {0}) (kill_plan line (ViCharSearch n cs)) answers
+asked line TransposeChars = edit true (Unit {0}) (transpose_chars_plan line) answers
+asked line (TransposeWords n) = edit true (Unit {0}) (transpose_words_plan line n) answers
+asked line (Indent m amount dedent) = edit (not dedent) (Unit {0}) (indent_plan line m amount dedent) answers
 asked line _ = other
 
 -- an edit: refused where its condition fails, and else done, or cut short for want of memory
-abbrev pub Edits : {A : Type 0} → Type 0 → Plan A → Telling A → State → Reply → State → Type 0
-Edits condition plan telling old (says.Refused BadPlace) new = (¬ condition) × (new ≡ old)
-Edits condition plan telling old (says.Refused NoMemory) new = condition × CutShort plan old new
-Edits condition plan telling old reply new = condition × Tells telling (λ a. Edited plan old new a) reply
+abbrev pub Edits : {A : Type 0} → Bool → Type 0 → Plan A → Telling A → State → Reply → State → Type 0
+Edits takes condition plan telling old (says.Refused BadPlace) new = (¬ condition) × (new ≡ old)
+Edits takes condition plan telling old (says.Refused NoMemory) new = condition × CutShort takes plan old new
+Edits takes condition plan telling old reply new = condition × Tells telling (λ a. Edited plan old new a) reply
 
--- what is no edit, or one of a text that is not told by the command
+-- what is no edit, or one of a text that is not told by the command. What has nothing to copy, to close, to undo or to redo is
+-- not refused.
 abbrev pub Others : State → Command → Reply → State → Type 0
 Others old (SetPos q) says.Done new = IsCharBoundary old.line.text q × (new ≡ record old { line = record old.line { cursor = q } })
 Others old (SetPos q) (says.Refused BadPlace) new = (¬ (IsCharBoundary old.line.text q)) × (new ≡ old)
 Others old (Move m) (says.Answer a) new = Went (destination old m) old new a
 Others old (Copy m) (says.Text t) new = (option_map string_bytes t ≡ copied old.line m) × (new ≡ old)
-Others old (Copy m) (says.Refused NoMemory) new = new ≡ old
+Others old (Copy m) (says.Refused NoMemory) new = IsSome (copied old.line m) × (new ≡ old)
 Others old (EditWord action) (says.Answer a) new = Recased old.line action (λ made. Edited (edit_word_plan old.line made) old new a)
-Others old (EditWord action) (says.Refused NoMemory) new = Recased old.line action (λ made. CutShort (edit_word_plan old.line made) old new)
+Others old (EditWord action) (says.Refused NoMemory) new = Recased old.line action (λ made. CutShort true (edit_word_plan old.line made) old new)
 Others old (Kill m) (says.Answer a) new = Killed m old new a
 Others old (Kill m) (says.Refused NoMemory) new = KillRefused m old new
 -- a yanked text is copied out of the ring, for which there may be no memory either; where none is lent, nothing is refused
 Others old (Yank n) (says.Inserted a) new = Edited (lent_plan old.line (yank old.pair.ring) n) (lent old) new a
 Others old (Yank n) (says.Refused NoMemory) new =
-    IsSome (yank old.pair.ring) × ((new ≡ lent old) ⊎ CutShort (lent_plan old.line (yank old.pair.ring) n) (lent old) new)
+    IsSome (yank old.pair.ring) × ((new ≡ lent old) ⊎ CutShort true (lent_plan old.line (yank old.pair.ring) n) (lent old) new)
 Others old YankPop (says.Inserted a) new =
     StandsYanked (yank_size old.pair.ring) old.line × Edited (popped_plan old.line (yank_pop old.pair.ring)) (popped old) new a
 Others old YankPop (says.Refused BadYankSize) new = (¬ (StandsYanked (yank_size old.pair.ring) old.line)) × (new ≡ old)
 Others old YankPop (says.Refused NoMemory) new =
-    StandsYanked (yank_size old.pair.ring) old.line × CutShort (popped_plan old.line (yank_pop old.pair.ring)) (popped old) new
+    StandsYanked (yank_size old.pair.ring) old.line × CutShort true (popped_plan old.line (yank_pop old.pair.ring)) (popped old) new
 Others old Begin (says.Mark n) new = (n ≡ length old.pair.changes.recorded) × (new ≡ with_changes (begun old.pair.changes) old)
 Others old Begin (says.Refused NoMemory) new = new ≡ old
 Others old End (says.Answer a) new =
     (a ≡ adds_end (level old.pair.changes.recorded) old.pair.changes.recorded) × (new ≡ with_changes (ended old.pair.changes) old)
-Others old End (says.Refused NoMemory) new = new ≡ old
+Others old End (says.Refused NoMemory) new = (0 < level old.pair.changes.recorded) × (new ≡ old)
 Others old (Undo n) (says.Answer a) new = TookBack n old new a
-Others old (Undo n) (says.Refused NoMemory) new = new ≡ old
+Others old (Undo n) (says.Refused NoMemory) new = (0 < length old.pair.changes.recorded) × (new ≡ old)
 Others old Redo (says.Answer a) new = PutAgain old new a
-Others old Redo (says.Refused NoMemory) new = new ≡ old
+Others old Redo (says.Refused NoMemory) new = (0 < length old.pair.changes.pending) × (new ≡ old)
 Others old (Truncate len) says.Done new =
     (replays_to len old.pair.changes old.line.text ≡ true) × (new ≡ with_changes (truncated len old.pair.changes) old)
 Others old (Truncate len) (says.Refused NotReplaying) new = (replays_to len old.pair.changes old.line.text ≡ false) × (new ≡ old)
@@ -205,7 +207,7 @@ Others old (Truncate len) (says.Refused NoMemory) new = new ≡ old
 Others _ _ _ _ = ⊥
 
 abbrev pub DoesAsked : Asked → State → Command → Reply → State → Type 0
-DoesAsked (edit condition plan telling) old command reply new = Edits condition plan telling old reply new
+DoesAsked (edit takes condition plan telling) old command reply new = Edits takes condition plan telling old reply new
 DoesAsked other old command reply new = Others old command reply new
 
 -- from old, the command may have this reply and lead to new, the ring's resets aside

@@ -19,12 +19,19 @@ pub record Follows (line : Line) (r : Record) : Type 0 where
   pub back : IsSome (unwind r.recorded line.text)
   pub ahead : IsSome (replay_entries r.pending line.text)
 
--- what holds of every session: a text with the cursor between two of its characters, within the limit, and a ring
+-- what a session keeps from command to command: the record follows the text, and no kill is on
+pub record AtRest (line : Line) (pair : Pair) : Type 0 where
+  pub follows : Follows line pair.changes
+  pub idle : pair.ring.killing ≡ false
+
+-- what holds of every session: a text with the cursor between two of its characters, within the limit, and a ring that
+-- hears of no kill
 pub record Stands (s : State) : Type 0 where
   pub utf8 : IsUtf8 s.line.text
   pub cursor : IsCharBoundary s.line.text s.line.cursor
   pub within : length s.line.text ≤ s.line.limit
   pub ring : IsRing s.pair.ring
+  pub idle : s.pair.ring.killing ≡ false
 
 -- the same with another ring
 abbrev pub with_ring : Ring → State → State

@@ -136,13 +136,13 @@ pub struct Session {
 }
 
 impl Model for Session {
-    ghost use Rattle.rl_session.specs.State.{State, Follows};
+    ghost use Rattle.rl_session.specs.State.{State, AtRest};
 
     ghost Value = { State };
 
     ghost view = { λ s. record { line = s.line; pair = s.pair; mode = s.mode } };
 
-    ghost invariant = { λ s. Follows s.line s.pair.changes };
+    ghost invariant = { λ s. AtRest s.line s.pair };
 }
 
 // A line that holds the text, with the cursor at a place.

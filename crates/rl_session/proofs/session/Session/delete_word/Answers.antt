@@ -1,15 +1,16 @@
-use Rattle.std.proofs.Common.{refl}
+use Rattle.std.proofs.Common.{refl, false}
 use Rattle.rl_base.specs.declared.motion.Movement.TheVariants.{ForwardWord}
 use Rattle.rl_line.specs.Kills.{kill_plan}
 use Rattle.rl_session.specs.Commands.{answers}
-use Rattle.rl_session.proofs.ReplyLemmas.{Edits-replied, refused_alone}
-use Rattle.rl_session.proofs.SessionLemmas.{Follows-deletion}
+use Rattle.rl_session.proofs.ReplyLemmas.{Edits-replied}
+use Rattle.rl_session.proofs.IdleLemmas.{NoneStarts-kill}
+use Rattle.rl_session.proofs.SessionLemmas.{AtRest-edit}
 use Rattle.rl_session.proofs.session.Session.delete_word.Goals as goal
 
 pub invariant_of-self : goal.invariant_of-self
 invariant_of-self c =
-    Follows-deletion _ c.self.inside.pair c.delete_word.new.listener c.self.inside.line c.delete_word.new.self c.delete_word.result (rw (← c.self.view_is) at c.stands.ensures.utf8) c.delete_word.ensures.done c.delete_word.ensures.halted c.self.invariant
+    AtRest-edit false _ (λ a. a) c.self.inside.pair c.delete_word.new.listener c.self.inside.line c.delete_word.new.self c.delete_word.result (rw (← c.self.view_is) at c.stands.ensures.utf8) (NoneStarts-kill c.self.inside.line (ForwardWord c.args.n c.args.at c.args.word)) c.delete_word.ensures.done c.delete_word.ensures.halted c.self.invariant
 
 pub returns : goal.returns
 returns c =
-    Edits-replied answers (λ l. kill_plan l (ForwardWord c.args.n c.args.at c.args.word)) c.self.view_is tt c.answered.ensures (record { mode = refl; done = c.delete_word.ensures.done; halted = refused_alone _ _ _ _ _ _ c.delete_word.ensures.halted })
+    Edits-replied false answers (λ l. kill_plan l (ForwardWord c.args.n c.args.at c.args.word)) c.self.view_is tt c.answered.ensures (record { mode = refl; done = c.delete_word.ensures.done; halted = c.delete_word.ensures.halted })

@@ -1,14 +1,16 @@
 use Rattle.std.proofs.Common.{refl}
+use Rattle.std.specs.Prelude.{not}
 use Rattle.rl_line.specs.Indents.{indent_plan}
 use Rattle.rl_session.specs.Commands.{answers}
 use Rattle.rl_session.proofs.ReplyLemmas.{Edits-replied}
-use Rattle.rl_session.proofs.SessionLemmas.{Follows-edit}
+use Rattle.rl_session.proofs.IdleLemmas.{NoneStarts-indent}
+use Rattle.rl_session.proofs.SessionLemmas.{AtRest-edit}
 use Rattle.rl_session.proofs.session.Session.indent.Goals as goal
 
 pub invariant_of-self : goal.invariant_of-self
 invariant_of-self c =
-    Follows-edit _ (λ a. a) c.self.inside.pair c.indent.new.listener c.self.inside.line c.indent.new.self c.indent.result (rw (← c.self.view_is) at c.stands.ensures.utf8) c.indent.ensures.done c.indent.ensures.halted c.self.invariant
+    AtRest-edit (not c.args.dedent) _ (λ a. a) c.self.inside.pair c.indent.new.listener c.self.inside.line c.indent.new.self c.indent.result (rw (← c.self.view_is) at c.stands.ensures.utf8) (NoneStarts-indent c.self.inside.line c.args.movement.now c.args.amount c.args.dedent) c.indent.ensures.done c.indent.ensures.halted c.self.invariant
 
 pub returns : goal.returns
 returns c =
-    Edits-replied answers (λ l. indent_plan l c.args.movement.now c.args.amount c.args.dedent) c.self.view_is tt c.answered.ensures (record { mode = refl; done = c.indent.ensures.done; halted = c.indent.ensures.halted })
+    Edits-replied (not c.args.dedent) answers (λ l. indent_plan l c.args.movement.now c.args.amount c.args.dedent) c.self.view_is tt c.answered.ensures (record { mode = refl; done = c.indent.ensures.done; halted = c.indent.ensures.halted })

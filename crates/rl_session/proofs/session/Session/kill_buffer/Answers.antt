@@ -1,15 +1,16 @@
-use Rattle.std.proofs.Common.{refl}
+use Rattle.std.proofs.Common.{refl, false}
 use Rattle.rl_base.specs.declared.motion.Movement.TheVariants.{EndOfBuffer}
 use Rattle.rl_line.specs.Kills.{kill_plan}
 use Rattle.rl_session.specs.Commands.{answers}
-use Rattle.rl_session.proofs.ReplyLemmas.{Edits-replied, refused_alone}
-use Rattle.rl_session.proofs.SessionLemmas.{Follows-deletion}
+use Rattle.rl_session.proofs.ReplyLemmas.{Edits-replied}
+use Rattle.rl_session.proofs.IdleLemmas.{NoneStarts-kill}
+use Rattle.rl_session.proofs.SessionLemmas.{AtRest-edit}
 use Rattle.rl_session.proofs.session.Session.kill_buffer.Goals as goal
 
 pub invariant_of-self : goal.invariant_of-self
 invariant_of-self c =
-    Follows-deletion _ c.self.inside.pair c.kill_buffer.new.listener c.self.inside.line c.kill_buffer.new.self c.kill_buffer.result (rw (← c.self.view_is) at c.stands.ensures.utf8) c.kill_buffer.ensures.done c.kill_buffer.ensures.halted c.self.invariant
+    AtRest-edit false _ (λ a. a) c.self.inside.pair c.kill_buffer.new.listener c.self.inside.line c.kill_buffer.new.self c.kill_buffer.result (rw (← c.self.view_is) at c.stands.ensures.utf8) (NoneStarts-kill c.self.inside.line EndOfBuffer) c.kill_buffer.ensures.done c.kill_buffer.ensures.halted c.self.invariant
 
 pub returns : goal.returns
 returns c =
-    Edits-replied answers (λ l. kill_plan l EndOfBuffer) c.self.view_is tt c.answered.ensures (record { mode = refl; done = c.kill_buffer.ensures.done; halted = refused_alone _ _ _ _ _ _ c.kill_buffer.ensures.halted })
+    Edits-replied false answers (λ l. kill_plan l EndOfBuffer) c.self.view_is tt c.answered.ensures (record { mode = refl; done = c.kill_buffer.ensures.done; halted = c.kill_buffer.ensures.halted })
