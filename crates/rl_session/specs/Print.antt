@@ -3,11 +3,12 @@ use Rattle.std.specs.Prelude.{ℕ, ◌==◌, Bool, ◌||◌, ◌&&◌, true, fal
 use Rattle.std.specs.Fmt.{decimal}
 use Rattle.std.specs.String.{string_bytes}
 use Rattle.rl_session.specs.State.{State}
+use Rattle.rl_session.specs.declared.session.Fault.{Fault}
 use Rattle.rl_session.specs.declared.session.Fault.TheVariants.{NoMemory, BadPlace, BadYankSize, NotReplaying}
 use Rattle.rl_session.specs.declared.session.Reply.{Reply}
 use Rattle.rl_session.specs.declared.session.Reply.TheVariants.{Done, Answer, Inserted, Text, Mark, Refused}
 
--- the word for a reply; a refusal has its fault's number
+-- the word for a reply
 abbrev pub reply_word : Reply → List ℕ
 reply_word Done = codes "ok"
 reply_word (Answer true) = codes "true"
@@ -18,10 +19,14 @@ reply_word (Inserted None) = codes "none"
 reply_word (Text (Some _)) = codes "text:"
 reply_word (Text None) = codes "none"
 reply_word (Mark _) = codes "mark:"
-reply_word (Refused NoMemory) = codes "refused:1"
-reply_word (Refused BadPlace) = codes "refused:2"
-reply_word (Refused BadYankSize) = codes "refused:3"
-reply_word (Refused NotReplaying) = codes "refused:4"
+reply_word (Refused _) = codes "refused:"
+
+-- the number of a fault
+abbrev pub number_of_fault : Fault → ℕ
+number_of_fault NoMemory = 1
+number_of_fault BadPlace = 2
+number_of_fault BadYankSize = 3
+number_of_fault NotReplaying = 4
 
 -- backslash, newline, carriage return and tab, and in a text among words also the space
 abbrev pub is_special : Bool → ℕ → Bool
@@ -41,10 +46,11 @@ abbrev pub escaped : Bool → List ℕ → List ℕ
 escaped spaces [] = []
 escaped spaces (b ∷ bs) = escape spaces b ++ escaped spaces bs
 
--- what a reply hands out: a text, printed as one word, or a number
+-- what a reply hands out: a text, printed as one word, a number, or the number of its fault
 abbrev pub handed : Reply → List ℕ
 handed (Text (Some t)) = escaped true (string_bytes t)
 handed (Mark n) = decimal n
+handed (Refused fault) = decimal (number_of_fault fault)
 handed _ = []
 
 -- the reply, the cursor and the text, parted by spaces, in one line

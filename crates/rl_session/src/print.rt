@@ -1,7 +1,7 @@
 //! What is printed for a reply.
 ghost use Rattle.std.specs.Prelude.{◌≡◌, ◌≤◌, ◌<◌, OnOk, ◌++◌, true, take, drop, length, slice_index};
 ghost use Rattle.std.specs.Fmt.{decimal};
-ghost use Rattle.rl_session.specs.Print.{reply_word, handed, is_special, escaped, escape, printed};
+ghost use Rattle.rl_session.specs.Print.{reply_word, number_of_fault, handed, is_special, escaped, escape, printed};
 
 use crate::session::{Fault, Reply, Session};
 use std::alloc::AllocError;
@@ -29,10 +29,7 @@ fn reply_word(reply: &Reply) -> &'static str
         Reply::Text(Some(_)) => "text:",
         Reply::Text(None) => "none",
         Reply::Mark(_) => "mark:",
-        Reply::Refused(Fault::NoMemory) => "refused:1",
-        Reply::Refused(Fault::BadPlace) => "refused:2",
-        Reply::Refused(Fault::BadYankSize) => "refused:3",
-        Reply::Refused(Fault::NotReplaying) => "refused:4",
+        Reply::Refused(_) => "refused:",
     }
 }
 
@@ -88,6 +85,13 @@ fn add_escaped(out: &mut Vec<u8>, text: &[u8], spaces: bool) -> Result<(), Alloc
     Ok(())
 }
 
+// The number that a refusal is printed with.
+fn number_of_fault(fault: Fault) -> usize
+    ensures { result ≡ number_of_fault fault }
+{
+    fault as usize
+}
+
 // Adds the reply: its word, and the text or number that it hands out.
 fn add_reply(out: &mut Vec<u8>, reply: &Reply) -> Result<(), AllocError>
     ensures { OnOk result (out.new.items ≡ out.old.items ++ (reply_word reply.now ++ handed reply.now)) }
@@ -96,6 +100,7 @@ fn add_reply(out: &mut Vec<u8>, reply: &Reply) -> Result<(), AllocError>
     match reply {
         Reply::Text(Some(text)) => add_escaped(out, text.as_bytes(), true),
         Reply::Mark(n) => add_number(out, *n),
+        Reply::Refused(fault) => add_number(out, number_of_fault(*fault)),
         _ => Ok(()),
     }
 }

@@ -29,6 +29,13 @@ pub enum ScriptFault {
     NoMemory = 3,
 }
 
+// The numbers are part of the interface.
+const _: () = prove!(ScriptFault::Read as u8 == 1);
+
+const _: () = prove!(ScriptFault::Write as u8 == 2);
+
+const _: () = prove!(ScriptFault::NoMemory as u8 == 3);
+
 // How many bytes are read at once.
 const BLOCK: usize = 4096;
 

@@ -108,6 +108,15 @@ pub enum Fault {
     NotReplaying = 4,
 }
 
+// The numbers are part of the interface: a refusal is printed with its fault's.
+const _: () = prove!(Fault::NoMemory as u8 == 1);
+
+const _: () = prove!(Fault::BadPlace as u8 == 2);
+
+const _: () = prove!(Fault::BadYankSize as u8 == 3);
+
+const _: () = prove!(Fault::NotReplaying as u8 == 4);
+
 /// What a session answers.
 #[derive(Debug, Drop, PartialEq, Eq)]
 pub enum Reply {
