@@ -4,9 +4,9 @@ use Rattle.std.proofs.lemmas.List.{take_all}
 use Rattle.std.proofs.KnownBytes.{Appends-trans, Appends-nil, Consumes-trans}
 use Rattle.std.specs.Io.KnownBytes.{Appends, Consumes, Keeps, IsAtEnd}
 use Rattle.std.specs.Prelude.{IfSome, OnErr}
-use Rattle.rl_session.specs.Lines.{lines_of, HasNoNewline}
+use Rattle.rl_session.specs.Lines.{lines_of}
 use Rattle.rl_session.specs.Script.{LineOut, started, Outputs, CutOutputs, Stopped}
-use Rattle.rl_session.specs.Progress.{Took, Halts, Runs}
+use Rattle.rl_session.specs.Progress.{HasNoNewline, Took, Halts, Runs}
 use Rattle.rl_session.specs.declared.script.Interpreter.{Interpreter}
 use Rattle.rl_session.proofs.LineLemmas.{lines_of-ended, lines_of-last}
 

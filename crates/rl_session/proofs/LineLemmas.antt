@@ -5,9 +5,9 @@ use Rattle.std.proofs.lemmas.Bool.Decides.{nat_tests}
 use borrow.Author.Tests.{eqb-true}
 use Rattle.std.proofs.KnownBytes.{Appends-trans, Appends-nil, Consumes-trans}
 use Rattle.std.specs.Io.KnownBytes.{Appends, Consumes, IsAtEnd}
-use Rattle.rl_session.specs.Lines.{lines_of, onto, HasNoNewline}
+use Rattle.rl_session.specs.Lines.{lines_of, onto}
 use Rattle.rl_session.specs.Script.{LineOut, started, Outputs, Ran}
-use Rattle.rl_session.specs.Progress.{Took, Runs}
+use Rattle.rl_session.specs.Progress.{HasNoNewline, Took, Runs}
 use Rattle.rl_session.specs.declared.script.Interpreter.{Interpreter}
 
 not_ten : (b : ℕ) → b ≢ 10 → (b == 10) ≡ false

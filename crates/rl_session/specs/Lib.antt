@@ -10,5 +10,6 @@ pub mod Grammar
 pub mod Reads
 pub mod Lines
 pub mod Print
+pub mod Writes
 pub mod Script
 pub mod Progress

@@ -1,5 +1,5 @@
 -- What is printed for a reply.
-use Rattle.std.specs.Prelude.{ℕ, ◌==◌, Bool, ◌||◌, ◌&&◌, true, false, List, [], ◌∷◌, ◌++◌, Some, None, codes, if◌then◌else◌}
+use Rattle.std.specs.Prelude.{ℕ, ◌==◌, Bool, ◌&&◌, true, false, List, [], ◌∷◌, ◌++◌, Some, None, codes, if◌then◌else◌}
 use Rattle.std.specs.Fmt.{decimal}
 use Rattle.std.specs.String.{string_bytes}
 use Rattle.rl_session.specs.State.{State}
@@ -28,11 +28,8 @@ number_of_fault BadPlace = 2
 number_of_fault BadYankSize = 3
 number_of_fault NotReplaying = 4
 
--- backslash, newline, carriage return and tab, and in a text among words also the space
-abbrev pub is_special : Bool → ℕ → Bool
-is_special spaces b = (b == 92) || ((b == 10) || ((b == 13) || ((b == 9) || (spaces && (b == 32)))))
-
--- those are printed by two bytes each, any other byte as it is
+-- backslash, newline, carriage return and tab, and in a text among words also the space, are printed by two bytes each,
+-- any other byte as it is
 abbrev pub escape : Bool → ℕ → List ℕ
 escape spaces b =
     if b == 92 then 92 ∷ 92 ∷ []

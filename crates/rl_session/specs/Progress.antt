@@ -1,9 +1,14 @@
 -- How far the running of a script has come.
-use Rattle.std.specs.Prelude.{◌≡◌, ℕ, List, [], ◌++◌, Option}
+use Rattle.std.specs.Prelude.{◌≡◌, ◌≢◌, ℕ, List, [], ◌∷◌, ◌++◌, Option}
 use Rattle.std.specs.Io.KnownBytes.{Consumes, Appends}
 use Rattle.rl_session.specs.Lines.{lines_of}
 use Rattle.rl_session.specs.Script.{Outputs, CutOutputs, started}
 use Rattle.rl_session.specs.declared.script.Interpreter.{Interpreter}
+
+-- there is no newline in it
+abbrev pub HasNoNewline : List ℕ → Type 0
+HasNoNewline [] = Unit {0}
+HasNoNewline (b ∷ bs) = (b ≢ 10) × HasNoNewline bs
 
 -- Behind `part`, the beginning of a line, came `bytes`. The lines that they end were run and printed, and `part'` is left.
 pub record Took (old : Interpreter) (part bytes : List ℕ) (held holds : Option (List ℕ)) (new : Interpreter) (part' : List ℕ) : Type 0 where

@@ -1,7 +1,8 @@
 //! What is printed for a reply.
 ghost use Rattle.std.specs.Prelude.{◌≡◌, ◌≤◌, ◌<◌, OnOk, ◌++◌, true, take, drop, length, slice_index};
 ghost use Rattle.std.specs.Fmt.{decimal};
-ghost use Rattle.rl_session.specs.Print.{reply_word, number_of_fault, handed, is_special, escaped, escape, printed};
+ghost use Rattle.rl_session.specs.Print.{reply_word, number_of_fault, handed, escaped, escape, printed};
+ghost use Rattle.rl_session.specs.Writes.{is_special};
 
 use crate::session::{Fault, Reply, Session};
 use std::alloc::AllocError;

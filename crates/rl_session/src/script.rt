@@ -2,10 +2,9 @@
 ghost use Rattle.std.specs.Prelude.{◌≡◌, ℕ, [], ◌∷◌, take, OnOk, OnErr, IfOk, IfErr};
 ghost use Rattle.std.specs.Io.KnownBytes.{Appends};
 ghost use Rattle.rl_session.specs.Grammar.{NewText, Set, Do};
-ghost use Rattle.rl_session.specs.Lines.{HasNoNewline};
 ghost use Rattle.rl_session.specs.Print.{printed};
 ghost use Rattle.rl_session.specs.Script.{begun, started, MeaningOut, LineOut, Ran, Stopped};
-ghost use Rattle.rl_session.specs.Progress.{Runs, Took, Halts};
+ghost use Rattle.rl_session.specs.Progress.{HasNoNewline, Runs, Took, Halts};
 
 use crate::grammar::{ScriptLine, parse};
 use crate::print::add_printed;

@@ -1,5 +1,5 @@
 use Rattle.std.proofs.Common.{◌≡◌, length}
-use Rattle.rl_session.specs.Lines.{HasNoNewline}
+use Rattle.rl_session.specs.Progress.{HasNoNewline}
 use Rattle.rl_session.specs.Progress.{Runs}
 use Rattle.rl_session.proofs.script.run_blocks.Given as goal
 

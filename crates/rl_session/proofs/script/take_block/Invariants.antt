@@ -1,5 +1,5 @@
 use Rattle.std.proofs.Common.{take}
-use Rattle.rl_session.specs.Lines.{HasNoNewline}
+use Rattle.rl_session.specs.Progress.{HasNoNewline}
 use Rattle.rl_session.specs.Progress.{Took}
 use Rattle.rl_session.proofs.script.take_block.Given as goal
 
