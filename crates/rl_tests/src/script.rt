@@ -91,6 +91,16 @@ fn scripts_print(rt: HostRuntime) -> Result<(), Fail> {
         ),
         ("no script, no output", b"", b""),
         (
+            "a carriage return before the newline belongs to the line",
+            b"text a\\rb\r\nundo 1\r\nins 1 \\r\nins 1 \r\nins 1 \\r\r\n",
+            b"ok 4 a\\rb\\r\nbad\ntrue 5 a\\rb\\r\\r\ntrue 6 a\\rb\\r\\r\\r\nbad\n",
+        ),
+        (
+            "each refusal has its number",
+            b"text ab\npos 3\nkill bword 1 emacs\nyank 0\nyankpop\ntrunc 0\nlimit 18446744073709551615\ntext a\n",
+            b"ok 2 ab\nrefused:2 2 ab\ntrue 0 \ntrue 0 \nrefused:3 0 \nrefused:4 0 \nok 0 \nrefused:1 0 \n",
+        ),
+        (
             "escapes are read and printed",
             b"text a\\tb\\s\\u{E9}\\\\\ntext\ntext \nins 1 \\n\nins 1  \n",
             b"ok 7 a\\tb \xc3\xa9\\\\\nok 0 \nok 0 \ntrue 1 \\n\ntrue 2 \\n \n",
@@ -166,6 +176,11 @@ fn kills_come_back(rt: HostRuntime) -> Result<(), Fail> {
             "lines, the whole line and its newline, and the text are killed",
             b"text a\\nb\\nc\npos 2\nkill down 0\nundo 1\npos 2\nkill up 1\nundo 1\npos 2\nkill line\nkill line\nkill first\nkill buf\nyank 1\n",
             b"ok 5 a\\nb\\nc\nok 2 a\\nb\\nc\ntrue 1 ac\ntrue 4 a\\nb\\nc\nok 2 a\\nb\\nc\ntrue 0 c\ntrue 4 a\\nb\\nc\nok 2 a\\nb\\nc\ntrue 2 a\\n\\nc\ntrue 2 a\\nc\nfalse 2 a\\nc\ntrue 0 \ntrue 5 b\\na\\nc\n",
+        ),
+        (
+            "there is nothing to yank from an empty ring, nor from one without slots",
+            b"text ab\nyank 1\nyankpop\nring 0\ntext ab\nyank 1\nyankpop\nkill home\nyank 1\nyankpop\n",
+            b"ok 2 ab\nnone 2 ab\nnone 2 ab\nok 2 ab\nok 2 ab\nnone 2 ab\nnone 2 ab\ntrue 0 \nnone 0 \nnone 0 \n",
         ),
         (
             "a new text has a new ring",
@@ -269,6 +284,11 @@ fn groups_are_undone_and_done_again(rt: HostRuntime) -> Result<(), Fail> {
             b"ok 0 \ntrue 1 a\nmark:1 1 a\ntrue 2 ab\ntrue 3 abc\ntrue 3 abc\ntrue 1 a\ntrue 3 abc\n",
         ),
         (
+            "there is nothing to undo, to redo or to end in an empty record",
+            b"text ab\npos 1\nundo 0\nundo 1\nredo\nend\n",
+            b"ok 2 ab\nok 1 ab\nfalse 1 ab\nfalse 1 ab\nfalse 1 ab\nfalse 1 ab\n",
+        ),
+        (
             "an undo of a group's beginning closes it",
             b"text\nins 1 a\nbegin\nins 1 b\nundo 2\nend\n",
             b"ok 0 \ntrue 1 a\nmark:1 1 a\ntrue 2 ab\ntrue 1 a\nfalse 1 a\n",
@@ -354,6 +374,25 @@ fn every_word_does_something(rt: HostRuntime) -> Result<(), Fail> {
         ),
     ];
     print_all(&rt, rt.alloc(), ROWS)
+}
+
+// The driver reads blocks of 4096 bytes: here are fourteen of them and a part of one. Their borders lie inside lines,
+// but one between two lines; one line is longer than three blocks, and the last has no newline.
+#[test]
+fn a_script_is_longer_than_a_block(rt: HostRuntime) -> Result<(), Fail> {
+    let alloc = rt.alloc();
+    let pairs = "ins 1 a\nback 1\n".repeat(alloc, 1500)?;
+    let letters = "b".repeat(alloc, 13_000)?;
+    let script = format!(in alloc; "{pairs}text {letters}\ndiscbuf\n{pairs}ins 2 x")?;
+    let printed = printed_by(alloc, script.as_bytes())?;
+    let answers = "true 1 a\ntrue 0 \n".repeat(alloc, 1500)?;
+    let wanted = format!(in alloc; "{answers}ok 13000 {letters}\ntrue 0 \n{answers}true 2 xx\n")?;
+    is_so(
+        &rt,
+        printed.as_slice() == wanted.as_bytes(),
+        "a long script prints all that it should",
+    );
+    Ok(())
 }
 
 // The middle between the two.
@@ -498,5 +537,11 @@ fn broken_ends_are_told_apart(rt: HostRuntime) -> Result<(), Fail> {
             == "read failed, write failed, no memory, out of memory, no such place in the text, no yanked text before the cursor, the entries do not lead to the text",
         "the faults' words",
     );
+    let read_or_written = ScriptFault::Read as u8 == 1 && ScriptFault::Write as u8 == 2;
+    let numbered = read_or_written && ScriptFault::NoMemory as u8 == 3;
+    is_so(&rt, numbered, "the numbers of a script's faults");
+    let first = Fault::NoMemory as u8 == 1 && Fault::BadPlace as u8 == 2;
+    let last = Fault::BadYankSize as u8 == 3 && Fault::NotReplaying as u8 == 4;
+    is_so(&rt, first && last, "the numbers of a session's faults");
     Ok(())
 }
