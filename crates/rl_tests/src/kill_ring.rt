@@ -126,13 +126,19 @@ fn a_kill_overwrites_the_text_behind_the_current_one(rt: HostRuntime) -> Result<
 fn the_smallest_rings(rt: HostRuntime) -> Result<(), Fail> {
     const NO_SLOT: &[Step] = &[
         (Call::YankNone, None),
+        (Call::PopNone, None),
         (Call::Kill("x"), None),
+        (Call::KillBack("y"), None),
+        (Call::Start, None),
+        (Call::Ahead("z"), None),
+        (Call::Stop, None),
         (Call::YankNone, None),
         (Call::PopNone, None),
     ];
     goes(&rt, rt.alloc(), 0, NO_SLOT)?;
     const ONE_SLOT: &[Step] = &[
         (Call::YankNone, None),
+        (Call::PopNone, None),
         (Call::Kill("a"), None),
         (Call::Reset, None),
         (Call::Kill("\u{df}"), None),

@@ -15,6 +15,8 @@ fn words_are_recased(rt: HostRuntime) -> Result<(), Fail> {
         ("a ßeta  c", 1, "case up", "true 7 a SSETA  c"),
         ("a ßetA  c", 1, "case low", "true 7 a ßeta  c"),
         ("a ßETA  c", 1, "case cap", "true 7 a SSeta  c"),
+        // all of the first cluster
+        ("α\u{345}β", 0, "case cap", "true 6 \u{391}\u{399}β"),
     ];
     print_each(&rt, rt.alloc(), ROWS)
 }

@@ -200,10 +200,14 @@ fn answers_about_a_line(rt: HostRuntime) -> Result<(), Fail> {
 
 #[test]
 fn a_line_is_printed_and_used_up(rt: HostRuntime) -> Result<(), Fail> {
-    let line = line_of(&rt, rt.alloc(), "ab", 1)?;
+    const TEXT: &str = "\"\n\\é";
+    let line = line_of(&rt, rt.alloc(), TEXT, 1)?;
     let printed = format!(in rt.alloc(); "{line:?}")?;
-    assert_eq!(rt; printed.as_str(), r#"LineBuffer { buf: "ab", pos: 1 }"#);
+    assert_eq!(rt;
+        printed.as_str(),
+        r#"LineBuffer { buf: "\"\n\\é", pos: 1 }"#
+    );
     let text = line.into_string();
-    assert_eq!(rt; text.as_str(), "ab");
+    assert_eq!(rt; text.as_str(), TEXT);
     Ok(())
 }

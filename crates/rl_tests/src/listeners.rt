@@ -24,9 +24,16 @@ fn forward_is_the_default(rt: HostRuntime) {
     assert_eq!(rt; Direction::default(), Direction::Forward);
 }
 
-fn prints(rt: &impl Abort, alloc: Global, refusal: Refusal, want: &str) -> Result<(), AllocError> {
+// The refusal has that number, and is printed so.
+fn prints(
+    rt: &impl Abort,
+    alloc: Global,
+    refusal: Refusal,
+    number: u8,
+    want: &str,
+) -> Result<(), AllocError> {
     let text = format!(in alloc; "{refusal}")?;
-    let is_so = text.as_str() == want;
+    let is_so = refusal as u8 == number && text.as_str() == want;
     assert!(rt; is_so, "{refusal:?}");
     Ok(())
 }
@@ -34,7 +41,7 @@ fn prints(rt: &impl Abort, alloc: Global, refusal: Refusal, want: &str) -> Resul
 #[test]
 fn refusals_are_printed(rt: HostRuntime) -> Result<(), Fail> {
     let words = "the listener refused the change";
-    prints(&rt, rt.alloc(), Refusal::NoMemory, "out of memory")?;
-    prints(&rt, rt.alloc(), Refusal::Listener, words)?;
+    prints(&rt, rt.alloc(), Refusal::NoMemory, 1, "out of memory")?;
+    prints(&rt, rt.alloc(), Refusal::Listener, 2, words)?;
     Ok(())
 }

@@ -479,6 +479,7 @@ fn nothing_undone_leaves_the_cursor(rt: HostRuntime) -> Result<(), Fail> {
     const STEPS: &[Step] = &[
         (Call::Undo(1), 0, "ab", 1, 0, 0),
         (Call::Redo, 0, "ab", 1, 0, 0),
+        (Call::End, 0, "ab", 1, 0, 0),
         (Call::Begin, 0, "ab", 1, 1, 1),
         (Call::Undo(65535), 0, "ab", 1, 0, 0),
         (Call::Redo, 0, "ab", 1, 1, 1),
