@@ -176,8 +176,8 @@ fn line_of(alloc: Global, text: &str, pos: usize, limit: usize) -> Result<LineBu
 impl Session {
     /// A session on a text, with the cursor at the byte place `pos`. Its line has the limit `limit`, in bytes,
     /// or the text's length where that is greater, and may not grow; its ring has room for `ring_size` texts;
-    /// `mode` says how columns are counted. `BadPlace` comes exactly where `pos` is no boundary between two
-    /// characters.
+    /// `mode` says how columns are counted. `BadPlace` comes exactly where `pos` is no boundary: a place between
+    /// two characters, or an end of the text.
     pub fn new(
         alloc: Global,
         text: &str,
