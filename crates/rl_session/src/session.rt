@@ -225,7 +225,7 @@ impl Session {
         &self.pair.ring
     }
 
-    // What the parts of a session promise of themselves, for the proofs of what stands on them.
+    // What the parts of a session promise of themselves, and that no kill is on, for the proofs of what stands on them.
     fn stands(&self)
         ensures { Stands self.now }
     {
