@@ -1,5 +1,6 @@
 //! Runs a script of line edits from standard input, and prints one line for each of its lines.
 #![tactic(auto)]
+
 ghost use Rattle.std.specs.Prelude.{◌≡◌, OnOk, OnErr};
 ghost use Rattle.std.specs.Process.{exit_status};
 
