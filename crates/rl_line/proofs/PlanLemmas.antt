@@ -175,16 +175,21 @@ module _ {L : Type 0} (step : L → Event → L) where
       cause = h.cause;
     }
 
-  -- a plan that its listener alone may have halted
-  pub Halted-or_no_memory : {A : Type 0} (takes : Bool) (refused : L → Event → Refusal → L → Type 0) (plan : Plan A) (old new : Line) (b n : L) (r : Refusal)
-      → Halted step (or_no_memory_if takes refused) plan old new b n r → Halted step (or_no_memory refused) plan old new b n r
-  Halted-or_no_memory true refused plan old new b n r h = h
-  Halted-or_no_memory false refused plan old new b n r h = record {
+  -- the same halt, with another cause
+  pub Halted-caused : {A : Type 0} (refused refused' : L → Event → Refusal → L → Type 0) (plan : Plan A) (old new : Line) (b n : L) (r r' : Refusal)
+      → (h : Halted step refused plan old new b n r) → refused' h.middle h.next.0 r' n → Halted step refused' plan old new b n r'
+  Halted-caused refused refused' plan old new b n r r' h cause = record {
     first = h.first;
     next = h.next;
     others = h.others;
     split = h.split;
     middle = h.middle;
     taken = h.taken;
-    cause = inr h.cause;
+    cause = cause;
   }
+
+  -- a plan that its listener alone may have halted
+  pub Halted-or_no_memory : {A : Type 0} (takes : Bool) (refused : L → Event → Refusal → L → Type 0) (plan : Plan A) (old new : Line) (b n : L) (r : Refusal)
+      → Halted step (or_no_memory_if takes refused) plan old new b n r → Halted step (or_no_memory refused) plan old new b n r
+  Halted-or_no_memory true refused plan old new b n r h = h
+  Halted-or_no_memory false refused plan old new b n r h = Halted-caused refused (or_no_memory refused) plan old new b n r r h (inr h.cause)

@@ -8,6 +8,7 @@ use Rattle.rl_line.specs.Line.{Line}
 use Rattle.rl_line.specs.Plan.{Step, Plan, heard, Taken, Done, Halted, or_no_memory_if}
 use Rattle.rl_line.specs.Kills.{Told}
 use Rattle.rl_line.specs.Record.{Record, record_step}
+use Rattle.rl_line.proofs.PlanLemmas.{Halted-caused}
 use Rattle.rl_session.specs.Pair.{pair_step, pair_refused}
 use Rattle.rl_session.specs.declared.pair.Pair.{Pair}
 
@@ -54,15 +55,9 @@ Halted-changes takes plan old new p q w h = record {
 
 pub Halted-pair : {A : Type 0} (takes : Bool) (plan : Plan A) (old new : Line) (p q : Pair) (w : Refusal) → Halted pair_step (or_no_memory_if takes pair_refused) plan old new p q w
     → Halted pair_step (or_no_memory_if takes pair_refused) plan old new p q why.NoMemory
-Halted-pair takes plan old new p q w h = record {
-  first = h.first;
-  next = h.next;
-  others = h.others;
-  split = h.split;
-  middle = h.middle;
-  taken = h.taken;
-  cause = cause-memory takes h.middle q h.next.0 w h.cause;
-}
+Halted-pair takes plan old new p q w h =
+    Halted-caused pair_step (or_no_memory_if takes pair_refused) (or_no_memory_if takes pair_refused) plan old new p q w why.NoMemory h
+        (cause-memory takes h.middle q h.next.0 w h.cause)
 
 -- a kill that the pair refused, whatever refusal was handed on
 pub Told-pair : {A : Type 0} (b : Bool) (plan : Plan A) (old new : Line) (p q : Pair) (w : Refusal)
