@@ -57,7 +57,7 @@ pub Halted-pair : {A : Type 0} (takes : Bool) (plan : Plan A) (old new : Line) (
     → Halted pair_step (or_no_memory_if takes pair_refused) plan old new p q why.NoMemory
 Halted-pair takes plan old new p q w h =
     Halted-caused pair_step (or_no_memory_if takes pair_refused) (or_no_memory_if takes pair_refused) plan old new p q w why.NoMemory h
-        (cause-memory takes h.middle q h.next.0 w h.cause)
+    (cause-memory takes h.middle q h.next.0 w h.cause)
 
 -- a kill that the pair refused, whatever refusal was handed on
 pub Told-pair : {A : Type 0} (b : Bool) (plan : Plan A) (old new : Line) (p q : Pair) (w : Refusal)
