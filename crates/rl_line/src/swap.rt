@@ -1,8 +1,8 @@
 //! The one way in which a text changes: a range of it gives way to a part.
-ghost use Rattle.std.specs.Prelude.{◌≡◌, ◌+◌, ◌-◌, ◌≤◌, encode_utf8, length, IfSome};
+ghost use Rattle.std.specs.Prelude.{◌≡◌, ◌≢◌, ◌+◌, ◌-◌, ◌≤◌, encode_utf8, length, IfNone, IfSome};
 ghost use Rattle.std.specs.String.{string_bytes, string_len, string_capacity};
 ghost use Rattle.std.specs.List.{insert_slice, remove_range, replace_range};
-ghost use Rattle.std.specs.Str.{IsCharBoundary};
+ghost use Rattle.std.specs.Str.{IsCharBoundary, chars};
 
 /// Puts a part in the place of a range, in a text that has room for what this makes of it: an insertion where the range is
 /// empty, a deletion where the part is. Answers the part's end.
@@ -65,7 +65,8 @@ fn put_in(text: &mut String, at: usize, part: &str)
 
 // The character that a part consists of, where it is but one.
 fn lone_char(part: &str) -> Option<char>
-    ensures { IfSome result (λ c. part.now ≡ encode_utf8 c) }
+    ensures some { IfSome result (λ c. part.now ≡ encode_utf8 c) }
+    ensures none { IfNone result (length (chars part.now) ≢ 1) }
 {
     let mut chars = part.chars();
     let c = chars.next()?;
