@@ -1,3 +1,4 @@
+pub mod LineStarts
 pub mod Line
 pub mod Plan
 pub mod Motions
