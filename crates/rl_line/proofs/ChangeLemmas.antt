@@ -23,6 +23,7 @@ use Rattle.rl_line.proofs.RecordLemmas.{unwind-append}
 pub record StandsNew (e : Entry) (text : List ℕ) (at : ℕ) : Type 0 where
   pub start : IsCharBoundary text at
   pub end : IsCharBoundary text (at + length (new_text e))
+  pub bytes : slice_range text at (at + length (new_text e)) ≡ new_text e
   pub makes : apply (event_of (inverse e)) text ≡ Some (replace_range text at (at + length (new_text e)) (old_text e))
 
 pub StandsNew-from_IsSome : (e : Entry) (text : List ℕ) (at : ℕ) → place e ≡ Some at → IsSome (apply (event_of (inverse e)) text) → StandsNew e text at
@@ -32,17 +33,18 @@ StandsNew-from_IsSome (Inserted i s) text at p h =
     let same : i ≡ at = cc in
     let d = Deletes-from_IsSome text i s Forward h in
     subst (λ k. StandsNew (Inserted i s) text k) same
-    (record { start = d.stands.start; end = d.stands.end; makes = d.makes ∙ ap (λ x. Some (x ++ drop (i + length s) text)) (sym (append-nil (take i text))) })
+    (record { start = d.stands.start; end = d.stands.end; bytes = d.stands.bytes; makes = d.makes ∙ ap (λ x. Some (x ++ drop (i + length s) text)) (sym (append-nil (take i text))) })
 StandsNew-from_IsSome (Deleted i s) text at p h =
     let same : i ≡ at = cc in
     let d = Inserts-from_IsSome text i s h in
     let here : i ≡ i + 0 = omega arith in
+    let none : i + 0 - i ≡ 0 = omega arith in
     subst (λ k. StandsNew (Deleted i s) text k) same
-    (record { start = d.fits.place; end = subst (IsCharBoundary text) here d.fits.place; makes = d.makes ∙ ap (λ k. Some ((take i text ++ s) ++ drop k text)) here })
+    (record { start = d.fits.place; end = subst (IsCharBoundary text) here d.fits.place; bytes = ap (λ n. take n (drop i text)) none; makes = d.makes ∙ ap (λ k. Some ((take i text ++ s) ++ drop k text)) here })
 StandsNew-from_IsSome (Replaced i s t) text at p h =
     let same : i ≡ at = cc in
     let d = Replaces-from_IsSome text i t s h in
-    subst (λ k. StandsNew (Replaced i s t) text k) same (record { start = d.stands.start; end = d.stands.end; makes = d.makes })
+    subst (λ k. StandsNew (Replaced i s t) text k) same (record { start = d.stands.start; end = d.stands.end; bytes = d.stands.bytes; makes = d.makes })
 
 -- a mark leaves the text
 pub mark-leaves : (e : Entry) (text : List ℕ) → place e ≡ None → apply (event_of (inverse e)) text ≡ Some text

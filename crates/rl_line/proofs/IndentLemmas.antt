@@ -1,27 +1,30 @@
 -- The steps of an indent: the parts that spaces go in by, the places behind a change at the start of a line, and the
 -- lines that are left.
-use Rattle.std.proofs.Common.{◌≡◌, ℕ, zero, suc, ◌+◌, ◌-◌, ◌/◌, ◌%◌, ◌<◌, ◌≤◌, Bool, true, false, List, [], ◌∷◌, ◌++◌, length, take, drop, slice_range, min, max, refl, sym, ap, ap₂, subst, ◌∙◌, arith, append_assoc, ltb-true, ltb-false, eqb, eqb-true, ne_eqb, get_or, drop-cons, ◌⊎◌, inl, inr, ◌≢◌}
-use Rattle.std.proofs.Math.Nat.{eq-or-lt_of_le}
-use Rattle.std.proofs.lemmas.List.Splits.{slice_split-cons_yes}
+use Rattle.std.proofs.Common.{Some, ◌≡◌, ℕ, zero, suc, ◌+◌, ◌-◌, ◌*◌, sum, length-append, ◌/◌, ◌%◌, ◌<◌, ◌≤◌, Bool, true, false, List, [], ◌∷◌, ◌++◌, length, take, drop, slice_range, min, max, refl, sym, ap, ap₂, subst, ◌∙◌, arith, append_assoc, ltb-true, ltb-false, eqb, eqb-true, ne_eqb, get_or, drop-cons}
 use Rattle.std.specs.Prelude.{◌==◌, nat_lt, if◌then◌else◌}
-use Rattle.std.specs.declared.ops.Range.{Range}
 use Rattle.std.specs.List.{repeat, insert_slice, remove_range}
+use Rattle.std.specs.Option.{is_some}
 use Rattle.std.specs.Str.{IsAscii, IsCharBoundary, IsUtf8, trim_start}
 use Rattle.std.proofs.lemmas.Bool.Decides.{nat_tests}
-use Rattle.std.proofs.lemmas.List.{drop-drop, append-nil, get_or-drop, get_or-take, nil_from_length, take-append-drop, take-take, length-drop}
+use Rattle.std.proofs.lemmas.List.{length-take-le, drop-drop, append-nil, get_or-drop, get_or-take, take-append-drop, take-take, length-drop}
+use Rattle.std.proofs.lemmas.List.Sums.{sum_by-append, sum_by-cons}
 use Rattle.std.proofs.lemmas.List.Edits.{length-between}
-use Rattle.std.proofs.lemmas.Str.{IsCharBoundary-from_rest}
 use Rattle.std.proofs.lemmas.Str.Ascii.{IsAscii-nil, IsAscii-cons}
-use Rattle.rl_base.specs.Event.{Event, InsertStr, Delete}
-use Rattle.rl_base.specs.Lines.{is_newline, lines, line_number, start_of_line, end_of_line, bytes_of}
+use Rattle.std.proofs.lemmas.Option.{same_Some}
+use Rattle.rl_base.specs.Event.{Event, InsertStr, Delete, apply}
+use Rattle.rl_base.specs.declared.listeners.Direction.{Direction}
+use Rattle.rl_base.specs.Lines.{lines, last_line, line_number, text_of_line, start_of_line, end_of_line}
 use Rattle.rl_base.specs.Text.{greatest_boundary}
 use Rattle.rl_base.specs.declared.listeners.Direction.TheVariants.{Forward}
 use Rattle.rl_base.specs.declared.listeners.Refusal.{Refusal}
-use Rattle.rl_base.proofs.LineLemmas.{bytes_of-append, bytes_of-lines, end-from, lines-from, lines-next, number-behind, number-mono, number-within, start-next, starts_with_line}
+use Rattle.rl_base.proofs.LineLemmas.{count_of_lines, count-parts, end-from, lies, lines-behind, lines_some, newlines-line, start-next, text-between}
 use Rattle.rl_base.proofs.TextLemmas.{drop-behind, IsCharBoundary-before, IsCharBoundary-behind, IsCharBoundary-before_removal, IsCharBoundary-at_removal, removed-is_replaced, greatest_boundary-is}
-use Rattle.rl_line.specs.Indents.{blanks, final_line, first_line, line_plan, lines_plan, spaces, parts, put_spaces, pushed, pulled}
-use Rattle.rl_line.specs.Plan.{Plan, Step, Taken, Completed, Done, Halted, after_steps, single}
-use Rattle.rl_line.specs.Line.{Line}
+use Rattle.rl_line.specs.Indents.{blanks, line_plan, lines_plan, spaces, parts, put_spaces, pushed, pulled}
+use Rattle.rl_line.specs.Plan.{Plan, Step, after, Taken, Completed, Done, Halted, after_steps, single}
+use Rattle.rl_line.specs.Line.{Line, stepped}
+use Rattle.rl_base.proofs.EventLemmas.{Deletes-from_IsSome, Inserts-from_IsSome}
+use Rattle.rl_line.proofs.RecordLemmas.{through}
+use Rattle.rl_line.proofs.LineStartLemmas.{newlines-append}
 use Rattle.rl_line.proofs.EditLemmas.{length-repeat}
 use Rattle.rl_line.proofs.PlanLemmas.{Halted-behind, Halted-front, Taken-append, Taken-nil}
 
@@ -78,10 +81,6 @@ pushed-none i cursor = grind (arith, nat_tests)
 -- ---- what stands behind a change
 pub drop-behind_removal : (text : List ℕ) (i j q k : ℕ) → i ≤ length text → j ≤ q → k ≡ i + (q - j) → drop k (remove_range text i j) ≡ drop q text
 drop-behind_removal text i j q k within le e = ap (drop k) (removed-is_replaced text i j) ∙ drop-behind text i j q k [] within le (omega (arith, e))
-
--- a place is as far from the end as before
-pub place-behind : (old new : List ℕ) (p q : ℕ) → p ≤ length old → q ≤ length new → drop q new ≡ drop p old → length new - (length old - p) ≡ q
-place-behind old new p q within within' e = let same = ap length e in omega (arith, length-drop p old, length-drop q new, same)
 
 pub IsCharBoundary-pushed : (text : List ℕ) (i cursor : ℕ) (s : List ℕ) → IsUtf8 text → IsUtf8 s → IsCharBoundary text i → IsCharBoundary text cursor
     → IsCharBoundary (insert_slice text i s) (pushed i (length s) cursor)
@@ -142,162 +141,202 @@ line_plan-dedent text i j n least gone cursor place part rest order within part_
     ∙ ap₂ (λ (k : ℕ) (stop : ℕ). single (Delete i (slice_range text i (i + gone)) Forward) (pulled i k cursor) stop) len (ap (λ k. i + length part - k) len ∙ stop)
     ∙ ap (λ k. single (Delete i (slice_range text i (i + gone)) Forward) k (j - gone)) (sym place_is)
 
--- ---- the line that the last byte of a range is in
-byte-last : (text : List ℕ) (i j : ℕ) → i < j → j ≤ length text → get_or (slice_range text i j) (length (slice_range text i j) - 1) 0 ≡ get_or text (j - 1) 0
-byte-last text i j l within =
-    let last : length (slice_range text i j) - 1 ≡ j - i - 1 = ap (λ n. n - 1) (length-between text i j within) in
-    ap (λ k. get_or (slice_range text i j) k 0) last ∙ get_or-take (j - i) (drop i text) (j - i - 1) 0 (omega arith) ∙ get_or-drop i text (j - i - 1) 0
-    ∙ ap (λ k. get_or text k 0) (omega arith)
+-- ---- what a shift of a line leaves: as many newlines, and behind k what stood behind q
+record KeepsBehind (old new : List ℕ) (q k : ℕ) : Type 0 where
+  count : last_line new ≡ last_line old
+  rest : drop k new ≡ drop q old
+  within : k ≤ length new
 
-pub final-newline : (text part : List ℕ) (i j : ℕ) → i ≤ j → j ≤ length text → part ≡ slice_range text i j → eqb (get_or part (length part - 1) 0) 10 ≡ true
-    → j - 1 ≡ end_of_line text (line_number text (max i (j - 1)))
-final-newline text part i j le within part_is e = from (eq-or-lt_of_le le)
+newlines-spaces : (n : ℕ) → last_line (spaces n) ≡ 0
+newlines-spaces zero = refl
+newlines-spaces (suc n) = newlines-append (32 ∷ []) (spaces n) ∙ (omega (arith, newlines-spaces n))
+
+KeepsBehind-InsertStr : (text after : List ℕ) (i n q : ℕ) → i ≤ q → q ≤ length text → apply (InsertStr i (spaces n)) text ≡ Some after → KeepsBehind text after q (q + n)
+KeepsBehind-InsertStr text after i n q le inside h =
+    let s = spaces n in
+    let is : insert_slice text i s ≡ after = same_Some _ _ (sym (Inserts-from_IsSome text i s (ap is_some h)).makes ∙ h) in
+    let front = take i text ++ s in
+    record {
+      count = omega (
+        arith,
+        ap last_line (sym is),
+        newlines-append front (drop i text),
+        newlines-append (take i text) s,
+        newlines-spaces n,
+        newlines-append (take i text) (drop i text),
+        ap last_line (take-append-drop i text),
+      );
+      rest = ap (drop (q + n)) (sym is) ∙ drop-behind text i i q (q + n) s (omega arith) le (omega (arith, length-spaces n));
+      within = omega (
+        arith,
+        ap length (sym is),
+        length-append front (drop i text),
+        length-append (take i text) s,
+        length-take-le i text (omega arith),
+        length-drop i text,
+        length-spaces n,
+      );
+    }
+
+KeepsBehind-Delete : (text after : List ℕ) (i q : ℕ) (s : List ℕ) (side : Direction) → i + length s ≤ q → q ≤ length text → last_line s ≡ 0 → apply (Delete i s side) text ≡ Some after
+    → KeepsBehind text after q (q - length s)
+KeepsBehind-Delete text after i q s side le inside none h =
+    let d = Deletes-from_IsSome text i s side (ap is_some h) in
+    let j = i + length s in
+    let is : remove_range text i j ≡ after = same_Some _ _ (sym d.makes ∙ h) in
+    let width : j - i ≡ length s = omega arith in
+    let bytes : take (length s) (drop i text) ≡ s = ap (λ n. take n (drop i text)) (sym width) ∙ d.stands.bytes in
+    record {
+      count = omega (
+        arith,
+        ap last_line (sym is),
+        newlines-append (take i text) (drop j text),
+        newlines-append (take i text) (drop i text),
+        ap last_line (take-append-drop i text),
+        newlines-append (take (length s) (drop i text)) (drop (length s) (drop i text)),
+        ap last_line (take-append-drop (length s) (drop i text)),
+        ap last_line bytes,
+        none,
+        ap last_line (drop-drop (length s) i text),
+      );
+      rest = ap (drop (q - length s)) (sym is) ∙ drop-behind_removal text i j q (q - length s) (omega arith) le (omega arith);
+      within = omega (
+        arith,
+        ap length (sym is),
+        length-append (take i text) (drop j text),
+        length-take-le i text (omega arith),
+        length-drop j text,
+      );
+    }
+
+KeepsBehind-put : (ps : List ℕ) (i q cursor : ℕ) (old new : Line) → i ≤ q → q ≤ length old.text → after (put_spaces ps i cursor) old ≡ Some new → KeepsBehind old.text new.text q (q + sum ps)
+KeepsBehind-put [] i q cursor old new le inside h =
+    let is : old.text ≡ new.text = ap (λ (l : Line). l.text) (same_Some _ _ h) in
+    let none : q + 0 ≡ q = omega arith in
+    record { count = ap last_line (sym is); rest = ap₂ drop none (sym is); within = omega (arith, ap length is) }
+KeepsBehind-put (n ∷ more) i q cursor old new le inside h =
+    let at = pushed i n cursor in
+    let p = through (λ text. after (put_spaces more i at) (stepped old text at)) (apply (InsertStr i (spaces n)) old.text) new h in
+    let one : KeepsBehind old.text p.0 q (q + n) = KeepsBehind-InsertStr old.text p.0 i n q le inside p.1 in
+    let others : KeepsBehind p.0 new.text (q + n) (q + n + sum more) = KeepsBehind-put more i (q + n) at (stepped old p.0 at) new (omega arith) one.within p.2 in
+    let all : q + sum (n ∷ more) ≡ q + n + sum more = omega (arith, sum_by-cons (λ x. x) n more) in
+    record {
+      count = others.count ∙ one.count;
+      rest = ap (λ k. drop k new.text) all ∙ others.rest ∙ one.rest;
+      within = omega (arith, all, others.within);
+    }
+
+sum-parts : (n : ℕ) → sum (parts n) ≡ n
+sum-parts n = sum_by-append (λ x. x) (repeat (n / 32) (32 ∷ [])) _ ∙ (omega (arith, full (n / 32), rest (eqb (n % 32) 0) refl))
   where
-    from : (i ≡ j) ⊎ (i < j) → j - 1 ≡ end_of_line text (line_number text (max i (j - 1)))
-    from (inl same) =
-        let none : part ≡ [] = nil_from_length part (ap length part_is ∙ length-between text i j within ∙ (omega arith)) in
-        absurd (let f : false ≡ true = sym (ap (λ (p : List ℕ). eqb (get_or p (length p - 1) 0) 10) none) ∙ e in cc f)
-    from (inr l) =
-        let byte : get_or text (j - 1) 0 ≡ 10 = sym (ap (λ (p : List ℕ). get_or p (length p - 1) 0) part_is ∙ byte-last text i j l within) ∙ eqb-true _ _ e in
-        let rest = drop (suc (j - 1)) text in
-        let cut : lines (drop (j - 1) text) ≡ [] ∷ lines rest =
-        ap lines (drop-cons text (j - 1) 0 (omega arith) ∙ ap (λ b. b ∷ rest) byte) ∙ slice_split-cons_yes is_newline 10 rest refl in
-        let last : j - 1 ≡ max i (j - 1) = omega arith in
-        sym (end-from text (j - 1) [] (lines rest) (omega arith) cut ∙ (omega arith)) ∙ ap (λ k. end_of_line text (line_number text k)) last
+    full : (q : ℕ) → sum (repeat q (32 ∷ [])) ≡ 32 * q
+    full zero = refl
+    full (suc q) = sum_by-cons (λ x. x) 32 (repeat q (32 ∷ [])) ∙ (omega (arith, full q))
 
-pub final-other : (text part : List ℕ) (i j : ℕ) → i ≤ j → j ≤ length text → part ≡ slice_range text i j → eqb (get_or part (length part - 1) 0) 10 ≡ false
-    → line_number text j ≡ line_number text (max i (j - 1))
-final-other text part i j le within part_is e =
-    number-behind text i j le within (λ l. ap (λ b. eqb b 10) (sym (byte-last text i j l within) ∙ sym (ap (λ (p : List ℕ). get_or p (length p - 1) 0) part_is)) ∙ e)
+    rest : (b : Bool) → eqb (n % 32) 0 ≡ b → sum (if b then [] else n % 32 ∷ []) ≡ n % 32
+    rest true e = sym (eqb-true (n % 32) 0 e)
+    rest false e = omega arith
+
+-- the plan's answer is the place where the line's text ends then
+KeepsBehind-line_plan : (dedent : Bool) (n : ℕ) (part : List ℕ) (i q cursor : ℕ) (old new : Line) → q ≡ i + length part → q ≤ length old.text → last_line part ≡ 0
+    → after (line_plan dedent n part i cursor).steps old ≡ Some new → KeepsBehind old.text new.text q (line_plan dedent n part i cursor).answer
+KeepsBehind-line_plan false n part i q cursor old new is inside none h =
+    let answer : q + sum (parts n) ≡ i + length part + n = omega (arith, sum-parts n) in
+    subst (KeepsBehind old.text new.text q) answer (KeepsBehind-put (parts n) i q cursor old new (omega arith) inside h)
+KeepsBehind-line_plan true n part i q cursor old new is inside none h =
+    let most = greatest_boundary part (min n (length part - length (trim_start part))) in
+    let gone = blanks n part in
+    let p = through (λ text. Some (stepped old text (pulled i (length gone) cursor))) (apply (Delete i gone Forward) old.text) new h in
+    let text : p.0 ≡ new.text = ap (λ (l : Line). l.text) (same_Some _ _ p.2) in
+    let short : length gone ≤ length part = omega (arith, length-append (take most part) (drop most part), ap length (take-append-drop most part)) in
+    let blank : last_line gone ≡ 0 = omega (arith, newlines-append (take most part) (drop most part), ap last_line (take-append-drop most part)) in
+    subst (KeepsBehind old.text new.text q) (omega arith) (subst (λ t. KeepsBehind old.text t q (q - length gone)) text (KeepsBehind-Delete old.text p.0 i q gone Forward (omega arith) inside blank p.1))
 
 -- ---- from line to line
-IsCharBoundary-moved : (old new : List ℕ) (p q k : ℕ) → drop q new ≡ drop p old → p ≤ length old → q ≤ length new → IsCharBoundary old (p + k) → IsCharBoundary new (q + k)
-IsCharBoundary-moved old new p q k e within within' at =
-    let here : IsCharBoundary (drop p old) k = (
-      omega (arith, at.0, length-drop p old),
-      λ l h. subst (λ (b : ℕ). 192 ≤ b) (sym (get_or-drop p old k 0)) (at.1 (omega (arith, length-drop p old)) (subst (λ (b : ℕ). 128 ≤ b) (get_or-drop p old k 0) h)),
-    ) in
-    IsCharBoundary-from_rest new q k within' (subst (λ (t : List ℕ). IsCharBoundary t k) (sym e) here)
-
--- the lines before `start` are done; those left are `text` and the later ones, and then come more, which have `behind` bytes
-pub record LinesDone {L : Type 0} (step : L → Event → L) (dedent : Bool) (n : ℕ) (plan : Plan Bool) (old now : Line) (before here : L) (start behind : ℕ) : Type 0 where
+-- the lines before line k are done: those that are left are as they were, from where line k begins now
+pub record LinesDone {L : Type 0} (step : L → Event → L) (dedent : Bool) (n : ℕ) (plan : Plan Bool) (old now : Line) (before here : L) (k final : ℕ) : Type 0 where
   pub done : List Step
   pub taken : Taken step done old now before here
-  pub text : List ℕ
-  pub later : List (List ℕ)
-  pub more : List (List ℕ)
-  pub left : plan ≡ after_steps done (lines_plan dedent n (text ∷ later) start now.cursor)
-  pub cut : lines (drop start now.text) ≡ text ∷ (later ++ more)
-  pub is_behind : behind ≡ bytes_of more
-  pub boundary : IsCharBoundary now.text start
+  pub left : plan ≡ after_steps done (lines_plan dedent n (slice_range (lines old.text) k (final + 1)) (start_of_line now.text k) now.cursor)
+  pub rest : drop k (lines now.text) ≡ drop k (lines old.text)
+  pub count : last_line now.text ≡ last_line old.text
+
+-- a text whose line k ends at `stop`, and in which the later lines are those of another
+record EndsLine (text other : List ℕ) (k stop : ℕ) : Type 0 where
+  start : start_of_line text (k + 1) ≡ stop + 1
+  rest : drop (k + 1) (lines text) ≡ drop (k + 1) (lines other)
+
+ends_line : (old new : List ℕ) (k stop : ℕ) → k < length (lines old) → KeepsBehind old new (end_of_line old k) stop → EndsLine new old k stop
+ends_line old new k stop l kept =
+    let e = end_of_line old k in
+    let at = lies old k l in
+    let some = lines_some (drop e old) in
+    let number : line_number new stop ≡ k = omega (arith, count-parts new stop, count-parts old e, at.number_stop, ap last_line kept.rest, kept.count) in
+    let none : length some.0 ≡ 0 = omega (arith, end-from old e some.0 some.1 at.within some.2, ap (end_of_line old) at.number_stop) in
+    let end : end_of_line new k ≡ stop = ap (end_of_line new) (sym number) ∙ end-from new stop some.0 some.1 kept.within (ap lines kept.rest ∙ some.2) ∙ (omega (arith, none)) in
+    record {
+      start = omega (arith, end, start-next new k (omega (arith, count_of_lines new, count_of_lines old, kept.count, l)));
+      rest = ap (λ j. drop (j + 1) (lines new)) (sym number) ∙ lines-behind new stop ∙ ap (λ t. drop 1 (lines t)) kept.rest ∙ sym (lines-behind old e) ∙ ap (λ j. drop (j + 1) (lines old)) at.number_stop;
+    }
 
 module _ {L : Type 0} (step : L → Event → L) (dedent : Bool) (n : ℕ) where
-  pub LinesDone-none : (plan : Plan Bool) (line : Line) (before : L) (r : Range ℕ) (start behind stop : ℕ)
-      → plan ≡ lines_plan dedent n (slice_range (lines line.text) (first_line line.text r) (final_line line.text r + 1)) (start_of_line line.text (first_line line.text r)) line.cursor
-      → start ≡ start_of_line line.text (first_line line.text r) → stop ≡ end_of_line line.text (final_line line.text r) → behind ≡ length line.text - stop
-      → IsCharBoundary line.text start → LinesDone step dedent n plan line line before before start behind
-  LinesDone-none plan line before r start behind stop e start_is stop_is behind_is at =
-      let text = line.text in
-      let all = lines text in
-      let first = first_line text r in
-      let final = final_line text r in
-      let order : first ≤ final = number-mono text r.start (max r.start (r.end - 1)) (omega arith) in
-      let within : final < length all = number-within text (max r.start (r.end - 1)) in
-      let line_here = get_or all first [] in
-      let rest = drop (suc first) all in
-      let from : drop first all ≡ line_here ∷ rest = drop-cons all first [] (omega arith) in
-      let count : final + 1 - first ≡ suc (final - first) = omega arith in
-      let taken : slice_range all first (final + 1) ≡ line_here ∷ take (final - first) rest =
-      ap₂ (λ (k : ℕ) (ls : List (List ℕ)). take k ls) count from in
-      let behind_all : drop (final - first) rest ≡ drop (final + 1) all = drop-drop (final - first) (suc first) all ∙ ap (λ k. drop k all) (omega arith) in
-      let parts_len : bytes_of (take (final + 1) all) + bytes_of (drop (final + 1) all) ≡ length text + 1 =
-      sym (bytes_of-append (take (final + 1) all) (drop (final + 1) all)) ∙ ap bytes_of (take-append-drop (final + 1) all) ∙ bytes_of-lines text in
-      record {
-        done = [];
-        taken = Taken-nil step line before;
-        text = line_here;
-        later = take (final - first) rest;
-        more = drop (final - first) rest;
-        left = e ∙ ap₂ (λ (ls : List (List ℕ)) (i : ℕ). lines_plan dedent n ls i line.cursor) taken (sym start_is);
-        cut = ap (λ k. lines (drop k text)) start_is ∙ lines-from text first (omega arith) ∙ from ∙ ap (λ ls. line_here ∷ ls) (sym (take-append-drop (final - first) rest));
-        is_behind = omega (arith, behind_is, stop_is, ap bytes_of behind_all, parts_len, start-next text final within);
-        boundary = at;
-      }
+  pub LinesDone-none : (plan : Plan Bool) (line : Line) (before : L) (first final : ℕ)
+      → plan ≡ lines_plan dedent n (slice_range (lines line.text) first (final + 1)) (start_of_line line.text first) line.cursor
+      → LinesDone step dedent n plan line line before before first final
+  LinesDone-none plan line before first final e = record { done = []; taken = Taken-nil step line before; left = e; rest = refl; count = refl }
 
-  module _ (plan : Plan Bool) (old now : Line) (before here : L) (start behind : ℕ) (h : LinesDone step dedent n plan old now before here start behind) where
-    pub line_ends : (stop : ℕ) → stop ≡ end_of_line now.text (line_number now.text start) → stop ≡ start + length h.text
-    line_ends stop e = e ∙ end-from now.text start h.text (h.later ++ h.more) h.boundary.0 h.cut
+  module _ (plan : Plan Bool) (old now : Line) (before here : L) (k final : ℕ) (h : LinesDone step dedent n plan old now before here k final) where
+    -- the last is done
+    pub LinesDone-all : final < k → Done step plan old now before here true
+    LinesDone-all past =
+        let none : final + 1 - k ≡ 0 = omega arith in
+        let all : plan ≡ after_steps h.done (lines_plan dedent n [] (start_of_line now.text k) now.cursor) =
+        h.left ∙ ap (λ m. after_steps h.done (lines_plan dedent n (take m (drop k (lines old.text))) (start_of_line now.text k) now.cursor)) none in
+        record {
+          last = now;
+          taken = subst (λ ss. Taken step ss old now before here) (sym (ap (λ (p : Plan Bool). p.steps) all ∙ append-nil h.done)) h.taken;
+          line = ap (λ c. record now { cursor = c }) (sym (ap (λ (p : Plan Bool). p.cursor) all));
+          answered = sym (ap (λ (p : Plan Bool). p.answer) all);
+        }
 
-    pub text_is : (stop : ℕ) → stop ≡ end_of_line now.text (line_number now.text start) → slice_range now.text start stop ≡ h.text
-    text_is stop e =
-        let at = line_ends stop e in
-        ap (λ k. take k (drop start now.text)) (omega arith) ∙ (starts_with_line (drop start now.text) h.text (h.later ++ h.more) h.cut).is
+    module _ (start stop : ℕ) (start_is : start ≡ start_of_line now.text k) (stop_is : stop ≡ end_of_line now.text k) (more : k ≤ final) (small : k < length (lines now.text)) where
+      -- what is left, by the next line
+      next : plan ≡ after_steps h.done (lines_plan dedent n (slice_range now.text start stop ∷ slice_range (lines old.text) (k + 1) (final + 1)) start now.cursor)
+      next =
+          let all = lines old.text in
+          let part = slice_range now.text start stop in
+          let one : suc k ≡ k + 1 = omega arith in
+          let later : drop (k + 1) (lines now.text) ≡ drop (k + 1) all = sym (drop-drop 1 k (lines now.text)) ∙ ap (drop 1) h.rest ∙ drop-drop 1 k all in
+          let from : drop k all ≡ part ∷ drop (k + 1) all =
+          sym h.rest ∙ drop-cons (lines now.text) k [] small ∙ ap (λ j. text_of_line now.text k ∷ drop j (lines now.text)) one
+          ∙ ap₂ (λ t ls. t ∷ ls) (sym (text-between now.text k start stop small start_is stop_is)) later in
+          let count : final + 1 - k ≡ suc (final + 1 - (k + 1)) = omega arith in
+          h.left ∙ ap₂ (λ ls i. after_steps h.done (lines_plan dedent n ls i now.cursor)) (ap₂ (λ m ls. take m ls) count from) (sym start_is)
 
-    -- how many bytes stand behind the line's text
-    bytes_left : (stop : ℕ) → stop ≡ end_of_line now.text (line_number now.text start) → bytes_of h.later + behind ≡ length now.text - stop
-    bytes_left stop e =
-        let rest = drop start now.text in
-        omega (arith, line_ends stop e, h.is_behind, bytes_of-lines rest, ap bytes_of h.cut, bytes_of-append h.later h.more, length-drop start now.text)
+      pub LinesDone-halted : (refused : L → Event → Refusal → L → Type 0) (new : Line) (there : L) (r : Refusal)
+          → Halted step refused (line_plan dedent n (slice_range now.text start stop) start now.cursor) now new here there r → Halted step refused plan old new before there r
+      LinesDone-halted refused new there r halted =
+          let one = line_plan dedent n (slice_range now.text start stop) start now.cursor in
+          let others = lines_plan dedent n (slice_range (lines old.text) (k + 1) (final + 1)) (one.answer + 1) one.cursor in
+          Halted-behind step refused plan (after_steps one.steps others) h.done old now new before here there r h.taken
+          (Halted-front step refused (after_steps one.steps others) one others.steps now new here there r halted refl) (ap (λ (p : Plan Bool). p.steps) next)
 
-    pub LinesDone-halted : (refused : L → Event → Refusal → L → Type 0) (new : Line) (there : L) (r : Refusal) → Halted step refused (line_plan dedent n h.text start now.cursor) now new here there r
-        → Halted step refused plan old new before there r
-    LinesDone-halted refused new there r halted =
-        let one = line_plan dedent n h.text start now.cursor in
-        let others = lines_plan dedent n h.later (one.answer + 1) one.cursor in
-        Halted-behind step refused plan (after_steps one.steps others) h.done old now new before here there r h.taken
-        (Halted-front step refused (after_steps one.steps others) one others.steps now new here there r halted refl) (ap (λ (p : Plan Bool). p.steps) h.left)
-
-    module _ (new : Line) (there : L) (stop stop_now : ℕ) (line_end : stop ≡ end_of_line now.text (line_number now.text start))
-        (one : Completed step (line_plan dedent n h.text start now.cursor) now new here there stop_now) (others : drop stop_now new.text ≡ drop stop now.text) (at : IsCharBoundary new.text stop_now) where
-      len_left : length new.text - stop_now ≡ bytes_of h.later + behind
-      len_left = omega (arith, bytes_left stop line_end, length-drop stop_now new.text, length-drop stop now.text, ap length others)
-
-      -- it was the last
-      pub LinesDone-all : length new.text - stop_now ≡ behind → Done step plan old new before there true
-      LinesDone-all last = from h.later (omega (arith, len_left)) h.left
-        where
-          from : (later : List (List ℕ)) → bytes_of later ≡ 0 → plan ≡ after_steps h.done (lines_plan dedent n (h.text ∷ later) start now.cursor) → Done step plan old new before there true
-          from [] none e = record {
-            last = new;
-            taken = subst (λ ss. Taken step ss old new before there) (sym (ap (λ (p : Plan Bool). p.steps) e ∙ ap (λ ss. h.done ++ ss) (append-nil (line_plan dedent n h.text start now.cursor).steps)))
-                (Taken-append step h.done _ old now new before here there h.taken one.taken);
-            line = ap (λ k. record new { cursor = k }) (one.cursor ∙ sym (ap (λ (p : Plan Bool). p.cursor) e));
-            answered = sym (ap (λ (p : Plan Bool). p.answer) e);
+      pub LinesDone-more : (new : Line) (there : L) → Completed step (line_plan dedent n (slice_range now.text start stop) start now.cursor) now new here there
+          → LinesDone step dedent n plan old new before there (k + 1) final
+      LinesDone-more new there one =
+          let part = slice_range now.text start stop in
+          let here_plan = line_plan dedent n part start now.cursor in
+          let line : part ≡ text_of_line now.text k = text-between now.text k start stop small start_is stop_is in
+          let behind : KeepsBehind now.text new.text stop here_plan.answer =
+          KeepsBehind-line_plan dedent n part start stop now.cursor now new (omega (arith, ap length line)) (omega (arith, (lies now.text k small).within)) (ap last_line line ∙ newlines-line now.text k small) one.taken.line in
+          let ends : EndsLine new.text now.text k here_plan.answer = ends_line now.text new.text k here_plan.answer small (subst (λ q. KeepsBehind now.text new.text q here_plan.answer) stop_is behind) in
+          let later = slice_range (lines old.text) (k + 1) (final + 1) in
+          let others_plan = lines_plan dedent n later (here_plan.answer + 1) here_plan.cursor in
+          record {
+            done = h.done ++ here_plan.steps;
+            taken = Taken-append step h.done here_plan.steps old now new before here there h.taken one.taken;
+            left = next ∙ ap (λ ss. record others_plan { steps = ss }) (sym (append_assoc h.done here_plan.steps others_plan.steps))
+                ∙ ap₂ (λ i c. after_steps (h.done ++ here_plan.steps) (lines_plan dedent n later i c)) (sym ends.start) (sym one.cursor);
+            rest = ends.rest ∙ sym (drop-drop 1 k (lines now.text)) ∙ ap (drop 1) h.rest ∙ drop-drop 1 k (lines old.text);
+            count = behind.count ∙ h.count;
           }
-          from (t ∷ later) none e = absurd (omega arith)
-
-      -- it was not the last, so that less is left
-      pub LinesDone-less : (length new.text - stop_now ≡ behind → ⊥) → stop ≤ length now.text → length new.text - (stop_now + 1) < length now.text - start
-      LinesDone-less some within = from (bytes_of h.later) len_left (bytes_left stop line_end)
-        where
-          from : (k : ℕ) → length new.text - stop_now ≡ k + behind → k + behind ≡ length now.text - stop → length new.text - (stop_now + 1) < length now.text - start
-          from zero len left = absurd (some (len ∙ (omega arith)))
-          from (suc k) len left = omega (arith, line_ends stop line_end)
-
-      pub LinesDone-more : (length new.text - stop_now ≡ behind → ⊥) → (stop ≢ length now.text → IsCharBoundary now.text (stop + 1)) → stop ≤ length now.text
-          → LinesDone step dedent n plan old new before there (stop_now + 1) behind
-      LinesDone-more some below within = from h.later h.left h.cut (bytes_left stop line_end) len_left
-        where
-          from : (later : List (List ℕ)) → plan ≡ after_steps h.done (lines_plan dedent n (h.text ∷ later) start now.cursor) → lines (drop start now.text) ≡ h.text ∷ (later ++ h.more)
-              → bytes_of later + behind ≡ length now.text - stop → length new.text - stop_now ≡ bytes_of later + behind → LinesDone step dedent n plan old new before there (stop_now + 1) behind
-          from [] e cut left len = absurd (some (len ∙ (omega arith)))
-          from (t ∷ later) e cut left len =
-              let rest = drop start now.text in
-              let here_plan = line_plan dedent n h.text start now.cursor in
-              let next : lines (drop (length h.text + 1) rest) ≡ t ∷ (later ++ h.more) = lines-next rest h.text (t ∷ (later ++ h.more)) cut (omega arith) in
-              let behind_it : stop + 1 ≡ start + (length h.text + 1) = omega (arith, line_ends stop line_end) in
-              let same : drop (stop_now + 1) new.text ≡ drop (length h.text + 1) rest =
-              sym (drop-drop 1 stop_now new.text) ∙ ap (drop 1) others ∙ drop-drop 1 stop now.text ∙ ap (λ k. drop k now.text) behind_it ∙ sym (drop-drop (length h.text + 1) start now.text) in
-              let others_plan = lines_plan dedent n (t ∷ later) (here_plan.answer + 1) here_plan.cursor in
-              record {
-                done = h.done ++ here_plan.steps;
-                taken = Taken-append step h.done here_plan.steps old now new before here there h.taken one.taken;
-                text = t;
-                later = later;
-                more = h.more;
-                left = e ∙ ap (λ ss. record others_plan { steps = ss }) (sym (append_assoc h.done here_plan.steps others_plan.steps))
-                    ∙ ap₂ (λ (i c : ℕ). after_steps (h.done ++ here_plan.steps) (lines_plan dedent n (t ∷ later) (i + 1) c)) (sym one.answered) (sym one.cursor);
-                cut = ap lines same ∙ next;
-                is_behind = h.is_behind;
-                boundary = IsCharBoundary-moved now.text new.text stop stop_now 1 others within at.0 (below (λ end. absurd (omega arith)));
-              }

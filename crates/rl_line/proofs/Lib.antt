@@ -5,7 +5,8 @@ pub mod IndentLemmas
 pub mod JoinLemmas
 pub mod KillLemmas
 pub mod LetterCaseLemmas
-pub mod LineMotionLemmas
+pub mod LineReadLemmas
+pub mod LineStartLemmas
 pub mod MoveLemmas
 pub mod OriginLemmas
 pub mod PlanLemmas

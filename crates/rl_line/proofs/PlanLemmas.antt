@@ -45,8 +45,8 @@ module _ {L : Type 0} (step : L → Event → L) where
   }
 
   pub Completed-single : {A : Type 0} (plan : Plan A) (event : Event) (cursor : ℕ) (old new : Line) (b n : L) (a : A)
-      → Taken step ((event, cursor) ∷ []) old new b n → new.cursor ≡ cursor → plan ≡ single event cursor a → Completed step plan old new b n a
-  Completed-single plan event cursor old new b n a t at e = record { taken = rw e t; cursor = rw e at; answered = rw e refl }
+      → Taken step ((event, cursor) ∷ []) old new b n → new.cursor ≡ cursor → plan ≡ single event cursor a → Completed step plan old new b n
+  Completed-single plan event cursor old new b n a t at e = record { taken = rw e t; cursor = rw e at }
 
   pub Done-nothing : {A : Type 0} (plan : Plan A) (line : Line) (b : L) (a : A) → plan ≡ nothing line a → Done step plan line line b b a
   Done-nothing plan line b a e = record {

@@ -1,12 +1,10 @@
 -- What a kill by a movement takes begins at the cursor, or ends there.
-use Rattle.std.proofs.Common.{◌≡◌, ℕ, ◌+◌, ◌≤◌, Bool, true, false, cond, length, take, drop, Option, Some, None, refl, sym, ap, ◌∙◌, arith}
+use Rattle.std.proofs.Common.{◌≡◌, ℕ, ◌+◌, ◌≤◌, Bool, true, false, cond, length, Option, Some, None, refl, sym, arith}
 use Rattle.std.proofs.lemmas.Bool.{eqb-true}
-use Rattle.std.proofs.lemmas.List.{length-take-le, take-append-drop}
 use Rattle.std.specs.Option.{option_map, option_or}
 use Rattle.std.specs.Prelude.{IfSome, List, ◌==◌}
 use Rattle.std.specs.Str.{IsCharBoundary, IsUtf8}
 use Rattle.std.specs.declared.ops.Range.{Range}
-use Rattle.rl_base.specs.Lines.{line_number, start_of_line}
 use Rattle.rl_base.specs.Clusters.{prev_pos}
 use Rattle.rl_base.specs.Search.{HitLies, chosen_hit}
 use Rattle.rl_base.specs.Words.{prev_word}
@@ -17,7 +15,7 @@ use Rattle.rl_base.specs.declared.motion.CharSearch.{CharSearch}
 use Rattle.rl_base.specs.declared.motion.CharSearch.TheVariants as to
 use Rattle.rl_base.specs.declared.motion.Movement.TheVariants.{BeginningOfLine, EndOfLine, BackwardWord, ForwardWord, ViCharSearch, BeginningOfBuffer, EndOfBuffer}
 use Rattle.rl_base.specs.declared.motion.Word.{Word}
-use Rattle.rl_base.proofs.LineLemmas.{in_line, start_of_line-is}
+use Rattle.rl_base.proofs.LineLemmas.{start-before}
 use Rattle.rl_base.proofs.SearchLemmas.{IsHitOf, chosen_hit-is}
 use Rattle.rl_base.proofs.WordLemmas.{IsBefore-start_before}
 use Rattle.rl_line.specs.Kills.{side_of_search}
@@ -56,15 +54,6 @@ prev_pos-before text pos n = unless (λ q. q ≤ pos) _ _ (omega arith)
 prev_word-before : (text : List ℕ) (pos : ℕ) (word : Word) (n : ℕ) → IsUtf8 text → IsCharBoundary text pos → IfSome (prev_word text pos word n) (λ q. q ≤ pos)
 prev_word-before text pos word n u at = unless (λ q. q ≤ pos) (pos == 0) _ (IsBefore-start_before text pos word n u at).before
 
-home-before : (line : Line) → line.cursor ≤ length line.text → home line ≤ line.cursor
-home-before line within =
-    let front = take line.cursor line.text in
-    let back = drop line.cursor line.text in
-    let here = in_line front in
-    let start : home line ≡ _ = ap (λ t. start_of_line t (line_number line.text line.cursor)) (sym (take-append-drop line.cursor line.text))
-    ∙ start_of_line-is front back here.0 here.1 here.2 in
-    omega (arith, start, here.2.place, length-take-le line.cursor line.text within)
-
 hit-side : (cs : CharSearch) (pos hit : ℕ) → HitLies cs pos hit → LiesOn (side_of_search cs) pos (to_hit cs pos hit)
 hit-side (to.Forward c) pos hit h = refl
 hit-side (to.ForwardBefore c) pos hit h = refl
@@ -75,7 +64,7 @@ hit-side (to.BackwardAfter c) pos hit h = (refl, h)
 pub BeginningOfLine-side : (line : Line) → line.cursor ≤ length line.text → IfSome (killed line BeginningOfLine) (LiesOn Backward line.cursor)
 BeginningOfLine-side line within =
     or_else (LiesOn Backward line.cursor) (unless_empty (home line) line.cursor) (from_place line (prev_pos line.text line.cursor 1))
-    (unless (LiesOn Backward line.cursor) (home line == line.cursor) (between (home line) line.cursor) (refl, home-before line within))
+    (unless (LiesOn Backward line.cursor) (home line == line.cursor) (between (home line) line.cursor) (refl, start-before line.text line.cursor within))
     (from_place-side line (prev_pos line.text line.cursor 1) (prev_pos-before line.text line.cursor 1))
 
 pub EndOfLine-side : (line : Line) → IfSome (killed line EndOfLine) (LiesOn Forward line.cursor)

@@ -1,7 +1,7 @@
 -- A line that goes over changes of its record, back or ahead.
-use Rattle.std.proofs.Common.{◌≡◌, ℕ, ◌+◌, ◌<◌, ◌≤◌, zero, suc, List, [], ◌∷◌, ◌++◌, length, take, drop, get_or, map, reverse, Option, Some, None, false, refl, sym, ap, subst, ◌∙◌, arith, add-one, append_assoc, drop-cons, length-append}
+use Rattle.std.proofs.Common.{le_refl, ◌≡◌, ℕ, ◌+◌, ◌<◌, ◌≤◌, zero, suc, List, [], ◌∷◌, ◌++◌, length, take, drop, get_or, map, reverse, Option, Some, None, false, refl, sym, ap, subst, ◌∙◌, arith, add-one, append_assoc, drop-cons, length-append}
 use Rattle.std.proofs.lemmas.Grind.{take_at_read}
-use Rattle.std.proofs.lemmas.List.{map-append, reverse-append}
+use Rattle.std.proofs.lemmas.List.{drop_all, take_all, map-append, reverse-append}
 use Rattle.std.proofs.lemmas.Str.{IsCharBoundary-at_seam}
 use Rattle.std.specs.Prelude.{option_and_then, IsSome, is_some}
 use Rattle.std.specs.Str.{IsCharBoundary, IsUtf8}
@@ -16,7 +16,8 @@ use Rattle.rl_line.specs.Record.{Entry, Begin, End, Inserted, Deleted, Replaced,
 use Rattle.rl_line.specs.declared.change.Way.{Way}
 use Rattle.rl_line.specs.Units.{has_change}
 use Rattle.rl_line.specs.Undo.{cursor_after, if_standing, line_after, line_ahead, line_back}
-use Rattle.rl_line.specs.Change.{faced, length_back_over, greatest_back_over}
+use Rattle.rl_line.specs.declared.change.Measure.{Measure}
+use Rattle.rl_line.specs.Change.{faced, size_back_over, greatest_back_over}
 use Rattle.rl_line.proofs.RecordLemmas.{if_some, through, value_of, IsSome-through, inverse-inverse, unwind-append, unwind-IsUtf8}
 
 -- one entry back
@@ -76,6 +77,14 @@ pub entries_from : (way : Way) (xs : List Change) (m : ℕ) (x : Change) → m <
 entries_from way xs m x lt e =
     ap (map (faced way)) (drop-cons xs m x lt) ∙ ap (λ y. faced way y ∷ map (faced way) (drop (suc m) xs)) (sym e)
     ∙ ap (λ k. faced way x ∷ map (faced way) (drop k xs)) (sym (add-one m))
+
+-- before the first of them
+pub IsBack-none : (way : Way) (xs : List Change) (start : Line) → IsSome (line_back (map (faced way) xs) start) → IsBack way xs (length xs) start start
+IsBack-none way xs start h =
+    record {
+      so_far = ap (λ es. line_back (map (faced way) es) start) (drop_all (length xs) xs (le_refl (length xs)));
+      rest = subst (λ es. IsSome (line_back (map (faced way) es) start)) (sym (take_all (length xs) xs (le_refl (length xs)))) h;
+    }
 
 pub IsBack-fits : (way : Way) (xs : List Change) (m : ℕ) (x : Change) (start now : Line) → m < length xs → x ≡ get_or xs m x → IsBack way xs (m + 1) start now
     → IsSome (apply (event_of (inverse (faced way x))) now.text)
@@ -226,8 +235,8 @@ line_ahead-IsSome es line u at h =
     subst IsSome (line_ahead-back es line) (line_back-IsSome (map inverse (reverse es)) line u at (subst IsSome (sym (unwind-ahead es line.text)) h))
 
 -- no length on the way is past the greatest
-pub length_back_over-within : (m : ℕ) (es : List Entry) (n : ℕ) → length_back_over (drop m es) n ≤ greatest_back_over es n
-length_back_over-within zero [] n = omega arith
-length_back_over-within (suc m) [] n = omega arith
-length_back_over-within zero (e ∷ es) n = omega arith
-length_back_over-within (suc m) (e ∷ es) n = omega (arith, length_back_over-within m es n)
+pub size_back_over-within : (k : Measure) (m : ℕ) (es : List Entry) (n : ℕ) → size_back_over k (drop m es) n ≤ greatest_back_over k es n
+size_back_over-within k zero [] n = omega arith
+size_back_over-within k (suc m) [] n = omega arith
+size_back_over-within k zero (e ∷ es) n = omega arith
+size_back_over-within k (suc m) (e ∷ es) n = omega (arith, size_back_over-within k m es n)

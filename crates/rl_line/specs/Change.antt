@@ -1,7 +1,10 @@
 -- What the private functions of one entry say of it: joining, and going over it either way.
-use Rattle.std.specs.Prelude.{◌≡◌, ℕ, ◌+◌, ◌-◌, max, Bool, false, List, [], ◌∷◌, length, Option, Some, None, if◌then◌else◌}
+use Rattle.std.specs.Prelude.{◌≡◌, ℕ, ◌+◌, ◌-◌, max, count_by, Bool, false, List, [], ◌∷◌, length, Option, Some, None, if◌then◌else◌}
 use Rattle.rl_base.specs.Event.{Event}
 use Rattle.rl_line.specs.declared.change.Change.{Change}
+use Rattle.rl_base.specs.Lines.{is_newline}
+use Rattle.rl_line.specs.declared.change.Measure.{Measure}
+use Rattle.rl_line.specs.declared.change.Measure.TheVariants.{Bytes, Newlines}
 use Rattle.rl_line.specs.declared.change.Way.{Way}
 use Rattle.rl_line.specs.declared.change.Way.TheVariants.{Back, Ahead}
 use Rattle.rl_line.specs.Record.{Entry, Begin, End, Inserted, Deleted, Replaced, entry_of, inverse, joined}
@@ -34,16 +37,21 @@ abbrev pub faced : Way → Change → Entry
 faced Back change = entry_of change
 faced Ahead change = inverse (entry_of change)
 
--- the length of a text of length n once an entry was taken back in it
-abbrev pub length_back : Entry → ℕ → ℕ
-length_back e n = (n - length (new_text e)) + length (old_text e)
+-- how much a text has of what it is measured by
+abbrev pub size_of : Measure → List ℕ → ℕ
+size_of Bytes text = length text
+size_of Newlines text = count_by is_newline text
+
+-- the size of a text of size n once an entry was taken back in it
+abbrev pub size_back : Measure → Entry → ℕ → ℕ
+size_back m e n = (n - size_of m (new_text e)) + size_of m (old_text e)
 
 -- the same of several entries, the last first
-abbrev pub length_back_over : List Entry → ℕ → ℕ
-length_back_over [] n = n
-length_back_over (e ∷ es) n = length_back e (length_back_over es n)
+abbrev pub size_back_over : Measure → List Entry → ℕ → ℕ
+size_back_over m [] n = n
+size_back_over m (e ∷ es) n = size_back m e (size_back_over m es n)
 
--- the greatest length on that way
-abbrev pub greatest_back_over : List Entry → ℕ → ℕ
-greatest_back_over [] n = n
-greatest_back_over (e ∷ es) n = max (greatest_back_over es n) (length_back_over (e ∷ es) n)
+-- the greatest size on that way
+abbrev pub greatest_back_over : Measure → List Entry → ℕ → ℕ
+greatest_back_over m [] n = n
+greatest_back_over m (e ∷ es) n = max (greatest_back_over m es n) (size_back_over m (e ∷ es) n)

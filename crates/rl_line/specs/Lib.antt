@@ -3,7 +3,6 @@ pub mod Line
 pub mod Plan
 pub mod Motions
 pub mod LineMotions
-pub mod Lines
 pub mod Ranges
 pub mod Edits
 pub mod Kills

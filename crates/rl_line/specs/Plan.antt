@@ -63,11 +63,10 @@ module _ {L : Type 0} (step : L → Event → L) where
     pub line : after steps old ≡ Some new
     pub listener : now ≡ heard steps before
 
-  -- the whole plan was carried out, and its steps alone moved the cursor
-  pub record Completed {A : Type 0} (plan : Plan A) (old new : Line) (before now : L) (answer : A) : Type 0 where
+  -- all steps of the plan were taken, and they alone moved the cursor
+  pub record Completed {A : Type 0} (plan : Plan A) (old new : Line) (before now : L) : Type 0 where
     pub taken : Taken plan.steps old new before now
     pub cursor : new.cursor ≡ plan.cursor
-    pub answered : answer ≡ plan.answer
 
   -- the whole plan was carried out
   pub record Done {A : Type 0} (plan : Plan A) (old new : Line) (before now : L) (answer : A) : Type 0 where

@@ -1,5 +1,5 @@
 //! An entry of a record, and how a text goes over it.
-ghost use Rattle.std.specs.Prelude.{◌≡◌, IfOk, IfErr, IfNone, ◌+◌, ◌-◌, ◌<◌, ◌≤◌, IsSome, IfSome, is_some, length, map};
+ghost use Rattle.std.specs.Prelude.{◌≡◌, OnOk, IfOk, IfErr, ◌+◌, ◌-◌, ◌<◌, ◌≤◌, IsSome, IfSome, is_some, length, map, vec_len, vec_capacity};
 ghost use Rattle.std.specs.Option.{option_map};
 ghost use Rattle.std.specs.String.{string_bytes, string_len, string_capacity};
 ghost use Rattle.std.specs.Str.{IsCharBoundary};
@@ -10,9 +10,12 @@ ghost use Rattle.rl_base.specs.declared.listeners.Refusal.TheVariants.{NoMemory}
 ghost use Rattle.rl_line.specs.Record.{entry_of, event_of, inverse, unwind};
 ghost use Rattle.rl_line.specs.Undo.{cursor_after};
 ghost use Rattle.rl_line.specs.Units.{is_begin, is_change};
-ghost use Rattle.rl_line.specs.Change.{TakesIn, new_text, old_text, place, faced, greatest_back_over, length_back};
+ghost use Rattle.rl_line.specs.Change.{TakesIn, new_text, old_text, place, faced, greatest_back_over, size_back, size_of};
+ghost use Rattle.rl_line.specs.declared.change.Measure.TheVariants.{Bytes, Newlines};
+ghost use Rattle.rl_line.specs.LineStarts.{line_starts};
 
-use crate::swap::swap_in;
+use crate::line_starts::newlines;
+use crate::swap::{find_room, swap_in, swap_text};
 use rl_base::Refusal;
 use rl_base::places::{is_alphanumeric, is_word_cluster};
 use std::alloc::Global;
@@ -33,6 +36,25 @@ pub(crate) enum Change {
 pub(crate) enum Way {
     Back,
     Ahead,
+}
+
+/// What a text can be measured by.
+#[derive(Clone, Copy)]
+pub(crate) enum Measure {
+    Bytes,
+    Newlines,
+}
+
+impl Measure {
+    // How much a text has of it.
+    fn of(self, text: &str) -> usize
+        ensures { result ≡ size_of self text.now }
+    {
+        match self {
+            Measure::Bytes => text.len(),
+            Measure::Newlines => newlines(text),
+        }
+    }
 }
 
 impl Change {
@@ -117,29 +139,56 @@ impl Change {
         }
     }
 
-    // The length of a text of length `len` once the change was gone over in it, if a `usize` holds it.
-    fn len_over(&self, way: Way, len: usize) -> Option<usize>
-        ensures { IfSome result (λ n. n ≡ length_back (faced way self.now) len) }
+    // The size of a text of size `size` once the change was gone over in it, if a `usize` holds it.
+    fn size_over(&self, measure: Measure, way: Way, size: usize) -> Option<usize>
+        ensures { IfSome result (λ n. n ≡ size_back measure (faced way self.now) size) }
     {
-        len.saturating_sub(self.going(way).len())
-            .checked_add(self.coming(way).len())
+        size.saturating_sub(measure.of(self.going(way)))
+            .checked_add(measure.of(self.coming(way)))
     }
 }
 
-/// Goes over a change in a text that has room for what it makes of it. Answers where the cursor goes, which was at `cursor`.
-pub(crate) fn go_over(text: &mut String, change: &Change, way: Way, cursor: usize) -> usize
+/// Goes over a change in a line's text and its table, which have room for what it makes of them. Answers where the cursor
+/// goes, which was at `cursor`.
+pub(crate) fn go_over(
+    text: &mut String,
+    starts: &mut Vec<usize>,
+    change: &Change,
+    way: Way,
+    cursor: usize,
+) -> usize
     requires fits { IsSome (apply (event_of (inverse (faced way change.now))) (string_bytes text.old)) }
-    requires room { length_back (faced way change.now) (string_len text.old) ≤ string_capacity text.old }
+    requires table { starts.old.items ≡ line_starts (string_bytes text.old) }
+    requires room { size_back Bytes (faced way change.now) (string_len text.old) ≤ string_capacity text.old }
+    requires table_room { size_back Newlines (faced way change.now) (vec_len starts.old) ≤ vec_capacity starts.old }
     requires boundary { IsCharBoundary (string_bytes text.old) cursor }
     ensures text { apply (event_of (inverse (faced way change.now))) (string_bytes text.old) ≡ Some (string_bytes text.new) }
+    ensures table { starts.new.items ≡ line_starts (string_bytes text.new) }
     ensures cursor { result ≡ cursor_after cursor (inverse (faced way change.now)) }
     ensures boundary { IsCharBoundary (string_bytes text.new) result }
     ensures capacity { string_capacity text.old ≤ string_capacity text.new }
-    ensures len { string_len text.new ≡ length_back (faced way change.now) (string_len text.old) }
+    ensures table_capacity { vec_capacity starts.old ≤ vec_capacity starts.new }
+    ensures len { string_len text.new ≡ size_back Bytes (faced way change.now) (string_len text.old) }
+    ensures count { vec_len starts.new ≡ size_back Newlines (faced way change.now) (vec_len starts.old) }
 {
     match change.place() {
-        Some(at) => swap_in(text, at, at + change.going(way).len(), change.coming(way)),
+        Some(at) => {
+            let end = at + change.going(way).len();
+            swap_in(text, starts, at, end, change.coming(way))
+        }
         None => cursor,
+    }
+}
+
+// Goes over a change in a text that has room for what it makes of it.
+fn go_over_in_text(text: &mut String, change: &Change, way: Way)
+    requires fits { IsSome (apply (event_of (inverse (faced way change.now))) (string_bytes text.old)) }
+    requires room { size_back Bytes (faced way change.now) (string_len text.old) ≤ string_capacity text.old }
+    ensures text { apply (event_of (inverse (faced way change.now))) (string_bytes text.old) ≡ Some (string_bytes text.new) }
+{
+    match change.place() {
+        Some(at) => swap_text(text, at, at + change.going(way).len(), change.coming(way)),
+        None => {}
     }
 }
 
@@ -159,20 +208,48 @@ fn stands_at(text: &str, at: usize, part: &str) -> bool
     &text[at..end] == part
 }
 
-/// The greatest length that a text of length `len` has on the way over the changes, the last first.
-pub(crate) fn greatest_len_over(changes: &[Change], way: Way, len: usize) -> Option<usize>
-    ensures some { IfSome result (λ n. n ≡ greatest_back_over (map (faced way) changes.now) len) }
-    ensures none { IfNone result (0 < length changes.now) }
+/// Finds room in a line's text and its table for the longest of each on the way over the changes, the last first.
+pub(crate) fn find_room_over(
+    text: &mut String,
+    starts: &mut Vec<usize>,
+    changes: &[Change],
+    way: Way,
+) -> Result<(), Refusal>
+    ensures text { string_bytes text.new ≡ string_bytes text.old }
+    ensures len { string_len text.new ≡ string_len text.old }
+    ensures starts { starts.new.items ≡ starts.old.items }
+    ensures count { vec_len starts.new ≡ vec_len starts.old }
+    ensures room { OnOk result (greatest_back_over Bytes (map (faced way) changes.now) (string_len text.old) ≤ string_capacity text.new) }
+    ensures table { OnOk result (greatest_back_over Newlines (map (faced way) changes.now) (vec_len starts.old) ≤ vec_capacity starts.new) }
+    ensures err { IfErr result (λ r. (r ≡ NoMemory) × (0 < length changes.now)) }
 {
-    let mut now = len;
-    let mut greatest = len;
+    let bytes = growth_over(changes, Measure::Bytes, way, text.len())?;
+    let newlines = growth_over(changes, Measure::Newlines, way, starts.len())?;
+    find_room(text, starts, bytes, newlines)
+}
+
+// How much more than at first a text of size `size` has at most on the way over the changes, the last first.
+fn growth_over(
+    changes: &[Change],
+    measure: Measure,
+    way: Way,
+    size: usize,
+) -> Result<usize, Refusal>
+    ensures ok { IfOk result (λ n. size + n ≡ greatest_back_over measure (map (faced way) changes.now) size) }
+    ensures err { IfErr result (λ r. (r ≡ NoMemory) × (0 < length changes.now)) }
+{
+    let mut now = size;
+    let mut greatest = size;
     let mut left = changes.len();
     while left > 0 {
         left -= 1;
-        now = changes[left].len_over(way, now)?;
+        now = match changes[left].size_over(measure, way, now) {
+            Some(now) => now,
+            None => return Err(Refusal::NoMemory),
+        };
         greatest = greatest.max(now);
     }
-    Some(greatest)
+    Ok(greatest - size)
 }
 
 /// The text once it went over the changes, the last first, or none where one of them does not fit.
@@ -196,7 +273,7 @@ pub(crate) fn text_over(
         if now.reserve(change.coming(way).len()).is_err() {
             return Err(Refusal::NoMemory);
         }
-        go_over(&mut now, change, way, 0);
+        go_over_in_text(&mut now, change, way);
     }
     Ok(Some(now))
 }

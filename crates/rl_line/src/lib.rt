@@ -4,7 +4,7 @@
 mod change;
 mod entries;
 pub mod line_buffer;
-mod lines;
+mod line_starts;
 mod swap;
 pub mod undo;
 

@@ -15,12 +15,14 @@ mod indents;
 mod kills;
 mod letter_case;
 mod line_motions;
+mod lines;
 mod motions;
 mod ranges;
 mod transpositions;
 
-use crate::change::{Change, Way, go_over, greatest_len_over};
-use crate::swap::swap_in;
+use crate::change::{Change, Way, find_room_over, go_over};
+use crate::line_starts::newlines;
+use crate::swap::{find_room, swap_in};
 pub use kills::kill_agrees_with_copy;
 use rl_base::{ChangeListener, DeleteListener, Direction, Refusal};
 use std::alloc::Global;
@@ -46,6 +48,8 @@ pub const MAX_LINE: usize = 4096;
 #[derive(Drop)]
 pub struct LineBuffer {
     buf: String,
+    // The places right behind the newlines of the text, in order: where its lines begin, but the first.
+    starts: Vec<usize>,
     pos: usize,
     limit: usize,
     can_growth: bool,
@@ -59,7 +63,7 @@ impl Model for LineBuffer {
 
     ghost view = { λ b. record { text = string_bytes b.buf; cursor = b.pos; limit = b.limit; grow = b.can_growth } };
 
-    ghost invariant = { λ b. IsLine (string_bytes b.buf) b.pos b.limit };
+    ghost invariant = { λ b. IsLine (string_bytes b.buf) b.starts.items b.pos b.limit };
 }
 
 impl fmt::Debug for LineBuffer {
@@ -79,6 +83,7 @@ impl LineBuffer {
         match String::with_capacity(alloc, capacity) {
             Ok(buf) => Ok(LineBuffer {
                 buf,
+                starts: Vec::new(alloc),
                 pos: 0,
                 limit: capacity,
                 can_growth: false,
@@ -109,6 +114,7 @@ impl LineBuffer {
     {
         let LineBuffer {
             buf,
+            starts: _,
             pos: _,
             limit: _,
             can_growth: _,
@@ -180,11 +186,9 @@ impl LineBuffer {
         ensures kept { OnErr result (self.new ≡ self.old) }
         ensures cause { IfErr result (λ r. or_no_memory L.refused listener.old (InsertStr idx text.now) r listener.new) }
     {
-        if self.buf.reserve(text.len()).is_err() {
-            return Err(Refusal::NoMemory);
-        }
+        find_room(&mut self.buf, &mut self.starts, text.len(), newlines(text))?;
         listener.insert_str(idx, text)?;
-        swap_in(&mut self.buf, idx, idx, text);
+        swap_in(&mut self.buf, &mut self.starts, idx, idx, text);
         self.pos = cursor;
         self.limit = self.limit.max(self.buf.len());
         Ok(())
@@ -206,12 +210,11 @@ impl LineBuffer {
         ensures kept { OnErr result (self.new ≡ self.old) }
         ensures cause { IfErr result (λ r. or_no_memory L.refused listener.old (InsertChar idx c) r listener.new) }
     {
-        if self.buf.reserve(c.len_utf8()).is_err() {
-            return Err(Refusal::NoMemory);
-        }
-        listener.insert_char(idx, c)?;
         let mut bytes = [0; 4];
-        swap_in(&mut self.buf, idx, idx, c.encode_utf8(&mut bytes));
+        let part = c.encode_utf8(&mut bytes);
+        find_room(&mut self.buf, &mut self.starts, part.len(), newlines(part))?;
+        listener.insert_char(idx, c)?;
+        swap_in(&mut self.buf, &mut self.starts, idx, idx, part);
         self.pos = cursor;
         self.limit = self.limit.max(self.buf.len());
         Ok(())
@@ -234,12 +237,11 @@ impl LineBuffer {
         ensures cause { IfErr result (λ r. or_no_memory L.refused listener.old (Replace range.start (slice_range self.old.text range.start range.end) text.now) r listener.new) }
     {
         let (from, to) = (range.start, range.end);
-        let more = text.len().saturating_sub(to - from);
-        if self.buf.reserve(more).is_err() {
-            return Err(Refusal::NoMemory);
-        }
+        let bytes = text.len().saturating_sub(to - from);
+        let lines = newlines(text).saturating_sub(newlines(&self.buf.as_str()[from..to]));
+        find_room(&mut self.buf, &mut self.starts, bytes, lines)?;
         listener.replace(from, &self.buf.as_str()[from..to], text)?;
-        self.pos = swap_in(&mut self.buf, from, to, text);
+        self.pos = swap_in(&mut self.buf, &mut self.starts, from, to, text);
         self.limit = self.limit.max(self.buf.len());
         Ok(())
     }
@@ -283,29 +285,29 @@ impl LineBuffer {
     {
         let (from, to) = (range.start, range.end);
         listener.delete(from, &self.buf.as_str()[from..to], dir)?;
-        swap_in(&mut self.buf, from, to, "");
+        swap_in(&mut self.buf, &mut self.starts, from, to, "");
         self.pos = cursor;
         Ok(())
     }
 
-    // Goes over the changes, the last first. It finds the room for the longest text on the way before it changes anything.
+    // Goes over the changes, the last first. It finds the room for the longest text and the longest table on the way before
+    // it changes anything.
     pub(crate) fn go_over_all(&mut self, changes: &[Change], way: Way) -> Result<(), Refusal>
         requires { IsSome (line_back (map (faced way) changes.now) self.old) }
         ensures ok { OnOk result (line_back (map (faced way) changes.now) self.old ≡ Some self.new) }
         ensures err { IfErr result (λ r. (r ≡ NoMemory) × (self.new ≡ self.old) × (0 < length changes.now)) }
     {
-        let len = self.buf.len();
-        let greatest = match greatest_len_over(changes, way, len) {
-            Some(greatest) => greatest,
-            None => return Err(Refusal::NoMemory),
-        };
-        if self.buf.reserve(greatest.saturating_sub(len)).is_err() {
-            return Err(Refusal::NoMemory);
-        }
+        find_room_over(&mut self.buf, &mut self.starts, changes, way)?;
         let mut left = changes.len();
         while left > 0 {
             left -= 1;
-            self.pos = go_over(&mut self.buf, &changes[left], way, self.pos);
+            self.pos = go_over(
+                &mut self.buf,
+                &mut self.starts,
+                &changes[left],
+                way,
+                self.pos,
+            );
             self.limit = self.limit.max(self.buf.len());
         }
         Ok(())

@@ -1,25 +1,81 @@
-//! The one way in which a text changes: a range of it gives way to a part.
-ghost use Rattle.std.specs.Prelude.{◌≡◌, ◌≢◌, ◌+◌, ◌-◌, ◌≤◌, encode_utf8, length, IfNone, IfSome};
+//! The one way in which a text changes, and the table of a line's text with it: a range gives way to a part.
+ghost use Rattle.std.specs.Prelude.{◌≡◌, ◌≢◌, ◌+◌, ◌-◌, ◌<◌, ◌≤◌, encode_utf8, count_by, length, slice_range, vec_len, vec_capacity, IfErr, IfNone, IfSome, OnOk};
 ghost use Rattle.std.specs.String.{string_bytes, string_len, string_capacity};
 ghost use Rattle.std.specs.List.{insert_slice, remove_range, replace_range};
 ghost use Rattle.std.specs.Str.{IsCharBoundary, chars};
+ghost use Rattle.rl_base.specs.Lines.{is_newline};
+ghost use Rattle.rl_base.specs.declared.listeners.Refusal.TheVariants.{NoMemory};
+ghost use Rattle.rl_line.specs.LineStarts.{line_starts};
 
-/// Puts a part in the place of a range, in a text that has room for what this makes of it: an insertion where the range is
-/// empty, a deletion where the part is. Answers the part's end.
-pub(crate) fn swap_in(text: &mut String, from: usize, to: usize, part: &str) -> usize
+use crate::line_starts::swap_starts;
+use rl_base::Refusal;
+
+/// Finds room in a text and in its table for so many bytes and newlines more.
+pub(crate) fn find_room(
+    text: &mut String,
+    starts: &mut Vec<usize>,
+    bytes: usize,
+    newlines: usize,
+) -> Result<(), Refusal>
+    ensures text { string_bytes text.new ≡ string_bytes text.old }
+    ensures len { string_len text.new ≡ string_len text.old }
+    ensures starts { starts.new.items ≡ starts.old.items }
+    ensures count { vec_len starts.new ≡ vec_len starts.old }
+    ensures room { OnOk result (string_len text.old + bytes ≤ string_capacity text.new) }
+    ensures table { OnOk result (vec_len starts.old + newlines ≤ vec_capacity starts.new) }
+    ensures err { IfErr result (λ r. (r ≡ NoMemory) × (0 < bytes + newlines)) }
+{
+    if text.reserve(bytes).is_err() {
+        return Err(Refusal::NoMemory);
+    }
+    if starts.reserve(newlines).is_err() {
+        return Err(Refusal::NoMemory);
+    }
+    Ok(())
+}
+
+/// Puts a part in the place of a range, in a line's text and in its table, which have room for what this makes of them: an
+/// insertion where the range is empty, a deletion where the part is. Answers the part's end.
+pub(crate) fn swap_in(
+    text: &mut String,
+    starts: &mut Vec<usize>,
+    from: usize,
+    to: usize,
+    part: &str,
+) -> usize
+    requires order { from ≤ to }
+    requires start { IsCharBoundary (string_bytes text.old) from }
+    requires end { IsCharBoundary (string_bytes text.old) to }
+    requires table { starts.old.items ≡ line_starts (string_bytes text.old) }
+    requires room { (string_len text.old - (to - from)) + length part.now ≤ string_capacity text.old }
+    requires table_room { (vec_len starts.old - count_by is_newline (slice_range (string_bytes text.old) from to)) + count_by is_newline part.now ≤ vec_capacity starts.old }
+    ensures text { string_bytes text.new ≡ replace_range (string_bytes text.old) from to part.now }
+    ensures table { starts.new.items ≡ line_starts (string_bytes text.new) }
+    ensures end { result ≡ from + length part.now }
+    ensures boundary { IsCharBoundary (string_bytes text.new) result }
+    ensures capacity { string_capacity text.old ≤ string_capacity text.new }
+    ensures table_capacity { vec_capacity starts.old ≤ vec_capacity starts.new }
+    ensures len { string_len text.new ≡ (string_len text.old - (to - from)) + length part.now }
+    ensures count { vec_len starts.new ≡ (vec_len starts.old - count_by is_newline (slice_range (string_bytes text.old) from to)) + count_by is_newline part.now }
+{
+    swap_starts(starts, text.as_str(), from, to, part);
+    swap_text(text, from, to, part);
+    from + part.len()
+}
+
+/// Puts a part in the place of a range, in a text that has room for what this makes of it.
+pub(crate) fn swap_text(text: &mut String, from: usize, to: usize, part: &str)
     requires order { from ≤ to }
     requires start { IsCharBoundary (string_bytes text.old) from }
     requires end { IsCharBoundary (string_bytes text.old) to }
     requires room { (string_len text.old - (to - from)) + length part.now ≤ string_capacity text.old }
     ensures text { string_bytes text.new ≡ replace_range (string_bytes text.old) from to part.now }
-    ensures end { result ≡ from + length part.now }
-    ensures boundary { IsCharBoundary (string_bytes text.new) result }
+    ensures boundary { IsCharBoundary (string_bytes text.new) (from + length part.now) }
     ensures capacity { string_capacity text.old ≤ string_capacity text.new }
     ensures len { string_len text.new ≡ (string_len text.old - (to - from)) + length part.now }
 {
     cut_out(text, from, to);
     put_in(text, from, part);
-    from + part.len()
 }
 
 // Takes a range out.

@@ -1,13 +1,11 @@
 //! Indenting and dedenting the lines of a range.
-ghost use Rattle.std.specs.Prelude.{◌≡◌, ◌+◌, ◌^◌, ◌<◌, ◌≤◌, true, false, not, length, drop, IfOk, IfErr};
+ghost use Rattle.std.specs.Prelude.{◌≡◌, ◌+◌, ◌^◌, ◌<◌, ◌≤◌, true, false, not, IfErr, IfOk, OnOk};
 ghost use Rattle.std.specs.Str.{IsCharBoundary};
-ghost use Rattle.rl_base.specs.Lines.{end_of_line};
-ghost use Rattle.rl_line.specs.Indents.{final_line, indent_plan, line_plan, pulled, pushed};
+ghost use Rattle.rl_line.specs.Indents.{indent_plan, line_plan, pulled, pushed};
 ghost use Rattle.rl_line.specs.Plan.{Completed, Done, Halted, or_no_memory, or_no_memory_if};
 ghost use Rattle.rl_line.specs.Ranges.{text_in};
 
 use crate::line_buffer::LineBuffer;
-use crate::lines::{end_of_line, start_of_line};
 use rl_base::{ChangeListener, DeleteListener, Direction, Movement, Refusal};
 use std::ops::Range;
 
@@ -32,47 +30,27 @@ impl LineBuffer {
         ensures halted { IfErr result (λ r. Halted L.step (or_no_memory_if (not dedent) L.refused) (indent_plan self.old mvt.now amount dedent) self.old self.new listener.old listener.new r) }
     {
         let range = self.indented(mvt);
-        let behind = self.len() - self.end_of_lines(&range);
-        let mut start = start_of_line(self.as_str(), range.start);
-        loop {
-            let line = start..end_of_line(self.as_str(), start);
-            let end = self.shift_line(line, amount, dedent, listener)?;
-            if self.len() - end == behind {
-                return Ok(true);
-            }
-            start = end + 1;
+        let first = self.line_at(range.start);
+        let last = self.line_at(range.start.max(range.end.saturating_sub(1)));
+        for k in first..=last {
+            let line = self.start_of_line(k)..self.end_of_line(k);
+            self.shift_line(line, amount, dedent, listener)?;
         }
+        Ok(true)
     }
 
-    // The place where the text of the last line ends that holds a byte of the range.
-    fn end_of_lines(&self, range: &Range<usize>) -> usize
-        requires order { range.now.start ≤ range.now.end }
-        requires start { IsCharBoundary self.now.text range.now.start }
-        requires end { IsCharBoundary self.now.text range.now.end }
-        ensures value { result ≡ end_of_line self.now.text (final_line self.now.text range.now) }
-        ensures within { result ≤ length self.now.text }
-    {
-        let text = self.as_str();
-        if text[range.start..range.end].ends_with('\n') {
-            return range.end - 1;
-        }
-        end_of_line(text, range.end)
-    }
-
-    // Indents or dedents one line. Answers where its text ends then.
+    // Indents or dedents one line.
     fn shift_line<L: ChangeListener>(
         &mut self,
         line: Range<usize>,
         amount: u8,
         dedent: bool,
         listener: &mut L,
-    ) -> Result<usize, Refusal>
+    ) -> Result<(), Refusal>
         requires order { line.start ≤ line.end }
         requires start { IsCharBoundary self.old.text line.start }
         requires end { IsCharBoundary self.old.text line.end }
-        ensures done { IfOk result (λ stop. Completed L.step (line_plan dedent amount (text_in self.old line) line.start self.old.cursor) self.old self.new listener.old listener.new stop) }
-        ensures boundary { IfOk result (λ stop. IsCharBoundary self.new.text stop) }
-        ensures others { IfOk result (λ stop. drop stop self.new.text ≡ drop line.end self.old.text) }
+        ensures done { OnOk result (Completed L.step (line_plan dedent amount (text_in self.old line) line.start self.old.cursor) self.old self.new listener.old listener.new) }
         ensures halted { IfErr result (λ r. Halted L.step (or_no_memory_if (not dedent) L.refused) (line_plan dedent amount (text_in self.old line) line.start self.old.cursor) self.old self.new listener.old listener.new r) }
     {
         if dedent {
@@ -87,16 +65,11 @@ impl LineBuffer {
         line: Range<usize>,
         amount: u8,
         listener: &mut L,
-    ) -> Result<usize, Refusal>
-        requires order { line.start ≤ line.end }
-        requires start { IsCharBoundary self.old.text line.start }
-        requires end { IsCharBoundary self.old.text line.end }
-        ensures done { IfOk result (λ stop. Completed L.step (line_plan false amount (text_in self.old line) line.start self.old.cursor) self.old self.new listener.old listener.new stop) }
-        ensures boundary { IfOk result (λ stop. IsCharBoundary self.new.text stop) }
-        ensures others { IfOk result (λ stop. drop stop self.new.text ≡ drop line.end self.old.text) }
+    ) -> Result<(), Refusal>
+        requires { IsCharBoundary self.old.text line.start }
+        ensures done { OnOk result (Completed L.step (line_plan false amount (text_in self.old line) line.start self.old.cursor) self.old self.new listener.old listener.new) }
         ensures halted { IfErr result (λ r. Halted L.step (or_no_memory L.refused) (line_plan false amount (text_in self.old line) line.start self.old.cursor) self.old self.new listener.old listener.new r) }
     {
-        let behind = self.len() - line.end;
         let mut left = usize::from(amount);
         while left > 0 {
             let part = &SPACES[..left.min(SPACES.len())];
@@ -104,7 +77,7 @@ impl LineBuffer {
             self.put_str(line.start, part, cursor, listener)?;
             left -= part.len();
         }
-        Ok(self.len() - behind)
+        Ok(())
     }
 
     // Blanks go from the start of a line.
@@ -113,13 +86,11 @@ impl LineBuffer {
         line: Range<usize>,
         amount: u8,
         listener: &mut L,
-    ) -> Result<usize, Refusal>
+    ) -> Result<(), Refusal>
         requires order { line.start ≤ line.end }
         requires start { IsCharBoundary self.old.text line.start }
         requires end { IsCharBoundary self.old.text line.end }
-        ensures done { IfOk result (λ stop. Completed L.step (line_plan true amount (text_in self.old line) line.start self.old.cursor) self.old self.new listener.old listener.new stop) }
-        ensures boundary { IfOk result (λ stop. IsCharBoundary self.new.text stop) }
-        ensures others { IfOk result (λ stop. drop stop self.new.text ≡ drop line.end self.old.text) }
+        ensures done { OnOk result (Completed L.step (line_plan true amount (text_in self.old line) line.start self.old.cursor) self.old self.new listener.old listener.new) }
         ensures halted { IfErr result (λ r. Halted L.step L.refused (line_plan true amount (text_in self.old line) line.start self.old.cursor) self.old self.new listener.old listener.new r) }
     {
         let text = &self.as_str()[line.start..line.end];
@@ -128,7 +99,7 @@ impl LineBuffer {
         let cursor = pulled(line.start, gone, self.pos());
         let range = line.start..line.start + gone;
         self.take_out_before(range, Direction::Forward, cursor, listener)?;
-        Ok(line.end - gone)
+        Ok(())
     }
 }
 

@@ -1,13 +1,13 @@
 //! The motions over lines.
-ghost use Rattle.std.specs.Prelude.{◌≡◌, ◌+◌, ◌≤◌, slice_range, IfSome};
+ghost use Rattle.std.specs.Prelude.{◌≡◌, ◌≤◌, IfSome};
 ghost use Rattle.std.specs.Str.{IsCharBoundary};
-ghost use Rattle.rl_base.specs.Lines.{place_of_column};
-ghost use Rattle.rl_line.specs.LineMotions.{column_above, column_below, columns_before, home, line_end, place_above, place_below};
+ghost use Rattle.rl_base.specs.Lines.{last_line, place_of_column};
+ghost use Rattle.rl_line.specs.LineMotions.{column_above, column_below, columns_before, home, line_end, place_above, place_below, place_in_line};
 ghost use Rattle.rl_line.specs.Motions.{Moved, unless_there};
 
 use crate::line_buffer::LineBuffer;
-use crate::lines::{end_of_line, line_above, line_below, place_of_column, start_of_line};
 use rl_base::{Layout, RepeatCount, Unit};
+use unicode_segmentation::UnicodeSegmentation;
 
 impl LineBuffer {
     /// Moves to the start of the cursor's line (GNU readline: beginning-of-line). Answers whether the cursor
@@ -15,7 +15,7 @@ impl LineBuffer {
     pub fn move_home(&mut self) -> bool
         ensures { Moved (unless_there self.old (home self.old)) self.old self.new result }
     {
-        let start = start_of_line(self.as_str(), self.pos());
+        let start = self.home();
         self.move_elsewhere(start)
     }
 
@@ -24,7 +24,7 @@ impl LineBuffer {
     pub fn move_end(&mut self) -> bool
         ensures { Moved (unless_there self.old (line_end self.old)) self.old self.new result }
     {
-        let end = end_of_line(self.as_str(), self.pos());
+        let end = self.line_end();
         self.move_elsewhere(end)
     }
 
@@ -34,7 +34,7 @@ impl LineBuffer {
     pub fn move_to_line_up(&mut self, n: RepeatCount, layout: &Layout) -> bool
         ensures { Moved (place_above layout.now self.old.text self.old.cursor n) self.old self.new result }
     {
-        let place = place_above(self.as_str(), self.pos(), n, layout);
+        let place = self.place_above(n, layout);
         self.move_to_place(place)
     }
 
@@ -44,68 +44,77 @@ impl LineBuffer {
     pub fn move_to_line_down(&mut self, n: RepeatCount, layout: &Layout) -> bool
         ensures { Moved (place_below layout.now self.old.text self.old.cursor n) self.old self.new result }
     {
-        let place = place_below(self.as_str(), self.pos(), n, layout);
+        let place = self.place_below(n, layout);
         self.move_to_place(place)
+    }
+
+    fn place_above(&self, n: RepeatCount, layout: &Layout) -> Option<usize>
+        ensures value { result ≡ place_above layout.now self.now.text self.now.cursor n }
+        ensures boundary { IfSome result (IsCharBoundary self.now.text) }
+    {
+        let target = self.line_above(n)?;
+        let column = column_above(layout, target, self.columns_before(layout));
+        Some(self.place_in_line(target, column))
+    }
+
+    fn place_below(&self, n: RepeatCount, layout: &Layout) -> Option<usize>
+        ensures value { result ≡ place_below layout.now self.now.text self.now.cursor n }
+        ensures boundary { IfSome result (IsCharBoundary self.now.text) }
+    {
+        let target = self.line_below(n)?;
+        let k = self.line_at(self.pos());
+        let column = column_below(layout, k, self.columns_before(layout));
+        Some(self.place_in_line(target, column))
+    }
+
+    // The columns from the start of the cursor's line to the cursor.
+    fn columns_before(&self, layout: &Layout) -> Unit
+        ensures { result ≡ columns_before layout.now self.now.text self.now.cursor }
+    {
+        layout.width(&self.as_str()[self.home()..self.pos()])
+    }
+
+    // The place before the cluster of a line that has the number of the column, or the line's end.
+    fn place_in_line(&self, k: usize, column: Unit) -> usize
+        requires { k ≤ last_line self.now.text }
+        ensures value { result ≡ place_in_line self.now.text k column }
+        ensures boundary { IsCharBoundary self.now.text result }
+    {
+        let start = self.start_of_line(k);
+        let line = &self.as_str()[start..self.end_of_line(k)];
+        start + place_of_column(line, usize::from(column))
     }
 }
 
-fn columns_before(text: &str, pos: usize, layout: &Layout) -> Unit
-    requires { IsCharBoundary text.now pos }
-    ensures { result ≡ columns_before layout.now text.now pos }
+// The column to go to in a line above. The prompt stands before the first line.
+fn column_above(layout: &Layout, target: usize, columns: Unit) -> Unit
+    ensures { result ≡ column_above layout.now target columns }
 {
-    layout.width(&text[start_of_line(text, pos)..pos])
-}
-
-// The prompt stands before the first line, which alone starts at 0.
-fn column_above(layout: &Layout, start: usize, columns: Unit) -> Unit
-    ensures { result ≡ column_above layout.now start columns }
-{
-    if start == 0 {
+    if target == 0 {
         columns.saturating_sub(layout.prompt_size.col)
     } else {
         columns
     }
 }
 
-fn column_below(layout: &Layout, start: usize, columns: Unit) -> Unit
-    ensures { result ≡ column_below layout.now start columns }
+// The column to go to in a line below, from line `k`.
+fn column_below(layout: &Layout, k: usize, columns: Unit) -> Unit
+    ensures { result ≡ column_below layout.now k columns }
 {
-    if start == 0 {
+    if k == 0 {
         columns.saturating_add(layout.prompt_size.col)
     } else {
         columns
     }
 }
 
-fn place_above(text: &str, pos: usize, n: RepeatCount, layout: &Layout) -> Option<usize>
-    requires { IsCharBoundary text.now pos }
-    ensures value { result ≡ place_above layout.now text.now pos n }
-    ensures boundary { IfSome result (IsCharBoundary text.now) }
+// The place before the cluster numbered `column`, from 0, or the end where there are fewer.
+fn place_of_column(line: &str, column: usize) -> usize
+    ensures value { result ≡ place_of_column line.now column }
+    ensures boundary { IsCharBoundary line.now result }
 {
-    let target = line_above(text, pos, n)?;
-    let columns = columns_before(text, pos, layout);
-    let column = column_above(layout, target.start, columns);
-    Some(place_in_line(text, target.start, target.end, column))
-}
-
-fn place_below(text: &str, pos: usize, n: RepeatCount, layout: &Layout) -> Option<usize>
-    requires { IsCharBoundary text.now pos }
-    ensures value { result ≡ place_below layout.now text.now pos n }
-    ensures boundary { IfSome result (IsCharBoundary text.now) }
-{
-    let target = line_below(text, pos, n)?;
-    let columns = columns_before(text, pos, layout);
-    let column = column_below(layout, start_of_line(text, pos), columns);
-    Some(place_in_line(text, target.start, target.end, column))
-}
-
-// The place before the cluster of a line that has the number of the column, or the line's end.
-fn place_in_line(text: &str, start: usize, end: usize, column: Unit) -> usize
-    requires order { start ≤ end }
-    requires start { IsCharBoundary text.now start }
-    requires end { IsCharBoundary text.now end }
-    ensures value { result ≡ start + place_of_column (slice_range text.now start end) column }
-    ensures boundary { IsCharBoundary text.now result }
-{
-    start + place_of_column(&text[start..end], usize::from(column))
+    match line.grapheme_indices(true).nth(column) {
+        Some((place, _)) => place,
+        None => line.len(),
+    }
 }

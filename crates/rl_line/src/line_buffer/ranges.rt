@@ -7,7 +7,6 @@ ghost use Rattle.rl_line.specs.LineMotions.{line_end};
 ghost use Rattle.rl_line.specs.Ranges.{covered, from_first_print, indented, killed, lines_down, lines_up, newline_at, to_hit, unless_empty};
 
 use crate::line_buffer::LineBuffer;
-use crate::lines::{end_below, end_of_line, start_above, start_of_line};
 use rl_base::places::{next_pos, next_word, prev_pos, prev_word, search};
 use rl_base::{At, CharSearch, Movement, RepeatCount, Word};
 use std::ops::Range;
@@ -23,11 +22,9 @@ impl LineBuffer {
         let text = self.as_str();
         let at = self.pos();
         match mvt {
-            Movement::WholeLine => {
-                self.unless_empty(start_of_line(text, at), end_of_line(text, at))
-            }
-            Movement::BeginningOfLine => self.unless_empty(start_of_line(text, at), at),
-            Movement::EndOfLine => self.unless_empty(at, end_of_line(text, at)),
+            Movement::WholeLine => self.unless_empty(self.home(), self.line_end()),
+            Movement::BeginningOfLine => self.unless_empty(self.home(), at),
+            Movement::EndOfLine => self.unless_empty(at, self.line_end()),
             Movement::BackwardWord(n, word) => Some(prev_word(text, at, *word, *n)?..at),
             Movement::ForwardWord(n, stop, word) => {
                 Some(at..next_word(text, at, *stop, *word, *n)?)
@@ -36,8 +33,8 @@ impl LineBuffer {
             Movement::ViFirstPrint => from_first_print(text, at),
             Movement::BackwardChar(n) => Some(prev_pos(text, at, *n)?..at),
             Movement::ForwardChar(n) => Some(at..next_pos(text, at, *n)?),
-            Movement::LineUp(n) => lines_up(text, at, *n),
-            Movement::LineDown(n) => lines_down(text, at, *n),
+            Movement::LineUp(n) => self.lines_up(*n),
+            Movement::LineDown(n) => self.lines_down(*n),
             Movement::WholeBuffer => self.unless_empty(0, text.len()),
             Movement::BeginningOfBuffer => self.unless_empty(0, at),
             Movement::EndOfBuffer => self.unless_empty(at, text.len()),
@@ -110,12 +107,40 @@ impl LineBuffer {
         ensures start { IfSome result (λ r. IsCharBoundary self.now.text r.start) }
         ensures end { IfSome result (λ r. IsCharBoundary self.now.text r.end) }
     {
-        let text = self.as_str();
-        let stop = end_of_line(text, self.pos());
-        if stop == text.len() {
+        let k = self.line_at(self.pos());
+        self.unless_empty(self.end_of_line(k), self.behind_line(k))
+    }
+
+    // The cursor's line and `n` lines above it, with their newlines.
+    fn lines_up(&self, n: RepeatCount) -> Option<Range<usize>>
+        ensures value { result ≡ lines_up self.now.text self.now.cursor n }
+        ensures order { IfSome result (λ r. r.start ≤ r.end) }
+        ensures start { IfSome result (λ r. IsCharBoundary self.now.text r.start) }
+        ensures end { IfSome result (λ r. IsCharBoundary self.now.text r.end) }
+    {
+        let k = self.line_at(self.pos());
+        if k == 0 {
             return None;
         }
-        Some(stop..stop + 1)
+        let first = k.saturating_sub(usize::from(n));
+        Some(self.start_of_line(first)..self.behind_line(k))
+    }
+
+    // The cursor's line and `n` lines below it, with their newlines and the one above.
+    fn lines_down(&self, n: RepeatCount) -> Option<Range<usize>>
+        ensures value { result ≡ lines_down self.now.text self.now.cursor n }
+        ensures order { IfSome result (λ r. r.start ≤ r.end) }
+        ensures start { IfSome result (λ r. IsCharBoundary self.now.text r.start) }
+        ensures end { IfSome result (λ r. IsCharBoundary self.now.text r.end) }
+    {
+        let k = self.line_at(self.pos());
+        let last = self.last_line();
+        if k == last {
+            return None;
+        }
+        let start = self.start_of_line(k).saturating_sub(1);
+        let final_line = last.min(k.saturating_add(usize::from(n)));
+        Some(start..self.behind_line(final_line))
     }
 
     // A range of the text, unless it is empty.
@@ -167,45 +192,4 @@ fn from_first_print(text: &str, at: usize) -> Option<Range<usize>>
         return None;
     }
     Some(start..at)
-}
-
-// The line of a place and `n` lines above it, with their newlines.
-fn lines_up(text: &str, at: usize, n: RepeatCount) -> Option<Range<usize>>
-    requires { IsCharBoundary text.now at }
-    ensures value { result ≡ lines_up text.now at n }
-    ensures order { IfSome result (λ r. r.start ≤ r.end) }
-    ensures start { IfSome result (λ r. IsCharBoundary text.now r.start) }
-    ensures end { IfSome result (λ r. IsCharBoundary text.now r.end) }
-{
-    if start_of_line(text, at) == 0 {
-        return None;
-    }
-    let stop = end_of_line(text, at);
-    Some(start_above(text, at, n)..behind_newline(text, stop))
-}
-
-// The line of a place and `n` lines below it, with their newlines and the one above.
-fn lines_down(text: &str, at: usize, n: RepeatCount) -> Option<Range<usize>>
-    requires { IsCharBoundary text.now at }
-    ensures value { result ≡ lines_down text.now at n }
-    ensures order { IfSome result (λ r. r.start ≤ r.end) }
-    ensures start { IfSome result (λ r. IsCharBoundary text.now r.start) }
-    ensures end { IfSome result (λ r. IsCharBoundary text.now r.end) }
-{
-    if end_of_line(text, at) == text.len() {
-        return None;
-    }
-    let start = start_of_line(text, at).saturating_sub(1);
-    Some(start..behind_newline(text, end_below(text, at, n)))
-}
-
-// Behind the newline at the end of a line's text, if it has one.
-fn behind_newline(text: &str, stop: usize) -> usize
-    requires end { IsCharBoundary text.now stop }
-    requires below { stop ≢ length text.now → IsCharBoundary text.now (stop + 1) }
-    ensures value { result ≡ min (stop + 1) (length text.now) }
-    ensures behind { stop ≤ result }
-    ensures boundary { IsCharBoundary text.now result }
-{
-    if stop == text.len() { stop } else { stop + 1 }
 }

@@ -1,5 +1,4 @@
-use Rattle.std.proofs.Common.{[], arith, ◌≡◌, ◌+◌, ◌-◌, ◌<◌, length, refl, subst, sym, ap, ◌∙◌}
-use Rattle.std.proofs.lemmas.Str.{IsCharBoundary-at_seam, IsUtf8-string_bytes}
+use Rattle.std.proofs.Common.{arith, ◌≡◌, ◌+◌, ◌-◌, ◌<◌, length, subst, sym, ap, ◌∙◌}
 use Rattle.std.specs.String.{string_bytes}
 use Rattle.std.specs.Prelude.{is_some}
 use Rattle.rl_base.specs.Event.{apply}
@@ -24,13 +23,9 @@ returns-then-not-fits-clause-ok c =
     GoesOver-not c.args.way c.args.changes.now (c.loop-left.left - 1) c.index-changes-left.result c.args.text.now (string_bytes c.loop-left.now) (inside d) c.index-changes-left.is (over d)
     (ap (λ t. is_some (apply (event_of (inverse e)) t)) (sym c.as_str.ensures.value) ∙ sym c.fits.ensures ∙ c.if-not-fits.true)
 
-pub go_over-requires-clause-boundary : goal.go_over-requires-clause-boundary
-go_over-requires-clause-boundary c =
-    IsCharBoundary-at_seam (string_bytes c.reserve.new.self) [] (string_bytes c.reserve.new.self) refl (IsUtf8-string_bytes c.reserve.new.self)
-
 pub loop-left-preserved : goal.loop-left-preserved
 loop-left-preserved c =
     let d = (goal.at.loop-left-preserved c).After-fits in
     let e = faced c.args.way c.index-changes-left.result in
     GoesOver-next c.args.way c.args.changes.now (c.loop-left.left - 1) c.index-changes-left.result c.args.text.now (string_bytes c.loop-left.now) _ (inside d) c.index-changes-left.is (over d)
-    (ap (apply (event_of (inverse e))) (sym c.reserve.ensures.bytes) ∙ c.go_over.ensures.text)
+    (ap (apply (event_of (inverse e))) (sym c.reserve.ensures.bytes) ∙ c.go_over_in_text.ensures.text)

@@ -1,10 +1,15 @@
-use Rattle.std.proofs.Common.{arith, ◌≡◌, ◌+◌, ◌-◌, ◌<◌, length, map, drop, refl, sym, ap, subst, ◌∙◌}
+use Rattle.std.proofs.Common.{arith, rules, ◌≡◌, ◌+◌, ◌-◌, ◌<◌, ◌≤◌, ℕ, List, [], length, le_refl, map, drop, count_by, vec_len, vec_capacity, refl, sym, ap, subst, ◌∙◌}
 use Rattle.std.specs.Str.{IsCharBoundary}
-use Rattle.std.specs.String.{string_bytes, string_len}
+use Rattle.std.specs.String.{string_bytes}
+use Rattle.rl_base.specs.Lines.{is_newline}
+use Rattle.rl_line.specs.LineStarts.{line_starts}
 use Rattle.rl_line.specs.Line.{Line}
-use Rattle.rl_line.specs.Change.{faced, length_back, length_back_over}
-use Rattle.std.proofs.lemmas.List.{drop-map}
-use Rattle.rl_line.proofs.UndoLemmas.{IsBack, IsBack-fits, IsBack-next, entries_from, length_back_over-within}
+use Rattle.rl_line.specs.declared.change.Measure.{Measure}
+use Rattle.rl_line.specs.declared.change.Measure.TheVariants.{Bytes, Newlines}
+use Rattle.rl_line.specs.Change.{faced, size_back, size_back_over, greatest_back_over}
+use Rattle.std.proofs.lemmas.List.{drop-map, drop_all}
+use Rattle.rl_line.proofs.LineStartLemmas.{length-line_starts}
+use Rattle.rl_line.proofs.UndoLemmas.{IsBack, IsBack-none, IsBack-fits, IsBack-next, entries_from, size_back_over-within}
 use Rattle.rl_line.proofs.line_buffer.LineBuffer.go_over_all.Goals as goal
 use Rattle.rl_line.proofs.line_buffer.LineBuffer.go_over_all.Goals.{After-index-changes-left}
 
@@ -23,14 +28,22 @@ back c = subst (λ k. IsBack c.args.way c.args.changes.now k c.args.self.now (no
 inside : (c : After-index-changes-left) → c.loop-left.left - 1 < length c.args.changes.now
 inside c = omega arith
 
--- the length that the text gets is one on the way
-len : (c : After-index-changes-left) → length_back (faced c.args.way c.index-changes-left.result) (string_len c.loop-left.self-inside.buf)
-    ≡ length_back_over (map (faced c.args.way) (drop (c.loop-left.left - 1) c.args.changes.now)) (length c.args.self.now.text)
-len c =
+-- a size that the text or the table gets is one on the way
+size : (k : Measure) (n now : ℕ) (c : After-index-changes-left) → now ≡ size_back_over k (map (faced c.args.way) (drop c.loop-left.left c.args.changes.now)) n
+    → size_back k (faced c.args.way c.index-changes-left.result) now ≡ size_back_over k (map (faced c.args.way) (drop (c.loop-left.left - 1) c.args.changes.now)) n
+size k n now c e =
     let xs = c.args.changes.now in
-    let n = length c.args.self.now.text in
-    ap (length_back (faced c.args.way c.index-changes-left.result)) (c.loop-left.invariant.len ∙ ap (λ k. length_back_over (map (faced c.args.way) (drop k xs)) n) (one_more c))
-    ∙ ap (λ es. length_back_over es n) (sym (entries_from c.args.way xs (c.loop-left.left - 1) c.index-changes-left.result (inside c) c.index-changes-left.is))
+    ap (size_back k (faced c.args.way c.index-changes-left.result)) (e ∙ ap (λ m. size_back_over k (map (faced c.args.way) (drop m xs)) n) (one_more c))
+    ∙ ap (λ es. size_back_over k es n) (sym (entries_from c.args.way xs (c.loop-left.left - 1) c.index-changes-left.result (inside c) c.index-changes-left.is))
+
+-- so there is room for it
+fits : (k : Measure) (n now room : ℕ) (c : After-index-changes-left) → now ≡ size_back_over k (map (faced c.args.way) (drop c.loop-left.left c.args.changes.now)) n
+    → greatest_back_over k (map (faced c.args.way) c.args.changes.now) n ≤ room → size_back k (faced c.args.way c.index-changes-left.result) now ≤ room
+fits k n now room c e h =
+    let m = c.loop-left.left - 1 in
+    let within = size_back_over-within k m (map (faced c.args.way) c.args.changes.now) n in
+    let same = ap (λ es. size_back_over k es n) (drop-map (faced c.args.way) m c.args.changes.now) in
+    omega (arith, size k n now c e, within, same, h)
 
 pub go_over-self-inside-requires-clause-fits : goal.go_over-self-inside-requires-clause-fits
 go_over-self-inside-requires-clause-fits c =
@@ -39,11 +52,33 @@ go_over-self-inside-requires-clause-fits c =
 
 pub go_over-self-inside-requires-clause-room : goal.go_over-self-inside-requires-clause-room
 go_over-self-inside-requires-clause-room c =
-    let d = (goal.at.go_over-self-inside-requires-clause-room c).After-index-changes-left in
-    let m = c.loop-left.left - 1 in
-    let within = length_back_over-within m (map (faced c.args.way) c.args.changes.now) (length c.args.self.now.text) in
-    let same = ap (λ es. length_back_over es (length c.args.self.now.text)) (drop-map (faced c.args.way) m c.args.changes.now) in
-    omega (arith, len d, within, same, c.loop-left.invariant.room)
+    fits Bytes _ _ _ (goal.at.go_over-self-inside-requires-clause-room c).After-index-changes-left c.loop-left.invariant.len c.loop-left.invariant.room
+
+pub go_over-self-inside-requires-clause-table_room : goal.go_over-self-inside-requires-clause-table_room
+go_over-self-inside-requires-clause-table_room c =
+    fits Newlines _ _ _ (goal.at.go_over-self-inside-requires-clause-table_room c).After-index-changes-left c.loop-left.invariant.count c.loop-left.invariant.table_room
+
+pub loop-left-init : goal.loop-left-init
+loop-left-init c =
+    let xs = c.args.changes.now in
+    let text = c.args.self.now.text in
+    let bytes : string_bytes c.self.inside.buf ≡ text = ap (λ (l : Line). l.text) c.self.view_is in
+    let count : vec_len c.self.inside.starts ≡ count_by is_newline text = c.self.inside.starts.ok.0 ∙ length-line_starts c.self.inside.starts.items text (c.self.invariant.table ∙ ap line_starts bytes) in
+    let table : c.find_room_over.new.starts.items ≡ line_starts (string_bytes c.find_room_over.new.text) =
+    c.find_room_over.ensures.starts ∙ c.self.invariant.table ∙ ap line_starts (sym c.find_room_over.ensures.text) in
+    let inside = c.self.inside in
+    let same : record { text = string_bytes c.find_room_over.new.text; cursor = inside.pos; limit = inside.limit; grow = inside.can_growth } ≡ c.args.self.now =
+    ap (λ (t : List ℕ). record { text = t; cursor = inside.pos; limit = inside.limit; grow = inside.can_growth }) c.find_room_over.ensures.text ∙ c.self.view_is in
+    let none : drop (length xs) xs ≡ [] = drop_all (length xs) xs (le_refl (length xs)) in
+    record {
+      back = subst (IsBack c.args.way xs (length xs) c.args.self.now) (sym same) (IsBack-none c.args.way xs c.args.self.now c.requires);
+      len = search rules;
+      count = c.find_room_over.ensures.count ∙ count ∙ sym (ap (λ es. size_back_over Newlines (map (faced c.args.way) es) (count_by is_newline text)) none);
+      room = search rules;
+      table_room = subst (λ n. greatest_back_over Newlines (map (faced c.args.way) xs) n ≤ vec_capacity c.find_room_over.new.starts) count c.in_ok-find_room_over.ensures.table;
+      is_line = record { table = table; at_boundary = search rules; within = search rules };
+      within = omega arith;
+    }
 
 pub loop-left-preserved : goal.loop-left-preserved
 loop-left-preserved c =
@@ -55,8 +90,10 @@ loop-left-preserved c =
     record {
       back = IsBack-next c.args.way c.args.changes.now (c.loop-left.left - 1) x c.args.self.now (now d) _ (string_bytes text) (inside d) c.index-changes-left.is (back d) taken.text
           (rw (taken.cursor, c.max-self-inside.ensures, width) refl) (subst (IsCharBoundary (string_bytes text)) taken.cursor taken.boundary);
-      len = taken.len ∙ len d;
+      len = taken.len ∙ size Bytes _ _ d c.loop-left.invariant.len;
+      count = taken.count ∙ size Newlines _ _ d c.loop-left.invariant.count;
       room = omega (arith, c.loop-left.invariant.room, taken.capacity);
-      is_line = record { at_boundary = taken.boundary; within = omega (arith, c.max-self-inside.ensures, width) };
+      table_room = omega (arith, c.loop-left.invariant.table_room, taken.table_capacity);
+      is_line = record { table = taken.table; at_boundary = taken.boundary; within = omega (arith, c.max-self-inside.ensures, width) };
       within = omega arith;
     }

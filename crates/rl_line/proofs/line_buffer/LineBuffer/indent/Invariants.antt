@@ -1,11 +1,7 @@
-use Rattle.std.proofs.Common.{◌-◌, length}
 use Rattle.rl_line.specs.Indents.{indent_plan}
 use Rattle.rl_line.proofs.IndentLemmas.{LinesDone}
 use Rattle.rl_line.proofs.line_buffer.LineBuffer.indent.Given as goal
 
-abbrev pub invariant-loop-end : goal.invariant-loop-end
-invariant-loop-end g l =
-    LinesDone g.L.DeleteListener.step l.dedent l.amount (indent_plan l.fn.self l.mvt l.amount l.dedent) l.fn.self l.self l.fn.listener l.listener l.start l.behind
-
-abbrev pub decreases-loop-end : goal.decreases-loop-end
-decreases-loop-end g l = length l.self.text - l.start
+abbrev pub invariant-loop-k : goal.invariant-loop-k
+invariant-loop-k g l =
+    LinesDone g.L.DeleteListener.step l.dedent l.amount (indent_plan l.fn.self l.mvt l.amount l.dedent) l.fn.self l.self l.fn.listener l.listener l.k l.last

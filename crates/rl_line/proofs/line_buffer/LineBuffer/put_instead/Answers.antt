@@ -1,12 +1,32 @@
-use Rattle.std.proofs.Common.{rules, arith}
+use Rattle.std.proofs.Common.{rules, arith, ◌≡◌, count_by, slice_range, ap, sym, ◌∙◌}
 use Rattle.rl_base.proofs.EventLemmas.{fitting}
+use Rattle.std.specs.String.{string_bytes}
+use Rattle.rl_base.specs.Lines.{is_newline}
+use Rattle.rl_line.specs.LineStarts.{line_starts}
+use Rattle.rl_line.proofs.LineStartLemmas.{length-line_starts, newlines-slice}
 use Rattle.rl_line.proofs.line_buffer.LineBuffer.put_instead.Goals as goal
 
-pub returns-then-is_err-clause-cause : goal.returns-then-is_err-clause-cause
-returns-then-is_err-clause-cause g c = search rules
+pub returns-in_err-find_room-clause-cause : goal.returns-in_err-find_room-clause-cause
+returns-in_err-find_room-clause-cause g c = search rules
 
 pub returns-clause-taken : goal.returns-clause-taken
 returns-clause-taken g c = grind (arith, fitting)
 
 pub returns-clause-line : goal.returns-clause-line
 returns-clause-line g c = search rules
+
+pub swap_in-self-inside-requires-clause-table_room : goal.swap_in-self-inside-requires-clause-table_room
+swap_in-self-inside-requires-clause-table_room g c =
+    let gone : count_by is_newline (slice_range (string_bytes c.find_room.new.text) c.args.range.start c.args.range.end) ≡ c.newlines-2.result =
+    ap (λ t. count_by is_newline (slice_range t c.args.range.start c.args.range.end)) (c.find_room.ensures.text ∙ sym c.as_str.ensures.value) ∙ ap (count_by is_newline) (sym c.range.ensures.value) ∙ sym c.newlines-2.ensures in
+    omega (
+      arith,
+      gone,
+      newlines-slice (string_bytes c.find_room.new.text) c.args.range.start c.args.range.end,
+      length-line_starts c.self.inside.starts.items (string_bytes c.find_room.new.text) (c.self.invariant.table ∙ ap line_starts (sym c.find_room.ensures.text)),
+      c.self.inside.starts.ok.0,
+      c.newlines.ensures,
+      c.saturating_sub-lines.ensures,
+      c.in_ok-find_room.ensures.table,
+      c.find_room.ensures.count,
+    )

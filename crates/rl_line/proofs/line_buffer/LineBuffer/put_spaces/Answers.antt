@@ -1,16 +1,15 @@
-use Rattle.std.proofs.Common.{rules, ℕ, ◌≡◌, ◌≤◌, ◌+◌, ◌-◌, ◌++◌, ◌∷◌, [], List, min, length, drop, ap, sym, subst, ◌∙◌, arith, append_assoc, append-nil}
+use Rattle.std.proofs.Common.{rules, ℕ, ◌≡◌, ◌-◌, ◌++◌, ◌∷◌, [], List, min, length, ap, sym, subst, ◌∙◌, arith, append_assoc, append-nil}
 use Rattle.std.specs.List.{insert_slice}
 use Rattle.std.specs.Str.{IsCharBoundary}
 use Rattle.std.proofs.lemmas.Result.{err_from_is_err_and}
-use Rattle.std.proofs.lemmas.List.Edits.{length-between}
 use Rattle.std.proofs.lemmas.Str.{IsCharBoundary-from_ascii}
 use Rattle.rl_base.proofs.ClusterLemmas.{slice_range-front}
-use Rattle.rl_base.proofs.TextLemmas.{drop-behind, IsCharBoundary-before, IsCharBoundary-behind}
+use Rattle.rl_base.proofs.TextLemmas.{IsCharBoundary-before}
 use Rattle.rl_base.specs.Event.{InsertStr}
 use Rattle.rl_line.specs.Indents.{parts, pushed, put_spaces, spaces}
 use Rattle.rl_line.specs.Line.{Line}
 use Rattle.rl_line.specs.Plan.{Step, Taken}
-use Rattle.rl_line.proofs.IndentLemmas.{IsAscii-spaces, IsCharBoundary-pushed, length-spaces, place-behind, pushed-none, pushed-pushed, put_spaces-next, take-spaces}
+use Rattle.rl_line.proofs.IndentLemmas.{IsAscii-spaces, IsCharBoundary-pushed, length-spaces, pushed-none, pushed-pushed, put_spaces-next, take-spaces}
 use Rattle.rl_line.proofs.PlanLemmas.{Halted-after, Taken-append}
 use Rattle.rl_line.proofs.line_buffer.LineBuffer.put_spaces.Goals as goal
 
@@ -48,9 +47,6 @@ loop-left-preserved g c =
     let now : c.put_str.new.self.text ≡ insert_slice text i part = ap (λ (l : Line). l.text) new in
     let at : c.put_str.new.self.cursor ≡ c.pushed-cursor.result = ap (λ (l : Line). l.cursor) new in
     let len : length part ≡ min left 32 = ap length is ∙ length-spaces (min left 32) in
-    let stop = c.args.line.end + (c.args.amount - (left - length part)) in
-    let place : stop ≡ i + length part + (c.args.line.end + (c.args.amount - left) - i) = omega (arith, len, inv.within, c.requires.order) in
-    let behind : i ≤ c.args.line.end + (c.args.amount - left) = omega (arith, c.requires.order) in
     let rest = put_spaces (parts (left - length part)) i c.pushed-cursor.result in
     record {
       done = inv.done ++ (InsertStr i part, c.pushed-cursor.result) ∷ [];
@@ -60,41 +56,16 @@ loop-left-preserved g c =
       cursor = ap (pushed i (left - length part)) (at ∙ c.pushed-cursor.ensures ∙ ap (pushed i (length part)) c.pos.ensures.place) ∙ pushed-pushed i (length part) (left - length part) c.loop-left.self.cursor
           ∙ ap (λ (n : ℕ). pushed i n c.loop-left.self.cursor) (omega (arith, len)) ∙ inv.cursor;
       start = subst (λ (t : List ℕ). IsCharBoundary t i) (sym now) (IsCharBoundary-before text i i i part c.pos.ensures.utf8 c.range-part.utf8 inv.start inv.start inv.start (omega arith));
-      boundary = subst (λ (t : List ℕ). IsCharBoundary t stop) (sym now) (IsCharBoundary-behind text i i _ stop part c.pos.ensures.utf8 inv.start.0 inv.boundary behind place);
-      others = ap (λ (t : List ℕ). drop stop t) now ∙ drop-behind text i i _ stop part inv.start.0 behind place ∙ inv.others;
       within = omega (arith, inv.within);
     }
 
 pub returns-clause-done : goal.returns-clause-done
 returns-clause-done g c =
     let inv = c.loop-left.invariant in
-    let old = c.args.self.now.text in
-    let new = c.loop-left.self.text in
-    let stop = c.args.line.end + (c.args.amount - c.loop-left.left) in
-    let at : c.len-2.result - (c.len.result - c.args.line.end) ≡ stop = omega (arith, place-behind old new c.args.line.end stop c.requires.end.0 inv.boundary.0 inv.others, c.len.ensures.len, c.len-2.ensures.len) in
     let none : c.loop-left.left ≡ 0 = omega arith in
     let all : inv.done ++ put_spaces (parts c.loop-left.left) c.args.line.start c.loop-left.self.cursor ≡ inv.done =
     ap (λ (n : ℕ). inv.done ++ put_spaces (parts n) c.args.line.start c.loop-left.self.cursor) none ∙ append-nil inv.done in
     record {
       taken = subst (λ (ss : List Step). Taken g.L.DeleteListener.step ss c.args.self.now c.loop-left.self c.args.listener.now c.loop-left.listener) (sym (inv.steps ∙ all)) inv.taken;
       cursor = sym (pushed-none c.args.line.start c.loop-left.self.cursor) ∙ ap (λ (n : ℕ). pushed c.args.line.start n c.loop-left.self.cursor) (sym none) ∙ inv.cursor;
-      answered = omega (arith, at, none, length-between old c.args.line.start c.args.line.end c.requires.end.0, c.requires.order);
     }
-
-pub returns-clause-boundary : goal.returns-clause-boundary
-returns-clause-boundary g c =
-    let inv = c.loop-left.invariant in
-    let old = c.args.self.now.text in
-    let new = c.loop-left.self.text in
-    let stop = c.args.line.end + (c.args.amount - c.loop-left.left) in
-    let at : c.len-2.result - (c.len.result - c.args.line.end) ≡ stop = omega (arith, place-behind old new c.args.line.end stop c.requires.end.0 inv.boundary.0 inv.others, c.len.ensures.len, c.len-2.ensures.len) in
-    subst (IsCharBoundary new) (sym at) inv.boundary
-
-pub returns-clause-others : goal.returns-clause-others
-returns-clause-others g c =
-    let inv = c.loop-left.invariant in
-    let old = c.args.self.now.text in
-    let new = c.loop-left.self.text in
-    let stop = c.args.line.end + (c.args.amount - c.loop-left.left) in
-    let at : c.len-2.result - (c.len.result - c.args.line.end) ≡ stop = omega (arith, place-behind old new c.args.line.end stop c.requires.end.0 inv.boundary.0 inv.others, c.len.ensures.len, c.len-2.ensures.len) in
-    ap (λ (k : ℕ). drop k new) at ∙ inv.others

@@ -1,4 +1,4 @@
-use Rattle.std.proofs.Common.{◌≡◌, ◌≤◌, List, drop, ◌+◌, ◌-◌, ◌++◌}
+use Rattle.std.proofs.Common.{◌≡◌, ◌≤◌, List, ◌++◌}
 use Rattle.std.specs.Str.{IsCharBoundary}
 use Rattle.rl_line.specs.Indents.{parts, pushed, put_spaces}
 use Rattle.rl_line.specs.Plan.{Step, Taken}
@@ -8,15 +8,12 @@ use Rattle.rl_line.proofs.line_buffer.LineBuffer.put_spaces.Given as goal
 abbrev pub invariant-loop-left : goal.invariant-loop-left
 invariant-loop-left g l =
     let i = l.fn.line.start in
-    let stop = l.fn.line.end + (l.fn.amount - l.left) in
     record {
       done : List Step;
       taken : Taken g.L.DeleteListener.step done l.fn.self l.self l.fn.listener l.listener;
       steps : put_spaces (parts l.fn.amount) i l.fn.self.cursor ≡ done ++ put_spaces (parts l.left) i l.self.cursor;
       cursor : pushed i l.left l.self.cursor ≡ pushed i l.fn.amount l.fn.self.cursor;
       start : IsCharBoundary l.self.text i;
-      boundary : IsCharBoundary l.self.text stop;
-      others : drop stop l.self.text ≡ drop l.fn.line.end l.fn.self.text;
       within : l.left ≤ l.fn.amount;
     }
 

@@ -2,8 +2,8 @@ use Rattle.std.proofs.Common.{rules, arith}
 use Rattle.rl_base.proofs.EventLemmas.{fitting}
 use Rattle.rl_line.proofs.line_buffer.LineBuffer.put_str.Goals as goal
 
-pub returns-then-is_err-clause-cause : goal.returns-then-is_err-clause-cause
-returns-then-is_err-clause-cause g c = search rules
+pub returns-in_err-find_room-clause-cause : goal.returns-in_err-find_room-clause-cause
+returns-in_err-find_room-clause-cause g c = search rules
 
 pub returns-in_err-insert_str-clause-cause : goal.returns-in_err-insert_str-clause-cause
 returns-in_err-insert_str-clause-cause g c = search rules

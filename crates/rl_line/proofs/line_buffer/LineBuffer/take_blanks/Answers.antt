@@ -1,9 +1,9 @@
-use Rattle.std.proofs.Common.{rules, ℕ, ◌≤◌, ◌+◌, ◌-◌, List, drop, slice_range, ap, subst, sym, ◌∙◌, arith}
+use Rattle.std.proofs.Common.{rules, ◌+◌, slice_range, ap, subst, sym, ◌∙◌, arith}
 use Rattle.std.proofs.lemmas.Result.{err_from_is_err_and}
 use Rattle.std.specs.List.{remove_range}
 use Rattle.std.specs.Str.{IsCharBoundary}
 use Rattle.rl_line.specs.Line.{Line}
-use Rattle.rl_line.proofs.IndentLemmas.{line_plan-dedent, drop-behind_removal, IsCharBoundary-from_part, IsCharBoundary-pulled}
+use Rattle.rl_line.proofs.IndentLemmas.{line_plan-dedent, IsCharBoundary-from_part, IsCharBoundary-pulled}
 use Rattle.rl_line.proofs.PlanLemmas.{Completed-single, Halted-single}
 use Rattle.rl_line.proofs.line_buffer.LineBuffer.take_blanks.Goals as goal
 
@@ -38,10 +38,3 @@ returns-clause-done g c =
     let plan = line_plan-dedent c.args.self.now.text c.args.line.start c.args.line.end c.args.amount c.min.result gone.result c.args.self.now.cursor c.pulled-cursor.result c.range-text.result.now c.trim_start.result.now
     c.requires.order c.requires.end.0 (search rules) c.trim_start.ensures.trim (search rules) gone.ensures.bound gone.ensures.boundary gone.ensures.nearest (search rules) in
     Completed-single _ _ _ _ _ _ _ _ _ c.in_ok-take_out_before.ensures.taken (ap (λ (l : Line). l.cursor) c.in_ok-take_out_before.ensures.line) plan
-
-pub returns-clause-others : goal.returns-clause-others
-returns-clause-others g c =
-    let text = c.args.self.now.text in
-    let gone = c.floor_char_boundary-gone.result in
-    let within : gone ≤ c.args.line.end - c.args.line.start = omega (arith, c.floor_char_boundary-gone.ensures.bound, c.range-text.ensures.len) in
-    ap (λ (t : List ℕ). drop (c.args.line.end - gone) t) (search rules) ∙ drop-behind_removal text c.args.line.start (c.args.line.start + gone) c.args.line.end (c.args.line.end - gone) (search rules) (omega arith) (omega arith)

@@ -1,5 +1,5 @@
 use Rattle.std.proofs.Common.{rules}
 use Rattle.rl_line.proofs.line_buffer.line_motions.column_below.Goals as goal
 
-pub returns-then-start-eq0 : goal.returns-then-start-eq0
-returns-then-start-eq0 c = search rules
+pub returns-then-k-eq0 : goal.returns-then-k-eq0
+returns-then-k-eq0 c = search rules

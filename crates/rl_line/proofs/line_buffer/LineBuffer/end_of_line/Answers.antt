@@ -1,0 +1,25 @@
+use Rattle.std.proofs.Common.{sym, ◌∙◌, arith}
+use Rattle.rl_line.proofs.LineReadLemmas.{ends_at, last-in_table, EndsAt-stop}
+use Rattle.rl_line.proofs.line_buffer.LineBuffer.end_of_line.Goals as goal
+
+pub overflow_sub-result : goal.overflow_sub-result
+overflow_sub-result c =
+    let read = c.in-Some.ensures.lookup.3 in
+    let next = ends_at _ c.args.self.now.text c.args.k _ c.starts.ensures.table read.0 (read.1 0) in
+    omega (arith, next.stop)
+
+pub returns-in-Some-clause-value : goal.returns-in-Some-clause-value
+returns-in-Some-clause-value c =
+    let read = c.in-Some.ensures.lookup.3 in
+    let next = ends_at _ c.args.self.now.text c.args.k _ c.starts.ensures.table read.0 (read.1 0) in
+    omega (arith, next.stop)
+
+pub returns-in-Some-clause-boundary : goal.returns-in-Some-clause-boundary
+returns-in-Some-clause-boundary c =
+    let read = c.in-Some.ensures.lookup.3 in
+    EndsAt-stop c.args.self.now.text c.args.k _ (ends_at _ c.args.self.now.text c.args.k _ c.starts.ensures.table read.0 (read.1 0))
+
+pub returns-in-None-clause-value : goal.returns-in-None-clause-value
+returns-in-None-clause-value c =
+    let text = c.args.self.now.text in
+    c.len.ensures.len ∙ sym (last-in_table _ text c.args.k c.starts.ensures.table c.requires c.in-None.ensures.lookup.3)

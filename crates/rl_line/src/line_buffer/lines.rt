@@ -1,0 +1,118 @@
+//! The lines of a text by their numbers, from 0: where each begins and ends, read from the table of line starts.
+ghost use Rattle.std.specs.Prelude.{◌≡◌, ◌≢◌, ◌-◌, ◌≤◌, length, IfSome};
+ghost use Rattle.std.specs.Str.{IsCharBoundary, IsUtf8};
+ghost use Rattle.rl_base.specs.Lines.{last_line, line_number, start_of_line, end_of_line};
+ghost use Rattle.rl_line.specs.LineMotions.{home, line_end, line_above, line_below};
+ghost use Rattle.rl_line.specs.LineStarts.{line_starts};
+ghost use Rattle.rl_line.specs.Ranges.{behind_line};
+
+use crate::line_buffer::LineBuffer;
+use crate::line_starts::line_number;
+use rl_base::RepeatCount;
+
+impl LineBuffer {
+    // The table: where the lines begin, but for the first.
+    fn starts(&self) -> &[usize]
+        ensures table { result.now ≡ line_starts self.now.text }
+        ensures utf8 { IsUtf8 self.now.text }
+    {
+        self.starts.as_slice()
+    }
+
+    // The number of the line that a place lies in.
+    pub(super) fn line_at(&self, pos: usize) -> usize
+        requires { pos ≤ length self.now.text }
+        ensures value { result ≡ line_number self.now.text pos }
+        ensures within { result ≤ last_line self.now.text }
+    {
+        line_number(self.starts(), pos)
+    }
+
+    // The number of the last line.
+    pub(super) fn last_line(&self) -> usize
+        ensures { result ≡ last_line self.now.text }
+    {
+        self.starts().len()
+    }
+
+    // The place where a line begins.
+    pub(super) fn start_of_line(&self, k: usize) -> usize
+        requires { k ≤ last_line self.now.text }
+        ensures value { result ≡ start_of_line self.now.text k }
+        ensures boundary { IsCharBoundary self.now.text result }
+        ensures above { result ≢ 0 → IsCharBoundary self.now.text (result - 1) }
+    {
+        let starts = self.starts();
+        if k == 0 {
+            return 0;
+        }
+        starts[k - 1]
+    }
+
+    // The place where the text of a line ends, before its newline.
+    pub(super) fn end_of_line(&self, k: usize) -> usize
+        requires { k ≤ last_line self.now.text }
+        ensures value { result ≡ end_of_line self.now.text k }
+        ensures boundary { IsCharBoundary self.now.text result }
+    {
+        match self.starts().get(k) {
+            Some(next) => *next - 1,
+            None => self.len(),
+        }
+    }
+
+    // The place behind the newline of a line, or the end of the text for the last, which has none.
+    pub(super) fn behind_line(&self, k: usize) -> usize
+        requires { k ≤ last_line self.now.text }
+        ensures value { result ≡ behind_line self.now.text k }
+        ensures boundary { IsCharBoundary self.now.text result }
+    {
+        match self.starts().get(k) {
+            Some(next) => *next,
+            None => self.len(),
+        }
+    }
+
+    // The start of the cursor's line.
+    pub(super) fn home(&self) -> usize
+        ensures value { result ≡ home self.now }
+        ensures before { result ≤ self.now.cursor }
+        ensures boundary { IsCharBoundary self.now.text result }
+    {
+        self.start_of_line(self.line_at(self.pos()))
+    }
+
+    // The end of the text of the cursor's line.
+    pub(super) fn line_end(&self) -> usize
+        ensures value { result ≡ line_end self.now }
+        ensures behind { self.now.cursor ≤ result }
+        ensures boundary { IsCharBoundary self.now.text result }
+    {
+        self.end_of_line(self.line_at(self.pos()))
+    }
+
+    // The number of the `n`-th line above the cursor's, at least one, or of the first. None on the first.
+    pub(super) fn line_above(&self, n: RepeatCount) -> Option<usize>
+        ensures value { result ≡ line_above self.now.text self.now.cursor n }
+        ensures within { IfSome result (λ k. k ≤ last_line self.now.text) }
+    {
+        let k = self.line_at(self.pos());
+        if k == 0 {
+            return None;
+        }
+        Some(k.saturating_sub(usize::from(n.max(1))))
+    }
+
+    // The number of the `n`-th line below the cursor's, at least one, or of the last. None on the last.
+    pub(super) fn line_below(&self, n: RepeatCount) -> Option<usize>
+        ensures value { result ≡ line_below self.now.text self.now.cursor n }
+        ensures within { IfSome result (λ k. k ≤ last_line self.now.text) }
+    {
+        let k = self.line_at(self.pos());
+        let last = self.last_line();
+        if k == last {
+            return None;
+        }
+        Some(last.min(k.saturating_add(usize::from(n.max(1)))))
+    }
+}
