@@ -1,0 +1,10 @@
+-- Where the text of a line stands.
+use Rattle.std.specs.Prelude.{ℕ, ◌+◌, List, length, Option, slice_get}
+use Rattle.std.specs.Option.{option_map}
+use Rattle.std.specs.declared.ops.Range.{Range}
+use Rattle.rl_base.specs.Lines.{lines, start_of_line}
+use Rattle.rl_line.specs.Line.{between}
+
+-- the range of line k of a text, without its newline, if the text has that many lines
+abbrev pub range_of_line : List ℕ → ℕ → Option (Range ℕ)
+range_of_line text k = option_map (λ line. between (start_of_line text k) (start_of_line text k + length line)) (slice_get (lines text) k)
