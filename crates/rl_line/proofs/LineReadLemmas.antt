@@ -1,16 +1,21 @@
 -- What the table of line starts says of the lines of its text.
-use Rattle.std.proofs.Common.{◌≡◌, ℕ, zero, suc, ◌+◌, ◌-◌, ◌<◌, ◌≤◌, Bool, true, false, cond, List, [], ◌∷◌, ◌++◌, length, get_or, take, drop, min, All, refl, sym, ap, subst, ◌∙◌, arith, count_by, eqb, eqb-true, ne_eqb, leb, leb-true, leb-false, le-leb, le_refl, length-append, ⊎_elim}
+use Rattle.std.proofs.Common.{◌≡◌, ℕ, zero, suc, ◌+◌, ◌-◌, ◌<◌, ◌≤◌, Bool, true, false, cond, List, [], ◌∷◌, ◌++◌, length, get_or, take, drop, min, All, refl, sym, ap, subst, ◌∙◌, arith, count_by, eqb, eqb-true, ne_eqb, leb, leb-true, leb-false, le-leb, le_refl, length-append, ⊎_elim, Some, None, ap₂}
 use Rattle.std.proofs.lemmas.Bool.{cases_lt}
-use Rattle.std.proofs.lemmas.List.{take-append-drop, length-take-le, get_or_append_left, get_or-append_right}
+use Rattle.std.proofs.lemmas.List.{length-take-le, get_or_append_left, get_or-append_right}
 use Rattle.std.proofs.lemmas.List.Elements.{All-nil, All-cons, All-get_or, All-weaker}
 use Rattle.std.proofs.lemmas.Str.{IsCharBoundary-before_ascii, IsCharBoundary-after_ascii}
+use Rattle.std.proofs.lemmas.Option.{same_Some, slice_get_past, slice_get-get_or}
 use Rattle.std.specs.List.{onto_first}
+use Rattle.std.specs.Option.{option_map}
+use Rattle.std.specs.declared.ops.Range.{Range}
 use Rattle.std.specs.List.Sorted.{IsPartitionedBy, IsPartitionPoint}
 use Rattle.std.specs.Str.{IsCharBoundary, IsUtf8}
 use Rattle.rl_base.specs.Lines.{is_newline, lines, bytes_of, last_line, line_number, start_of_line, end_of_line}
-use Rattle.rl_base.proofs.LineLemmas.{count-parts, lines_some, count_of_lines, start-next, end-last}
+use Rattle.rl_base.proofs.LineLemmas.{count-parts, lines_some, count_of_lines, start-before, start-next, end-last}
+use Rattle.rl_line.specs.Line.{between}
+use Rattle.rl_line.specs.LineRanges.{range_of_line}
 use Rattle.rl_line.specs.LineStarts.{behind_newlines, line_starts}
-use Rattle.rl_line.proofs.LineStartLemmas.{behind_newlines-cons, behind_newlines-append, behind_newlines-within, length-line_starts}
+use Rattle.rl_line.proofs.LineStartLemmas.{behind_newlines-cons, behind_newlines-within, length-line_starts, parts}
 
 -- ---- the places where lines begin: the table, with the start of the text before it
 -- where lines begin, the first of which begins at `from`
@@ -99,60 +104,44 @@ module _ (text : List ℕ) (k next : ℕ) (h : EndsAt text k next) where
   EndsAt-behind = omega (arith, h.stop, h.within)
 
 -- ---- the line that a place lies in: where the table passes the place
--- the table up to a place and behind it
-record Split (starts text : List ℕ) (pos : ℕ) : Type 0 where
-  front : List ℕ
-  back : List ℕ
+module _ (starts text : List ℕ) (pos : ℕ) (e : starts ≡ line_starts text) (within : pos ≤ length text) where
+  abbrev front : List ℕ
+  front = line_starts (take pos text)
+
+  abbrev back : List ℕ
+  back = behind_newlines (pos + 1) (drop pos text)
+
   all : starts ≡ front ++ back
-  before : All (λ s. s ≤ pos) front
-  behind : All (λ s. pos < s) back
+  all = parts starts text pos (line_number text pos) e within refl
+
   count : length front ≡ line_number text pos
+  count = length-line_starts front (take pos text) refl
 
-split_at : (starts text : List ℕ) (pos : ℕ) → starts ≡ line_starts text → pos ≤ length text → Split starts text pos
-split_at starts text pos e within =
-    let len = length-take-le pos text within in
-    record {
-      front = line_starts (take pos text);
-      back = behind_newlines (1 + length (take pos text)) (drop pos text);
-      all = e ∙ ap line_starts (sym (take-append-drop pos text)) ∙ behind_newlines-append 1 (take pos text) (drop pos text);
-      before = All-weaker (λ s. (1 ≤ s) × (s < 1 + length (take pos text))) (λ s. s ≤ pos) (λ s h. omega arith) _ (behind_newlines-within 1 (take pos text));
-      behind = All-weaker (λ s. (1 + length (take pos text) ≤ s) × (s < 1 + length (take pos text) + length (drop pos text))) (λ s. pos < s) (λ s h. omega arith) _
-          (behind_newlines-within (1 + length (take pos text)) (drop pos text));
-      count = length-line_starts (line_starts (take pos text)) (take pos text) refl;
-    }
-
-module _ (starts text : List ℕ) (pos : ℕ) (h : Split starts text pos) where
-  in_front : (i d : ℕ) → i < length h.front → get_or starts i d ≤ pos
+  in_front : (i d : ℕ) → i < length front → get_or starts i d ≤ pos
   in_front i d l =
-      let at : get_or starts i d ≡ get_or h.front i d = ap (λ t. get_or t i d) h.all ∙ get_or_append_left h.front h.back d i l in
-      omega (arith, at, All-get_or (λ s. s ≤ pos) h.front i d l h.before)
+      let at : get_or starts i d ≡ get_or front i d = ap (λ t. get_or t i d) all ∙ get_or_append_left front back d i l in
+      omega (arith, at, length-take-le pos text within, All-get_or (λ s. (1 ≤ s) × (s < 1 + length (take pos text))) front i d l (behind_newlines-within 1 (take pos text)))
 
-  in_back : (i d : ℕ) → length h.front ≤ i → i < length starts → pos < get_or starts i d
+  in_back : (i d : ℕ) → length front ≤ i → i < length starts → pos < get_or starts i d
   in_back i d past l =
-      let at : get_or starts i d ≡ get_or h.back (i - length h.front) d = ap (λ t. get_or t i d) h.all ∙ get_or-append_right h.front h.back (length h.front) i d refl past in
-      omega (arith, at, All-get_or (λ s. pos < s) h.back (i - length h.front) d (omega (arith, ap length h.all, length-append h.front h.back)) h.behind)
+      let P : ℕ → Type 0 = λ s. (pos + 1 ≤ s) × (s < pos + 1 + length (drop pos text)) in
+      let at : get_or starts i d ≡ get_or back (i - length front) d = ap (λ t. get_or t i d) all ∙ get_or-append_right front back (length front) i d refl past in
+      omega (arith, at, All-get_or P back (i - length front) d (omega (arith, ap length all, length-append front back)) (behind_newlines-within (pos + 1) (drop pos text)))
 
-  parted : IsPartitionedBy (λ s. leb s pos) starts
-  parted i j d le l passes =
+  pub IsPartitionedBy-starts : IsPartitionedBy (λ s. leb s pos) starts
+  IsPartitionedBy-starts i j d le l passes =
       let low : get_or starts j d ≤ pos = leb-true _ pos passes in
-      let early : j < length h.front = ⊎_elim (λ less. less) (λ past. absurd (omega (arith, in_back j d past l))) (cases_lt j (length h.front)) in
+      let early : j < length front = ⊎_elim (λ less. less) (λ past. absurd (omega (arith, in_back j d past l))) (cases_lt j (length front)) in
       le-leb _ pos (in_front i d (omega arith))
 
-  point : (k : ℕ) → k ≤ length starts → IsPartitionPoint (λ s. leb s pos ≡ true) (λ s. leb s pos ≡ false) starts k → k ≡ line_number text pos
-  point k within at =
-      let parts : length starts ≡ length h.front + length h.back = ap length h.all ∙ length-append h.front h.back in
-      let not_less : k < length h.front → k ≡ length h.front =
+  pub number-from_table : (k : ℕ) → k ≤ length starts → IsPartitionPoint (λ s. leb s pos ≡ true) (λ s. leb s pos ≡ false) starts k → k ≡ line_number text pos
+  number-from_table k small at =
+      let sum : length starts ≡ length front + length back = ap length all ∙ length-append front back in
+      let not_less : k < length front → k ≡ length front =
       λ less. absurd (omega (arith, in_front k 0 less, leb-false _ pos (at.1 k 0 (le_refl k) (omega arith)))) in
-      let not_more : length h.front < k → k ≡ length h.front =
-      λ more. absurd (omega (arith, in_back (length h.front) 0 (le_refl _) (omega arith), leb-true _ pos (at.0 (length h.front) 0 (omega arith) more))) in
-      ⊎_elim not_less (λ a. ⊎_elim not_more (λ b. omega arith) (cases_lt (length h.front) k)) (cases_lt k (length h.front)) ∙ h.count
-
-pub IsPartitionedBy-starts : (starts text : List ℕ) (pos : ℕ) → starts ≡ line_starts text → pos ≤ length text → IsPartitionedBy (λ s. leb s pos) starts
-IsPartitionedBy-starts starts text pos e within = parted starts text pos (split_at starts text pos e within)
-
-pub number-from_table : (starts text : List ℕ) (pos k : ℕ) → starts ≡ line_starts text → pos ≤ length text → k ≤ length starts
-    → IsPartitionPoint (λ s. leb s pos ≡ true) (λ s. leb s pos ≡ false) starts k → k ≡ line_number text pos
-number-from_table starts text pos k e within small at = point starts text pos (split_at starts text pos e within) k small at
+      let not_more : length front < k → k ≡ length front =
+      λ more. absurd (omega (arith, in_back (length front) 0 (le_refl _) (omega arith), leb-true _ pos (at.0 (length front) 0 (omega arith) more))) in
+      ⊎_elim not_less (λ a. ⊎_elim not_more (λ b. omega arith) (cases_lt (length front) k)) (cases_lt k (length front)) ∙ count
 
 -- ---- whether a line follows that of a place
 pub none_below : (text : List ℕ) (pos : ℕ) → line_number text pos ≡ last_line text → eqb (count_by is_newline (drop pos text)) 0 ≡ true
@@ -160,3 +149,24 @@ none_below text pos last = let none : count_by is_newline (drop pos text) ≡ 0 
 
 pub some_below : (text : List ℕ) (pos : ℕ) → (line_number text pos ≡ last_line text → ⊥) → eqb (count_by is_newline (drop pos text)) 0 ≡ false
 some_below text pos more = ne_eqb _ 0 (λ none. more (omega (arith, count-parts text pos)))
+
+-- ---- where the text of a line stands
+pub range-past : (text : List ℕ) (k : ℕ) → last_line text < k → None ≡ range_of_line text k
+range-past text k past = sym (ap (option_map (λ line. between (start_of_line text k) (start_of_line text k + length line))) (slice_get_past (lines text) k (omega (arith, count_of_lines text))))
+
+pub range-is : (text : List ℕ) (k start stop : ℕ) → k ≤ last_line text → start ≡ start_of_line text k → stop ≡ end_of_line text k → Some (between start stop) ≡ range_of_line text k
+range-is text k start stop within e f =
+    ap₂ (λ i j. Some (between i j)) e f
+    ∙ sym (ap (option_map (λ line. between (start_of_line text k) (start_of_line text k + length line))) (slice_get-get_or (lines text) k [] (omega (arith, count_of_lines text))))
+
+-- a line that is there has a range, and the line of a place begins there or before
+pub range-some : (text : List ℕ) (k : ℕ) → k ≤ last_line text → range_of_line text k ≡ None → ⊥
+range-some text k within none =
+    let is : Some (between (start_of_line text k) (end_of_line text k)) ≡ None = range-is text k _ _ within refl refl ∙ none in
+    absurd (cc is)
+
+pub range-before : (text : List ℕ) (pos k : ℕ) (r : Range ℕ) → pos ≤ length text → k ≡ line_number text pos → range_of_line text k ≡ Some r → r.start ≤ pos
+range-before text pos k r within e some =
+    let at = range-is text k _ _ (omega (arith, e, count-parts text pos)) refl refl ∙ some in
+    let start : start_of_line text k ≡ r.start = ap (λ (x : Range ℕ). x.start) (same_Some _ _ at) in
+    omega (arith, start, ap (start_of_line text) e, start-before text pos within)

@@ -97,7 +97,7 @@ newlines-take text n = omega (arith, newlines-append (take n text) (drop n text)
 
 -- the table up to a place, and behind it
 module _ (starts text : List ℕ) (pos k : ℕ) (e : starts ≡ line_starts text) (within : pos ≤ length text) (number : k ≡ count_by is_newline (take pos text)) where
-  parts : starts ≡ line_starts (take pos text) ++ behind_newlines (pos + 1) (drop pos text)
+  pub parts : starts ≡ line_starts (take pos text) ++ behind_newlines (pos + 1) (drop pos text)
   parts =
       let place : 1 + length (take pos text) ≡ pos + 1 = omega (arith, length-take-le pos text within) in
       e ∙ ap line_starts (sym (take-append-drop pos text)) ∙ behind_newlines-append 1 (take pos text) (drop pos text)

@@ -32,7 +32,7 @@ use Rattle.rl_session.specs.Run.{Row, Leads, Run, held, held_by, held_by_edit, h
 use Rattle.rl_session.specs.State.{State, fresh}
 use Rattle.rl_session.specs.declared.pair.Pair.{Pair}
 use Rattle.rl_session.specs.declared.session.Command.{Command}
-use Rattle.rl_session.specs.declared.session.Command.TheVariants.{SetPos, Move, Copy, EditWord, Kill, Yank, YankPop, Begin, End, Undo, Redo, Truncate}
+use Rattle.rl_session.specs.declared.session.Command.TheVariants.{SetPos, Move, Copy, EditWord, Kill, Yank, YankPop, Begin, End, Undo, Redo, Truncate, LinePlace}
 use Rattle.rl_session.specs.declared.session.Fault.TheVariants.{NoMemory, BadPlace, BadYankSize, NotReplaying}
 use Rattle.rl_session.specs.declared.session.Reply.{Reply}
 use Rattle.rl_session.specs.declared.session.Reply.TheVariants as says
@@ -164,6 +164,7 @@ Heard-other old End reply new d i = absurd i
 Heard-other old (Undo n) reply new d i = absurd i
 Heard-other old Redo reply new d i = absurd i
 Heard-other old (Truncate len) reply new d i = absurd i
+Heard-other old LinePlace (says.At k columns) new d i = Heard-same old new d.1
 Heard-other old command reply new d i = absurd d
 
 -- ---- the history

@@ -38,7 +38,7 @@ use Rattle.rl_session.specs.KillRuns.{IsDirected, AllDirected, IsNoKill, AnyTook
 use Rattle.rl_session.specs.Run.{Row, Leads, Run, before_last, commands_of, replies_of}
 use Rattle.rl_session.specs.declared.pair.Pair.{Pair}
 use Rattle.rl_session.specs.declared.session.Command.{Command}
-use Rattle.rl_session.specs.declared.session.Command.TheVariants.{SetPos, Move, Yank, YankPop, EditWord, Kill, Copy, Begin, End, Undo, Redo, Truncate}
+use Rattle.rl_session.specs.declared.session.Command.TheVariants.{SetPos, Move, Yank, YankPop, EditWord, Kill, Copy, Begin, End, Undo, Redo, Truncate, LinePlace}
 use Rattle.rl_session.specs.declared.session.Fault.TheVariants.{NoMemory, BadPlace, BadYankSize, NotReplaying}
 use Rattle.rl_session.specs.declared.session.Reply.{Reply}
 use Rattle.rl_session.specs.declared.session.Reply.TheVariants as says
@@ -192,6 +192,7 @@ Others-size old Redo (says.Refused NoMemory) new s = same-size old new s.1
 Others-size old (Truncate len) says.Done new s = ap (λ (n : State). n.pair.ring.size) s.1
 Others-size old (Truncate len) (says.Refused NotReplaying) new s = same-size old new s.1
 Others-size old (Truncate len) (says.Refused NoMemory) new s = same-size old new s
+Others-size old LinePlace (says.At k columns) new s = same-size old new s.1
 Others-size _ _ _ _ s = absurd s
 
 Asked-size : (asks : Asked) (old : State) (command : Command) (reply : Reply) (new : State) → DoesAsked asks old command reply new → new.pair.ring.size ≡ old.pair.ring.size
@@ -406,6 +407,7 @@ Going-Kill start old new m says.Done more directed s none g = absurd s.does
 Going-Kill start old new m (says.Inserted a) more directed s none g = absurd s.does
 Going-Kill start old new m (says.Text t) more directed s none g = absurd s.does
 Going-Kill start old new m (says.Mark n) more directed s none g = absurd s.does
+Going-Kill start old new m (says.At k columns) more directed s none g = absurd s.does
 
 -- ---- the yank: with its slot the text is as long as at the start, so it is not too long
 Missing-length : (start : List ℕ) (now : State) (m : Missing start now) → length now.line.text + length m.slot ≡ length start
@@ -501,6 +503,7 @@ GivenBack-Yank old now new says.Done more m none s = absurd s.does
 GivenBack-Yank old now new (says.Answer a) more m none s = absurd s.does
 GivenBack-Yank old now new (says.Text t) more m none s = absurd s.does
 GivenBack-Yank old now new (says.Mark n) more m none s = absurd s.does
+GivenBack-Yank old now new (says.At k columns) more m none s = absurd s.does
 
 no_yank_took : (old new : State) (reply : Reply) → Step old (Yank 1) reply new → AnyTook (reply ∷ []) → ⊥
 no_yank_took old new (says.Answer a) s h = s.does
@@ -508,6 +511,7 @@ no_yank_took old new says.Done s h = h
 no_yank_took old new (says.Inserted a) s h = h
 no_yank_took old new (says.Text t) s h = h
 no_yank_took old new (says.Mark n) s h = h
+no_yank_took old new (says.At k columns) s h = h
 no_yank_took old new (says.Refused f) s h = h
 
 -- ---- row after row
@@ -546,6 +550,7 @@ AnyTook-append (says.Done ∷ xs) ys h = AnyTook-append xs ys h
 AnyTook-append (says.Inserted a ∷ xs) ys h = AnyTook-append xs ys h
 AnyTook-append (says.Text t ∷ xs) ys h = AnyTook-append xs ys h
 AnyTook-append (says.Mark n ∷ xs) ys h = AnyTook-append xs ys h
+AnyTook-append (says.At k columns ∷ xs) ys h = AnyTook-append xs ys h
 AnyTook-append (says.Refused f ∷ xs) ys h = AnyTook-append xs ys h
 
 -- in every session

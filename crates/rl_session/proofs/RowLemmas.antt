@@ -10,7 +10,7 @@ use Rattle.rl_line.proofs.MarkLemmas.{Kept-begun, Kept-ended, Kept-Redone, Kept-
 use Rattle.rl_line.proofs.OriginLemmas.{Kept, Kept-Undone}
 use Rattle.rl_line.proofs.RecordLemmas.{unwind-replay, replay-unwind, replay-IsUtf8, value_of}
 use Rattle.rl_session.specs.declared.session.Command.{Command}
-use Rattle.rl_session.specs.declared.session.Command.TheVariants.{SetPos, Move, Yank, YankPop, EditWord, Kill, Copy, Begin, End, Undo, Redo, Truncate}
+use Rattle.rl_session.specs.declared.session.Command.TheVariants.{SetPos, Move, Yank, YankPop, EditWord, Kill, Copy, Begin, End, Undo, Redo, Truncate, LinePlace}
 use Rattle.rl_session.specs.declared.session.Fault.TheVariants.{NoMemory, BadPlace, BadYankSize, NotReplaying}
 use Rattle.rl_session.specs.declared.session.Reply.{Reply}
 use Rattle.rl_session.specs.declared.session.Reply.TheVariants as says
@@ -82,6 +82,7 @@ Kept-Others old Redo (says.Refused NoMemory) new u f s = same_origin old new u s
 Kept-Others old (Truncate len) says.Done new u f s = changes-Kept _ old new (Kept-truncated len old.pair.changes old.line u s.0) s.1
 Kept-Others old (Truncate len) (says.Refused NotReplaying) new u f s = same_origin old new u s.1
 Kept-Others old (Truncate len) (says.Refused NoMemory) new u f s = same_origin old new u s
+Kept-Others old LinePlace (says.At k columns) new u f s = same_origin old new u s.1
 Kept-Others _ _ _ _ u f s = absurd s
 
 Kept-Asked : (asks : Asked) (old : State) (command : Command) (reply : Reply) (new : State) → IsUtf8 old.line.text → IsSome (unwind old.pair.changes.recorded old.line.text)

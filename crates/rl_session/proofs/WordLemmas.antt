@@ -5,7 +5,7 @@ use Rattle.std.proofs.lemmas.Bool.Decides.{nat_tests}
 use Rattle.rl_base.specs.declared.motion.WordAction.{WordAction}
 use Rattle.rl_session.specs.declared.session.Command.TheVariants.{SetPos, Move, Yank, Delete, Backspace, TransposeWords, EditWord, Kill, Copy, Undo, Truncate}
 use Rattle.rl_session.specs.declared.settings.Setting.TheVariants.{Limit, RingSize, Mode}
-use Rattle.rl_session.specs.Grammar.{NamesAction, Meaning, NewText, Set, Do, number_of, word, rest, SpellsChar, Numbered, SpellsRest, NumberedText, RangeText, Says, no_text, text, pos, move, ins, paste, yank, yankpop, update, str, rep, range, del, back, killline, killbuf, discline, discbuf, prevword, nextword, to, tchars, twords, cased, kill, copy, indent, dedent, begin, end, undo, redo, trunc, limit, ring, mode, Means, Same, same, pastes, updates, puts_in, replaces}
+use Rattle.rl_session.specs.Grammar.{NamesAction, Meaning, NewText, Set, Do, number_of, word, rest, SpellsChar, Numbered, SpellsRest, NumberedText, RangeText, Says, no_text, text, pos, move, ins, paste, yank, yankpop, update, str, rep, range, del, back, killline, killbuf, discline, discbuf, prevword, nextword, to, tchars, twords, cased, kill, copy, indent, dedent, begin, end, undo, redo, trunc, limit, ring, mode, Means, Same, same, pastes, updates, puts_in, replaces, line_place}
 use Rattle.rl_session.specs.Reads.{SpellsNoChar, HasNoNumber, HasNoWord, HasNoAt, HasNoSearch, HasNoMovement, NamesNoMovement, SaysNoDeletion, SaysNoCommand}
 use Rattle.rl_session.proofs.NumberLemmas.{some_same, none_holds}
 use Rattle.rl_session.proofs.PartLemmas.{Lacks}
@@ -87,6 +87,7 @@ Says-one end end = same refl
 Says-one (undo p) (undo q) = same (ap (λ x. Do (Undo x)) (some_same _ p q))
 Says-one redo redo = same refl
 Says-one (trunc p) (trunc q) = same (ap (λ x. Do (Truncate x)) (some_same _ p q))
+Says-one line_place line_place = same refl
 Says-one (limit p) (limit q) = same (ap (λ x. Set (Limit x)) (some_same _ p q))
 Says-one (ring p) (ring q) = same (ap (λ x. Set (RingSize x)) (some_same _ p q))
 Says-one (mode p) (mode q) = same (ap (λ x. Set (Mode x)) (NamesMode-one p q))

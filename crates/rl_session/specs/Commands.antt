@@ -7,13 +7,14 @@ use Rattle.std.specs.Str.{IsCharBoundary}
 use Rattle.rl_base.specs.declared.listeners.Refusal.TheVariants as why
 use Rattle.rl_base.specs.Clusters.{next_pos, prev_pos}
 use Rattle.rl_base.specs.KillRing.{reset, yank, yanked, yank_size, yank_pop, yank_popped}
+use Rattle.rl_base.specs.Lines.{line_number}
 use Rattle.rl_base.specs.Search.{find_place}
 use Rattle.rl_base.specs.Widths.{blank_layout}
 use Rattle.rl_base.specs.Words.{next_word, prev_word}
 use Rattle.rl_base.specs.declared.motion.Movement.{Movement}
 use Rattle.rl_base.specs.declared.motion.Movement.TheVariants.{BeginningOfLine, EndOfLine, BackwardWord, ForwardWord, ViCharSearch, BackwardChar, ForwardChar, LineUp, LineDown, BeginningOfBuffer, EndOfBuffer}
 use Rattle.rl_line.specs.Line.{Line}
-use Rattle.rl_line.specs.LineMotions.{home, line_end, place_above, place_below}
+use Rattle.rl_line.specs.LineMotions.{columns_before, home, line_end, place_above, place_below}
 use Rattle.rl_line.specs.Motions.{Moved, unless_there}
 use Rattle.rl_line.specs.Plan.{Plan, nothing, Done, Halted, or_no_memory_if}
 use Rattle.rl_line.specs.Edits.{insert_plan, insert_str_plan, yank_plan, yank_pop_plan, update_plan, replace_plan, delete_range_plan}
@@ -26,7 +27,7 @@ use Rattle.rl_line.specs.Undo.{Undone, Redone}
 use Rattle.rl_line.specs.Units.{adds_end, begun, ended, level, truncated}
 use Rattle.rl_session.specs.Pair.{pair_step, pair_refused}
 use Rattle.rl_session.specs.declared.session.Command.{Command}
-use Rattle.rl_session.specs.declared.session.Command.TheVariants.{SetPos, Move, Insert, Paste, Yank, YankPop, Update, InsertStr, Replace, DeleteRange, Delete, Backspace, KillLine, KillBuffer, DiscardLine, DiscardBuffer, DeletePrevWord, DeleteWord, DeleteTo, TransposeChars, TransposeWords, EditWord, Kill, Copy, Indent, Begin, End, Undo, Redo, Truncate}
+use Rattle.rl_session.specs.declared.session.Command.TheVariants.{SetPos, Move, Insert, Paste, Yank, YankPop, Update, InsertStr, Replace, DeleteRange, Delete, Backspace, KillLine, KillBuffer, DiscardLine, DiscardBuffer, DeletePrevWord, DeleteWord, DeleteTo, TransposeChars, TransposeWords, EditWord, Kill, Copy, Indent, Begin, End, Undo, Redo, Truncate, LinePlace}
 use Rattle.rl_session.specs.declared.session.Fault.TheVariants.{NoMemory, BadPlace, BadYankSize, NotReplaying}
 use Rattle.rl_session.specs.declared.session.Reply.{Reply}
 use Rattle.rl_session.specs.declared.session.Reply.TheVariants as says
@@ -51,6 +52,10 @@ destination s _ = None
 pub record Went (place : Option ℕ) (old new : State) (answer : Bool) : Type 0 where
   pub moved : Moved place old.line new.line answer
   pub others : new ≡ record old { line = new.line }
+
+-- where the cursor stands: the number of its line, from 0, and the columns from that line's start
+abbrev pub line_place : State → ℕ × ℕ
+line_place s = (line_number s.line.text s.line.cursor, columns_before (blank_layout s.mode) s.line.text s.line.cursor)
 
 -- an edit was done
 pub record Edited {A : Type 0} (plan : Plan A) (old new : State) (answer : A) : Type 0 where
@@ -203,6 +208,7 @@ Others old (Truncate len) says.Done new =
     (replays_to len old.pair.changes old.line.text ≡ true) × (new ≡ with_changes (truncated len old.pair.changes) old)
 Others old (Truncate len) (says.Refused NotReplaying) new = (replays_to len old.pair.changes old.line.text ≡ false) × (new ≡ old)
 Others old (Truncate len) (says.Refused NoMemory) new = new ≡ old
+Others old LinePlace (says.At k columns) new = ((k, columns) ≡ line_place old) × (new ≡ old)
 -- no other reply comes
 Others _ _ _ _ = ⊥
 

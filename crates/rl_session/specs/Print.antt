@@ -6,7 +6,7 @@ use Rattle.rl_session.specs.State.{State}
 use Rattle.rl_session.specs.declared.session.Fault.{Fault}
 use Rattle.rl_session.specs.declared.session.Fault.TheVariants.{NoMemory, BadPlace, BadYankSize, NotReplaying}
 use Rattle.rl_session.specs.declared.session.Reply.{Reply}
-use Rattle.rl_session.specs.declared.session.Reply.TheVariants.{Done, Answer, Inserted, Text, Mark, Refused}
+use Rattle.rl_session.specs.declared.session.Reply.TheVariants.{Done, Answer, Inserted, Text, Mark, At, Refused}
 
 -- the word for a reply
 abbrev pub reply_word : Reply → List ℕ
@@ -19,6 +19,7 @@ reply_word (Inserted None) = codes "none"
 reply_word (Text (Some _)) = codes "text:"
 reply_word (Text None) = codes "none"
 reply_word (Mark _) = codes "mark:"
+reply_word (At _ _) = codes "at:"
 reply_word (Refused _) = codes "refused:"
 
 -- the number of a fault
@@ -43,10 +44,12 @@ abbrev pub escaped : Bool → List ℕ → List ℕ
 escaped spaces [] = []
 escaped spaces (b ∷ bs) = escape spaces b ++ escaped spaces bs
 
--- what a reply hands out: a text, printed as one word, a number, or the number of its fault
+-- what a reply hands out: a text, printed as one word, a number, a line and a column with a colon between, or the number of its
+-- fault
 abbrev pub handed : Reply → List ℕ
 handed (Text (Some t)) = escaped true (string_bytes t)
 handed (Mark n) = decimal n
+handed (At k column) = decimal k ++ (58 ∷ decimal column)
 handed (Refused fault) = decimal (number_of_fault fault)
 handed _ = []
 

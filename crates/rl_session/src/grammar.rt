@@ -534,6 +534,7 @@ fn lone_command(word: &str) -> Option<Command>
         "begin" => Some(Command::Begin),
         "end" => Some(Command::End),
         "redo" => Some(Command::Redo),
+        "where" => Some(Command::LinePlace),
         _ => None,
     }
 }

@@ -30,6 +30,7 @@ fn reply_word(reply: &Reply) -> &'static str
         Reply::Text(Some(_)) => "text:",
         Reply::Text(None) => "none",
         Reply::Mark(_) => "mark:",
+        Reply::At(_, _) => "at:",
         Reply::Refused(_) => "refused:",
     }
 }
@@ -101,6 +102,11 @@ fn add_reply(out: &mut Vec<u8>, reply: &Reply) -> Result<(), AllocError>
     match reply {
         Reply::Text(Some(text)) => add_escaped(out, text.as_bytes(), true),
         Reply::Mark(n) => add_number(out, *n),
+        Reply::At(k, column) => {
+            add_number(out, *k)?;
+            out.extend_from_slice(b":")?;
+            add_number(out, usize::from(*column))
+        }
         Reply::Refused(fault) => add_number(out, number_of_fault(*fault)),
         _ => Ok(()),
     }

@@ -16,7 +16,7 @@ mod yanks;
 
 use crate::pair::Pair;
 use rl_base::{
-    At, CharSearch, GraphemeClusterMode, KillRing, Movement, NoListener, RepeatCount, Word,
+    At, CharSearch, GraphemeClusterMode, KillRing, Movement, NoListener, RepeatCount, Unit, Word,
     WordAction,
 };
 use rl_line::{Changeset, LineBuffer};
@@ -88,6 +88,8 @@ pub enum Command {
     Redo,
     /// Forgets all but so many entries of the record.
     Truncate(usize),
+    /// Asks where the cursor stands.
+    LinePlace,
 }
 
 /// Why a command was refused.
@@ -130,6 +132,8 @@ pub enum Reply {
     Text(Option<String>),
     /// How many entries the record had.
     Mark(usize),
+    /// The number of the cursor's line, from 0, and the columns from that line's start to the cursor.
+    At(usize, Unit),
     /// It was refused.
     Refused(Fault),
 }
@@ -275,6 +279,7 @@ impl Session {
             Command::Undo(n) => self.undo(*n),
             Command::Redo => self.redo(),
             Command::Truncate(len) => self.truncate(*len),
+            Command::LinePlace => self.line_place(),
         }
     }
 

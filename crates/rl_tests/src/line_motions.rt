@@ -1,5 +1,5 @@
-//! Motions over lines with answers from outside.
-use crate::line_buffer::line_of;
+//! Motions over lines, and their numbers, with answers from outside.
+use crate::line_buffer::{holds, line_of};
 use rl_base::{GraphemeClusterMode, Layout, RepeatCount, Unit};
 use rl_line::LineBuffer;
 use std::alloc::Global;
@@ -167,4 +167,43 @@ fn columns_are_widths(rt: HostRuntime) -> Result<(), Fail> {
         ),
     ];
     go_all(&rt, rt.alloc(), ROWS)
+}
+
+// The cursor's line has that number, the lines stand there, and there are no more.
+fn numbers(
+    rt: &impl Abort,
+    alloc: Global,
+    text: &str,
+    pos: usize,
+    number: usize,
+    ranges: &[(usize, usize)],
+) -> Result<(), Fail> {
+    let line = line_of(rt, alloc, text, pos)?;
+    holds(rt, line.line_number() == number, "the line", text, pos);
+    let count = line.line_count();
+    holds(rt, count == ranges.len(), "the count of lines", text, pos);
+    for (i, (start, end)) in ranges.iter().enumerate() {
+        let stands = line.line_range(i) == Some(*start..*end);
+        holds(rt, stands, "the range of a line", text, i);
+    }
+    for i in [count, usize::MAX] {
+        let none = line.line_range(i).is_none();
+        holds(rt, none, "no line behind the last", text, i);
+    }
+    Ok(())
+}
+
+#[test]
+fn lines_are_numbered(rt: HostRuntime) -> Result<(), Fail> {
+    const ROWS: &[(&str, usize, usize, &[(usize, usize)])] = &[
+        ("\u{3b1}\u{df}\n\u{3b3}", 7, 1, &[(0, 4), (5, 7)]),
+        ("\u{3b1}\u{df}\n\u{3b3}", 4, 0, &[(0, 4), (5, 7)]),
+        ("a\n", 2, 1, &[(0, 1), (2, 2)]),
+        ("", 0, 0, &[(0, 0)]),
+        ("\n\n", 1, 1, &[(0, 0), (1, 1), (2, 2)]),
+    ];
+    for (text, pos, number, ranges) in ROWS {
+        numbers(&rt, rt.alloc(), text, *pos, *number, ranges)?;
+    }
+    Ok(())
 }

@@ -168,6 +168,11 @@ fn kills_come_back(rt: HostRuntime) -> Result<(), Fail> {
             b"ok 7 one two\ntrue 4 one \nok 4 one \ntrue 0 \ntrue 4 one \ntrue 3 two\ntrue 4 one \n",
         ),
         (
+            "a question where the cursor stands parts them too",
+            b"text one two\nkill bword 1 emacs\nwhere\nkill bword 1 emacs\nyank 1\nyankpop\n",
+            b"ok 7 one two\ntrue 4 one \nat:0:4 4 one \ntrue 0 \ntrue 4 one \ntrue 3 two\n",
+        ),
+        (
             "a yank that is too long puts nothing in and resets the ring",
             b"limit 3\ntext abc\nkill home\nyank 2\nyankpop\nyank 1\nyankpop\n",
             b"ok 0 \nok 3 abc\ntrue 0 \nnone 0 \nnone 0 \ntrue 3 abc\ntrue 3 abc\n",
@@ -228,6 +233,11 @@ fn settings_are_for_the_next_text(rt: HostRuntime) -> Result<(), Fail> {
             "columns are counted by clusters",
             b"mode unicode\ntext \\u{1f44b}\\u{1f3ff}\\nabcdef\npos 8\nmove down 1\n",
             b"ok 0 \nok 15 \xf0\x9f\x91\x8b\xf0\x9f\x8f\xbf\\nabcdef\nok 8 \xf0\x9f\x91\x8b\xf0\x9f\x8f\xbf\\nabcdef\ntrue 11 \xf0\x9f\x91\x8b\xf0\x9f\x8f\xbf\\nabcdef\n",
+        ),
+        (
+            "and the cursor's column by the mode of its text",
+            b"mode wcwidth\ntext \\u{1f44b}\\u{1f3ff}\nwhere\nmode unicode\nwhere\ntext \\u{1f44b}\\u{1f3ff}\nwhere\n",
+            b"ok 0 \nok 8 \xf0\x9f\x91\x8b\xf0\x9f\x8f\xbf\nat:0:4 8 \xf0\x9f\x91\x8b\xf0\x9f\x8f\xbf\nok 8 \xf0\x9f\x91\x8b\xf0\x9f\x8f\xbf\nat:0:4 8 \xf0\x9f\x91\x8b\xf0\x9f\x8f\xbf\nok 8 \xf0\x9f\x91\x8b\xf0\x9f\x8f\xbf\nat:0:2 8 \xf0\x9f\x91\x8b\xf0\x9f\x8f\xbf\n",
         ),
         (
             "or by characters",
@@ -346,6 +356,11 @@ fn texts_and_places_are_commanded(rt: HostRuntime) -> Result<(), Fail> {
             b"ok 9  / \xce\xb4elta\nok 8  / \xce\xb4elta\nfalse 9  / \xce\xb4elta\n",
         ),
         (
+            "where the cursor stands: its line, and the column from the start of that line",
+            b"text \xce\xb1\xc3\x9f\\n\xce\xb3\nwhere\npos 0\nwhere\nkillbuf\nwhere\n",
+            b"ok 7 \xce\xb1\xc3\x9f\\n\xce\xb3\nat:1:1 7 \xce\xb1\xc3\x9f\\n\xce\xb3\nok 0 \xce\xb1\xc3\x9f\\n\xce\xb3\nat:0:0 0 \xce\xb1\xc3\x9f\\n\xce\xb3\ntrue 0 \nat:0:0 0 \n",
+        ),
+        (
             "up to the first print place, which may be the cursor's",
             b"text  ab\npos 1\ncopy first\ntext ab\ncopy first\ntext a\ncopy first\n",
             b"ok 3  ab\nok 1  ab\ntext: 1  ab\nok 2 ab\ntext:b 2 ab\nok 1 a\nnone 1 a\n",
@@ -369,8 +384,8 @@ fn every_word_does_something(rt: HostRuntime) -> Result<(), Fail> {
         ),
         (
             "and the others",
-            b"text one two\ntwords 1\ntchars\nkill bword 1 emacs\nyank 1\nyankpop\ncopy bword 1 emacs\nstr 0 ab\\n\nindent 2 buf\ndedent 1 line\nrep 0 4 cd\\ne\nrange 5 6\ndel 1\npos 3\nkillline\nkillbuf\ndiscline\ndiscbuf\n",
-            b"ok 7 one two\ntrue 7 two one\ntrue 7 two oen\ntrue 4 two \ntrue 7 two oen\ntrue 7 two oen\ntext:oen 7 two oen\nfalse 7 ab\\ntwo oen\ntrue 11   ab\\n  two oen\ntrue 10   ab\\n two oen\nok 4 cd\\ne\\n two oen\nok 5 cd\\ne\\ntwo oen\ntext:t 5 cd\\ne\\nwo oen\nok 3 cd\\ne\\nwo oen\ntrue 3 cd\\n\\nwo oen\ntrue 3 cd\\n\ntrue 2 cd\ntrue 0 \n",
+            b"text one two\ntwords 1\ntchars\nkill bword 1 emacs\nyank 1\nyankpop\ncopy bword 1 emacs\nstr 0 ab\\n\nindent 2 buf\ndedent 1 line\nrep 0 4 cd\\ne\nwhere\nrange 5 6\ndel 1\npos 3\nkillline\nkillbuf\ndiscline\ndiscbuf\n",
+            b"ok 7 one two\ntrue 7 two one\ntrue 7 two oen\ntrue 4 two \ntrue 7 two oen\ntrue 7 two oen\ntext:oen 7 two oen\nfalse 7 ab\\ntwo oen\ntrue 11   ab\\n  two oen\ntrue 10   ab\\n two oen\nok 4 cd\\ne\\n two oen\nat:1:1 4 cd\\ne\\n two oen\nok 5 cd\\ne\\ntwo oen\ntext:t 5 cd\\ne\\nwo oen\nok 3 cd\\ne\\nwo oen\ntrue 3 cd\\n\\nwo oen\ntrue 3 cd\\n\ntrue 2 cd\ntrue 0 \n",
         ),
     ];
     print_all(&rt, rt.alloc(), ROWS)
@@ -391,6 +406,22 @@ fn a_script_is_longer_than_a_block(rt: HostRuntime) -> Result<(), Fail> {
         &rt,
         printed.as_slice() == wanted.as_bytes(),
         "a long script prints all that it should",
+    );
+    Ok(())
+}
+
+// A width is cut at 65535.
+#[test]
+fn a_column_is_cut(rt: HostRuntime) -> Result<(), Fail> {
+    let alloc = rt.alloc();
+    let letters = "a".repeat(alloc, 70_000)?;
+    let script = format!(in alloc; "text {letters}\nwhere\n")?;
+    let wanted = format!(in alloc; "ok 70000 {letters}\nat:0:65535 70000 {letters}\n")?;
+    let printed = printed_by(alloc, script.as_bytes())?;
+    is_so(
+        &rt,
+        printed.as_slice() == wanted.as_bytes(),
+        "the column of a long line",
     );
     Ok(())
 }
@@ -475,7 +506,7 @@ fn malformed_lines_print_bad(rt: HostRuntime) -> Result<(), Fail> {
         ),
         (
             "words with more than they want",
-            b"yankpop 1\nkillline 1\ndiscbuf \nbegin 1\nend \nredo 1\nrange 0 1 2\nrange 0 1 \nnextword 1 after vi ",
+            b"yankpop 1\nkillline 1\ndiscbuf \nbegin 1\nend \nredo 1\nrange 0 1 2\nrange 0 1 \nnextword 1 after vi \nwhere \nwhere 1",
         ),
         (
             "arguments of another kind",

@@ -62,7 +62,7 @@ impl LineBuffer {
         ensures boundary { IfSome result (IsCharBoundary self.now.text) }
     {
         let target = self.line_below(n)?;
-        let k = self.line_at(self.pos());
+        let k = self.line_number();
         let column = column_below(layout, k, self.columns_before(layout));
         Some(self.place_in_line(target, column))
     }

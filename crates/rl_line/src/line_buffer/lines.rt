@@ -1,16 +1,47 @@
 //! The lines of a text by their numbers, from 0: where each begins and ends, read from the table of line starts.
-ghost use Rattle.std.specs.Prelude.{◌≡◌, ◌≢◌, ◌-◌, ◌≤◌, length, IfSome};
+ghost use Rattle.std.specs.Prelude.{◌≡◌, ◌≢◌, ◌-◌, ◌<◌, ◌≤◌, length, slice_range, IfSome};
 ghost use Rattle.std.specs.Str.{IsCharBoundary, IsUtf8};
-ghost use Rattle.rl_base.specs.Lines.{last_line, line_number, start_of_line, end_of_line};
+ghost use Rattle.rl_base.specs.Lines.{last_line, line_number, lines, start_of_line, end_of_line, text_of_line};
 ghost use Rattle.rl_line.specs.LineMotions.{home, line_end, line_above, line_below};
 ghost use Rattle.rl_line.specs.LineStarts.{line_starts};
 ghost use Rattle.rl_line.specs.Ranges.{behind_line};
+ghost use Rattle.rl_line.specs.LineRanges.{range_of_line};
 
 use crate::line_buffer::LineBuffer;
 use crate::line_starts::line_number;
 use rl_base::RepeatCount;
+use std::ops::Range;
 
 impl LineBuffer {
+    /// The number of the cursor's line, from 0. It is looked up in the table of line starts by binary search.
+    pub fn line_number(&self) -> usize
+        ensures value { result ≡ line_number self.now.text self.now.cursor }
+        ensures within { result ≤ last_line self.now.text }
+    {
+        self.line_at(self.pos())
+    }
+
+    /// How many lines the text has, at least one. A newline at its end has an empty line behind it.
+    pub fn line_count(&self) -> usize
+        ensures count { result ≡ length (lines self.now.text) }
+        ensures some { 0 < result }
+    {
+        self.starts().len() + 1
+    }
+
+    /// Where the text of line `i` stands, from 0, in bytes: without its newline. None where there are not so many lines.
+    pub fn line_range(&self, i: usize) -> Option<Range<usize>>
+        ensures value { result ≡ range_of_line self.now.text i }
+        ensures text { IfSome result (λ r. slice_range self.now.text r.start r.end ≡ text_of_line self.now.text i) }
+        ensures order { IfSome result (λ r. r.start ≤ r.end) }
+        ensures boundaries { IfSome result (λ r. IsCharBoundary self.now.text r.start × IsCharBoundary self.now.text r.end) }
+    {
+        if i > self.last_line() {
+            return None;
+        }
+        Some(self.start_of_line(i)..self.end_of_line(i))
+    }
+
     // The table: where the lines begin, but for the first.
     fn starts(&self) -> &[usize]
         ensures table { result.now ≡ line_starts self.now.text }
@@ -96,7 +127,7 @@ impl LineBuffer {
         ensures value { result ≡ line_above self.now.text self.now.cursor n }
         ensures within { IfSome result (λ k. k ≤ last_line self.now.text) }
     {
-        let k = self.line_at(self.pos());
+        let k = self.line_number();
         if k == 0 {
             return None;
         }
@@ -108,7 +139,7 @@ impl LineBuffer {
         ensures value { result ≡ line_below self.now.text self.now.cursor n }
         ensures within { IfSome result (λ k. k ≤ last_line self.now.text) }
     {
-        let k = self.line_at(self.pos());
+        let k = self.line_number();
         let last = self.last_line();
         if k == last {
             return None;

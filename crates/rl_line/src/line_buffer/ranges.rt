@@ -107,7 +107,7 @@ impl LineBuffer {
         ensures start { IfSome result (λ r. IsCharBoundary self.now.text r.start) }
         ensures end { IfSome result (λ r. IsCharBoundary self.now.text r.end) }
     {
-        let k = self.line_at(self.pos());
+        let k = self.line_number();
         self.unless_empty(self.end_of_line(k), self.behind_line(k))
     }
 
@@ -118,7 +118,7 @@ impl LineBuffer {
         ensures start { IfSome result (λ r. IsCharBoundary self.now.text r.start) }
         ensures end { IfSome result (λ r. IsCharBoundary self.now.text r.end) }
     {
-        let k = self.line_at(self.pos());
+        let k = self.line_number();
         if k == 0 {
             return None;
         }
@@ -133,7 +133,7 @@ impl LineBuffer {
         ensures start { IfSome result (λ r. IsCharBoundary self.now.text r.start) }
         ensures end { IfSome result (λ r. IsCharBoundary self.now.text r.end) }
     {
-        let k = self.line_at(self.pos());
+        let k = self.line_number();
         let last = self.last_line();
         if k == last {
             return None;

@@ -1,4 +1,4 @@
-//! Motions, and copying by one.
+//! Motions, copying by one, and where the cursor stands.
 ghost use Rattle.rl_session.specs.Commands.{Does};
 ghost use Rattle.rl_session.specs.declared.session.Command.{Command};
 
@@ -43,5 +43,19 @@ impl Session {
         ensures { Does self.now (Command.Copy movement.now) result self.now }
     {
         handed_out(self.line.copy(movement))
+    }
+
+    pub(super) fn line_place(&self) -> Reply
+        ensures { Does self.now Command.LinePlace result self.now }
+    {
+        let line = &self.line;
+        let k = line.line_number();
+        match line.line_range(k) {
+            Some(range) => {
+                let before = &line.as_str()[range.start..line.pos()];
+                Reply::At(k, self.mode.width(before))
+            }
+            None => unreachable!(),
+        }
     }
 }

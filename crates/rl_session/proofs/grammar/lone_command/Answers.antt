@@ -1,4 +1,4 @@
-use Rattle.rl_session.specs.Grammar.{yankpop, killline, killbuf, discline, discbuf, tchars, begin, end, redo}
+use Rattle.rl_session.specs.Grammar.{yankpop, killline, killbuf, discline, discbuf, tchars, begin, end, redo, line_place}
 use Rattle.rl_session.proofs.grammar.lone_command.Goals as goal
 
 pub returns-in-yankpop : goal.returns-in-yankpop
@@ -27,3 +27,6 @@ returns-in-end c = rw c.in-end.is end
 
 pub returns-in-redo : goal.returns-in-redo
 returns-in-redo c = rw c.in-redo.is redo
+
+pub returns-in-where : goal.returns-in-where
+returns-in-where c = rw c.in-where.is line_place
