@@ -11,3 +11,4 @@ pub mod Event
 pub mod KillRing
 pub mod KillGroups
 pub mod RingLends
+pub mod RefuseAt

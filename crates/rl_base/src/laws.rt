@@ -1,4 +1,4 @@
-//! Laws that hold of the definitions alone.
+//! Laws that hold of the definitions alone, and a listener for tests of what stands on a line.
 ghost use Rattle.std.specs.Prelude.{◌≡◌, ℕ, ◌<◌, ◌↔◌, false, List, ◌∷◌, ◌++◌, None, take, slice_get};
 ghost use Rattle.std.specs.Char.{is_whitespace};
 ghost use Rattle.std.specs.Str.{trim_start, trim_end};
@@ -11,6 +11,10 @@ ghost use Rattle.rl_base.specs.KillRing.{new_ring, yank};
 ghost use Rattle.rl_base.specs.KillGroups.{Doing, Kills, ring_done, group_done, no_groups, groups_of, newest_first, AllKills, all_joined};
 ghost use Rattle.rl_base.specs.Blanks.{without_leading_blanks, without_trailing_blanks};
 ghost use Rattle.rl_base.specs.Widths.{by_row};
+
+mod refuse_at;
+
+pub use refuse_at::{RefuseAt, TextEvent};
 
 /// The order of positions is total, goes by row and within a row by column, and two positions are equal in
 /// it exactly where both numbers are.

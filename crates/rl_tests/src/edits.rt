@@ -1,6 +1,7 @@
 //! Edits that put texts in, with answers that were worked out by hand.
-use crate::heard::{AHEAD, Heard, Told};
 use crate::line_buffer::{holds, leaves, line_within};
+use crate::told::{AHEAD, Told, is_told};
+use rl_base::laws::RefuseAt;
 use rl_base::{ChangeListener, Refusal, RepeatCount};
 use rl_line::LineBuffer;
 use std::alloc::Global;
@@ -61,7 +62,7 @@ fn make(
     rt: &impl Abort,
     line: &mut LineBuffer,
     call: Call,
-    heard: &mut Heard,
+    heard: &mut RefuseAt,
 ) -> Result<Option<bool>, Refusal> {
     match call {
         Call::Yank(text, n) => line.yank(text, n, heard),
@@ -93,10 +94,10 @@ fn comes_in(
 ) -> Result<(), Fail> {
     let mut line = line_within(rt, alloc, limit, grows, text, pos)?;
     let (count, last) = changes;
-    let mut heard = Heard::new(count);
+    let mut heard = RefuseAt::new(alloc, count);
     let answered = make(rt, &mut line, call, &mut heard)?;
     holds(rt, answered == answer, "the answer", text, pos);
-    let told = heard.left == 0 && heard.is_told(last, text, after);
+    let told = heard.left == 0 && (count == 0 || is_told(&heard, last));
     holds(rt, told, "the changes", text, pos);
     leaves(rt, &line, text, pos, after, cursor);
     let room = limit.max(line.len());

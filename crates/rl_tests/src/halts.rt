@@ -1,7 +1,8 @@
 //! Edits that their listener refuses halfway, and what they leave.
 use crate::edits::{replace, update, yank_pop};
-use crate::heard::{AHEAD, Heard, Told};
 use crate::line_buffer::{leaves, line_of};
+use crate::told::{AHEAD, Told, is_told};
+use rl_base::laws::RefuseAt;
 use rl_base::{Movement, Refusal, RepeatCount, Word, WordAction};
 use rl_line::LineBuffer;
 use std::alloc::Global;
@@ -28,20 +29,25 @@ enum Edit {
 }
 
 // Takes the whole text out.
-fn delete_range(rt: &impl Abort, line: &mut LineBuffer, heard: &mut Heard) -> Option<Refusal> {
+fn delete_range(rt: &impl Abort, line: &mut LineBuffer, heard: &mut RefuseAt) -> Option<Refusal> {
     let end = line.len();
     assert!(rt; line.as_str().is_char_boundary(0) && line.as_str().is_char_boundary(end));
     line.delete_range(0..end, heard).err()
 }
 
 // Puts "cd" in at the cursor, which stays.
-fn insert_str(line: &mut LineBuffer, heard: &mut Heard) -> Option<Refusal> {
+fn insert_str(line: &mut LineBuffer, heard: &mut RefuseAt) -> Option<Refusal> {
     let at = line.pos();
     line.insert_str(at, "cd", heard).err()
 }
 
 // Makes the edit, from the start of the text where it takes a place. That answers why it was refused, if it was.
-fn make(rt: &impl Abort, line: &mut LineBuffer, edit: &Edit, heard: &mut Heard) -> Option<Refusal> {
+fn make(
+    rt: &impl Abort,
+    line: &mut LineBuffer,
+    edit: &Edit,
+    heard: &mut RefuseAt,
+) -> Option<Refusal> {
     match edit {
         Edit::Insert(c, n) => line.insert(*c, *n, heard).err(),
         Edit::Yank(text) => line.yank(text, 1, heard).err(),
@@ -83,9 +89,9 @@ fn halts_after(
     refused: bool,
     after: &str,
     cursor: usize,
-) -> Result<Heard, Fail> {
+) -> Result<RefuseAt, Fail> {
     let mut line = line_of(rt, alloc, text, pos)?;
-    let mut heard = Heard::new(allowed);
+    let mut heard = RefuseAt::new(alloc, allowed);
     let refusal = make(rt, &mut line, edit, &mut heard);
     let wanted = if refused {
         Some(Refusal::Listener)
@@ -118,7 +124,7 @@ fn halts(
         let allowed = taken.saturating_add(1);
         let refused = allowed < steps.len();
         let heard = halts_after(rt, alloc, text, pos, edit, allowed, refused, after, *cursor)?;
-        is_so(rt, heard.is_told(*told, before, after), text, pos, allowed);
+        is_so(rt, is_told(&heard, *told), text, pos, allowed);
         before = *after;
     }
     Ok(())

@@ -1,8 +1,9 @@
 //! Indents and dedents with answers that were worked out by hand.
-use crate::heard::{AHEAD, Heard};
 use crate::line_buffer::{holds, leaves, line_of};
 use crate::script::{Lines, print_each};
+use crate::told::{AHEAD, is_told};
 use rl_base::Movement;
+use rl_base::laws::RefuseAt;
 use std::alloc::Global;
 use std::process::Abort;
 use std::test::Fail;
@@ -46,8 +47,8 @@ fn lines_are_indented(rt: HostRuntime) -> Result<(), Fail> {
     print_each(&rt, rt.alloc(), ROWS)
 }
 
-// Dedents lines by so many deletions and nothing else, the last of that length at that place. That leaves that text
-// and cursor.
+// Dedents lines by so many changes, the last of them the deletion of that text at that place. That leaves that text and
+// cursor.
 fn dedents(
     rt: &impl Abort,
     alloc: Global,
@@ -55,35 +56,33 @@ fn dedents(
     pos: usize,
     mvt: &Movement,
     amount: u8,
-    deletions: u16,
+    deletions: usize,
     place: usize,
-    len: usize,
+    gone: &'static str,
     after: &str,
     cursor: usize,
 ) -> Result<(), Fail> {
     let mut line = line_of(rt, alloc, text, pos)?;
-    let mut heard = Heard::new(usize::from(deletions));
+    let mut heard = RefuseAt::new(alloc, deletions);
     let answer = line.indent(mvt, amount, true, &mut heard)?;
     holds(rt, answer, "the answer", text, pos);
-    let all = heard.left == 0 && heard.deletions == deletions;
-    holds(rt, all, "the deletions", text, pos);
-    let last = heard.place == place && heard.len == len;
+    holds(rt, heard.left == 0, "the changes", text, pos);
+    let last = is_told(&heard, (place, gone, AHEAD));
     holds(rt, last, "the last deletion", text, pos);
-    holds(rt, heard.side == AHEAD, "its side", text, pos);
     leaves(rt, &line, text, pos, after, cursor);
     Ok(())
 }
 
-// A text, the cursor, a movement and an amount, the deletions that this takes, the place and the length of the last
+// A text, the cursor, a movement and an amount, the deletions that this takes, the place and the text of the last
 // one, and the text and the cursor after it.
 type Dedented = (
     &'static str,
     usize,
     Movement,
     u8,
-    u16,
     usize,
     usize,
+    &'static str,
     &'static str,
     usize,
 );
@@ -92,7 +91,7 @@ type Dedented = (
 fn lines_are_dedented(rt: HostRuntime) -> Result<(), Fail> {
     const ALL: Movement = Movement::WholeBuffer;
     const ROWS: &[Dedented] = &[
-        ("  a\n\tb", 1, ALL, 4, 2, 2, 1, "a\nb", 0),
+        ("  a\n\tb", 1, ALL, 4, 2, 2, "\t", "a\nb", 0),
         (
             "\u{3000}x",
             0,
@@ -100,21 +99,21 @@ fn lines_are_dedented(rt: HostRuntime) -> Result<(), Fail> {
             2,
             1,
             0,
-            0,
+            "",
             "\u{3000}x",
             0,
         ),
-        ("\u{3000}x", 4, ALL, 3, 1, 0, 3, "x", 1),
-        (" \u{3000}x", 4, ALL, 2, 1, 0, 1, "\u{3000}x", 3),
-        ("   a", 2, ALL, 2, 1, 0, 2, " a", 0),
-        ("   a", 3, ALL, 2, 1, 0, 2, " a", 1),
-        ("a\n  b", 1, ALL, 1, 2, 2, 1, "a\n b", 1),
-        ("a\n  b", 2, ALL, 9, 2, 2, 2, "a\nb", 2),
-        ("  ", 1, ALL, 9, 1, 0, 2, "", 0),
-        (" a", 2, ALL, 0, 1, 0, 0, " a", 2),
-        ("", 0, ALL, 9, 1, 0, 0, "", 0),
+        ("\u{3000}x", 4, ALL, 3, 1, 0, "\u{3000}", "x", 1),
+        (" \u{3000}x", 4, ALL, 2, 1, 0, " ", "\u{3000}x", 3),
+        ("   a", 2, ALL, 2, 1, 0, "  ", " a", 0),
+        ("   a", 3, ALL, 2, 1, 0, "  ", " a", 1),
+        ("a\n  b", 1, ALL, 1, 2, 2, " ", "a\n b", 1),
+        ("a\n  b", 2, ALL, 9, 2, 2, "  ", "a\nb", 2),
+        ("  ", 1, ALL, 9, 1, 0, "  ", "", 0),
+        (" a", 2, ALL, 0, 1, 0, "", " a", 2),
+        ("", 0, ALL, 9, 1, 0, "", "", 0),
     ];
-    for (text, pos, mvt, amount, deletions, place, len, after, cursor) in ROWS {
+    for (text, pos, mvt, amount, deletions, place, gone, after, cursor) in ROWS {
         dedents(
             &rt,
             rt.alloc(),
@@ -124,7 +123,7 @@ fn lines_are_dedented(rt: HostRuntime) -> Result<(), Fail> {
             *amount,
             *deletions,
             *place,
-            *len,
+            gone,
             after,
             *cursor,
         )?;

@@ -1,8 +1,9 @@
 //! Copies, deletions and kills with answers that were worked out by hand.
-use crate::heard::Heard;
 use crate::line_buffer::{holds, leaves, line_of};
 use crate::script::{Lines, print_each};
+use crate::told::is_told;
 use rl_base::CharSearch::{Backward, BackwardAfter, Forward, ForwardBefore};
+use rl_base::laws::{RefuseAt, TextEvent};
 use rl_base::{At, CharSearch, Direction, Movement, NoListener, Refusal, RepeatCount, Word};
 use rl_line::LineBuffer;
 use std::alloc::Global;
@@ -23,7 +24,7 @@ enum Call {
     Kill(Movement),
 }
 
-fn make(line: &mut LineBuffer, call: &Call, heard: &mut Heard) -> Result<bool, Refusal> {
+fn make(line: &mut LineBuffer, call: &Call, heard: &mut RefuseAt) -> Result<bool, Refusal> {
     match call {
         Call::Backspace(n) => line.backspace(*n, heard),
         Call::KillLine => line.kill_line(heard),
@@ -50,27 +51,25 @@ fn deletes(
     gone: Gone,
 ) -> Result<(), Fail> {
     let mut line = line_of(rt, alloc, text, pos)?;
-    let mut heard = Heard::new(usize::from(gone.is_some()));
+    let mut heard = RefuseAt::new(alloc, usize::from(gone.is_some()));
     let answer = make(&mut line, call, &mut heard)?;
     holds(rt, answer == gone.is_some(), "the answer", text, pos);
     let told = u16::from(matches!(call, Call::Kill(_)));
     let kill = heard.starts == told && heard.stops == told;
     holds(rt, kill, "the start or stop", text, pos);
-    is_told(rt, &heard, text, pos, gone);
+    is_gone_told(rt, &heard, text, pos, gone);
     is_without(rt, &line, text, pos, gone);
     is_refused(rt, alloc, text, pos, call, answer)
 }
 
 // The listener heard of that deletion in the text, if any, and of no other.
-fn is_told(rt: &impl Abort, heard: &Heard, text: &str, pos: usize, gone: Gone) {
-    let told = u16::from(gone.is_some());
-    holds(rt, heard.deletions == told, "the deletions", text, pos);
-    holds(rt, heard.left == 0, "the changes", text, pos);
+fn is_gone_told(rt: &impl Abort, heard: &RefuseAt, text: &str, pos: usize, gone: Gone) {
+    let changes = usize::from(gone.is_some());
+    let all = heard.left == 0 && heard.seen.len() == changes;
+    holds(rt, all, "the changes", text, pos);
     if let Some((place, deleted, side)) = gone {
-        let told = heard.text_in(text);
-        holds(rt, told == Some(deleted), "the deleted text", text, pos);
-        holds(rt, heard.place == place, "its place", text, pos);
-        holds(rt, heard.side == Some(side), "its side", text, pos);
+        let told = is_told(heard, (place, deleted, Some(side)));
+        holds(rt, told, "the deletion", text, pos);
     }
 }
 
@@ -94,7 +93,7 @@ fn is_refused(
     changes: bool,
 ) -> Result<(), Fail> {
     let mut line = line_of(rt, alloc, text, pos)?;
-    let mut heard = Heard::new(0);
+    let mut heard = RefuseAt::new(alloc, 0);
     let answer = make(&mut line, call, &mut heard);
     let wanted = if changes {
         Err(Refusal::Listener)
@@ -404,18 +403,25 @@ fn may_differ(mvt: &Movement) -> bool {
     )
 }
 
+// The listener heard last that the copy was deleted.
+fn is_copy_told(heard: &RefuseAt, copy: &str) -> bool {
+    match heard.seen.last() {
+        Some(TextEvent::Delete(_, gone, _)) => gone.as_str() == copy,
+        _ => false,
+    }
+}
+
 // The listener heard that the copy was deleted, and the line is shorter by that.
 fn is_gone(
     rt: &impl Abort,
     line: &LineBuffer,
-    heard: &Heard,
+    heard: &RefuseAt,
     text: &str,
     copy: &str,
     mvt: &Movement,
     pos: usize,
 ) {
-    let told = heard.text_in(text);
-    is_so(rt, told == Some(copy), mvt, text, pos);
+    is_so(rt, is_copy_told(heard, copy), mvt, text, pos);
     let whole = line.len().checked_add(copy.len());
     is_so(rt, whole == Some(text.len()), mvt, text, pos);
 }
@@ -430,7 +436,7 @@ fn kills_its_copy(
 ) -> Result<u16, Fail> {
     let mut line = line_of(rt, alloc, text, pos)?;
     let copy = line.copy(mvt)?;
-    let mut heard = Heard::new(usize::MAX);
+    let mut heard = RefuseAt::new(alloc, usize::MAX);
     let killed = line.kill(mvt, &mut heard)?;
     if copy.is_some() != killed {
         is_so(rt, may_differ(mvt), mvt, text, pos);

@@ -1,14 +1,13 @@
 //! What places, widths, the ring, lines, records, sessions and scripts do, as any caller sees it. Each file is named
-//! for the module that it is of; `halts` is of edits that are refused halfway, by the listener in `heard`, and `joins`
-//! of changes that join in the record. Tests stand alone, so that no other crate is proved again for them.
+//! for the module that it is of; `halts` is of edits that are refused halfway, `told` reads what a listener heard of
+//! them, and `joins` is of changes that join in the record. Tests stand alone, so that no other crate is proved again
+//! for them.
 #![tactic(auto)]
 
 #[cfg(test)]
 mod edits;
 #[cfg(test)]
 mod halts;
-#[cfg(test)]
-mod heard;
 #[cfg(test)]
 mod indents;
 #[cfg(test)]
@@ -37,6 +36,8 @@ mod places;
 mod script;
 #[cfg(test)]
 mod session;
+#[cfg(test)]
+mod told;
 #[cfg(test)]
 mod transpositions;
 #[cfg(test)]

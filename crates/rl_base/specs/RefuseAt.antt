@@ -1,0 +1,52 @@
+-- A listener for tests, which hears so many changes of a text and refuses the next.
+use Rattle.std.specs.Prelude.{◌≡◌, ℕ, ◌+◌, ◌-◌, ◌<◌, List, [], ◌∷◌, ◌++◌, min}
+use Rattle.std.specs.String.{string_bytes}
+use Rattle.rl_base.specs.declared.laws.refuse_at.TextEvent.{TextEvent}
+use Rattle.rl_base.specs.declared.laws.refuse_at.TextEvent.TheVariants as seen_as
+use Rattle.rl_base.specs.declared.listeners.Refusal.{Refusal}
+use Rattle.rl_base.specs.declared.listeners.Refusal.TheVariants as why_of
+use Rattle.rl_base.specs.Event.{Event, InsertChar, InsertStr, Delete, Replace, Start, Stop}
+
+-- how many changes it will hear yet, those that it heard, the first one first, and how many kills started and stopped
+pub record Hearing : Type 0 where
+  pub left : ℕ
+  pub seen : List Event
+  pub starts : ℕ
+  pub stops : ℕ
+
+-- the event that a listed one stands for
+abbrev pub event_of : TextEvent → Event
+event_of (seen_as.InsertChar i c) = InsertChar i c
+event_of (seen_as.InsertStr i s) = InsertStr i (string_bytes s)
+event_of (seen_as.Delete i s side) = Delete i (string_bytes s) side
+event_of (seen_as.Replace i s t) = Replace i (string_bytes s) (string_bytes t)
+
+-- one that has heard nothing yet
+abbrev pub new_hearing : ℕ → Hearing
+new_hearing left = record { left = left; seen = []; starts = 0; stops = 0 }
+
+-- one more of a kill's starts or stops; no count goes past the greatest u16
+abbrev pub counted : ℕ → ℕ
+counted n = min (n + 1) 65535
+
+-- one that lists one change more, and will hear one less
+abbrev pub listed : Event → Hearing → Hearing
+listed event h = record h { left = h.left - 1; seen = h.seen ++ event ∷ [] }
+
+-- the listener after an event
+abbrev pub hearing_step : Hearing → Event → Hearing
+hearing_step h (InsertChar i c) = listed (InsertChar i c) h
+hearing_step h (InsertStr i s) = listed (InsertStr i s) h
+hearing_step h (Delete i s side) = listed (Delete i s side) h
+hearing_step h (Replace i s t) = listed (Replace i s t) h
+hearing_step h Start = record h { starts = counted h.starts }
+hearing_step h Stop = record h { stops = counted h.stops }
+
+-- why it refuses: of its own accord exactly where it will hear no more changes, and else for want of memory
+abbrev pub Refuses : ℕ → Refusal → Type 0
+Refuses left why_of.Listener = left ≡ 0
+Refuses left why_of.NoMemory = 0 < left
+
+-- a refusal of a change, which leaves it as it was
+abbrev pub hearing_refused : Hearing → Event → Refusal → Hearing → Type 0
+hearing_refused old _ why now = Refuses old.left why × (now ≡ old)

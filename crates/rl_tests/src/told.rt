@@ -1,0 +1,23 @@
+//! What a listener that lists the changes of a text was told last.
+use rl_base::Direction;
+use rl_base::laws::{RefuseAt, TextEvent};
+
+// A change: its place, its text, and the side of a deletion. Of a replacement it is the new text.
+pub(crate) type Told = (usize, &'static str, Option<Direction>);
+
+// The side of a deletion ahead.
+pub(crate) const AHEAD: Option<Direction> = Some(Direction::Forward);
+
+// It heard that change last. A character alone is none of these.
+pub(crate) fn is_told(heard: &RefuseAt, told: Told) -> bool {
+    let (place, text, side) = told;
+    match heard.seen.last() {
+        None | Some(TextEvent::InsertChar(_, _)) => false,
+        Some(TextEvent::InsertStr(at, new) | TextEvent::Replace(at, _, new)) => *at == place
+            && side.is_none()
+            && new.as_str() == text,
+        Some(TextEvent::Delete(at, gone, from)) => *at == place
+            && side == Some(*from)
+            && gone.as_str() == text,
+    }
+}
