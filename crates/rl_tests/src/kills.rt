@@ -38,6 +38,15 @@ fn make(line: &mut LineBuffer, call: &Call, heard: &mut RefuseAt) -> Result<bool
     }
 }
 
+// Its listener hears that a kill starts and stops.
+fn is_told_as_a_kill(call: &Call) -> bool {
+    match call {
+        Call::Kill(Movement::BackwardChar(_) | Movement::ForwardChar(_)) => false,
+        Call::Kill(_) => true,
+        _ => false,
+    }
+}
+
 // The place, the text and the side of what a call deletes, if anything.
 type Gone = Option<(usize, &'static str, Direction)>;
 
@@ -54,7 +63,7 @@ fn deletes(
     let mut heard = RefuseAt::new(alloc, usize::from(gone.is_some()));
     let answer = make(&mut line, call, &mut heard)?;
     holds(rt, answer == gone.is_some(), "the answer", text, pos);
-    let told = u16::from(matches!(call, Call::Kill(_)));
+    let told = u16::from(is_told_as_a_kill(call));
     let kill = heard.starts == told && heard.stops == told;
     holds(rt, kill, "the start or stop", text, pos);
     is_gone_told(rt, &heard, text, pos, gone);
@@ -101,13 +110,9 @@ fn is_refused(
         Ok(false)
     };
     holds(rt, answer == wanted, "a refusal", text, pos);
-    holds(
-        rt,
-        heard.starts == heard.stops,
-        "the start or stop",
-        text,
-        pos,
-    );
+    let told = u16::from(is_told_as_a_kill(call));
+    let kill = heard.starts == told && heard.stops == told;
+    holds(rt, kill, "the start or stop", text, pos);
     leaves(rt, &line, text, pos, text, pos);
     Ok(())
 }
@@ -235,6 +240,12 @@ fn deletions_to_places(rt: HostRuntime) -> Result<(), Fail> {
             Some((3, "cd", AHEAD)),
         ),
         ("ab\n", 3, Call::Kill(Movement::WholeLine), None),
+        (
+            "ab",
+            0,
+            Call::Kill(Movement::EndOfLine),
+            Some((0, "ab", AHEAD)),
+        ),
         (
             "ab\n\ncd",
             3,

@@ -142,6 +142,19 @@ fn insert_is_refused_past_the_limit(rt: HostRuntime) -> Result<(), Fail> {
 }
 
 #[test]
+fn the_greatest_count_goes_past_the_limit(rt: HostRuntime) -> Result<(), Fail> {
+    let mut line = LineBuffer::with_capacity(rt.alloc(), MAX_LINE)?;
+    let answer = line.insert('a', 65535, &mut NoListener)?;
+    is_so(&rt, answer.is_none() && line.is_empty(), "no growth", "");
+    let mut line = line.can_growth(true);
+    let answer = line.insert('a', 65535, &mut NoListener)?;
+    is_so(&rt, answer == Some(true), "the answer", "");
+    is_so(&rt, line.len() == 65535, "the length", "");
+    is_so(&rt, line.limit() == 65535, "the limit", "");
+    Ok(())
+}
+
+#[test]
 fn inserts_a_text(rt: HostRuntime) -> Result<(), Fail> {
     let mut line = LineBuffer::with_capacity(rt.alloc(), 2)?;
     let answer = line.insert_str(0, "abc", &mut NoListener)?;

@@ -304,6 +304,11 @@ fn groups_are_undone_and_done_again(rt: HostRuntime) -> Result<(), Fail> {
             b"ok 0 \ntrue 1 a\nmark:1 1 a\ntrue 2 ab\ntrue 1 a\nfalse 1 a\n",
         ),
         (
+            "an undo past an inner begin closes both groups, and what it took is lost at an end",
+            b"text\nbegin\nins 1 a\nbegin\nins 1 b\nundo 1\nredo\nundo 3\nend\nredo\n",
+            b"ok 0 \nmark:0 0 \ntrue 1 a\nmark:2 1 a\ntrue 2 ab\ntrue 1 a\ntrue 2 ab\ntrue 0 \nfalse 0 \nfalse 0 \n",
+        ),
+        (
             "entries are kept only where they lead to the text",
             b"text a\nbegin\nins 1 b\ntrunc 0\nback 1\ntrunc 0\nend\nundo 1\n",
             b"ok 1 a\nmark:0 1 a\ntrue 2 ab\nrefused:4 2 ab\ntrue 1 a\nok 1 a\nfalse 1 a\nfalse 1 a\n",

@@ -13,6 +13,8 @@ fn clusters_and_words_are_transposed(rt: HostRuntime) -> Result<(), Fail> {
         ("e\u{301}", 1, "tchars", "false 1 e\u{301}"),
         ("e\u{301}", 3, "tchars", "false 3 e\u{301}"),
         ("", 0, "tchars", "false 0 "),
+        ("a\\r\\n", 2, "tchars", "true 3 a\\n\\r"),
+        ("\\r\\n", 1, "tchars", "false 1 \\r\\n"),
         ("ßeta / δelta__", 15, "twords 1", "true 16 δelta__ / ßeta"),
         ("ßeta / δelta", 14, "twords 1", "true 14 δelta / ßeta"),
         ("ab cd", 5, "twords 1", "true 5 cd ab"),
