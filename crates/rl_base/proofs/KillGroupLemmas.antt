@@ -2,7 +2,7 @@
 use Rattle.std.proofs.Common.{◌≡◌, ℕ, ◌+◌, ◌<◌, ◌≤◌, zero, suc, Bool, true, false, List, [], ◌∷◌, ◌++◌, length, take, Option, Some, None, refl, sym, ap, subst, ◌∙◌, arith}
 use Rattle.std.specs.Prelude.{max, slice_get}
 use Rattle.rl_base.specs.declared.listeners.Direction.{Direction}
-use Rattle.rl_base.specs.Event.{Event, InsertChar, InsertStr, Delete, Replace, Start, Stop}
+use Rattle.rl_base.specs.Event.{Event, InsertChar, InsertStr, Delete, Replace, Start, Stop, Cursors}
 use Rattle.rl_base.specs.declared.kill_ring.Action.{Action}
 use Rattle.rl_base.specs.declared.kill_ring.Action.TheVariants.{Kill, Yank, Other}
 use Rattle.rl_base.specs.declared.kill_ring.Mode.{Mode}
@@ -132,6 +132,7 @@ step-holds Stop r g h = flag-holds false r g h
 step-holds (InsertChar i c) r g h = h
 step-holds (InsertStr i s) r g h = h
 step-holds (Replace i s t) r g h = h
+step-holds (Cursors b a) r g h = h
 
 do-holds : (d : Doing) (r : Ring) (g : Groups) → Holds r g → Holds (ring_do d r) (group_do d g)
 do-holds (Kills text mode) r g h = killed-holds text mode r g h
@@ -173,6 +174,7 @@ ring_step-size r Stop = refl
 ring_step-size r (InsertChar i c) = refl
 ring_step-size r (InsertStr i s) = refl
 ring_step-size r (Replace i s t) = refl
+ring_step-size r (Cursors b a) = refl
 
 pub lent-size : (o : Option (List ℕ)) (r : Ring) → (lent o r).size ≡ r.size
 lent-size None r = refl
@@ -230,6 +232,7 @@ Empty-do (Hears Stop) r h = record { size_is = h.size_is; slots_is = h.slots_is 
 Empty-do (Hears (InsertChar i c)) r h = h
 Empty-do (Hears (InsertStr i s)) r h = h
 Empty-do (Hears (Replace i s t)) r h = h
+Empty-do (Hears (Cursors b a)) r h = h
 
 Empty-done : (ds : List Doing) (r : Ring) → Empty r → Empty (ring_done ds r)
 Empty-done [] r h = h

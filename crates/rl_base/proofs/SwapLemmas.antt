@@ -7,7 +7,7 @@ use Rattle.std.specs.Prelude.{IsSome, encode_utf8}
 use Rattle.std.specs.List.{insert_slice, remove_range, replace_range}
 use Rattle.std.specs.Str.{IsCharBoundary, IsUtf8}
 use Rattle.rl_base.specs.declared.listeners.Direction.{Direction}
-use Rattle.rl_base.specs.Event.{Event, InsertChar, InsertStr, Delete, Replace, Start, Stop, apply}
+use Rattle.rl_base.specs.Event.{Event, InsertChar, InsertStr, Delete, Replace, Start, Stop, Cursors, apply}
 use Rattle.rl_base.specs.Text.{stands_at}
 use Rattle.rl_base.proofs.EventLemmas.{Deletes-from_IsSome, Inserts-from_IsSome, Replaces-from_IsSome}
 use Rattle.rl_base.proofs.TextLemmas.{fits_at-true, stands_at-true}
@@ -171,6 +171,7 @@ apply-IsUtf8 (Delete i s side) text after u h = Swaps-IsUtf8 _ _ _ _ _ (Swaps-De
 apply-IsUtf8 (Replace i s t) text after u h = Swaps-IsUtf8 _ _ _ _ _ (Swaps-Replace text after i s t u h)
 apply-IsUtf8 Start text after u h = let e : text ≡ after = cc in subst IsUtf8 e u
 apply-IsUtf8 Stop text after u h = let e : text ≡ after = cc in subst IsUtf8 e u
+apply-IsUtf8 (Cursors b a) text after u h = let e : text ≡ after = cc in subst IsUtf8 e u
 
 -- nothing gave way to nothing
 pub Swaps-nothing : (text after : List ℕ) (i : ℕ) (old new : List ℕ) → length old ≡ 0 → length new ≡ 0 → Swaps text after i old new → after ≡ text

@@ -2,7 +2,7 @@
 use Rattle.std.specs.Prelude.{ℕ, ⊤, ◌+◌, Bool, true, false, List, [], ◌∷◌, ◌++◌, take, drop, reverse}
 use Rattle.rl_base.specs.declared.kill_ring.Mode.{Mode}
 use Rattle.rl_base.specs.declared.listeners.Direction.{Direction}
-use Rattle.rl_base.specs.Event.{Event, InsertChar, InsertStr, Delete, Replace, Start, Stop}
+use Rattle.rl_base.specs.Event.{Event, InsertChar, InsertStr, Delete, Replace, Start, Stop, Cursors}
 use Rattle.rl_base.specs.KillRing.{Ring, joined, side_mode, killed, reset, yanked, ring_step}
 
 -- what is done with a ring, but for yank_pop
@@ -57,6 +57,7 @@ group_step g Stop = record g { killing = false }
 group_step g (InsertChar _ _) = g
 group_step g (InsertStr _ _) = g
 group_step g (Replace _ _ _) = g
+group_step g (Cursors _ _) = g
 
 -- the groups after one doing: a reset or a yank closes the newest
 abbrev pub group_do : Doing → Groups → Groups

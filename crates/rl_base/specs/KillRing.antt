@@ -8,7 +8,7 @@ use Rattle.rl_base.specs.declared.listeners.Direction.{Direction}
 use Rattle.rl_base.specs.declared.listeners.Direction.TheVariants.{Forward, Backward}
 use Rattle.rl_base.specs.declared.listeners.Refusal.{Refusal}
 use Rattle.rl_base.specs.declared.listeners.Refusal.TheVariants.{NoMemory}
-use Rattle.rl_base.specs.Event.{Event, InsertChar, InsertStr, Delete, Replace, Start, Stop}
+use Rattle.rl_base.specs.Event.{Event, InsertChar, InsertStr, Delete, Replace, Start, Stop, Cursors}
 
 -- the most slots there may be, the slots, the index of the current one, what was done last, and whether a kill is on
 pub record Ring : Type 0 where
@@ -143,6 +143,7 @@ ring_step r Stop = record r { killing = false }
 ring_step r (InsertChar _ _) = r
 ring_step r (InsertStr _ _) = r
 ring_step r (Replace _ _ _) = r
+ring_step r (Cursors _ _) = r
 
 -- the ring keeps an event's text: a deletion while a kill is on, where the ring has a place for texts
 abbrev pub KeepsText : Ring → Event → Type 0
@@ -152,6 +153,7 @@ KeepsText r (InsertStr _ _) = ⊥
 KeepsText r (Replace _ _ _) = ⊥
 KeepsText r Start = ⊥
 KeepsText r Stop = ⊥
+KeepsText r (Cursors _ _) = ⊥
 
 -- a refusal: for want of memory, of an event whose text the ring keeps, and the ring is as before
 abbrev pub ring_refused : Ring → Event → Refusal → Ring → Type 0

@@ -5,7 +5,7 @@ use Rattle.rl_base.specs.declared.laws.refuse_at.TextEvent.{TextEvent}
 use Rattle.rl_base.specs.declared.laws.refuse_at.TextEvent.TheVariants as seen_as
 use Rattle.rl_base.specs.declared.listeners.Refusal.{Refusal}
 use Rattle.rl_base.specs.declared.listeners.Refusal.TheVariants as why_of
-use Rattle.rl_base.specs.Event.{Event, InsertChar, InsertStr, Delete, Replace, Start, Stop}
+use Rattle.rl_base.specs.Event.{Event, InsertChar, InsertStr, Delete, Replace, Start, Stop, Cursors}
 
 -- how many changes it will hear yet, those that it heard, the first one first, and how many kills started and stopped
 pub record Hearing : Type 0 where
@@ -41,6 +41,7 @@ hearing_step h (Delete i s side) = listed (Delete i s side) h
 hearing_step h (Replace i s t) = listed (Replace i s t) h
 hearing_step h Start = record h { starts = counted h.starts }
 hearing_step h Stop = record h { stops = counted h.stops }
+hearing_step h (Cursors _ _) = h
 
 -- why it refuses: of its own accord exactly where it will hear no more changes, and else for want of memory
 abbrev pub Refuses : ℕ → Refusal → Type 0

@@ -163,6 +163,8 @@ impl DeleteListener for KillRing {
     fn stop_killing(&mut self) {
         self.killing = false;
     }
+
+    fn cursors(&mut self, _before: usize, _after: usize) {}
 }
 
 // The index of the next new slot.

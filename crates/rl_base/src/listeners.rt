@@ -3,7 +3,7 @@
 //! A listener says, as definitions over its own value, what it becomes at each event and what it may be
 //! after a refusal. Every edit is proved once, for all listeners, from these two alone.
 ghost use Rattle.std.specs.Prelude.{◌≡◌, OnOk, IfErr};
-ghost use Rattle.rl_base.specs.Event.{Event, InsertChar, InsertStr, Delete, Replace, Start, Stop};
+ghost use Rattle.rl_base.specs.Event.{Event, InsertChar, InsertStr, Delete, Replace, Start, Stop, Cursors};
 ghost use Rattle.rl_base.specs.declared.listeners.Refusal.{Refusal};
 
 use thiserror::Error;
@@ -54,6 +54,11 @@ pub trait DeleteListener {
     /// A kill ends. It can't be refused.
     fn stop_killing(&mut self)
         ensures { self.new ≡ step self.old Stop };
+
+    /// The change that was told last moves the cursor from the byte place `before` to `after`. Each change is
+    /// followed by this call, and it can't be refused.
+    fn cursors(&mut self, before: usize, after: usize)
+        ensures { self.new ≡ step self.old (Cursors before after) };
 }
 
 /// Hears every change.
@@ -90,6 +95,8 @@ impl DeleteListener for NoListener {
     }
 
     fn stop_killing(&mut self) {}
+
+    fn cursors(&mut self, _before: usize, _after: usize) {}
 }
 
 impl ChangeListener for NoListener {

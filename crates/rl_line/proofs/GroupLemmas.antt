@@ -1,7 +1,7 @@
 -- Groups: where an End stands its group stands before it, and a group without a change leaves no trace.
 use Rattle.std.proofs.Common.{◌≡◌, ℕ, ◌+◌, suc, Bool, true, false, List, [], ◌∷◌, ◌++◌, length, drop, Some, refl, sym, ap, subst, ◌∙◌, arith, append-nil, append_assoc, add-zero}
 use Rattle.std.specs.Prelude.{IsSome, zero, not, ◌||◌}
-use Rattle.rl_base.specs.Event.{Event, InsertChar, InsertStr, Delete, Replace, Start, Stop}
+use Rattle.rl_base.specs.Event.{Event, InsertChar, InsertStr, Delete, Replace, Start, Stop, Cursors}
 use Rattle.rl_line.specs.Record.{Entry, Begin, End, Inserted, Deleted, Replaced, Record, entries_after, record_step}
 use Rattle.rl_line.specs.Units.{UndoUnit, Open, Whole, close, units, together, opens, level, has_change, is_change, end_one, end_times, ends_in_begin, adds_end, begun, ended, marks, mark, IsMatched, GroupAt, InGroup, Hears, Begins, after_in_group}
 use Rattle.rl_line.proofs.RecordLemmas.{value_of}
@@ -165,6 +165,7 @@ entries_after-begin (Delete i s side) [] = refl
 entries_after-begin (Replace i s t) [] = refl
 entries_after-begin Start [] = refl
 entries_after-begin Stop [] = refl
+entries_after-begin (Cursors b a) [] = refl
 entries_after-begin event (y ∷ ys) = refl
 
 entries_after-inside : (event : Event) (xs ys : List Entry) → entries_after event (xs ++ Begin ∷ ys) ≡ xs ++ Begin ∷ entries_after event ys

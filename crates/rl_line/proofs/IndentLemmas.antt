@@ -23,10 +23,9 @@ use Rattle.rl_line.specs.Indents.{blanks, line_plan, lines_plan, spaces, parts, 
 use Rattle.rl_line.specs.Plan.{Plan, Step, after, Taken, Completed, Done, Halted, after_steps, single}
 use Rattle.rl_line.specs.Line.{Line, stepped}
 use Rattle.rl_base.proofs.EventLemmas.{Deletes-from_IsSome, Inserts-from_IsSome}
-use Rattle.rl_line.proofs.RecordLemmas.{through}
 use Rattle.rl_line.proofs.LineStartLemmas.{newlines-append}
 use Rattle.rl_line.proofs.EditLemmas.{length-repeat}
-use Rattle.rl_line.proofs.PlanLemmas.{Halted-behind, Halted-front, Taken-append, Taken-nil}
+use Rattle.rl_line.proofs.PlanLemmas.{first_step, Halted-behind, Halted-front, Taken-append, Taken-nil}
 
 -- ---- parts of at most 32
 abbrev turns : ℕ → ℕ → List ℕ
@@ -216,9 +215,9 @@ KeepsBehind-put [] i q cursor old new le inside h =
     record { count = ap last_line (sym is); rest = ap₂ drop none (sym is); within = omega (arith, ap length is) }
 KeepsBehind-put (n ∷ more) i q cursor old new le inside h =
     let at = pushed i n cursor in
-    let p = through (λ text. after (put_spaces more i at) (stepped old text at)) (apply (InsertStr i (spaces n)) old.text) new h in
-    let one : KeepsBehind old.text p.0 q (q + n) = KeepsBehind-InsertStr old.text p.0 i n q le inside p.1 in
-    let others : KeepsBehind p.0 new.text (q + n) (q + n + sum more) = KeepsBehind-put more i (q + n) at (stepped old p.0 at) new (omega arith) one.within p.2 in
+    let b = first_step (InsertStr i (spaces n), at) (put_spaces more i at) old new h in
+    let one : KeepsBehind old.text b.text q (q + n) = KeepsBehind-InsertStr old.text b.text i n q le inside b.makes in
+    let others : KeepsBehind b.text new.text (q + n) (q + n + sum more) = KeepsBehind-put more i (q + n) at (stepped old b.text at) new (omega arith) one.within b.rest in
     let all : q + sum (n ∷ more) ≡ q + n + sum more = omega (arith, sum_by-cons (λ x. x) n more) in
     record {
       count = others.count ∙ one.count;
@@ -246,11 +245,11 @@ KeepsBehind-line_plan false n part i q cursor old new is inside none h =
 KeepsBehind-line_plan true n part i q cursor old new is inside none h =
     let most = greatest_boundary part (min n (length part - length (trim_start part))) in
     let gone = blanks n part in
-    let p = through (λ text. Some (stepped old text (pulled i (length gone) cursor))) (apply (Delete i gone Forward) old.text) new h in
-    let text : p.0 ≡ new.text = ap (λ (l : Line). l.text) (same_Some _ _ p.2) in
+    let b = first_step (Delete i gone Forward, pulled i (length gone) cursor) [] old new h in
+    let text : b.text ≡ new.text = ap (λ (l : Line). l.text) (same_Some _ _ b.rest) in
     let short : length gone ≤ length part = omega (arith, length-append (take most part) (drop most part), ap length (take-append-drop most part)) in
     let blank : last_line gone ≡ 0 = omega (arith, newlines-append (take most part) (drop most part), ap last_line (take-append-drop most part)) in
-    subst (KeepsBehind old.text new.text q) (omega arith) (subst (λ t. KeepsBehind old.text t q (q - length gone)) text (KeepsBehind-Delete old.text p.0 i q gone Forward (omega arith) inside blank p.1))
+    subst (KeepsBehind old.text new.text q) (omega arith) (subst (λ t. KeepsBehind old.text t q (q - length gone)) text (KeepsBehind-Delete old.text b.text i q gone Forward (omega arith) inside blank b.makes))
 
 -- ---- from line to line
 -- the lines before line k are done: those that are left are as they were, from where line k begins now

@@ -6,7 +6,7 @@ use Rattle.std.specs.Option.{option_map_or}
 use Rattle.std.specs.Prelude.{IfErr, IfOk, Result}
 use Rattle.std.specs.Str.{chars}
 use Rattle.unicode_segmentation.specs.Segments.{cut, segments}
-use Rattle.rl_base.specs.Event.{Event, InsertStr, Delete, Start, Stop}
+use Rattle.rl_base.specs.Event.{Event, InsertStr, Delete, Start, Stop, Cursors}
 use Rattle.rl_base.specs.declared.listeners.Direction.{Direction}
 use Rattle.rl_base.specs.declared.listeners.Direction.TheVariants.{Forward}
 use Rattle.rl_base.specs.declared.listeners.Refusal.{Refusal}
@@ -71,6 +71,10 @@ pub record_step-Stop : (r : Record) → record_step r Stop ≡ r
 unfolding record_step entries_of
 record_step-Stop r = ap (λ es. record r { recorded = es }) (added Stop (λ e. refl) r.recorded ∙ append-nil r.recorded)
 
+pub record_step-Cursors : (r : Record) (before after : ℕ) → record_step r (Cursors before after) ≡ r
+unfolding record_step entries_of
+record_step-Cursors r before after = ap (λ es. record r { recorded = es }) (added (Cursors before after) (λ e. refl) r.recorded ∙ append-nil r.recorded)
+
 pub after-InsertStr : (es : List Entry) (i : ℕ) (s : List ℕ) → entries_after (InsertStr i s) es ≡ es ++ entries_of (InsertStr i s)
 after-InsertStr es i s = added (InsertStr i s) (λ e. refl) es
 
@@ -108,6 +112,6 @@ pub record_step-side : (i : ℕ) (s : List ℕ) (side : Direction) (r : Record) 
 unfolding record_step
 record_step-side i s side r = ap (λ es. record { recorded = es; pending = [] }) (after-side i s side r.recorded)
 
-pub ruleset alone = (record_step-Start, record_step-Stop)
+pub ruleset alone = (record_step-Start, record_step-Stop, record_step-Cursors)
 
 pub ruleset alone_in_list = (after-InsertStr, after-InsertStr-nothing, after-Delete-nothing)

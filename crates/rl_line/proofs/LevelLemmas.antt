@@ -5,7 +5,7 @@ use Rattle.std.proofs.lemmas.Grind.{take_at_read}
 use Rattle.std.proofs.lemmas.List.{length-map, map-append, take-append-drop, take-map}
 use Rattle.std.specs.Option.{option_map_or}
 use Rattle.std.specs.Prelude.{◌&&◌, ◌==◌, encode_utf8, max, not}
-use Rattle.rl_base.specs.Event.{Event, InsertChar, InsertStr, Delete, Replace, Start, Stop}
+use Rattle.rl_base.specs.Event.{Event, InsertChar, InsertStr, Delete, Replace, Start, Stop, Cursors}
 use Rattle.rl_base.specs.Classes.{is_alphanumeric, is_word_cluster}
 use Rattle.rl_line.specs.declared.change.Change.{Change}
 use Rattle.rl_line.specs.Record.{Entry, Begin, End, Inserted, Deleted, Replaced, Record, entries_after, entries_of, entry_of, joined, record_step}
@@ -34,6 +34,7 @@ deep-entries_of (Delete i s side) d = none_or_one (length s == 0)
 deep-entries_of (Replace i s t) d = refl
 deep-entries_of Start d = refl
 deep-entries_of Stop d = refl
+deep-entries_of (Cursors b a) d = refl
 
 -- what joins is a change, and so is what it joins
 deep-joint : (event : Event) (e joint : Entry) (d : ℕ) → joined event e ≡ Some joint → deep d (joint ∷ []) ≡ deep d (e ∷ [])

@@ -4,7 +4,7 @@ use Rattle.std.proofs.lemmas.List.{take-append-drop, reverse-append, reverse-rev
 use Rattle.std.specs.Option.{option_map_or}
 use Rattle.std.specs.Prelude.{option_and_then, IsSome, zero, max, ◌&&◌, ◌==◌, not, encode_utf8}
 use Rattle.rl_base.proofs.SwapLemmas.{some_is}
-use Rattle.rl_base.specs.Event.{Event, InsertChar, InsertStr, Delete, Replace, Start, Stop}
+use Rattle.rl_base.specs.Event.{Event, InsertChar, InsertStr, Delete, Replace, Start, Stop, Cursors}
 use Rattle.rl_base.specs.Classes.{is_alphanumeric, is_word_cluster}
 use Rattle.rl_line.specs.Record.{Entry, Begin, End, Inserted, Deleted, Replaced, Record, entries_of, joined, entries_after, pending_after, record_step}
 use Rattle.rl_line.specs.Units.{UndoUnit, Open, Whole, units, together, opens, level, last_of, kept_of, redo_from, redo_of, end_one, end_times, begun, ended, undone, redone, truncated, touched, mark, marks, IsMatched, BothMatched}
@@ -27,6 +27,7 @@ entries_of-marks (Delete i s side) fs = none_or_one (length s == 0)
 entries_of-marks (Replace i s t) fs = refl
 entries_of-marks Start fs = refl
 entries_of-marks Stop fs = refl
+entries_of-marks (Cursors b a) fs = refl
 
 -- what joins is a change
 joint_marks : (event : Event) (e joint : Entry) (fs : List Bool) → joined event e ≡ Some joint → IsSome (marks (joint ∷ []) fs)
@@ -69,6 +70,7 @@ pending-matched (Delete i s side) es h = refl
 pending-matched (Replace i s t) es h = refl
 pending-matched Start es h = h
 pending-matched Stop es h = h
+pending-matched (Cursors b a) es h = h
 
 pub BothMatched-step : (r : Record) (event : Event) → BothMatched r → BothMatched (record_step r event)
 unfolding record_step

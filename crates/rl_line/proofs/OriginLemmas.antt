@@ -6,10 +6,12 @@ use Rattle.rl_base.specs.declared.listeners.Refusal.{Refusal}
 use Rattle.rl_base.specs.Event.{Event, apply}
 use Rattle.rl_base.proofs.SwapLemmas.{apply-IsUtf8}
 use Rattle.rl_line.specs.Line.{Line, stepped}
-use Rattle.rl_line.specs.Plan.{Step, Plan, after, heard, Taken, Done, Halted}
+use Rattle.rl_line.specs.Plan.{Step, Plan, after, heard, heard_step, Taken, Done, Halted}
 use Rattle.rl_line.specs.Record.{Record, record_step, unwind}
 use Rattle.rl_line.specs.Undo.{Undone}
 use Rattle.rl_line.specs.Units.{kept_of, last_of}
+use Rattle.rl_line.proofs.JoinLemmas.{record_step-Cursors}
+use Rattle.rl_line.proofs.PlanLemmas.{first_step}
 use Rattle.rl_line.proofs.RecordLemmas.{through, value_of, record_step-unwind, unwind-append, unwind-IsUtf8}
 use Rattle.rl_line.proofs.UndoLemmas.{line_back-unwind}
 use Rattle.rl_line.proofs.UnitLemmas.{kept-last}
@@ -23,13 +25,18 @@ pub record Kept (r now : Record) (old new : Line) : Type 0 where
   pub origin_is : (start : List ℕ) → origin r old.text ≡ Some start → origin now new.text ≡ Some start
   pub utf8 : IsUtf8 new.text
 
-Kept-after : (steps : List Step) (r : Record) (old new : Line) → IsUtf8 old.text → after steps old ≡ Some new → Kept r (heard record_step steps r) old new
+Kept-after : (steps : List Step) (r : Record) (old new : Line) → IsUtf8 old.text → after steps old ≡ Some new → Kept r (heard record_step old.cursor steps r) old new
 Kept-after [] r old new u h =
     let e : old ≡ new = cc in record { origin_is = λ start k. ap (λ (l : Line). origin r l.text) (sym e) ∙ k; utf8 = subst (λ (l : Line). IsUtf8 l.text) e u }
 Kept-after (s ∷ ss) r old new u h =
-    let p = through (λ text. after ss (stepped old text s.1)) (apply s.0 old.text) new h in
-    let more = Kept-after ss (record_step r s.0) (stepped old p.0 s.1) new (apply-IsUtf8 s.0 old.text p.0 u p.1) p.2 in
-    record { origin_is = λ start k. more.origin_is start (record_step-unwind r s.0 old.text p.0 start u p.1 k); utf8 = more.utf8 }
+    let b = first_step s ss old new h in
+    let here : Line = stepped old b.text s.1 in
+    let more = Kept-after ss (heard_step record_step old.cursor s r) here new (apply-IsUtf8 s.0 old.text b.text u b.makes) b.rest in
+    record {
+      origin_is = λ start k.
+          more.origin_is start (ap (λ (m : Record). origin m b.text) (record_step-Cursors (record_step r s.0) old.cursor s.1) ∙ record_step-unwind r s.0 old.text b.text start u b.makes k);
+      utf8 = more.utf8;
+    }
 
 Kept-Taken : (steps : List Step) (r now : Record) (old new : Line) → IsUtf8 old.text → Taken record_step steps old new r now → Kept r now old new
 Kept-Taken steps r now old new u t = subst (λ (k : Record). Kept r k old new) (sym t.listener) (Kept-after steps r old new u t.line)

@@ -3,45 +3,84 @@ use Rattle.std.proofs.Common.{◌≡◌, ℕ, List, [], ◌∷◌, ◌++◌, Opt
 use Rattle.std.specs.Prelude.{option_and_then}
 use Rattle.rl_base.specs.Event.{Event, apply, replay}
 use Rattle.rl_base.specs.declared.listeners.Refusal.{Refusal}
-use Rattle.rl_line.specs.Line.{Line, stepped}
-use Rattle.rl_line.specs.Plan.{Step, Plan, nothing, single, followed_by, after, events_of, heard, or_no_memory, or_no_memory_if, Taken, Completed, Done, Halted}
-use Rattle.rl_line.proofs.RecordLemmas.{through}
+use Rattle.std.specs.Str.{IsCharBoundary}
+use Rattle.rl_base.specs.Text.{is_boundary}
+use Rattle.rl_base.proofs.TextLemmas.{is_boundary-true, is_boundary-means}
+use Rattle.rl_line.specs.Line.{Line, stepped, if_standing, after_step}
+use Rattle.rl_line.specs.Plan.{Step, Plan, nothing, single, followed_by, after, events_of, heard, heard_step, or_no_memory, or_no_memory_if, Taken, Completed, Done, Halted}
+use Rattle.rl_line.proofs.RecordLemmas.{if_some, through}
+
+-- a line that stands is what the test lets through
+pub standing-is : (line now : Line) → if_standing line ≡ Some now → line ≡ now
+standing-is line now h = (if_some (is_boundary line.text line.cursor) line now h).1
+
+pub standing : (line : Line) → IsCharBoundary line.text line.cursor → if_standing line ≡ Some line
+standing line h = rw (is_boundary-true line.text line.cursor h) refl
+
+-- a step that fits
+pub record Fits (event : Event) (cursor : ℕ) (old now : Line) : Type 0 where
+  pub text : List ℕ
+  pub makes : apply event old.text ≡ Some text
+  pub is : now ≡ stepped old text cursor
+  pub stands : IsCharBoundary text cursor
+
+pub Fits-from : (event : Event) (cursor : ℕ) (old now : Line) → after_step event cursor old ≡ Some now → Fits event cursor old now
+Fits-from event cursor old now h =
+    let p = through (λ text. if_standing (stepped old text cursor)) (apply event old.text) now h in
+    let q = if_some (is_boundary p.0 cursor) (stepped old p.0 cursor) now p.2 in
+    record { text = p.0; makes = p.1; is = sym q.1; stands = is_boundary-means p.0 cursor q.0 }
+
+pub after_step-is : (event : Event) (cursor : ℕ) (old : Line) (text : List ℕ) → apply event old.text ≡ Some text → IsCharBoundary text cursor
+    → after_step event cursor old ≡ Some (stepped old text cursor)
+after_step-is event cursor old text fits at = ap (option_and_then (λ t. if_standing (stepped old t cursor))) fits ∙ standing (stepped old text cursor) at
+
+-- the first of steps that were taken, and what the others made of what it left
+pub record Begins (s : Step) (ss : List Step) (old new : Line) : Type 0 where
+  pub text : List ℕ
+  pub makes : apply s.0 old.text ≡ Some text
+  pub stands : IsCharBoundary text s.1
+  pub rest : after ss (stepped old text s.1) ≡ Some new
+
+pub first_step : (s : Step) (ss : List Step) (old new : Line) → after (s ∷ ss) old ≡ Some new → Begins s ss old new
+first_step s ss old new h =
+    let p = through (after ss) (after_step s.0 s.1 old) new h in
+    let f = Fits-from s.0 s.1 old p.0 p.1 in
+    record { text = f.text; makes = f.makes; stands = f.stands; rest = ap (after ss) (sym f.is) ∙ p.2 }
+
+after-first : (s : Step) (ss : List Step) (old : Line) (text : List ℕ) → apply s.0 old.text ≡ Some text → IsCharBoundary text s.1 → after (s ∷ ss) old ≡ after ss (stepped old text s.1)
+after-first s ss old text fits at = ap (option_and_then (after ss)) (after_step-is s.0 s.1 old text fits at)
 
 after-append : (xs ys : List Step) (old mid : Line) → after xs old ≡ Some mid → after (xs ++ ys) old ≡ after ys mid
 after-append [] ys old mid e = ap (option_and_then (after ys)) e
-after-append (x ∷ xs) ys old mid e = on (apply x.0 old.text) (λ text. after-append xs ys (stepped old text x.1) mid) e
-  where
-    on : (o : Option (List ℕ)) → ((text : List ℕ) → after xs (stepped old text x.1) ≡ Some mid → after (xs ++ ys) (stepped old text x.1) ≡ after ys mid)
-        → option_and_then (λ text. after xs (stepped old text x.1)) o ≡ Some mid
-        → option_and_then (λ text. after (xs ++ ys) (stepped old text x.1)) o ≡ after ys mid
-    on None go e = cc
-    on (Some text) go e = go text e
+after-append (x ∷ xs) ys old mid e =
+    let b = first_step x xs old mid e in after-first x (xs ++ ys) old b.text b.makes b.stands ∙ after-append xs ys (stepped old b.text x.1) mid b.rest
 
 -- the events of the steps that lead a line to a text lead its old text there
 pub after-replay : (ss : List Step) (old new : Line) → after ss old ≡ Some new → replay (events_of ss) old.text ≡ Some new.text
 after-replay [] old new h = let e : old ≡ new = cc in ap (λ (l : Line). Some l.text) e
 after-replay (s ∷ ss) old new h =
-    let p = through (λ text. after ss (stepped old text s.1)) (apply s.0 old.text) new h in
-    ap (option_and_then (replay (events_of ss))) p.1 ∙ after-replay ss (stepped old p.0 s.1) new p.2
+    let b = first_step s ss old new h in
+    ap (option_and_then (replay (events_of ss))) b.makes ∙ after-replay ss (stepped old b.text s.1) new b.rest
 
 module _ {L : Type 0} (step : L → Event → L) where
-  heard-append : (xs ys : List Step) (l : L) → heard step (xs ++ ys) l ≡ heard step ys (heard step xs l)
-  heard-append [] ys l = refl
-  heard-append (x ∷ xs) ys l = heard-append xs ys (step l x.0)
+  heard-append : (xs ys : List Step) (old mid : Line) (l : L) → after xs old ≡ Some mid
+      → heard step old.cursor (xs ++ ys) l ≡ heard step mid.cursor ys (heard step old.cursor xs l)
+  heard-append [] ys old mid l e = let same : old ≡ mid = cc in ap (λ (k : Line). heard step k.cursor ys l) same
+  heard-append (x ∷ xs) ys old mid l e =
+      let b = first_step x xs old mid e in heard-append xs ys (stepped old b.text x.1) mid (heard_step step old.cursor x l) b.rest
 
   pub Taken-nil : (line : Line) (b : L) → Taken step [] line line b b
   Taken-nil line b = record { line = refl; listener = refl }
 
-  pub Taken-one : (s : Step) (text : List ℕ) (old new : Line) (b n : L) → apply s.0 old.text ≡ Some text → new ≡ stepped old text s.1
-      → n ≡ step b s.0 → Taken step (s ∷ []) old new b n
-  Taken-one s text old new b n fits e f =
-      record { line = ap (option_and_then (λ t. Some (stepped old t s.1))) fits ∙ ap Some (sym e); listener = f }
+  pub Taken-one : (s : Step) (text : List ℕ) (old new : Line) (b n : L) → apply s.0 old.text ≡ Some text → IsCharBoundary text s.1 → new ≡ stepped old text s.1
+      → n ≡ heard_step step old.cursor s b → Taken step (s ∷ []) old new b n
+  Taken-one s text old new b n fits at e f = record { line = after-first s [] old text fits at ∙ ap Some (sym e); listener = f }
 
   pub Taken-append : (xs ys : List Step) (old mid new : Line) (b m n : L) → Taken step xs old mid b m → Taken step ys mid new m n
       → Taken step (xs ++ ys) old new b n
   Taken-append xs ys old mid new b m n s t = record {
     line = after-append xs ys old mid s.line ∙ t.line;
-    listener = t.listener ∙ ap (heard step ys) s.listener ∙ sym (heard-append xs ys b);
+    listener = t.listener ∙ ap (heard step mid.cursor ys) s.listener ∙ sym (heard-append xs ys old mid b s.line);
   }
 
   pub Completed-single : {A : Type 0} (plan : Plan A) (event : Event) (cursor : ℕ) (old new : Line) (b n : L) (a : A)

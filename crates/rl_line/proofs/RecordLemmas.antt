@@ -6,7 +6,7 @@ use Rattle.std.specs.Prelude.{option_and_then, encode_utf8, IsSome, ◌==◌, �
 use Rattle.std.specs.Str.{IsUtf8}
 use Rattle.rl_base.proofs.TextLemmas.{and_right}
 use Rattle.rl_base.specs.declared.listeners.Direction.TheVariants.{Forward}
-use Rattle.rl_base.specs.Event.{Event, InsertChar, InsertStr, Delete, Replace, Start, Stop, apply}
+use Rattle.rl_base.specs.Event.{Event, InsertChar, InsertStr, Delete, Replace, Start, Stop, Cursors, apply}
 use Rattle.rl_base.proofs.SwapLemmas.{Swaps, Swaps-back, Swaps-nothing, Swaps-behind, Swaps-before, Swaps-InsertStr, Swaps-InsertChar, Swaps-Delete, Swaps-Replace, apply-InsertStr-Swaps, apply-Delete-Swaps, apply-Replace-Swaps, apply-IsUtf8}
 use Rattle.rl_base.specs.Classes.{is_alphanumeric, is_word_cluster}
 use Rattle.rl_line.specs.Record.{Entry, Begin, End, Inserted, Deleted, Replaced, Record, entries_after, entries_of, joined, record_step, event_of, inverse, replay_entries, unwind}
@@ -110,6 +110,7 @@ entries_of-undo (Delete i s side) text now u h = none_or_one (length s == 0) ref
 entries_of-undo (Replace i s t) text now u h = apply-Replace-Swaps now text i t s (Swaps-back text now i s t (Swaps-Replace text now i s t u h))
 entries_of-undo Start text now u h = sym h
 entries_of-undo Stop text now u h = sym h
+entries_of-undo (Cursors b a) text now u h = sym h
 
 -- ---- joining
 pub if_some : {A : Type 0} (b : Bool) (a c : A) → cond b (Some a) None ≡ Some c → (b ≡ true) × (a ≡ c)

@@ -6,30 +6,22 @@ use Rattle.std.proofs.lemmas.Str.{IsCharBoundary-at_seam}
 use Rattle.std.specs.Prelude.{option_and_then, IsSome, is_some}
 use Rattle.std.specs.Str.{IsCharBoundary, IsUtf8}
 use Rattle.rl_base.proofs.SwapLemmas.{Swaps, Swaps-Delete, Swaps-InsertStr, Swaps-Replace}
-use Rattle.rl_base.proofs.TextLemmas.{is_boundary-true}
 use Rattle.rl_base.specs.declared.listeners.Direction.TheVariants.{Forward}
-use Rattle.rl_base.specs.Text.{is_boundary}
 use Rattle.rl_base.specs.Event.{apply}
 use Rattle.rl_line.specs.declared.change.Change.{Change}
-use Rattle.rl_line.specs.Line.{Line, stepped}
+use Rattle.rl_line.specs.Line.{Line, stepped, if_standing}
 use Rattle.rl_line.specs.Record.{Entry, Begin, End, Inserted, Deleted, Replaced, event_of, inverse, replay_entries, unwind}
 use Rattle.rl_line.specs.declared.change.Way.{Way}
 use Rattle.rl_line.specs.Units.{has_change}
-use Rattle.rl_line.specs.Undo.{cursor_after, if_standing, line_after, line_ahead, line_back}
+use Rattle.rl_line.specs.Undo.{cursor_after, line_after, line_ahead, line_back}
 use Rattle.rl_line.specs.declared.change.Measure.{Measure}
 use Rattle.rl_line.specs.Change.{faced, size_back_over, greatest_back_over}
-use Rattle.rl_line.proofs.RecordLemmas.{if_some, through, value_of, IsSome-through, inverse-inverse, unwind-append, unwind-IsUtf8}
+use Rattle.rl_line.proofs.PlanLemmas.{standing, standing-is}
+use Rattle.rl_line.proofs.RecordLemmas.{through, value_of, IsSome-through, inverse-inverse, unwind-append, unwind-IsUtf8}
 
 -- one entry back
 abbrev back_one : Entry → Line → Option Line
 back_one e line = line_after (inverse e) line
-
--- a line that stands is what the test lets through
-standing-is : (line now : Line) → if_standing line ≡ Some now → line ≡ now
-standing-is line now h = (if_some (is_boundary line.text line.cursor) line now h).1
-
-standing : (line : Line) → IsCharBoundary line.text line.cursor → if_standing line ≡ Some line
-standing line h = rw (is_boundary-true line.text line.cursor h) refl
 
 -- an entry that fits the text leaves the cursor between two characters, where it stood so before
 Swaps-past : (text after : List ℕ) (i : ℕ) (old new : List ℕ) → Swaps text after i old new → IsCharBoundary after (i + length new)

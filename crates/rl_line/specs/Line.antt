@@ -1,7 +1,9 @@
 -- The state of a line, and ranges of its text.
-use Rattle.std.specs.Prelude.{◌≡◌, ℕ, ◌≤◌, Bool, List, length, max}
+use Rattle.std.specs.Prelude.{◌≡◌, ℕ, ◌≤◌, Bool, List, length, max, Option, Some, None, option_and_then, if◌then◌else◌}
 use Rattle.std.specs.Str.{IsCharBoundary}
 use Rattle.std.specs.declared.ops.Range.{Range}
+use Rattle.rl_base.specs.Event.{Event, apply}
+use Rattle.rl_base.specs.Text.{is_boundary}
 use Rattle.rl_line.specs.LineStarts.{line_starts}
 
 -- the text, the place of the cursor, the limit on the text's length, and whether the line may grow past it
@@ -20,6 +22,15 @@ pub record IsLine (text starts : List ℕ) (cursor limit : ℕ) : Type 0 where
 -- the line after a step that made `text` and left the cursor at `cursor`: the limit rises where it has to
 abbrev pub stepped : Line → List ℕ → ℕ → Line
 stepped line text cursor = record line { text = text; cursor = cursor; limit = max line.limit (length text) }
+
+-- a line, where its cursor stands between two characters
+abbrev pub if_standing : Line → Option Line
+if_standing line = if is_boundary line.text line.cursor then Some line else None
+
+-- the line after an event and with the cursor at a place, where the event fits the text and the cursor comes to stand between two
+-- characters
+abbrev pub after_step : Event → ℕ → Line → Option Line
+after_step event cursor line = option_and_then (λ text. if_standing (stepped line text cursor)) (apply event line.text)
 
 -- the range from a place to another
 abbrev pub between : ℕ → ℕ → Range ℕ

@@ -1,9 +1,9 @@
 -- What an edit does: its steps, each one event and the cursor after it, the cursor at the end, and its answer.
 use Rattle.std.specs.Prelude.{◌≡◌, ℕ, Bool, true, false, map, List, [], ◌∷◌, ◌++◌, Option, Some, option_and_then, ◌⊎◌}
-use Rattle.rl_base.specs.Event.{Event, apply}
+use Rattle.rl_base.specs.Event.{Event, Cursors}
 use Rattle.rl_base.specs.declared.listeners.Refusal.{Refusal}
 use Rattle.rl_base.specs.declared.listeners.Refusal.TheVariants.{NoMemory}
-use Rattle.rl_line.specs.Line.{Line, stepped}
+use Rattle.rl_line.specs.Line.{Line, after_step}
 
 -- an event, and the cursor after it
 abbrev pub Step : Type 0
@@ -38,10 +38,10 @@ after_steps steps plan = record plan { steps = steps ++ plan.steps }
 abbrev pub answering : {A B : Type 0} → B → Plan A → Plan B
 answering answer plan = record { steps = plan.steps; cursor = plan.cursor; answer = answer }
 
--- the line after the steps, where each event fits its text
+-- the line after the steps, where each event fits its text and the cursor stands between two characters after it
 abbrev pub after : List Step → Line → Option Line
 after [] line = Some line
-after (s ∷ ss) line = option_and_then (λ text. after ss (stepped line text s.1)) (apply s.0 line.text)
+after (s ∷ ss) line = option_and_then (after ss) (after_step s.0 s.1 line)
 
 -- the refusals of a listener, and want of memory, of which the listener hears nothing
 abbrev pub or_no_memory : {L : Type 0} → (L → Event → Refusal → L → Type 0) → L → Event → Refusal → L → Type 0
@@ -53,15 +53,19 @@ or_no_memory_if true refused = or_no_memory refused
 or_no_memory_if false refused = refused
 
 module _ {L : Type 0} (step : L → Event → L) where
-  -- the listener after the events of the steps
-  abbrev pub heard : List Step → L → L
-  heard [] l = l
-  heard (s ∷ ss) l = heard ss (step l s.0)
+  -- the listener after a step, from the cursor before it: it hears of the event, and then of where the cursor was and where it goes
+  abbrev pub heard_step : ℕ → Step → L → L
+  heard_step cursor s l = step (step l s.0) (Cursors cursor s.1)
+
+  -- the listener after the steps, from the cursor before them
+  abbrev pub heard : ℕ → List Step → L → L
+  heard cursor [] l = l
+  heard cursor (s ∷ ss) l = heard s.1 ss (heard_step cursor s l)
 
   -- the steps were taken: the line and the listener went through the same events
   pub record Taken (steps : List Step) (old new : Line) (before now : L) : Type 0 where
     pub line : after steps old ≡ Some new
-    pub listener : now ≡ heard steps before
+    pub listener : now ≡ heard old.cursor steps before
 
   -- all steps of the plan were taken, and they alone moved the cursor
   pub record Completed {A : Type 0} (plan : Plan A) (old new : Line) (before now : L) : Type 0 where

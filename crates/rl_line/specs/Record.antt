@@ -6,7 +6,7 @@ use Rattle.std.specs.String.{string_bytes}
 use Rattle.rl_base.specs.declared.listeners.Direction.TheVariants.{Forward}
 use Rattle.rl_base.specs.declared.listeners.Refusal.{Refusal}
 use Rattle.rl_base.specs.declared.listeners.Refusal.TheVariants.{NoMemory}
-use Rattle.rl_base.specs.Event.{Event, InsertChar, InsertStr, Delete, Replace, Start, Stop, apply, replay}
+use Rattle.rl_base.specs.Event.{Event, InsertChar, InsertStr, Delete, Replace, Start, Stop, Cursors, apply, replay}
 use Rattle.rl_base.specs.Classes.{is_alphanumeric, is_word_cluster}
 use Rattle.rl_line.specs.declared.change.Change.{Change}
 use Rattle.rl_line.specs.declared.change.Change.TheVariants as made
@@ -40,6 +40,7 @@ entries_of (Delete i s _) = if length s == 0 then [] else Deleted i s ∷ []
 entries_of (Replace i s t) = Replaced i s t ∷ []
 entries_of Start = []
 entries_of Stop = []
+entries_of (Cursors _ _) = []
 
 -- the one entry that stands for an entry and an event that joins it: an alphanumeric character right behind what
 -- was inserted, an alphanumeric cluster that stood right behind what was deleted, or before it, and a replacement
@@ -69,6 +70,7 @@ entries_after event (e ∷ (d ∷ ds)) = e ∷ entries_after event (d ∷ ds)
 abbrev pub pending_after : Event → List Entry → List Entry
 pending_after Start pending = pending
 pending_after Stop pending = pending
+pending_after (Cursors _ _) pending = pending
 pending_after _ pending = []
 
 -- the record after an event
@@ -83,6 +85,7 @@ IsRecorded (Delete i s _) = 0 < length s
 IsRecorded (Replace i s t) = Unit {0}
 IsRecorded Start = ⊥
 IsRecorded Stop = ⊥
+IsRecorded (Cursors _ _) = ⊥
 
 -- a record is refused an event that it would keep, for want of memory, and is as it was then
 abbrev pub record_refused : Record → Event → Refusal → Record → Type 0

@@ -1,8 +1,6 @@
 -- How a line goes back over its record, and ahead again.
-use Rattle.std.specs.Prelude.{◌≡◌, ℕ, zero, suc, ◌+◌, Bool, List, [], ◌∷◌, length, Option, Some, None, option_and_then, if◌then◌else◌}
-use Rattle.rl_base.specs.Event.{apply}
-use Rattle.rl_base.specs.Text.{is_boundary}
-use Rattle.rl_line.specs.Line.{Line, stepped}
+use Rattle.std.specs.Prelude.{◌≡◌, ℕ, zero, suc, ◌+◌, Bool, List, [], ◌∷◌, length, Option, Some, option_and_then}
+use Rattle.rl_line.specs.Line.{Line, after_step}
 use Rattle.rl_line.specs.Record.{Entry, Begin, End, Inserted, Deleted, Replaced, Record, event_of, inverse}
 use Rattle.rl_line.specs.Units.{last_of, redo_of, has_change, undone, redone}
 
@@ -14,13 +12,9 @@ cursor_after cursor (Inserted i s) = i + length s
 cursor_after cursor (Deleted i s) = i
 cursor_after cursor (Replaced i s t) = i + length t
 
--- a line, where its cursor stands between two characters
-abbrev pub if_standing : Line → Option Line
-if_standing line = if is_boundary line.text line.cursor then Some line else None
-
 -- the line after an entry was made, where the entry fits the text and the cursor comes to stand between two characters
 abbrev pub line_after : Entry → Line → Option Line
-line_after e line = option_and_then (λ text. if_standing (stepped line text (cursor_after line.cursor e))) (apply (event_of e) line.text)
+line_after e line = after_step (event_of e) (cursor_after line.cursor e) line
 
 -- the line after the entries were made, the first first
 abbrev pub line_ahead : List Entry → Line → Option Line

@@ -188,6 +188,7 @@ impl LineBuffer {
     {
         find_room(&mut self.buf, &mut self.starts, text.len(), newlines(text))?;
         listener.insert_str(idx, text)?;
+        listener.cursors(self.pos, cursor);
         swap_in(&mut self.buf, &mut self.starts, idx, idx, text);
         self.pos = cursor;
         self.limit = self.limit.max(self.buf.len());
@@ -214,6 +215,7 @@ impl LineBuffer {
         let part = c.encode_utf8(&mut bytes);
         find_room(&mut self.buf, &mut self.starts, part.len(), newlines(part))?;
         listener.insert_char(idx, c)?;
+        listener.cursors(self.pos, cursor);
         swap_in(&mut self.buf, &mut self.starts, idx, idx, part);
         self.pos = cursor;
         self.limit = self.limit.max(self.buf.len());
@@ -241,6 +243,7 @@ impl LineBuffer {
         let lines = newlines(text).saturating_sub(newlines(&self.buf.as_str()[from..to]));
         find_room(&mut self.buf, &mut self.starts, bytes, lines)?;
         listener.replace(from, &self.buf.as_str()[from..to], text)?;
+        listener.cursors(self.pos, from + text.len());
         self.pos = swap_in(&mut self.buf, &mut self.starts, from, to, text);
         self.limit = self.limit.max(self.buf.len());
         Ok(())
@@ -285,6 +288,7 @@ impl LineBuffer {
     {
         let (from, to) = (range.start, range.end);
         listener.delete(from, &self.buf.as_str()[from..to], dir)?;
+        listener.cursors(self.pos, cursor);
         swap_in(&mut self.buf, &mut self.starts, from, to, "");
         self.pos = cursor;
         Ok(())

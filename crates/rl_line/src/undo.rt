@@ -268,6 +268,8 @@ impl DeleteListener for Changeset {
     }
 
     fn stop_killing(&mut self) {}
+
+    fn cursors(&mut self, _before: usize, _after: usize) {}
 }
 
 impl ChangeListener for Changeset {

@@ -106,6 +106,8 @@ impl DeleteListener for RefuseAt {
     fn stop_killing(&mut self) {
         self.stops = self.stops.saturating_add(1);
     }
+
+    fn cursors(&mut self, _before: usize, _after: usize) {}
 }
 
 impl ChangeListener for RefuseAt {
