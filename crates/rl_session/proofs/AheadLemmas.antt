@@ -2,14 +2,15 @@
 use Rattle.std.proofs.Common.{◌≡◌, ℕ, Bool, List, [], ◌∷◌, Some, refl, sym, ap, subst, ◌∙◌}
 use Rattle.std.specs.Prelude.{option_and_then, IsSome}
 use Rattle.std.specs.Str.{IsUtf8}
-use Rattle.rl_base.specs.Event.{Event, InsertChar, InsertStr, Delete, Replace, Start, Stop, apply}
+use Rattle.rl_base.specs.Event.{Event, InsertChar, InsertStr, Delete, Replace, Start, Stop, Cursors, apply}
 use Rattle.rl_base.specs.declared.listeners.Refusal.{Refusal}
 use Rattle.rl_line.specs.Line.{Line, stepped}
-use Rattle.rl_line.specs.Plan.{Step, Plan, after, heard, Taken, Done, Halted}
+use Rattle.rl_line.specs.Plan.{Step, Plan, after, heard, heard_step, Taken, Done, Halted}
 use Rattle.rl_line.specs.Record.{Record, record_step, replay_entries}
 use Rattle.rl_line.specs.Undo.{Undone}
 use Rattle.rl_line.specs.Units.{last_of}
-use Rattle.rl_line.proofs.RecordLemmas.{through, replay-append, replay-unwind}
+use Rattle.rl_line.proofs.PlanLemmas.{first_step}
+use Rattle.rl_line.proofs.RecordLemmas.{replay-append, replay-unwind}
 use Rattle.rl_line.proofs.UndoLemmas.{line_back-unwind}
 use Rattle.rl_session.proofs.PairLemmas.{keeps_changes}
 
@@ -21,16 +22,19 @@ Ahead-event : (e : Event) (r : Record) (text now : List ℕ) → apply e text �
 unfolding apply record_step
 Ahead-event Start r text now h a = let e : text ≡ now = cc in subst (λ t. IsSome (replay_entries r.pending t)) e a
 Ahead-event Stop r text now h a = let e : text ≡ now = cc in subst (λ t. IsSome (replay_entries r.pending t)) e a
+Ahead-event (Cursors _ _) r text now h a = let e : text ≡ now = cc in subst (λ t. IsSome (replay_entries r.pending t)) e a
 Ahead-event (InsertChar _ _) r text now h a = refl
 Ahead-event (InsertStr _ _) r text now h a = refl
 Ahead-event (Delete _ _ _) r text now h a = refl
 Ahead-event (Replace _ _ _) r text now h a = refl
 
-Ahead-after : (steps : List Step) (r : Record) (old new : Line) → after steps old ≡ Some new → Ahead r old → Ahead (heard record_step steps r) new
+Ahead-after : (steps : List Step) (r : Record) (old new : Line) → after steps old ≡ Some new → Ahead r old → Ahead (heard record_step old.cursor steps r) new
+unfolding apply
 Ahead-after [] r old new h a = let e : old ≡ new = cc in subst (λ (l : Line). Ahead r l) e a
 Ahead-after (s ∷ ss) r old new h a =
-    let p = through (λ text. after ss (stepped old text s.1)) (apply s.0 old.text) new h in
-    Ahead-after ss (record_step r s.0) (stepped old p.0 s.1) new p.2 (Ahead-event s.0 r old.text p.0 p.1 a)
+    let b = first_step s ss old new h in
+    let told = Ahead-event (Cursors old.cursor s.1) (record_step r s.0) b.text b.text refl (Ahead-event s.0 r old.text b.text b.makes a) in
+    Ahead-after ss (heard_step record_step old.cursor s r) (stepped old b.text s.1) new b.rest told
 
 Ahead-Taken : (steps : List Step) (r now : Record) (old new : Line) → Taken record_step steps old new r now → Ahead r old → Ahead now new
 Ahead-Taken steps r now old new t a = subst (λ (k : Record). Ahead k new) (sym t.listener) (Ahead-after steps r old new t.line a)

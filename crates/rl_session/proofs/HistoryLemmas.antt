@@ -47,7 +47,7 @@ pub record Heard (held : List (List ℕ)) (old : Line) (r : Record) (text : List
   pub last : Line
   pub line : after steps old ≡ Some last
   pub text_is : text ≡ last.text
-  pub changes : now ≡ heard record_step steps r
+  pub changes : now ≡ heard record_step old.cursor steps r
   pub held_is : held ≡ texts_of_steps steps old.text
 
 Heard-nothing : (old : Line) (r : Record) (text : List ℕ) (now : Record) → text ≡ old.text → now ≡ r → Heard [] old r text now
@@ -104,7 +104,7 @@ Heard-kept range side old new p q w h =
     let none = removal_first old range side c.first c.others c.next c.split in
     let same : Some old ≡ Some new = ap (λ ss. after ss old) (sym none) ∙ c.taken.line in
     let line : new ≡ old = cc in
-    Heard-nothing old p.changes new.text q.changes (ap (λ (l : Line). l.text) line) (c.cause ∙ c.taken.listener ∙ ap (λ ss. heard record_step ss p.changes) none)
+    Heard-nothing old p.changes new.text q.changes (ap (λ (l : Line). l.text) line) (c.cause ∙ c.taken.listener ∙ ap (λ ss. heard record_step old.cursor ss p.changes) none)
 
 Heard-refused : (b : Bool) (range : Option (Range ℕ)) (side : Direction) (old new : Line) (p q : Pair) (w : Refusal)
     → Told pair_step b (λ before now. Halted pair_step pair_refused (removal old range side) old new before now w) p q
@@ -173,7 +173,7 @@ History-Heard : (start : List ℕ) (held more : List (List ℕ)) (old : Line) (r
 History-Heard start held more old r text now h k =
     subst (λ x. History start (held ++ x) text now) (sym k.held_is)
     (subst (λ (x : Record). History start (held ++ texts_of_steps k.steps old.text) text x) (sym k.changes)
-    (subst (λ t. History start (held ++ texts_of_steps k.steps old.text) t (heard record_step k.steps r)) (sym k.text_is)
+    (subst (λ t. History start (held ++ texts_of_steps k.steps old.text) t (heard record_step old.cursor k.steps r)) (sym k.text_is)
     (History-steps k.steps start held old k.last r h k.line)))
 
 -- no text was held, and the record became another

@@ -1,9 +1,9 @@
 -- No kill is on between the commands of a session: only a kill tells its start, and it tells its end too.
 use Rattle.std.proofs.Common.{◌≡◌, ℕ, ◌+◌, ◌-◌, ◌*◌, ◌==◌, ◌||◌, Bool, true, false, List, [], ◌∷◌, ◌++◌, length, Option, Some, None, refl, ap, subst, ◌∙◌, cond, inl, inr}
-use Rattle.std.specs.Prelude.{encode_utf8}
+use Rattle.std.specs.Prelude.{encode_utf8, ℕ}
 use Rattle.std.specs.List.{remove_range}
 use Rattle.std.specs.declared.ops.Range.{Range}
-use Rattle.rl_base.specs.Event.{Event, InsertChar, InsertStr, Delete, Replace, Start, Stop}
+use Rattle.rl_base.specs.Event.{Event, InsertChar, InsertStr, Delete, Replace, Start, Stop, Cursors}
 use Rattle.rl_base.specs.KillRing.{Ring, heard as heard_text, lent, popped_ring, ring_step, turned, yank, yank_popped, yank_size, yanked}
 use Rattle.rl_base.specs.declared.listeners.Direction.{Direction}
 use Rattle.rl_base.specs.declared.listeners.Refusal.{Refusal}
@@ -38,17 +38,19 @@ idle-step (Delete i s side) r n h = ap (λ b. (heard_text b s side r).killing) h
 idle-step (Replace i s t) r n h = h
 idle-step Start r n h = absurd n
 idle-step Stop r n h = refl
+idle-step (Cursors b a) r n h = h
 
-idle-steps : (steps : List Step) (r : Ring) → NoneStarts steps → r.killing ≡ false → (heard ring_step steps r).killing ≡ false
-idle-steps [] r n h = h
-idle-steps (s ∷ ss) r n h = idle-steps ss (ring_step r s.0) n.1 (idle-step s.0 r n.0 h)
+idle-steps : (cursor : ℕ) (steps : List Step) (r : Ring) → NoneStarts steps → r.killing ≡ false → (heard ring_step cursor steps r).killing ≡ false
+idle-steps cursor [] r n h = h
+idle-steps cursor (s ∷ ss) r n h = idle-steps s.1 ss (ring_step r s.0) n.1 (idle-step s.0 r n.0 h)
 
-idle-taken : (steps : List Step) (p q : Pair) → q ≡ heard pair_step steps p → NoneStarts steps → p.ring.killing ≡ false → q.ring.killing ≡ false
-idle-taken steps p q e n h = ap (λ (k : Pair). k.ring.killing) e ∙ ap (λ (r : Ring). r.killing) (heard-ring steps p) ∙ idle-steps steps p.ring n h
+idle-taken : (cursor : ℕ) (steps : List Step) (p q : Pair) → q ≡ heard pair_step cursor steps p → NoneStarts steps → p.ring.killing ≡ false → q.ring.killing ≡ false
+idle-taken cursor steps p q e n h =
+    ap (λ (k : Pair). k.ring.killing) e ∙ ap (λ (r : Ring). r.killing) (heard-ring cursor steps p) ∙ idle-steps cursor steps p.ring n h
 
 pub idle-Done : {A : Type 0} (plan : Plan A) (old new : Line) (p q : Pair) (a : A) → NoneStarts plan.steps → Done pair_step plan old new p q a
     → p.ring.killing ≡ false → q.ring.killing ≡ false
-idle-Done plan old new p q a n d h = idle-taken plan.steps p q d.taken.listener n h
+idle-Done plan old new p q a n d h = idle-taken old.cursor plan.steps p q d.taken.listener n h
 
 NoneStarts-first : (first : List Step) (next : Step) (others : List Step) → NoneStarts (first ++ next ∷ others) → NoneStarts first × IsNoStart next.0
 NoneStarts-first [] next others n = (tt, n.0)
@@ -69,7 +71,7 @@ pub idle-Halted : {A : Type 0} (takes : Bool) (plan : Plan A) (old new : Line) (
     → Halted pair_step (or_no_memory_if takes pair_refused) plan old new p q w → p.ring.killing ≡ false → q.ring.killing ≡ false
 idle-Halted takes plan old new p q w n d h =
     let parts = NoneStarts-first d.first d.next d.others (subst NoneStarts d.split n) in
-    idle-cause takes d.middle q d.next.0 w parts.1 (idle-taken d.first p d.middle d.taken.listener parts.0 h) d.cause
+    idle-cause takes d.middle q d.next.0 w parts.1 (idle-taken old.cursor d.first p d.middle d.taken.listener parts.0 h) d.cause
 
 -- the end of a kill was told, whatever was heard in it
 pub idle-Told : (b : Bool) (P : Pair → Pair → Type 0) (p q : Pair) → (P p q → q.ring.killing ≡ false) → Told pair_step b P p q → q.ring.killing ≡ false

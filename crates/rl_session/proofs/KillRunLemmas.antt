@@ -24,12 +24,11 @@ use Rattle.rl_base.proofs.KillGroupLemmas.{lent-size, ring_step-size}
 use Rattle.rl_base.proofs.RingLemmas.{next_index-is}
 use Rattle.rl_base.proofs.SwapLemmas.{Swaps, Swaps-back, Swaps-Delete, Swaps-behind, Swaps-before, apply-InsertStr-Swaps}
 use Rattle.rl_line.specs.Line.{Line, stepped}
-use Rattle.rl_line.specs.Plan.{Step as PlanStep, Plan, nothing, single, heard as heard_steps, Taken, Done, Halted, or_no_memory_if}
+use Rattle.rl_line.specs.Plan.{Step as PlanStep, Plan, nothing, single, heard as heard_steps, heard_step, Taken, Done, Halted, or_no_memory_if}
 use Rattle.rl_line.specs.Edits.{too_long, yank_plan}
 use Rattle.rl_line.specs.Kills.{Between, Told, removal, kill_plan, side_of, is_by_characters}
 use Rattle.rl_line.specs.Ranges.{killed as killed_range, text_in}
 use Rattle.rl_line.proofs.EditLemmas.{yank_plan-nothing, yank_plan-some}
-use Rattle.rl_line.proofs.RecordLemmas.{through}
 use Rattle.rl_line.proofs.SideLemmas.{LiesOn, BeginningOfLine-side, EndOfLine-side, BackwardWord-side, ForwardWord-side, ViCharSearch-side, BeginningOfBuffer-side, EndOfBuffer-side}
 use Rattle.rl_session.specs.Pair.{pair_step, pair_refused}
 use Rattle.rl_session.specs.State.{State, Stands, with_ring, fresh}
@@ -42,6 +41,7 @@ use Rattle.rl_session.specs.declared.session.Command.TheVariants.{SetPos, Move, 
 use Rattle.rl_session.specs.declared.session.Fault.TheVariants.{NoMemory, BadPlace, BadYankSize, NotReplaying}
 use Rattle.rl_session.specs.declared.session.Reply.{Reply}
 use Rattle.rl_session.specs.declared.session.Reply.TheVariants as says
+use Rattle.rl_line.proofs.PlanLemmas.{first_step}
 
 -- ---- the newest slot
 get-behind : (slots : List (List ℕ)) (text : List ℕ) → slice_get (slots ++ text ∷ []) (length slots) ≡ Some text
@@ -108,9 +108,9 @@ newest-more old taken side r some n =
     (more_as r.size r.last old taken (side_mode side) (record r { killing = true }) some n.last_is (flag-newest r true old n))
 
 -- ---- the size of the ring
-steps-size : (steps : List PlanStep) (p : Pair) → (heard_steps pair_step steps p).ring.size ≡ p.ring.size
-steps-size [] p = refl
-steps-size (s ∷ ss) p = steps-size ss (pair_step p s.0) ∙ ring_step-size p.ring s.0
+steps-size : (cursor : ℕ) (steps : List PlanStep) (p : Pair) → (heard_steps pair_step cursor steps p).ring.size ≡ p.ring.size
+steps-size cursor [] p = refl
+steps-size cursor (s ∷ ss) p = steps-size s.1 ss (heard_step pair_step cursor s p) ∙ ring_step-size p.ring s.0
 
 popped-size : (o : Option ℕ) (r : Ring) → (popped_ring o r).size ≡ r.size
 popped-size None r = refl
@@ -118,7 +118,7 @@ popped-size (Some n) r = lent-size (yank (turned r)) (turned r)
 
 module _ {A : Type 0} (plan : Plan A) (old new : Line) (p q : Pair) where
   Taken-size : (steps : List PlanStep) (mid : Line) → Taken pair_step steps old mid p q → q.ring.size ≡ p.ring.size
-  Taken-size steps mid t = ap (λ (k : Pair). k.ring.size) t.listener ∙ steps-size steps p
+  Taken-size steps mid t = ap (λ (k : Pair). k.ring.size) t.listener ∙ steps-size old.cursor steps p
 
   Done-size : (a : A) → Done pair_step plan old new p q a → q.ring.size ≡ p.ring.size
   Done-size a d = Taken-size plan.steps d.last d.taken
@@ -296,14 +296,14 @@ removed old new None side a within h t =
 removed old new (Some r) side a within h t =
     let d = t.inside in
     let taken = text_in old.line r in
-    let fits = through (λ text. Some (stepped old.line text r.start)) (apply (Delete r.start taken side) old.line.text) d.last d.taken.line in
-    let line : new.line ≡ stepped old.line fits.0 r.start = d.line ∙ ap (λ (l : Line). record l { cursor = r.start }) (sym (same_Some _ _ fits.2)) in
+    let b = first_step (Delete r.start taken side, r.start) [] old.line d.last d.taken.line in
+    let line : new.line ≡ stepped old.line b.text r.start = d.line ∙ ap (λ (l : Line). record l { cursor = r.start }) (sym (same_Some _ _ b.rest)) in
     let at : new.line.cursor ≡ r.start = ap (λ (l : Line). l.cursor) line in
-    let limit : new.line.limit ≡ max old.line.limit (length fits.0) = ap (λ (l : Line). l.limit) line in
+    let limit : new.line.limit ≡ max old.line.limit (length b.text) = ap (λ (l : Line). l.limit) line in
     subst (λ b. Outcome b old new) (sym d.answered) (record {
       side = side;
       taken = taken;
-      text_is = ap (λ k. apply (Delete k taken side) old.line.text) at ∙ fits.1 ∙ ap (λ (l : Line). Some l.text) (sym line);
+      text_is = ap (λ k. apply (Delete k taken side) old.line.text) at ∙ b.makes ∙ ap (λ (l : Line). Some l.text) (sym line);
       touches = touches-range side old.line.text r old.line.cursor new.line.cursor within at h;
       limit_is = omega arith;
       ring_is = ap (λ (p : Pair). p.ring) t.ended ∙ ap (λ (p : Pair). ring_step p.ring Stop) d.taken.listener;
@@ -432,14 +432,14 @@ yanked_nothing slot old new p q a empty d =
       slot_is = ap (λ (k : Pair). yank k.ring) d.taken.listener;
     }
 
-yanked_once : (slot : List ℕ) (old new : Line) (p q : Pair) (a b : Option Bool) (at : ℕ) → at ≡ old.cursor + length slot
-    → Done pair_step (single (InsertStr old.cursor (repeat 1 slot)) at b) old new p q a → Yanked slot old new p.ring q.ring
-yanked_once slot old new p q a b at e d =
-    let taken = through (λ text. Some (stepped old text at)) (apply (InsertStr old.cursor (repeat 1 slot)) old.text) d.last d.taken.line in
-    let line : new ≡ stepped old taken.0 at = d.line ∙ ap (λ (l : Line). record l { cursor = at }) (sym (same_Some _ _ taken.2)) in
+yanked_once : (slot : List ℕ) (old new : Line) (p q : Pair) (a c : Option Bool) (at : ℕ) → at ≡ old.cursor + length slot
+    → Done pair_step (single (InsertStr old.cursor (repeat 1 slot)) at c) old new p q a → Yanked slot old new p.ring q.ring
+yanked_once slot old new p q a c at e d =
+    let b = first_step (InsertStr old.cursor (repeat 1 slot), at) [] old d.last d.taken.line in
+    let line : new ≡ stepped old b.text at = d.line ∙ ap (λ (l : Line). record l { cursor = at }) (sym (same_Some _ _ b.rest)) in
     let once : repeat 1 slot ≡ slot = append-nil slot in
     record {
-      text_is = inr (ap (λ s. apply (InsertStr old.cursor s) old.text) (sym once) ∙ taken.1 ∙ ap (λ (l : Line). Some l.text) (sym line));
+      text_is = inr (ap (λ s. apply (InsertStr old.cursor s) old.text) (sym once) ∙ b.makes ∙ ap (λ (l : Line). Some l.text) (sym line));
       cursor_is = ap (λ (l : Line). l.cursor) line ∙ e;
       slot_is = ap (λ (k : Pair). yank k.ring) d.taken.listener;
     }

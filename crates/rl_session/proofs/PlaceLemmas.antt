@@ -4,18 +4,19 @@ use Rattle.std.proofs.lemmas.List.{take-append-drop, reverse-append, reverse-rev
 use Rattle.std.specs.Option.{option_map_or}
 use Rattle.std.specs.Prelude.{option_and_then, IsSome, ◌==◌}
 use Rattle.std.specs.Str.{IsUtf8}
-use Rattle.rl_base.specs.Event.{Event, InsertChar, InsertStr, Delete, Replace, Start, Stop, apply}
+use Rattle.rl_base.specs.Event.{Event, InsertChar, InsertStr, Delete, Replace, Start, Stop, apply, Cursors}
 use Rattle.rl_base.proofs.SwapLemmas.{apply-IsUtf8}
 use Rattle.rl_line.specs.Line.{Line, stepped}
-use Rattle.rl_line.specs.Plan.{Step, after, heard}
+use Rattle.rl_line.specs.Plan.{Step, after, heard, heard_step}
 use Rattle.rl_line.specs.Record.{Entry, Begin, End, Inserted, Deleted, Replaced, Record, entries_of, entries_after, joined, record_step, replay_entries, unwind}
 use Rattle.rl_line.specs.Units.{level, last_of, kept_of, redo_of, end_one, end_times, begun, ended, undone, redone, truncated}
-use Rattle.rl_line.proofs.JoinLemmas.{record_step-Start, record_step-Stop}
+use Rattle.rl_line.proofs.JoinLemmas.{record_step-Start, record_step-Stop, record_step-Cursors}
 use Rattle.rl_line.proofs.MatchLemmas.{IsMatched-after, BothMatched-begun, BothMatched-ended, BothMatched-undone, BothMatched-redone, BothMatched-truncated, EndsOne, end_one-cons, Redoes-of}
 use Rattle.rl_line.proofs.RecordLemmas.{through, replay-append, replay-IsUtf8, replay-unwind, unwind-replay, entries_after-unwind}
 use Rattle.rl_line.proofs.UnitLemmas.{kept-last}
 use Rattle.rl_session.specs.History.{StandsAfter, WasHeld, PlacedBack, Placed, History}
 use Rattle.rl_session.specs.Run.{texts_after, texts_of_steps}
+use Rattle.rl_line.proofs.PlanLemmas.{first_step}
 
 extend : (start : List ℕ) (es : List Entry) (held more : List (List ℕ)) → PlacedBack start es held → PlacedBack start es (held ++ more)
 extend start [] held more p =
@@ -174,6 +175,7 @@ none_or_one (Delete i s side) = pick (length s == 0)
 none_or_one (Replace i s t) = inr (Replaced i s t, refl)
 none_or_one Start = inl refl
 none_or_one Stop = inl refl
+none_or_one (Cursors b a) = inl refl
 
 after-leads : (event : Event) (es : List Entry) (start x y : List ℕ) → IsUtf8 start → replay_entries es start ≡ Some x → apply event x ≡ Some y
     → replay_entries (entries_after event es) start ≡ Some y
@@ -239,21 +241,24 @@ History-event (Delete i s side) start held text next r h k = History-change (Del
 History-event (Replace i s t) start held text next r h k = History-change (Replace i s t) start held text next r h k
 History-event Start start held text next r h k = History-still start held text next r (record_step r Start) h k (record_step-Start r)
 History-event Stop start held text next r h k = History-still start held text next r (record_step r Stop) h k (record_step-Stop r)
+History-event (Cursors b a) start held text next r h k = History-still start held text next r (record_step r (Cursors b a)) h k (record_step-Cursors r b a)
 
 texts_after-more : (e : Event) (es : List Event) (text next : List ℕ) → apply e text ≡ Some next → texts_after (e ∷ es) text ≡ next ∷ texts_after es next
 texts_after-more e es text next h = ap (λ (o : Option (List ℕ)). elim o [ None ↦ [] | Some t ↦ t ∷ texts_after es t ]) h
 
 -- the steps of an edit
 pub History-steps : (steps : List Step) (start : List ℕ) (held : List (List ℕ)) (old new : Line) (r : Record) → History start held old.text r → after steps old ≡ Some new
-    → History start (held ++ texts_of_steps steps old.text) new.text (heard record_step steps r)
+    → History start (held ++ texts_of_steps steps old.text) new.text (heard record_step old.cursor steps r)
 History-steps [] start held old new r h e =
     let same : old ≡ new = cc in
     subst (λ k. History start k new.text r) (sym (append-nil held)) (subst (λ (l : Line). History start held l.text r) same h)
 History-steps (s ∷ ss) start held old new r h e =
-    let p = through (λ text. after ss (stepped old text s.1)) (apply s.0 old.text) new e in
-    let rest = History-steps ss start (held ++ (p.0 ∷ [])) (stepped old p.0 s.1) new (record_step r s.0) (History-event s.0 start held old.text p.0 r h p.1) p.2 in
-    subst (λ k. History start k new.text (heard record_step ss (record_step r s.0)))
-    (append_assoc held (p.0 ∷ []) (texts_of_steps ss p.0) ∙ ap (λ k. held ++ k) (sym (texts_after-more s.0 (map (λ (x : Step). x.0) ss) old.text p.0 p.1))) rest
+    let b = first_step s ss old new e in
+    let told : History start (held ++ (b.text ∷ [])) b.text (heard_step record_step old.cursor s r) =
+    subst (History start (held ++ (b.text ∷ [])) b.text) (sym (record_step-Cursors (record_step r s.0) old.cursor s.1)) (History-event s.0 start held old.text b.text r h b.makes) in
+    let rest = History-steps ss start (held ++ (b.text ∷ [])) (stepped old b.text s.1) new (heard_step record_step old.cursor s r) told b.rest in
+    subst (λ k. History start k new.text (heard record_step s.1 ss (heard_step record_step old.cursor s r)))
+    (append_assoc held (b.text ∷ []) (texts_of_steps ss b.text) ∙ ap (λ k. held ++ k) (sym (texts_after-more s.0 (map (λ (x : Step). x.0) ss) old.text b.text b.makes))) rest
 
 pub History-begun : (start : List ℕ) (held : List (List ℕ)) (text : List ℕ) (r : Record) → History start held text r → History start held text (begun r)
 History-begun start held text r h = record {

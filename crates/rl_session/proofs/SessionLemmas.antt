@@ -1,7 +1,7 @@
 -- What holds whatever a call answered.
-use Rattle.std.proofs.Common.{List, [], ◌∷◌, Result, Ok, Err, ◌≡◌, ◌∙◌, ap, refl, subst, sym, append-nil, inl}
+use Rattle.std.proofs.Common.{List, [], Result, Ok, Err, ◌≡◌, ◌∙◌, ap, refl, subst, sym, append-nil, inl}
 use Rattle.std.proofs.lemmas.Str.{IsCharBoundary-start, IsUtf8-nil}
-use Rattle.std.specs.Prelude.{ℕ, ◌<◌, Bool, true, Option, None, false, max, length, option_and_then, IsSome, Some, IfOk, IfErr}
+use Rattle.std.specs.Prelude.{ℕ, ◌<◌, Bool, true, Option, None, false, max, length, IsSome, Some, IfOk, IfErr}
 use Rattle.std.specs.Str.{IsUtf8}
 use Rattle.rl_base.specs.Event.{Event, InsertStr, Start, apply}
 use Rattle.rl_base.proofs.EventLemmas.{apply-InsertStr}
@@ -11,7 +11,7 @@ use Rattle.rl_base.specs.declared.motion.Movement.{Movement}
 use Rattle.rl_base.specs.declared.motion.WordAction.{WordAction}
 use Rattle.rl_line.specs.Line.{Line, stepped}
 use Rattle.rl_line.specs.Motions.{Moved}
-use Rattle.rl_line.specs.Plan.{Plan, nothing, after, Done, Halted, or_no_memory, or_no_memory_if}
+use Rattle.rl_line.specs.Plan.{Plan, nothing, Done, Halted, or_no_memory, or_no_memory_if}
 use Rattle.rl_line.specs.Edits.{insert_str_plan, yank_pop_plan}
 use Rattle.rl_line.specs.Kills.{Told, is_by_characters, kill_plan}
 use Rattle.rl_line.specs.LetterCase.{edit_word_plan, Recased}
@@ -21,7 +21,7 @@ use Rattle.rl_line.specs.Undo.{Redone, Undone}
 use Rattle.rl_line.specs.Units.{adds_end, begun, ended, level}
 use Rattle.rl_line.proofs.OriginLemmas.{IsSome-Kept, Kept, Kept-Done, Kept-Halted, Kept-Undone}
 use Rattle.rl_session.specs.State.{State, AtRest, Follows}
-use Rattle.rl_line.proofs.PlanLemmas.{Halted-at_first}
+use Rattle.rl_line.proofs.PlanLemmas.{Halted-at_first, first_step}
 use Rattle.rl_session.specs.Commands.{CutShort, Edited, lent, lent_plan, popped, popped_plan}
 use Rattle.rl_session.specs.Pair.{pair_step, pair_refused}
 use Rattle.rl_session.specs.declared.pair.Pair.{Pair}
@@ -29,6 +29,7 @@ use Rattle.rl_session.proofs.IdleLemmas.{NoneStarts, NoneStarts-edit_word, NoneS
 use Rattle.rl_session.proofs.PairLemmas.{Done-changes, Halted-changes, keeps_changes}
 use Rattle.rl_session.proofs.AheadLemmas.{Ahead-Done, Ahead-Halted, Ahead-Undone}
 use Rattle.rl_line.proofs.MarkLemmas.{replay-redone, unwind-begun, unwind-ended, unwind-redone}
+use Rattle.std.proofs.lemmas.Option.{same_Some}
 
 -- a text that goes into an empty line
 pub put_first : {L : Type 0} (step : L → Event → L) (line new : Line) (limit : ℕ) (text : List ℕ) (b n : L) (a : Bool) → IsUtf8 text
@@ -38,9 +39,10 @@ put_first step line new limit text b n a u e d =
     let empty : Line = record { text = []; cursor = 0; limit = limit; grow = false } in
     let whole : apply (InsertStr 0 text) [] ≡ Some text =
     apply-InsertStr [] 0 text u (IsCharBoundary-start [] IsUtf8-nil) ∙ ap (λ t. Some t) (append-nil text) in
-    let last : Some (stepped empty text 0) ≡ Some d.last =
-    ap (option_and_then (λ t. Some (stepped empty t 0))) (sym whole) ∙ ap (λ (l : Line). after ((InsertStr 0 text, l.cursor) ∷ []) l) (sym e) ∙ d.taken.line in
-    let same : stepped empty text 0 ≡ d.last = cc in
+    let b = first_step (InsertStr 0 text, line.cursor) [] line d.last d.taken.line in
+    let fits : Some text ≡ Some b.text = sym whole ∙ ap (λ (l : Line). apply (InsertStr 0 text) l.text) (sym e) ∙ b.makes in
+    let same : stepped empty text 0 ≡ d.last =
+    ap (λ (l : Line). stepped l text l.cursor) (sym e) ∙ ap (λ t. stepped line t line.cursor) (same_Some _ _ fits) ∙ same_Some _ _ b.rest in
     d.line ∙ ap (λ (l : Line). record l { cursor = line.cursor }) (sym same) ∙ ap (λ (l : Line). record (stepped empty text 0) { cursor = l.cursor }) e
 
 pub same_Kept : (r : Record) (line : Line) → IsUtf8 line.text → Kept r r line line

@@ -5,7 +5,7 @@ use Rattle.std.specs.Prelude.{max, ◌||◌}
 use Rattle.std.specs.Str.{IsCharBoundary, IsUtf8}
 use Rattle.rl_base.specs.declared.layout.GraphemeClusterMode.{GraphemeClusterMode}
 use Rattle.rl_line.specs.Line.{Line}
-use Rattle.rl_line.specs.Plan.{Step, heard}
+use Rattle.rl_line.specs.Plan.{Step, heard, heard_step}
 use Rattle.rl_line.specs.Record.{Begin, End, Entry, Record, record_step, replay_entries}
 use Rattle.rl_line.specs.Units.{UndoUnit, Open, Whole, IsMatched, begun, end_one, end_times, ended, has_change, kept_of, last_of, level, opens, together, units}
 use Rattle.rl_line.proofs.GroupLemmas.{has_change-append, Inside, Inside-event, Inside-begun, past_begin}
@@ -25,6 +25,7 @@ use Rattle.rl_session.specs.declared.session.Reply.TheVariants as says
 use Rattle.rl_session.proofs.RowLemmas.{Leads-split}
 use Rattle.rl_session.proofs.HistoryLemmas.{Heard, Heard-edit, Heard-other, Holds-Leads, Holds-row, at_row, does_as, undo-row}
 use Rattle.rl_session.proofs.PlaceLemmas.{end_one-cases, kept-leads}
+use Rattle.rl_base.specs.Event.{Cursors}
 
 -- ---- the end of a group
 end_one-past : (xs : List Entry) (y : Entry) (ys : List Entry) → end_one (xs ++ (y ∷ ys)) ≡ xs ++ end_one (y ∷ ys)
@@ -113,12 +114,13 @@ ended_group xs inner h none c =
     ∙ closed_group xs (end_times (level inner) inner) low.matched low.level_is (has_change-end_times (level inner) inner ∙ c)
 
 -- ---- what stands in the record behind the Begin of an open group
-Inside-steps : (steps : List Step) (front : List Entry) (r : Record) → Inside front r → Inside front (heard record_step steps r)
-Inside-steps [] front r k = k
-Inside-steps (s ∷ ss) front r k = Inside-steps ss front (record_step r s.0) (Inside-event s.0 front r k)
+Inside-steps : (cursor : ℕ) (steps : List Step) (front : List Entry) (r : Record) → Inside front r → Inside front (heard record_step cursor steps r)
+Inside-steps cursor [] front r k = k
+Inside-steps cursor (s ∷ ss) front r k =
+    Inside-steps s.1 ss front (heard_step record_step cursor s r) (Inside-event (Cursors cursor s.1) front (record_step r s.0) (Inside-event s.0 front r k))
 
 Inside-Heard : (front : List Entry) (texts : List (List ℕ)) (old : Line) (r : Record) (text : List ℕ) (now : Record) → Inside front r → Heard texts old r text now → Inside front now
-Inside-Heard front texts old r text now k h = subst (λ (x : Record). Inside front x) (sym h.changes) (Inside-steps h.steps front r k)
+Inside-Heard front texts old r text now k h = subst (λ (x : Record). Inside front x) (sym h.changes) (Inside-steps old.cursor h.steps front r k)
 
 Inside-same : (front : List Entry) (old new : State) → Inside front old.pair.changes → new ≡ old → Inside front new.pair.changes
 Inside-same front old new k e = subst (λ (s : State). Inside front s.pair.changes) (sym e) k

@@ -31,6 +31,10 @@ impl DeleteListener for Pair {
     fn stop_killing(&mut self) {
         self.ring.stop_killing();
     }
+
+    fn cursors(&mut self, before: usize, after: usize) {
+        self.changes.cursors(before, after);
+    }
 }
 
 impl ChangeListener for Pair {
