@@ -5,19 +5,20 @@ use Rattle.std.proofs.lemmas.List.{map-append}
 use Rattle.std.proofs.lemmas.Str.{IsUtf8-nil, IsUtf8-string_bytes, is_utf8-from_IsUtf8}
 use Rattle.std.specs.Prelude.{◌&&◌, IsSome, cond, is_some, option_and_then}
 use Rattle.std.specs.List.{replace_range}
+use Rattle.std.specs.Option.{option_map_or}
 use Rattle.std.specs.Str.{IsCharBoundary, IsUtf8, bytes_eq, is_utf8}
 use Rattle.rl_base.specs.declared.listeners.Direction.TheVariants.{Forward}
 use Rattle.rl_base.specs.Event.{apply}
 use Rattle.rl_base.specs.Text.{fits_at, is_boundary, stands_at}
-use Rattle.rl_base.proofs.TextLemmas.{is_boundary-true, stands_at-means}
+use Rattle.rl_base.proofs.TextLemmas.{is_boundary-means, is_boundary-true, stands_at-means}
 use Rattle.rl_base.proofs.EventLemmas.{Deletes-from_IsSome, Inserts-from_IsSome, Replaces-from_IsSome}
 use Rattle.rl_line.specs.declared.change.Change.{Change}
 use Rattle.rl_line.specs.declared.change.Change.TheVariants as made
 use Rattle.rl_line.specs.declared.change.Way.{Way}
 use Rattle.rl_line.specs.declared.change.Way.TheVariants.{Back, Ahead}
 use Rattle.rl_line.specs.Record.{Entry, Begin, End, Inserted, Deleted, Replaced, entry_of, event_of, inverse, unwind}
-use Rattle.rl_line.specs.Change.{new_text, old_text, place, faced}
-use Rattle.rl_line.proofs.RecordLemmas.{unwind-append}
+use Rattle.rl_line.specs.Undo.{cursor_told, place_after}
+use Rattle.rl_line.specs.Change.{cursor_stands, faced, new_text, old_text, place, text_after, text_back}
 
 -- an entry's new text stands at its place, and the old one may take its place
 pub record StandsNew (e : Entry) (text : List ℕ) (at : ℕ) : Type 0 where
@@ -29,38 +30,46 @@ pub record StandsNew (e : Entry) (text : List ℕ) (at : ℕ) : Type 0 where
 pub StandsNew-from_IsSome : (e : Entry) (text : List ℕ) (at : ℕ) → place e ≡ Some at → IsSome (apply (event_of (inverse e)) text) → StandsNew e text at
 StandsNew-from_IsSome Begin text at p h = cc
 StandsNew-from_IsSome End text at p h = cc
-StandsNew-from_IsSome (Inserted i s) text at p h =
+StandsNew-from_IsSome (Inserted i s ps) text at p h =
     let same : i ≡ at = cc in
     let d = Deletes-from_IsSome text i s Forward h in
-    subst (λ k. StandsNew (Inserted i s) text k) same
+    subst (λ k. StandsNew (Inserted i s ps) text k) same
     (record { start = d.stands.start; end = d.stands.end; bytes = d.stands.bytes; makes = d.makes ∙ ap (λ x. Some (x ++ drop (i + length s) text)) (sym (append-nil (take i text))) })
-StandsNew-from_IsSome (Deleted i s) text at p h =
+StandsNew-from_IsSome (Deleted i s ps) text at p h =
     let same : i ≡ at = cc in
     let d = Inserts-from_IsSome text i s h in
     let here : i ≡ i + 0 = omega arith in
     let none : i + 0 - i ≡ 0 = omega arith in
-    subst (λ k. StandsNew (Deleted i s) text k) same
+    subst (λ k. StandsNew (Deleted i s ps) text k) same
     (record { start = d.fits.place; end = subst (IsCharBoundary text) here d.fits.place; bytes = ap (λ n. take n (drop i text)) none; makes = d.makes ∙ ap (λ k. Some ((take i text ++ s) ++ drop k text)) here })
-StandsNew-from_IsSome (Replaced i s t) text at p h =
+StandsNew-from_IsSome (Replaced i s t ps) text at p h =
     let same : i ≡ at = cc in
     let d = Replaces-from_IsSome text i t s h in
-    subst (λ k. StandsNew (Replaced i s t) text k) same (record { start = d.stands.start; end = d.stands.end; bytes = d.stands.bytes; makes = d.makes })
+    subst (λ k. StandsNew (Replaced i s t ps) text k) same (record { start = d.stands.start; end = d.stands.end; bytes = d.stands.bytes; makes = d.makes })
 
 -- a mark leaves the text
 pub mark-leaves : (e : Entry) (text : List ℕ) → place e ≡ None → apply (event_of (inverse e)) text ≡ Some text
 unfolding apply
 mark-leaves Begin text p = refl
 mark-leaves End text p = refl
-mark-leaves (Inserted i s) text p = cc
-mark-leaves (Deleted i s) text p = cc
-mark-leaves (Replaced i s t) text p = cc
+mark-leaves (Inserted i s ps) text p = cc
+mark-leaves (Deleted i s ps) text p = cc
+mark-leaves (Replaced i s t ps) text p = cc
 
 place-inverse : (e : Entry) → place (inverse e) ≡ place e
 place-inverse Begin = refl
 place-inverse End = refl
-place-inverse (Inserted i s) = refl
-place-inverse (Deleted i s) = refl
-place-inverse (Replaced i s t) = refl
+place-inverse (Inserted i s ps) = refl
+place-inverse (Deleted i s ps) = refl
+place-inverse (Replaced i s t ps) = refl
+
+-- where the cursor goes where an entry is taken back, if it was not told
+pub place_after-is : (e : Entry) (at cursor : ℕ) → place e ≡ Some at → place_after cursor (inverse e) ≡ at + length (old_text e)
+place_after-is Begin at cursor p = cc
+place_after-is End at cursor p = cc
+place_after-is (Inserted i s ps) at cursor p = let same : i ≡ at = cc in omega arith
+place_after-is (Deleted i s ps) at cursor p = let same : i ≡ at = cc in ap (λ k. k + length s) same
+place_after-is (Replaced i s t ps) at cursor p = let same : i ≡ at = cc in ap (λ k. k + length s) same
 
 -- both ways the place is the same
 pub place-faced : (way : Way) (change : Change) → place (faced way change) ≡ place (entry_of change)
@@ -94,13 +103,13 @@ pub fits-is : (e : Entry) (text : List ℕ) (at : ℕ) → place e ≡ Some at �
 unfolding apply fits_at
 fits-is Begin text at p u = cc
 fits-is End text at p u = cc
-fits-is (Inserted i s) text at p u =
+fits-is (Inserted i s ps) text at p u =
     let same : i ≡ at = cc in
     tested (stands_at text i s) _ ∙ ap (λ k. stands_at text k s) same
-fits-is (Deleted i s) text at p u =
+fits-is (Deleted i s ps) text at p u =
     let same : i ≡ at = cc in
     tested (fits_at text i s) _ ∙ ap (λ b. b && is_boundary text i) (is_utf8-from_IsUtf8 s u) ∙ sym (nothing-stands text i) ∙ ap (λ k. stands_at text k []) same
-fits-is (Replaced i s t) text at p u =
+fits-is (Replaced i s t ps) text at p u =
     let same : i ≡ at = cc in
     tested (stands_at text i t && is_utf8 s) _ ∙ right_true (stands_at text i t) (is_utf8 s) (is_utf8-from_IsUtf8 s u) ∙ ap (λ k. stands_at text k t) same
 
@@ -108,14 +117,14 @@ fits-is (Replaced i s t) text at p u =
 pub old_text-utf8 : (way : Way) (change : Change) → IsUtf8 (old_text (faced way change))
 old_text-utf8 Back made.Begin = IsUtf8-nil
 old_text-utf8 Back made.End = IsUtf8-nil
-old_text-utf8 Back (made.Insert i s) = IsUtf8-nil
-old_text-utf8 Back (made.Delete i s) = IsUtf8-string_bytes s
-old_text-utf8 Back (made.Replace i s t) = IsUtf8-string_bytes s
+old_text-utf8 Back (made.Insert i s ps) = IsUtf8-nil
+old_text-utf8 Back (made.Delete i s ps) = IsUtf8-string_bytes s
+old_text-utf8 Back (made.Replace i s t ps) = IsUtf8-string_bytes s
 old_text-utf8 Ahead made.Begin = IsUtf8-nil
 old_text-utf8 Ahead made.End = IsUtf8-nil
-old_text-utf8 Ahead (made.Insert i s) = IsUtf8-string_bytes s
-old_text-utf8 Ahead (made.Delete i s) = IsUtf8-nil
-old_text-utf8 Ahead (made.Replace i s t) = IsUtf8-string_bytes t
+old_text-utf8 Ahead (made.Insert i s ps) = IsUtf8-string_bytes s
+old_text-utf8 Ahead (made.Delete i s ps) = IsUtf8-nil
+old_text-utf8 Ahead (made.Replace i s t ps) = IsUtf8-string_bytes t
 
 -- what stands between two boundaries is told by its bytes
 pub stands_at-is : (text : List ℕ) (i : ℕ) (s : List ℕ) → IsUtf8 s → IsCharBoundary text i → IsCharBoundary text (i + length s) → stands_at text i s ≡ bytes_eq (slice_range text i (i + length s)) s
@@ -131,28 +140,84 @@ stands_at-not text i s h = from (stands_at text i s) refl
 
 -- ---- a text that goes over changes, the last first
 -- those before n are left, and lead from the text now to where all lead from the text at first
-pub record GoesOver (way : Way) (xs : List Change) (n : ℕ) (text now : List ℕ) : Type 0 where
-  pub rest : unwind (map (faced way) (take n xs)) now ≡ unwind (map (faced way) xs) text
+pub record GoesOver (asks : Bool) (way : Way) (xs : List Change) (n : ℕ) (text now : List ℕ) : Type 0 where
+  pub rest : text_back asks (map (faced way) (take n xs)) now ≡ text_back asks (map (faced way) xs) text
   pub within : n ≤ length xs
 
-last_one : (way : Way) (xs : List Change) (m : ℕ) (x : Change) (now : List ℕ) → m < length xs → x ≡ get_or xs m x
-    → unwind (map (faced way) (take (m + 1) xs)) now ≡ option_and_then (unwind (map (faced way) (take m xs))) (apply (event_of (inverse (faced way x))) now)
-last_one way xs m x now lt e =
-    ap (λ ys. unwind (map (faced way) ys) now) ((take_at_read xs m x lt).1 ∙ ap (λ y. take m xs ++ y ∷ []) (sym e))
-    ∙ ap (λ es. unwind es now) (map-append (faced way) (take m xs) (x ∷ []))
-    ∙ unwind-append (map (faced way) (take m xs)) (faced way x ∷ []) now
+text_back-append : (asks : Bool) (xs ys : List Entry) (text : List ℕ) → text_back asks (xs ++ ys) text ≡ option_and_then (text_back asks xs) (text_back asks ys text)
+text_back-append asks [] ys text = some_again (text_back asks ys text)
+  where
+    some_again : (o : Option (List ℕ)) → o ≡ option_and_then (λ t. Some t) o
+    some_again None = refl
+    some_again (Some t) = refl
+text_back-append asks (x ∷ xs) ys text =
+    ap (option_and_then (text_after asks (inverse x))) (text_back-append asks xs ys text) ∙ joined (text_back asks ys text)
+  where
+    joined : (o : Option (List ℕ)) → option_and_then (text_after asks (inverse x)) (option_and_then (text_back asks xs) o) ≡ option_and_then (text_back asks (x ∷ xs)) o
+    joined None = refl
+    joined (Some t) = refl
 
-pub GoesOver-next : (way : Way) (xs : List Change) (m : ℕ) (x : Change) (text now next : List ℕ) → m < length xs → x ≡ get_or xs m x → GoesOver way xs (m + 1) text now
-    → apply (event_of (inverse (faced way x))) now ≡ Some next → GoesOver way xs m text next
-GoesOver-next way xs m x text now next lt e g h = record {
-  rest = sym (last_one way xs m x now lt e ∙ ap (option_and_then (unwind (map (faced way) (take m xs)))) h) ∙ g.rest;
+last_one : (asks : Bool) (way : Way) (xs : List Change) (m : ℕ) (x : Change) (now : List ℕ) → m < length xs → x ≡ get_or xs m x
+    → text_back asks (map (faced way) (take (m + 1) xs)) now ≡ option_and_then (text_back asks (map (faced way) (take m xs))) (text_after asks (inverse (faced way x)) now)
+last_one asks way xs m x now lt e =
+    ap (λ ys. text_back asks (map (faced way) ys) now) ((take_at_read xs m x lt).1 ∙ ap (λ y. take m xs ++ y ∷ []) (sym e))
+    ∙ ap (λ es. text_back asks es now) (map-append (faced way) (take m xs) (x ∷ []))
+    ∙ text_back-append asks (map (faced way) (take m xs)) (faced way x ∷ []) now
+
+pub GoesOver-next : (asks : Bool) (way : Way) (xs : List Change) (m : ℕ) (x : Change) (text now next : List ℕ) → m < length xs → x ≡ get_or xs m x → GoesOver asks way xs (m + 1) text now
+    → apply (event_of (inverse (faced way x))) now ≡ Some next → cursor_stands asks (inverse (faced way x)) next ≡ true → GoesOver asks way xs m text next
+GoesOver-next asks way xs m x text now next lt e g h stands = record {
+  rest =
+      let one : text_after asks (inverse (faced way x)) now ≡ Some next =
+      ap (option_and_then (λ t. cond (cursor_stands asks (inverse (faced way x)) t) (Some t) None)) h ∙ ap (λ b. cond b (Some next) None) stands in
+      sym (last_one asks way xs m x now lt e ∙ ap (option_and_then (text_back asks (map (faced way) (take m xs)))) one) ∙ g.rest;
   within = omega arith;
 }
 
-pub GoesOver-not : (way : Way) (xs : List Change) (m : ℕ) (x : Change) (text now : List ℕ) → m < length xs → x ≡ get_or xs m x → GoesOver way xs (m + 1) text now
-    → is_some (apply (event_of (inverse (faced way x))) now) ≡ false → None ≡ unwind (map (faced way) xs) text
-GoesOver-not way xs m x text now lt e g h = sym (ap (option_and_then (unwind (map (faced way) (take m xs)))) (none (apply (event_of (inverse (faced way x))) now) h)) ∙ sym (last_one way xs m x now lt e) ∙ g.rest
+-- one that does not fit, or whose cursor would not stand
+goes_not : (asks : Bool) (way : Way) (xs : List Change) (m : ℕ) (x : Change) (text now : List ℕ) → m < length xs → x ≡ get_or xs m x → GoesOver asks way xs (m + 1) text now
+    → text_after asks (inverse (faced way x)) now ≡ None → None ≡ text_back asks (map (faced way) xs) text
+goes_not asks way xs m x text now lt e g h =
+    sym (ap (option_and_then (text_back asks (map (faced way) (take m xs)))) h) ∙ sym (last_one asks way xs m x now lt e) ∙ g.rest
+
+pub GoesOver-not : (asks : Bool) (way : Way) (xs : List Change) (m : ℕ) (x : Change) (text now : List ℕ) → m < length xs → x ≡ get_or xs m x → GoesOver asks way xs (m + 1) text now
+    → is_some (apply (event_of (inverse (faced way x))) now) ≡ false → None ≡ text_back asks (map (faced way) xs) text
+GoesOver-not asks way xs m x text now lt e g h =
+    goes_not asks way xs m x text now lt e g (none (apply (event_of (inverse (faced way x))) now) h)
   where
-    none : (o : Option (List ℕ)) → is_some o ≡ false → o ≡ None
+    none : (o : Option (List ℕ)) → is_some o ≡ false → option_and_then (λ t. cond (cursor_stands asks (inverse (faced way x)) t) (Some t) None) o ≡ None
     none None h = refl
     none (Some t) h = cc
+
+pub GoesOver-astray : (asks : Bool) (way : Way) (xs : List Change) (m : ℕ) (x : Change) (text now next : List ℕ) → m < length xs → x ≡ get_or xs m x → GoesOver asks way xs (m + 1) text now
+    → apply (event_of (inverse (faced way x))) now ≡ Some next → cursor_stands asks (inverse (faced way x)) next ≡ false → None ≡ text_back asks (map (faced way) xs) text
+GoesOver-astray asks way xs m x text now next lt e g h astray =
+    goes_not asks way xs m x text now lt e g
+    (ap (option_and_then (λ t. cond (cursor_stands asks (inverse (faced way x)) t) (Some t) None)) h ∙ ap (λ b. cond b (Some next) None) astray)
+
+-- where no cursor is asked for, that is unwinding
+pub text_back-unwind : (es : List Entry) (text : List ℕ) → text_back false es text ≡ unwind es text
+text_back-unwind [] text = refl
+text_back-unwind (e ∷ es) text = ap (option_and_then (text_after false (inverse e))) (text_back-unwind es text) ∙ from (unwind es text)
+  where
+    plain : (o : Option (List ℕ)) → option_and_then (λ t. Some t) o ≡ o
+    plain None = refl
+    plain (Some t) = refl
+
+    from : (o : Option (List ℕ)) → option_and_then (text_after false (inverse e)) o ≡ option_and_then (apply (event_of (inverse e))) o
+    from None = refl
+    from (Some t) = plain (apply (event_of (inverse e)) t)
+
+-- the test of a cursor that was told
+pub cursor_stands-told : (asks : Bool) (e : Entry) (text : List ℕ) (cursor : ℕ) (b : Bool) → asks ≡ true → cursor_told e ≡ Some cursor
+    → (b ≡ true → IsCharBoundary text cursor) × (IsCharBoundary text cursor → b ≡ true) → b ≡ cursor_stands asks e text
+cursor_stands-told false e text cursor b asked told test = cc
+cursor_stands-told true e text cursor b asked told test = from b refl ∙ ap (λ o. option_map_or (is_boundary text) o true) (sym told)
+  where
+    from : (c : Bool) → b ≡ c → b ≡ is_boundary text cursor
+    from true is = is ∙ sym (is_boundary-true text cursor (test.0 is))
+    from false is = is ∙ no (is_boundary text cursor) refl
+      where
+        no : (d : Bool) → is_boundary text cursor ≡ d → false ≡ d
+        no false k = refl
+        no true k = let t = test.1 (is_boundary-means text cursor k) in cc

@@ -57,9 +57,9 @@ marks-deep (End ∷ es) (false ∷ fs) gs h = cc
 marks-deep (End ∷ es) (true ∷ fs) gs h =
     let one : length (touched fs) ≡ suc (length fs) - 1 = length-touched fs ∙ (omega arith) in
     marks-deep es (touched fs) gs h ∙ ap (λ d. deep d es) one
-marks-deep (Inserted i s ∷ es) fs gs h = marks-deep es (touched fs) gs h ∙ ap (λ d. deep d es) (length-touched fs)
-marks-deep (Deleted i s ∷ es) fs gs h = marks-deep es (touched fs) gs h ∙ ap (λ d. deep d es) (length-touched fs)
-marks-deep (Replaced i s t ∷ es) fs gs h = marks-deep es (touched fs) gs h ∙ ap (λ d. deep d es) (length-touched fs)
+marks-deep (Inserted i s ps ∷ es) fs gs h = marks-deep es (touched fs) gs h ∙ ap (λ d. deep d es) (length-touched fs)
+marks-deep (Deleted i s ps ∷ es) fs gs h = marks-deep es (touched fs) gs h ∙ ap (λ d. deep d es) (length-touched fs)
+marks-deep (Replaced i s t ps ∷ es) fs gs h = marks-deep es (touched fs) gs h ∙ ap (λ d. deep d es) (length-touched fs)
 
 -- the level counts the groups that are opened and not closed
 pub level-counted : (es : List Entry) → IsMatched es → level es ≡ deep 0 es

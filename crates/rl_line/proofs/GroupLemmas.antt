@@ -2,11 +2,12 @@
 use Rattle.std.proofs.Common.{◌≡◌, ℕ, ◌+◌, suc, Bool, true, false, List, [], ◌∷◌, ◌++◌, length, drop, Some, refl, sym, ap, subst, ◌∙◌, arith, append-nil, append_assoc, add-zero}
 use Rattle.std.specs.Prelude.{IsSome, zero, not, ◌||◌}
 use Rattle.rl_base.specs.Event.{Event, InsertChar, InsertStr, Delete, Replace, Start, Stop, Cursors}
-use Rattle.rl_line.specs.Record.{Entry, Begin, End, Inserted, Deleted, Replaced, Record, entries_after, record_step}
+use Rattle.rl_line.specs.Record.{Entry, Begin, End, Inserted, Deleted, Replaced, Record, entries_after, record_step, last_told}
 use Rattle.rl_line.specs.Units.{UndoUnit, Open, Whole, close, units, together, opens, level, has_change, is_change, end_one, end_times, ends_in_begin, adds_end, begun, ended, marks, mark, IsMatched, GroupAt, InGroup, Hears, Begins, after_in_group}
 use Rattle.rl_line.proofs.RecordLemmas.{value_of}
 use Rattle.rl_line.proofs.UnitLemmas.{AllGood, AllGood-left, or_true, together-append, Settles, flags_on, cut_good, cut_more-append, good_cuts, units-good, together-units, IsMatched-front, IsMatched-together}
 use Rattle.rl_line.proofs.MatchLemmas.{marks-last, level-is, end_one-cons, IsMatched-after, IsMatched-begin}
+use Rattle.rl_line.proofs.ToldLemmas.{recorded-cases, last_told-marks, last_told-begin}
 
 pub has_change-append : (xs ys : List Entry) → has_change (xs ++ ys) ≡ has_change xs || has_change ys
 has_change-append [] ys = refl
@@ -28,9 +29,9 @@ stays_quiet (Begin ∷ es) fs gs c q h = stays_quiet es (false ∷ fs) gs c q h
 stays_quiet (End ∷ es) [] gs c q h = cc
 stays_quiet (End ∷ es) (false ∷ fs) gs c q h = cc
 stays_quiet (End ∷ es) (true ∷ fs) gs c q h = cc
-stays_quiet (Inserted i s ∷ es) fs gs c q h = cc
-stays_quiet (Deleted i s ∷ es) fs gs c q h = cc
-stays_quiet (Replaced i s t ∷ es) fs gs c q h = cc
+stays_quiet (Inserted i s ps ∷ es) fs gs c q h = cc
+stays_quiet (Deleted i s ps ∷ es) fs gs c q h = cc
+stays_quiet (Replaced i s t ps ∷ es) fs gs c q h = cc
 
 Settles-change : (es : List Entry) → Settles es → has_change es ≡ true
 unfolding quiet
@@ -114,9 +115,9 @@ all_begins (Begin ∷ es) fs c q h = ap (λ x. Begin ∷ x) (all_begins es (fals
 all_begins (End ∷ es) [] c q h = cc
 all_begins (End ∷ es) (false ∷ fs) c q h = cc
 all_begins (End ∷ es) (true ∷ fs) c q h = cc
-all_begins (Inserted i s ∷ es) fs c q h = cc
-all_begins (Deleted i s ∷ es) fs c q h = cc
-all_begins (Replaced i s t ∷ es) fs c q h = cc
+all_begins (Inserted i s ps ∷ es) fs c q h = cc
+all_begins (Deleted i s ps ∷ es) fs c q h = cc
+all_begins (Replaced i s t ps ∷ es) fs c q h = cc
 
 -- a Begin at the end is what an end takes off
 end_one-begin : (es : List Entry) → end_one (es ++ Begin ∷ []) ≡ es
@@ -128,14 +129,14 @@ ends_in_begin-begin : (es : List Entry) → ends_in_begin (es ++ Begin ∷ []) �
 ends_in_begin-begin [] = refl
 ends_in_begin-begin (Begin ∷ []) = refl
 ends_in_begin-begin (End ∷ []) = refl
-ends_in_begin-begin (Inserted i s ∷ []) = refl
-ends_in_begin-begin (Deleted i s ∷ []) = refl
-ends_in_begin-begin (Replaced i s t ∷ []) = refl
+ends_in_begin-begin (Inserted i s ps ∷ []) = refl
+ends_in_begin-begin (Deleted i s ps ∷ []) = refl
+ends_in_begin-begin (Replaced i s t ps ∷ []) = refl
 ends_in_begin-begin (Begin ∷ (d ∷ ds)) = ends_in_begin-begin (d ∷ ds)
 ends_in_begin-begin (End ∷ (d ∷ ds)) = ends_in_begin-begin (d ∷ ds)
-ends_in_begin-begin (Inserted i s ∷ (d ∷ ds)) = ends_in_begin-begin (d ∷ ds)
-ends_in_begin-begin (Deleted i s ∷ (d ∷ ds)) = ends_in_begin-begin (d ∷ ds)
-ends_in_begin-begin (Replaced i s t ∷ (d ∷ ds)) = ends_in_begin-begin (d ∷ ds)
+ends_in_begin-begin (Inserted i s ps ∷ (d ∷ ds)) = ends_in_begin-begin (d ∷ ds)
+ends_in_begin-begin (Deleted i s ps ∷ (d ∷ ds)) = ends_in_begin-begin (d ∷ ds)
+ends_in_begin-begin (Replaced i s t ps ∷ (d ∷ ds)) = ends_in_begin-begin (d ∷ ds)
 
 -- groups opened behind entries: how many are open, and what their ends do
 record OpenBehind (es : List Entry) (n : ℕ) (all : List Entry) : Type 0 where
@@ -174,18 +175,28 @@ entries_after-inside event (x ∷ []) ys = ap (λ l. x ∷ l) (entries_after-beg
 entries_after-inside event (x ∷ (z ∷ zs)) ys = ap (λ l. x ∷ l) (entries_after-inside event (z ∷ zs) ys)
 
 -- what stands in the record behind the Begin of an open group
-pub record Inside (front : List Entry) (r : Record) : Type 0 where
+pub record InsideOf (front es : List Entry) : Type 0 where
   pub inner : List Entry
-  pub is : r.recorded ≡ front ++ Begin ∷ inner
+  pub is : es ≡ front ++ Begin ∷ inner
   pub matched : IsMatched inner
+
+abbrev pub Inside : List Entry → Record → Type 0
+Inside front r = InsideOf front r.recorded
 
 pub Inside-event : (event : Event) (front : List Entry) (r : Record) → Inside front r → Inside front (record_step r event)
 unfolding record_step
-Inside-event event front r k = record {
-  inner = entries_after event k.inner;
-  is = ap (entries_after event) k.is ∙ entries_after-inside event front k.inner;
-  matched = IsMatched-after event k.inner k.matched;
-}
+Inside-event event front r k =
+    recorded-cases (λ es. InsideOf front es) event r
+    (record {
+      inner = entries_after event k.inner;
+      is = ap (entries_after event) k.is ∙ entries_after-inside event front k.inner;
+      matched = IsMatched-after event k.inner k.matched;
+    })
+    (λ es p i. record {
+      inner = last_told p i.inner;
+      is = ap (last_told p) i.is ∙ last_told-begin p front i.inner;
+      matched = subst IsSome (sym (last_told-marks p i.inner [])) i.matched;
+    })
 
 pub Inside-begun : (front : List Entry) (r : Record) → Inside front r → Inside front (begun r)
 Inside-begun front r k = record {

@@ -6,13 +6,14 @@ use Rattle.std.specs.Option.{option_map_or}
 use Rattle.std.specs.Prelude.{IfErr, IfOk, Result}
 use Rattle.std.specs.Str.{chars}
 use Rattle.unicode_segmentation.specs.Segments.{cut, segments}
-use Rattle.rl_base.specs.Event.{Event, InsertStr, Delete, Start, Stop, Cursors}
+use Rattle.rl_base.specs.Event.{Event, InsertStr, Delete, Start, Stop}
 use Rattle.rl_base.specs.declared.listeners.Direction.{Direction}
 use Rattle.rl_base.specs.declared.listeners.Direction.TheVariants.{Forward}
 use Rattle.rl_base.specs.declared.listeners.Refusal.{Refusal}
 use Rattle.rl_base.specs.declared.listeners.Refusal.TheVariants.{NoMemory}
 use Rattle.rl_line.specs.declared.change.Change.{Change}
-use Rattle.rl_line.specs.Record.{Entry, Begin, End, Inserted, Deleted, Replaced, Record, entries_after, entries_of, entry_of, joined, record_step}
+use Rattle.rl_line.specs.Record.{Entry, Begin, End, Inserted, Deleted, Replaced, Record, cursors_of, entries_after, entries_of, entry_of, freshness_added, freshness_joined, freshness_of, joined, last_cursors, last_told, record_step, with_cursors}
+use Rattle.rl_line.specs.declared.change.Freshness.TheVariants.{Stale}
 use Rattle.rl_line.specs.Change.{TakesIn}
 use Rattle.rl_line.specs.Entries.{JoinsLast}
 
@@ -35,6 +36,38 @@ added-last event (z ∷ []) (suc k) x n is e = absurd (omega arith)
 added-last event (z ∷ (w ∷ ws)) zero x n is e = absurd (omega arith)
 added-last event (z ∷ (w ∷ ws)) (suc k) x n is e = ap (λ es. entry_of z ∷ es) (added-last event (w ∷ ws) k x (omega arith) is e)
 
+-- what may be told of the last entry then
+joined-fresh : (event : Event) (xs : List Change) (k : ℕ) (x : Change) (joint : Entry) → suc k ≡ length xs → x ≡ get_or xs k x → joined event (entry_of x) ≡ Some joint
+    → freshness_of event (map entry_of xs) ≡ freshness_joined (last_cursors (map entry_of xs))
+joined-fresh event [] k x joint n is e = absurd (omega arith)
+joined-fresh event (z ∷ []) zero x joint n is e =
+    ap (λ o. option_map_or (λ _. freshness_joined (cursors_of (entry_of z))) o (freshness_added (entries_of event))) (ap (λ (w : Change). joined event (entry_of w)) (sym is) ∙ e)
+joined-fresh event (z ∷ []) (suc k) x joint n is e = absurd (omega arith)
+joined-fresh event (z ∷ (w ∷ ws)) zero x joint n is e = absurd (omega arith)
+joined-fresh event (z ∷ (w ∷ ws)) (suc k) x joint n is e = joined-fresh event (w ∷ ws) k x joint (omega arith) is e
+
+added-fresh : (event : Event) (xs : List Change) (k : ℕ) (x : Change) → suc k ≡ length xs → x ≡ get_or xs k x → joined event (entry_of x) ≡ None
+    → freshness_of event (map entry_of xs) ≡ freshness_added (entries_of event)
+added-fresh event [] k x n is e = absurd (omega arith)
+added-fresh event (z ∷ []) zero x n is e =
+    ap (λ o. option_map_or (λ _. freshness_joined (cursors_of (entry_of z))) o (freshness_added (entries_of event))) (ap (λ (w : Change). joined event (entry_of w)) (sym is) ∙ e)
+added-fresh event (z ∷ []) (suc k) x n is e = absurd (omega arith)
+added-fresh event (z ∷ (w ∷ ws)) zero x n is e = absurd (omega arith)
+added-fresh event (z ∷ (w ∷ ws)) (suc k) x n is e = added-fresh event (w ∷ ws) k x (omega arith) is e
+
+-- the last entry is told its cursors
+told-last : (cursors : ℕ × ℕ) (xs : List Change) (k : ℕ) (x y : Change) → suc k ≡ length xs → x ≡ get_or xs k x → entry_of y ≡ with_cursors cursors (entry_of x)
+    → map entry_of (set xs k y) ≡ last_told cursors (map entry_of xs)
+told-last cursors [] k x y n is e = absurd (omega arith)
+told-last cursors (z ∷ []) zero x y n is e = ap (λ w. w ∷ []) (e ∙ ap (λ (w : Change). with_cursors cursors (entry_of w)) is)
+told-last cursors (z ∷ []) (suc k) x y n is e = absurd (omega arith)
+told-last cursors (z ∷ (w ∷ ws)) zero x y n is e = absurd (omega arith)
+told-last cursors (z ∷ (w ∷ ws)) (suc k) x y n is e = ap (λ es. entry_of z ∷ es) (told-last cursors (w ∷ ws) k x y (omega arith) is e)
+
+pub told-last-of : (cursors : ℕ × ℕ) (xs : List Change) (n : ℕ) (x y : Change) → n ≡ length xs → 0 < n → x ≡ get_or xs (n - 1) x
+    → entry_of y ≡ with_cursors cursors (entry_of x) → map entry_of (set xs (n - 1) y) ≡ last_told cursors (map entry_of xs)
+told-last-of cursors xs n x y count some is e = told-last cursors xs (n - 1) x y (omega arith) is e
+
 same-last : (xs : List Change) (k : ℕ) (x y : Change) → k < length xs → x ≡ get_or xs k x → entry_of y ≡ entry_of x → map entry_of (set xs k y) ≡ map entry_of xs
 same-last [] k x y l is e = absurd (omega arith)
 same-last (z ∷ xs) zero x y l is e = ap (λ w. w ∷ map entry_of xs) (e ∙ ap entry_of is)
@@ -43,8 +76,8 @@ same-last (z ∷ xs) (suc k) x y l is e = ap (λ es. entry_of z ∷ es) (same-la
 -- the entries, of which the last took the event in or did not
 joins_last : (event : Event) (xs : List Change) (k : ℕ) (x y : Change) (answer : Bool) → suc k ≡ length xs → x ≡ get_or xs k x → TakesIn event (entry_of x) (entry_of y) answer
     → JoinsLast event (map entry_of xs) (map entry_of (set xs k y)) answer
-joins_last event xs k x y true n is t = joined-last event xs k x y n is t.0
-joins_last event xs k x y false n is t = (same-last xs k x y (omega arith) is (t.1 refl), added-last event xs k x n is t.0)
+joins_last event xs k x y true n is t = (joined-last event xs k x y n is t.0, joined-fresh event xs k x (entry_of y) n is t.0)
+joins_last event xs k x y false n is t = (same-last xs k x y (omega arith) is (t.1 refl), added-last event xs k x n is t.0, added-fresh event xs k x n is t.0)
 
 -- the same of what a call on the last entry answers, and of a call that was refused
 pub joins_last-ok : (event : Event) (xs : List Change) (n : ℕ) (x y : Change) (result : Result Bool Refusal) → n ≡ length xs → 0 < n → x ≡ get_or xs (n - 1) x
@@ -71,9 +104,29 @@ pub record_step-Stop : (r : Record) → record_step r Stop ≡ r
 unfolding record_step entries_of
 record_step-Stop r = ap (λ es. record r { recorded = es }) (added Stop (λ e. refl) r.recorded ∙ append-nil r.recorded)
 
-pub record_step-Cursors : (r : Record) (before after : ℕ) → record_step r (Cursors before after) ≡ r
-unfolding record_step entries_of
-record_step-Cursors r before after = ap (λ es. record r { recorded = es }) (added (Cursors before after) (λ e. refl) r.recorded ∙ append-nil r.recorded)
+fresh-alone : (event : Event) → ((e : Entry) → joined event e ≡ None) → (es : List Entry) → freshness_of event es ≡ freshness_added (entries_of event)
+fresh-alone event none [] = refl
+fresh-alone event none (e ∷ []) = ap (λ o. option_map_or (λ _. freshness_joined (cursors_of e)) o (freshness_added (entries_of event))) (none e)
+fresh-alone event none (e ∷ (d ∷ ds)) = fresh-alone event none (d ∷ ds)
+
+pub fresh-InsertStr : (es : List Entry) (i : ℕ) (s : List ℕ) → freshness_of (InsertStr i s) es ≡ freshness_added (entries_of (InsertStr i s))
+fresh-InsertStr es i s = fresh-alone (InsertStr i s) (λ e. refl) es
+
+pub fresh-InsertStr-nothing : (es : List Entry) (i : ℕ) (s : List ℕ) → length s ≡ 0 → freshness_of (InsertStr i s) es ≡ Stale
+unfolding entries_of
+fresh-InsertStr-nothing es i s e = ap (λ (t : List ℕ). freshness_of (InsertStr i t) es) (nil_from_length s e) ∙ fresh-InsertStr es i []
+
+pub fresh-Delete-nothing : (es : List Entry) (i : ℕ) (s : List ℕ) (side : Direction) → length s ≡ 0 → freshness_of (Delete i s side) es ≡ Stale
+unfolding entries_of segments cut chars
+fresh-Delete-nothing es i s side e =
+    ap (λ (t : List ℕ). freshness_of (Delete i t side) es) (nil_from_length s e) ∙ fresh-alone (Delete i [] side) none es
+  where
+    none : (e : Entry) → joined (Delete i [] side) e ≡ None
+    none Begin = refl
+    none End = refl
+    none (Inserted j t ps) = refl
+    none (Deleted j t ps) = refl
+    none (Replaced j o w ps) = refl
 
 pub after-InsertStr : (es : List Entry) (i : ℕ) (s : List ℕ) → entries_after (InsertStr i s) es ≡ es ++ entries_of (InsertStr i s)
 after-InsertStr es i s = added (InsertStr i s) (λ e. refl) es
@@ -90,17 +143,17 @@ after-Delete-nothing es i s side e =
     none : (e : Entry) → joined (Delete i [] side) e ≡ None
     none Begin = refl
     none End = refl
-    none (Inserted j t) = refl
-    none (Deleted j t) = refl
-    none (Replaced j o w) = refl
+    none (Inserted j t ps) = refl
+    none (Deleted j t ps) = refl
+    none (Replaced j o w ps) = refl
 
 -- ---- the side from which a text is taken is not recorded
 joined-side : (i : ℕ) (s : List ℕ) (side : Direction) (e : Entry) → joined (Delete i s Forward) e ≡ joined (Delete i s side) e
 joined-side i s side Begin = refl
 joined-side i s side End = refl
-joined-side i s side (Inserted j t) = refl
-joined-side i s side (Deleted j t) = refl
-joined-side i s side (Replaced j o w) = refl
+joined-side i s side (Inserted j t ps) = refl
+joined-side i s side (Deleted j t ps) = refl
+joined-side i s side (Replaced j o w ps) = refl
 
 after-side : (i : ℕ) (s : List ℕ) (side : Direction) (es : List Entry) → entries_after (Delete i s Forward) es ≡ entries_after (Delete i s side) es
 unfolding entries_of
@@ -108,10 +161,18 @@ after-side i s side [] = refl
 after-side i s side (e ∷ []) = ap (λ o. option_map_or (λ joint. joint ∷ []) o (e ∷ entries_of (Delete i s Forward))) (joined-side i s side e)
 after-side i s side (e ∷ (d ∷ ds)) = ap (λ es. e ∷ es) (after-side i s side (d ∷ ds))
 
+fresh-side : (i : ℕ) (s : List ℕ) (side : Direction) (es : List Entry) → freshness_of (Delete i s Forward) es ≡ freshness_of (Delete i s side) es
+unfolding entries_of
+fresh-side i s side [] = refl
+fresh-side i s side (e ∷ []) = ap (λ o. option_map_or (λ _. freshness_joined (cursors_of e)) o (freshness_added (entries_of (Delete i s Forward)))) (joined-side i s side e)
+fresh-side i s side (e ∷ (d ∷ ds)) = fresh-side i s side (d ∷ ds)
+
 pub record_step-side : (i : ℕ) (s : List ℕ) (side : Direction) (r : Record) → record_step r (Delete i s Forward) ≡ record_step r (Delete i s side)
 unfolding record_step
-record_step-side i s side r = ap (λ es. record { recorded = es; pending = [] }) (after-side i s side r.recorded)
+record_step-side i s side r =
+    ap (λ es. record { recorded = es; pending = []; fresh = freshness_of (Delete i s Forward) r.recorded }) (after-side i s side r.recorded)
+    ∙ ap (λ f. record { recorded = entries_after (Delete i s side) r.recorded; pending = []; fresh = f }) (fresh-side i s side r.recorded)
 
-pub ruleset alone = (record_step-Start, record_step-Stop, record_step-Cursors)
+pub ruleset alone = (record_step-Start, record_step-Stop)
 
-pub ruleset alone_in_list = (after-InsertStr, after-InsertStr-nothing, after-Delete-nothing)
+pub ruleset alone_in_list = (after-InsertStr, after-InsertStr-nothing, after-Delete-nothing, fresh-InsertStr, fresh-InsertStr-nothing, fresh-Delete-nothing)

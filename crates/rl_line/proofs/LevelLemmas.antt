@@ -8,7 +8,7 @@ use Rattle.std.specs.Prelude.{◌&&◌, ◌==◌, encode_utf8, max, not}
 use Rattle.rl_base.specs.Event.{Event, InsertChar, InsertStr, Delete, Replace, Start, Stop, Cursors}
 use Rattle.rl_base.specs.Classes.{is_alphanumeric, is_word_cluster}
 use Rattle.rl_line.specs.declared.change.Change.{Change}
-use Rattle.rl_line.specs.Record.{Entry, Begin, End, Inserted, Deleted, Replaced, Record, entries_after, entries_of, entry_of, joined, record_step}
+use Rattle.rl_line.specs.Record.{Entry, Begin, End, Inserted, Deleted, Replaced, Record, entries_after, entries_of, entry_of, joined, record_step, recorded_after}
 use Rattle.rl_line.specs.Units.{AtLevel, IsMatched, begun, ended, is_change, kept_of, last_of, level, mark, marks, opens, redo_of, redone, touched, truncated, undone, units}
 use Rattle.rl_line.specs.Entries.{deep}
 use Rattle.rl_line.proofs.CountLemmas.{level-counted}
@@ -16,6 +16,7 @@ use Rattle.rl_line.proofs.EntryLemmas.{deep-append}
 use Rattle.rl_line.proofs.MatchLemmas.{AllGood-take, BothMatched-begun, BothMatched-ended, BothMatched-redone, BothMatched-step, BothMatched-truncated, BothMatched-undone, IsMatched-after, Lower-end_times, Redoes-of, length-touched, level-is, marks-last}
 use Rattle.rl_line.proofs.RecordLemmas.{if_else, if_some, unless, value_of}
 use Rattle.rl_line.proofs.UnitLemmas.{IsMatched-front, IsMatched-together, cut_more-append, kept-last, opens-append, units-append, units-good}
+use Rattle.rl_line.proofs.ToldLemmas.{recorded-cases, last_told-deep}
 
 -- ---- an event
 deep-entries_of : (event : Event) (d : ℕ) → deep d (entries_of event) ≡ d
@@ -23,12 +24,12 @@ unfolding entries_of
 deep-entries_of (InsertChar i c) d = refl
 deep-entries_of (InsertStr i s) d = none_or_one (length s == 0)
   where
-    none_or_one : (b : Bool) → deep d (cond b [] (Inserted i s ∷ [])) ≡ d
+    none_or_one : (b : Bool) → deep d (cond b [] (Inserted i s None ∷ [])) ≡ d
     none_or_one true = refl
     none_or_one false = refl
 deep-entries_of (Delete i s side) d = none_or_one (length s == 0)
   where
-    none_or_one : (b : Bool) → deep d (cond b [] (Deleted i s ∷ [])) ≡ d
+    none_or_one : (b : Bool) → deep d (cond b [] (Deleted i s None ∷ [])) ≡ d
     none_or_one true = refl
     none_or_one false = refl
 deep-entries_of (Replace i s t) d = refl
@@ -38,17 +39,17 @@ deep-entries_of (Cursors b a) d = refl
 
 -- what joins is a change, and so is what it joins
 deep-joint : (event : Event) (e joint : Entry) (d : ℕ) → joined event e ≡ Some joint → deep d (joint ∷ []) ≡ deep d (e ∷ [])
-deep-joint (InsertChar i c) (Inserted j s) joint d h =
-    let b = if_some (is_alphanumeric c && (j + length s == i)) (Inserted j (s ++ encode_utf8 c)) joint h in
+deep-joint (InsertChar i c) (Inserted j s ps) joint d h =
+    let b = if_some (is_alphanumeric c && (j + length s == i)) (Inserted j (s ++ encode_utf8 c) None) joint h in
     subst (λ k. deep d (k ∷ []) ≡ d) b.1 refl
-deep-joint (Delete i s side) (Deleted j t) joint d h =
-    let before = cond (i + length s == j) (Some (Deleted i (s ++ t))) None in
-    elim (if_else (j == i) (Deleted i (t ++ s)) joint before (unless (not (is_word_cluster s)) joint (cond (j == i) (Some (Deleted i (t ++ s))) before) h)) [
+deep-joint (Delete i s side) (Deleted j t ps) joint d h =
+    let before = cond (i + length s == j) (Some (Deleted i (s ++ t) None)) None in
+    elim (if_else (j == i) (Deleted i (t ++ s) None) joint before (unless (not (is_word_cluster s)) joint (cond (j == i) (Some (Deleted i (t ++ s) None)) before) h)) [
       | inl b ↦ subst (λ k. deep d (k ∷ []) ≡ d) b.1 refl
-      | inr k ↦ subst (λ k. deep d (k ∷ []) ≡ d) (if_some (i + length s == j) (Deleted i (s ++ t)) joint k).1 refl
+      | inr k ↦ subst (λ k. deep d (k ∷ []) ≡ d) (if_some (i + length s == j) (Deleted i (s ++ t) None) joint k).1 refl
     ]
-deep-joint (Replace i s t) (Replaced j o w) joint d h =
-    let b = if_some (j + length w == i) (Replaced j (o ++ s) (w ++ t)) joint h in
+deep-joint (Replace i s t) (Replaced j o w ps) joint d h =
+    let b = if_some (j + length w == i) (Replaced j (o ++ s) (w ++ t) None) joint h in
     subst (λ k. deep d (k ∷ []) ≡ d) b.1 refl
 deep-joint event e joint d h = cc
 
@@ -68,7 +69,12 @@ level-after event es h = level-counted (entries_after event es) (IsMatched-after
 
 pub AtLevel-step : (event : Event) (n : ℕ) (r : Record) → AtLevel n r → AtLevel n (record_step r event)
 unfolding record_step
-AtLevel-step event n r a = record { matched = BothMatched-step r event a.matched; level = a.level ∙ sym (level-after event r.recorded a.matched.recorded) }
+AtLevel-step event n r a = record {
+  matched = BothMatched-step r event a.matched;
+  level =
+      let counted = recorded-cases (λ es. deep 0 es ≡ deep 0 r.recorded) event r (deep-after event r.recorded 0) (λ es p e. last_told-deep p es 0 ∙ e) in
+      a.level ∙ level-counted r.recorded a.matched.recorded ∙ sym counted ∙ sym (level-counted (recorded_after event r) (BothMatched-step r event a.matched).recorded);
+}
 
 -- ---- marks at the end
 pub level-begin : (es : List Entry) → level (es ++ Begin ∷ []) ≡ suc (level es)
@@ -89,9 +95,9 @@ deep-within : (d : ℕ) (es : List Entry) → deep d es ≤ d + length es
 deep-within d [] = omega arith
 deep-within d (Begin ∷ es) = omega (arith, deep-within (suc d) es)
 deep-within d (End ∷ es) = omega (arith, deep-within (d - 1) es)
-deep-within d (Inserted i s ∷ es) = omega (arith, deep-within d es)
-deep-within d (Deleted i s ∷ es) = omega (arith, deep-within d es)
-deep-within d (Replaced i s t ∷ es) = omega (arith, deep-within d es)
+deep-within d (Inserted i s ps ∷ es) = omega (arith, deep-within d es)
+deep-within d (Deleted i s ps ∷ es) = omega (arith, deep-within d es)
+deep-within d (Replaced i s t ps ∷ es) = omega (arith, deep-within d es)
 
 -- no more groups are open than there are entries
 pub level-within : (es : List Entry) → IsMatched es → level es ≤ length es
@@ -184,9 +190,9 @@ LevelAt-end xs len at n z x m lt e b l =
 level-change : (es : List Entry) (e : Entry) → is_change e ≡ true → level (es ++ e ∷ []) ≡ level es
 level-change es Begin h = cc
 level-change es End h = cc
-level-change es (Inserted i s) h = ap opens (cut_more-append [] es (Inserted i s ∷ []))
-level-change es (Deleted i s) h = ap opens (cut_more-append [] es (Deleted i s ∷ []))
-level-change es (Replaced i s t) h = ap opens (cut_more-append [] es (Replaced i s t ∷ []))
+level-change es (Inserted i s ps) h = ap opens (cut_more-append [] es (Inserted i s ps ∷ []))
+level-change es (Deleted i s ps) h = ap opens (cut_more-append [] es (Deleted i s ps ∷ []))
+level-change es (Replaced i s t ps) h = ap opens (cut_more-append [] es (Replaced i s t ps ∷ []))
 
 pub LevelAt-change : (xs : List Change) (len at n : ℕ) (z x : Change) → len < at → get_or xs (at - 1) z ≡ x → is_change (entry_of x) ≡ true → LevelAt xs len at n
     → LevelAt xs len (at - 1) n

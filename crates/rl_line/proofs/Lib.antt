@@ -22,3 +22,4 @@ pub mod GroupLemmas
 pub mod RedoLemmas
 pub mod TranspositionLemmas
 pub mod UndoLemmas
+pub mod ToldLemmas

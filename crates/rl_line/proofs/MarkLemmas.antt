@@ -24,9 +24,9 @@ unfolding apply
 unwind-end_one [] text = refl
 unwind-end_one (Begin ∷ []) text = refl
 unwind-end_one (End ∷ []) text = refl
-unwind-end_one (Inserted i s ∷ []) text = refl
-unwind-end_one (Deleted i s ∷ []) text = refl
-unwind-end_one (Replaced i s t ∷ []) text = refl
+unwind-end_one (Inserted i s ps ∷ []) text = refl
+unwind-end_one (Deleted i s ps ∷ []) text = refl
+unwind-end_one (Replaced i s t ps ∷ []) text = refl
 unwind-end_one (e ∷ (d ∷ ds)) text = ap (option_and_then (apply (event_of (inverse e)))) (unwind-end_one (d ∷ ds) text)
 
 unwind-end_times : (n : ℕ) (es : List Entry) (text : List ℕ) → unwind (end_times n es) text ≡ unwind es text

@@ -10,18 +10,19 @@ use Rattle.rl_line.specs.Record.{Entry, Begin, End, Inserted, Deleted, Replaced,
 use Rattle.rl_line.specs.Units.{UndoUnit, Open, Whole, units, together, opens, level, last_of, kept_of, redo_from, redo_of, end_one, end_times, begun, ended, undone, redone, truncated, touched, mark, marks, IsMatched, BothMatched}
 use Rattle.rl_line.proofs.RecordLemmas.{through, value_of, if_some, if_else, unless}
 use Rattle.rl_line.proofs.UnitLemmas.{AllGood, flags_on, marks-append, IsMatched-front, IsMatched-append, IsMatched-together, AllGood-left, AllGood-right, units-good, together-units, together-append, kept-last, cut_good}
+use Rattle.rl_line.proofs.ToldLemmas.{recorded-cases, last_told-marks}
 
 entries_of-marks : (event : Event) (fs : List Bool) → IsSome (marks (entries_of event) fs)
 unfolding entries_of
 entries_of-marks (InsertChar i c) fs = refl
 entries_of-marks (InsertStr i s) fs = none_or_one (length s == 0)
   where
-    none_or_one : (b : Bool) → IsSome (marks (cond b [] (Inserted i s ∷ [])) fs)
+    none_or_one : (b : Bool) → IsSome (marks (cond b [] (Inserted i s None ∷ [])) fs)
     none_or_one true = refl
     none_or_one false = refl
 entries_of-marks (Delete i s side) fs = none_or_one (length s == 0)
   where
-    none_or_one : (b : Bool) → IsSome (marks (cond b [] (Deleted i s ∷ [])) fs)
+    none_or_one : (b : Bool) → IsSome (marks (cond b [] (Deleted i s None ∷ [])) fs)
     none_or_one true = refl
     none_or_one false = refl
 entries_of-marks (Replace i s t) fs = refl
@@ -31,17 +32,17 @@ entries_of-marks (Cursors b a) fs = refl
 
 -- what joins is a change
 joint_marks : (event : Event) (e joint : Entry) (fs : List Bool) → joined event e ≡ Some joint → IsSome (marks (joint ∷ []) fs)
-joint_marks (InsertChar i c) (Inserted j s) joint fs h =
-    let b = if_some (is_alphanumeric c && (j + length s == i)) (Inserted j (s ++ encode_utf8 c)) joint h in
+joint_marks (InsertChar i c) (Inserted j s ps) joint fs h =
+    let b = if_some (is_alphanumeric c && (j + length s == i)) (Inserted j (s ++ encode_utf8 c) None) joint h in
     subst (λ k. IsSome (marks (k ∷ []) fs)) b.1 refl
-joint_marks (Delete i s side) (Deleted j t) joint fs h =
-    let before = cond (i + length s == j) (Some (Deleted i (s ++ t))) None in
-    elim (if_else (j == i) (Deleted i (t ++ s)) joint before (unless (not (is_word_cluster s)) joint (cond (j == i) (Some (Deleted i (t ++ s))) before) h)) [
+joint_marks (Delete i s side) (Deleted j t ps) joint fs h =
+    let before = cond (i + length s == j) (Some (Deleted i (s ++ t) None)) None in
+    elim (if_else (j == i) (Deleted i (t ++ s) None) joint before (unless (not (is_word_cluster s)) joint (cond (j == i) (Some (Deleted i (t ++ s) None)) before) h)) [
       | inl b ↦ subst (λ k. IsSome (marks (k ∷ []) fs)) b.1 refl
-      | inr k ↦ subst (λ k. IsSome (marks (k ∷ []) fs)) (if_some (i + length s == j) (Deleted i (s ++ t)) joint k).1 refl
+      | inr k ↦ subst (λ k. IsSome (marks (k ∷ []) fs)) (if_some (i + length s == j) (Deleted i (s ++ t) None) joint k).1 refl
     ]
-joint_marks (Replace i s t) (Replaced j o w) joint fs h =
-    let b = if_some (j + length w == i) (Replaced j (o ++ s) (w ++ t)) joint h in
+joint_marks (Replace i s t) (Replaced j o w ps) joint fs h =
+    let b = if_some (j + length w == i) (Replaced j (o ++ s) (w ++ t) None) joint h in
     subst (λ k. IsSome (marks (k ∷ []) fs)) b.1 refl
 joint_marks event e joint fs h = cc
 
@@ -74,7 +75,7 @@ pending-matched (Cursors b a) es h = h
 
 pub BothMatched-step : (r : Record) (event : Event) → BothMatched r → BothMatched (record_step r event)
 unfolding record_step
-BothMatched-step r event b = record { recorded = IsMatched-after event r.recorded b.recorded; pending = pending-matched event r.pending b.pending }
+BothMatched-step r event b = record { recorded = recorded-cases IsMatched event r (IsMatched-after event r.recorded b.recorded) (λ es p m. subst IsSome (sym (last_told-marks p es [])) m); pending = pending-matched event r.pending b.pending }
 
 -- a Begin may be added anywhere
 pub IsMatched-begin : (es : List Entry) → IsMatched es → IsMatched (es ++ Begin ∷ [])
@@ -97,9 +98,9 @@ level-flags (Whole es ∷ us) = level-flags us ∙ sym (length-touched (flags_on
 pub end_one-cons : (e d : Entry) (ds : List Entry) → end_one (e ∷ (d ∷ ds)) ≡ e ∷ end_one (d ∷ ds)
 end_one-cons Begin d ds = refl
 end_one-cons End d ds = refl
-end_one-cons (Inserted i s) d ds = refl
-end_one-cons (Deleted i s) d ds = refl
-end_one-cons (Replaced i s t) d ds = refl
+end_one-cons (Inserted i s ps) d ds = refl
+end_one-cons (Deleted i s ps) d ds = refl
+end_one-cons (Replaced i s t ps) d ds = refl
 
 -- an End that is added closes a group with a change, since something other than a Begin stands before it
 pub record EndsOne (es : List Entry) : Type 0 where
@@ -117,9 +118,9 @@ pub record AddsEnd (es : List Entry) : Type 0 where
 end_one-cases : (e : Entry) (es : List Entry) → EndsOne (e ∷ es) ⊎ AddsEnd (e ∷ es)
 end_one-cases Begin [] = inl (record { front = []; list_is = refl; after_is = refl })
 end_one-cases End [] = inr (record { front = []; last = End; other = λ h. cc; list_is = refl; after_is = refl })
-end_one-cases (Inserted i s) [] = inr (record { front = []; last = Inserted i s; other = λ h. cc; list_is = refl; after_is = refl })
-end_one-cases (Deleted i s) [] = inr (record { front = []; last = Deleted i s; other = λ h. cc; list_is = refl; after_is = refl })
-end_one-cases (Replaced i s t) [] = inr (record { front = []; last = Replaced i s t; other = λ h. cc; list_is = refl; after_is = refl })
+end_one-cases (Inserted i s ps) [] = inr (record { front = []; last = Inserted i s ps; other = λ h. cc; list_is = refl; after_is = refl })
+end_one-cases (Deleted i s ps) [] = inr (record { front = []; last = Deleted i s ps; other = λ h. cc; list_is = refl; after_is = refl })
+end_one-cases (Replaced i s t ps) [] = inr (record { front = []; last = Replaced i s t ps; other = λ h. cc; list_is = refl; after_is = refl })
 end_one-cases e (d ∷ ds) =
     elim (end_one-cases d ds) [
       | inl h ↦ inl (record { front = e ∷ h.front; list_is = ap (λ x. e ∷ x) h.list_is; after_is = end_one-cons e d ds ∙ ap (λ x. e ∷ x) h.after_is })
@@ -142,9 +143,9 @@ mark_other Begin fs gs other h = absurd (other refl)
 mark_other End [] gs other h = cc
 mark_other End (false ∷ fs) gs other h = cc
 mark_other End (true ∷ fs) gs other h = touched_is fs gs cc
-mark_other (Inserted i s) fs gs other h = touched_is fs gs cc
-mark_other (Deleted i s) fs gs other h = touched_is fs gs cc
-mark_other (Replaced i s t) fs gs other h = touched_is fs gs cc
+mark_other (Inserted i s ps) fs gs other h = touched_is fs gs cc
+mark_other (Deleted i s ps) fs gs other h = touched_is fs gs cc
+mark_other (Replaced i s t ps) fs gs other h = touched_is fs gs cc
 
 pub level-is : (es : List Entry) (fs : List Bool) → marks es [] ≡ Some fs → level es ≡ length fs
 level-is es fs h = level-flags (units es) ∙ ap length (cut_good es [] fs tt h).1

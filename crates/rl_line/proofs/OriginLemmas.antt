@@ -3,16 +3,16 @@ use Rattle.std.proofs.Common.{◌≡◌, ℕ, Bool, List, [], ◌∷◌, Option,
 use Rattle.std.specs.Prelude.{option_and_then, IsSome}
 use Rattle.std.specs.Str.{IsUtf8}
 use Rattle.rl_base.specs.declared.listeners.Refusal.{Refusal}
-use Rattle.rl_base.specs.Event.{Event, apply}
+use Rattle.rl_base.specs.Event.{Event, Cursors}
 use Rattle.rl_base.proofs.SwapLemmas.{apply-IsUtf8}
 use Rattle.rl_line.specs.Line.{Line, stepped}
 use Rattle.rl_line.specs.Plan.{Step, Plan, after, heard, heard_step, Taken, Done, Halted}
 use Rattle.rl_line.specs.Record.{Record, record_step, unwind}
 use Rattle.rl_line.specs.Undo.{Undone}
 use Rattle.rl_line.specs.Units.{kept_of, last_of}
-use Rattle.rl_line.proofs.JoinLemmas.{record_step-Cursors}
+use Rattle.rl_line.proofs.ToldLemmas.{apply-Cursors}
 use Rattle.rl_line.proofs.PlanLemmas.{first_step}
-use Rattle.rl_line.proofs.RecordLemmas.{through, value_of, record_step-unwind, unwind-append, unwind-IsUtf8}
+use Rattle.rl_line.proofs.RecordLemmas.{value_of, record_step-unwind, unwind-append, unwind-IsUtf8}
 use Rattle.rl_line.proofs.UndoLemmas.{line_back-unwind}
 use Rattle.rl_line.proofs.UnitLemmas.{kept-last}
 
@@ -31,10 +31,13 @@ Kept-after [] r old new u h =
 Kept-after (s ∷ ss) r old new u h =
     let b = first_step s ss old new h in
     let here : Line = stepped old b.text s.1 in
-    let more = Kept-after ss (heard_step record_step old.cursor s r) here new (apply-IsUtf8 s.0 old.text b.text u b.makes) b.rest in
+    let here_utf8 = apply-IsUtf8 s.0 old.text b.text u b.makes in
+    let more = Kept-after ss (heard_step record_step old.cursor s r) here new here_utf8 b.rest in
     record {
       origin_is = λ start k.
-          more.origin_is start (ap (λ (m : Record). origin m b.text) (record_step-Cursors (record_step r s.0) old.cursor s.1) ∙ record_step-unwind r s.0 old.text b.text start u b.makes k);
+          more.origin_is start
+          (record_step-unwind (record_step r s.0) (Cursors old.cursor s.1) b.text b.text start here_utf8 (apply-Cursors old.cursor s.1 b.text)
+          (record_step-unwind r s.0 old.text b.text start u b.makes k));
       utf8 = more.utf8;
     }
 

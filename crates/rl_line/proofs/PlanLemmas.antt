@@ -1,5 +1,5 @@
 -- How the steps of a plan are put together.
-use Rattle.std.proofs.Common.{◌≡◌, ℕ, List, [], ◌∷◌, ◌++◌, Option, Some, None, refl, sym, ap, subst, append_assoc, ◌∙◌, Bool, true, false, inr}
+use Rattle.std.proofs.Common.{◌≡◌, ℕ, List, [], ◌∷◌, ◌++◌, Some, refl, sym, ap, subst, append_assoc, ◌∙◌, Bool, true, false, inr}
 use Rattle.std.specs.Prelude.{option_and_then}
 use Rattle.rl_base.specs.Event.{Event, apply, replay}
 use Rattle.rl_base.specs.declared.listeners.Refusal.{Refusal}

@@ -9,7 +9,8 @@ use Rattle.rl_base.specs.declared.listeners.Direction.TheVariants.{Forward}
 use Rattle.rl_base.specs.Event.{Event, InsertChar, InsertStr, Delete, Replace, Start, Stop, Cursors, apply}
 use Rattle.rl_base.proofs.SwapLemmas.{Swaps, Swaps-back, Swaps-nothing, Swaps-behind, Swaps-before, Swaps-InsertStr, Swaps-InsertChar, Swaps-Delete, Swaps-Replace, apply-InsertStr-Swaps, apply-Delete-Swaps, apply-Replace-Swaps, apply-IsUtf8}
 use Rattle.rl_base.specs.Classes.{is_alphanumeric, is_word_cluster}
-use Rattle.rl_line.specs.Record.{Entry, Begin, End, Inserted, Deleted, Replaced, Record, entries_after, entries_of, joined, record_step, event_of, inverse, replay_entries, unwind}
+use Rattle.rl_line.specs.Record.{Entry, Begin, End, Inserted, Deleted, Replaced, Record, entries_after, entries_of, joined, record_step, event_of, inverse, replay_entries, unwind, swapped}
+use Rattle.rl_line.proofs.ToldLemmas.{recorded-cases, last_told-unwind}
 
 -- what was made of a value that is there
 pub through : {A B : Type 0} (f : A → Option B) (o : Option A) (b : B) → option_and_then f o ≡ Some b → (a : A) × (o ≡ Some a) × (f a ≡ Some b)
@@ -29,16 +30,20 @@ pub inverse-undoes : (e : Entry) (x y : List ℕ) → IsUtf8 x → apply (event_
 unfolding apply
 inverse-undoes Begin x y u h = sym h
 inverse-undoes End x y u h = sym h
-inverse-undoes (Inserted i s) x y u h = apply-Delete-Swaps y x i s Forward (Swaps-back x y i [] s (Swaps-InsertStr x y i s u h))
-inverse-undoes (Deleted i s) x y u h = apply-InsertStr-Swaps y x i s (Swaps-back x y i s [] (Swaps-Delete x y i s Forward u h))
-inverse-undoes (Replaced i s t) x y u h = apply-Replace-Swaps y x i t s (Swaps-back x y i s t (Swaps-Replace x y i s t u h))
+inverse-undoes (Inserted i s ps) x y u h = apply-Delete-Swaps y x i s Forward (Swaps-back x y i [] s (Swaps-InsertStr x y i s u h))
+inverse-undoes (Deleted i s ps) x y u h = apply-InsertStr-Swaps y x i s (Swaps-back x y i s [] (Swaps-Delete x y i s Forward u h))
+inverse-undoes (Replaced i s t ps) x y u h = apply-Replace-Swaps y x i t s (Swaps-back x y i s t (Swaps-Replace x y i s t u h))
+
+swapped-swapped : (ps : Option (ℕ × ℕ)) → swapped (swapped ps) ≡ ps
+swapped-swapped None = refl
+swapped-swapped (Some p) = refl
 
 pub inverse-inverse : (e : Entry) → inverse (inverse e) ≡ e
 inverse-inverse Begin = refl
 inverse-inverse End = refl
-inverse-inverse (Inserted i s) = refl
-inverse-inverse (Deleted i s) = refl
-inverse-inverse (Replaced i s t) = refl
+inverse-inverse (Inserted i s ps) = ap (Inserted i s) (swapped-swapped ps)
+inverse-inverse (Deleted i s ps) = ap (Deleted i s) (swapped-swapped ps)
+inverse-inverse (Replaced i s t ps) = ap (Replaced i s t) (swapped-swapped ps)
 
 pub undoes-inverse : (e : Entry) (x y : List ℕ) → IsUtf8 y → apply (event_of (inverse e)) y ≡ Some x → apply (event_of e) x ≡ Some y
 undoes-inverse e x y u h = ap (λ k. apply (event_of k) x) (sym (inverse-inverse e)) ∙ inverse-undoes (inverse e) y x u h
@@ -96,7 +101,7 @@ entries_of-undo (InsertStr i s) text now u h = none_or_one (length s == 0) refl
     swaps : Swaps text now i [] s
     swaps = Swaps-InsertStr text now i s u h
 
-    none_or_one : (b : Bool) → (length s == 0) ≡ b → unwind (cond b [] (Inserted i s ∷ [])) now ≡ Some text
+    none_or_one : (b : Bool) → (length s == 0) ≡ b → unwind (cond b [] (Inserted i s None ∷ [])) now ≡ Some text
     none_or_one true e = ap Some (Swaps-nothing text now i [] s refl (eqb-true (length s) 0 e) swaps)
     none_or_one false e = apply-Delete-Swaps now text i s Forward (Swaps-back text now i [] s swaps)
 entries_of-undo (Delete i s side) text now u h = none_or_one (length s == 0) refl
@@ -104,7 +109,7 @@ entries_of-undo (Delete i s side) text now u h = none_or_one (length s == 0) ref
     swaps : Swaps text now i s []
     swaps = Swaps-Delete text now i s side u h
 
-    none_or_one : (b : Bool) → (length s == 0) ≡ b → unwind (cond b [] (Deleted i s ∷ [])) now ≡ Some text
+    none_or_one : (b : Bool) → (length s == 0) ≡ b → unwind (cond b [] (Deleted i s None ∷ [])) now ≡ Some text
     none_or_one true e = ap Some (Swaps-nothing text now i s [] (eqb-true (length s) 0 e) refl swaps)
     none_or_one false e = apply-InsertStr-Swaps now text i s (Swaps-back text now i s [] swaps)
 entries_of-undo (Replace i s t) text now u h = apply-Replace-Swaps now text i t s (Swaps-back text now i s t (Swaps-Replace text now i s t u h))
@@ -128,28 +133,28 @@ unless false c o h = h
 -- the joint entry does what the entry and the event do
 redone-joined : (event : Event) (e joint : Entry) (x y z : List ℕ) → joined event e ≡ Some joint → IsUtf8 x → apply (event_of e) x ≡ Some y → apply event y ≡ Some z
     → apply (event_of joint) x ≡ Some z
-redone-joined (InsertChar i c) (Inserted j s) joint x y z h u p q =
-    let b = if_some (is_alphanumeric c && (j + length s == i)) (Inserted j (s ++ encode_utf8 c)) joint h in
+redone-joined (InsertChar i c) (Inserted j s ps) joint x y z h u p q =
+    let b = if_some (is_alphanumeric c && (j + length s == i)) (Inserted j (s ++ encode_utf8 c) None) joint h in
     let at = eqb-true (j + length s) i (and_right (is_alphanumeric c) (j + length s == i) b.0) in
     ap (λ k. apply (event_of k) x) (sym b.1)
     ∙ apply-InsertStr-Swaps x z j (s ++ encode_utf8 c)
     (Swaps-behind x y z j i [] s [] (encode_utf8 c) (Swaps-InsertStr x y j s u p) (Swaps-InsertChar y z i c (apply-IsUtf8 (InsertStr j s) x y u p) q) at)
-redone-joined (Delete i s side) (Deleted j t) joint x y z h u p q =
+redone-joined (Delete i s side) (Deleted j t ps) joint x y z h u p q =
     let first = Swaps-Delete x y j t Forward u p in
     let second = Swaps-Delete y z i s side (apply-IsUtf8 (Delete j t Forward) x y u p) q in
-    let before = cond (i + length s == j) (Some (Deleted i (s ++ t))) None in
-    elim (if_else (j == i) (Deleted i (t ++ s)) joint before (unless (not (is_word_cluster s)) joint (cond (j == i) (Some (Deleted i (t ++ s))) before) h)) [
+    let before = cond (i + length s == j) (Some (Deleted i (s ++ t) None)) None in
+    elim (if_else (j == i) (Deleted i (t ++ s) None) joint before (unless (not (is_word_cluster s)) joint (cond (j == i) (Some (Deleted i (t ++ s) None)) before) h)) [
       | inl b ↦
           let at : j ≡ i = eqb-true j i b.0 in
           ap (λ k. apply (event_of k) x) (sym b.1) ∙ ap (λ k. apply (Delete k (t ++ s) Forward) x) (sym at)
           ∙ apply-Delete-Swaps x z j (t ++ s) Forward (Swaps-behind x y z j i t [] s [] first second (omega arith))
       | inr k ↦
-          let b = if_some (i + length s == j) (Deleted i (s ++ t)) joint k in
+          let b = if_some (i + length s == j) (Deleted i (s ++ t) None) joint k in
           let at = eqb-true (i + length s) j b.0 in
           ap (λ k. apply (event_of k) x) (sym b.1) ∙ apply-Delete-Swaps x z i (s ++ t) Forward (Swaps-before x y z j i t s first second at)
     ]
-redone-joined (Replace i s t) (Replaced j o w) joint x y z h u p q =
-    let b = if_some (j + length w == i) (Replaced j (o ++ s) (w ++ t)) joint h in
+redone-joined (Replace i s t) (Replaced j o w ps) joint x y z h u p q =
+    let b = if_some (j + length w == i) (Replaced j (o ++ s) (w ++ t) None) joint h in
     let at = eqb-true (j + length w) i b.0 in
     ap (λ k. apply (event_of k) x) (sym b.1)
     ∙ apply-Replace-Swaps x z j (o ++ s) (w ++ t)
@@ -174,4 +179,5 @@ entries_after-unwind event (e ∷ (d ∷ ds)) text now start u h k =
 pub record_step-unwind : (r : Record) (event : Event) (text now start : List ℕ) → IsUtf8 text → apply event text ≡ Some now → unwind r.recorded text ≡ Some start
     → unwind (record_step r event).recorded now ≡ Some start
 unfolding record_step
-record_step-unwind r event text now start u h k = entries_after-unwind event r.recorded text now start u h k
+record_step-unwind r event text now start u h k =
+    recorded-cases (λ es. unwind es now ≡ Some start) event r (entries_after-unwind event r.recorded text now start u h k) (λ es p e. last_told-unwind p es now ∙ e)

@@ -12,6 +12,7 @@ use Rattle.rl_line.proofs.UndoLemmas.{line_ahead-replay, line_back-unwind}
 use Rattle.rl_line.proofs.UnitLemmas.{AllGood, Settles, kept-last, opens-reverse, units-good, units-append, IsMatched-append, on, together-reverse, AllGood-reverse}
 use Rattle.rl_base.proofs.SwapLemmas.{some_is}
 use Rattle.rl_line.proofs.MatchLemmas.{AllGood-take}
+use Rattle.rl_line.specs.declared.change.Freshness.TheVariants.{Stale}
 
 IsMatched-on : (vs : List UndoUnit) → AllGood vs → opens vs ≡ 0 → IsMatched (on vs)
 IsMatched-on [] g o = refl
@@ -30,7 +31,7 @@ redone_times zero r = r
 redone_times (suc n) r = redone_times n (redone r)
 
 abbrev lists : List Entry → List Entry → Record
-lists r p = record { recorded = r; pending = p }
+lists r p = record { recorded = r; pending = p; fresh = Stale }
 
 redo_one : (es kept rest : List Entry) → Settles es → IsMatched rest → redone (lists kept (es ++ rest)) ≡ lists (kept ++ es) rest
 redo_one es kept rest s h =
@@ -68,7 +69,7 @@ taken-off n r b o =
     }
 
 pub redo-undone : (n : ℕ) (r : Record) → BothMatched r → opens (last_units n r.recorded) ≡ 0
-    → redone_times (length (last_units n r.recorded)) (undone n r) ≡ r
+    → redone_times (length (last_units n r.recorded)) (undone n r) ≡ lists r.recorded r.pending
 redo-undone n r b o =
     let t = taken-off n r b o in
     ap (λ k. redone_times k (undone n r)) (sym t.long)

@@ -1,23 +1,27 @@
 -- A line that goes over changes of its record, back or ahead.
-use Rattle.std.proofs.Common.{le_refl, ◌≡◌, ℕ, ◌+◌, ◌<◌, ◌≤◌, zero, suc, List, [], ◌∷◌, ◌++◌, length, take, drop, get_or, map, reverse, Option, Some, None, false, refl, sym, ap, subst, ◌∙◌, arith, add-one, append_assoc, drop-cons, length-append}
+use Rattle.std.proofs.Common.{le_refl, ◌≡◌, ℕ, ◌+◌, ◌<◌, ◌≤◌, zero, suc, List, [], ◌∷◌, ◌++◌, length, take, drop, get_or, map, reverse, Option, Some, None, false, refl, sym, ap, subst, ◌∙◌, arith, add-one, append_assoc, true, drop-cons, length-append}
 use Rattle.std.proofs.lemmas.Grind.{take_at_read}
 use Rattle.std.proofs.lemmas.List.{drop_all, take_all, map-append, reverse-append}
 use Rattle.std.proofs.lemmas.Str.{IsCharBoundary-at_seam}
-use Rattle.std.specs.Prelude.{option_and_then, IsSome, is_some}
+use Rattle.std.specs.Prelude.{option_and_then, IsSome, is_some, cond, unwrap_or}
+use Rattle.std.specs.Option.{option_map_or}
+use Rattle.std.proofs.lemmas.Option.{same_Some}
 use Rattle.std.specs.Str.{IsCharBoundary, IsUtf8}
-use Rattle.rl_base.proofs.SwapLemmas.{Swaps, Swaps-Delete, Swaps-InsertStr, Swaps-Replace}
+use Rattle.rl_base.proofs.SwapLemmas.{apply-IsUtf8, Swaps, Swaps-Delete, Swaps-InsertStr, Swaps-Replace}
 use Rattle.rl_base.specs.declared.listeners.Direction.TheVariants.{Forward}
 use Rattle.rl_base.specs.Event.{apply}
+use Rattle.rl_base.specs.Text.{is_boundary}
+use Rattle.rl_base.proofs.TextLemmas.{is_boundary-means, is_boundary-true}
 use Rattle.rl_line.specs.declared.change.Change.{Change}
 use Rattle.rl_line.specs.Line.{Line, stepped, if_standing}
 use Rattle.rl_line.specs.Record.{Entry, Begin, End, Inserted, Deleted, Replaced, event_of, inverse, replay_entries, unwind}
 use Rattle.rl_line.specs.declared.change.Way.{Way}
 use Rattle.rl_line.specs.Units.{has_change}
-use Rattle.rl_line.specs.Undo.{cursor_after, line_after, line_ahead, line_back}
+use Rattle.rl_line.specs.Undo.{cursor_after, cursor_told, place_after, line_after, line_ahead, line_back}
 use Rattle.rl_line.specs.declared.change.Measure.{Measure}
-use Rattle.rl_line.specs.Change.{faced, size_back_over, greatest_back_over}
-use Rattle.rl_line.proofs.PlanLemmas.{standing, standing-is}
-use Rattle.rl_line.proofs.RecordLemmas.{through, value_of, IsSome-through, inverse-inverse, unwind-append, unwind-IsUtf8}
+use Rattle.rl_line.specs.Change.{cursor_stands, faced, text_after, text_back, size_back_over, greatest_back_over}
+use Rattle.rl_line.proofs.PlanLemmas.{Fits-from, standing, standing-is}
+use Rattle.rl_line.proofs.RecordLemmas.{if_some, through, value_of, IsSome-through, inverse-inverse, unwind-append}
 
 -- one entry back
 abbrev back_one : Entry → Line → Option Line
@@ -29,13 +33,29 @@ Swaps-past text after i old new s =
     subst (IsCharBoundary after) (length-append s.front new ∙ ap (λ k. k + length new) s.place)
     (IsCharBoundary-at_seam after (s.front ++ new) s.rest (s.after_is ∙ sym (append_assoc s.front new s.rest)) s.rest_utf8)
 
-cursor_after-stands : (e : Entry) (text now : List ℕ) (cursor : ℕ) → IsUtf8 text → IsCharBoundary text cursor → apply (event_of e) text ≡ Some now → IsCharBoundary now (cursor_after cursor e)
+place_after-stands : (e : Entry) (text now : List ℕ) (cursor : ℕ) → IsUtf8 text → IsCharBoundary text cursor → apply (event_of e) text ≡ Some now → IsCharBoundary now (place_after cursor e)
 unfolding apply
-cursor_after-stands Begin text now cursor u at h = let e : text ≡ now = cc in subst (λ t. IsCharBoundary t cursor) e at
-cursor_after-stands End text now cursor u at h = let e : text ≡ now = cc in subst (λ t. IsCharBoundary t cursor) e at
-cursor_after-stands (Inserted i s) text now cursor u at h = Swaps-past text now i [] s (Swaps-InsertStr text now i s u h)
-cursor_after-stands (Deleted i s) text now cursor u at h = subst (IsCharBoundary now) (omega arith) (Swaps-past text now i s [] (Swaps-Delete text now i s Forward u h))
-cursor_after-stands (Replaced i s t) text now cursor u at h = Swaps-past text now i s t (Swaps-Replace text now i s t u h)
+place_after-stands Begin text now cursor u at h = let e : text ≡ now = cc in subst (λ t. IsCharBoundary t cursor) e at
+place_after-stands End text now cursor u at h = let e : text ≡ now = cc in subst (λ t. IsCharBoundary t cursor) e at
+place_after-stands (Inserted i s ps) text now cursor u at h = Swaps-past text now i [] s (Swaps-InsertStr text now i s u h)
+place_after-stands (Deleted i s ps) text now cursor u at h = subst (IsCharBoundary now) (omega arith) (Swaps-past text now i s [] (Swaps-Delete text now i s Forward u h))
+place_after-stands (Replaced i s t ps) text now cursor u at h = Swaps-past text now i s t (Swaps-Replace text now i s t u h)
+
+-- what a text that goes on with its cursor is
+text_after-means : (e : Entry) (text now : List ℕ) → text_after true e text ≡ Some now → (apply (event_of e) text ≡ Some now) × (cursor_stands true e now ≡ true)
+text_after-means e text now h =
+    let p = through (λ t. cond (cursor_stands true e t) (Some t) None) (apply (event_of e) text) now h in
+    let q = if_some (cursor_stands true e p.0) p.0 now p.2 in
+    (p.1 ∙ ap Some q.1, ap (cursor_stands true e) (sym q.1) ∙ q.0)
+
+-- so does one with a cursor that was told, where that stands
+cursor_after-stands : (e : Entry) (text now : List ℕ) (cursor : ℕ) → IsUtf8 text → IsCharBoundary text cursor → text_after true e text ≡ Some now
+    → IsCharBoundary now (cursor_after cursor e)
+cursor_after-stands e text now cursor u at h = let m = text_after-means e text now h in told m.0 (cursor_told e) m.1
+  where
+    told : apply (event_of e) text ≡ Some now → (o : Option ℕ) → option_map_or (is_boundary now) o true ≡ true → IsCharBoundary now (unwrap_or o (place_after cursor e))
+    told makes None b = place_after-stands e text now cursor u at makes
+    told makes (Some k) b = is_boundary-means now k b
 
 pub line_back-append : (xs ys : List Entry) (line : Line) → line_back (xs ++ ys) line ≡ option_and_then (line_back xs) (line_back ys line)
 line_back-append [] ys line = some_again (line_back ys line)
@@ -84,6 +104,14 @@ IsBack-fits way xs m x start now lt e b =
     IsSome-through (λ text. if_standing (stepped now text (cursor_after now.cursor (inverse (faced way x))))) (apply (event_of (inverse (faced way x))) now.text)
     (IsSome-through (line_back (map (faced way) (take m xs))) (back_one (faced way x) now) (subst IsSome (rest_split way xs m x now lt e) b.rest))
 
+-- and its cursor stands there
+pub IsBack-stands : (way : Way) (xs : List Change) (m : ℕ) (x : Change) (start now : Line) → m < length xs → x ≡ get_or xs m x → IsBack way xs (m + 1) start now
+    → (text : List ℕ) → apply (event_of (inverse (faced way x))) now.text ≡ Some text → IsCharBoundary text (cursor_after now.cursor (inverse (faced way x)))
+IsBack-stands way xs m x start now lt e b text fits =
+    let o = value_of (back_one (faced way x) now) (IsSome-through (line_back (map (faced way) (take m xs))) (back_one (faced way x) now) (subst IsSome (rest_split way xs m x now lt e) b.rest)) in
+    let f = Fits-from (event_of (inverse (faced way x))) (cursor_after now.cursor (inverse (faced way x))) now o.0 o.1 in
+    subst (λ t. IsCharBoundary t (cursor_after now.cursor (inverse (faced way x)))) (same_Some _ _ (sym f.makes ∙ fits)) f.stands
+
 pub IsBack-next : (way : Way) (xs : List Change) (m : ℕ) (x : Change) (start now next : Line) (text : List ℕ) → m < length xs → x ≡ get_or xs m x → IsBack way xs (m + 1) start now
     → apply (event_of (inverse (faced way x))) now.text ≡ Some text → next ≡ stepped now text (cursor_after now.cursor (inverse (faced way x)))
     → IsCharBoundary text (cursor_after now.cursor (inverse (faced way x))) → IsBack way xs m start next
@@ -96,34 +124,56 @@ IsBack-next way xs m x start now next text lt e b fits is at =
       rest = subst IsSome (rest_split way xs m x now lt e ∙ ap (option_and_then (line_back (map (faced way) (take m xs)))) one) b.rest;
     }
 
--- where a text is unwound, a line whose cursor stands between two of its characters goes back, and has that text then
+-- where a text goes back with its cursors, a line whose cursor stands between two of its characters does, and has that text then
 record GoesBack (es : List Entry) (line : Line) (text : List ℕ) : Type 0 where
   now : Line
   is : line_back es line ≡ Some now
   text_is : now.text ≡ text
+  utf8 : IsUtf8 text
   stands : IsCharBoundary text now.cursor
 
-goes_back : (es : List Entry) (line : Line) (text : List ℕ) → IsUtf8 line.text → IsCharBoundary line.text line.cursor → unwind es line.text ≡ Some text → GoesBack es line text
+goes_back : (es : List Entry) (line : Line) (text : List ℕ) → IsUtf8 line.text → IsCharBoundary line.text line.cursor → text_back true es line.text ≡ Some text → GoesBack es line text
 goes_back [] line text u at h =
-    let e : line.text ≡ text = cc in record { now = line; is = refl; text_is = e; stands = subst (λ t. IsCharBoundary t line.cursor) e at }
+    let e : line.text ≡ text = cc in record { now = line; is = refl; text_is = e; utf8 = subst IsUtf8 e u; stands = subst (λ t. IsCharBoundary t line.cursor) e at }
 goes_back (e ∷ es) line text u at h =
-    let p = through (apply (event_of (inverse e))) (unwind es line.text) text h in
+    let p = through (text_after true (inverse e)) (text_back true es line.text) text h in
     let l = goes_back es line p.0 u at p.1 in
     let place = cursor_after l.now.cursor (inverse e) in
-    let there = cursor_after-stands (inverse e) p.0 text l.now.cursor (unwind-IsUtf8 es line.text p.0 u p.1) l.stands p.2 in
+    let there = cursor_after-stands (inverse e) p.0 text l.now.cursor l.utf8 l.stands p.2 in
+    let makes = (text_after-means (inverse e) p.0 text p.2).0 in
     record {
       now = stepped l.now text place;
-      is = ap (option_and_then (back_one e)) l.is ∙ ap (option_and_then (λ t. if_standing (stepped l.now t place))) (ap (apply (event_of (inverse e))) l.text_is ∙ p.2)
+      is = ap (option_and_then (back_one e)) l.is ∙ ap (option_and_then (λ t. if_standing (stepped l.now t place))) (ap (apply (event_of (inverse e))) l.text_is ∙ makes)
           ∙ standing (stepped l.now text place) there;
       text_is = refl;
+      utf8 = apply-IsUtf8 (event_of (inverse e)) p.0 text l.utf8 makes;
       stands = there;
     }
 
-pub line_back-IsSome : (es : List Entry) (line : Line) → IsUtf8 line.text → IsCharBoundary line.text line.cursor → IsSome (unwind es line.text) → IsSome (line_back es line)
+pub line_back-IsSome : (es : List Entry) (line : Line) → IsUtf8 line.text → IsCharBoundary line.text line.cursor → IsSome (text_back true es line.text) → IsSome (line_back es line)
 line_back-IsSome es line u at h =
-    let t = value_of (unwind es line.text) h in
+    let t = value_of (text_back true es line.text) h in
     let l = goes_back es line t.0 u at t.1 in
     subst IsSome (sym l.is) refl
+
+-- and a line that goes back has a text that does
+line_after-text_after : (e : Entry) (line next : Line) → line_after e line ≡ Some next → text_after true e line.text ≡ Some next.text
+line_after-text_after e line next h =
+    let f = Fits-from (event_of e) (cursor_after line.cursor e) line next h in
+    let text : f.text ≡ next.text = ap (λ (l : Line). l.text) (sym f.is) in
+    ap (option_and_then (λ t. cond (cursor_stands true e t) (Some t) None)) f.makes
+    ∙ ap (λ b. cond b (Some f.text) None) (told (cursor_told e) (is_boundary-true f.text (cursor_after line.cursor e) f.stands)) ∙ ap Some text
+  where
+    told : (o : Option ℕ) → is_boundary (Fits-from (event_of e) (cursor_after line.cursor e) line next h).text (unwrap_or o (place_after line.cursor e)) ≡ true
+        → option_map_or (is_boundary (Fits-from (event_of e) (cursor_after line.cursor e) line next h).text) o true ≡ true
+    told None b = refl
+    told (Some k) b = b
+
+line_back-text_back : (es : List Entry) (line now : Line) → line_back es line ≡ Some now → text_back true es line.text ≡ Some now.text
+line_back-text_back [] line now h = let e : line ≡ now = cc in ap (λ (l : Line). Some l.text) e
+line_back-text_back (e ∷ es) line now h =
+    let p = through (line_after (inverse e)) (line_back es line) now h in
+    ap (option_and_then (text_after true (inverse e))) (line_back-text_back es line p.0 p.1) ∙ line_after-text_after (inverse e) p.0 now p.2
 
 -- and a line that goes back has the text that is unwound
 line_after-text : (e : Entry) (line next : Line) → line_after e line ≡ Some next → apply (event_of e) line.text ≡ Some next.text
@@ -145,8 +195,8 @@ line_ahead-replay (e ∷ es) line now h =
     ap (option_and_then (replay_entries es)) (line_after-text e line p.0 p.1) ∙ line_ahead-replay es p.0 now p.2
 
 -- so the two ask the same
-pub line_back-is_some : (es : List Entry) (line : Line) → IsUtf8 line.text → IsCharBoundary line.text line.cursor → is_some (unwind es line.text) ≡ is_some (line_back es line)
-line_back-is_some es line u at = from (unwind es line.text) (line_back es line) (line_back-IsSome es line u at) (λ now h. subst IsSome (sym (line_back-unwind es line now h)) refl)
+pub line_back-is_some : (es : List Entry) (line : Line) → IsUtf8 line.text → IsCharBoundary line.text line.cursor → is_some (text_back true es line.text) ≡ is_some (line_back es line)
+line_back-is_some es line u at = from (text_back true es line.text) (line_back es line) (line_back-IsSome es line u at) (λ now h. subst IsSome (sym (line_back-text_back es line now h)) refl)
   where
     from : (o : Option (List ℕ)) (p : Option Line) → (IsSome o → IsSome p) → ((now : Line) → p ≡ Some now → IsSome o) → is_some o ≡ is_some p
     from None None there back = refl
@@ -170,9 +220,9 @@ line_back-marks (Begin ∷ es) line now none is =
     let p = through (line_after Begin) (line_back es line) now is in left_by_a_mark line p.0 now (line_back-marks es line p.0 none p.1) p.2
 line_back-marks (End ∷ es) line now none is =
     let p = through (line_after End) (line_back es line) now is in left_by_a_mark line p.0 now (line_back-marks es line p.0 none p.1) p.2
-line_back-marks (Inserted i s ∷ es) line now none is = cc
-line_back-marks (Deleted i s ∷ es) line now none is = cc
-line_back-marks (Replaced i s t ∷ es) line now none is = cc
+line_back-marks (Inserted i s ps ∷ es) line now none is = cc
+line_back-marks (Deleted i s ps ∷ es) line now none is = cc
+line_back-marks (Replaced i s t ps ∷ es) line now none is = cc
 
 pub line_ahead-marks : (es : List Entry) (line now : Line) → has_change es ≡ false → line_ahead es line ≡ Some now → (now.text ≡ line.text) × (now.cursor ≡ line.cursor)
 unfolding apply
@@ -187,9 +237,9 @@ line_ahead-marks (End ∷ es) line now none is =
     let p = through (line_ahead es) (line_after End line) now is in
     let mark = left_by_a_mark line line p.0 (refl, refl) p.1 in
     let rest = line_ahead-marks es p.0 now none p.2 in (rest.0 ∙ mark.0, rest.1 ∙ mark.1)
-line_ahead-marks (Inserted i s ∷ es) line now none is = cc
-line_ahead-marks (Deleted i s ∷ es) line now none is = cc
-line_ahead-marks (Replaced i s t ∷ es) line now none is = cc
+line_ahead-marks (Inserted i s ps ∷ es) line now none is = cc
+line_ahead-marks (Deleted i s ps ∷ es) line now none is = cc
+line_ahead-marks (Replaced i s t ps ∷ es) line now none is = cc
 
 then-same : {A B : Type 0} (f g : A → Option B) → ((a : A) → f a ≡ g a) → (o : Option A) → option_and_then f o ≡ option_and_then g o
 then-same f g same None = refl
@@ -220,11 +270,6 @@ unwind-ahead (e ∷ es) text =
     ∙ unwind-append (map inverse (reverse es)) (inverse e ∷ []) text
     ∙ ap (λ f. option_and_then (unwind (map inverse (reverse es))) (apply (event_of f) text)) (inverse-inverse e)
     ∙ then-same (unwind (map inverse (reverse es))) (replay_entries es) (unwind-ahead es) (apply (event_of e) text)
-
--- so where the entries are replayed on the text, such a line goes ahead
-pub line_ahead-IsSome : (es : List Entry) (line : Line) → IsUtf8 line.text → IsCharBoundary line.text line.cursor → IsSome (replay_entries es line.text) → IsSome (line_ahead es line)
-line_ahead-IsSome es line u at h =
-    subst IsSome (line_ahead-back es line) (line_back-IsSome (map inverse (reverse es)) line u at (subst IsSome (sym (unwind-ahead es line.text)) h))
 
 -- no length on the way is past the greatest
 pub size_back_over-within : (k : Measure) (m : ℕ) (es : List Entry) (n : ℕ) → size_back_over k (drop m es) n ≤ greatest_back_over k es n

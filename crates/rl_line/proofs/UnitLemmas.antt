@@ -15,9 +15,9 @@ close-together inner (Whole es ∷ us) = close-together (es ++ inner) us ∙ sim
 add-together : (e : Entry) (us : List UndoUnit) → together (add_entry e us) ≡ together us ++ (e ∷ [])
 add-together Begin us = refl
 add-together End us = close-together [] us ∙ ap (λ x. x ++ (End ∷ [])) (append-nil (together us))
-add-together (Inserted i s) us = refl
-add-together (Deleted i s) us = refl
-add-together (Replaced i s t) us = refl
+add-together (Inserted i s ps) us = refl
+add-together (Deleted i s ps) us = refl
+add-together (Replaced i s t ps) us = refl
 
 cut-together : (es : List Entry) (us : List UndoUnit) → together (cut_more us es) ≡ together us ++ es
 cut-together [] us = sym (append-nil (together us))
@@ -182,7 +182,7 @@ one_more n = omega arith
 add_good : (e : Entry) (us : List UndoUnit) (t : List Bool) → AllGood us → mark e (flags_on us []) ≡ Some t
     → AllGood (add_entry e us) × (flags_on (add_entry e us) [] ≡ t)
 add_good Begin us t good h = ((tt, good), cc)
-add_good (Inserted i s) us t good h = (
+add_good (Inserted i s ps) us t good h = (
   (
     record {
       flags = λ fs. refl;
@@ -196,7 +196,7 @@ add_good (Inserted i s) us t good h = (
   ),
   cc,
 )
-add_good (Deleted i s) us t good h = (
+add_good (Deleted i s ps) us t good h = (
   (
     record {
       flags = λ fs. refl;
@@ -210,7 +210,7 @@ add_good (Deleted i s) us t good h = (
   ),
   cc,
 )
-add_good (Replaced i s w) us t good h = (
+add_good (Replaced i s w ps) us t good h = (
   (
     record {
       flags = λ fs. refl;

@@ -1,35 +1,51 @@
 -- What the private functions of one entry say of it: joining, and going over it either way.
-use Rattle.std.specs.Prelude.{◌≡◌, ℕ, ◌+◌, ◌-◌, max, count_by, Bool, false, List, [], ◌∷◌, length, Option, Some, None, if◌then◌else◌}
-use Rattle.rl_base.specs.Event.{Event}
+use Rattle.std.specs.Prelude.{◌≡◌, ℕ, ◌+◌, ◌-◌, max, count_by, Bool, true, false, not, ◌||◌, List, [], ◌∷◌, length, Option, Some, None, option_and_then, if◌then◌else◌}
+use Rattle.std.specs.Option.{option_map_or}
+use Rattle.rl_base.specs.Event.{Event, apply}
+use Rattle.rl_base.specs.Text.{is_boundary}
 use Rattle.rl_line.specs.declared.change.Change.{Change}
 use Rattle.rl_base.specs.Lines.{is_newline}
 use Rattle.rl_line.specs.declared.change.Measure.{Measure}
 use Rattle.rl_line.specs.declared.change.Measure.TheVariants.{Bytes, Newlines}
 use Rattle.rl_line.specs.declared.change.Way.{Way}
 use Rattle.rl_line.specs.declared.change.Way.TheVariants.{Back, Ahead}
-use Rattle.rl_line.specs.Record.{Entry, Begin, End, Inserted, Deleted, Replaced, entry_of, inverse, joined}
+use Rattle.rl_line.specs.Record.{Entry, Begin, End, Inserted, Deleted, Replaced, entry_of, event_of, inverse, joined}
+use Rattle.rl_line.specs.Undo.{cursor_told}
 
 -- what an entry makes of an event: it takes the event in, where they join, and else stays as it is
 abbrev pub TakesIn : Event → Entry → Entry → Bool → Type 0
 TakesIn event old new answer = joined event old ≡ (if answer then Some new else None) × (answer ≡ false → new ≡ old)
 
+-- where that is asked: the cursor stands between two characters of the text after an entry, if it was told
+abbrev pub cursor_stands : Bool → Entry → List ℕ → Bool
+cursor_stands asks e text = not asks || option_map_or (is_boundary text) (cursor_told e) true
+
+-- the text after an entry, where it fits and the cursor stands
+abbrev pub text_after : Bool → Entry → List ℕ → Option (List ℕ)
+text_after asks e text = option_and_then (λ now. if cursor_stands asks e now then Some now else None) (apply (event_of e) text)
+
+-- the text after the entries were taken back, the last first
+abbrev pub text_back : Bool → List Entry → List ℕ → Option (List ℕ)
+text_back asks [] text = Some text
+text_back asks (e ∷ es) text = option_and_then (text_after asks (inverse e)) (text_back asks es text)
+
 -- the byte place of a change; a mark has none
 abbrev pub place : Entry → Option ℕ
 place Begin = None
 place End = None
-place (Inserted i s) = Some i
-place (Deleted i s) = Some i
-place (Replaced i s t) = Some i
+place (Inserted i s cursors) = Some i
+place (Deleted i s cursors) = Some i
+place (Replaced i s t cursors) = Some i
 
 -- the text that stood at a change's place before it, and the one that stood there after it
 abbrev pub old_text : Entry → List ℕ
-old_text (Deleted i s) = s
-old_text (Replaced i s t) = s
+old_text (Deleted i s cursors) = s
+old_text (Replaced i s t cursors) = s
 old_text _ = []
 
 abbrev pub new_text : Entry → List ℕ
-new_text (Inserted i s) = s
-new_text (Replaced i s t) = t
+new_text (Inserted i s cursors) = s
+new_text (Replaced i s t cursors) = t
 new_text _ = []
 
 -- the entry that is taken back where a line goes over a change: going ahead, its inverse

@@ -10,50 +10,54 @@ use Rattle.rl_base.specs.Event.{Event, InsertChar, InsertStr, Delete, Replace, S
 use Rattle.rl_base.specs.Classes.{is_alphanumeric, is_word_cluster}
 use Rattle.rl_line.specs.declared.change.Change.{Change}
 use Rattle.rl_line.specs.declared.change.Change.TheVariants as made
+use Rattle.rl_line.specs.declared.change.Freshness.{Freshness}
+use Rattle.rl_line.specs.declared.change.Freshness.TheVariants as is
 
--- the marks of a group's begin and end, and the changes
+-- the marks of a group's begin and end, and the changes, each with the cursor's places before it and after it where these were told
 pub data Entry : Type 0 where
   Begin : Entry
   End : Entry
-  Inserted : (place : ℕ) (text : List ℕ) → Entry
-  Deleted : (place : ℕ) (text : List ℕ) → Entry
-  Replaced : (place : ℕ) (before after : List ℕ) → Entry
+  Inserted : (place : ℕ) (text : List ℕ) (cursors : Option (ℕ × ℕ)) → Entry
+  Deleted : (place : ℕ) (text : List ℕ) (cursors : Option (ℕ × ℕ)) → Entry
+  Replaced : (place : ℕ) (before after : List ℕ) (cursors : Option (ℕ × ℕ)) → Entry
 
 -- the entry that a change of the code stands for
 abbrev pub entry_of : Change → Entry
 entry_of made.Begin = Begin
 entry_of made.End = End
-entry_of (made.Insert i s) = Inserted i (string_bytes s)
-entry_of (made.Delete i s) = Deleted i (string_bytes s)
-entry_of (made.Replace i s t) = Replaced i (string_bytes s) (string_bytes t)
+entry_of (made.Insert i s cursors) = Inserted i (string_bytes s) cursors
+entry_of (made.Delete i s cursors) = Deleted i (string_bytes s) cursors
+entry_of (made.Replace i s t cursors) = Replaced i (string_bytes s) (string_bytes t) cursors
 
--- what was recorded, the oldest first, and what was undone and waits to be redone, in the order in which it was made
+-- what was recorded, the oldest first, what was undone and waits to be redone, in the order in which it was made, and whether the
+-- cursors of the last recorded change may still be told
 pub record Record : Type 0 where
   pub recorded : List Entry
   pub pending : List Entry
+  pub fresh : Freshness
 
 -- the entries that an event adds: nothing for an empty text, unless it replaces one
 unfoldable pub entries_of : Event → List Entry
-entries_of (InsertChar i c) = Inserted i (encode_utf8 c) ∷ []
-entries_of (InsertStr i s) = if length s == 0 then [] else Inserted i s ∷ []
-entries_of (Delete i s _) = if length s == 0 then [] else Deleted i s ∷ []
-entries_of (Replace i s t) = Replaced i s t ∷ []
+entries_of (InsertChar i c) = Inserted i (encode_utf8 c) None ∷ []
+entries_of (InsertStr i s) = if length s == 0 then [] else Inserted i s None ∷ []
+entries_of (Delete i s _) = if length s == 0 then [] else Deleted i s None ∷ []
+entries_of (Replace i s t) = Replaced i s t None ∷ []
 entries_of Start = []
 entries_of Stop = []
 entries_of (Cursors _ _) = []
 
 -- the one entry that stands for an entry and an event that joins it: an alphanumeric character right behind what
 -- was inserted, an alphanumeric cluster that stood right behind what was deleted, or before it, and a replacement
--- right behind what was put in
+-- right behind what was put in. The one entry has no cursors yet
 abbrev pub joined : Event → Entry → Option Entry
-joined (InsertChar i c) (Inserted j s) =
-    if is_alphanumeric c && (j + length s == i) then Some (Inserted j (s ++ encode_utf8 c)) else None
-joined (Delete i s _) (Deleted j t) =
+joined (InsertChar i c) (Inserted j s _) =
+    if is_alphanumeric c && (j + length s == i) then Some (Inserted j (s ++ encode_utf8 c) None) else None
+joined (Delete i s _) (Deleted j t _) =
     if not (is_word_cluster s) then None
-    else if j == i then Some (Deleted i (t ++ s))
-    else if i + length s == j then Some (Deleted i (s ++ t))
+    else if j == i then Some (Deleted i (t ++ s) None)
+    else if i + length s == j then Some (Deleted i (s ++ t) None)
     else None
-joined (Replace i s t) (Replaced j o w) = if j + length w == i then Some (Replaced j (o ++ s) (w ++ t)) else None
+joined (Replace i s t) (Replaced j o w _) = if j + length w == i then Some (Replaced j (o ++ s) (w ++ t) None) else None
 joined _ _ = None
 
 -- an entry and an event that comes after it
@@ -66,7 +70,70 @@ entries_after event [] = entries_of event
 entries_after event (e ∷ []) = joined_or_added event e
 entries_after event (e ∷ (d ∷ ds)) = e ∷ entries_after event (d ∷ ds)
 
--- what waits to be redone after an event: all of it after the start or the stop of a kill, and else nothing
+-- the cursors of a change, where they were told
+abbrev pub cursors_of : Entry → Option (ℕ × ℕ)
+cursors_of Begin = None
+cursors_of End = None
+cursors_of (Inserted i s cursors) = cursors
+cursors_of (Deleted i s cursors) = cursors
+cursors_of (Replaced i s t cursors) = cursors
+
+-- the cursors of the last entry
+abbrev pub last_cursors : List Entry → Option (ℕ × ℕ)
+last_cursors [] = None
+last_cursors (e ∷ []) = cursors_of e
+last_cursors (e ∷ (d ∷ ds)) = last_cursors (d ∷ ds)
+
+-- a change that an event joined has kept the cursor before it where its cursors were told, and else can't be told any
+abbrev pub freshness_joined : Option (ℕ × ℕ) → Freshness
+freshness_joined None = is.Stale
+freshness_joined (Some cursors) = is.Joined cursors.0
+
+-- a change that was added may be told its cursors
+abbrev pub freshness_added : List Entry → Freshness
+freshness_added [] = is.Stale
+freshness_added (_ ∷ _) = is.Added
+
+-- whether the cursors of the last entry may be told after an event of a text
+abbrev pub freshness_of : Event → List Entry → Freshness
+freshness_of event [] = freshness_added (entries_of event)
+freshness_of event (e ∷ []) = option_map_or (λ _. freshness_joined (cursors_of e)) (joined event e) (freshness_added (entries_of event))
+freshness_of event (e ∷ (d ∷ ds)) = freshness_of event (d ∷ ds)
+
+-- the start and the stop of a kill leave that, and cursors that are told end it
+abbrev pub freshness_after : Event → Record → Freshness
+freshness_after Start r = r.fresh
+freshness_after Stop r = r.fresh
+freshness_after (Cursors _ _) r = is.Stale
+freshness_after event r = freshness_of event r.recorded
+
+-- the change with these cursors; a mark has none
+abbrev pub with_cursors : ℕ × ℕ → Entry → Entry
+with_cursors cursors Begin = Begin
+with_cursors cursors End = End
+with_cursors cursors (Inserted i s _) = Inserted i s (Some cursors)
+with_cursors cursors (Deleted i s _) = Deleted i s (Some cursors)
+with_cursors cursors (Replaced i s t _) = Replaced i s t (Some cursors)
+
+-- the entries, of which the last is told its cursors
+abbrev pub last_told : ℕ × ℕ → List Entry → List Entry
+last_told cursors [] = []
+last_told cursors (e ∷ []) = with_cursors cursors e ∷ []
+last_told cursors (e ∷ (d ∷ ds)) = e ∷ last_told cursors (d ∷ ds)
+
+-- the entries once cursors were told: a change that was joined keeps the one before it
+abbrev pub entries_told : Freshness → ℕ → ℕ → List Entry → List Entry
+entries_told is.Stale before after es = es
+entries_told is.Added before after es = last_told (before, after) es
+entries_told (is.Joined first) before after es = last_told (first, after) es
+
+-- the recorded entries after an event
+abbrev pub recorded_after : Event → Record → List Entry
+recorded_after (Cursors before after) r = entries_told r.fresh before after r.recorded
+recorded_after event r = entries_after event r.recorded
+
+-- what waits to be redone after an event: all of it after the start or the stop of a kill and where cursors are told, and
+-- else nothing
 abbrev pub pending_after : Event → List Entry → List Entry
 pending_after Start pending = pending
 pending_after Stop pending = pending
@@ -75,7 +142,7 @@ pending_after _ pending = []
 
 -- the record after an event
 unfoldable pub record_step : Record → Event → Record
-record_step r event = record { recorded = entries_after event r.recorded; pending = pending_after event r.pending }
+record_step r event = record { recorded = recorded_after event r; pending = pending_after event r.pending; fresh = freshness_after event r }
 
 -- an event that adds an entry or joins one: what is put in or taken out is no empty text
 abbrev pub IsRecorded : Event → Type 0
@@ -95,17 +162,22 @@ record_refused old event why now = (why ≡ NoMemory) × (now ≡ old) × IsReco
 abbrev pub event_of : Entry → Event
 event_of Begin = Start
 event_of End = Stop
-event_of (Inserted i s) = InsertStr i s
-event_of (Deleted i s) = Delete i s Forward
-event_of (Replaced i s t) = Replace i s t
+event_of (Inserted i s _) = InsertStr i s
+event_of (Deleted i s _) = Delete i s Forward
+event_of (Replaced i s t _) = Replace i s t
+
+-- the same places the other way round
+abbrev pub swapped : Option (ℕ × ℕ) → Option (ℕ × ℕ)
+swapped None = None
+swapped (Some cursors) = Some (cursors.1, cursors.0)
 
 -- the entry that takes an entry back
 abbrev pub inverse : Entry → Entry
 inverse Begin = Begin
 inverse End = End
-inverse (Inserted i s) = Deleted i s
-inverse (Deleted i s) = Inserted i s
-inverse (Replaced i s t) = Replaced i t s
+inverse (Inserted i s cursors) = Deleted i s (swapped cursors)
+inverse (Deleted i s cursors) = Inserted i s (swapped cursors)
+inverse (Replaced i s t cursors) = Replaced i t s (swapped cursors)
 
 -- the text after the entries, from the text before them: the first is made first
 abbrev pub replay_entries : List Entry → List ℕ → Option (List ℕ)
@@ -128,8 +200,8 @@ replays_to len r text = agree (unwind r.recorded text) (unwind (take len r.recor
 -- of entries, the last first: what the first that is no End put in
 abbrev pub put_in_first : List Entry → Option (List ℕ)
 put_in_first (End ∷ es) = put_in_first es
-put_in_first (Inserted i s ∷ es) = Some s
-put_in_first (Replaced i s t ∷ es) = Some t
+put_in_first (Inserted i s _ ∷ es) = Some s
+put_in_first (Replaced i s t _ ∷ es) = Some t
 put_in_first _ = None
 
 -- what the last entry put in, Ends passed over

@@ -1,16 +1,25 @@
 -- How a line goes back over its record, and ahead again.
-use Rattle.std.specs.Prelude.{◌≡◌, ℕ, zero, suc, ◌+◌, Bool, List, [], ◌∷◌, length, Option, Some, option_and_then}
+use Rattle.std.specs.Prelude.{◌≡◌, ℕ, zero, suc, ◌+◌, Bool, List, [], ◌∷◌, length, Option, Some, option_and_then, unwrap_or}
+use Rattle.std.specs.Option.{option_map}
 use Rattle.rl_line.specs.Line.{Line, after_step}
-use Rattle.rl_line.specs.Record.{Entry, Begin, End, Inserted, Deleted, Replaced, Record, event_of, inverse}
+use Rattle.rl_line.specs.Record.{Entry, Begin, End, Inserted, Deleted, Replaced, Record, cursors_of, event_of, inverse}
 use Rattle.rl_line.specs.Units.{last_of, redo_of, has_change, undone, redone}
 
--- the cursor after an entry was made: at its place, past what it put in; a mark leaves it
+-- the cursor after an entry was made, where that was told
+abbrev pub cursor_told : Entry → Option ℕ
+cursor_told e = option_map (λ (cursors : ℕ × ℕ). cursors.1) (cursors_of e)
+
+-- where the cursor goes else: to the entry's place, past what it put in; a mark leaves it
+abbrev pub place_after : ℕ → Entry → ℕ
+place_after cursor Begin = cursor
+place_after cursor End = cursor
+place_after cursor (Inserted i s _) = i + length s
+place_after cursor (Deleted i s _) = i
+place_after cursor (Replaced i s t _) = i + length t
+
+-- the cursor after an entry was made
 abbrev pub cursor_after : ℕ → Entry → ℕ
-cursor_after cursor Begin = cursor
-cursor_after cursor End = cursor
-cursor_after cursor (Inserted i s) = i + length s
-cursor_after cursor (Deleted i s) = i
-cursor_after cursor (Replaced i s t) = i + length t
+cursor_after cursor e = unwrap_or (cursor_told e) (place_after cursor e)
 
 -- the line after an entry was made, where the entry fits the text and the cursor comes to stand between two characters
 abbrev pub line_after : Entry → Line → Option Line

@@ -1,6 +1,7 @@
 -- Undo groups: the units that an undo takes off and a redo puts back, and what each call makes of the record.
 use Rattle.std.specs.Prelude.{◌≡◌, ℕ, zero, suc, max, not, ◌||◌, Bool, true, false, List, [], ◌∷◌, ◌++◌, length, take, drop, reverse, Option, Some, None, IsSome, IsTrue, option_and_then, if◌then◌else◌}
 use Rattle.rl_base.specs.Event.{Event}
+use Rattle.rl_line.specs.declared.change.Freshness.TheVariants.{Stale}
 use Rattle.rl_line.specs.Record.{Entry, Begin, End, Inserted, Deleted, Replaced, Record, record_step}
 
 -- a unit: the Begin of an open group, or entries that come and go as one, which are a change or a closed group
@@ -22,9 +23,9 @@ close inner (Whole es ∷ us) = close (es ++ inner) us
 abbrev pub add_entry : Entry → List UndoUnit → List UndoUnit
 add_entry Begin us = Open ∷ us
 add_entry End us = close [] us
-add_entry (Inserted i s) us = Whole (Inserted i s ∷ []) ∷ us
-add_entry (Deleted i s) us = Whole (Deleted i s ∷ []) ∷ us
-add_entry (Replaced i s t) us = Whole (Replaced i s t ∷ []) ∷ us
+add_entry (Inserted i s cursors) us = Whole (Inserted i s cursors ∷ []) ∷ us
+add_entry (Deleted i s cursors) us = Whole (Deleted i s cursors ∷ []) ∷ us
+add_entry (Replaced i s t cursors) us = Whole (Replaced i s t cursors ∷ []) ∷ us
 
 abbrev pub cut_more : List UndoUnit → List Entry → List UndoUnit
 cut_more us [] = us
@@ -105,19 +106,19 @@ adds_end (suc n) es = not (ends_in_begin es) || adds_end n (end_one es)
 
 -- the record after each call
 abbrev pub begun : Record → Record
-begun r = record { recorded = r.recorded ++ Begin ∷ []; pending = [] }
+begun r = record { recorded = r.recorded ++ Begin ∷ []; pending = []; fresh = Stale }
 
 abbrev pub ended : Record → Record
-ended r = record { recorded = end_times (level r.recorded) r.recorded; pending = [] }
+ended r = record { recorded = end_times (level r.recorded) r.recorded; pending = []; fresh = Stale }
 
 abbrev pub undone : ℕ → Record → Record
-undone n r = record { recorded = kept_of n r.recorded; pending = last_of n r.recorded ++ r.pending }
+undone n r = record { recorded = kept_of n r.recorded; pending = last_of n r.recorded ++ r.pending; fresh = Stale }
 
 abbrev pub redone : Record → Record
-redone r = record { recorded = r.recorded ++ redo_of r.pending; pending = drop (length (redo_of r.pending)) r.pending }
+redone r = record { recorded = r.recorded ++ redo_of r.pending; pending = drop (length (redo_of r.pending)) r.pending; fresh = Stale }
 
 abbrev pub truncated : ℕ → Record → Record
-truncated len r = record { recorded = take len r.recorded; pending = [] }
+truncated len r = record { recorded = take len r.recorded; pending = []; fresh = Stale }
 
 -- the open groups, the latest first, each with whether it holds a change; the latest comes to hold one
 abbrev pub touched : List Bool → List Bool
@@ -130,9 +131,9 @@ mark Begin flags = Some (false ∷ flags)
 mark End [] = None
 mark End (false ∷ flags) = None
 mark End (true ∷ flags) = Some (touched flags)
-mark (Inserted i s) flags = Some (touched flags)
-mark (Deleted i s) flags = Some (touched flags)
-mark (Replaced i s t) flags = Some (touched flags)
+mark (Inserted i s cursors) flags = Some (touched flags)
+mark (Deleted i s cursors) flags = Some (touched flags)
+mark (Replaced i s t cursors) flags = Some (touched flags)
 
 abbrev pub marks : List Entry → List Bool → Option (List Bool)
 marks [] flags = Some flags

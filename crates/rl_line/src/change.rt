@@ -1,5 +1,5 @@
 //! An entry of a record, and how a text goes over it.
-ghost use Rattle.std.specs.Prelude.{◌≡◌, OnOk, IfOk, IfErr, ◌+◌, ◌-◌, ◌<◌, ◌≤◌, IsSome, IfSome, is_some, length, map, vec_len, vec_capacity};
+ghost use Rattle.std.specs.Prelude.{◌≡◌, ℕ, List, Some, true, OnOk, IfOk, IfErr, ◌+◌, ◌-◌, ◌<◌, ◌≤◌, IsSome, IfSome, is_some, length, map, vec_len, vec_capacity};
 ghost use Rattle.std.specs.Option.{option_map};
 ghost use Rattle.std.specs.String.{string_bytes, string_len, string_capacity};
 ghost use Rattle.std.specs.Str.{IsCharBoundary};
@@ -7,10 +7,10 @@ ghost use Rattle.rl_base.specs.Event.{InsertChar, Delete, Replace, apply};
 ghost use Rattle.rl_base.specs.Text.{stands_at};
 ghost use Rattle.rl_base.specs.declared.listeners.Direction.TheVariants.{Forward};
 ghost use Rattle.rl_base.specs.declared.listeners.Refusal.TheVariants.{NoMemory};
-ghost use Rattle.rl_line.specs.Record.{entry_of, event_of, inverse, unwind};
-ghost use Rattle.rl_line.specs.Undo.{cursor_after};
+ghost use Rattle.rl_line.specs.Record.{cursors_of, entry_of, event_of, inverse, with_cursors};
+ghost use Rattle.rl_line.specs.Undo.{cursor_after, cursor_told};
 ghost use Rattle.rl_line.specs.Units.{is_begin, is_change};
-ghost use Rattle.rl_line.specs.Change.{TakesIn, new_text, old_text, place, faced, greatest_back_over, size_back, size_of};
+ghost use Rattle.rl_line.specs.Change.{TakesIn, cursor_stands, text_back, new_text, old_text, place, faced, greatest_back_over, size_back, size_of};
 ghost use Rattle.rl_line.specs.declared.change.Measure.TheVariants.{Bytes, Newlines};
 ghost use Rattle.rl_line.specs.LineStarts.{line_starts};
 
@@ -21,14 +21,28 @@ use rl_base::places::{is_alphanumeric, is_word_cluster};
 use std::alloc::Global;
 
 /// An entry of a record: the begin or the end of a group, or one change of a text: its byte place, with what
-/// was put in, taken out, or taken out and put in.
+/// was put in, taken out, or taken out and put in, and its cursors.
 #[derive(Drop)]
 pub(crate) enum Change {
     Begin,
     End,
-    Insert(usize, String),
-    Delete(usize, String),
-    Replace(usize, String, String),
+    Insert(usize, String, Cursors),
+    Delete(usize, String, Cursors),
+    Replace(usize, String, String, Cursors),
+}
+
+/// The byte places of the cursor before a change and after it, where they were told.
+pub(crate) type Cursors = Option<(usize, usize)>;
+
+/// Whether the last change may be told its cursors yet.
+#[derive(Clone, Copy)]
+pub(crate) enum Freshness {
+    /// It may not.
+    Stale,
+    /// It was added.
+    Added,
+    /// It was joined, and had its cursors, of which it keeps the one before it.
+    Joined(usize),
 }
 
 /// The two ways over a record: its changes are taken back, or made again.
@@ -64,7 +78,7 @@ impl Change {
     {
         match self {
             Change::Begin | Change::End => false,
-            Change::Insert(_, _) | Change::Delete(_, _) | Change::Replace(_, _, _) => true,
+            Change::Insert(_, _, _) | Change::Delete(_, _, _) | Change::Replace(_, _, _, _) => true,
         }
     }
 
@@ -74,8 +88,10 @@ impl Change {
     {
         match self {
             Change::Begin => true,
-            Change::End | Change::Insert(_, _) | Change::Delete(_, _) | Change::Replace(_, _, _) =>
-                false,
+            Change::End
+            | Change::Insert(_, _, _)
+            | Change::Delete(_, _, _)
+            | Change::Replace(_, _, _, _) => false,
         }
     }
 
@@ -85,7 +101,8 @@ impl Change {
     {
         match self {
             Change::Begin | Change::End => None,
-            Change::Insert(at, _) | Change::Delete(at, _) | Change::Replace(at, _, _) => Some(*at),
+            Change::Insert(at, _, _) | Change::Delete(at, _, _) | Change::Replace(at, _, _, _) =>
+                Some(*at),
         }
     }
 
@@ -114,8 +131,8 @@ impl Change {
         ensures { result.now ≡ old_text (entry_of self.now) }
     {
         match self {
-            Change::Delete(_, old) | Change::Replace(_, old, _) => old.as_str(),
-            Change::Begin | Change::End | Change::Insert(_, _) => "",
+            Change::Delete(_, old, _) | Change::Replace(_, old, _, _) => old.as_str(),
+            Change::Begin | Change::End | Change::Insert(_, _, _) => "",
         }
     }
 
@@ -124,8 +141,56 @@ impl Change {
         ensures { result.now ≡ new_text (entry_of self.now) }
     {
         match self {
-            Change::Insert(_, new) | Change::Replace(_, _, new) => new.as_str(),
-            Change::Begin | Change::End | Change::Delete(_, _) => "",
+            Change::Insert(_, new, _) | Change::Replace(_, _, new, _) => new.as_str(),
+            Change::Begin | Change::End | Change::Delete(_, _, _) => "",
+        }
+    }
+
+    // Where the cursor goes this way, if it was told.
+    fn cursor_over(&self, way: Way) -> Option<usize>
+        ensures { result ≡ cursor_told (inverse (faced way self.now)) }
+    {
+        let (before, after) = self.cursors()?;
+        match way {
+            Way::Back => Some(before),
+            Way::Ahead => Some(after),
+        }
+    }
+
+    /// The cursors of a change, where they were told.
+    pub(crate) fn cursors(&self) -> Cursors
+        ensures { result ≡ cursors_of (entry_of self.now) }
+    {
+        match self {
+            Change::Begin | Change::End => None,
+            Change::Insert(_, _, cursors)
+            | Change::Delete(_, _, cursors)
+            | Change::Replace(_, _, _, cursors) => *cursors,
+        }
+    }
+
+    /// Tells a change its cursors.
+    pub(crate) fn tell(&mut self, told: (usize, usize))
+        ensures { entry_of self.new ≡ with_cursors told (entry_of self.old) }
+    {
+        match self {
+            Change::Begin | Change::End => {}
+            Change::Insert(_, _, cursors) => *cursors = Some(told),
+            Change::Delete(_, _, cursors) => *cursors = Some(told),
+            Change::Replace(_, _, _, cursors) => *cursors = Some(told),
+        }
+    }
+
+    // Whether the cursor stands between two characters of a text that went over the change, if that is asked and it was told.
+    fn stands(&self, text: &str, way: Way, asks: bool) -> bool
+        ensures { result ≡ cursor_stands asks (inverse (faced way self.now)) text.now }
+    {
+        if !asks {
+            return true;
+        }
+        match self.cursor_over(way) {
+            Some(cursor) => text.is_char_boundary(cursor),
+            None => true,
         }
     }
 
@@ -162,6 +227,7 @@ pub(crate) fn go_over(
     requires room { size_back Bytes (faced way change.now) (string_len text.old) ≤ string_capacity text.old }
     requires table_room { size_back Newlines (faced way change.now) (vec_len starts.old) ≤ vec_capacity starts.old }
     requires boundary { IsCharBoundary (string_bytes text.old) cursor }
+    requires stands { (now : List ℕ) → apply (event_of (inverse (faced way change.now))) (string_bytes text.old) ≡ Some now → IsCharBoundary now (cursor_after cursor (inverse (faced way change.now))) }
     ensures text { apply (event_of (inverse (faced way change.now))) (string_bytes text.old) ≡ Some (string_bytes text.new) }
     ensures table { starts.new.items ≡ line_starts (string_bytes text.new) }
     ensures cursor { result ≡ cursor_after cursor (inverse (faced way change.now)) }
@@ -174,7 +240,8 @@ pub(crate) fn go_over(
     match change.place() {
         Some(at) => {
             let end = at + change.going(way).len();
-            swap_in(text, starts, at, end, change.coming(way))
+            let behind = swap_in(text, starts, at, end, change.coming(way));
+            change.cursor_over(way).unwrap_or(behind)
         }
         None => cursor,
     }
@@ -252,14 +319,16 @@ fn growth_over(
     Ok(greatest - size)
 }
 
-/// The text once it went over the changes, the last first, or none where one of them does not fit.
+/// The text once it went over the changes, the last first, or none where one of them does not fit, or, if
+/// `asks` says so, where a cursor that was told would not stand between two characters.
 pub(crate) fn text_over(
     alloc: Global,
     text: &str,
     changes: &[Change],
     way: Way,
+    asks: bool,
 ) -> Result<Option<String>, Refusal>
-    ensures ok { IfOk result (λ over. option_map string_bytes over ≡ unwind (map (faced way) changes.now) text.now) }
+    ensures ok { IfOk result (λ over. option_map string_bytes over ≡ text_back asks (map (faced way) changes.now) text.now) }
     ensures err { IfErr result (λ r. r ≡ NoMemory) }
 {
     let mut now = copied(alloc, text)?;
@@ -274,6 +343,9 @@ pub(crate) fn text_over(
             return Err(Refusal::NoMemory);
         }
         go_over_in_text(&mut now, change, way);
+        if !change.stands(now.as_str(), way, asks) {
+            return Ok(None);
+        }
     }
     Ok(Some(now))
 }
@@ -289,7 +361,8 @@ pub(crate) fn copied(alloc: Global, text: &str) -> Result<String, Refusal>
     }
 }
 
-// Joining: each of these takes an event in where it joins the change, and answers whether it did.
+// Joining: each of these takes an event in where it joins the change, and answers whether it did. What was joined has
+// no cursors yet.
 impl Change {
     /// An alphanumeric character that goes in right behind what was inserted.
     pub(crate) fn join_char(&mut self, idx: usize, c: char) -> Result<bool, Refusal>
@@ -297,18 +370,18 @@ impl Change {
         ensures err { IfErr result (λ r. (r ≡ NoMemory) × (entry_of self.new ≡ entry_of self.old)) }
     {
         match self {
-            Change::Insert(at, text) => {
+            Change::Insert(at, text, cursors) => {
                 if !is_alphanumeric(c) || at.checked_add(text.len()) != Some(idx) {
                     return Ok(false);
                 }
-                match text.push(c) {
-                    Ok(()) => Ok(true),
-                    Err(_) => Err(Refusal::NoMemory),
+                if text.push(c).is_err() {
+                    return Err(Refusal::NoMemory);
                 }
+                *cursors = None;
+                Ok(true)
             }
-            Change::Begin | Change::End | Change::Delete(_, _) | Change::Replace(_, _, _) => Ok(
-                false,
-            ),
+            Change::Begin | Change::End | Change::Delete(_, _, _) | Change::Replace(_, _, _, _) =>
+                Ok(false),
         }
     }
 
@@ -318,7 +391,7 @@ impl Change {
         ensures err { IfErr result (λ r. (r ≡ NoMemory) × (entry_of self.new ≡ entry_of self.old)) }
     {
         match self {
-            Change::Delete(at, text) => {
+            Change::Delete(at, text, cursors) => {
                 if !is_word_cluster(string) {
                     return Ok(false);
                 }
@@ -333,11 +406,11 @@ impl Change {
                     return Err(Refusal::NoMemory);
                 }
                 *at = idx;
+                *cursors = None;
                 Ok(true)
             }
-            Change::Begin | Change::End | Change::Insert(_, _) | Change::Replace(_, _, _) => Ok(
-                false,
-            ),
+            Change::Begin | Change::End | Change::Insert(_, _, _) | Change::Replace(_, _, _, _) =>
+                Ok(false),
         }
     }
 
@@ -352,7 +425,7 @@ impl Change {
         ensures err { IfErr result (λ r. (r ≡ NoMemory) × (entry_of self.new ≡ entry_of self.old)) }
     {
         match self {
-            Change::Replace(at, before, after) => {
+            Change::Replace(at, before, after, cursors) => {
                 if at.checked_add(after.len()) != Some(idx) {
                     return Ok(false);
                 }
@@ -360,11 +433,15 @@ impl Change {
                     return Err(Refusal::NoMemory);
                 }
                 match before.push_str(old) {
-                    Ok(()) => Ok(true),
+                    Ok(()) => {}
                     Err(_) => unreachable!(),
                 }
+                *cursors = None;
+                Ok(true)
             }
-            Change::Begin | Change::End | Change::Insert(_, _) | Change::Delete(_, _) => Ok(false),
+            Change::Begin | Change::End | Change::Insert(_, _, _) | Change::Delete(_, _, _) => Ok(
+                false,
+            ),
         }
     }
 }

@@ -6,57 +6,77 @@ ghost use Rattle.std.specs.Vec.{vec_len, vec_capacity};
 ghost use Rattle.rl_base.specs.Event.{InsertChar, InsertStr, Delete, Replace};
 ghost use Rattle.rl_base.specs.declared.listeners.Direction.TheVariants.{Forward};
 ghost use Rattle.rl_base.specs.declared.listeners.Refusal.TheVariants.{NoMemory};
-ghost use Rattle.rl_line.specs.Record.{entries_after, entry_of, last_insert};
+ghost use Rattle.rl_line.specs.Record.{entries_after, entries_told, entry_of, freshness_joined, freshness_of, last_cursors, last_insert};
 ghost use Rattle.rl_line.specs.Undo.{line_back};
 ghost use Rattle.rl_line.specs.Units.{IsMatched, adds_end, end_one, end_times, ends_in_begin, has_change, last_of, level, redo_of};
 ghost use Rattle.rl_line.specs.Change.{faced};
 ghost use Rattle.rl_line.specs.Entries.{JoinsLast, deep};
 
-use crate::change::{Change, Way, copied};
+use crate::change::{Change, Freshness, Way, copied};
 use crate::line_buffer::LineBuffer;
 use rl_base::{Refusal, RepeatCount};
 use std::alloc::Global;
 
 /// Records that a character was put in.
 #[tactic(auto, using(crate::proofs::JoinLemmas::alone_in_list), unfolding(crate::specs::Record::entries_of))]
-pub(crate) fn insert_char(entries: &mut Vec<Change>, idx: usize, c: char) -> Result<(), Refusal>
-    ensures ok { OnOk result (map entry_of entries.new.items ≡ entries_after (InsertChar idx c) (map entry_of entries.old.items)) }
+pub(crate) fn insert_char(
+    entries: &mut Vec<Change>,
+    idx: usize,
+    c: char,
+) -> Result<Freshness, Refusal>
+    ensures ok { IfOk result (λ fresh. (map entry_of entries.new.items ≡ entries_after (InsertChar idx c) (map entry_of entries.old.items)) × (fresh ≡ freshness_of (InsertChar idx c) (map entry_of entries.old.items))) }
     ensures err { IfErr result (λ r. (r ≡ NoMemory) × (map entry_of entries.new.items ≡ map entry_of entries.old.items)) }
 {
+    let fresh = freshness_joined(entries);
     if join_char(entries, idx, c)? {
-        return Ok(());
+        return Ok(fresh);
     }
     let mut text = String::new(*entries.allocator());
     if text.push(c).is_err() {
         return Err(Refusal::NoMemory);
     }
-    add(entries, Change::Insert(idx, text))
+    add(entries, Change::Insert(idx, text, None))?;
+    Ok(Freshness::Added)
 }
 
 /// Records that a text was put in.
 #[tactic(auto, using(crate::proofs::JoinLemmas::alone_in_list), unfolding(crate::specs::Record::entries_of))]
-pub(crate) fn insert_str(entries: &mut Vec<Change>, idx: usize, string: &str) -> Result<(), Refusal>
-    ensures ok { OnOk result (map entry_of entries.new.items ≡ entries_after (InsertStr idx string.now) (map entry_of entries.old.items)) }
+pub(crate) fn insert_str(
+    entries: &mut Vec<Change>,
+    idx: usize,
+    string: &str,
+) -> Result<Freshness, Refusal>
+    ensures ok { IfOk result (λ fresh. (map entry_of entries.new.items ≡ entries_after (InsertStr idx string.now) (map entry_of entries.old.items)) × (fresh ≡ freshness_of (InsertStr idx string.now) (map entry_of entries.old.items))) }
     ensures err { IfErr result (λ r. (r ≡ NoMemory) × (map entry_of entries.new.items ≡ map entry_of entries.old.items) × (0 < length string.now)) }
 {
     if string.is_empty() {
-        return Ok(());
+        return Ok(Freshness::Stale);
     }
     let text = copied(*entries.allocator(), string)?;
-    add(entries, Change::Insert(idx, text))
+    add(entries, Change::Insert(idx, text, None))?;
+    Ok(Freshness::Added)
 }
 
 /// Records that a text was taken out, from whichever side of the cursor.
 #[tactic(auto, using(crate::proofs::JoinLemmas::alone_in_list), unfolding(crate::specs::Record::entries_of))]
-pub(crate) fn delete(entries: &mut Vec<Change>, idx: usize, string: &str) -> Result<(), Refusal>
-    ensures ok { OnOk result (map entry_of entries.new.items ≡ entries_after (Delete idx string.now Forward) (map entry_of entries.old.items)) }
+pub(crate) fn delete(
+    entries: &mut Vec<Change>,
+    idx: usize,
+    string: &str,
+) -> Result<Freshness, Refusal>
+    ensures ok { IfOk result (λ fresh. (map entry_of entries.new.items ≡ entries_after (Delete idx string.now Forward) (map entry_of entries.old.items)) × (fresh ≡ freshness_of (Delete idx string.now Forward) (map entry_of entries.old.items))) }
     ensures err { IfErr result (λ r. (r ≡ NoMemory) × (map entry_of entries.new.items ≡ map entry_of entries.old.items) × (0 < length string.now)) }
 {
-    if string.is_empty() || join_deletion(entries, idx, string)? {
-        return Ok(());
+    if string.is_empty() {
+        return Ok(Freshness::Stale);
+    }
+    let fresh = freshness_joined(entries);
+    if join_deletion(entries, idx, string)? {
+        return Ok(fresh);
     }
     let text = copied(*entries.allocator(), string)?;
-    add(entries, Change::Delete(idx, text))
+    add(entries, Change::Delete(idx, text, None))?;
+    Ok(Freshness::Added)
 }
 
 /// Records that a text gave way to another.
@@ -66,16 +86,45 @@ pub(crate) fn replace(
     idx: usize,
     old: &str,
     new: &str,
-) -> Result<(), Refusal>
-    ensures ok { OnOk result (map entry_of entries.new.items ≡ entries_after (Replace idx old.now new.now) (map entry_of entries.old.items)) }
+) -> Result<Freshness, Refusal>
+    ensures ok { IfOk result (λ fresh. (map entry_of entries.new.items ≡ entries_after (Replace idx old.now new.now) (map entry_of entries.old.items)) × (fresh ≡ freshness_of (Replace idx old.now new.now) (map entry_of entries.old.items))) }
     ensures err { IfErr result (λ r. (r ≡ NoMemory) × (map entry_of entries.new.items ≡ map entry_of entries.old.items)) }
 {
+    let fresh = freshness_joined(entries);
     if join_replacement(entries, idx, old, new)? {
-        return Ok(());
+        return Ok(fresh);
     }
     let before = copied(*entries.allocator(), old)?;
     let after = copied(*entries.allocator(), new)?;
-    add(entries, Change::Replace(idx, before, after))
+    add(entries, Change::Replace(idx, before, after, None))?;
+    Ok(Freshness::Added)
+}
+
+// What may be told of the last entry once an event has joined it.
+fn freshness_joined(entries: &[Change]) -> Freshness
+    ensures { result ≡ freshness_joined (last_cursors (map entry_of entries.now)) }
+{
+    let Some(last) = entries.last() else {
+        return Freshness::Stale;
+    };
+    match last.cursors() {
+        Some((before, _)) => Freshness::Joined(before),
+        None => Freshness::Stale,
+    }
+}
+
+/// Tells the last entry its cursors, where it may be told them yet.
+pub(crate) fn tell(entries: &mut Vec<Change>, fresh: Freshness, before: usize, after: usize)
+    ensures { map entry_of entries.new.items ≡ entries_told fresh before after (map entry_of entries.old.items) }
+{
+    let first = match fresh {
+        Freshness::Stale => return,
+        Freshness::Added => before,
+        Freshness::Joined(first) => first,
+    };
+    if let Some(last) = entries.last_mut() {
+        last.tell((first, after));
+    }
 }
 
 // Joins a character that was inserted to the last entry, if it does.
@@ -155,7 +204,7 @@ fn level_behind(entry: &Change, level: usize) -> usize
     match entry {
         Change::Begin => level + 1,
         Change::End => level.saturating_sub(1),
-        Change::Insert(_, _) | Change::Delete(_, _) | Change::Replace(_, _, _) => level,
+        Change::Insert(_, _, _) | Change::Delete(_, _, _) | Change::Replace(_, _, _, _) => level,
     }
 }
 
@@ -173,7 +222,7 @@ pub(crate) fn level_at(entries: &[Change], len: usize, last: usize) -> usize
         match entries[at] {
             Change::Begin => level -= 1,
             Change::End => level += 1,
-            Change::Insert(_, _) | Change::Delete(_, _) | Change::Replace(_, _, _) => {}
+            Change::Insert(_, _, _) | Change::Delete(_, _, _) | Change::Replace(_, _, _, _) => {}
         }
     }
     level
@@ -244,7 +293,7 @@ pub(crate) fn last_len(entries: &[Change], n: RepeatCount) -> usize
                     depth -= 1;
                 }
             }
-            Change::Insert(_, _) | Change::Delete(_, _) | Change::Replace(_, _, _) => {
+            Change::Insert(_, _, _) | Change::Delete(_, _, _) | Change::Replace(_, _, _, _) => {
                 if depth == 0 {
                     units -= 1;
                 }
@@ -281,10 +330,10 @@ pub(crate) fn last_insert(entries: &[Change], alloc: Global) -> Result<Option<St
         left -= 1;
         match &entries[left] {
             Change::End => {}
-            Change::Insert(_, new) | Change::Replace(_, _, new) => {
+            Change::Insert(_, new, _) | Change::Replace(_, _, new, _) => {
                 return Ok(Some(copied(alloc, new.as_str())?));
             }
-            Change::Begin | Change::Delete(_, _) => return Ok(None),
+            Change::Begin | Change::Delete(_, _, _) => return Ok(None),
         }
     }
     Ok(None)

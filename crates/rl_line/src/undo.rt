@@ -6,12 +6,13 @@ ghost use Rattle.std.specs.Str.{IsUtf8};
 ghost use Rattle.rl_base.specs.Event.{InsertChar, InsertStr, Delete, Replace};
 ghost use Rattle.rl_base.specs.declared.listeners.Direction.TheVariants.{Forward};
 ghost use Rattle.rl_base.specs.declared.listeners.Refusal.TheVariants.{NoMemory};
+ghost use Rattle.rl_line.specs.declared.change.Freshness.TheVariants.{Stale};
 ghost use Rattle.rl_line.specs.Line.{Line};
 ghost use Rattle.rl_line.specs.Record.{Entry, End, Record, last_insert, record_step, replay_entries, replays_to, unwind};
 ghost use Rattle.rl_line.specs.Undo.{Redone, Redos, Undone, line_ahead, line_back};
 ghost use Rattle.rl_line.specs.Units.{BothMatched, GroupAt, InGroup, IsMatched, adds_end, after_in_group, begun, ended, has_change, last_of, last_units, level, opens, redo_of, truncated};
 
-use crate::change::{Change, Way, text_over};
+use crate::change::{Change, Freshness, Way, text_over};
 use crate::entries;
 use crate::line_buffer::LineBuffer;
 use rl_base::{ChangeListener, DeleteListener, Direction, Refusal, RepeatCount};
@@ -28,6 +29,8 @@ pub struct Changeset {
     recorded: Vec<Change>,
     // The entry that is redone next stands last.
     pending: Vec<Change>,
+    // Whether the last recorded change may be told its cursors yet.
+    fresh: Freshness,
     // How many groups are open, so that no call has to count them over the whole record.
     level: usize,
 }
@@ -39,19 +42,20 @@ impl Model for Changeset {
 
     ghost Value = { Record };
 
-    ghost view = { λ c. record { recorded = map entry_of c.recorded.items; pending = reverse (map entry_of c.pending.items) } };
+    ghost view = { λ c. record { recorded = map entry_of c.recorded.items; pending = reverse (map entry_of c.pending.items); fresh = c.fresh } };
 
-    ghost invariant = { λ c. AtLevel c.level (record { recorded = map entry_of c.recorded.items; pending = reverse (map entry_of c.pending.items) }) };
+    ghost invariant = { λ c. AtLevel c.level (record { recorded = map entry_of c.recorded.items; pending = reverse (map entry_of c.pending.items); fresh = c.fresh }) };
 }
 
 impl Changeset {
     /// An empty record.
     pub fn new(alloc: Global) -> Self
-        ensures { result ≡ record { recorded = []; pending = [] } }
+        ensures { result ≡ record { recorded = []; pending = []; fresh = Stale } }
     {
         Changeset {
             recorded: Vec::new(alloc),
             pending: Vec::new(alloc),
+            fresh: Freshness::Stale,
             level: 0,
         }
     }
@@ -81,6 +85,7 @@ impl Changeset {
         let before = self.recorded.len();
         entries::add(&mut self.recorded, Change::Begin)?;
         self.pending.clear();
+        self.fresh = Freshness::Stale;
         self.level += 1;
         Ok(before)
     }
@@ -96,6 +101,7 @@ impl Changeset {
         }
         let added = entries::close_groups(&mut self.recorded, self.level);
         self.pending.clear();
+        self.fresh = Freshness::Stale;
         self.level = 0;
         Ok(added)
     }
@@ -106,7 +112,7 @@ impl Changeset {
         ensures done { OnOk result (self.new ≡ record_step self.old (InsertChar idx c)) }
         ensures err { IfErr result (λ r. (r ≡ NoMemory) × (self.new ≡ self.old)) }
     {
-        entries::insert_char(&mut self.recorded, idx, c)?;
+        self.fresh = entries::insert_char(&mut self.recorded, idx, c)?;
         self.pending.clear();
         Ok(())
     }
@@ -116,7 +122,7 @@ impl Changeset {
         ensures done { OnOk result (self.new ≡ record_step self.old (InsertStr idx string.now)) }
         ensures err { IfErr result (λ r. (r ≡ NoMemory) × (self.new ≡ self.old) × (0 < length string.now)) }
     {
-        entries::insert_str(&mut self.recorded, idx, string)?;
+        self.fresh = entries::insert_str(&mut self.recorded, idx, string)?;
         self.pending.clear();
         Ok(())
     }
@@ -128,7 +134,7 @@ impl Changeset {
         ensures done { OnOk result (self.new ≡ record_step self.old (Delete idx string.now Forward)) }
         ensures err { IfErr result (λ r. (r ≡ NoMemory) × (self.new ≡ self.old) × (0 < length string.now)) }
     {
-        entries::delete(&mut self.recorded, idx, string)?;
+        self.fresh = entries::delete(&mut self.recorded, idx, string)?;
         self.pending.clear();
         Ok(())
     }
@@ -139,7 +145,7 @@ impl Changeset {
         ensures done { OnOk result (self.new ≡ record_step self.old (Replace idx old.now new.now)) }
         ensures err { IfErr result (λ r. (r ≡ NoMemory) × (self.new ≡ self.old)) }
     {
-        entries::replace(&mut self.recorded, idx, old, new)?;
+        self.fresh = entries::replace(&mut self.recorded, idx, old, new)?;
         self.pending.clear();
         Ok(())
     }
@@ -165,6 +171,7 @@ impl Changeset {
             Way::Back,
         )?;
         self.level -= opened;
+        self.fresh = Freshness::Stale;
         Ok(changed)
     }
 
@@ -188,6 +195,7 @@ impl Changeset {
             Way::Ahead,
         )?;
         self.level += entries::level(&self.recorded[len..]);
+        self.fresh = Freshness::Stale;
         Ok(changed)
     }
 
@@ -199,6 +207,7 @@ impl Changeset {
         self.level = entries::level_at(&self.recorded, len, self.level);
         self.recorded.truncate(len);
         self.pending.clear();
+        self.fresh = Freshness::Stale;
     }
 
     /// A copy of what the last change put in, where it is an insertion or a replacement; ends of groups behind
@@ -218,7 +227,7 @@ impl Changeset {
         // So the proof knows that the cursor stands between two characters.
         let _cursor = line.pos();
         let alloc = *self.recorded.allocator();
-        let text = text_over(alloc, line.as_str(), &self.recorded, Way::Back)?;
+        let text = text_over(alloc, line.as_str(), &self.recorded, Way::Back, true)?;
         Ok(text.is_some())
     }
 
@@ -230,7 +239,7 @@ impl Changeset {
         // So the proof knows that the cursor stands between two characters.
         let _cursor = line.pos();
         let alloc = *self.recorded.allocator();
-        let text = text_over(alloc, line.as_str(), &self.pending, Way::Ahead)?;
+        let text = text_over(alloc, line.as_str(), &self.pending, Way::Ahead, true)?;
         Ok(text.is_some())
     }
 
@@ -242,11 +251,11 @@ impl Changeset {
     {
         let alloc = *self.recorded.allocator();
         let text = line.as_str();
-        let Some(all) = text_over(alloc, text, &self.recorded, Way::Back)? else {
+        let Some(all) = text_over(alloc, text, &self.recorded, Way::Back, false)? else {
             return Ok(false);
         };
         let first = entries::first(&self.recorded, len);
-        match text_over(alloc, text, first, Way::Back)? {
+        match text_over(alloc, text, first, Way::Back, false)? {
             Some(some) => Ok(all.as_str() == some.as_str()),
             None => Ok(false),
         }
@@ -269,7 +278,10 @@ impl DeleteListener for Changeset {
 
     fn stop_killing(&mut self) {}
 
-    fn cursors(&mut self, _before: usize, _after: usize) {}
+    fn cursors(&mut self, before: usize, after: usize) {
+        entries::tell(&mut self.recorded, self.fresh, before, after);
+        self.fresh = Freshness::Stale;
+    }
 }
 
 impl ChangeListener for Changeset {

@@ -103,9 +103,9 @@ pub end_one-cases : (es : List Entry) → EndsOne es ⊎ (end_one es ≡ es ++ (
 end_one-cases [] = inr refl
 end_one-cases (Begin ∷ []) = inl (record { front = []; list_is = refl; after_is = refl })
 end_one-cases (End ∷ []) = inr refl
-end_one-cases (Inserted i s ∷ []) = inr refl
-end_one-cases (Deleted i s ∷ []) = inr refl
-end_one-cases (Replaced i s t ∷ []) = inr refl
+end_one-cases (Inserted i s ps ∷ []) = inr refl
+end_one-cases (Deleted i s ps ∷ []) = inr refl
+end_one-cases (Replaced i s t ps ∷ []) = inr refl
 end_one-cases (e ∷ (d ∷ ds)) =
     elim (end_one-cases (d ∷ ds)) [
       | inl c ↦ inl (record { front = e ∷ c.front; list_is = ap (λ x. e ∷ x) c.list_is; after_is = end_one-cons e d ds ∙ ap (λ x. e ∷ x) c.after_is })
@@ -164,15 +164,15 @@ unfolding entries_of
 none_or_one (InsertChar i c) = inr (_, refl)
 none_or_one (InsertStr i s) = pick (length s == 0)
   where
-    pick : (b : Bool) → (cond b [] (Inserted i s ∷ []) ≡ []) ⊎ ((e : Entry) × (cond b [] (Inserted i s ∷ []) ≡ e ∷ []))
+    pick : (b : Bool) → (cond b [] (Inserted i s None ∷ []) ≡ []) ⊎ ((e : Entry) × (cond b [] (Inserted i s None ∷ []) ≡ e ∷ []))
     pick true = inl refl
-    pick false = inr (Inserted i s, refl)
+    pick false = inr (Inserted i s None, refl)
 none_or_one (Delete i s side) = pick (length s == 0)
   where
-    pick : (b : Bool) → (cond b [] (Deleted i s ∷ []) ≡ []) ⊎ ((e : Entry) × (cond b [] (Deleted i s ∷ []) ≡ e ∷ []))
+    pick : (b : Bool) → (cond b [] (Deleted i s None ∷ []) ≡ []) ⊎ ((e : Entry) × (cond b [] (Deleted i s None ∷ []) ≡ e ∷ []))
     pick true = inl refl
-    pick false = inr (Deleted i s, refl)
-none_or_one (Replace i s t) = inr (Replaced i s t, refl)
+    pick false = inr (Deleted i s None, refl)
+none_or_one (Replace i s t) = inr (Replaced i s t None, refl)
 none_or_one Start = inl refl
 none_or_one Stop = inl refl
 none_or_one (Cursors b a) = inl refl

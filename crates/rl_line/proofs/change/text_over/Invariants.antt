@@ -3,7 +3,7 @@ use Rattle.rl_line.proofs.ChangeLemmas.{GoesOver}
 use Rattle.rl_line.proofs.change.text_over.Given as goal
 
 abbrev pub invariant-loop-left : goal.invariant-loop-left
-invariant-loop-left l = GoesOver l.way l.changes l.left l.text (string_bytes l.now)
+invariant-loop-left l = GoesOver l.asks l.way l.changes l.left l.text (string_bytes l.now)
 
 abbrev pub decreases-loop-left : goal.decreases-loop-left
 decreases-loop-left l = l.left

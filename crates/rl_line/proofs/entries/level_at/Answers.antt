@@ -18,10 +18,10 @@ pub loop-at-preserved : goal.loop-at-preserved
 loop-at-preserved c =
     let stays = LevelAt-change c.args.entries.now c.args.len c.loop-at.at c.loop-at.level _ in
     elim c.in-Insert.is [
-      | inl e ↦ stays _ c.loop-at-test.true e.2 refl c.loop-at.invariant
+      | inl e ↦ stays _ c.loop-at-test.true e.3 refl c.loop-at.invariant
       | inr f ↦ elim f [
-        | inl e ↦ stays _ c.loop-at-test.true e.2 refl c.loop-at.invariant
-        | inr e ↦ stays _ c.loop-at-test.true e.3 refl c.loop-at.invariant
+        | inl e ↦ stays _ c.loop-at-test.true e.3 refl c.loop-at.invariant
+        | inr e ↦ stays _ c.loop-at-test.true e.4 refl c.loop-at.invariant
       ]
     ]
 

@@ -9,7 +9,7 @@ use Rattle.rl_line.specs.declared.change.Measure.TheVariants.{Bytes, Newlines}
 use Rattle.rl_line.specs.Change.{faced, size_back, size_back_over, greatest_back_over}
 use Rattle.std.proofs.lemmas.List.{drop-map, drop_all}
 use Rattle.rl_line.proofs.LineStartLemmas.{length-line_starts}
-use Rattle.rl_line.proofs.UndoLemmas.{IsBack, IsBack-none, IsBack-fits, IsBack-next, entries_from, size_back_over-within}
+use Rattle.rl_line.proofs.UndoLemmas.{IsBack, IsBack-none, IsBack-fits, IsBack-next, IsBack-stands, entries_from, size_back_over-within}
 use Rattle.rl_line.proofs.line_buffer.LineBuffer.go_over_all.Goals as goal
 use Rattle.rl_line.proofs.line_buffer.LineBuffer.go_over_all.Goals.{After-index-changes-left}
 
@@ -49,6 +49,11 @@ pub go_over-self-inside-requires-clause-fits : goal.go_over-self-inside-requires
 go_over-self-inside-requires-clause-fits c =
     let d = (goal.at.go_over-self-inside-requires-clause-fits c).After-index-changes-left in
     IsBack-fits c.args.way c.args.changes.now (c.loop-left.left - 1) c.index-changes-left.result c.args.self.now (now d) (inside d) c.index-changes-left.is (back d)
+
+pub go_over-self-inside-requires-clause-stands : goal.go_over-self-inside-requires-clause-stands
+go_over-self-inside-requires-clause-stands c =
+    let d = (goal.at.go_over-self-inside-requires-clause-stands c).After-index-changes-left in
+    IsBack-stands c.args.way c.args.changes.now (c.loop-left.left - 1) c.index-changes-left.result c.args.self.now (now d) (inside d) c.index-changes-left.is (back d)
 
 pub go_over-self-inside-requires-clause-room : goal.go_over-self-inside-requires-clause-room
 go_over-self-inside-requires-clause-room c =

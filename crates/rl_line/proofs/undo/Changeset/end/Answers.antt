@@ -1,5 +1,6 @@
 use Rattle.std.proofs.Common.{rules, sym, ◌≡◌, subst, ap, ◌∙◌, map}
 use Rattle.rl_line.specs.Record.{entry_of}
+use Rattle.rl_line.specs.declared.change.Freshness.TheVariants.{Stale}
 use Rattle.rl_line.specs.Units.{AtLevel, end_times, level}
 use Rattle.rl_line.proofs.LevelLemmas.{AtLevel-ended}
 use Rattle.rl_line.proofs.MoveLemmas.{dropped-view}
@@ -14,7 +15,7 @@ closed c =
 pub invariant_of-self-2 : goal.invariant_of-self-2
 invariant_of-self-2 c =
     let h = subst (AtLevel c.self.inside.level) c.self.view_is c.self.invariant in
-    subst (AtLevel 0) (sym (dropped-view (λ es. end_times (level es) es) c.args.self.now c.self.inside.recorded.items c.self.inside.pending.items _ _ c.self.view_is (closed (goal.at.invariant_of-self-2 c).After-clear) c.clear.ensures.items))
+    subst (AtLevel 0) (sym (dropped-view (λ es. end_times (level es) es) c.args.self.now c.self.inside.recorded.items c.self.inside.pending.items _ _ c.self.inside.fresh Stale c.self.view_is (closed (goal.at.invariant_of-self-2 c).After-clear) c.clear.ensures.items))
     (AtLevel-ended c.self.inside.level c.args.self.now h)
 
 pub returns-clause-done : goal.returns-clause-done

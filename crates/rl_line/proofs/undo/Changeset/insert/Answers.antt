@@ -1,15 +1,15 @@
-use Rattle.std.proofs.Common.{sym, ◌≡◌, refl, subst, map, reverse}
+use Rattle.std.proofs.Common.{sym, ◌≡◌, subst}
 use Rattle.rl_base.specs.Event.{InsertChar}
-use Rattle.rl_line.specs.Record.{entry_of, record_step}
+use Rattle.rl_line.specs.Record.{record_step}
 use Rattle.rl_line.specs.Units.{AtLevel}
 use Rattle.rl_line.proofs.LevelLemmas.{AtLevel-step}
-use Rattle.rl_line.proofs.MoveLemmas.{hears}
+use Rattle.rl_line.proofs.MoveLemmas.{hears, step-InsertChar, view}
 use Rattle.rl_line.proofs.undo.Changeset.insert.Goals as goal
 use Rattle.rl_line.proofs.undo.Changeset.insert.Goals.{After-clear}
 
-heard : (c : After-clear) → record { recorded = map entry_of c.insert_char.new.entries.items; pending = reverse (map entry_of c.clear.new.self.items) } ≡ record_step c.args.self.now (InsertChar c.args.idx c.args.c)
+heard : (c : After-clear) → view c.insert_char.new.entries.items c.clear.new.self.items c.in_ok-self-inside.field-0 ≡ record_step c.args.self.now (InsertChar c.args.idx c.args.c)
 heard c =
-    hears (InsertChar c.args.idx c.args.c) c.args.self.now c.self.inside.recorded.items c.self.inside.pending.items _ _ refl c.self.view_is c.in_ok-insert_char.ensures.ok c.clear.ensures.items
+    hears (InsertChar c.args.idx c.args.c) c.args.self.now c.self.inside.recorded.items c.self.inside.pending.items _ _ c.self.inside.fresh _ (step-InsertChar c.args.self.now c.args.idx c.args.c) c.self.view_is c.in_ok-self-inside.ensures.ok c.clear.ensures.items
 
 pub invariant_of-self-2 : goal.invariant_of-self-2
 invariant_of-self-2 c =

@@ -1,15 +1,15 @@
-use Rattle.std.proofs.Common.{sym, ◌≡◌, refl, subst, map, reverse}
+use Rattle.std.proofs.Common.{sym, ◌≡◌, subst}
 use Rattle.rl_base.specs.Event.{InsertStr}
-use Rattle.rl_line.specs.Record.{entry_of, record_step}
+use Rattle.rl_line.specs.Record.{record_step}
 use Rattle.rl_line.specs.Units.{AtLevel}
 use Rattle.rl_line.proofs.LevelLemmas.{AtLevel-step}
-use Rattle.rl_line.proofs.MoveLemmas.{hears}
+use Rattle.rl_line.proofs.MoveLemmas.{hears, step-InsertStr, view}
 use Rattle.rl_line.proofs.undo.Changeset.insert_str.Goals as goal
 use Rattle.rl_line.proofs.undo.Changeset.insert_str.Goals.{After-clear}
 
-heard : (c : After-clear) → record { recorded = map entry_of c.insert_str.new.entries.items; pending = reverse (map entry_of c.clear.new.self.items) } ≡ record_step c.args.self.now (InsertStr c.args.idx c.args.string.now)
+heard : (c : After-clear) → view c.insert_str.new.entries.items c.clear.new.self.items c.in_ok-self-inside.field-0 ≡ record_step c.args.self.now (InsertStr c.args.idx c.args.string.now)
 heard c =
-    hears (InsertStr c.args.idx c.args.string.now) c.args.self.now c.self.inside.recorded.items c.self.inside.pending.items _ _ refl c.self.view_is c.in_ok-insert_str.ensures.ok c.clear.ensures.items
+    hears (InsertStr c.args.idx c.args.string.now) c.args.self.now c.self.inside.recorded.items c.self.inside.pending.items _ _ c.self.inside.fresh _ (step-InsertStr c.args.self.now c.args.idx c.args.string.now) c.self.view_is c.in_ok-self-inside.ensures.ok c.clear.ensures.items
 
 pub invariant_of-self-2 : goal.invariant_of-self-2
 invariant_of-self-2 c =

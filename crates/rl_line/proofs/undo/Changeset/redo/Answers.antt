@@ -3,6 +3,7 @@ use Rattle.std.proofs.lemmas.List.{length-map}
 use Rattle.std.specs.Prelude.{IsSome}
 use Rattle.rl_line.specs.Record.{Record, entry_of}
 use Rattle.rl_line.specs.Undo.{Redone, line_ahead}
+use Rattle.rl_line.specs.declared.change.Freshness.TheVariants.{Stale}
 use Rattle.rl_line.specs.Units.{AtLevel, BothMatched, IsMatched, has_change, level, redo_of, redone}
 use Rattle.rl_line.proofs.LevelLemmas.{AtLevel-redone, level-within}
 use Rattle.rl_line.proofs.MatchLemmas.{Redoes-of}
@@ -14,7 +15,7 @@ use Rattle.rl_line.proofs.undo.Changeset.redo.Goals.{After-level, After-deref-2,
 count : (c : After-next_len-count) → c.next_len-count.result ≡ length (redo_of (reverse (map entry_of c.self.inside.pending.items)))
 count c = c.next_len-count.ensures ∙ ap (λ xs. length (redo_of (reverse (map entry_of xs)))) c.deref.ensures.value
 
-waiting : (c : After-next_len-count) → BothMatched (view [] c.self.inside.pending.items)
+waiting : (c : After-next_len-count) → BothMatched (view [] c.self.inside.pending.items Stale)
 waiting c = record { recorded = refl; pending = c.self.invariant.matched.pending }
 
 pub carry_over-requires-clause-count : goal.carry_over-requires-clause-count
@@ -28,10 +29,10 @@ carry_over-requires-clause-fits c =
     redo-fits _ c.self.inside.pending.items c.args.line.now (waiting d) (count d)
     (subst (λ (r : Record). IsSome (line_ahead r.pending c.args.line.now)) (sym c.self.view_is) c.requires)
 
-moved : (c : In_ok-changed) → record { recorded = map entry_of c.carry_over.new.to.items; pending = reverse (map entry_of c.carry_over.new.from.items) } ≡ redone c.args.self.now
+moved : (c : In_ok-changed) → view c.carry_over.new.to.items c.carry_over.new.from.items Stale ≡ redone c.args.self.now
 moved c =
     let d = (goal.at.In_ok-changed c).After-next_len-count in
-    redone-view _ c.args.self.now c.self.inside.recorded.items c.self.inside.pending.items _ _ c.self.view_is (waiting d) (count d)
+    redone-view _ c.args.self.now c.self.inside.recorded.items c.self.inside.pending.items _ _ c.self.inside.fresh c.self.view_is (waiting d) (count d)
     c.in_ok-changed.ensures.from c.in_ok-changed.ensures.to
 
 slice : (c : After-deref-2) → map entry_of (take (length c.deref-2.result.now - c.len-len.result) (drop c.len-len.result c.deref-2.result.now)) ≡ redo_of (reverse (map entry_of c.self.inside.pending.items))
@@ -43,7 +44,7 @@ slice c =
 pub level-requires : goal.level-requires
 level-requires c = subst IsMatched (sym (slice (goal.at.level-requires c).After-deref-2)) (Redoes-of (reverse (map entry_of c.self.inside.pending.items)) c.self.invariant.matched.pending).unit_matched
 
-stands : (c : After-level) → AtLevel (c.self.inside.level + c.level.result) (record { recorded = map entry_of c.carry_over.new.to.items; pending = reverse (map entry_of c.carry_over.new.from.items) })
+stands : (c : After-level) → AtLevel (c.self.inside.level + c.level.result) (view c.carry_over.new.to.items c.carry_over.new.from.items Stale)
 stands c =
     let opened : c.level.result ≡ level (redo_of c.args.self.now.pending) =
     c.level.ensures ∙ ap level (slice (goal.at.After-level c).After-deref-2) ∙ ap (λ (r : Record). level (redo_of r.pending)) c.self.view_is in

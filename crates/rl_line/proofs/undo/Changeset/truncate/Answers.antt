@@ -1,15 +1,16 @@
 use Rattle.std.proofs.lemmas.List.{take-map}
-use Rattle.std.proofs.Common.{◌≡◌, subst, ap, sym, ◌∙◌, map, take, reverse}
+use Rattle.std.proofs.Common.{◌≡◌, subst, ap, sym, ◌∙◌, map, take}
 use Rattle.rl_line.specs.Record.{Record, entry_of}
+use Rattle.rl_line.specs.declared.change.Freshness.TheVariants.{Stale}
 use Rattle.rl_line.specs.Units.{AtLevel, level, truncated}
 use Rattle.rl_line.proofs.LevelLemmas.{AtLevel-truncated}
-use Rattle.rl_line.proofs.MoveLemmas.{dropped-view}
+use Rattle.rl_line.proofs.MoveLemmas.{dropped-view, view}
 use Rattle.rl_line.proofs.undo.Changeset.truncate.Goals as goal
 use Rattle.rl_line.proofs.undo.Changeset.truncate.Goals.{After-clear}
 
-kept : (c : After-clear) → record { recorded = map entry_of c.truncate.new.self.items; pending = reverse (map entry_of c.clear.new.self.items) } ≡ truncated c.args.len c.args.self.now
+kept : (c : After-clear) → view c.truncate.new.self.items c.clear.new.self.items Stale ≡ truncated c.args.len c.args.self.now
 kept c =
-    dropped-view (take c.args.len) c.args.self.now c.self.inside.recorded.items c.self.inside.pending.items _ _ c.self.view_is
+    dropped-view (take c.args.len) c.args.self.now c.self.inside.recorded.items c.self.inside.pending.items _ _ c.self.inside.fresh Stale c.self.view_is
     (ap (map entry_of) c.truncate.ensures.items ∙ sym (take-map entry_of c.args.len c.self.inside.recorded.items)) c.clear.ensures.items
 
 pub invariant_of-self : goal.invariant_of-self

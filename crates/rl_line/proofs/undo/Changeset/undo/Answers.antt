@@ -1,10 +1,11 @@
-use Rattle.std.proofs.Common.{◌≡◌, ◌-◌, ap, arith, drop, length, map, refl, reverse, subst, sym, take, ◌∙◌}
+use Rattle.std.proofs.Common.{◌≡◌, ◌-◌, ap, arith, drop, length, map, refl, subst, sym, take, ◌∙◌}
 use Rattle.std.specs.Prelude.{IsSome}
 use Rattle.rl_line.specs.Record.{Record, entry_of}
 use Rattle.rl_line.specs.Undo.{Undone, line_back}
+use Rattle.rl_line.specs.declared.change.Freshness.TheVariants.{Stale}
 use Rattle.rl_line.specs.Units.{AtLevel, IsMatched, has_change, last_of, level, undone}
 use Rattle.rl_line.proofs.LevelLemmas.{AtLevel-undone, IsMatched-last, undone-within}
-use Rattle.rl_line.proofs.MoveLemmas.{undo-count, undo-fits, undo-part, undo-slice, undone-view}
+use Rattle.rl_line.proofs.MoveLemmas.{undo-count, undo-fits, undo-part, undo-slice, undone-view, view}
 use Rattle.rl_line.proofs.UndoLemmas.{line_back-marks}
 use Rattle.rl_line.proofs.undo.Changeset.undo.Goals as goal
 use Rattle.rl_line.proofs.undo.Changeset.undo.Goals.{After-last_len-count, After-len, In_ok-changed}
@@ -42,9 +43,9 @@ carry_over-requires-clause-fits c =
     undo-fits c.args.n _ c.self.inside.recorded.items c.args.line.now (count (goal.at.carry_over-requires-clause-fits c).After-last_len-count)
     (subst (λ (r : Record). IsSome (line_back r.recorded c.args.line.now)) (sym c.self.view_is) c.requires)
 
-moved : (c : In_ok-changed) → record { recorded = map entry_of c.carry_over.new.from.items; pending = reverse (map entry_of c.carry_over.new.to.items) } ≡ undone c.args.n c.args.self.now
+moved : (c : In_ok-changed) → view c.carry_over.new.from.items c.carry_over.new.to.items Stale ≡ undone c.args.n c.args.self.now
 moved c =
-    undone-view c.args.n _ c.args.self.now c.self.inside.recorded.items c.self.inside.pending.items _ _ c.self.view_is (count (goal.at.In_ok-changed c).After-last_len-count)
+    undone-view c.args.n _ c.args.self.now c.self.inside.recorded.items c.self.inside.pending.items _ _ c.self.inside.fresh c.self.view_is (count (goal.at.In_ok-changed c).After-last_len-count)
     c.in_ok-changed.ensures.from c.in_ok-changed.ensures.to
 
 pub invariant_of-self-2 : goal.invariant_of-self-2

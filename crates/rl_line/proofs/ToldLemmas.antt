@@ -1,0 +1,104 @@
+-- Entries of which the last is told its cursors: they change nothing but where a cursor goes.
+use Rattle.std.proofs.Common.{◌≡◌, ℕ, Bool, List, [], ◌∷◌, ◌++◌, Option, Some, None, refl, ap, subst}
+use Rattle.std.specs.Prelude.{option_and_then}
+use Rattle.rl_base.specs.Event.{Event, InsertChar, InsertStr, Delete, Replace, Start, Stop, Cursors, apply}
+use Rattle.rl_line.specs.declared.change.Freshness.{Freshness}
+use Rattle.rl_line.specs.declared.change.Freshness.TheVariants as is
+use Rattle.rl_line.specs.Record.{Entry, Begin, End, Inserted, Deleted, Replaced, Record, entries_after, entries_of, entries_told, event_of, inverse, last_told, recorded_after, unwind, with_cursors}
+use Rattle.rl_line.specs.Units.{mark, marks}
+use Rattle.rl_line.specs.Entries.{deep}
+
+pub apply-Cursors : (before after : ℕ) (text : List ℕ) → apply (Cursors before after) text ≡ Some text
+unfolding apply
+apply-Cursors before after text = refl
+
+-- cursors add no entry
+nothing_added : (before after : ℕ) (es : List Entry) → entries_after (Cursors before after) es ≡ es
+unfolding entries_of
+nothing_added before after [] = refl
+nothing_added before after (e ∷ []) = refl
+nothing_added before after (e ∷ (d ∷ ds)) = ap (λ es. e ∷ es) (nothing_added before after (d ∷ ds))
+
+pub told-cases : (P : List Entry → Type 0) (fresh : Freshness) (before after : ℕ) (es : List Entry) → P es → ((cursors : ℕ × ℕ) → P (last_told cursors es))
+    → P (entries_told fresh before after es)
+told-cases P is.Stale before after es h told = h
+told-cases P is.Added before after es h told = told (before, after)
+told-cases P (is.Joined first) before after es h told = told (first, after)
+
+-- what holds of entries after an event, and stays where a last entry is told its cursors, holds of what is recorded after any event
+pub recorded-cases : (P : List Entry → Type 0) (event : Event) (r : Record) → P (entries_after event r.recorded)
+    → ((es : List Entry) (cursors : ℕ × ℕ) → P es → P (last_told cursors es)) → P (recorded_after event r)
+recorded-cases P (InsertChar i c) r h told = h
+recorded-cases P (InsertStr i s) r h told = h
+recorded-cases P (Delete i s side) r h told = h
+recorded-cases P (Replace i s t) r h told = h
+recorded-cases P Start r h told = h
+recorded-cases P Stop r h told = h
+recorded-cases P (Cursors before after) r h told =
+    let k = subst P (nothing_added before after r.recorded) h in told-cases P r.fresh before after r.recorded k (λ cursors. told r.recorded cursors k)
+
+-- ---- what an entry makes of a text, and takes back
+same-event : (cursors : ℕ × ℕ) (e : Entry) → event_of (with_cursors cursors e) ≡ event_of e
+same-event cursors Begin = refl
+same-event cursors End = refl
+same-event cursors (Inserted i s ps) = refl
+same-event cursors (Deleted i s ps) = refl
+same-event cursors (Replaced i s t ps) = refl
+
+same-inverse : (cursors : ℕ × ℕ) (e : Entry) → event_of (inverse (with_cursors cursors e)) ≡ event_of (inverse e)
+same-inverse cursors Begin = refl
+same-inverse cursors End = refl
+same-inverse cursors (Inserted i s ps) = refl
+same-inverse cursors (Deleted i s ps) = refl
+same-inverse cursors (Replaced i s t ps) = refl
+
+pub last_told-unwind : (cursors : ℕ × ℕ) (es : List Entry) (text : List ℕ) → unwind (last_told cursors es) text ≡ unwind es text
+last_told-unwind cursors [] text = refl
+last_told-unwind cursors (e ∷ []) text = ap (λ event. apply event text) (same-inverse cursors e)
+last_told-unwind cursors (e ∷ (d ∷ ds)) text = ap (option_and_then (apply (event_of (inverse e)))) (last_told-unwind cursors (d ∷ ds) text)
+
+-- ---- marks
+same-mark : (cursors : ℕ × ℕ) (e : Entry) (fs : List Bool) → mark (with_cursors cursors e) fs ≡ mark e fs
+same-mark cursors Begin fs = refl
+same-mark cursors End fs = refl
+same-mark cursors (Inserted i s ps) fs = refl
+same-mark cursors (Deleted i s ps) fs = refl
+same-mark cursors (Replaced i s t ps) fs = refl
+
+pub last_told-marks : (cursors : ℕ × ℕ) (es : List Entry) (fs : List Bool) → marks (last_told cursors es) fs ≡ marks es fs
+last_told-marks cursors [] fs = refl
+last_told-marks cursors (e ∷ []) fs = ap (option_and_then (marks [])) (same-mark cursors e fs)
+last_told-marks cursors (e ∷ (d ∷ ds)) fs = behind (λ gs. last_told-marks cursors (d ∷ ds) gs) (mark e fs)
+  where
+    behind : ((gs : List Bool) → marks (last_told cursors (d ∷ ds)) gs ≡ marks (d ∷ ds) gs) → (o : Option (List Bool))
+        → option_and_then (marks (last_told cursors (d ∷ ds))) o ≡ option_and_then (marks (d ∷ ds)) o
+    behind same None = refl
+    behind same (Some gs) = same gs
+
+same-deep : (cursors : ℕ × ℕ) (e : Entry) (n : ℕ) (es : List Entry) → deep n (with_cursors cursors e ∷ es) ≡ deep n (e ∷ es)
+same-deep cursors Begin n es = refl
+same-deep cursors End n es = refl
+same-deep cursors (Inserted i s ps) n es = refl
+same-deep cursors (Deleted i s ps) n es = refl
+same-deep cursors (Replaced i s t ps) n es = refl
+
+pub last_told-deep : (cursors : ℕ × ℕ) (es : List Entry) (n : ℕ) → deep n (last_told cursors es) ≡ deep n es
+last_told-deep cursors [] n = refl
+last_told-deep cursors (e ∷ []) n = same-deep cursors e n []
+last_told-deep cursors (Begin ∷ (d ∷ ds)) n = last_told-deep cursors (d ∷ ds) _
+last_told-deep cursors (End ∷ (d ∷ ds)) n = last_told-deep cursors (d ∷ ds) _
+last_told-deep cursors (Inserted i s ps ∷ (d ∷ ds)) n = last_told-deep cursors (d ∷ ds) n
+last_told-deep cursors (Deleted i s ps ∷ (d ∷ ds)) n = last_told-deep cursors (d ∷ ds) n
+last_told-deep cursors (Replaced i s t ps ∷ (d ∷ ds)) n = last_told-deep cursors (d ∷ ds) n
+
+-- the last entry stands behind a Begin where any does
+pub last_told-begin : (cursors : ℕ × ℕ) (xs ys : List Entry) → last_told cursors (xs ++ Begin ∷ ys) ≡ xs ++ Begin ∷ last_told cursors ys
+last_told-begin cursors [] [] = refl
+last_told-begin cursors [] (y ∷ ys) = refl
+last_told-begin cursors (x ∷ []) ys = ap (λ es. x ∷ es) (last_told-begin cursors [] ys)
+last_told-begin cursors (x ∷ (z ∷ zs)) ys = ap (λ es. x ∷ es) (last_told-begin cursors (z ∷ zs) ys)
+
+pub last_told-append : (cursors : ℕ × ℕ) (xs : List Entry) (e : Entry) → last_told cursors (xs ++ e ∷ []) ≡ xs ++ with_cursors cursors e ∷ []
+last_told-append cursors [] e = refl
+last_told-append cursors (x ∷ []) e = refl
+last_told-append cursors (x ∷ (z ∷ zs)) e = ap (λ es. x ∷ es) (last_told-append cursors (z ∷ zs) e)
