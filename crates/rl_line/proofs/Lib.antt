@@ -23,3 +23,4 @@ pub mod RedoLemmas
 pub mod TranspositionLemmas
 pub mod UndoLemmas
 pub mod ToldLemmas
+pub mod WalkLemmas

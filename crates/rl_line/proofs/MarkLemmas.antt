@@ -45,7 +45,7 @@ pub unwind-truncated : (len : ℕ) (r : Record) (text : List ℕ) → replays_to
 unwind-truncated len r text h = sym (agree-same (unwind r.recorded text) (unwind (take len r.recorded) text) h)
 
 -- what a redo puts back stands in front of what it leaves
-redo-parts : (es : List Entry) → redo_of es ++ drop (length (redo_of es)) es ≡ es
+pub redo-parts : (es : List Entry) → redo_of es ++ drop (length (redo_of es)) es ≡ es
 redo-parts es = parts (reverse (units es)) (ap together (reverse-reverse (units es)) ∙ together-units es)
   where
     parts : (us : List UndoUnit) → together (reverse us) ≡ es → redo_from es us ++ drop (length (redo_from es us)) es ≡ es

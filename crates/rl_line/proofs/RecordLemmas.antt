@@ -131,7 +131,7 @@ unless true c o h = cc
 unless false c o h = h
 
 -- the joint entry does what the entry and the event do
-redone-joined : (event : Event) (e joint : Entry) (x y z : List ℕ) → joined event e ≡ Some joint → IsUtf8 x → apply (event_of e) x ≡ Some y → apply event y ≡ Some z
+pub redone-joined : (event : Event) (e joint : Entry) (x y z : List ℕ) → joined event e ≡ Some joint → IsUtf8 x → apply (event_of e) x ≡ Some y → apply event y ≡ Some z
     → apply (event_of joint) x ≡ Some z
 redone-joined (InsertChar i c) (Inserted j s ps) joint x y z h u p q =
     let b = if_some (is_alphanumeric c && (j + length s == i)) (Inserted j (s ++ encode_utf8 c) None) joint h in

@@ -20,7 +20,7 @@ use Rattle.rl_line.specs.Units.{has_change}
 use Rattle.rl_line.specs.Undo.{cursor_after, cursor_told, place_after, line_after, line_ahead, line_back}
 use Rattle.rl_line.specs.declared.change.Measure.{Measure}
 use Rattle.rl_line.specs.Change.{cursor_stands, faced, text_after, text_back, size_back_over, greatest_back_over}
-use Rattle.rl_line.proofs.PlanLemmas.{Fits-from, standing, standing-is}
+use Rattle.rl_line.proofs.PlanLemmas.{Fits-from, after_step-is, standing, standing-is}
 use Rattle.rl_line.proofs.RecordLemmas.{if_some, through, value_of, IsSome-through, inverse-inverse, unwind-append}
 
 -- one entry back
@@ -124,6 +124,13 @@ IsBack-next way xs m x start now next text lt e b fits is at =
       rest = subst IsSome (rest_split way xs m x now lt e ∙ ap (option_and_then (line_back (map (faced way) (take m xs)))) one) b.rest;
     }
 
+-- a line that goes over an entry
+pub line_after-is : (e : Entry) (line : Line) (now : List ℕ) → IsUtf8 line.text → IsCharBoundary line.text line.cursor → text_after true e line.text ≡ Some now
+    → (line_after e line ≡ Some (stepped line now (cursor_after line.cursor e))) × IsCharBoundary now (cursor_after line.cursor e)
+line_after-is e line now u at h =
+    let there = cursor_after-stands e line.text now line.cursor u at h in
+    (after_step-is (event_of e) (cursor_after line.cursor e) line now (text_after-means e line.text now h).0 there, there)
+
 -- where a text goes back with its cursors, a line whose cursor stands between two of its characters does, and has that text then
 record GoesBack (es : List Entry) (line : Line) (text : List ℕ) : Type 0 where
   now : Line
@@ -169,7 +176,7 @@ line_after-text_after e line next h =
     told None b = refl
     told (Some k) b = b
 
-line_back-text_back : (es : List Entry) (line now : Line) → line_back es line ≡ Some now → text_back true es line.text ≡ Some now.text
+pub line_back-text_back : (es : List Entry) (line now : Line) → line_back es line ≡ Some now → text_back true es line.text ≡ Some now.text
 line_back-text_back [] line now h = let e : line ≡ now = cc in ap (λ (l : Line). Some l.text) e
 line_back-text_back (e ∷ es) line now h =
     let p = through (line_after (inverse e)) (line_back es line) now h in

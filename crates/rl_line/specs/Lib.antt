@@ -15,3 +15,4 @@ pub mod Change
 pub mod Entries
 pub mod Units
 pub mod Undo
+pub mod Walk

@@ -1,0 +1,27 @@
+-- Entries that lead from a text to another, with the cursors that they were told.
+use Rattle.std.specs.Prelude.{◌≡◌, true, List, [], ◌∷◌, ℕ, Some}
+use Rattle.std.specs.Str.{IsUtf8}
+use Rattle.rl_base.specs.Event.{apply}
+use Rattle.rl_line.specs.declared.change.Freshness.TheVariants.{Stale}
+use Rattle.rl_line.specs.Change.{cursor_stands}
+use Rattle.rl_line.specs.Record.{Entry, Record, event_of, inverse}
+
+-- an entry makes a text of another, and the cursors before it and after it, where it was told them, stand between two characters there
+pub record LeadsTo (e : Entry) (text now : List ℕ) : Type 0 where
+  pub makes : apply (event_of e) text ≡ Some now
+  pub before : cursor_stands true (inverse e) text ≡ true
+  pub after : cursor_stands true e now ≡ true
+
+-- so do entries, the first first
+abbrev pub Walk : List Entry → List ℕ → List ℕ → Type 0
+Walk [] text now = text ≡ now
+Walk (e ∷ es) text now = (mid : List ℕ) × LeadsTo e text mid × Walk es mid now
+
+-- what is recorded leads to a text, and what was undone leads on from there; the last change can't be told its cursors any more
+pub record Walks (r : Record) (text : List ℕ) : Type 0 where
+  pub start : List ℕ
+  pub is_text : IsUtf8 start
+  pub back : Walk r.recorded start text
+  pub end : List ℕ
+  pub ahead : Walk r.pending text end
+  pub stale : r.fresh ≡ Stale
