@@ -38,7 +38,7 @@ recorded-cases P (Cursors before after) r h told =
     let k = subst P (nothing_added before after r.recorded) h in told-cases P r.fresh before after r.recorded k (λ cursors. told r.recorded cursors k)
 
 -- ---- what an entry makes of a text, and takes back
-same-event : (cursors : ℕ × ℕ) (e : Entry) → event_of (with_cursors cursors e) ≡ event_of e
+pub same-event : (cursors : ℕ × ℕ) (e : Entry) → event_of (with_cursors cursors e) ≡ event_of e
 same-event cursors Begin = refl
 same-event cursors End = refl
 same-event cursors (Inserted i s ps) = refl

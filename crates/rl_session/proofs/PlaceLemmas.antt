@@ -1,22 +1,24 @@
 -- A record is placed among the texts that were held, whatever it hears.
 use Rattle.std.proofs.Common.{◌≡◌, ℕ, zero, suc, Bool, true, false, cond, List, [], ◌∷◌, ◌++◌, length, take, drop, map, reverse, Option, Some, None, refl, sym, ap, subst, ◌∙◌, ◌⊎◌, inl, inr, append-nil, append_assoc}
-use Rattle.std.proofs.lemmas.List.{take-append-drop, reverse-append, reverse-reverse}
+use Rattle.std.proofs.lemmas.List.{take-append-drop, reverse-append, reverse-reverse, map-append}
 use Rattle.std.specs.Option.{option_map_or}
 use Rattle.std.specs.Prelude.{option_and_then, IsSome, ◌==◌}
 use Rattle.std.specs.Str.{IsUtf8}
-use Rattle.rl_base.specs.Event.{Event, InsertChar, InsertStr, Delete, Replace, Start, Stop, apply, Cursors}
+use Rattle.rl_base.specs.Event.{Event, InsertChar, InsertStr, Delete, Replace, Start, Stop, apply, Cursors, replay}
 use Rattle.rl_base.proofs.SwapLemmas.{apply-IsUtf8}
 use Rattle.rl_line.specs.Line.{Line, stepped}
 use Rattle.rl_line.specs.Plan.{Step, after, heard, heard_step}
-use Rattle.rl_line.specs.Record.{Entry, Begin, End, Inserted, Deleted, Replaced, Record, entries_of, entries_after, joined, record_step, replay_entries, unwind}
+use Rattle.rl_line.specs.Record.{Entry, Begin, End, Inserted, Deleted, Replaced, Record, entries_of, entries_after, joined, record_step, replay_entries, unwind, event_of, entries_told, last_told, freshness_of}
 use Rattle.rl_line.specs.Units.{level, last_of, kept_of, redo_of, end_one, end_times, begun, ended, undone, redone, truncated}
-use Rattle.rl_line.proofs.JoinLemmas.{record_step-Start, record_step-Stop, record_step-Cursors}
-use Rattle.rl_line.proofs.MatchLemmas.{IsMatched-after, BothMatched-begun, BothMatched-ended, BothMatched-undone, BothMatched-redone, BothMatched-truncated, EndsOne, end_one-cons, Redoes-of}
+use Rattle.rl_line.proofs.JoinLemmas.{record_step-Start, record_step-Stop}
+use Rattle.rl_line.proofs.MatchLemmas.{IsMatched-after, BothMatched-begun, BothMatched-ended, BothMatched-undone, BothMatched-redone, BothMatched-truncated, EndsOne, end_one-cons, Redoes-of, BothMatched-step}
 use Rattle.rl_line.proofs.RecordLemmas.{through, replay-append, replay-IsUtf8, replay-unwind, unwind-replay, entries_after-unwind}
 use Rattle.rl_line.proofs.UnitLemmas.{kept-last}
 use Rattle.rl_session.specs.History.{StandsAfter, WasHeld, PlacedBack, Placed, History}
 use Rattle.rl_session.specs.Run.{texts_after, texts_of_steps}
 use Rattle.rl_line.proofs.PlanLemmas.{first_step}
+use Rattle.rl_line.proofs.ToldLemmas.{same-event, told-cases}
+use Rattle.rl_line.proofs.WalkLemmas.{none_or_one}
 
 extend : (start : List ℕ) (es : List Entry) (held more : List (List ℕ)) → PlacedBack start es held → PlacedBack start es (held ++ more)
 extend start [] held more p =
@@ -158,25 +160,6 @@ entries_after-cases event (e ∷ (d ∷ ds)) =
       | inr j ↦ inr (record { front = e ∷ j.front; last = j.last; joint = j.joint; list_is = ap (λ x. e ∷ x) j.list_is; after_is = ap (λ x. e ∷ x) j.after_is })
     ]
 
--- the entries of an event: none, or one
-none_or_one : (event : Event) → (entries_of event ≡ []) ⊎ ((e : Entry) × (entries_of event ≡ e ∷ []))
-unfolding entries_of
-none_or_one (InsertChar i c) = inr (_, refl)
-none_or_one (InsertStr i s) = pick (length s == 0)
-  where
-    pick : (b : Bool) → (cond b [] (Inserted i s None ∷ []) ≡ []) ⊎ ((e : Entry) × (cond b [] (Inserted i s None ∷ []) ≡ e ∷ []))
-    pick true = inl refl
-    pick false = inr (Inserted i s None, refl)
-none_or_one (Delete i s side) = pick (length s == 0)
-  where
-    pick : (b : Bool) → (cond b [] (Deleted i s None ∷ []) ≡ []) ⊎ ((e : Entry) × (cond b [] (Deleted i s None ∷ []) ≡ e ∷ []))
-    pick true = inl refl
-    pick false = inr (Deleted i s None, refl)
-none_or_one (Replace i s t) = inr (Replaced i s t None, refl)
-none_or_one Start = inl refl
-none_or_one Stop = inl refl
-none_or_one (Cursors b a) = inl refl
-
 after-leads : (event : Event) (es : List Entry) (start x y : List ℕ) → IsUtf8 start → replay_entries es start ≡ Some x → apply event x ≡ Some y
     → replay_entries (entries_after event es) start ≡ Some y
 after-leads event es start x y u h k =
@@ -214,7 +197,7 @@ alone start es held p = subst (λ l. Placed start l held) (sym (append-nil es)) 
 
 -- an event that drops what was undone
 History-change : (event : Event) (start : List ℕ) (held : List (List ℕ)) (text next : List ℕ) (r : Record) → History start held text r → apply event text ≡ Some next
-    → History start (held ++ (next ∷ [])) next (record { recorded = entries_after event r.recorded; pending = [] })
+    → History start (held ++ (next ∷ [])) next (record { recorded = entries_after event r.recorded; pending = []; fresh = freshness_of event r.recorded })
 History-change event start held text next r h k =
     let leads = after-leads event r.recorded start text next h.is_text h.leads k in
     record {
@@ -223,6 +206,45 @@ History-change event start held text next r h k =
       placed = alone start (entries_after event r.recorded) (held ++ (next ∷ []))
           (Placed-after event r.recorded start next held (recorded-placed start held text r h) leads);
       matched = record { recorded = IsMatched-after event r.recorded h.matched.recorded; pending = refl };
+    }
+
+-- entries that make the same of a text are placed alike
+events-reverse : (es : List Entry) → map event_of (reverse es) ≡ reverse (map event_of es)
+events-reverse [] = refl
+events-reverse (e ∷ es) =
+    ap (map event_of) (reverse-append (e ∷ []) es) ∙ map-append event_of (reverse es) (e ∷ []) ∙ ap (λ l. l ++ (event_of e ∷ [])) (events-reverse es)
+    ∙ sym (reverse-append (event_of e ∷ []) (map event_of es))
+
+PlacedBack-same : (start : List ℕ) (es ks : List Entry) (held : List (List ℕ)) → map event_of es ≡ map event_of ks → PlacedBack start es held → PlacedBack start ks held
+PlacedBack-same start [] [] held same p = p
+PlacedBack-same start [] (k ∷ ks) held same p = cc
+PlacedBack-same start (e ∷ es) [] held same p = cc
+PlacedBack-same start (e ∷ es) (k ∷ ks) held same p =
+    let rest : map event_of es ≡ map event_of ks = cc in
+    let events : map event_of (reverse (k ∷ ks)) ≡ map event_of (reverse (e ∷ es)) = events-reverse (k ∷ ks) ∙ ap reverse (sym same) ∙ sym (events-reverse (e ∷ es)) in
+    (p.0, p.1, p.2, ap (λ l. replay l start) events ∙ p.3, PlacedBack-same start es ks (p.0 ++ (p.1 ∷ [])) rest p.4)
+
+last_told-events : (cursors : ℕ × ℕ) (es : List Entry) → map event_of (last_told cursors es) ≡ map event_of es
+last_told-events cursors [] = refl
+last_told-events cursors (e ∷ []) = ap (λ event. event ∷ []) (same-event cursors e)
+last_told-events cursors (e ∷ (d ∷ ds)) = ap (λ l. event_of e ∷ l) (last_told-events cursors (d ∷ ds))
+
+-- the last change is told its cursors
+History-told : (b a : ℕ) (start : List ℕ) (held : List (List ℕ)) (text : List ℕ) (r : Record) → History start held text r → History start held text (record_step r (Cursors b a))
+unfolding record_step
+History-told b a start held text r h =
+    let now = entries_told r.fresh b a r.recorded in
+    let same : map event_of now ≡ map event_of r.recorded =
+    told-cases (λ es. map event_of es ≡ map event_of r.recorded) r.fresh b a r.recorded refl (λ cursors. last_told-events cursors r.recorded) in
+    let all : map event_of (r.recorded ++ r.pending) ≡ map event_of (now ++ r.pending) =
+    map-append event_of r.recorded r.pending ∙ ap (λ l. l ++ map event_of r.pending) (sym same) ∙ sym (map-append event_of now r.pending) in
+    let turned : map event_of (reverse (r.recorded ++ r.pending)) ≡ map event_of (reverse (now ++ r.pending)) =
+    events-reverse (r.recorded ++ r.pending) ∙ ap reverse all ∙ sym (events-reverse (now ++ r.pending)) in
+    record {
+      is_text = h.is_text;
+      leads = ap (λ l. replay l start) same ∙ h.leads;
+      placed = PlacedBack-same start (reverse (r.recorded ++ r.pending)) (reverse (now ++ r.pending)) held turned h.placed;
+      matched = BothMatched-step r (Cursors b a) h.matched;
     }
 
 -- the start or the stop of a kill
@@ -241,7 +263,9 @@ History-event (Delete i s side) start held text next r h k = History-change (Del
 History-event (Replace i s t) start held text next r h k = History-change (Replace i s t) start held text next r h k
 History-event Start start held text next r h k = History-still start held text next r (record_step r Start) h k (record_step-Start r)
 History-event Stop start held text next r h k = History-still start held text next r (record_step r Stop) h k (record_step-Stop r)
-History-event (Cursors b a) start held text next r h k = History-still start held text next r (record_step r (Cursors b a)) h k (record_step-Cursors r b a)
+History-event (Cursors b a) start held text next r h k =
+    let same : text ≡ next = cc in
+    subst (λ t. History start (held ++ (t ∷ [])) t (record_step r (Cursors b a))) same (History-more start held (text ∷ []) text (record_step r (Cursors b a)) (History-told b a start held text r h))
 
 texts_after-more : (e : Event) (es : List Event) (text next : List ℕ) → apply e text ≡ Some next → texts_after (e ∷ es) text ≡ next ∷ texts_after es next
 texts_after-more e es text next h = ap (λ (o : Option (List ℕ)). elim o [ None ↦ [] | Some t ↦ t ∷ texts_after es t ]) h
@@ -255,7 +279,7 @@ History-steps [] start held old new r h e =
 History-steps (s ∷ ss) start held old new r h e =
     let b = first_step s ss old new e in
     let told : History start (held ++ (b.text ∷ [])) b.text (heard_step record_step old.cursor s r) =
-    subst (History start (held ++ (b.text ∷ [])) b.text) (sym (record_step-Cursors (record_step r s.0) old.cursor s.1)) (History-event s.0 start held old.text b.text r h b.makes) in
+    History-told old.cursor s.1 start (held ++ (b.text ∷ [])) b.text (record_step r s.0) (History-event s.0 start held old.text b.text r h b.makes) in
     let rest = History-steps ss start (held ++ (b.text ∷ [])) (stepped old b.text s.1) new (heard_step record_step old.cursor s r) told b.rest in
     subst (λ k. History start k new.text (heard record_step s.1 ss (heard_step record_step old.cursor s r)))
     (append_assoc held (b.text ∷ []) (texts_of_steps ss b.text) ∙ ap (λ k. held ++ k) (sym (texts_after-more s.0 (map (λ (x : Step). x.0) ss) old.text b.text b.makes))) rest

@@ -27,7 +27,13 @@ use Rattle.rl_session.specs.Pair.{pair_step, pair_refused}
 use Rattle.rl_session.specs.declared.pair.Pair.{Pair}
 use Rattle.rl_session.proofs.IdleLemmas.{NoneStarts, NoneStarts-edit_word, NoneStarts-kill, idle-Done, idle-Halted, idle-Told}
 use Rattle.rl_session.proofs.PairLemmas.{Done-changes, Halted-changes, keeps_changes}
-use Rattle.rl_session.proofs.AheadLemmas.{Ahead-Done, Ahead-Halted, Ahead-Undone}
+use Rattle.std.specs.Str.{IsCharBoundary}
+use Rattle.rl_line.specs.Walk.{Walks}
+use Rattle.rl_line.specs.Undo.{line_back}
+use Rattle.rl_line.proofs.RecordLemmas.{value_of}
+use Rattle.rl_line.proofs.UndoLemmas.{line_back-unwind}
+use Rattle.rl_line.proofs.WalkLemmas.{Walks-Done, Walks-Halted, Walks-Redone, Walks-Undone, Walks-ahead, Walks-back, Walks-begun, Walks-ended}
+use Rattle.rl_session.specs.State.{origin}
 use Rattle.rl_line.proofs.MarkLemmas.{replay-redone, unwind-begun, unwind-ended, unwind-redone}
 use Rattle.std.proofs.lemmas.Option.{same_Some}
 
@@ -54,9 +60,9 @@ Kept-Moved None r now old new a u e m = subst (λ (l : Line). Kept r now old l) 
 Kept-Moved (Some place) r now old new a u e m =
     subst (λ (l : Line). Kept r now old l) (sym m.1) (subst (λ (k : Record). Kept r k old (record old { cursor = place })) (sym e) (record { origin_is = λ start e. e; utf8 = u }))
 
-Follows-Moved : (place : Option ℕ) (r : Record) (old new : Line) (a : Bool) → Moved place old new a → Follows old r → Follows new r
-Follows-Moved None r old new a m f = subst (λ (l : Line). Follows l r) (sym m.1) f
-Follows-Moved (Some place) r old new a m f = subst (λ (l : Line). Follows l r) (sym m.1) (record { back = f.back; ahead = f.ahead })
+Walks-Moved : (place : Option ℕ) (r : Record) (old new : Line) (a : Bool) → Moved place old new a → Walks r old.text → Walks r new.text
+Walks-Moved None r old new a m w = subst (λ (l : Line). Walks r l.text) (sym m.1) w
+Walks-Moved (Some place) r old new a m w = subst (λ (l : Line). Walks r l.text) (sym m.1) w
 
 keeps : (m : Record) (e : Event) (w : Refusal) (k : Record) → keeps_changes m e w k → k ≡ m
 keeps m e w k h = h
@@ -69,47 +75,41 @@ pub Kept-refused : {A : Type 0} (takes : Bool) (plan : Plan A) (p q : Pair) (old
     → Kept p.changes q.changes old new
 Kept-refused takes plan p q old new w u h = Kept-Halted keeps_changes plan p.changes q.changes old new w keeps u (Halted-changes takes plan old new p q w h)
 
--- so the record follows the text again
-Follows-pair : {A : Type 0} (plan : Plan A) (p q : Pair) (old new : Line) (a : A) → IsUtf8 old.text → Done pair_step plan old new p q a → Follows old p.changes → Follows new q.changes
-Follows-pair plan p q old new a u d f = record {
-  back = IsSome-Kept p.changes q.changes old new (Kept-pair plan p q old new a u d) f.back;
-  ahead = Ahead-Done plan p.changes q.changes old new a (Done-changes plan old new p q a d) f.ahead;
-}
+-- and the record leads to the text again
+Walks-pair : {A : Type 0} (plan : Plan A) (p q : Pair) (old new : Line) (a : A) → IsCharBoundary old.text old.cursor → Done pair_step plan old new p q a → Walks p.changes old.text → Walks q.changes new.text
+Walks-pair plan p q old new a at d = Walks-Done plan p.changes q.changes old new a at (Done-changes plan old new p q a d)
 
-Follows-refused : {A : Type 0} (takes : Bool) (plan : Plan A) (p q : Pair) (old new : Line) (w : Refusal) → IsUtf8 old.text → Halted pair_step (or_no_memory_if takes pair_refused) plan old new p q w
-    → Follows old p.changes → Follows new q.changes
-Follows-refused takes plan p q old new w u h f = record {
-  back = IsSome-Kept p.changes q.changes old new (Kept-refused takes plan p q old new w u h) f.back;
-  ahead = Ahead-Halted plan p.changes q.changes old new w (Halted-changes takes plan old new p q w h) f.ahead;
-}
+Walks-refused : {A : Type 0} (takes : Bool) (plan : Plan A) (p q : Pair) (old new : Line) (w : Refusal) → IsCharBoundary old.text old.cursor → Halted pair_step (or_no_memory_if takes pair_refused) plan old new p q w
+    → Walks p.changes old.text → Walks q.changes new.text
+Walks-refused takes plan p q old new w at h = Walks-Halted keeps_changes plan p.changes q.changes old new w keeps at (Halted-changes takes plan old new p q w h)
 
 -- ---- the session's invariant
 pub AtRest-Moved : (place : Option ℕ) (p : Pair) (old new : Line) (a : Bool) → Moved place old new a → AtRest old p → AtRest new p
-AtRest-Moved place p old new a m h = record { follows = Follows-Moved place p.changes old new a m h.follows; idle = h.idle }
+AtRest-Moved place p old new a m h = record { walks = Walks-Moved place p.changes old new a m h.walks; idle = h.idle }
 
-AtRest-pair : {A : Type 0} (plan : Plan A) (p q : Pair) (old new : Line) (a : A) → IsUtf8 old.text → NoneStarts plan.steps → Done pair_step plan old new p q a
+AtRest-pair : {A : Type 0} (plan : Plan A) (p q : Pair) (old new : Line) (a : A) → IsCharBoundary old.text old.cursor → NoneStarts plan.steps → Done pair_step plan old new p q a
     → AtRest old p → AtRest new q
-AtRest-pair plan p q old new a u none d h = record { follows = Follows-pair plan p q old new a u d h.follows; idle = idle-Done plan old new p q a none d h.idle }
+AtRest-pair plan p q old new a at none d h = record { walks = Walks-pair plan p q old new a at d h.walks; idle = idle-Done plan old new p q a none d h.idle }
 
-AtRest-refused : {A : Type 0} (takes : Bool) (plan : Plan A) (p q : Pair) (old new : Line) (w : Refusal) → IsUtf8 old.text → NoneStarts plan.steps → Halted pair_step (or_no_memory_if takes pair_refused) plan old new p q w
+AtRest-refused : {A : Type 0} (takes : Bool) (plan : Plan A) (p q : Pair) (old new : Line) (w : Refusal) → IsCharBoundary old.text old.cursor → NoneStarts plan.steps → Halted pair_step (or_no_memory_if takes pair_refused) plan old new p q w
     → AtRest old p → AtRest new q
-AtRest-refused takes plan p q old new w u none d h =
-    record { follows = Follows-refused takes plan p q old new w u d h.follows; idle = idle-Halted takes plan old new p q w none d h.idle }
+AtRest-refused takes plan p q old new w at none d h =
+    record { walks = Walks-refused takes plan p q old new w at d h.walks; idle = idle-Halted takes plan old new p q w none d h.idle }
 
 -- an edit, which may take memory of its own
-pub AtRest-edit : {A B : Type 0} (takes : Bool) (plan : Plan A) (shown : B → A) (p q : Pair) (old new : Line) (result : Result B Refusal) → IsUtf8 old.text → NoneStarts plan.steps
+pub AtRest-edit : {A B : Type 0} (takes : Bool) (plan : Plan A) (shown : B → A) (p q : Pair) (old new : Line) (result : Result B Refusal) → IsCharBoundary old.text old.cursor → NoneStarts plan.steps
     → IfOk result (λ b. Done pair_step plan old new p q (shown b)) → IfErr result (λ w. Halted pair_step (or_no_memory_if takes pair_refused) plan old new p q w)
     → AtRest old p → AtRest new q
-AtRest-edit takes plan shown p q old new (Ok b) u none d h = AtRest-pair plan p q old new (shown b) u none d
-AtRest-edit takes plan shown p q old new (Err w) u none d h = AtRest-refused takes plan p q old new w u none h
+AtRest-edit takes plan shown p q old new (Ok b) at none d h = AtRest-pair plan p q old new (shown b) at none d
+AtRest-edit takes plan shown p q old new (Err w) at none d h = AtRest-refused takes plan p q old new w at none h
 
 -- an edit of the letters of a word, whose text is not told
-pub AtRest-recased : (action : WordAction) (p q : Pair) (old new : Line) (result : Result Bool Refusal) → IsUtf8 old.text
+pub AtRest-recased : (action : WordAction) (p q : Pair) (old new : Line) (result : Result Bool Refusal) → IsCharBoundary old.text old.cursor
     → IfOk result (λ a. Recased old action (λ made. Done pair_step (edit_word_plan old made) old new p q a))
     → IfErr result (λ w. Recased old action (λ made. Halted pair_step (or_no_memory pair_refused) (edit_word_plan old made) old new p q w))
     → AtRest old p → AtRest new q
-AtRest-recased action p q old new (Ok a) u d h = AtRest-pair (edit_word_plan old d.made) p q old new a u (NoneStarts-edit_word old d.made) d.holds
-AtRest-recased action p q old new (Err w) u d h = AtRest-refused true (edit_word_plan old h.made) p q old new w u (NoneStarts-edit_word old h.made) h.holds
+AtRest-recased action p q old new (Ok a) at d h = AtRest-pair (edit_word_plan old d.made) p q old new a at (NoneStarts-edit_word old d.made) d.holds
+AtRest-recased action p q old new (Err w) at d h = AtRest-refused true (edit_word_plan old h.made) p q old new w at (NoneStarts-edit_word old h.made) h.holds
 
 -- the record hears nothing of the start and the end of a kill
 pub Kept-Told : (b : Bool) (P : Pair → Pair → Type 0) (p q : Pair) (old new : Line)
@@ -120,55 +120,60 @@ Kept-Told false P p q old new keeps t =
     let ended : q.changes ≡ t.last.changes = ap (λ (k : Pair). k.changes) t.ended ∙ record_step-Stop t.last.changes in
     subst (λ (r : Record). Kept p.changes r old new) (sym ended) (subst (λ (r : Record). Kept r t.last.changes old new) (record_step-Start p.changes) inside)
 
-Follows-Told : (b : Bool) (P : Pair → Pair → Type 0) (p q : Pair) (old new : Line)
-    → ((before now : Pair) → P before now → Follows old before.changes → Follows new now.changes) → Told pair_step b P p q → Follows old p.changes → Follows new q.changes
-Follows-Told true P p q old new keeps t f = keeps p q t f
-Follows-Told false P p q old new keeps t f =
-    let inside = keeps (pair_step p Start) t.last t.inside (subst (λ (r : Record). Follows old r) (sym (record_step-Start p.changes)) f) in
+Walks-Told : (b : Bool) (P : Pair → Pair → Type 0) (p q : Pair) (old new : Line)
+    → ((before now : Pair) → P before now → Walks before.changes old.text → Walks now.changes new.text) → Told pair_step b P p q → Walks p.changes old.text → Walks q.changes new.text
+Walks-Told true P p q old new keeps t f = keeps p q t f
+Walks-Told false P p q old new keeps t f =
+    let inside = keeps (pair_step p Start) t.last t.inside (subst (λ (r : Record). Walks r old.text) (sym (record_step-Start p.changes)) f) in
     let ended : q.changes ≡ t.last.changes = ap (λ (k : Pair). k.changes) t.ended ∙ record_step-Stop t.last.changes in
-    subst (λ (r : Record). Follows new r) (sym ended) inside
+    subst (λ (r : Record). Walks r new.text) (sym ended) inside
 
-pub AtRest-kill : (m : Movement) (p q : Pair) (old new : Line) (result : Result Bool Refusal) → IsUtf8 old.text
+pub AtRest-kill : (m : Movement) (p q : Pair) (old new : Line) (result : Result Bool Refusal) → IsCharBoundary old.text old.cursor
     → IfOk result (λ a. Told pair_step (is_by_characters m) (λ before now. Done pair_step (kill_plan old m) old new before now a) p q)
     → IfErr result (λ w. Told pair_step (is_by_characters m) (λ before now. Halted pair_step pair_refused (kill_plan old m) old new before now w) p q)
     → AtRest old p → AtRest new q
-AtRest-kill m p q old new (Ok a) u d h r = record {
-  follows = Follows-Told (is_by_characters m) _ p q old new (λ before now i. Follows-pair (kill_plan old m) before now old new a u i) d r.follows;
+AtRest-kill m p q old new (Ok a) at d h r = record {
+  walks = Walks-Told (is_by_characters m) _ p q old new (λ before now i. Walks-pair (kill_plan old m) before now old new a at i) d r.walks;
   idle = idle-Told (is_by_characters m) _ p q (λ i. idle-Done (kill_plan old m) old new p q a (NoneStarts-kill old m) i r.idle) d;
 }
-AtRest-kill m p q old new (Err w) u d h r = record {
-  follows = Follows-Told (is_by_characters m) _ p q old new (λ before now i. Follows-refused false (kill_plan old m) before now old new w u i) h r.follows;
+AtRest-kill m p q old new (Err w) at d h r = record {
+  walks = Walks-Told (is_by_characters m) _ p q old new (λ before now i. Walks-refused false (kill_plan old m) before now old new w at i) h r.walks;
   idle = idle-Told (is_by_characters m) _ p q (λ i. idle-Halted false (kill_plan old m) old new p q w (NoneStarts-kill old m) i r.idle) h;
 }
 
 -- nothing was done for want of memory
-Follows-same : (r now : Record) (old new : Line) → (now ≡ r) × (new ≡ old) → Follows old r → Follows new now
-Follows-same r now old new h f = subst (λ (k : Record). Follows new k) (sym h.0) (subst (λ (l : Line). Follows l r) (sym h.1) f)
+Walks-same : (r now : Record) (old new : Line) → (now ≡ r) × (new ≡ old) → Walks r old.text → Walks now new.text
+Walks-same r now old new h w = subst (λ (k : Record). Walks k new.text) (sym h.0) (subst (λ (l : Line). Walks r l.text) (sym h.1) w)
 
-pub Follows-undo : (n : ℕ) (r now : Record) (old new : Line) (result : Result Bool Refusal) → IsUtf8 old.text
-    → IfOk result (λ a. Undone n r now old new a) → IfErr result (λ w. (w ≡ why.NoMemory) × (now ≡ r) × (new ≡ old) × (0 < length r.recorded)) → Follows old r → Follows new now
-Follows-undo n r now old new (Ok a) u d h f =
-    record { back = IsSome-Kept r now old new (Kept-Undone n r now old new a u d) f.back; ahead = Ahead-Undone n r now old new a u d f.ahead }
-Follows-undo n r now old new (Err w) u d h f = Follows-same r now old new (h.1, h.2) f
+pub Walks-undo : (n : ℕ) (r now : Record) (old new : Line) (result : Result Bool Refusal) → IfOk result (λ a. Undone n r now old new a)
+    → IfErr result (λ w. (w ≡ why.NoMemory) × (now ≡ r) × (new ≡ old) × (0 < length r.recorded)) → Walks r old.text → Walks now new.text
+Walks-undo n r now old new (Ok a) d h = Walks-Undone n r now old new a d
+Walks-undo n r now old new (Err w) d h = Walks-same r now old new (h.1, h.2)
 
-pub Follows-redo : (r now : Record) (old new : Line) (result : Result Bool Refusal) → IsUtf8 old.text
-    → IfOk result (λ a. Redone r now old new a) → IfErr result (λ w. (w ≡ why.NoMemory) × (now ≡ r) × (new ≡ old) × (0 < length r.pending)) → Follows old r → Follows new now
-Follows-redo r now old new (Ok a) u d h f = record { back = subst IsSome (sym (unwind-redone r now old new a u d)) f.back; ahead = subst IsSome (sym (replay-redone r now old new a d)) f.ahead }
-Follows-redo r now old new (Err w) u d h f = Follows-same r now old new (h.1, h.2) f
+pub Walks-redo : (r now : Record) (old new : Line) (result : Result Bool Refusal) → IfOk result (λ a. Redone r now old new a)
+    → IfErr result (λ w. (w ≡ why.NoMemory) × (now ≡ r) × (new ≡ old) × (0 < length r.pending)) → Walks r old.text → Walks now new.text
+Walks-redo r now old new (Ok a) d h = Walks-Redone r now old new a d
+Walks-redo r now old new (Err w) d h = Walks-same r now old new (h.1, h.2)
 
--- a call on the record alone, which keeps where it leads from and forgets what was undone
-Follows-forgotten : (r now : Record) (line : Line) → unwind now.recorded line.text ≡ unwind r.recorded line.text → now.pending ≡ [] → Follows line r → Follows line now
-Follows-forgotten r now line e none f = record { back = subst IsSome (sym e) f.back; ahead = subst (λ es. IsSome (replay_entries es line.text)) (sym none) refl }
+pub Walks-begin : (r now : Record) (line : Line) (result : Result ℕ Refusal) → IfOk result (λ a. (a ≡ length r.recorded) × (now ≡ begun r)) → IfErr result (λ w. (w ≡ why.NoMemory) × (now ≡ r))
+    → Walks r line.text → Walks now line.text
+Walks-begin r now line (Ok a) d h w = subst (λ (k : Record). Walks k line.text) (sym d.1) (Walks-begun r line.text w)
+Walks-begin r now line (Err v) d h w = subst (λ (k : Record). Walks k line.text) (sym h.1) w
 
-pub Follows-begin : (r now : Record) (line : Line) (result : Result ℕ Refusal) → IfOk result (λ a. (a ≡ length r.recorded) × (now ≡ begun r)) → IfErr result (λ w. (w ≡ why.NoMemory) × (now ≡ r))
-    → Follows line r → Follows line now
-Follows-begin r now line (Ok a) d h f = subst (λ (k : Record). Follows line k) (sym d.1) (Follows-forgotten r (begun r) line (unwind-begun r line.text) refl f)
-Follows-begin r now line (Err w) d h f = subst (λ (k : Record). Follows line k) (sym h.1) f
+pub Walks-end : (r now : Record) (line : Line) (result : Result Bool Refusal) → IfOk result (λ a. (a ≡ adds_end (level r.recorded) r.recorded) × (now ≡ ended r))
+    → IfErr result (λ w. (w ≡ why.NoMemory) × (now ≡ r) × (0 < level r.recorded)) → Walks r line.text → Walks now line.text
+Walks-end r now line (Ok a) d h w = subst (λ (k : Record). Walks k line.text) (sym d.1) (Walks-ended r line.text w)
+Walks-end r now line (Err v) d h w = subst (λ (k : Record). Walks k line.text) (sym h.1) w
 
-pub Follows-end : (r now : Record) (line : Line) (result : Result Bool Refusal) → IfOk result (λ a. (a ≡ adds_end (level r.recorded) r.recorded) × (now ≡ ended r))
-    → IfErr result (λ w. (w ≡ why.NoMemory) × (now ≡ r) × (0 < level r.recorded)) → Follows line r → Follows line now
-Follows-end r now line (Ok a) d h f = subst (λ (k : Record). Follows line k) (sym d.1) (Follows-forgotten r (ended r) line (unwind-ended r line.text) refl f)
-Follows-end r now line (Err w) d h f = subst (λ (k : Record). Follows line k) (sym h.1) f
+-- the line can go back then, and ahead
+pub Follows-Walks : (r : Record) (line : Line) → IsCharBoundary line.text line.cursor → Walks r line.text → Follows line r
+Follows-Walks r line at w = record { back = Walks-back r line w at; ahead = Walks-ahead r line w at }
+
+-- so the recorded changes can be unwound
+pub Follows-unwind : (r : Record) (line : Line) → Follows line r → IsSome (unwind r.recorded line.text)
+Follows-unwind r line f =
+    let now = value_of (line_back r.recorded line) f.back in
+    subst IsSome (sym (line_back-unwind r.recorded line now.0 now.1)) refl
 
 Edited-nothing : {A : Type 0} (a : A) (s : State) → Edited (nothing s.line a) s s a
 Edited-nothing a s = record {

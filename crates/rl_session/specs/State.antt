@@ -3,8 +3,11 @@ use Rattle.std.specs.Prelude.{◌≡◌, ℕ, ◌≤◌, max, false, IsSome, Lis
 use Rattle.std.specs.Str.{IsCharBoundary, IsUtf8}
 use Rattle.rl_base.specs.KillRing.{Ring, IsRing, new_ring}
 use Rattle.rl_base.specs.declared.layout.GraphemeClusterMode.{GraphemeClusterMode}
+use Rattle.rl_line.specs.declared.change.Freshness.TheVariants.{Stale}
 use Rattle.rl_line.specs.Line.{Line}
 use Rattle.rl_line.specs.Record.{Record, replay_entries, unwind}
+use Rattle.rl_line.specs.Undo.{line_ahead, line_back}
+use Rattle.rl_line.specs.Walk.{Walks}
 use Rattle.rl_session.specs.declared.pair.Pair.{Pair}
 use Rattle.rl_session.specs.declared.session.Fault.{Fault}
 use Rattle.rl_session.specs.declared.session.Fault.TheVariants.{NoMemory, BadPlace}
@@ -14,14 +17,14 @@ pub record State : Type 0 where
   pub pair : Pair
   pub mode : GraphemeClusterMode
 
--- the recorded changes can be taken back from the line's text, and what was undone can be made again on it
+-- the line can go back over the recorded changes, and ahead over what was undone
 pub record Follows (line : Line) (r : Record) : Type 0 where
-  pub back : IsSome (unwind r.recorded line.text)
-  pub ahead : IsSome (replay_entries r.pending line.text)
+  pub back : IsSome (line_back r.recorded line)
+  pub ahead : IsSome (line_ahead r.pending line)
 
--- what a session keeps from command to command: the record follows the text, and no kill is on
+-- what a session keeps from command to command: the record leads to the text and on from it, and no kill is on
 pub record AtRest (line : Line) (pair : Pair) : Type 0 where
-  pub follows : Follows line pair.changes
+  pub walks : Walks pair.changes line.text
   pub idle : pair.ring.killing ≡ false
 
 -- what holds of every session: a text with the cursor between two of its characters, within the limit, and a ring that
@@ -41,7 +44,7 @@ with_ring ring s = record s { pair = record s.pair { ring = ring } }
 abbrev pub fresh : List ℕ → ℕ → ℕ → ℕ → GraphemeClusterMode → State
 fresh text pos limit ring_size mode = record {
   line = record { text = text; cursor = pos; limit = max limit (length text); grow = false };
-  pair = record { ring = new_ring ring_size; changes = record { recorded = []; pending = [] } };
+  pair = record { ring = new_ring ring_size; changes = record { recorded = []; pending = []; fresh = Stale } };
   mode = mode;
 }
 

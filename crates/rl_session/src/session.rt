@@ -238,11 +238,12 @@ impl Session {
         let _ = self.pair.ring.yank_size();
     }
 
-    // That the record and what was undone follow the text.
+    // That the line can go back over the record, and ahead over what was undone. The call only tells the proof where its
+    // cursor stands.
     fn follows(&self)
         ensures { Follows self.now.line self.now.pair.changes }
     {
-        let _ = &self.line;
+        let _ = self.line.pos();
     }
 
     fn obey(&mut self, command: &Command) -> Reply

@@ -1,4 +1,5 @@
 use Rattle.rl_session.proofs.RowLemmas.{step_origin, step_replays}
+use Rattle.rl_session.proofs.SessionLemmas.{Follows-unwind}
 use Rattle.rl_session.proofs.session.Session.apply.Goals as goal
 
 pub returns-clause-step : goal.returns-clause-step
@@ -14,4 +15,4 @@ pub returns-clause-replays : goal.returns-clause-replays
 returns-clause-replays c = λ start. step_replays start _ _ _ _ (returns-clause-step c)
 
 pub returns-clause-origin : goal.returns-clause-origin
-returns-clause-origin c = step_origin _ _ _ _ (returns-clause-step c) c.stands.ensures.utf8 c.follows.ensures.back
+returns-clause-origin c = step_origin _ _ _ _ (returns-clause-step c) c.stands.ensures.utf8 (Follows-unwind _ _ c.follows.ensures)

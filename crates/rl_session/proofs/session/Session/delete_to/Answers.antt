@@ -9,7 +9,7 @@ use Rattle.rl_session.proofs.session.Session.delete_to.Goals as goal
 
 pub invariant_of-self : goal.invariant_of-self
 invariant_of-self c =
-    AtRest-edit false _ (λ a. a) c.self.inside.pair c.delete_to.new.listener c.self.inside.line c.delete_to.new.self c.delete_to.result (rw (← c.self.view_is) at c.stands.ensures.utf8) (NoneStarts-kill c.self.inside.line (ViCharSearch c.args.n c.args.cs)) c.delete_to.ensures.done c.delete_to.ensures.halted c.self.invariant
+    AtRest-edit false _ (λ a. a) c.self.inside.pair c.delete_to.new.listener c.self.inside.line c.delete_to.new.self c.delete_to.result (rw (← c.self.view_is) at c.stands.ensures.cursor) (NoneStarts-kill c.self.inside.line (ViCharSearch c.args.n c.args.cs)) c.delete_to.ensures.done c.delete_to.ensures.halted c.self.invariant
 
 pub returns : goal.returns
 returns c =

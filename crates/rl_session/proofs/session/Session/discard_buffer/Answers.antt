@@ -9,7 +9,7 @@ use Rattle.rl_session.proofs.session.Session.discard_buffer.Goals as goal
 
 pub invariant_of-self : goal.invariant_of-self
 invariant_of-self c =
-    AtRest-edit false _ (λ a. a) c.self.inside.pair c.discard_buffer.new.listener c.self.inside.line c.discard_buffer.new.self c.discard_buffer.result (rw (← c.self.view_is) at c.stands.ensures.utf8) (NoneStarts-kill c.self.inside.line BeginningOfBuffer) c.discard_buffer.ensures.done c.discard_buffer.ensures.halted c.self.invariant
+    AtRest-edit false _ (λ a. a) c.self.inside.pair c.discard_buffer.new.listener c.self.inside.line c.discard_buffer.new.self c.discard_buffer.result (rw (← c.self.view_is) at c.stands.ensures.cursor) (NoneStarts-kill c.self.inside.line BeginningOfBuffer) c.discard_buffer.ensures.done c.discard_buffer.ensures.halted c.self.invariant
 
 pub returns : goal.returns
 returns c =

@@ -9,7 +9,7 @@ use Rattle.rl_session.proofs.session.Session.discard_line.Goals as goal
 
 pub invariant_of-self : goal.invariant_of-self
 invariant_of-self c =
-    AtRest-edit false _ (λ a. a) c.self.inside.pair c.discard_line.new.listener c.self.inside.line c.discard_line.new.self c.discard_line.result (rw (← c.self.view_is) at c.stands.ensures.utf8) (NoneStarts-kill c.self.inside.line BeginningOfLine) c.discard_line.ensures.done c.discard_line.ensures.halted c.self.invariant
+    AtRest-edit false _ (λ a. a) c.self.inside.pair c.discard_line.new.listener c.self.inside.line c.discard_line.new.self c.discard_line.result (rw (← c.self.view_is) at c.stands.ensures.cursor) (NoneStarts-kill c.self.inside.line BeginningOfLine) c.discard_line.ensures.done c.discard_line.ensures.halted c.self.invariant
 
 pub returns : goal.returns
 returns c =

@@ -9,7 +9,7 @@ use Rattle.rl_session.proofs.session.Session.indent.Goals as goal
 
 pub invariant_of-self : goal.invariant_of-self
 invariant_of-self c =
-    AtRest-edit (not c.args.dedent) _ (λ a. a) c.self.inside.pair c.indent.new.listener c.self.inside.line c.indent.new.self c.indent.result (rw (← c.self.view_is) at c.stands.ensures.utf8) (NoneStarts-indent c.self.inside.line c.args.movement.now c.args.amount c.args.dedent) c.indent.ensures.done c.indent.ensures.halted c.self.invariant
+    AtRest-edit (not c.args.dedent) _ (λ a. a) c.self.inside.pair c.indent.new.listener c.self.inside.line c.indent.new.self c.indent.result (rw (← c.self.view_is) at c.stands.ensures.cursor) (NoneStarts-indent c.self.inside.line c.args.movement.now c.args.amount c.args.dedent) c.indent.ensures.done c.indent.ensures.halted c.self.invariant
 
 pub returns : goal.returns
 returns c =

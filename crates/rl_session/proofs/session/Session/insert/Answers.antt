@@ -8,7 +8,7 @@ use Rattle.rl_session.proofs.session.Session.insert.Goals as goal
 
 pub invariant_of-self : goal.invariant_of-self
 invariant_of-self c =
-    AtRest-edit true _ (λ a. a) c.self.inside.pair c.insert.new.listener c.self.inside.line c.insert.new.self c.insert.result (rw (← c.self.view_is) at c.stands.ensures.utf8) (NoneStarts-insert c.self.inside.line c.args.c c.args.n) c.insert.ensures.done c.insert.ensures.halted c.self.invariant
+    AtRest-edit true _ (λ a. a) c.self.inside.pair c.insert.new.listener c.self.inside.line c.insert.new.self c.insert.result (rw (← c.self.view_is) at c.stands.ensures.cursor) (NoneStarts-insert c.self.inside.line c.args.c c.args.n) c.insert.ensures.done c.insert.ensures.halted c.self.invariant
 
 pub returns : goal.returns
 returns c =

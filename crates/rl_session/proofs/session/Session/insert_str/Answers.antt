@@ -7,7 +7,7 @@ use Rattle.rl_session.proofs.session.Session.insert_str.Goals as goal
 
 pub invariant_of-self : goal.invariant_of-self
 invariant_of-self c =
-    AtRest-edit true _ (λ a. a) c.self.inside.pair c.insert_str.new.listener c.self.inside.line c.insert_str.new.self c.insert_str.result (rw (← c.self.view_is) at c.stands.ensures.utf8) (tt, tt) c.insert_str.ensures.done c.insert_str.ensures.halted c.self.invariant
+    AtRest-edit true _ (λ a. a) c.self.inside.pair c.insert_str.new.listener c.self.inside.line c.insert_str.new.self c.insert_str.result (rw (← c.self.view_is) at c.stands.ensures.cursor) (tt, tt) c.insert_str.ensures.done c.insert_str.ensures.halted c.self.invariant
 
 pub returns : goal.returns
 returns c =

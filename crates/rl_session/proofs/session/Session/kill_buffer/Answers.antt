@@ -9,7 +9,7 @@ use Rattle.rl_session.proofs.session.Session.kill_buffer.Goals as goal
 
 pub invariant_of-self : goal.invariant_of-self
 invariant_of-self c =
-    AtRest-edit false _ (λ a. a) c.self.inside.pair c.kill_buffer.new.listener c.self.inside.line c.kill_buffer.new.self c.kill_buffer.result (rw (← c.self.view_is) at c.stands.ensures.utf8) (NoneStarts-kill c.self.inside.line EndOfBuffer) c.kill_buffer.ensures.done c.kill_buffer.ensures.halted c.self.invariant
+    AtRest-edit false _ (λ a. a) c.self.inside.pair c.kill_buffer.new.listener c.self.inside.line c.kill_buffer.new.self c.kill_buffer.result (rw (← c.self.view_is) at c.stands.ensures.cursor) (NoneStarts-kill c.self.inside.line EndOfBuffer) c.kill_buffer.ensures.done c.kill_buffer.ensures.halted c.self.invariant
 
 pub returns : goal.returns
 returns c =

@@ -8,7 +8,7 @@ use Rattle.rl_session.proofs.session.Session.paste.Goals as goal
 
 pub invariant_of-self : goal.invariant_of-self
 invariant_of-self c =
-    AtRest-edit true _ (λ a. a) c.self.inside.pair c.yank.new.listener c.self.inside.line c.yank.new.self c.yank.result (rw (← c.self.view_is) at c.stands.ensures.utf8) (NoneStarts-yank c.self.inside.line _ c.args.n) c.yank.ensures.done c.yank.ensures.halted c.self.invariant
+    AtRest-edit true _ (λ a. a) c.self.inside.pair c.yank.new.listener c.self.inside.line c.yank.new.self c.yank.result (rw (← c.self.view_is) at c.stands.ensures.cursor) (NoneStarts-yank c.self.inside.line _ c.args.n) c.yank.ensures.done c.yank.ensures.halted c.self.invariant
 
 pub returns : goal.returns
 returns c =

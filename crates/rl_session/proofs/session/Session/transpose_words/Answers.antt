@@ -8,7 +8,7 @@ use Rattle.rl_session.proofs.session.Session.transpose_words.Goals as goal
 
 pub invariant_of-self : goal.invariant_of-self
 invariant_of-self c =
-    AtRest-edit true _ (λ a. a) c.self.inside.pair c.transpose_words.new.listener c.self.inside.line c.transpose_words.new.self c.transpose_words.result (rw (← c.self.view_is) at c.stands.ensures.utf8) (NoneStarts-transpose_words c.self.inside.line c.args.n) c.transpose_words.ensures.done c.transpose_words.ensures.halted c.self.invariant
+    AtRest-edit true _ (λ a. a) c.self.inside.pair c.transpose_words.new.listener c.self.inside.line c.transpose_words.new.self c.transpose_words.result (rw (← c.self.view_is) at c.stands.ensures.cursor) (NoneStarts-transpose_words c.self.inside.line c.args.n) c.transpose_words.ensures.done c.transpose_words.ensures.halted c.self.invariant
 
 pub returns : goal.returns
 returns c =
