@@ -15,11 +15,11 @@ use Rattle.rl_line.specs.Plan.{Plan, nothing, Done, Halted, or_no_memory, or_no_
 use Rattle.rl_line.specs.Edits.{insert_str_plan, yank_pop_plan}
 use Rattle.rl_line.specs.Kills.{Told, is_by_characters, kill_plan}
 use Rattle.rl_line.specs.LetterCase.{edit_word_plan, Recased}
-use Rattle.rl_line.specs.Record.{Record, replay_entries, unwind}
+use Rattle.rl_line.specs.Record.{Record, unwind}
 use Rattle.rl_line.proofs.JoinLemmas.{record_step-Start, record_step-Stop}
 use Rattle.rl_line.specs.Undo.{Redone, Undone}
 use Rattle.rl_line.specs.Units.{adds_end, begun, ended, level}
-use Rattle.rl_line.proofs.OriginLemmas.{IsSome-Kept, Kept, Kept-Done, Kept-Halted, Kept-Undone}
+use Rattle.rl_line.proofs.OriginLemmas.{Kept, Kept-Done, Kept-Halted}
 use Rattle.rl_session.specs.State.{State, AtRest, Follows}
 use Rattle.rl_line.proofs.PlanLemmas.{Halted-at_first, first_step}
 use Rattle.rl_session.specs.Commands.{CutShort, Edited, lent, lent_plan, popped, popped_plan}
@@ -33,8 +33,6 @@ use Rattle.rl_line.specs.Undo.{line_back}
 use Rattle.rl_line.proofs.RecordLemmas.{value_of}
 use Rattle.rl_line.proofs.UndoLemmas.{line_back-unwind}
 use Rattle.rl_line.proofs.WalkLemmas.{Walks-Done, Walks-Halted, Walks-Redone, Walks-Undone, Walks-ahead, Walks-back, Walks-begun, Walks-ended}
-use Rattle.rl_session.specs.State.{origin}
-use Rattle.rl_line.proofs.MarkLemmas.{replay-redone, unwind-begun, unwind-ended, unwind-redone}
 use Rattle.std.proofs.lemmas.Option.{same_Some}
 
 -- a text that goes into an empty line

@@ -7,7 +7,7 @@ use Rattle.rl_session.proofs.session.Session.truncate.Goals as goal
 pub invariant_of-self : goal.invariant_of-self
 invariant_of-self c = record {
   walks = subst (λ (k : Record). Walks k c.self.inside.line.text) (sym c.truncate.ensures)
-      (Walks-truncated c.args.len c.self.inside.pair.changes c.self.inside.line.text (sym c.in-Ok-true.ensures.ok ∙ c.in-Ok-true.field-0-is) c.self.invariant.walks);
+      (Walks-truncated c.args.len c.self.inside.pair.changes c.self.inside.line.text (sym c.in-Ok-true.ensures.ok ∙ c.in-Ok-true.field-0-test) c.self.invariant.walks);
   idle = c.self.invariant.idle;
 }
 
