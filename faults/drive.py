@@ -20,8 +20,9 @@ from pathlib import Path
 TOP = Path(__file__).resolve().parent.parent
 # How long one run may take, in seconds: a thousand times what it needs.
 LIMIT = 20
-# The lines that undo everything. A refused undo changes nothing, and is asked for again.
-LAST_LINES = b"undo 65535\n" * 24
+UNDO_ALL = "undo 65535"
+# A refused undo changes nothing, and is asked for again.
+LAST_LINES = f"{UNDO_ALL}\n".encode() * 24
 # For how many requests the memory is gone, in the runs in which it comes back.
 GAPS = (2, 5, 14)
 RANDOM_SCRIPTS = 150
@@ -123,16 +124,6 @@ def printed_parts(line):
     return reply, int(cursor), unescaped(text)
 
 
-def start_text(script, printed):
-    """The text that the last session began with: an older one where the last was refused."""
-    start = ""
-    for line, shown in zip(script.decode().splitlines(), printed):
-        word, _, text = line.partition(" ")
-        if word == "text" and shown.startswith(b"ok "):
-            start = unescaped(text)
-    return start
-
-
 def is_boundary(cursor, text):
     """Whether the cursor stands between two characters of the text, or at an end."""
     held = text.encode()
@@ -164,16 +155,20 @@ def fault_of_lines(outcome, plain):
     return None
 
 
-def fault_of_end(script, outcome):
-    """What is wrong with the text that is left when everything was undone, if anything."""
-    printed = lines_of(outcome.out)
-    reply, _, text = printed_parts(printed[-1])
-    if reply == "refused:1":
-        return None
-    start = start_text(script, printed)
-    if text != start:
-        return f"with everything undone the text is {escaped(text)!r}, and it began with {escaped(start)!r}"
-    return None if reply == "false" else f"after so many undos the last one answers {reply}"
+def fault_of_texts(script, printed):
+    """What is wrong with the texts that sessions begin with, and with those that are left when all was undone."""
+    start = ""
+    for line, shown in zip(script.decode().split("\n"), printed):
+        if shown == b"bad":
+            continue
+        word, _, given = line.partition(" ")
+        reply, _, text = printed_parts(shown)
+        if word == "text" and reply == "ok":
+            start = unescaped(given)
+        is_start = word == "text" and reply == "ok" or line == UNDO_ALL and reply in ("true", "false")
+        if is_start and text != start:
+            return f"behind {line!r} the text is {escaped(text)!r}, and the session began with {escaped(start)!r}"
+    return None
 
 
 def fault_of_script_run(script, outcome, plain):
@@ -181,7 +176,7 @@ def fault_of_script_run(script, outcome, plain):
     printed, asked = lines_of(outcome.out), script.count(b"\n")
     if outcome.status < 0:
         return f"signal {-outcome.status}"
-    wrong = fault_of_lines(outcome, plain)
+    wrong = fault_of_lines(outcome, plain) or fault_of_texts(script, printed)
     if wrong:
         return wrong
     if outcome.status == 0:
@@ -191,7 +186,9 @@ def fault_of_script_run(script, outcome, plain):
             return "memory was refused, and no line says so"
         if not outcome.refused and outcome.out != plain.out:
             return "nothing was refused, and it prints something else than the plain run"
-        return fault_of_end(script, outcome) if script.endswith(LAST_LINES) else None
+        if script.endswith(LAST_LINES) and not re.match(rb"false |refused:1 ", printed[-1]):
+            return f"after so many undos the last line is {printed[-1]!r}"
+        return None
     if (outcome.status, outcome.err) != (1, b"no memory\n") or not outcome.refused:
         return f"status {outcome.status} with {outcome.err!r}, {outcome.refused} refused"
     return None if len(printed) < asked else "it stopped behind its last line"
@@ -254,7 +251,8 @@ def idle_lines(script, plain):
     idle, before = [], None
     for line, shown in zip(script.splitlines(), lines_of(plain.out)):
         reply, _, left = shown.partition(b" ")
-        if re.match(rb"bad|none|refused", reply) or reply == b"false" and left == before:
+        did_nothing = reply == b"false" and left == before and line != UNDO_ALL.encode()
+        if did_nothing or re.match(rb"bad|none|refused", reply):
             idle.append(line)
         before = left
     return idle
@@ -313,10 +311,10 @@ def filled(chance, form):
 
 
 def random_script(chance):
-    """A script of random lines, the rarer the longer they leave nothing to do."""
+    """A script of random lines, those that leave nothing to do less often."""
     weights = [0.2 if it.split()[0] in ("text", "limit", "ring", "mode", "killbuf", "update") else 1 for it in FORMS]
     lines = [filled(chance, it) for it in chance.choices(FORMS, weights, k=RANDOM_LINES)]
-    return "\n".join([filled(chance, "text T"), *lines, ""]).encode() + LAST_LINES
+    return "\n".join([filled(chance, "limit K"), filled(chance, "text T"), *lines, ""]).encode() + LAST_LINES
 
 
 def random_part(runner, program):
