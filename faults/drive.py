@@ -118,6 +118,14 @@ def escaped(text):
     return text
 
 
+def is_of_command(line):
+    """Whether a line has the form of those that are printed for what has a meaning."""
+    try:
+        return re.fullmatch(r"[^ ]+ [0-9]+ .*", line.decode()) is not None
+    except UnicodeDecodeError:
+        return False
+
+
 def printed_parts(line):
     """The reply, the cursor and the text of a printed line."""
     reply, cursor, text = line.decode().split(" ", 2)
@@ -148,6 +156,8 @@ def fault_of_lines(outcome, plain):
     if printed[:same] != wanted[:same]:
         return "what stands before the first refusal is not what the plain run prints"
     for line, other in zip(printed, wanted):
+        if line != b"bad" and not is_of_command(line):
+            return f"a line of another form: {line!r}"
         if (line == b"bad") != (other == b"bad"):
             return "a line means something in one run and nothing in the other"
         if line != b"bad" and not is_boundary(*printed_parts(line)[1:]):
@@ -367,26 +377,34 @@ def stream_part(runner, program):
 
 
 def with_streams(program, words):
-    """How a run ends whose standard streams a shell gives it, and what it says on standard error."""
+    """How a run ends whose standard streams a shell gives it."""
     shell = ["bash", "-c", words, "bash", program]
     ran = subprocess.run(shell, input=b"text a\n", capture_output=True, timeout=LIMIT)
     return ran.returncode, ran.stdout, ran.stderr
 
 
+def read_by_nobody(program):
+    """How a run ends whose output goes into a pipe that nobody reads, with the signal for that at its default."""
+    reader, writer = os.pipe()
+    os.close(reader)
+    ran = subprocess.run([program], input=b"text a\n", stdout=writer, stderr=subprocess.PIPE, timeout=LIMIT)
+    os.close(writer)
+    return ran.returncode, b"", ran.stderr
+
+
 def closed_part(program):
     """Standard streams that are closed, full, or read by nobody."""
     part = Part("rl_script, streams that the system refuses")
-    refused_write = (1, b"", b"write failed\n")
+    read_failed, write_failed = (1, b"", b"read failed\n"), (1, b"", b"write failed\n")
     cases = {
-        "standard input closed": ('"$1" <&-', (1, b"", b"read failed\n")),
-        "a folder as standard input": ('"$1" </', (1, b"", b"read failed\n")),
-        "standard output closed": ('"$1" >&-', refused_write),
-        "standard output full": ('"$1" >/dev/full', refused_write),
-        "nobody reads": ('{ sleep 0.3; "$1"; echo "$?" >&2; } < <(echo text) | true', (0, b"", b"write failed\n1\n")),
+        "standard input closed": (with_streams(program, '"$1" <&-'), read_failed),
+        "a folder as standard input": (with_streams(program, '"$1" </'), read_failed),
+        "standard output closed": (with_streams(program, '"$1" >&-'), write_failed),
+        "standard output full": (with_streams(program, '"$1" >/dev/full'), write_failed),
+        "standard output read by nobody": (read_by_nobody(program), write_failed),
     }
-    for name, (words, wanted) in cases.items():
-        found = with_streams(program, words)
-        part.see(name, found[2], None if found == wanted else f"{found}, not {wanted}")
+    for name, (found, wanted) in cases.items():
+        part.see(name, found[0], None if found == wanted else f"{found}, not {wanted}")
     return part.close()
 
 
@@ -431,13 +449,8 @@ def program_of(name, given):
     return str(program)
 
 
-def main():
-    """Runs all parts, and ends with how many runs and checks passed and failed."""
-    words = argparse.ArgumentParser(description=__doc__.splitlines()[0])
-    words.add_argument("--script", help="the program to run as rl_script")
-    words.add_argument("--refusals", help="the program to run as rl_refusals")
-    given = words.parse_args()
-    script, refusals = program_of("rl_script", given.script), program_of("rl_refusals", given.refusals)
+def run_parts(script, refusals):
+    """Runs all parts. Gives how many runs and checks passed, and how many failed."""
     with tempfile.TemporaryDirectory(prefix="faults-") as room:
         runner = Runner(Path(room))
         counts = [
@@ -448,7 +461,21 @@ def main():
             closed_part(script),
             random_part(runner, script),
         ]
-    passed, failed = map(sum, zip(*counts))
+    return map(sum, zip(*counts))
+
+
+def main():
+    """Runs all parts on the programs. Where one can't be run at all, that is the one failure that is told."""
+    words = argparse.ArgumentParser(description=__doc__.splitlines()[0])
+    words.add_argument("--script", help="the program to run as rl_script")
+    words.add_argument("--refusals", help="the program to run as rl_refusals")
+    given = words.parse_args()
+    try:
+        refusals = program_of("rl_refusals", given.refusals)
+        passed, failed = run_parts(program_of("rl_script", given.script), refusals)
+    except (OSError, RuntimeError, subprocess.SubprocessError) as error:
+        print(f"FAILED a program was not run: {error}")
+        passed, failed = 0, 1
     print(f"{passed} passed, {failed} failed")
     return 1 if failed else 0
 
