@@ -33,8 +33,9 @@ SEED = 20
 
 @dataclass
 class Outcome:
-    """How a run ended, what it wrote, what it asked for, and how much of that was refused."""
+    """The faults of a run, how it ended, what it wrote, what it asked for, and how much of that was refused."""
 
+    faults: dict
     status: int
     out: bytes
     err: bytes
@@ -65,7 +66,7 @@ class Runner:
         os.unlink(file)
         if not said and ran.returncode >= 0:
             raise RuntimeError(f"{program} was not counted: is it linked with the C library by name?")
-        return Outcome(ran.returncode, ran.stdout, ran.stderr, *map(int, said))
+        return Outcome(faults, ran.returncode, ran.stdout, ran.stderr, *map(int, said))
 
     def run_all(self, program, cases):
         """The outcome of each case, a pair of the given bytes and the faults."""
@@ -107,8 +108,11 @@ class Part:
 def unescaped(text):
     """The text that a script's T stands for."""
     marks = {"\\": "\\", "n": "\n", "r": "\r", "t": "\t", "s": " "}
-    one = lambda found: chr(int(found[1], 16)) if found[1] else marks[found[2]]
-    return re.sub(r"\\(?:u\{([0-9A-Fa-f]{1,6})\}|(.))", one, text)
+
+    def character(found):
+        return chr(int(found[1], 16)) if found[1] else marks[found[2]]
+
+    return re.sub(r"\\(?:u\{([0-9A-Fa-f]{1,6})\}|(.))", character, text)
 
 
 def escaped(text):
@@ -196,7 +200,8 @@ def fault_of_script_run(script, outcome, plain):
             return "memory was refused, and no line says so"
         if not outcome.refused and outcome.out != plain.out:
             return "nothing was refused, and it prints something else than the plain run"
-        if script.endswith(LAST_LINES) and not re.match(rb"false |refused:1 ", printed[-1]):
+        comes_back = "FROM" not in outcome.faults or "UNTIL" in outcome.faults
+        if comes_back and script.endswith(LAST_LINES) and not printed[-1].startswith(b"false "):
             return f"after so many undos the last line is {printed[-1]!r}"
         return None
     if (outcome.status, outcome.err) != (1, b"no memory\n") or not outcome.refused:
@@ -215,16 +220,21 @@ def fault_of_plain_run(script, plain):
 
 
 def memory_cases(requests, gaps):
-    """Each request refused alone, from each one on, and from each one on for a while; the last of each finds nothing to refuse."""
+    """Each request refused alone, from each one on, and from each one on for a while.
+
+    The last place of each finds nothing to refuse."""
     places = range(1, requests + 2)
     alone = [{"REFUSE": n} for n in places]
     rest = [{"FROM": n} for n in places]
     return alone + rest + [{"FROM": n, "UNTIL": n + gap - 1} for gap in gaps for n in places]
 
 
-def is_met_rightly(faults, outcome, requests):
-    """Whether a refusal was met exactly where the plain run asks at that place."""
-    return (outcome.refused > 0) == (faults.get("REFUSE", faults.get("FROM")) <= requests)
+def fault_of_count(outcome, plain):
+    """What is wrong with the count of refusals, if anything: one is met exactly where the plain run asks."""
+    first = outcome.faults.get("REFUSE", outcome.faults.get("FROM"))
+    if (outcome.refused > 0) == (first <= plain.requests):
+        return None
+    return f"{outcome.refused} refused, where the plain run asks {plain.requests} times"
 
 
 def see_script(runner, part, program, name, script, choose=None):
@@ -232,11 +242,9 @@ def see_script(runner, part, program, name, script, choose=None):
     plain = runner.run(program, script, {})
     part.see(f"{name}, nothing refused", False, fault_of_plain_run(script, plain))
     cases = memory_cases(plain.requests, GAPS) if choose is None else choose(plain.requests)
-    for faults, outcome in zip(cases, runner.run_all(program, [(script, it) for it in cases])):
-        wrong = fault_of_script_run(script, outcome, plain)
-        if not wrong and not is_met_rightly(faults, outcome, plain.requests):
-            wrong = f"{outcome.refused} refused, where the plain run asks {plain.requests} times"
-        part.see(f"{name}, {faults}", outcome.refused, wrong)
+    for outcome in runner.run_all(program, [(script, it) for it in cases]):
+        wrong = fault_of_script_run(script, outcome, plain) or fault_of_count(outcome, plain)
+        part.see(f"{name}, {outcome.faults}", outcome.refused, wrong)
     return plain
 
 
@@ -272,8 +280,9 @@ def every_word_part(runner, program):
     """The script with every word, and then everything undone."""
     part = Part("rl_script on every word, memory refused")
     script = (TOP / "faults/every_word.txt").read_bytes()
-    missing = words_of_grammar() - set(script.decode().split())
-    part.must_hold(f"the script has every word; missing: {sorted(missing)}", not missing)
+    words = words_of_grammar()
+    missing = words - set(script.decode().split())
+    part.must_hold(f"the script has every word; missing: {sorted(missing)}", words and not missing)
     plain = see_script(runner, part, program, "every word", script + LAST_LINES)
     idle = idle_lines(script, plain)
     part.must_hold(f"with ample memory each line does something; not: {idle}", not idle)
@@ -288,16 +297,14 @@ def random_text(chance):
 
 def random_movement(chance):
     """A movement as a script writes it, with all that it wants."""
-    form = chance.choice(
-        "line;home;eol;bword N S;fword N A S;find N X C;first;bchar N;fchar N;up N;down N;buf;bob;eob".split(";")
-    )
-    return filled(chance, form)
+    forms = "line;home;eol;bword N S;fword N A S;find N X C;first;bchar N;fchar N;up N;down N;buf;bob;eob"
+    return filled(chance, chance.choice(forms.split(";")))
 
 
 FORMS = (
-    "pos Q;move M;ins N C;paste N T;yank N;yankpop;update 0 T;str Q T;rep Q Q T;range Q Q;del N;back N;killline;killbuf;"
-    "discline;discbuf;prevword N S;nextword N A S;to N X C;tchars;twords N;case L;kill M;copy M;indent I M;dedent I M;"
-    "begin;end;undo N;redo;trunc K;where;text T;limit K;ring N;mode W"
+    "pos Q;move M;ins N C;paste N T;yank N;yankpop;update 0 T;str Q T;rep Q Q T;range Q Q;del N;back N;"
+    "killline;killbuf;discline;discbuf;prevword N S;nextword N A S;to N X C;tchars;twords N;case L;kill M;"
+    "copy M;indent I M;dedent I M;begin;end;undo N;redo;trunc K;where;text T;limit K;ring N;mode W"
 ).split(";")
 
 
@@ -341,8 +348,9 @@ def random_part(runner, program):
     return part.close()
 
 
-def fault_of_stream_run(script, plain, faults, outcome):
+def fault_of_stream_run(script, plain, outcome):
     """What is wrong with a run whose K-th read or write failed, if anything."""
+    faults = outcome.faults
     is_read = "READ" in faults
     said = b"read failed\n" if is_read else b"write failed\n"
     if (outcome.status, outcome.err) != (1, said):
@@ -361,11 +369,12 @@ def see_streams(runner, part, program, name, script):
     plain = runner.run(program, script, {})
     for slow in ({}, {"ONE_BYTE": 1}):
         whole = runner.run(program, script, slow)
-        part.see(f"{name}, {slow}, nothing refused", False, None if whole.out == plain.out else "it prints something else")
+        same = whole.out == plain.out and whole.status == 0
+        part.see(f"{name}, {slow}, nothing refused", False, None if same else "it prints something else")
         cases = [{"READ": k} | slow for k in range(1, whole.reads + 1)]
         cases += [{"WRITE": k} | slow for k in range(1, whole.writes + 1)]
-        for faults, outcome in zip(cases, runner.run_all(program, [(script, it) for it in cases])):
-            part.see(f"{name}, {faults}", outcome.refused, fault_of_stream_run(script, plain, faults, outcome))
+        for outcome in runner.run_all(program, [(script, it) for it in cases]):
+            part.see(f"{name}, {outcome.faults}", outcome.refused, fault_of_stream_run(script, plain, outcome))
 
 
 def stream_part(runner, program):
@@ -426,11 +435,9 @@ def refusals_part(runner, program):
     part.must_hold("in it no reply is refused", lines_of(plain.out)[-1:] == [b"replies refused: 0"])
     cases = memory_cases(plain.requests, ())
     outcomes = runner.run_all(program, [(b"", it) for it in cases])
-    for faults, outcome in zip(cases, outcomes):
-        wrong = fault_of_refusals_run(outcome)
-        if not wrong and not is_met_rightly(faults, outcome, plain.requests):
-            wrong = f"{outcome.refused} refused, where the plain run asks {plain.requests} times"
-        part.see(f"{faults}", outcome.refused, wrong)
+    for outcome in outcomes:
+        wrong = fault_of_refusals_run(outcome) or fault_of_count(outcome, plain)
+        part.see(outcome.faults, outcome.refused, wrong)
     between = any(b"refused between its two events" in it.out for it in outcomes)
     part.must_hold("an edit is refused between its two events", between)
     return part.close()
