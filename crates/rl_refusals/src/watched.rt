@@ -13,7 +13,8 @@ const TRIES: u8 = 8;
 pub(crate) struct Watched {
     session: Session,
     start: &'static str,
-    refused: usize,
+    commands_refused: usize,
+    questions_refused: usize,
 }
 
 impl Watched {
@@ -28,7 +29,8 @@ impl Watched {
             Ok(session) => Ok(Some(Watched {
                 session,
                 start,
-                refused: 0,
+                commands_refused: 0,
+                questions_refused: 0,
             })),
             Err(fault) => {
                 holds(fault == Fault::NoMemory, "why there is no session")?;
@@ -38,9 +40,9 @@ impl Watched {
         }
     }
 
-    /// How many replies and questions were refused.
+    /// How many commands and questions were refused.
     pub(crate) fn refused(&self) -> usize {
-        self.refused
+        self.commands_refused.saturating_add(self.questions_refused)
     }
 
     /// How many entries the record has.
@@ -67,21 +69,24 @@ impl Watched {
         holds(self.recorded() == recorded, what)
     }
 
-    fn count_refusal(&mut self) {
-        self.refused = self.refused.saturating_add(1);
+    fn count_refused_command(&mut self) {
+        self.commands_refused = self.commands_refused.saturating_add(1);
     }
 
-    // Only want of memory is refused, and after that a place that is no longer one.
+    // A command is refused for want of memory, and after that for a place that is no longer one.
     fn hear(&mut self, reply: &Reply) -> Result<(), Failed> {
         match reply {
             Reply::Refused(Fault::NoMemory) => {}
             Reply::Refused(Fault::BadPlace) | Reply::Refused(Fault::BadYankSize) => {
-                holds(self.refused > 0, "a place, where nothing was refused")?;
+                holds(
+                    self.commands_refused > 0,
+                    "a place, where no command was refused",
+                )?;
             }
             Reply::Refused(Fault::NotReplaying) => holds(false, "a record that does not replay")?,
             _ => return Ok(()),
         }
-        self.count_refusal();
+        self.count_refused_command();
         Ok(())
     }
 
@@ -96,7 +101,7 @@ impl Watched {
             Ok(yes) => holds(yes, question),
             Err(refusal) => {
                 let _ = println!(rt; "{question}: {refusal}");
-                self.count_refusal();
+                self.questions_refused = self.questions_refused.saturating_add(1);
                 holds(refusal == Refusal::NoMemory, question)
             }
         }
@@ -141,7 +146,7 @@ impl Watched {
             Err(fault) => {
                 let _ = println!(rt; "the run was refused: {fault}");
                 holds(fault == Fault::NoMemory, "why the run was refused")?;
-                self.count_refusal();
+                self.count_refused_command();
                 self.stands(rt)?;
                 return Ok(false);
             }
