@@ -18,6 +18,8 @@ from dataclasses import dataclass
 from pathlib import Path
 
 TOP = Path(__file__).resolve().parent.parent
+# The crates that both programs stand on.
+LIBRARIES = ("rl_base", "rl_line", "rl_session")
 # How long one run may take, in seconds: a thousand times what it needs.
 LIMIT = 20
 UNDO_ALL = "undo 65535"
@@ -449,7 +451,8 @@ def program_of(name, given):
         return str(Path(given).resolve())
     folder = TOP / "crates" / name
     program = folder / "out" / name
-    sources = [it.stat().st_mtime for it in TOP.glob("crates/*/src/**/*.rt")]
+    crates = [TOP / "crates" / it / "src" for it in (name, *LIBRARIES)]
+    sources = [source.stat().st_mtime for it in crates for source in it.glob("**/*.rt")]
     if not program.is_file() or program.stat().st_mtime < max(sources):
         with open(folder / "stdin", "rb") as script:
             subprocess.run(["rt", "run"], cwd=folder, stdin=script, stdout=subprocess.DEVNULL, check=True)
