@@ -1,6 +1,7 @@
 //! Makes an edit with more and more changes allowed, and compares what it leaves with the rules.
 use crate::calls::{Answer, make};
 use crate::cases::Case;
+use crate::extents::is_first;
 use crate::replay::replayed;
 use crate::rules::{answer, are_sides, cursor, is_count, kill_count};
 use rl_base::laws::{RefuseAt, TextEvent};
@@ -138,6 +139,9 @@ fn broken_rule(
             }
             if !is_count(case, given, all.len()) || !are_sides(case, all) {
                 return Ok(Some("the changes"));
+            }
+            if !is_first(alloc, case, all)? {
+                return Ok(Some("the first change"));
             }
         }
         Err(refusal) => {

@@ -5,6 +5,7 @@
 mod calls;
 mod cases;
 mod check;
+mod extents;
 mod replay;
 mod rules;
 

@@ -8,8 +8,8 @@ use rl_base::{At, CharSearch, Direction, RepeatCount, Word};
 use std::alloc::{AllocError, Global};
 use unicode_segmentation::UnicodeSegmentation;
 
-// The movement by which the deletion deletes.
-fn reach_of(deletion: Deletion) -> Reach {
+/// The movement by which the deletion deletes.
+pub(crate) fn reach_of(deletion: Deletion) -> Reach {
     match deletion {
         Deletion::Backspace => Reach::BackwardChar,
         Deletion::KillLine => Reach::EndOfLine,
