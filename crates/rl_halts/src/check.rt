@@ -37,9 +37,9 @@ impl From<AllocError> for Fault {
 /// How many edits were made, how many of them were refused, and how many changes they told.
 #[derive(Clone, Copy, Debug, Default)]
 pub(crate) struct Tally {
-    pub(crate) made: u64,
-    pub(crate) refused: u64,
-    pub(crate) changes: u64,
+    pub(crate) made: usize,
+    pub(crate) refused: usize,
+    pub(crate) changes: usize,
 }
 
 // What an edit left.
@@ -101,7 +101,7 @@ fn stands(alloc: Global, case: &Case, left: &Left) -> Result<Option<&'static str
     let mut limit = case.limit();
     for event in &left.heard.seen {
         let Some(next) = replayed(alloc, text.as_str(), event)? else {
-            return Ok(Some("a change fits"));
+            return Ok(Some("a change that fits"));
         };
         text = next;
         limit = limit.max(text.len());
@@ -120,7 +120,7 @@ fn stands(alloc: Global, case: &Case, left: &Left) -> Result<Option<&'static str
     Ok(None)
 }
 
-// What the rules do not say of the edit, if anything.
+// What the edit left, answered or told otherwise than by the rules, if anything.
 fn broken_rule(
     alloc: Global,
     case: &Case,
@@ -169,9 +169,7 @@ fn check(
     if left.outcome.is_err() {
         tally.refused = tally.refused.saturating_add(1);
     }
-    for _ in all.iter().take(allowed) {
-        tally.changes = tally.changes.saturating_add(1);
-    }
+    tally.changes = tally.changes.saturating_add(all.len().min(allowed));
     Ok(())
 }
 
