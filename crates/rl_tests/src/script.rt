@@ -1,8 +1,6 @@
 //! Rows of scripts.
 use rl_session::{Fault, ScriptFault, run_script};
 use std::alloc::Global;
-use std::io;
-use std::io::{Read, Write};
 use std::process::Abort;
 use std::test::Fail;
 
@@ -381,18 +379,11 @@ fn texts_and_places_are_commanded(rt: HostRuntime) -> Result<(), Fail> {
 
 #[test]
 fn every_word_does_something(rt: HostRuntime) -> Result<(), Fail> {
-    const ROWS: &[Row] = &[
-        (
-            "each word once",
-            b"text ab cd\nins 1 e\nback 1\ntrunc 0\nbegin\npos 0\npaste 1 x y\nend\nundo 1\nredo\nprevword 1 emacs\nnextword 1 after emacs\ncase up\nto 1 F C\nmove bob\nupdate 7 one two\n",
-            b"ok 5 ab cd\ntrue 6 ab cde\ntrue 5 ab cd\nok 5 ab cd\nmark:0 5 ab cd\nok 0 ab cd\nfalse 3 x yab cd\ntrue 3 x yab cd\ntrue 0 ab cd\ntrue 3 x yab cd\ntrue 2 x ab cd\ntrue 2 x  cd\ntrue 5 x  CD\ntrue 3 x  \ntrue 0 x  \nok 7 one two\n",
-        ),
-        (
-            "and the others",
-            b"text one two\ntwords 1\ntchars\nkill bword 1 emacs\nyank 1\nyankpop\ncopy bword 1 emacs\nstr 0 ab\\n\nindent 2 buf\ndedent 1 line\nrep 0 4 cd\\ne\nwhere\nrange 5 6\ndel 1\npos 3\nkillline\nkillbuf\ndiscline\ndiscbuf\n",
-            b"ok 7 one two\ntrue 7 two one\ntrue 7 two oen\ntrue 4 two \ntrue 7 two oen\ntrue 7 two oen\ntext:oen 7 two oen\nfalse 7 ab\\ntwo oen\ntrue 11   ab\\n  two oen\ntrue 10   ab\\n two oen\nok 4 cd\\ne\\n two oen\nat:1:1 4 cd\\ne\\n two oen\nok 5 cd\\ne\\ntwo oen\ntext:t 5 cd\\ne\\nwo oen\nok 3 cd\\ne\\nwo oen\ntrue 3 cd\\n\\nwo oen\ntrue 3 cd\\n\ntrue 2 cd\ntrue 0 \n",
-        ),
-    ];
+    const ROWS: &[Row] = &[(
+        "each word once, but two kills before the yanks",
+        b"text ab cd\nins 1 e\nback 1\ntrunc 0\nbegin\npos 0\npaste 1 x y\nend\nundo 1\nredo\nprevword 1 emacs\nnextword 1 after emacs\ncase up\nto 1 F C\nmove bob\nkill eol\nupdate 7 one two\ntwords 1\ntchars\nkill bword 1 emacs\nyank 1\nyankpop\ncopy bword 1 emacs\nstr 0 ab\\n\nindent 2 buf\ndedent 1 line\nrep 0 4 cd\\ne\nwhere\nrange 5 6\ndel 1\npos 3\nkillline\nkillbuf\ndiscline\ndiscbuf\n",
+        b"ok 5 ab cd\ntrue 6 ab cde\ntrue 5 ab cd\nok 5 ab cd\nmark:0 5 ab cd\nok 0 ab cd\nfalse 3 x yab cd\ntrue 3 x yab cd\ntrue 0 ab cd\ntrue 3 x yab cd\ntrue 2 x ab cd\ntrue 2 x  cd\ntrue 5 x  CD\ntrue 3 x  \ntrue 0 x  \ntrue 0 \nok 7 one two\ntrue 7 two one\ntrue 7 two oen\ntrue 4 two \ntrue 7 two oen\ntrue 7 two x  \ntext:x\\s\\s 7 two x  \nfalse 7 ab\\ntwo x  \ntrue 11   ab\\n  two x  \ntrue 10   ab\\n two x  \nok 4 cd\\ne\\n two x  \nat:1:1 4 cd\\ne\\n two x  \nok 5 cd\\ne\\ntwo x  \ntext:t 5 cd\\ne\\nwo x  \nok 3 cd\\ne\\nwo x  \ntrue 3 cd\\n\\nwo x  \ntrue 3 cd\\n\ntrue 2 cd\ntrue 0 \n",
+    )];
     print_all(&rt, rt.alloc(), ROWS)
 }
 
@@ -524,39 +515,13 @@ fn malformed_lines_print_bad(rt: HostRuntime) -> Result<(), Fail> {
     Ok(())
 }
 
-// A reader and a writer that fail at once.
-#[derive(Drop)]
-struct Broken;
-
-impl Read for Broken {
-    fn read(&mut self, _buf: &mut [u8]) -> io::Result<usize> {
-        Err(io::Error::from(io::ErrorKind::Other))
-    }
-}
-
-impl Write for Broken {
-    fn write(&mut self, _buf: &[u8]) -> io::Result<usize> {
-        Err(io::Error::from(io::ErrorKind::Other))
-    }
-
-    fn flush(&mut self) -> io::Result<()> {
-        Ok(())
-    }
-}
-
 // A comparison of texts proves faster where it is handed on than within an assert.
 pub(crate) fn is_so(rt: &impl Abort, is_so: bool, what: &str) {
     assert!(rt; is_so, "{what}");
 }
 
 #[test]
-fn broken_ends_are_told_apart(rt: HostRuntime) -> Result<(), Fail> {
-    let mut printed = Vec::new(rt.alloc());
-    let read = run_script(rt.alloc(), &mut Broken, &mut printed);
-    assert_eq!(rt; read, Err(ScriptFault::Read), "a read that fails");
-    let mut script = b"text ab\n".as_slice();
-    let written = run_script(rt.alloc(), &mut script, &mut Broken);
-    assert_eq!(rt; written, Err(ScriptFault::Write), "a write that fails");
+fn faults_have_words_and_numbers(rt: HostRuntime) -> Result<(), Fail> {
     let said = format!(in rt.alloc();
         "{}, {}, {}, {}, {}, {}, {}",
         ScriptFault::Read,

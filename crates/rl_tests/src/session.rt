@@ -131,14 +131,31 @@ fn a_run_goes_on_past_a_refusal(rt: HostRuntime) -> Result<(), Fail> {
     runs(&rt, &mut session, &commands, &wanted, "ab", 2)
 }
 
+// The session does the commands, one at a time, with these replies.
+fn does_each(
+    rt: &impl Abort,
+    alloc: Global,
+    session: &mut Session,
+    commands: &[Command],
+    wanted: &[Reply],
+) -> Result<(), Fail> {
+    let mut replies = Vec::new(alloc);
+    for command in commands {
+        replies.push(session.apply(command))?;
+    }
+    assert_eq!(rt; replies.as_slice(), wanted, "one reply for each command");
+    Ok(())
+}
+
+// In a state in which each changes something, or hands it back.
 #[test]
-fn every_command_runs(rt: HostRuntime) -> Result<(), Fail> {
+fn every_command_does_something(rt: HostRuntime) -> Result<(), Fail> {
     let alloc = rt.alloc();
     let spaced = String::from_str(alloc, "x y")?;
     let words = String::from_str(alloc, "one two")?;
     let line = String::from_str(alloc, "ab\n")?;
     let lines = String::from_str(alloc, "cd\ne")?;
-    let copied = String::from_str(alloc, "oen")?;
+    let copied = String::from_str(alloc, "x  ")?;
     let deleted = String::from_str(alloc, "t")?;
     let commands = [
         Command::Insert('e', 1),
@@ -155,6 +172,7 @@ fn every_command_runs(rt: HostRuntime) -> Result<(), Fail> {
         Command::EditWord(WordAction::Uppercase),
         Command::DeleteTo(CharSearch::Backward('C'), 1),
         Command::Move(Movement::BeginningOfBuffer),
+        Command::Kill(Movement::EndOfLine),
         Command::Update(words, 7),
         Command::TransposeWords(1),
         Command::TransposeChars,
@@ -190,6 +208,7 @@ fn every_command_runs(rt: HostRuntime) -> Result<(), Fail> {
         Reply::Answer(true),
         Reply::Answer(true),
         Reply::Answer(true),
+        Reply::Answer(true),
         Reply::Done,
         Reply::Answer(true),
         Reply::Answer(true),
@@ -211,7 +230,9 @@ fn every_command_runs(rt: HostRuntime) -> Result<(), Fail> {
         Reply::Answer(true),
     ];
     let mut session = Session::new(alloc, "ab cd", 5, 64, 2, GraphemeClusterMode::Unicode)?;
-    runs(&rt, &mut session, &commands, &wanted, "", 0)
+    does_each(&rt, alloc, &mut session, &commands, &wanted)?;
+    is_so(&rt, session.line().as_str() == "", "nothing is left");
+    Ok(())
 }
 
 #[test]

@@ -1,0 +1,10 @@
+use Rattle.std.proofs.Common.{refl}
+use Rattle.rl_base.proofs.TextLemmas.{IsCharBoundary-before}
+use Rattle.rl_halts.proofs.calls.can_go_in.Goals as goal
+
+pub returns-then-pos-idx-clause-stays : goal.returns-then-pos-idx-clause-stays
+returns-then-pos-idx-clause-stays c = λ _.
+    let place = c.pos-pos.ensures.place in
+    let start = rw c.as_str-old.ensures at (c.if-not-is_char_boundary.ensures.test.0 refl) in
+    IsCharBoundary-before c.args.line.now.text c.args.idx c.args.idx c.args.line.now.cursor c.args.text.now c.pos-pos.ensures.utf8 c.utf8.text start start
+    (rw place at c.pos-pos.ensures.boundary) (rw place at c.if-pos-idx.true)

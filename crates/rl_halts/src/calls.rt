@@ -1,0 +1,159 @@
+//! How an edit of a table is made.
+ghost use Rattle.std.specs.Prelude.{◌≡◌, ◌≤◌, true};
+ghost use Rattle.std.specs.Str.{IsCharBoundary};
+ghost use Rattle.std.specs.List.{insert_slice};
+
+use crate::cases::{Case, Deletion, Edit};
+use rl_base::laws::RefuseAt;
+use rl_base::{Refusal, RepeatCount};
+use rl_line::LineBuffer;
+
+/// What an edit answers.
+#[derive(Debug, Drop, PartialEq, Eq)]
+pub(crate) enum Answer {
+    Nothing,
+    Flag(bool),
+    Inserted(Option<bool>),
+    Text(Option<String>),
+}
+
+/// Whether a text can go in at a place of the line, whose cursor stays a place.
+pub(crate) fn can_go_in(line: &LineBuffer, idx: usize, text: &str) -> bool
+    ensures place { result ≡ true → IsCharBoundary line.now.text idx }
+    ensures stays { result ≡ true → IsCharBoundary (insert_slice line.now.text idx text.now) line.now.cursor }
+{
+    let old = line.as_str();
+    let pos = line.pos();
+    if !old.is_char_boundary(idx) {
+        return false;
+    }
+    if pos <= idx {
+        return true;
+    }
+    if pos - idx <= text.len() {
+        text.is_char_boundary(pos - idx)
+    } else {
+        old.is_char_boundary(pos - text.len())
+    }
+}
+
+/// Whether the two places are one of the line's ranges.
+fn is_range(line: &LineBuffer, from: usize, to: usize) -> bool
+    ensures start { result ≡ true → IsCharBoundary line.now.text from }
+    ensures end { result ≡ true → IsCharBoundary line.now.text to }
+    ensures order { result ≡ true → from ≤ to }
+{
+    let text = line.as_str();
+    from <= to && text.is_char_boundary(from) && text.is_char_boundary(to)
+}
+
+// Makes the deletion.
+fn delete(
+    line: &mut LineBuffer,
+    deletion: Deletion,
+    n: RepeatCount,
+    heard: &mut RefuseAt,
+) -> Result<bool, Refusal> {
+    match deletion {
+        Deletion::Backspace => line.backspace(n, heard),
+        Deletion::KillLine => line.kill_line(heard),
+        Deletion::KillBuffer => line.kill_buffer(heard),
+        Deletion::DiscardLine => line.discard_line(heard),
+        Deletion::DiscardBuffer => line.discard_buffer(heard),
+        Deletion::PrevWord(word) => line.delete_prev_word(word, n, heard),
+        Deletion::NextWord(at, word) => line.delete_word(at, word, n, heard),
+        Deletion::To(cs) => line.delete_to(cs, n, heard),
+        Deletion::Kill(reach) => line.kill(&reach.times(n), heard),
+    }
+}
+
+// Puts the text in at the place.
+fn insert_str(
+    line: &mut LineBuffer,
+    idx: usize,
+    text: &str,
+    heard: &mut RefuseAt,
+) -> Result<Option<Answer>, Refusal> {
+    if !can_go_in(line, idx, text) {
+        return Ok(None);
+    }
+    let at_end = line.insert_str(idx, text, heard)?;
+    Ok(Some(Answer::Flag(at_end)))
+}
+
+// Puts the text in the place of so many bytes before the cursor.
+fn yank_pop(
+    line: &mut LineBuffer,
+    size: usize,
+    text: &str,
+    heard: &mut RefuseAt,
+) -> Result<Option<Answer>, Refusal> {
+    let at = line.pos();
+    if size > at || !line.as_str().is_char_boundary(at - size) {
+        return Ok(None);
+    }
+    let inserted = line.yank_pop(size, text, heard)?;
+    Ok(Some(Answer::Inserted(inserted)))
+}
+
+// Puts the text in the place of the line's.
+fn update(
+    line: &mut LineBuffer,
+    text: &str,
+    pos: usize,
+    heard: &mut RefuseAt,
+) -> Result<Option<Answer>, Refusal> {
+    if !text.is_char_boundary(pos) {
+        return Ok(None);
+    }
+    line.update(text, pos, heard)?;
+    Ok(Some(Answer::Nothing))
+}
+
+// Puts the text in the place of the range, or takes the range out.
+fn replace(
+    line: &mut LineBuffer,
+    from: usize,
+    to: usize,
+    text: Option<&str>,
+    heard: &mut RefuseAt,
+) -> Result<Option<Answer>, Refusal> {
+    if !is_range(line, from, to) {
+        return Ok(None);
+    }
+    match text {
+        Some(text) => line.replace(from..to, text, heard)?,
+        None => line.delete_range(from..to, heard)?,
+    }
+    Ok(Some(Answer::Nothing))
+}
+
+/// Makes the edit, and hands out its answer: None where the edit's places are none of the line's.
+pub(crate) fn make(
+    line: &mut LineBuffer,
+    case: &Case,
+    heard: &mut RefuseAt,
+) -> Result<Option<Answer>, Refusal> {
+    let n = case.count;
+    let answer = match case.edit {
+        Edit::Insert(c) => Answer::Inserted(line.insert(c, n, heard)?),
+        Edit::InsertStr(idx, text) => return insert_str(line, idx, text, heard),
+        Edit::Yank(text) => Answer::Inserted(line.yank(text, n, heard)?),
+        Edit::YankPop(size, text) => return yank_pop(line, size, text, heard),
+        Edit::Update(text, pos) => return update(line, text, pos, heard),
+        Edit::Replace(from, to, text) => return replace(line, from, to, Some(text), heard),
+        Edit::DeleteRange(from, to) => return replace(line, from, to, None, heard),
+        Edit::Delete => Answer::Text(line.delete(n, heard)?),
+        Edit::By(deletion) => Answer::Flag(delete(line, deletion, n, heard)?),
+        Edit::TransposeChars => Answer::Flag(line.transpose_chars(heard)?),
+        Edit::TransposeWords => Answer::Flag(line.transpose_words(n, heard)?),
+        Edit::EditWord(action) => Answer::Flag(line.edit_word(action, heard)?),
+        Edit::Indent(reach, amount) => {
+            Answer::Flag(line.indent(&reach.times(n), amount, false, heard)?)
+        }
+        Edit::Dedent(reach, amount) => {
+            Answer::Flag(line.indent(&reach.times(n), amount, true, heard)?)
+        }
+    };
+    Ok(Some(answer))
+}

@@ -1,0 +1,100 @@
+//! The sessions that are run. Each answers how much of it was refused.
+use crate::checks::{Failed, holds};
+use crate::watched::Watched;
+use rl_base::{Movement, Word, WordAction};
+use rl_session::{Command, Fault, Reply};
+use std::alloc::{AllocError, Global};
+
+// Commands that insert, kill, yank, transpose, indent, replace, undo and copy.
+fn commands(alloc: Global) -> Result<[Command; 16], AllocError> {
+    let pasted = String::from_str(alloc, "x\ny")?;
+    let put_instead = String::from_str(alloc, "zz")?;
+    Ok([
+        Command::Insert('é', 1),
+        Command::Begin,
+        Command::Paste(pasted, 2),
+        Command::Kill(Movement::BeginningOfLine),
+        Command::End,
+        Command::Yank(1),
+        Command::YankPop,
+        Command::TransposeWords(1),
+        Command::SetPos(0),
+        Command::EditWord(WordAction::Uppercase),
+        Command::Indent(Movement::WholeBuffer, 40, false),
+        Command::Indent(Movement::WholeBuffer, 3, true),
+        Command::Replace(0, 1, put_instead),
+        Command::Undo(2),
+        Command::Redo,
+        Command::Copy(Movement::WholeBuffer),
+    ])
+}
+
+/// Commands of many kinds, one by one.
+pub(crate) fn one_by_one(rt: &impl Print, alloc: Global) -> Result<usize, Failed> {
+    let _ = println!(rt; "One by one");
+    let Ok(commands) = commands(alloc) else {
+        let _ = println!(rt; "no commands");
+        return Ok(1);
+    };
+    let Some(mut watched) = Watched::open(rt, alloc, "ab cd", 5)? else {
+        return Ok(1);
+    };
+    for command in &commands {
+        watched.apply(rt, command)?;
+    }
+    let recorded = watched.recorded();
+    watched.apply(rt, &Command::Truncate(recorded))?;
+    watched.undo_all(rt, alloc)?;
+    Ok(watched.refused())
+}
+
+// The word was deleted, and its capitals were refused: what stands is undone by one undo.
+fn undo_between(rt: &impl Print, watched: &mut Watched) -> Result<(), Failed> {
+    let _ = println!(rt; "the word was refused between its two events");
+    watched.leaves("", 0, 1, "what stands between the two events")?;
+    match watched.apply(rt, &Command::Undo(1))? {
+        Reply::Answer(answer) => {
+            holds(answer, "the undo of the first event")?;
+            watched.leaves("ab", 2, 0, "the undone first event")
+        }
+        _ => watched.leaves("", 0, 1, "a refused undo"),
+    }
+}
+
+/// A word that is put in capitals by two events: it is deleted, and then inserted. Either may be refused.
+pub(crate) fn word_in_capitals(rt: &impl Print, alloc: Global) -> Result<usize, Failed> {
+    let _ = println!(rt; "A word in capitals");
+    let Some(mut watched) = Watched::open(rt, alloc, "ab", 0)? else {
+        return Ok(1);
+    };
+    match watched.apply(rt, &Command::EditWord(WordAction::Uppercase))? {
+        Reply::Answer(answer) => {
+            holds(answer, "the answer to a word")?;
+            watched.leaves("AB", 2, 2, "the word in capitals")?;
+        }
+        Reply::Refused(Fault::NoMemory) if watched.is_empty() => undo_between(rt, &mut watched)?,
+        _ => watched.leaves("ab", 0, 0, "the word that was refused")?,
+    }
+    watched.undo_all(rt, alloc)?;
+    Ok(watched.refused())
+}
+
+/// Commands in one run, of which none is done where there is no room for their replies.
+pub(crate) fn all_at_once(rt: &impl Print, alloc: Global) -> Result<usize, Failed> {
+    let _ = println!(rt; "All at once");
+    let Some(mut watched) = Watched::open(rt, alloc, "ab cd", 5)? else {
+        return Ok(1);
+    };
+    let commands = [
+        Command::Insert('é', 2),
+        Command::Backspace(1),
+        Command::Kill(Movement::BackwardWord(1, Word::Emacs)),
+    ];
+    if !watched.run(rt, &commands)? {
+        watched.leaves("ab cd", 5, 0, "a run that was refused")?;
+    } else if watched.refused() == 0 {
+        watched.leaves("ab ", 3, 3, "a run of which nothing was refused")?;
+    }
+    watched.undo_all(rt, alloc)?;
+    Ok(watched.refused())
+}
