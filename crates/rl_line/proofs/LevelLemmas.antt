@@ -13,7 +13,7 @@ use Rattle.rl_line.specs.Units.{AtLevel, IsMatched, begun, ended, is_change, kep
 use Rattle.rl_line.specs.Entries.{deep}
 use Rattle.rl_line.proofs.CountLemmas.{level-counted}
 use Rattle.rl_line.proofs.EntryLemmas.{deep-append}
-use Rattle.rl_line.proofs.MatchLemmas.{AllGood-take, BothMatched-begun, BothMatched-ended, BothMatched-redone, BothMatched-step, BothMatched-truncated, BothMatched-undone, IsMatched-after, Lower-end_times, Redoes-of, length-touched, level-is, marks-last}
+use Rattle.rl_line.proofs.MatchLemmas.{AllGood-take, BothMatched-begun, BothMatched-ended, BothMatched-redone, BothMatched-step, BothMatched-truncated, BothMatched-undone, Lower-end_times, Redoes-of, length-touched, level-is, marks-last}
 use Rattle.rl_line.proofs.RecordLemmas.{if_else, if_some, unless, value_of}
 use Rattle.rl_line.proofs.UnitLemmas.{IsMatched-front, IsMatched-together, cut_more-append, kept-last, opens-append, units-append, units-good}
 use Rattle.rl_line.proofs.ToldLemmas.{recorded-cases, last_told-deep}
@@ -63,9 +63,6 @@ deep-after event (e ∷ []) d = from (joined event e) refl
     from (Some joint) j = deep-joint event e joint d j
 deep-after event (e ∷ (f ∷ fs)) d =
     deep-append d (e ∷ []) (entries_after event (f ∷ fs)) ∙ deep-after event (f ∷ fs) (deep d (e ∷ [])) ∙ sym (deep-append d (e ∷ []) (f ∷ fs))
-
-pub level-after : (event : Event) (es : List Entry) → IsMatched es → level (entries_after event es) ≡ level es
-level-after event es h = level-counted (entries_after event es) (IsMatched-after event es h) ∙ deep-after event es 0 ∙ sym (level-counted es h)
 
 pub AtLevel-step : (event : Event) (n : ℕ) (r : Record) → AtLevel n r → AtLevel n (record_step r event)
 unfolding record_step

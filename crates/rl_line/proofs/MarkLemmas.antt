@@ -6,11 +6,11 @@ use Rattle.std.specs.Prelude.{option_and_then}
 use Rattle.std.specs.Str.{IsUtf8}
 use Rattle.rl_base.specs.Event.{apply}
 use Rattle.rl_line.specs.Line.{Line}
-use Rattle.rl_line.specs.Record.{Entry, Begin, End, Inserted, Deleted, Replaced, Record, event_of, inverse, agree, replay_entries, replays_to, unwind}
+use Rattle.rl_line.specs.Record.{Entry, Begin, End, Inserted, Deleted, Replaced, Record, event_of, inverse, agree, replays_to, unwind}
 use Rattle.rl_line.specs.Undo.{Redone}
 use Rattle.rl_line.specs.Units.{UndoUnit, Open, Whole, units, together, level, begun, end_one, end_times, ended, redo_from, redo_of, truncated}
 use Rattle.rl_line.proofs.OriginLemmas.{Kept}
-use Rattle.rl_line.proofs.RecordLemmas.{replay-append, replay-IsUtf8, unwind-append, unwind-replay}
+use Rattle.rl_line.proofs.RecordLemmas.{replay-IsUtf8, unwind-append, unwind-replay}
 use Rattle.rl_line.proofs.UndoLemmas.{line_ahead-replay}
 use Rattle.rl_line.proofs.UnitLemmas.{together-append, together-units}
 
@@ -61,15 +61,6 @@ unwind-redone r now old new x u d =
     let unit = redo_of r.pending in
     let back : unwind unit new.text ≡ Some old.text = unwind-replay unit old.text new.text u (line_ahead-replay unit old new d.line_is) in
     ap (λ (k : Record). unwind k.recorded new.text) d.record_is ∙ unwind-append r.recorded unit new.text ∙ ap (option_and_then (unwind r.recorded)) back
-
--- and what is left waits for the text that they gave
-pub replay-redone : (r now : Record) (old new : Line) (x : Bool) → Redone r now old new x → replay_entries now.pending new.text ≡ replay_entries r.pending old.text
-replay-redone r now old new x d =
-    let unit = redo_of r.pending in
-    let rest = drop (length unit) r.pending in
-    let done : replay_entries unit old.text ≡ Some new.text = line_ahead-replay unit old new d.line_is in
-    ap (λ (k : Record). replay_entries k.pending new.text) d.record_is
-    ∙ sym (ap (λ es. replay_entries es old.text) (sym (redo-parts r.pending)) ∙ replay-append unit rest old.text ∙ ap (option_and_then (replay_entries rest)) done)
 
 -- so each keeps where the record came from
 pub Kept-begun : (r : Record) (line : Line) → IsUtf8 line.text → Kept r (begun r) line line

@@ -1,6 +1,6 @@
 -- The record of a line leads back to the same text, whatever was done.
-use Rattle.std.proofs.Common.{◌≡◌, ℕ, Bool, List, [], ◌∷◌, Option, Some, refl, sym, ap, subst, ◌∙◌}
-use Rattle.std.specs.Prelude.{option_and_then, IsSome}
+use Rattle.std.proofs.Common.{◌≡◌, ℕ, Bool, List, [], ◌∷◌, Option, Some, sym, ap, subst, ◌∙◌}
+use Rattle.std.specs.Prelude.{option_and_then}
 use Rattle.std.specs.Str.{IsUtf8}
 use Rattle.rl_base.specs.declared.listeners.Refusal.{Refusal}
 use Rattle.rl_base.specs.Event.{Event, Cursors}
@@ -12,7 +12,7 @@ use Rattle.rl_line.specs.Undo.{Undone}
 use Rattle.rl_line.specs.Units.{kept_of, last_of}
 use Rattle.rl_line.proofs.ToldLemmas.{apply-Cursors}
 use Rattle.rl_line.proofs.PlanLemmas.{first_step}
-use Rattle.rl_line.proofs.RecordLemmas.{value_of, record_step-unwind, unwind-append, unwind-IsUtf8}
+use Rattle.rl_line.proofs.RecordLemmas.{record_step-unwind, unwind-append, unwind-IsUtf8}
 use Rattle.rl_line.proofs.UndoLemmas.{line_back-unwind}
 use Rattle.rl_line.proofs.UnitLemmas.{kept-last}
 
@@ -67,6 +67,3 @@ Kept-Undone n r now old new a u d =
       origin_is = λ start e. ap (λ (m : Record). unwind m.recorded new.text) d.record_is ∙ sym all ∙ e;
       utf8 = unwind-IsUtf8 last old.text new.text u back;
     }
-
-pub IsSome-Kept : (r now : Record) (old new : Line) → Kept r now old new → IsSome (origin r old.text) → IsSome (origin now new.text)
-IsSome-Kept r now old new kept h = let start = value_of (origin r old.text) h in subst IsSome (sym (kept.origin_is start.0 start.1)) refl

@@ -97,8 +97,3 @@ last_told-begin cursors [] [] = refl
 last_told-begin cursors [] (y ∷ ys) = refl
 last_told-begin cursors (x ∷ []) ys = ap (λ es. x ∷ es) (last_told-begin cursors [] ys)
 last_told-begin cursors (x ∷ (z ∷ zs)) ys = ap (λ es. x ∷ es) (last_told-begin cursors (z ∷ zs) ys)
-
-pub last_told-append : (cursors : ℕ × ℕ) (xs : List Entry) (e : Entry) → last_told cursors (xs ++ e ∷ []) ≡ xs ++ with_cursors cursors e ∷ []
-last_told-append cursors [] e = refl
-last_told-append cursors (x ∷ []) e = refl
-last_told-append cursors (x ∷ (z ∷ zs)) e = ap (λ es. x ∷ es) (last_told-append cursors (z ∷ zs) e)
