@@ -1,18 +1,24 @@
 -- An edit that adds one entry: its cursors are where the cursor was before the edit, and where its last step left it.
-use Rattle.std.proofs.Common.{◌≡◌, ℕ, ◌+◌, ◌<◌, ◌≤◌, ◌⊎◌, inl, inr, ◌&&◌, List, [], ◌∷◌, ◌++◌, length, length-append, Option, Some, None, refl, sym, ap, subst, ◌∙◌, arith}
+use Rattle.std.proofs.Common.{◌≡◌, ℕ, ◌+◌, ◌<◌, ◌≤◌, ◌⊎◌, inl, inr, Bool, true, false, ◌&&◌, List, [], ◌∷◌, ◌++◌, length, length-append, append-nil, Option, Some, None, refl, sym, ap, subst, ◌∙◌, arith}
+use Rattle.std.proofs.lemmas.Option.{same_Some}
 use Rattle.std.proofs.lemmas.Str.{length-encode, len_utf8_bounds}
 use Rattle.std.specs.Option.{option_map_or}
 use Rattle.std.specs.Prelude.{◌==◌, not, cond, encode_utf8}
+use Rattle.std.specs.Str.{IsUtf8}
 use Rattle.rl_base.specs.Classes.{is_alphanumeric, is_word_cluster}
 use Rattle.rl_base.specs.declared.listeners.Direction.{Direction}
 use Rattle.rl_base.specs.Event.{Event, InsertChar, InsertStr, Delete, Replace, Start, Stop, Cursors, apply}
+use Rattle.rl_base.proofs.SwapLemmas.{apply-IsUtf8}
 use Rattle.rl_line.specs.declared.change.Freshness.{Freshness}
 use Rattle.rl_line.specs.declared.change.Freshness.TheVariants as is
-use Rattle.rl_line.specs.Plan.{Step, heard, heard_step}
-use Rattle.rl_line.specs.Record.{Entry, Begin, End, Inserted, Deleted, Replaced, Record, cursors_of, entries_after, entries_of, entries_told, event_of, freshness_added, freshness_joined, freshness_of, joined, last_told, record_step, with_cursors}
+use Rattle.rl_line.specs.Line.{Line, stepped}
+use Rattle.rl_line.specs.Plan.{Step, after, heard, heard_step}
+use Rattle.rl_line.specs.Record.{Entry, Begin, End, Inserted, Deleted, Replaced, Record, cursors_of, entries_after, entries_of, entries_told, event_of, freshness_added, freshness_joined, freshness_of, joined, last_told, record_step, unwind, with_cursors}
 use Rattle.rl_line.proofs.JoinLemmas.{fresh-Delete-nothing}
-use Rattle.rl_line.proofs.RecordLemmas.{if_else, if_some, unless}
+use Rattle.rl_line.proofs.PlanLemmas.{first_step}
+use Rattle.rl_line.proofs.RecordLemmas.{entries_of-undo, if_else, if_some, redone-joined, undoes-inverse, unless}
 use Rattle.rl_line.proofs.ToldLemmas.{told-cases}
+use Rattle.rl_line.proofs.WalkLemmas.{none_or_one}
 
 -- an event of a text, which is the last one where it is a replacement
 abbrev pub IsLone : Event → List Step → Type 0
@@ -219,3 +225,183 @@ Grows-heard b (s ∷ ss) r q =
     let behind = entries_after s.0 es in
     let first : Grows es (next s.0 es b s.1) = Grows-on es behind (next s.0 es b s.1) (Grows-after s.0 es ss q.1) (Grows-told (freshness_of s.0 es) b s.1 behind) in
     Grows-on es k.recorded (heard record_step s.1 ss k).recorded (subst (Grows es) (sym (recorded-next b s.0 s.1 ss r q.1)) first) (Grows-heard s.1 ss k q.2)
+
+-- ---- one entry is there, and stays the only one
+only_else : (b : Bool) (k e : Entry) → cond b [] (k ∷ []) ≡ e ∷ [] → k ≡ e
+only_else true k e h = cc
+only_else false k e h = cc
+
+-- the entry that an event adds is told its cursors
+added-cursors : (event : Event) (e : Entry) (p : ℕ × ℕ) → entries_of event ≡ e ∷ [] → cursors_of (with_cursors p e) ≡ Some p
+unfolding entries_of
+added-cursors (InsertChar i c) e p h = let same : Inserted i (encode_utf8 c) None ≡ e = cc in ap (λ (q : Entry). cursors_of (with_cursors p q)) (sym same)
+added-cursors (InsertStr i s) e p h = let same = only_else (length s == 0) (Inserted i s None) e h in ap (λ (q : Entry). cursors_of (with_cursors p q)) (sym same)
+added-cursors (Delete i s side) e p h = let same = only_else (length s == 0) (Deleted i s None) e h in ap (λ (q : Entry). cursors_of (with_cursors p q)) (sym same)
+added-cursors (Replace i s t) e p h = let same : Replaced i s t None ≡ e = cc in ap (λ (q : Entry). cursors_of (with_cursors p q)) (sym same)
+added-cursors Start e p h = cc
+added-cursors Stop e p h = cc
+added-cursors (Cursors b a) e p h = cc
+
+-- and so is one that an event joined
+joint-cursors : (event : Event) (e joint : Entry) (p : ℕ × ℕ) → joined event e ≡ Some joint → cursors_of (with_cursors p joint) ≡ Some p
+joint-cursors (InsertChar i c) (Inserted k s ps) joint p h =
+    let b = if_some (is_alphanumeric c && (k + length s == i)) (Inserted k (s ++ encode_utf8 c) None) joint h in ap (λ (q : Entry). cursors_of (with_cursors p q)) (sym b.1)
+joint-cursors (Delete i s side) (Deleted k t ps) joint p h =
+    let rest = cond (i + length s == k) (Some (Deleted i (s ++ t) None)) None in
+    elim (if_else (k == i) (Deleted i (t ++ s) None) joint rest (unless (not (is_word_cluster s)) joint (cond (k == i) (Some (Deleted i (t ++ s) None)) rest) h)) [
+      | inl b ↦ ap (λ (q : Entry). cursors_of (with_cursors p q)) (sym b.1)
+      | inr q ↦ ap (λ (q : Entry). cursors_of (with_cursors p q)) (sym (if_some (i + length s == k) (Deleted i (s ++ t) None) joint q).1)
+    ]
+joint-cursors (Replace i s t) (Replaced k o w ps) joint p h =
+    let b = if_some (k + length w == i) (Replaced k (o ++ s) (w ++ t) None) joint h in ap (λ (q : Entry). cursors_of (with_cursors p q)) (sym b.1)
+joint-cursors event e joint p h = cc
+
+-- the cursors that an entry is told leave its event
+same-event : (p : ℕ × ℕ) (e : Entry) → event_of (with_cursors p e) ≡ event_of e
+same-event p Begin = refl
+same-event p End = refl
+same-event p (Inserted i s ps) = refl
+same-event p (Deleted i s ps) = refl
+same-event p (Replaced i s t ps) = refl
+
+-- an event that adds no entry leaves the text
+text-same : (event : Event) (x y : List ℕ) → IsUtf8 x → apply event x ≡ Some y → entries_of event ≡ [] → y ≡ x
+text-same event x y u h none = same_Some _ _ (ap (λ ks. unwind ks y) (sym none) ∙ entries_of-undo event x y u h)
+
+-- the one that it adds makes the new text
+added-makes : (event : Event) (x y : List ℕ) (k : Entry) → IsUtf8 x → apply event x ≡ Some y → entries_of event ≡ k ∷ [] → apply (event_of k) x ≡ Some y
+added-makes event x y k u h one =
+    undoes-inverse k x y (apply-IsUtf8 event x y u h) (ap (λ ks. unwind ks y) (sym one) ∙ entries_of-undo event x y u h)
+
+-- what an event makes of one entry that was added: one again, or two
+pub record StaysOne (event : Event) (x now : List ℕ) (k : Entry) (first b a : ℕ) : Type 0 where
+  pub entry : Entry
+  pub is : next event (k ∷ []) b a ≡ entry ∷ []
+  pub alone : AddedAlone entry x now first a
+
+one-more : (event : Event) (x text now : List ℕ) (k : Entry) (first b a : ℕ) → IsUtf8 x → AddedAlone k x text first b → apply event text ≡ Some now → (entries_of event ≡ [] → a ≡ b)
+    → StaysOne event x now k first b a ⊎ ((d : Entry) × (next event (k ∷ []) b a ≡ k ∷ (d ∷ [])))
+one-more event x text now k first b a u alone h quiet = from (joined event k) refl
+  where
+    v : IsUtf8 text
+    v = apply-IsUtf8 (event_of k) x text u alone.makes
+
+    apart : joined event k ≡ None → (entries_of event ≡ []) ⊎ ((d : Entry) × (entries_of event ≡ d ∷ []))
+        → StaysOne event x now k first b a ⊎ ((d : Entry) × (next event (k ∷ []) b a ≡ k ∷ (d ∷ [])))
+    apart j (inl none) = inl (record {
+      entry = k;
+      is = next-apart event k b a j ∙ ap (λ es. k ∷ es) (told-none (entries_of event) b a none);
+      alone = record {
+        cursors = alone.cursors ∙ ap (λ n. Some (first, n)) (sym (quiet none));
+        makes = alone.makes ∙ ap (λ t. Some t) (sym (text-same event text now v h none));
+      };
+    })
+    apart j (inr (d, one)) = inr (with_cursors (b, a) d, next-apart event k b a j ∙ ap (λ es. k ∷ es) (told-one (entries_of event) d b a one))
+
+    from : (o : Option Entry) → joined event k ≡ o → StaysOne event x now k first b a ⊎ ((d : Entry) × (next event (k ∷ []) b a ≡ k ∷ (d ∷ [])))
+    from None j = apart j (none_or_one event)
+    from (Some joint) j = inl (record {
+      entry = with_cursors (first, a) joint;
+      is = next-joined event k joint b a j ∙ ap (λ o. entries_told (freshness_joined o) b a (joint ∷ [])) alone.cursors;
+      alone = record {
+        cursors = joint-cursors event k joint (first, a) j;
+        makes = ap (λ q. apply q x) (same-event (first, a) joint) ∙ redone-joined event k joint x text now j u alone.makes h;
+      };
+    })
+
+-- the same last entry
+last-same : (xs : List Entry) (k e : Entry) → xs ++ k ∷ [] ≡ xs ++ e ∷ [] → k ≡ e
+last-same [] k e h = cc
+last-same (x ∷ xs) k e h = let rest : xs ++ k ∷ [] ≡ xs ++ e ∷ [] = cc in last-same xs k e rest
+
+-- the steps behind the one that added the entry
+behind-added : (steps : List Step) (r : Record) (x : List ℕ) (first : ℕ) (line new : Line) (base : List Entry) (k e : Entry) → IsUtf8 x → after steps line ≡ Some new → Quiet line.cursor steps
+    → r.recorded ≡ base ++ k ∷ [] → AddedAlone k x line.text first line.cursor → (heard record_step line.cursor steps r).recorded ≡ base ++ e ∷ []
+    → AddedAlone e x new.text first (ends_at line.cursor steps)
+behind-added [] r x first line new base k e u h q is alone end =
+    let same : line ≡ new = cc in
+    let one = last-same base k e (sym is ∙ end) in
+    subst (λ d. AddedAlone d x new.text first line.cursor) one (subst (λ (l : Line). AddedAlone k x l.text first line.cursor) same alone)
+behind-added (s ∷ ss) r x first line new base k e u h q is alone end =
+    let b = first_step s ss line new h in
+    let c = line.cursor in
+    let now = heard_step record_step c s r in
+    let made : now.recorded ≡ base ++ next s.0 (k ∷ []) c s.1 =
+    recorded-next c s.0 s.1 ss r q.1 ∙ ap (λ es. next s.0 es c s.1) is ∙ next-front s.0 base k c s.1 in
+    elim (one-more s.0 x line.text b.text k first c s.1 u alone b.makes q.0) [
+      | inl t ↦ behind-added ss now x first (stepped line b.text s.1) new base t.entry e u b.rest q.2 (made ∙ ap (λ es. base ++ es) t.is) t.alone end
+      | inr t ↦
+          let more = Grows-length now.recorded (heard record_step s.1 ss now).recorded (Grows-heard s.1 ss now q.2) in
+          let two : length now.recorded ≡ length base + 2 = ap length (made ∙ ap (λ es. base ++ es) t.1) ∙ length-append base (k ∷ (t.0 ∷ [])) in
+          let last : length (heard record_step s.1 ss now).recorded ≡ length base + 1 = ap length end ∙ length-append base (e ∷ []) in
+          absurd (omega (arith, more, two, last))
+    ]
+
+-- ---- no entry is there yet
+told-weight : (fresh : Freshness) (b a : ℕ) (j : Entry) → (y : Entry) × (entries_told fresh b a (j ∷ []) ≡ y ∷ []) × (weight y ≡ weight j)
+told-weight is.Stale b a j = (j, refl, refl)
+told-weight is.Added b a j = (with_cursors (b, a) j, refl, same-weight (b, a) j)
+told-weight (is.Joined p) b a j = (with_cursors (p, a) j, refl, same-weight (p, a) j)
+
+Grows-at : (front : List Entry) (y l e : Entry) → Grows (front ++ y ∷ []) ((front ++ l ∷ []) ++ e ∷ []) → weight y ≤ weight l
+Grows-at [] y l e g = g.0
+Grows-at (x ∷ xs) y l e g = Grows-at xs y l e g.1
+
+-- where the first event of steps joins the last entry, they add none
+joined-adds-none : (s : Step) (ss : List Step) (b : ℕ) (r : Record) (e : Entry) → Quiet b (s ∷ ss) → JoinsOne s.0 r.recorded b s.1
+    → (heard record_step b (s ∷ ss) r).recorded ≡ r.recorded ++ e ∷ [] → ⊥
+joined-adds-none s ss b r e q j end = elim (heavier s.0 j.last j.joint ss j.joins q.1) [ inl more ↦ by_weight more | inr p ↦ by_length p.1 ]
+  where
+    now : Record
+    now = heard_step record_step b s r
+
+    y : (d : Entry) × (entries_told (freshness_joined (cursors_of j.last)) b s.1 (j.joint ∷ []) ≡ d ∷ []) × (weight d ≡ weight j.joint)
+    y = told-weight (freshness_joined (cursors_of j.last)) b s.1 j.joint
+
+    made : now.recorded ≡ j.front ++ y.0 ∷ []
+    made = recorded-next b s.0 s.1 ss r q.1 ∙ j.makes ∙ ap (λ es. j.front ++ es) y.1
+
+    by_weight : weight j.last < weight j.joint → ⊥
+    by_weight more =
+        let g = Grows-heard s.1 ss now q.2 in
+        let from_made = subst (λ es. Grows es (heard record_step s.1 ss now).recorded) made g in
+        let to_end = subst (Grows (j.front ++ y.0 ∷ [])) (end ∙ ap (λ es. es ++ e ∷ []) j.split) from_made in
+        let least = Grows-at j.front y.0 j.last e to_end in
+        let same = y.2 in
+        omega (arith, more, least, same)
+
+    by_length : ss ≡ [] → ⊥
+    by_length nil =
+        let last : now.recorded ≡ r.recorded ++ e ∷ [] = ap (λ ts. (heard record_step s.1 ts now).recorded) (sym nil) ∙ end in
+        let short : length now.recorded ≡ length j.front + 1 = ap length made ∙ length-append j.front (y.0 ∷ []) in
+        let old : length r.recorded ≡ length j.front + 1 = ap length j.split ∙ length-append j.front (j.last ∷ []) in
+        let long : length now.recorded ≡ length r.recorded + 1 = ap length last ∙ length-append r.recorded (e ∷ []) in
+        omega (arith, short, old, long)
+
+-- steps that add one entry alone: it makes their text, and was told the cursor before them and the one that they left
+pub added-alone : (steps : List Step) (r : Record) (old new : Line) (e : Entry) → IsUtf8 old.text → after steps old ≡ Some new → Quiet old.cursor steps
+    → (heard record_step old.cursor steps r).recorded ≡ r.recorded ++ e ∷ [] → AddedAlone e old.text new.text old.cursor (ends_at old.cursor steps)
+added-alone [] r old new e u h q end = let more = ap length end ∙ length-append r.recorded (e ∷ []) in absurd (omega (arith, more))
+added-alone (s ∷ ss) r old new e u h q end =
+    let b = first_step s ss old new h in
+    let c = old.cursor in
+    let es = r.recorded in
+    let now = heard_step record_step c s r in
+    let line = stepped old b.text s.1 in
+    let is = recorded-next c s.0 s.1 ss r q.1 in
+    elim (next-cases s.0 es c s.1) [
+      | inr j ↦ absurd (joined-adds-none s ss c r e q j end)
+      | inl apart ↦ elim (none_or_one s.0) [
+        | inl none ↦
+            let kept : now.recorded ≡ es = is ∙ apart ∙ ap (λ ks. es ++ ks) (told-none (entries_of s.0) c s.1 none) ∙ append-nil es in
+            let text : b.text ≡ old.text = text-same s.0 old.text b.text u b.makes none in
+            let rest = added-alone ss now line new e (apply-IsUtf8 s.0 old.text b.text u b.makes) b.rest q.2 (end ∙ ap (λ ks. ks ++ e ∷ []) (sym kept)) in
+            subst (λ t. AddedAlone e t new.text c (ends_at s.1 ss)) text (subst (λ n. AddedAlone e b.text new.text n (ends_at s.1 ss)) (q.0 none) rest)
+        | inr (k, one) ↦
+            let p : ℕ × ℕ = (c, s.1) in
+            let grown : now.recorded ≡ es ++ with_cursors p k ∷ [] = is ∙ apart ∙ ap (λ ks. es ++ ks) (told-one (entries_of s.0) k c s.1 one) in
+            let makes : apply (event_of (with_cursors p k)) old.text ≡ Some b.text =
+            ap (λ v. apply v old.text) (same-event p k) ∙ added-makes s.0 old.text b.text k u b.makes one in
+            behind-added ss now old.text c line new es (with_cursors p k) e u b.rest q.2 grown (record { cursors = added-cursors s.0 k p one; makes = makes }) end
+      ]
+    ]
