@@ -50,7 +50,8 @@ pub record AddedAlone (e : Entry) (text now : List ℕ) (before after : ℕ) : T
 abbrev next : Event → List Entry → ℕ → ℕ → List Entry
 next event es b a = entries_told (freshness_of event es) b a (entries_after event es)
 
-recorded-next : (b : ℕ) (event : Event) (a : ℕ) (ss : List Step) (r : Record) → IsLone event ss → (heard_step record_step b (event, a) r).recorded ≡ next event r.recorded b a
+recorded-next : (b : ℕ) (event : Event) (a : ℕ) (ss : List Step) (r : Record) → IsLone event ss
+    → (heard_step record_step b (event, a) r).recorded ≡ next event r.recorded b a
 unfolding record_step
 recorded-next b (InsertChar i c) a ss r h = refl
 recorded-next b (InsertStr i s) a ss r h = refl
@@ -89,19 +90,23 @@ next-front event [] l b a = refl
 next-front event (x ∷ []) l b a = next-cons event x l [] b a
 next-front event (x ∷ (z ∷ zs)) l b a = next-cons event x z (zs ++ l ∷ []) b a ∙ ap (λ es. x ∷ es) (next-front event (z ∷ zs) l b a)
 
+-- what becomes of the last entry, by the one that stands for it and the event
+abbrev last_next : Event → Entry → ℕ → ℕ → Option Entry → List Entry
+last_next event l b a o =
+    let fresh = option_map_or (λ _. freshness_joined (cursors_of l)) o (freshness_added (entries_of event)) in
+    entries_told fresh b a (option_map_or (λ joint. joint ∷ []) o (l ∷ entries_of event))
+
 -- the last entry, where the event joins it and where it does not
-next-joined : (event : Event) (l j : Entry) (b a : ℕ) → joined event l ≡ Some j → next event (l ∷ []) b a ≡ entries_told (freshness_joined (cursors_of l)) b a (j ∷ [])
-next-joined event l j b a h =
-    ap (λ o. entries_told (option_map_or (λ _. freshness_joined (cursors_of l)) o (freshness_added (entries_of event))) b a (option_map_or (λ joint. joint ∷ []) o (l ∷ entries_of event))) h
+next-joined : (event : Event) (l j : Entry) (b a : ℕ) → joined event l ≡ Some j
+    → next event (l ∷ []) b a ≡ entries_told (freshness_joined (cursors_of l)) b a (j ∷ [])
+next-joined event l j b a h = ap (last_next event l b a) h
 
 next-apart : (event : Event) (l : Entry) (b a : ℕ) → joined event l ≡ None
     → next event (l ∷ []) b a ≡ l ∷ entries_told (freshness_added (entries_of event)) b a (entries_of event)
-next-apart event l b a h =
-    ap (λ o. entries_told (option_map_or (λ _. freshness_joined (cursors_of l)) o (freshness_added (entries_of event))) b a (option_map_or (λ joint. joint ∷ []) o (l ∷ entries_of event))) h
-    ∙ told-added l (entries_of event) b a
+next-apart event l b a h = ap (last_next event l b a) h ∙ told-added l (entries_of event) b a
 
 -- the last entry that an event joined
-pub record JoinsOne (event : Event) (es : List Entry) (b a : ℕ) : Type 0 where
+record JoinsOne (event : Event) (es : List Entry) (b a : ℕ) : Type 0 where
   pub front : List Entry
   pub last : Entry
   pub joint : Entry
@@ -123,7 +128,14 @@ next-cases event (e ∷ (d ∷ ds)) b a =
     let rest = next-cases event (d ∷ ds) b a in
     elim rest [
       | inl h ↦ inl (turn ∙ ap (λ es. e ∷ es) h)
-      | inr j ↦ inr (record { front = e ∷ j.front; last = j.last; joint = j.joint; split = ap (λ es. e ∷ es) j.split; joins = j.joins; makes = turn ∙ ap (λ es. e ∷ es) j.makes })
+      | inr j ↦ inr (record {
+        front = e ∷ j.front;
+        last = j.last;
+        joint = j.joint;
+        split = ap (λ es. e ∷ es) j.split;
+        joins = j.joins;
+        makes = turn ∙ ap (λ es. e ∷ es) j.makes;
+      })
     ]
 
 -- the entries that an event adds, told their cursors
@@ -223,7 +235,8 @@ Grows-heard b (s ∷ ss) r q =
     let k = heard_step record_step b s r in
     let es = r.recorded in
     let behind = entries_after s.0 es in
-    let first : Grows es (next s.0 es b s.1) = Grows-on es behind (next s.0 es b s.1) (Grows-after s.0 es ss q.1) (Grows-told (freshness_of s.0 es) b s.1 behind) in
+    let told = Grows-told (freshness_of s.0 es) b s.1 behind in
+    let first : Grows es (next s.0 es b s.1) = Grows-on es behind (next s.0 es b s.1) (Grows-after s.0 es ss q.1) told in
     Grows-on es k.recorded (heard record_step s.1 ss k).recorded (subst (Grows es) (sym (recorded-next b s.0 s.1 ss r q.1)) first) (Grows-heard s.1 ss k q.2)
 
 -- ---- one entry is there, and stays the only one
@@ -274,12 +287,13 @@ added-makes event x y k u h one =
     undoes-inverse k x y (apply-IsUtf8 event x y u h) (ap (λ ks. unwind ks y) (sym one) ∙ entries_of-undo event x y u h)
 
 -- what an event makes of one entry that was added: one again, or two
-pub record StaysOne (event : Event) (x now : List ℕ) (k : Entry) (first b a : ℕ) : Type 0 where
+record StaysOne (event : Event) (x now : List ℕ) (k : Entry) (first b a : ℕ) : Type 0 where
   pub entry : Entry
   pub is : next event (k ∷ []) b a ≡ entry ∷ []
   pub alone : AddedAlone entry x now first a
 
-one-more : (event : Event) (x text now : List ℕ) (k : Entry) (first b a : ℕ) → IsUtf8 x → AddedAlone k x text first b → apply event text ≡ Some now → (entries_of event ≡ [] → a ≡ b)
+one-more : (event : Event) (x text now : List ℕ) (k : Entry) (first b a : ℕ) → IsUtf8 x
+    → AddedAlone k x text first b → apply event text ≡ Some now → (entries_of event ≡ [] → a ≡ b)
     → StaysOne event x now k first b a ⊎ ((d : Entry) × (next event (k ∷ []) b a ≡ k ∷ (d ∷ [])))
 one-more event x text now k first b a u alone h quiet = from (joined event k) refl
   where
@@ -315,7 +329,8 @@ last-same [] k e h = cc
 last-same (x ∷ xs) k e h = let rest : xs ++ k ∷ [] ≡ xs ++ e ∷ [] = cc in last-same xs k e rest
 
 -- the steps behind the one that added the entry
-behind-added : (steps : List Step) (r : Record) (x : List ℕ) (first : ℕ) (line new : Line) (base : List Entry) (k e : Entry) → IsUtf8 x → after steps line ≡ Some new → Quiet line.cursor steps
+behind-added : (steps : List Step) (r : Record) (x : List ℕ) (first : ℕ) (line new : Line) (base : List Entry) (k e : Entry)
+    → IsUtf8 x → after steps line ≡ Some new → Quiet line.cursor steps
     → r.recorded ≡ base ++ k ∷ [] → AddedAlone k x line.text first line.cursor → (heard record_step line.cursor steps r).recorded ≡ base ++ e ∷ []
     → AddedAlone e x new.text first (ends_at line.cursor steps)
 behind-added [] r x first line new base k e u h q is alone end =
