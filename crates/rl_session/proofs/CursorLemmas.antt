@@ -47,10 +47,10 @@ pub record AddedAlone (e : Entry) (text now : List ℕ) (before after : ℕ) : T
 
 -- ---- what a step makes of the entries
 -- the entries after an event of a text and the cursors behind it
-abbrev next : Event → List Entry → ℕ → ℕ → List Entry
+abbrev pub next : Event → List Entry → ℕ → ℕ → List Entry
 next event es b a = entries_told (freshness_of event es) b a (entries_after event es)
 
-recorded-next : (b : ℕ) (event : Event) (a : ℕ) (ss : List Step) (r : Record) → IsLone event ss
+pub recorded-next : (b : ℕ) (event : Event) (a : ℕ) (ss : List Step) (r : Record) → IsLone event ss
     → (heard_step record_step b (event, a) r).recorded ≡ next event r.recorded b a
 unfolding record_step
 recorded-next b (InsertChar i c) a ss r h = refl

@@ -17,6 +17,7 @@ use Rattle.rl_line.specs.Edits.{cut_to_limit, insert_event, insert_plan, insert_
 use Rattle.rl_line.specs.Indents.{blanks, indent_plan, line_plan, lines_plan, parts, pulled, pushed, put_spaces, spaces}
 use Rattle.rl_line.specs.Kills.{delete_plan, kill_plan, removal, side_of}
 use Rattle.rl_line.specs.LetterCase.{edit_word_plan, put_for, word_ahead}
+use Rattle.rl_session.proofs.CursorLemmas.{IsLone, Quiet, ends_at}
 use Rattle.rl_line.specs.Line.{Line, between, stepped}
 use Rattle.rl_line.specs.Plan.{Step, Plan, answering, nothing, single}
 use Rattle.rl_line.specs.Ranges.{killed, text_in, to_place}
@@ -37,26 +38,6 @@ use Rattle.rl_base.proofs.WordLemmas.{All-reverse, All-stops, IsCharBoundary-sto
 use Rattle.rl_line.proofs.RecordLemmas.{through}
 use Rattle.rl_line.specs.Transpositions.{are_two, clusters_around, first_word, meeting_place, only_move, pulled_back, second_word, swap_plan, transpose_chars_plan, transpose_words_plan, word_end, word_start}
 
--- a replacement is the last step, and no kill is told between steps
-abbrev pub IsLone : Event → List Step → Type 0
-IsLone (InsertChar i c) ss = Unit {0}
-IsLone (InsertStr i s) ss = Unit {0}
-IsLone (Delete i s side) ss = Unit {0}
-IsLone (Replace i s t) ss = ss ≡ []
-IsLone Start ss = ⊥
-IsLone Stop ss = ⊥
-IsLone (Cursors b a) ss = ⊥
-
--- a step whose event adds no entry leaves the cursor, and a replacement is the last step
-abbrev pub Quiet : ℕ → List Step → Type 0
-Quiet cursor [] = Unit {0}
-Quiet cursor (s ∷ ss) = (entries_of s.0 ≡ [] → s.1 ≡ cursor) × IsLone s.0 ss × Quiet s.1 ss
-
--- where the last step leaves the cursor
-abbrev pub ends_at : ℕ → List Step → ℕ
-ends_at cursor [] = cursor
-ends_at cursor (s ∷ ss) = ends_at s.1 ss
-
 -- the plan's steps are quiet, and it ends where its last step leaves the cursor
 pub record Settles {A : Type 0} (line : Line) (plan : Plan A) : Type 0 where
   pub quiet : Quiet line.cursor plan.steps
@@ -67,7 +48,7 @@ abbrev pub Ends : {A : Type 0} → Line → Plan A → Type 0
 Ends line plan = (plan.steps ≡ [] → ⊥) → plan.cursor ≡ ends_at line.cursor plan.steps
 
 -- ---- an event that adds no entry is one of an empty text
-empty-inserted : (i : ℕ) (s : List ℕ) → entries_of (InsertStr i s) ≡ [] → length s ≡ 0
+pub empty-inserted : (i : ℕ) (s : List ℕ) → entries_of (InsertStr i s) ≡ [] → length s ≡ 0
 unfolding entries_of
 empty-inserted i s e = from (length s == 0) refl e
   where
@@ -75,7 +56,7 @@ empty-inserted i s e = from (length s == 0) refl e
     from true h k = eqb-true (length s) 0 h
     from false h k = cc
 
-empty-deleted : (i : ℕ) (s : List ℕ) (side : Direction) → entries_of (Delete i s side) ≡ [] → length s ≡ 0
+pub empty-deleted : (i : ℕ) (s : List ℕ) (side : Direction) → entries_of (Delete i s side) ≡ [] → length s ≡ 0
 unfolding entries_of
 empty-deleted i s side e = from (length s == 0) refl e
   where
@@ -83,11 +64,11 @@ empty-deleted i s side e = from (length s == 0) refl e
     from true h k = eqb-true (length s) 0 h
     from false h k = cc
 
-never-char : (i c : ℕ) → entries_of (InsertChar i c) ≡ [] → ⊥
+pub never-char : (i c : ℕ) → entries_of (InsertChar i c) ≡ [] → ⊥
 unfolding entries_of
 never-char i c e = cc
 
-never-replaced : (i : ℕ) (s t : List ℕ) → entries_of (Replace i s t) ≡ [] → ⊥
+pub never-replaced : (i : ℕ) (s t : List ℕ) → entries_of (Replace i s t) ≡ [] → ⊥
 unfolding entries_of
 never-replaced i s t e = cc
 
