@@ -43,6 +43,24 @@ pub record Settles {A : Type 0} (line : Line) (plan : Plan A) : Type 0 where
   pub quiet : Quiet line.cursor plan.steps
   pub ends : (plan.steps ≡ [] → ⊥) → plan.cursor ≡ ends_at line.cursor plan.steps
 
+-- the same, where only of two and more steps they are asked to be quiet: an empty range that is taken out moves the cursor to it
+abbrev pub QuietIfSeveral : ℕ → List Step → Type 0
+QuietIfSeveral cursor [] = Unit {0}
+QuietIfSeveral cursor (s ∷ []) = IsLone s.0 []
+QuietIfSeveral cursor (s ∷ (t ∷ ss)) = Quiet cursor (s ∷ (t ∷ ss))
+
+pub record SettlesIfSeveral {A : Type 0} (line : Line) (plan : Plan A) : Type 0 where
+  pub quiet : QuietIfSeveral line.cursor plan.steps
+  pub ends : (plan.steps ≡ [] → ⊥) → plan.cursor ≡ ends_at line.cursor plan.steps
+
+Quiet-weaker : (cursor : ℕ) (steps : List Step) → Quiet cursor steps → QuietIfSeveral cursor steps
+Quiet-weaker cursor [] q = tt
+Quiet-weaker cursor (s ∷ []) q = q.1
+Quiet-weaker cursor (s ∷ (t ∷ ss)) q = q
+
+pub Settles-weaker : {A : Type 0} (line : Line) (plan : Plan A) → Settles line plan → SettlesIfSeveral line plan
+Settles-weaker line plan h = record { quiet = Quiet-weaker line.cursor plan.steps h.quiet; ends = h.ends }
+
 -- the plan ends where its last step leaves the cursor
 abbrev pub Ends : {A : Type 0} → Line → Plan A → Type 0
 Ends line plan = (plan.steps ≡ [] → ⊥) → plan.cursor ≡ ends_at line.cursor plan.steps
@@ -140,6 +158,16 @@ Settles-removal line (Some r) side h = Settles-single line (Delete r.start (text
 Ends-removal : (line : Line) (range : Option (Range ℕ)) (side : Direction) → Ends line (removal line range side)
 Ends-removal line None side = λ some. absurd (some refl)
 Ends-removal line (Some r) side = λ some. refl
+
+several-removal : (line : Line) (range : Option (Range ℕ)) (side : Direction) → SettlesIfSeveral line (removal line range side)
+several-removal line None side = record { quiet = tt; ends = λ some. absurd (some refl) }
+several-removal line (Some r) side = record { quiet = tt; ends = λ some. refl }
+
+pub SettlesIfSeveral-kill : (line : Line) (m : Movement) → SettlesIfSeveral line (kill_plan line m)
+SettlesIfSeveral-kill line m = several-removal line (killed line m) (side_of m)
+
+pub SettlesIfSeveral-delete_range : (line : Line) (i j : ℕ) → SettlesIfSeveral line (delete_range_plan line i j)
+SettlesIfSeveral-delete_range line i j = record { quiet = tt; ends = λ some. refl }
 
 pub Ends-kill : (line : Line) (m : Movement) → Ends line (kill_plan line m)
 Ends-kill line m = Ends-removal line (killed line m) (side_of m)
