@@ -1,46 +1,50 @@
 -- An undo right after an edit that added one entry gives back text and cursor from before the edit, and a redo those from after it.
-use Rattle.std.proofs.Common.{◌≡◌, ℕ, ◌+◌, ◌≤◌, ◌⊎◌, inl, inr, Bool, true, false, List, [], ◌∷◌, ◌++◌, length, length-append, map, take, drop, Option, Some, None, refl, sym, ap, subst, ◌∙◌, arith, eqb-true}
-use Rattle.std.proofs.lemmas.List.{length-map, take-append-drop}
+use Rattle.std.proofs.Common.{◌≡◌, ℕ, ◌+◌, ◌≤◌, Bool, true, false, List, [], ◌∷◌, ◌++◌, length, length-append, map, take, drop, take-append-drop, Option, Some, None, refl, sym, ap, subst, ◌∙◌, arith}
+use Rattle.std.proofs.lemmas.List.{length-map}
+use Rattle.std.proofs.lemmas.Bool.{eqb-true}
 use Rattle.std.proofs.lemmas.Option.{same_Some}
+use Rattle.std.specs.Char.{to_ascii_lowercase, to_ascii_uppercase}
 use Rattle.std.specs.Option.{option_map}
-use Rattle.std.specs.Prelude.{◌==◌, cond, unwrap_or, IsSome}
+use Rattle.std.specs.Prelude.{◌==◌, option_and_then, unwrap_or}
 use Rattle.std.specs.declared.ops.Range.{Range}
 use Rattle.std.specs.Str.{IsCharBoundary, IsUtf8}
 use Rattle.std.specs.String.{string_bytes}
 use Rattle.rl_base.specs.Event.{Event, InsertChar, InsertStr, Delete, Replace, Start, Stop, Cursors, apply}
 use Rattle.rl_base.specs.KillRing.{yank, yank_pop}
+use Rattle.rl_base.specs.declared.layout.GraphemeClusterMode.{GraphemeClusterMode}
 use Rattle.rl_base.specs.declared.listeners.Direction.{Direction}
 use Rattle.rl_base.specs.declared.listeners.Direction.TheVariants.{Forward}
-use Rattle.rl_base.specs.declared.motion.Movement.{Movement}
 use Rattle.rl_base.specs.declared.motion.Movement.TheVariants.{BackwardChar, EndOfLine, EndOfBuffer, BeginningOfLine, BeginningOfBuffer, BackwardWord, ForwardWord, ViCharSearch}
 use Rattle.rl_base.specs.declared.motion.WordAction.{WordAction}
 use Rattle.rl_base.specs.declared.motion.WordAction.TheVariants.{Capitalize, Lowercase, Uppercase}
-use Rattle.rl_line.specs.declared.change.Freshness.TheVariants as is
 use Rattle.rl_line.specs.Kills.{Told, is_by_characters, kill_plan, removal, side_of}
-use Rattle.rl_line.specs.LetterCase.{Recased, edit_word_plan, put_for, recased, word_ahead}
-use Rattle.rl_line.specs.Line.{Line, stepped}
-use Rattle.rl_line.specs.Plan.{Step as PlanStep, Plan, nothing, single, heard, heard_step, Done}
+use Rattle.rl_line.specs.LetterCase.{edit_word_plan, put_for, recased, word_ahead}
+use Rattle.rl_line.specs.Line.{Line}
+use Rattle.rl_line.specs.Plan.{Step as PlanStep, Plan, single, heard, heard_step, Done}
 use Rattle.rl_line.specs.Ranges.{killed, text_in}
-use Rattle.rl_line.specs.Record.{Entry, Begin, End, Inserted, Deleted, Replaced, Record, cursors_of, entries_after, entries_of, entries_told, event_of, freshness_of, inverse, record_step, swapped}
-use Rattle.rl_line.specs.Undo.{cursor_after, cursor_told, line_ahead, line_back, Redone, Undone}
-use Rattle.rl_line.specs.Units.{last_of, redo_of, undone, units}
+use Rattle.rl_line.specs.Record.{Entry, Begin, End, Inserted, Deleted, Replaced, Record, cursors_of, entries_after, entries_of, entries_told, event_of, inverse, record_step, swapped}
+use Rattle.rl_line.specs.Undo.{cursor_after, cursor_told, line_after, line_ahead, line_back, place_after, Redone, Undone}
+use Rattle.rl_line.specs.Units.{cut_more, last_of, redo_of, together, units}
 use Rattle.rl_line.proofs.JoinLemmas.{after-Delete-nothing, after-InsertStr-nothing, fresh-Delete-nothing, fresh-InsertStr-nothing, record_step-Start, record_step-Stop}
 use Rattle.rl_line.proofs.PlanLemmas.{Fits-from}
 use Rattle.rl_line.proofs.RecordLemmas.{inverse-undoes}
 use Rattle.rl_line.proofs.UnitLemmas.{cut_more-append}
 use Rattle.rl_session.proofs.CursorLemmas.{AddedAlone, IsLone, Quiet, added-alone, ends_at, next, recorded-next}
+use Rattle.rl_session.proofs.HistoryLemmas.{redo-row, undo-row}
 use Rattle.rl_session.proofs.PairLemmas.{Done-changes}
-use Rattle.rl_session.proofs.QuietLemmas.{Settles, Settles-delete, Settles-edit_word, Settles-indent, Settles-insert, Settles-insert_str, Settles-nothing, Settles-replace, Settles-transpose_chars, Settles-transpose_words, Settles-update, Settles-yank, Settles-yank_pop, empty-deleted, empty-inserted, never-char, never-replaced}
+use Rattle.rl_session.proofs.PieceLemmas.{clusters-some, places-before_end}
+use Rattle.rl_session.proofs.QuietLemmas.{Settles, Settles-delete, Settles-indent, Settles-insert, Settles-insert_str, Settles-nothing, Settles-replace, Settles-transpose_chars, Settles-transpose_words, Settles-update, Settles-yank, Settles-yank_pop, empty-deleted, empty-inserted, never-char, never-replaced}
+use Rattle.rl_session.proofs.RowLemmas.{Leads-split}
 use Rattle.rl_session.specs.Commands.{Asked, Telling, Tells, Edited, Edits, Others, DoesAsked, asked, edit, other, answers, inserts, hands_out, is_done, lent, lent_plan, popped, popped_plan, readied}
 use Rattle.rl_session.specs.declared.pair.Pair.{Pair}
 use Rattle.rl_session.specs.declared.session.Command.{Command}
 use Rattle.rl_session.specs.declared.session.Command.TheVariants as asks
-use Rattle.rl_session.specs.declared.session.Fault.TheVariants as why
 use Rattle.rl_session.specs.declared.session.Reply.{Reply}
 use Rattle.rl_session.specs.declared.session.Reply.TheVariants as says
-use Rattle.rl_session.specs.History.{IsAsked, IsEdit, FindsAsciiWord, WasRefused}
+use Rattle.rl_session.specs.History.{IsEdit, WasRefused}
 use Rattle.rl_session.specs.Pair.{pair_step}
-use Rattle.rl_session.specs.State.{State}
+use Rattle.rl_session.specs.Run.{Leads, Row, Run}
+use Rattle.rl_session.specs.State.{State, fresh}
 
 -- ---- an event of an empty text
 next-nothing : (event : Event) (es : List Entry) (b a : ℕ) → IsLone event [] → entries_of event ≡ [] → next event es b a ≡ es
@@ -80,16 +84,17 @@ removed line r e (Some range) side adds = once line r e (Delete range.start (tex
 
 -- an ASCII word is as long in any case
 recased-length : (action : WordAction) (word : List ℕ) → length (recased action word) ≡ length word
-recased-length Uppercase word = length-map word _
-recased-length Lowercase word = length-map word _
+recased-length Uppercase word = length-map word to_ascii_uppercase
+recased-length Lowercase word = length-map word to_ascii_lowercase
 recased-length Capitalize word =
-    length-append (map _ (take 1 word)) (map _ (drop 1 word)) ∙ (omega (
-      arith,
-      length-map (take 1 word) _,
-      length-map (drop 1 word) _,
-      length-append (take 1 word) (drop 1 word),
-      ap length (take-append-drop 1 word),
-    ))
+    let first = map to_ascii_uppercase (take 1 word) in
+    let others = map to_ascii_lowercase (drop 1 word) in
+    let both = length-append first others in
+    let one = length-map (take 1 word) to_ascii_uppercase in
+    let rest = length-map (drop 1 word) to_ascii_lowercase in
+    let parts = length-append (take 1 word) (drop 1 word) in
+    let whole = ap length (take-append-drop 1 word) in
+    omega (arith, both, one, rest, parts, whole)
 
 -- the plan of an edit of an ASCII word
 respelled : (line : Line) (r : Record) (e : Entry) (action : WordAction) (range : Option (Range ℕ)) (made : List ℕ)
@@ -207,8 +212,8 @@ asks-quietly line r e asks.DiscardBuffer u at = removed line r e (killed line Be
 asks-quietly line r e (asks.DeletePrevWord word n) u at = removed line r e (killed line (BackwardWord n word)) (side_of (BackwardWord n word))
 asks-quietly line r e (asks.DeleteWord place word n) u at = removed line r e (killed line (ForwardWord n place word)) (side_of (ForwardWord n place word))
 asks-quietly line r e (asks.DeleteTo cs n) u at = removed line r e (killed line (ViCharSearch n cs)) (side_of (ViCharSearch n cs))
-asks-quietly line r e asks.TransposeChars u at = λ adds. Settles-transpose_chars line u at
-asks-quietly line r e (asks.TransposeWords n) u at = λ adds. Settles-transpose_words line n u at
+asks-quietly line r e asks.TransposeChars u at = λ adds. Settles-transpose_chars line clusters-some u at
+asks-quietly line r e (asks.TransposeWords n) u at = λ adds. Settles-transpose_words line n places-before_end u at
 asks-quietly line r e (asks.Indent m amount dedent) u at = λ adds. Settles-indent line m amount dedent
 asks-quietly line r e (asks.SetPos q) u at = tt
 asks-quietly line r e (asks.Move m) u at = tt
@@ -245,6 +250,160 @@ popped-quietly line None within = Settles-nothing line None
 popped-quietly line (Some p) within = Settles-yank_pop line p.0 p.1 within
 
 other-adds : (old : State) (command : Command) (reply : Reply) (new : State) (e : Entry) → IsUtf8 old.line.text → IsCharBoundary old.line.text old.line.cursor
-    → IsEdit old.line command → IsAsked (asked old.line command) ⊎ Others old command reply new → ¬ (WasRefused reply)
-    → (asked old.line command ≡ other → Others old command reply new) → new.pair.changes.recorded ≡ old.pair.changes.recorded ++ e ∷ [] → Unit {0}
-other-adds old command reply new e u at i d w o adds = tt
+    → IsEdit old.line command → Others old command reply new → ¬ (WasRefused reply) → new.pair.changes.recorded ≡ old.pair.changes.recorded ++ e ∷ []
+    → Adds e old.line new.line new.pair.changes
+other-adds old (asks.EditWord action) (says.Answer a) new e u at i d w adds =
+    edited-adds (edit_word_plan old.line d.made) old new a e u
+    (respelled old.line old.pair.changes e action (word_ahead old.line) d.made (λ word found. d.ascii word found (i word found))) d.holds adds
+other-adds old (asks.EditWord action) (says.Refused f) new e u at i d w adds = absurd (w tt)
+other-adds old (asks.Kill m) (says.Answer a) new e u at i d w adds =
+    kill-adds (is_by_characters m) (kill_plan old.line m) old.line new.line old.pair new.pair a e u (λ r. removed old.line r e (killed old.line m) (side_of m)) d.told adds
+other-adds old (asks.Kill m) (says.Refused f) new e u at i d w adds = absurd (w tt)
+other-adds old (asks.Yank n) (says.Inserted a) new e u at i d w adds =
+    edited-adds (lent_plan old.line (yank old.pair.ring) n) (lent old) new a e u (λ one. lent-quietly old.line (yank old.pair.ring) n) d adds
+other-adds old (asks.Yank n) (says.Refused f) new e u at i d w adds = absurd (w tt)
+other-adds old asks.YankPop (says.Inserted a) new e u at i d w adds =
+    edited-adds (popped_plan old.line (yank_pop old.pair.ring)) (popped old) new a e u (λ one. popped-quietly old.line (yank_pop old.pair.ring) at.0) d.1 adds
+other-adds old asks.YankPop (says.Refused f) new e u at i d w adds = absurd (w tt)
+other-adds old (asks.SetPos q) reply new e u at i d w adds = absurd i
+other-adds old (asks.Move m) reply new e u at i d w adds = absurd i
+other-adds old (asks.Copy m) reply new e u at i d w adds = absurd i
+other-adds old asks.Begin reply new e u at i d w adds = absurd i
+other-adds old asks.End reply new e u at i d w adds = absurd i
+other-adds old (asks.Undo n) reply new e u at i d w adds = absurd i
+other-adds old asks.Redo reply new e u at i d w adds = absurd i
+other-adds old (asks.Truncate len) reply new e u at i d w adds = absurd i
+other-adds old asks.LinePlace reply new e u at i d w adds = absurd i
+other-adds old command reply new e u at i d w adds = absurd d
+
+asked-adds : (what : Asked) (old : State) (command : Command) (reply : Reply) (new : State) (e : Entry) → IsUtf8 old.line.text → IsCharBoundary old.line.text old.line.cursor
+    → AsksQuietly old.line old.pair.changes e what → IsEdit old.line command → DoesAsked what old command reply new → ¬ (WasRefused reply)
+    → new.pair.changes.recorded ≡ old.pair.changes.recorded ++ e ∷ [] → Adds e old.line new.line new.pair.changes
+asked-adds (edit takes condition plan telling) old command reply new e u at quiet i d w adds = edit-adds takes condition plan telling old reply new e u quiet d w adds
+asked-adds other old command reply new e u at quiet i d w adds = other-adds old command reply new e u at i d w adds
+
+-- an edit of a session, in a row
+row-adds : (row : Row) (e : Entry) → IsUtf8 row.before.line.text → IsCharBoundary row.before.line.text row.before.line.cursor → IsEdit row.before.line row.command
+    → ¬ (WasRefused row.reply) → row.after.pair.changes.recorded ≡ row.before.pair.changes.recorded ++ e ∷ [] → Adds e row.before.line row.after.line row.after.pair.changes
+row-adds row e u at i w adds =
+    let old = readied row.command row.before in
+    let left = row.step.left in
+    let line : row.after.line ≡ left.line = ap (λ (s : State). s.line) row.step.settles in
+    let changes : row.after.pair.changes ≡ left.pair.changes = ap (λ (s : State). s.pair.changes) row.step.settles in
+    let more : left.pair.changes.recorded ≡ row.before.pair.changes.recorded ++ e ∷ [] = ap (λ (r : Record). r.recorded) (sym changes) ∙ adds in
+    let here = asked-adds (asked old.line row.command) old row.command row.reply left e u at (asks-quietly old.line old.pair.changes e row.command u at) i row.step.does w more in
+    subst (λ (l : Line). Adds e row.before.line l row.after.pair.changes) (sym line) (subst (λ (r : Record). Adds e row.before.line left.line r) (sym changes) here)
+
+-- ---- one change back, and ahead again
+-- an entry that was told its cursors is a unit of its own
+last-one : (es : List Entry) (e : Entry) (p : ℕ × ℕ) → cursors_of e ≡ Some p → last_of 1 (es ++ e ∷ []) ≡ e ∷ []
+last-one es e p told = ap (λ us. together (take 1 us)) (cut_more-append [] es (e ∷ [])) ∙ of_one e told
+  where
+    of_one : (k : Entry) → cursors_of k ≡ Some p → together (take 1 (cut_more (units es) (k ∷ []))) ≡ k ∷ []
+    of_one Begin c = cc
+    of_one End c = cc
+    of_one (Inserted i s ps) c = refl
+    of_one (Deleted i s ps) c = refl
+    of_one (Replaced i s t ps) c = refl
+
+next-one : (e : Entry) (p : ℕ × ℕ) → cursors_of e ≡ Some p → redo_of (e ∷ []) ≡ e ∷ []
+next-one Begin p c = cc
+next-one End p c = cc
+next-one (Inserted i s ps) p c = refl
+next-one (Deleted i s ps) p c = refl
+next-one (Replaced i s t ps) p c = refl
+
+cursor_told-back : (e : Entry) (p : ℕ × ℕ) → cursors_of e ≡ Some p → cursor_told (inverse e) ≡ Some p.0
+cursor_told-back e p c = turned e ∙ ap (option_map (λ (q : ℕ × ℕ). q.0)) c
+  where
+    swapped-told : (o : Option (ℕ × ℕ)) → option_map (λ (q : ℕ × ℕ). q.1) (swapped o) ≡ option_map (λ (q : ℕ × ℕ). q.0) o
+    swapped-told None = refl
+    swapped-told (Some q) = refl
+
+    turned : (k : Entry) → cursor_told (inverse k) ≡ option_map (λ (q : ℕ × ℕ). q.0) (cursors_of k)
+    turned Begin = refl
+    turned End = refl
+    turned (Inserted i s ps) = swapped-told ps
+    turned (Deleted i s ps) = swapped-told ps
+    turned (Replaced i s t ps) = swapped-told ps
+
+-- a line that goes over one entry
+over-one : (e : Entry) (line now : Line) (text : List ℕ) (cursor : ℕ) → apply (event_of e) line.text ≡ Some text → cursor_told e ≡ Some cursor → line_after e line ≡ Some now
+    → (now.text ≡ text) × (now.cursor ≡ cursor)
+over-one e line now text cursor makes told h =
+    let f = Fits-from (event_of e) (cursor_after line.cursor e) line now h in
+    (ap (λ (l : Line). l.text) f.is ∙ same_Some _ _ (sym f.makes ∙ makes), ap (λ (l : Line). l.cursor) f.is ∙ ap (λ o. unwrap_or o (place_after line.cursor e)) told)
+
+-- ---- in a run
+Sound : State → Type 0
+Sound s = IsUtf8 s.line.text × IsCharBoundary s.line.text s.line.cursor
+
+Sound-Leads : (rows : List Row) (old new : State) → Leads old rows new → Sound old → Sound new
+unfolding Sound
+Sound-Leads [] old new l h = subst Sound (sym l) h
+Sound-Leads (row ∷ rows) old new l h = Sound-Leads rows row.after new l.1 (row.step.stands.utf8, row.step.stands.cursor)
+
+-- what a row left whose edit added one entry
+pub record AddedBy (row : Row) (e : Entry) (later : List Row) (new : State) : Type 0 where
+  pub adds : Adds e row.before.line row.after.line row.after.pair.changes
+  pub utf8 : IsUtf8 row.before.line.text
+  pub goes_on : Leads row.after later new
+
+added-by : (text : List ℕ) (pos limit ring_size : ℕ) (mode : GraphemeClusterMode) (commands : List Command) (replies : List Reply) (new : State)
+    (earlier later : List Row) (row : Row) (e : Entry) → IsUtf8 text → IsCharBoundary text pos → (run : Run (fresh text pos limit ring_size mode) commands replies new)
+    → run.rows ≡ earlier ++ (row ∷ later) → IsEdit row.before.line row.command → ¬ (WasRefused row.reply)
+    → row.after.pair.changes.recorded ≡ row.before.pair.changes.recorded ++ e ∷ [] → AddedBy row e later new
+unfolding Sound
+added-by text pos limit ring_size mode commands replies new earlier later row e u at run is i w adds =
+    let first = fresh text pos limit ring_size mode in
+    let p = Leads-split earlier (row ∷ later) first new (subst (λ rows. Leads first rows new) is run.leads) in
+    let sound : Sound row.before = subst Sound (sym p.2.0) (Sound-Leads earlier first p.0 p.1 (u, at)) in
+    record { adds = row-adds row e sound.0 sound.1 i w adds; utf8 = sound.0; goes_on = p.2.1 }
+
+-- an undo right after it, and what waits to be redone then
+undone-row : (row back : Row) (e : Entry) (later : List Row) (new : State) → AddedBy row e (back ∷ later) new
+    → row.after.pair.changes.recorded ≡ row.before.pair.changes.recorded ++ e ∷ [] → back.command ≡ asks.Undo 1 → ¬ (WasRefused back.reply)
+    → ((back.after.line.text ≡ row.before.line.text) × (back.after.line.cursor ≡ row.before.line.cursor)) × (back.after.pair.changes.pending ≡ e ∷ [])
+undone-row row back e later new a more is w =
+    let d = undo-row back 1 is w in
+    let old = row.before.line in
+    let r = row.after.pair.changes in
+    let told = a.adds.alone.cursors in
+    let here : Undone 1 r back.after.pair.changes row.after.line back.after.line d.0 =
+    subst (λ (s : State). Undone 1 s.pair.changes back.after.pair.changes s.line back.after.line d.0) a.goes_on.0 d.1 in
+    let last : last_of 1 r.recorded ≡ e ∷ [] = ap (last_of 1) more ∙ last-one row.before.pair.changes.recorded e _ told in
+    let went : line_after (inverse e) row.after.line ≡ Some back.after.line = ap (λ es. line_back es row.after.line) (sym last) ∙ here.line_is in
+    let makes = inverse-undoes e old.text row.after.line.text a.utf8 a.adds.alone.makes in
+    let waits : back.after.pair.changes.pending ≡ e ∷ [] =
+    ap (λ (k : Record). k.pending) here.record_is ∙ ap (λ es. es ++ r.pending) last ∙ ap (λ es. e ∷ es) a.adds.dropped in
+    (over-one (inverse e) row.after.line back.after.line old.text old.cursor makes (cursor_told-back e _ told) went, waits)
+
+pub undo-gives_back : (text : List ℕ) (pos limit ring_size : ℕ) (mode : GraphemeClusterMode) (commands : List Command) (replies : List Reply) (new : State)
+    (earlier later : List Row) (row back : Row) (e : Entry) → IsUtf8 text → IsCharBoundary text pos → (run : Run (fresh text pos limit ring_size mode) commands replies new)
+    → run.rows ≡ earlier ++ (row ∷ (back ∷ later)) → IsEdit row.before.line row.command → ¬ (WasRefused row.reply)
+    → row.after.pair.changes.recorded ≡ row.before.pair.changes.recorded ++ e ∷ [] → back.command ≡ asks.Undo 1 → ¬ (WasRefused back.reply)
+    → (back.after.line.text ≡ row.before.line.text) × (back.after.line.cursor ≡ row.before.line.cursor)
+undo-gives_back text pos limit ring_size mode commands replies new earlier later row back e u at run is i w more undoes v =
+    let a = added-by text pos limit ring_size mode commands replies new earlier (back ∷ later) row e u at run is i w more in
+    (undone-row row back e later new a more undoes v).0
+
+pub redo-gives_again : (text : List ℕ) (pos limit ring_size : ℕ) (mode : GraphemeClusterMode) (commands : List Command) (replies : List Reply) (new : State)
+    (earlier later : List Row) (row back again : Row) (e : Entry) → IsUtf8 text → IsCharBoundary text pos → (run : Run (fresh text pos limit ring_size mode) commands replies new)
+    → run.rows ≡ earlier ++ (row ∷ (back ∷ (again ∷ later))) → IsEdit row.before.line row.command → ¬ (WasRefused row.reply)
+    → row.after.pair.changes.recorded ≡ row.before.pair.changes.recorded ++ e ∷ [] → back.command ≡ asks.Undo 1 → ¬ (WasRefused back.reply)
+    → again.command ≡ asks.Redo → ¬ (WasRefused again.reply) → (again.after.line.text ≡ row.after.line.text) × (again.after.line.cursor ≡ row.after.line.cursor)
+redo-gives_again text pos limit ring_size mode commands replies new earlier later row back again e u at run is i w more undoes v redoes x =
+    let a = added-by text pos limit ring_size mode commands replies new earlier (back ∷ (again ∷ later)) row e u at run is i w more in
+    let b = undone-row row back e (again ∷ later) new a more undoes v in
+    let d = redo-row again redoes x in
+    let told = a.adds.alone.cursors in
+    let here : Redone back.after.pair.changes again.after.pair.changes back.after.line again.after.line d.0 =
+    subst (λ (s : State). Redone s.pair.changes again.after.pair.changes s.line again.after.line d.0) a.goes_on.1.0 d.1 in
+    let went : line_after e back.after.line ≡ Some again.after.line =
+    only_one (line_after e back.after.line) again.after.line (ap (λ es. line_ahead es back.after.line) (sym (ap redo_of b.1 ∙ next-one e _ told)) ∙ here.line_is) in
+    let makes : apply (event_of e) back.after.line.text ≡ Some row.after.line.text = ap (apply (event_of e)) b.0.0 ∙ a.adds.alone.makes in
+    over-one e back.after.line again.after.line row.after.line.text row.after.line.cursor makes (ap (option_map (λ (q : ℕ × ℕ). q.1)) told) went
+  where
+    only_one : (o : Option Line) (now : Line) → option_and_then (λ (l : Line). Some l) o ≡ Some now → o ≡ Some now
+    only_one None now h = cc
+    only_one (Some l) now h = h

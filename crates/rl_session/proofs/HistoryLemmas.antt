@@ -315,7 +315,7 @@ Redo-done old left (says.Answer a) d w = (a, d.redone)
 Redo-done old left (says.Refused f) d w = absurd (w tt)
 Redo-done old left _ d w = absurd d
 
-redo-row : (row : Row) → row.command ≡ Redo → ¬ (WasRefused row.reply) → (a : Bool) × Redone row.before.pair.changes row.after.pair.changes row.before.line row.after.line a
+pub redo-row : (row : Row) → row.command ≡ Redo → ¬ (WasRefused row.reply) → (a : Bool) × Redone row.before.pair.changes row.after.pair.changes row.before.line row.after.line a
 redo-row row e w =
     let d = does_as row Redo e in
     let u = Redo-done (readied Redo row.before) d.0 row.reply d.1 w in (
