@@ -1,9 +1,11 @@
 //! What places, widths, the ring, lines, records, sessions and scripts do, as any caller sees it. Each file is named
 //! for the module that it is of; `halts` is of edits that are refused halfway, `told` reads what a listener heard of
-//! them, and `joins` is of changes that join in the record. Tests stand alone, so that no other crate is proved again
-//! for them.
+//! them, `joins` is of changes that join in the record, and `cursors` of those that it gives back. Tests stand alone,
+//! so that no other crate is proved again for them.
 #![tactic(auto)]
 
+#[cfg(test)]
+mod cursors;
 #[cfg(test)]
 mod edits;
 #[cfg(test)]
