@@ -3,13 +3,13 @@
 ghost use Rattle.std.specs.Prelude.{◌≡◌, ◌++◌, ◌∷◌, [], ℕ, List, Some, IsSome, drop, length, suc, true};
 ghost use Rattle.std.specs.Str.{IsCharBoundary, IsUtf8};
 ghost use Rattle.rl_base.specs.declared.layout.GraphemeClusterMode.{GraphemeClusterMode};
-ghost use Rattle.rl_line.specs.Record.{replay_entries};
+ghost use Rattle.rl_line.specs.Record.{Entry, replay_entries};
 ghost use Rattle.rl_line.specs.Units.{BothMatched, has_change, last_of, last_units, level, opens, undone};
-ghost use Rattle.rl_session.specs.History.{AllRedone, AllStandInGroup, Holds, Placed, WasHeld, WasRefused};
+ghost use Rattle.rl_session.specs.History.{AllRedone, AllStandInGroup, Holds, IsEdit, Placed, WasHeld, WasRefused};
 ghost use Rattle.rl_session.specs.Run.{Row, Run, held_of};
 ghost use Rattle.rl_session.specs.State.{State, fresh};
 ghost use Rattle.rl_session.specs.declared.session.Command.{Command};
-ghost use Rattle.rl_session.specs.declared.session.Command.TheVariants.{Begin, End, Undo};
+ghost use Rattle.rl_session.specs.declared.session.Command.TheVariants.{Begin, End, Redo, Undo};
 ghost use Rattle.rl_session.specs.declared.session.Reply.{Reply};
 
 /// The recorded entries and the undone ones behind them are placed among the texts that were held: each beginning of
@@ -62,6 +62,28 @@ pub fn group_is_undone_at_once()
         → has_change (drop (suc (length b.before.pair.changes.recorded)) e.before.pair.changes.recorded) ≡ true
         → u.command ≡ Undo 1 → ¬ (WasRefused u.reply)
         → u.after.line.text ≡ b.before.line.text }
+{}
+
+/// An undo of one unit right after an edit that added one entry, and joined none, gives back text and cursor from before
+/// the edit, and a redo right after that those from after it, where none of the three was refused. An edit of a word past
+/// ASCII is left out, since its text is not told.
+pub fn undo_gives_back_the_cursor()
+    ensures undone { (text : List ℕ) (pos limit ring_size : ℕ) (mode : GraphemeClusterMode) (commands : List Command) (replies : List Reply) (new : State)
+        (earlier later : List Row) (row back : Row) (e : Entry)
+        → IsUtf8 text → IsCharBoundary text pos → (run : Run (fresh text pos limit ring_size mode) commands replies new)
+        → run.rows ≡ earlier ++ (row ∷ (back ∷ later))
+        → IsEdit row.before.line row.command → ¬ (WasRefused row.reply)
+        → row.after.pair.changes.recorded ≡ row.before.pair.changes.recorded ++ e ∷ []
+        → back.command ≡ Undo 1 → ¬ (WasRefused back.reply)
+        → (back.after.line.text ≡ row.before.line.text) × (back.after.line.cursor ≡ row.before.line.cursor) }
+    ensures redone { (text : List ℕ) (pos limit ring_size : ℕ) (mode : GraphemeClusterMode) (commands : List Command) (replies : List Reply) (new : State)
+        (earlier later : List Row) (row back again : Row) (e : Entry)
+        → IsUtf8 text → IsCharBoundary text pos → (run : Run (fresh text pos limit ring_size mode) commands replies new)
+        → run.rows ≡ earlier ++ (row ∷ (back ∷ (again ∷ later)))
+        → IsEdit row.before.line row.command → ¬ (WasRefused row.reply)
+        → row.after.pair.changes.recorded ≡ row.before.pair.changes.recorded ++ e ∷ []
+        → back.command ≡ Undo 1 → ¬ (WasRefused back.reply) → again.command ≡ Redo → ¬ (WasRefused again.reply)
+        → (again.after.line.text ≡ row.after.line.text) × (again.after.line.cursor ≡ row.after.line.cursor) }
 {}
 
 /// As many redos right after an undo as it took units give back the text, the recorded entries and the undone ones from

@@ -58,10 +58,10 @@ fn neighbouring_changes_join(rt: HostRuntime) -> Result<(), Fail> {
             0,
             &[Call::Ahead, Call::Ahead, Call::Ahead],
             ",b",
-            2,
+            0,
             1,
         ),
-        ("abc", 1, &[Call::Ahead, BACK, Call::Ahead], "abc", 3, 0),
+        ("abc", 1, &[Call::Ahead, BACK, Call::Ahead], "abc", 1, 0),
         ("a e\u{301}", 5, &[BACK, BACK, BACK], "a ", 2, 1),
         ("ab", 1, &[Call::Insert('c', 1), BACK], "acb", 2, 1),
     ];
@@ -220,10 +220,20 @@ fn replacements_join(rt: HostRuntime) -> Result<(), Fail> {
     const STEPS: &[Step] = &[
         (Call::Replace(1, 4, "i"), 1, "Hio, world!", 2, 1, 0),
         (Call::Replace(2, 3, ""), 1, "Hi, world!", 2, 1, 0),
+        (Call::Undo(1), 1, "Hello, world!", 0, 0, 0),
+        (Call::Redo, 1, "Hi, world!", 2, 1, 0),
+    ];
+    takes(&rt, &mut line, rt.alloc(), STEPS)?;
+    // told by hand, without the cursors
+    const MIDDLE: Call = Call::Told(Event::Replacement(1, "ell", "i"));
+    const END: Call = Call::Told(Event::Replacement(2, "o", ""));
+    const TOLD: &[Step] = &[
+        (MIDDLE, 1, "Hi, world!", 10, 1, 0),
+        (END, 1, "Hi, world!", 10, 1, 0),
         (Call::Undo(1), 1, "Hello, world!", 5, 0, 0),
         (Call::Redo, 1, "Hi, world!", 2, 1, 0),
     ];
-    takes(&rt, &mut line, rt.alloc(), STEPS)
+    goes(&rt, rt.alloc(), "Hi, world!", TOLD)
 }
 
 #[test]

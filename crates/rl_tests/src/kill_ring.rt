@@ -18,6 +18,7 @@ enum Call {
     Start,
     Ahead(&'static str),
     Back(&'static str),
+    Cursors,
     Stop,
 }
 
@@ -47,6 +48,7 @@ fn make(ring: &mut KillRing, call: Call) -> Result<bool, Fail> {
         Call::Start => ring.start_killing(),
         Call::Ahead(text) => ring.delete(0, text, Direction::Forward)?,
         Call::Back(text) => ring.delete(0, text, Direction::Backward)?,
+        Call::Cursors => ring.cursors(0, 1),
         Call::Stop => ring.stop_killing(),
     }
     Ok(true)
@@ -171,6 +173,28 @@ fn deletions_of_a_kill_are_heard(rt: HostRuntime) -> Result<(), Fail> {
         (Call::Start, None),
         (Call::Ahead("c"), None),
         (Call::Yank("abc"), Some(3)),
+    ];
+    goes(&rt, rt.alloc(), 2, STEPS)
+}
+
+#[test]
+fn cursors_are_not_heard(rt: HostRuntime) -> Result<(), Fail> {
+    const STEPS: &[Step] = &[
+        (Call::Cursors, None),
+        (Call::YankNone, None),
+        // they part no kills, and end none
+        (Call::Start, None),
+        (Call::Ahead("b"), None),
+        (Call::Cursors, None),
+        (Call::Back("a"), None),
+        (Call::Cursors, None),
+        (Call::Stop, None),
+        (Call::Cursors, None),
+        (Call::Kill("c"), None),
+        (Call::Yank("abc"), Some(3)),
+        // nor what was yanked from what comes in its place
+        (Call::Cursors, Some(3)),
+        (Call::Pop(3, "abc"), Some(3)),
     ];
     goes(&rt, rt.alloc(), 2, STEPS)
 }

@@ -1,5 +1,6 @@
 //! What a pair hears of the edits of a line.
-use rl_base::{KillRing, Movement};
+use crate::line_buffer::line_of;
+use rl_base::{ChangeListener, DeleteListener, KillRing, Movement};
 use rl_line::{Changeset, LineBuffer};
 use rl_session::Pair;
 use std::process::Abort;
@@ -51,4 +52,34 @@ fn a_pair_hears_as_one(rt: HostRuntime) -> Result<(), Fail> {
     };
     let mut line = LineBuffer::with_capacity(alloc, 9)?;
     hears(&rt, &mut line, &mut pair)
+}
+
+// Undoes the change of the pair's record, and makes it again. The cursor goes to these two places.
+fn goes_to(
+    rt: &impl Abort,
+    line: &mut LineBuffer,
+    changes: &mut Changeset,
+    before: usize,
+    after: usize,
+) -> Result<(), Fail> {
+    assert!(rt; changes.can_undo(line)?, "the record leads back");
+    changes.undo(line, 1)?;
+    assert!(rt; line.pos() == before, "the cursor before the change");
+    assert!(rt; changes.can_redo(line)?, "the change fits the line");
+    changes.redo(line)?;
+    assert!(rt; line.pos() == after, "the cursor after the change");
+    Ok(())
+}
+
+#[test]
+fn a_pair_tells_its_record_the_cursors(rt: HostRuntime) -> Result<(), Fail> {
+    let alloc = rt.alloc();
+    let mut pair = Pair {
+        ring: KillRing::new(alloc, 2),
+        changes: Changeset::new(alloc),
+    };
+    let mut line = line_of(&rt, alloc, "abc", 2)?;
+    ChangeListener::insert_str(&mut pair, 1, "b")?;
+    pair.cursors(0, 3);
+    goes_to(&rt, &mut line, &mut pair.changes, 0, 3)
 }

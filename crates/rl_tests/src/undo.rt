@@ -81,6 +81,7 @@ pub(crate) enum Event {
     Text(usize, &'static str),
     Deletion(usize, &'static str, Direction),
     Replacement(usize, &'static str, &'static str),
+    Cursors(usize, usize),
     Kill,
 }
 
@@ -91,6 +92,10 @@ fn tell(record: &mut Changeset, event: Event) -> Result<(), Refusal> {
         Event::Text(idx, text) => ChangeListener::insert_str(record, idx, text),
         Event::Deletion(idx, text, side) => DeleteListener::delete(record, idx, text, side),
         Event::Replacement(idx, old, new) => ChangeListener::replace(record, idx, old, new),
+        Event::Cursors(before, after) => {
+            record.cursors(before, after);
+            Ok(())
+        }
         Event::Kill => {
             record.start_killing();
             record.stop_killing();
