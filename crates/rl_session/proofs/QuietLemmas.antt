@@ -7,7 +7,7 @@ use Rattle.std.proofs.lemmas.List.Sums.{sum_by-append, sum_by-cons}
 use Rattle.std.specs.Prelude.{encode_utf8, if◌then◌else◌, nat_lt, nat_le, not, ◌&&◌, option_and_then, unwrap_or}
 use Rattle.std.specs.List.{All, remove_range, repeat}
 use Rattle.std.specs.declared.ops.Range.{Range}
-use Rattle.rl_base.specs.Event.{Event, InsertChar, InsertStr, Delete, Replace, Start, Stop, Cursors}
+use Rattle.rl_base.specs.Event.{Event, InsertChar, InsertStr, Delete, Replace}
 use Rattle.rl_base.specs.declared.listeners.Direction.{Direction}
 use Rattle.rl_base.specs.declared.listeners.Direction.TheVariants.{Forward}
 use Rattle.rl_base.specs.declared.motion.Movement.{Movement}
