@@ -23,7 +23,10 @@ use std::marker::Model;
 /// were undone and may be redone. It is a listener of the line, and a refused call leaves it as it was.
 ///
 /// Every call that records a change, also an empty one, and every `begin`, `end` and `truncate` drops what was
-/// undone; the start and the stop of a kill do not.
+/// undone; the start and the stop of a kill and the telling of cursors do not.
+///
+/// With a change it keeps the cursor before it and after it, if it is told them right behind the change; a change that
+/// joins another keeps the first cursor before and the last one after.
 #[derive(Drop)]
 pub struct Changeset {
     recorded: Vec<Change>,
@@ -152,7 +155,8 @@ impl Changeset {
 
     /// Undoes the last `n` units, or one where `n` is 0, or all where there are fewer (GNU readline: undo). A
     /// unit is a change, a closed group, or the begin of an open one. Answers whether there was a change.
-    /// The cursor goes to the place of the last change that is undone, past what that puts back.
+    /// The cursor goes back to where it was before the last change that is undone, or, where the record was not
+    /// told that, to the place of that change, past what it puts back.
     /// `can_undo` tells whether the recorded changes can be taken back from the line's text. It finds all room
     /// first, so refused it changes nothing.
     pub fn undo(&mut self, line: &mut LineBuffer, n: RepeatCount) -> Result<bool, Refusal>
@@ -176,9 +180,10 @@ impl Changeset {
     }
 
     /// Redoes what was undone: the next change, or the next group, or all that is left where its group was
-    /// never closed. Answers whether there was a change. The cursor goes to the place of the last change that
-    /// is redone, past what that puts in. `can_redo` tells whether the undone changes fit the line. It
-    /// finds all room first, so refused it changes nothing.
+    /// never closed. Answers whether there was a change. The cursor goes to where it went with the last change that
+    /// is redone, or, where the record was not told that, to the place of that change, past what it puts in.
+    /// `can_redo` tells whether the undone changes fit the line. It finds all room first, so refused it changes
+    /// nothing.
     pub fn redo(&mut self, line: &mut LineBuffer) -> Result<bool, Refusal>
         requires { IsSome (line_ahead self.old.pending line.old) }
         ensures done { IfOk result (λ answer. Redone self.old self.new line.old line.new answer) }
@@ -219,7 +224,8 @@ impl Changeset {
         entries::last_insert(&self.recorded, *self.recorded.allocator())
     }
 
-    /// Whether all recorded changes can be taken back from the line's text, the last first.
+    /// Whether all recorded changes can be taken back from the line's text, the last first, and each cursor that was
+    /// told stands between two characters then.
     pub fn can_undo(&self, line: &LineBuffer) -> Result<bool, Refusal>
         ensures ok { IfOk result (λ answer. answer ≡ is_some (line_back self.now.recorded line.now)) }
         ensures err { IfErr result (λ r. r ≡ NoMemory) }
@@ -231,7 +237,8 @@ impl Changeset {
         Ok(text.is_some())
     }
 
-    /// Whether all undone changes can be made again on the line's text, the last undone first.
+    /// Whether all undone changes can be made again on the line's text, the last undone first, and each cursor that
+    /// was told stands between two characters then.
     pub fn can_redo(&self, line: &LineBuffer) -> Result<bool, Refusal>
         ensures ok { IfOk result (λ answer. answer ≡ is_some (line_ahead self.now.pending line.now)) }
         ensures err { IfErr result (λ r. r ≡ NoMemory) }
