@@ -176,6 +176,15 @@ pub(crate) fn add(entries: &mut Vec<Change>, entry: Change) -> Result<(), Refusa
     Ok(())
 }
 
+/// Empties a list. It mostly is empty, and then costs no call.
+pub(crate) fn clear(entries: &mut Vec<Change>)
+    ensures items { entries.new.items ≡ [] }
+{
+    if !entries.is_empty() {
+        entries.clear();
+    }
+}
+
 /// The first entries, all where there are fewer.
 pub(crate) fn first(entries: &[Change], len: usize) -> &[Change]
     ensures { map entry_of result.now ≡ take len (map entry_of entries.now) }

@@ -84,7 +84,7 @@ impl Changeset {
     {
         let before = self.recorded.len();
         entries::add(&mut self.recorded, Change::Begin)?;
-        self.pending.clear();
+        entries::clear(&mut self.pending);
         self.fresh = Freshness::Stale;
         self.level += 1;
         Ok(before)
@@ -100,7 +100,7 @@ impl Changeset {
             return Err(Refusal::NoMemory);
         }
         let added = entries::close_groups(&mut self.recorded, self.level);
-        self.pending.clear();
+        entries::clear(&mut self.pending);
         self.fresh = Freshness::Stale;
         self.level = 0;
         Ok(added)
@@ -113,7 +113,7 @@ impl Changeset {
         ensures err { IfErr result (λ r. (r ≡ NoMemory) × (self.new ≡ self.old)) }
     {
         self.fresh = entries::insert_char(&mut self.recorded, idx, c)?;
-        self.pending.clear();
+        entries::clear(&mut self.pending);
         Ok(())
     }
 
@@ -123,7 +123,7 @@ impl Changeset {
         ensures err { IfErr result (λ r. (r ≡ NoMemory) × (self.new ≡ self.old) × (0 < length string.now)) }
     {
         self.fresh = entries::insert_str(&mut self.recorded, idx, string)?;
-        self.pending.clear();
+        entries::clear(&mut self.pending);
         Ok(())
     }
 
@@ -135,7 +135,7 @@ impl Changeset {
         ensures err { IfErr result (λ r. (r ≡ NoMemory) × (self.new ≡ self.old) × (0 < length string.now)) }
     {
         self.fresh = entries::delete(&mut self.recorded, idx, string)?;
-        self.pending.clear();
+        entries::clear(&mut self.pending);
         Ok(())
     }
 
@@ -146,7 +146,7 @@ impl Changeset {
         ensures err { IfErr result (λ r. (r ≡ NoMemory) × (self.new ≡ self.old)) }
     {
         self.fresh = entries::replace(&mut self.recorded, idx, old, new)?;
-        self.pending.clear();
+        entries::clear(&mut self.pending);
         Ok(())
     }
 
@@ -206,7 +206,7 @@ impl Changeset {
     {
         self.level = entries::level_at(&self.recorded, len, self.level);
         self.recorded.truncate(len);
-        self.pending.clear();
+        entries::clear(&mut self.pending);
         self.fresh = Freshness::Stale;
     }
 
