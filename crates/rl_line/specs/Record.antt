@@ -25,9 +25,9 @@ pub data Entry : Type 0 where
 abbrev pub entry_of : Change → Entry
 entry_of made.Begin = Begin
 entry_of made.End = End
-entry_of (made.Insert i s cursors) = Inserted i (string_bytes s) cursors
-entry_of (made.Delete i s cursors) = Deleted i (string_bytes s) cursors
-entry_of (made.Replace i s t cursors) = Replaced i (string_bytes s) (string_bytes t) cursors
+entry_of (made.Insert cursors i s) = Inserted i (string_bytes s) cursors
+entry_of (made.Delete cursors i s) = Deleted i (string_bytes s) cursors
+entry_of (made.Replace cursors i s t) = Replaced i (string_bytes s) (string_bytes t) cursors
 
 -- what was recorded, the oldest first, what was undone and waits to be redone, in the order in which it was made, and whether the
 -- cursors of the last recorded change may still be told

@@ -20,15 +20,15 @@ use rl_base::Refusal;
 use rl_base::places::{is_alphanumeric, is_word_cluster};
 use std::alloc::Global;
 
-/// An entry of a record: the begin or the end of a group, or one change of a text: its byte place, with what
-/// was put in, taken out, or taken out and put in, and its cursors.
+/// An entry of a record: the begin or the end of a group, or one change of a text: its cursors and its byte place, with what
+/// was put in, taken out, or taken out and put in. The cursors come first, so that they lie at one offset in each kind.
 #[derive(Drop)]
 pub(crate) enum Change {
     Begin,
     End,
-    Insert(usize, String, Cursors),
-    Delete(usize, String, Cursors),
-    Replace(usize, String, String, Cursors),
+    Insert(Cursors, usize, String),
+    Delete(Cursors, usize, String),
+    Replace(Cursors, usize, String, String),
 }
 
 /// The byte places of the cursor before a change and after it, where they were told.
@@ -101,7 +101,7 @@ impl Change {
     {
         match self {
             Change::Begin | Change::End => None,
-            Change::Insert(at, _, _) | Change::Delete(at, _, _) | Change::Replace(at, _, _, _) =>
+            Change::Insert(_, at, _) | Change::Delete(_, at, _) | Change::Replace(_, at, _, _) =>
                 Some(*at),
         }
     }
@@ -131,7 +131,7 @@ impl Change {
         ensures { result.now ≡ old_text (entry_of self.now) }
     {
         match self {
-            Change::Delete(_, old, _) | Change::Replace(_, old, _, _) => old.as_str(),
+            Change::Delete(_, _, old) | Change::Replace(_, _, old, _) => old.as_str(),
             Change::Begin | Change::End | Change::Insert(_, _, _) => "",
         }
     }
@@ -141,7 +141,7 @@ impl Change {
         ensures { result.now ≡ new_text (entry_of self.now) }
     {
         match self {
-            Change::Insert(_, new, _) | Change::Replace(_, _, new, _) => new.as_str(),
+            Change::Insert(_, _, new) | Change::Replace(_, _, _, new) => new.as_str(),
             Change::Begin | Change::End | Change::Delete(_, _, _) => "",
         }
     }
@@ -163,9 +163,9 @@ impl Change {
     {
         match self {
             Change::Begin | Change::End => None,
-            Change::Insert(_, _, cursors)
-            | Change::Delete(_, _, cursors)
-            | Change::Replace(_, _, _, cursors) => *cursors,
+            Change::Insert(cursors, _, _)
+            | Change::Delete(cursors, _, _)
+            | Change::Replace(cursors, _, _, _) => *cursors,
         }
     }
 
@@ -175,9 +175,9 @@ impl Change {
     {
         match self {
             Change::Begin | Change::End => {}
-            Change::Insert(_, _, cursors) => *cursors = Some(told),
-            Change::Delete(_, _, cursors) => *cursors = Some(told),
-            Change::Replace(_, _, _, cursors) => *cursors = Some(told),
+            Change::Insert(cursors, _, _) => *cursors = Some(told),
+            Change::Delete(cursors, _, _) => *cursors = Some(told),
+            Change::Replace(cursors, _, _, _) => *cursors = Some(told),
         }
     }
 
@@ -370,7 +370,7 @@ impl Change {
         ensures err { IfErr result (λ r. (r ≡ NoMemory) × (entry_of self.new ≡ entry_of self.old)) }
     {
         match self {
-            Change::Insert(at, text, cursors) => {
+            Change::Insert(cursors, at, text) => {
                 if !is_alphanumeric(c) || at.checked_add(text.len()) != Some(idx) {
                     return Ok(false);
                 }
@@ -391,7 +391,7 @@ impl Change {
         ensures err { IfErr result (λ r. (r ≡ NoMemory) × (entry_of self.new ≡ entry_of self.old)) }
     {
         match self {
-            Change::Delete(at, text, cursors) => {
+            Change::Delete(cursors, at, text) => {
                 if !is_word_cluster(string) {
                     return Ok(false);
                 }
@@ -425,7 +425,7 @@ impl Change {
         ensures err { IfErr result (λ r. (r ≡ NoMemory) × (entry_of self.new ≡ entry_of self.old)) }
     {
         match self {
-            Change::Replace(at, before, after, cursors) => {
+            Change::Replace(cursors, at, before, after) => {
                 if at.checked_add(after.len()) != Some(idx) {
                     return Ok(false);
                 }

@@ -35,7 +35,7 @@ pub(crate) fn insert_char(
     if text.push(c).is_err() {
         return Err(Refusal::NoMemory);
     }
-    add(entries, Change::Insert(idx, text, None))?;
+    add(entries, Change::Insert(None, idx, text))?;
     Ok(Freshness::Added)
 }
 
@@ -53,7 +53,7 @@ pub(crate) fn insert_str(
         return Ok(Freshness::Stale);
     }
     let text = copied(*entries.allocator(), string)?;
-    add(entries, Change::Insert(idx, text, None))?;
+    add(entries, Change::Insert(None, idx, text))?;
     Ok(Freshness::Added)
 }
 
@@ -75,7 +75,7 @@ pub(crate) fn delete(
         return Ok(fresh);
     }
     let text = copied(*entries.allocator(), string)?;
-    add(entries, Change::Delete(idx, text, None))?;
+    add(entries, Change::Delete(None, idx, text))?;
     Ok(Freshness::Added)
 }
 
@@ -96,7 +96,7 @@ pub(crate) fn replace(
     }
     let before = copied(*entries.allocator(), old)?;
     let after = copied(*entries.allocator(), new)?;
-    add(entries, Change::Replace(idx, before, after, None))?;
+    add(entries, Change::Replace(None, idx, before, after))?;
     Ok(Freshness::Added)
 }
 
@@ -174,6 +174,15 @@ pub(crate) fn add(entries: &mut Vec<Change>, entry: Change) -> Result<(), Refusa
         return Err(Refusal::NoMemory);
     }
     Ok(())
+}
+
+/// Empties a list. It mostly is empty, and then costs no call.
+pub(crate) fn clear(entries: &mut Vec<Change>)
+    ensures items { entries.new.items ≡ [] }
+{
+    if !entries.is_empty() {
+        entries.clear();
+    }
 }
 
 /// The first entries, all where there are fewer.
@@ -330,7 +339,7 @@ pub(crate) fn last_insert(entries: &[Change], alloc: Global) -> Result<Option<St
         left -= 1;
         match &entries[left] {
             Change::End => {}
-            Change::Insert(_, new, _) | Change::Replace(_, _, new, _) => {
+            Change::Insert(_, _, new) | Change::Replace(_, _, _, new) => {
                 return Ok(Some(copied(alloc, new.as_str())?));
             }
             Change::Begin | Change::Delete(_, _, _) => return Ok(None),

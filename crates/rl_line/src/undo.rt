@@ -87,7 +87,7 @@ impl Changeset {
     {
         let before = self.recorded.len();
         entries::add(&mut self.recorded, Change::Begin)?;
-        self.pending.clear();
+        entries::clear(&mut self.pending);
         self.fresh = Freshness::Stale;
         self.level += 1;
         Ok(before)
@@ -103,7 +103,7 @@ impl Changeset {
             return Err(Refusal::NoMemory);
         }
         let added = entries::close_groups(&mut self.recorded, self.level);
-        self.pending.clear();
+        entries::clear(&mut self.pending);
         self.fresh = Freshness::Stale;
         self.level = 0;
         Ok(added)
@@ -116,7 +116,7 @@ impl Changeset {
         ensures err { IfErr result (λ r. (r ≡ NoMemory) × (self.new ≡ self.old)) }
     {
         self.fresh = entries::insert_char(&mut self.recorded, idx, c)?;
-        self.pending.clear();
+        entries::clear(&mut self.pending);
         Ok(())
     }
 
@@ -126,7 +126,7 @@ impl Changeset {
         ensures err { IfErr result (λ r. (r ≡ NoMemory) × (self.new ≡ self.old) × (0 < length string.now)) }
     {
         self.fresh = entries::insert_str(&mut self.recorded, idx, string)?;
-        self.pending.clear();
+        entries::clear(&mut self.pending);
         Ok(())
     }
 
@@ -138,7 +138,7 @@ impl Changeset {
         ensures err { IfErr result (λ r. (r ≡ NoMemory) × (self.new ≡ self.old) × (0 < length string.now)) }
     {
         self.fresh = entries::delete(&mut self.recorded, idx, string)?;
-        self.pending.clear();
+        entries::clear(&mut self.pending);
         Ok(())
     }
 
@@ -149,7 +149,7 @@ impl Changeset {
         ensures err { IfErr result (λ r. (r ≡ NoMemory) × (self.new ≡ self.old)) }
     {
         self.fresh = entries::replace(&mut self.recorded, idx, old, new)?;
-        self.pending.clear();
+        entries::clear(&mut self.pending);
         Ok(())
     }
 
@@ -211,7 +211,7 @@ impl Changeset {
     {
         self.level = entries::level_at(&self.recorded, len, self.level);
         self.recorded.truncate(len);
-        self.pending.clear();
+        entries::clear(&mut self.pending);
         self.fresh = Freshness::Stale;
     }
 

@@ -8,7 +8,7 @@ use Rattle.rl_line.proofs.MoveLemmas.{hears, step-Delete, view}
 use Rattle.rl_line.proofs.undo.Changeset.delete.Goals as goal
 use Rattle.rl_line.proofs.undo.Changeset.delete.Goals.{After-clear}
 
-heard : (c : After-clear) → view c.delete.new.entries.items c.clear.new.self.items c.in_ok-self-inside.field-0 ≡ record_step c.args.self.now (Delete c.args.idx c.args.string.now Forward)
+heard : (c : After-clear) → view c.delete.new.entries.items c.clear.new.entries.items c.in_ok-self-inside.field-0 ≡ record_step c.args.self.now (Delete c.args.idx c.args.string.now Forward)
 heard c =
     hears (Delete c.args.idx c.args.string.now Forward) c.args.self.now c.self.inside.recorded.items c.self.inside.pending.items _ _ c.self.inside.fresh _ (step-Delete c.args.self.now c.args.idx c.args.string.now Forward) c.self.view_is c.in_ok-self-inside.ensures.ok c.clear.ensures.items
 

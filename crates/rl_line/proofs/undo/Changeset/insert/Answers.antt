@@ -7,7 +7,7 @@ use Rattle.rl_line.proofs.MoveLemmas.{hears, step-InsertChar, view}
 use Rattle.rl_line.proofs.undo.Changeset.insert.Goals as goal
 use Rattle.rl_line.proofs.undo.Changeset.insert.Goals.{After-clear}
 
-heard : (c : After-clear) → view c.insert_char.new.entries.items c.clear.new.self.items c.in_ok-self-inside.field-0 ≡ record_step c.args.self.now (InsertChar c.args.idx c.args.c)
+heard : (c : After-clear) → view c.insert_char.new.entries.items c.clear.new.entries.items c.in_ok-self-inside.field-0 ≡ record_step c.args.self.now (InsertChar c.args.idx c.args.c)
 heard c =
     hears (InsertChar c.args.idx c.args.c) c.args.self.now c.self.inside.recorded.items c.self.inside.pending.items _ _ c.self.inside.fresh _ (step-InsertChar c.args.self.now c.args.idx c.args.c) c.self.view_is c.in_ok-self-inside.ensures.ok c.clear.ensures.items
 

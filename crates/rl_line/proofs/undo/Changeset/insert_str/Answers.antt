@@ -7,7 +7,7 @@ use Rattle.rl_line.proofs.MoveLemmas.{hears, step-InsertStr, view}
 use Rattle.rl_line.proofs.undo.Changeset.insert_str.Goals as goal
 use Rattle.rl_line.proofs.undo.Changeset.insert_str.Goals.{After-clear}
 
-heard : (c : After-clear) → view c.insert_str.new.entries.items c.clear.new.self.items c.in_ok-self-inside.field-0 ≡ record_step c.args.self.now (InsertStr c.args.idx c.args.string.now)
+heard : (c : After-clear) → view c.insert_str.new.entries.items c.clear.new.entries.items c.in_ok-self-inside.field-0 ≡ record_step c.args.self.now (InsertStr c.args.idx c.args.string.now)
 heard c =
     hears (InsertStr c.args.idx c.args.string.now) c.args.self.now c.self.inside.recorded.items c.self.inside.pending.items _ _ c.self.inside.fresh _ (step-InsertStr c.args.self.now c.args.idx c.args.string.now) c.self.view_is c.in_ok-self-inside.ensures.ok c.clear.ensures.items
 

@@ -7,7 +7,7 @@ use Rattle.rl_line.proofs.MoveLemmas.{hears, step-Replace, view}
 use Rattle.rl_line.proofs.undo.Changeset.replace.Goals as goal
 use Rattle.rl_line.proofs.undo.Changeset.replace.Goals.{After-clear}
 
-heard : (c : After-clear) → view c.replace.new.entries.items c.clear.new.self.items c.in_ok-self-inside.field-0 ≡ record_step c.args.self.now (Replace c.args.idx c.args.old.now c.args.new.now)
+heard : (c : After-clear) → view c.replace.new.entries.items c.clear.new.entries.items c.in_ok-self-inside.field-0 ≡ record_step c.args.self.now (Replace c.args.idx c.args.old.now c.args.new.now)
 heard c =
     hears (Replace c.args.idx c.args.old.now c.args.new.now) c.args.self.now c.self.inside.recorded.items c.self.inside.pending.items _ _ c.self.inside.fresh _ (step-Replace c.args.self.now c.args.idx c.args.old.now c.args.new.now) c.self.view_is c.in_ok-self-inside.ensures.ok c.clear.ensures.items
 

@@ -8,7 +8,7 @@ use Rattle.rl_line.proofs.MoveLemmas.{dropped-view, view}
 use Rattle.rl_line.proofs.undo.Changeset.truncate.Goals as goal
 use Rattle.rl_line.proofs.undo.Changeset.truncate.Goals.{After-clear}
 
-kept : (c : After-clear) → view c.truncate.new.self.items c.clear.new.self.items Stale ≡ truncated c.args.len c.args.self.now
+kept : (c : After-clear) → view c.truncate.new.self.items c.clear.new.entries.items Stale ≡ truncated c.args.len c.args.self.now
 kept c =
     dropped-view (take c.args.len) c.args.self.now c.self.inside.recorded.items c.self.inside.pending.items _ _ c.self.inside.fresh Stale c.self.view_is
     (ap (map entry_of) c.truncate.ensures.items ∙ sym (take-map entry_of c.args.len c.self.inside.recorded.items)) c.clear.ensures.items
