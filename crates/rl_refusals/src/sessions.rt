@@ -55,7 +55,7 @@ fn undo_between(rt: &impl Print, watched: &mut Watched) -> Result<(), Failed> {
     match watched.apply(rt, &Command::Undo(1))? {
         Reply::Answer(answer) => {
             holds(answer, "the undo of the first event")?;
-            watched.leaves("ab", 2, 0, "the undone first event")
+            watched.leaves("ab", 0, 0, "the undone first event")
         }
         _ => watched.leaves("", 0, 1, "a refused undo"),
     }
