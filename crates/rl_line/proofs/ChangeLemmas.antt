@@ -119,12 +119,12 @@ old_text-utf8 Back made.Begin = IsUtf8-nil
 old_text-utf8 Back made.End = IsUtf8-nil
 old_text-utf8 Back (made.Insert ps i s) = IsUtf8-nil
 old_text-utf8 Back (made.Delete ps i s) = IsUtf8-string_bytes s
-old_text-utf8 Back (made.Replace ps i s t) = IsUtf8-string_bytes s
+old_text-utf8 Back (made.Replace ps i texts) = IsUtf8-string_bytes texts.value.before
 old_text-utf8 Ahead made.Begin = IsUtf8-nil
 old_text-utf8 Ahead made.End = IsUtf8-nil
 old_text-utf8 Ahead (made.Insert ps i s) = IsUtf8-string_bytes s
 old_text-utf8 Ahead (made.Delete ps i s) = IsUtf8-nil
-old_text-utf8 Ahead (made.Replace ps i s t) = IsUtf8-string_bytes t
+old_text-utf8 Ahead (made.Replace ps i texts) = IsUtf8-string_bytes texts.value.after
 
 -- what stands between two boundaries is told by its bytes
 pub stands_at-is : (text : List ℕ) (i : ℕ) (s : List ℕ) → IsUtf8 s → IsCharBoundary text i → IsCharBoundary text (i + length s) → stands_at text i s ≡ bytes_eq (slice_range text i (i + length s)) s

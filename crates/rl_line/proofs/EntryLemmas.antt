@@ -5,7 +5,7 @@ use Rattle.std.proofs.lemmas.List.{map-append, reverse-append, reverse-reverse, 
 use Rattle.std.specs.Prelude.{zero, max, slice_get, cond, IsSome, Bool, true, false, not, ◌||◌, Option, Some, None}
 use Rattle.std.specs.Option.{option_to_list}
 use Rattle.rl_line.specs.declared.change.Change.{Change}
-use Rattle.rl_line.specs.Record.{Entry, Begin, End, Inserted, Deleted, Replaced, entry_of, cursors_of, last_cursors}
+use Rattle.rl_line.specs.Record.{Entry, Begin, End, Inserted, Deleted, Replaced, entry_of}
 use Rattle.rl_line.specs.Units.{last_of, kept_of, redo_of, adds_end, end_one, end_times, ends_in_begin, has_change, is_begin, is_change, IsMatched}
 use Rattle.rl_line.specs.Entries.{deep}
 use Rattle.rl_line.proofs.Counts.{ahead_len, back_len}
@@ -197,19 +197,6 @@ pub ends-at : (xs : List Change) (o : Option Change) → o ≡ slice_get xs (len
 ends-at [] o e = ap begins (sym e)
 ends-at (x ∷ []) o e = ap begins (sym e)
 ends-at (x ∷ (y ∷ ys)) o e = ends-at (y ∷ ys) o (e ∙ ap (slice_get (x ∷ (y ∷ ys))) (two (length ys)))
-  where
-    two : (n : ℕ) → suc (suc n) - 1 ≡ suc (suc n - 1)
-    two n = omega arith
-
--- the cursors of the last entry, if there is one
-abbrev cursors_at : Option Change → Option (ℕ × ℕ)
-cursors_at None = None
-cursors_at (Some x) = cursors_of (entry_of x)
-
-pub cursors-at : (xs : List Change) (o : Option Change) → o ≡ slice_get xs (length xs - 1) → last_cursors (map entry_of xs) ≡ cursors_at o
-cursors-at [] o e = ap cursors_at (sym e)
-cursors-at (x ∷ []) o e = ap cursors_at (sym e)
-cursors-at (x ∷ (y ∷ ys)) o e = cursors-at (y ∷ ys) o (e ∙ ap (slice_get (x ∷ (y ∷ ys))) (two (length ys)))
   where
     two : (n : ℕ) → suc (suc n) - 1 ≡ suc (suc n - 1)
     two n = omega arith

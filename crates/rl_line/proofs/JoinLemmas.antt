@@ -1,9 +1,9 @@
 -- The last entry of a record, where an event joins it and where it does not.
-use Rattle.std.proofs.Common.{◌≡◌, ℕ, zero, suc, ◌-◌, ◌<◌, Bool, true, false, List, [], ◌∷◌, ◌++◌, length, get_or, set, map, Some, None, refl, sym, ap, ◌∙◌, arith}
+use Rattle.std.proofs.Common.{◌≡◌, ℕ, zero, suc, ◌-◌, ◌<◌, List, [], ◌∷◌, ◌++◌, length, get_or, set, map, Some, None, refl, sym, ap, ◌∙◌, arith}
 use Rattle.std.proofs.lemmas.List.{append-nil, nil_from_length}
 use Rattle.std.proofs.lemmas.Result.{IfErr-weaker, IfOk-weaker}
 use Rattle.std.specs.Option.{option_map_or}
-use Rattle.std.specs.Prelude.{IfErr, IfOk, Result}
+use Rattle.std.specs.Prelude.{IfErr, IfOk, Option, Result}
 use Rattle.std.specs.Str.{chars}
 use Rattle.unicode_segmentation.specs.Segments.{cut, segments}
 use Rattle.rl_base.specs.Event.{Event, InsertStr, Delete, Start, Stop}
@@ -12,7 +12,8 @@ use Rattle.rl_base.specs.declared.listeners.Direction.TheVariants.{Forward}
 use Rattle.rl_base.specs.declared.listeners.Refusal.{Refusal}
 use Rattle.rl_base.specs.declared.listeners.Refusal.TheVariants.{NoMemory}
 use Rattle.rl_line.specs.declared.change.Change.{Change}
-use Rattle.rl_line.specs.Record.{Entry, Begin, End, Inserted, Deleted, Replaced, Record, cursors_of, entries_after, entries_of, entry_of, freshness_added, freshness_joined, freshness_of, joined, last_cursors, last_told, record_step, with_cursors}
+use Rattle.rl_line.specs.Record.{Entry, Begin, End, Inserted, Deleted, Replaced, Record, cursors_of, entries_after, entries_of, entry_of, freshness_added, freshness_joined, freshness_of, joined, last_told, record_step, with_cursors}
+use Rattle.rl_line.specs.declared.change.Freshness.{Freshness}
 use Rattle.rl_line.specs.declared.change.Freshness.TheVariants.{Stale}
 use Rattle.rl_line.specs.Change.{TakesIn}
 use Rattle.rl_line.specs.Entries.{JoinsLast}
@@ -38,10 +39,11 @@ added-last event (z ∷ (w ∷ ws)) (suc k) x n is e = ap (λ es. entry_of z ∷
 
 -- what may be told of the last entry then
 joined-fresh : (event : Event) (xs : List Change) (k : ℕ) (x : Change) (joint : Entry) → suc k ≡ length xs → x ≡ get_or xs k x → joined event (entry_of x) ≡ Some joint
-    → freshness_of event (map entry_of xs) ≡ freshness_joined (last_cursors (map entry_of xs))
+    → freshness_of event (map entry_of xs) ≡ freshness_joined (cursors_of (entry_of x))
 joined-fresh event [] k x joint n is e = absurd (omega arith)
 joined-fresh event (z ∷ []) zero x joint n is e =
     ap (λ o. option_map_or (λ _. freshness_joined (cursors_of (entry_of z))) o (freshness_added (entries_of event))) (ap (λ (w : Change). joined event (entry_of w)) (sym is) ∙ e)
+    ∙ ap (λ (w : Change). freshness_joined (cursors_of (entry_of w))) (sym is)
 joined-fresh event (z ∷ []) (suc k) x joint n is e = absurd (omega arith)
 joined-fresh event (z ∷ (w ∷ ws)) zero x joint n is e = absurd (omega arith)
 joined-fresh event (z ∷ (w ∷ ws)) (suc k) x joint n is e = joined-fresh event (w ∷ ws) k x joint (omega arith) is e
@@ -74,18 +76,18 @@ same-last (z ∷ xs) zero x y l is e = ap (λ w. w ∷ map entry_of xs) (e ∙ a
 same-last (z ∷ xs) (suc k) x y l is e = ap (λ es. entry_of z ∷ es) (same-last xs k x y (omega arith) is e)
 
 -- the entries, of which the last took the event in or did not
-joins_last : (event : Event) (xs : List Change) (k : ℕ) (x y : Change) (answer : Bool) → suc k ≡ length xs → x ≡ get_or xs k x → TakesIn event (entry_of x) (entry_of y) answer
-    → JoinsLast event (map entry_of xs) (map entry_of (set xs k y)) answer
-joins_last event xs k x y true n is t = (joined-last event xs k x y n is t.0, joined-fresh event xs k x (entry_of y) n is t.0)
-joins_last event xs k x y false n is t = (same-last xs k x y (omega arith) is (t.1 refl), added-last event xs k x n is t.0, added-fresh event xs k x n is t.0)
+joins_last : (event : Event) (xs : List Change) (k : ℕ) (x y : Change) (fresh : Option Freshness) → suc k ≡ length xs → x ≡ get_or xs k x → TakesIn event (entry_of x) (entry_of y) fresh
+    → JoinsLast event (map entry_of xs) (map entry_of (set xs k y)) fresh
+joins_last event xs k x y (Some fresh) n is t = (joined-last event xs k x y n is t.0, t.1 ∙ sym (joined-fresh event xs k x (entry_of y) n is t.0))
+joins_last event xs k x y None n is t = (same-last xs k x y (omega arith) is t.1, added-last event xs k x n is t.0, added-fresh event xs k x n is t.0)
 
 -- the same of what a call on the last entry answers, and of a call that was refused
-pub joins_last-ok : (event : Event) (xs : List Change) (n : ℕ) (x y : Change) (result : Result Bool Refusal) → n ≡ length xs → 0 < n → x ≡ get_or xs (n - 1) x
-    → IfOk result (λ answer. TakesIn event (entry_of x) (entry_of y) answer) → IfOk result (λ answer. JoinsLast event (map entry_of xs) (map entry_of (set xs (n - 1) y)) answer)
+pub joins_last-ok : (event : Event) (xs : List Change) (n : ℕ) (x y : Change) (result : Result (Option Freshness) Refusal) → n ≡ length xs → 0 < n → x ≡ get_or xs (n - 1) x
+    → IfOk result (λ fresh. TakesIn event (entry_of x) (entry_of y) fresh) → IfOk result (λ fresh. JoinsLast event (map entry_of xs) (map entry_of (set xs (n - 1) y)) fresh)
 joins_last-ok event xs n x y result count some is =
-    IfOk-weaker result _ _ (λ answer t. joins_last event xs (n - 1) x y answer (omega arith) is t)
+    IfOk-weaker result _ _ (λ fresh t. joins_last event xs (n - 1) x y fresh (omega arith) is t)
 
-pub joins_last-err : (xs : List Change) (n : ℕ) (x y : Change) (result : Result Bool Refusal) → n ≡ length xs → 0 < n → x ≡ get_or xs (n - 1) x
+pub joins_last-err : (xs : List Change) (n : ℕ) (x y : Change) (result : Result (Option Freshness) Refusal) → n ≡ length xs → 0 < n → x ≡ get_or xs (n - 1) x
     → IfErr result (λ r. (r ≡ NoMemory) × (entry_of y ≡ entry_of x)) → IfErr result (λ r. (r ≡ NoMemory) × (map entry_of (set xs (n - 1) y) ≡ map entry_of xs))
 joins_last-err xs n x y result count some is =
     IfErr-weaker result _ _ (λ r t. (t.0, same-last xs (n - 1) x y (omega arith) is t.1))

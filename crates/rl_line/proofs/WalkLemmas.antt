@@ -154,11 +154,11 @@ merged e joint x y z b a makes none lead after = from (cursors_of e) refl
     from None c = (z, untold joint x z makes none, refl)
     from (Some p) c = (z, told joint x z (p.0, a) makes (before-stands e x p c lead.before) after, refl)
 
-told-added : (e : Entry) (ys : List Entry) (b a : ℕ) → entries_told (freshness_added ys) b a (e ∷ ys) ≡ e ∷ entries_told (freshness_added ys) b a ys
+pub told-added : (e : Entry) (ys : List Entry) (b a : ℕ) → entries_told (freshness_added ys) b a (e ∷ ys) ≡ e ∷ entries_told (freshness_added ys) b a ys
 told-added e [] b a = refl
 told-added e (y ∷ ys) b a = refl
 
-after-some : (event : Event) (d : Entry) (ds : List Entry) → (y : Entry) × (ys : List Entry) × (entries_after event (d ∷ ds) ≡ y ∷ ys)
+pub after-some : (event : Event) (d : Entry) (ds : List Entry) → (y : Entry) × (ys : List Entry) × (entries_after event (d ∷ ds) ≡ y ∷ ys)
 after-some event d [] = from (joined event d)
   where
     from : (o : Option Entry) → (y : Entry) × (ys : List Entry) × (option_map_or (λ joint. joint ∷ []) o (d ∷ entries_of event) ≡ y ∷ ys)
@@ -166,7 +166,7 @@ after-some event d [] = from (joined event d)
     from (Some j) = (j, [], refl)
 after-some event d (c ∷ cs) = (d, _, refl)
 
-told-behind : (fresh : Freshness) (b a : ℕ) (e y : Entry) (ys : List Entry) → entries_told fresh b a (e ∷ (y ∷ ys)) ≡ e ∷ entries_told fresh b a (y ∷ ys)
+pub told-behind : (fresh : Freshness) (b a : ℕ) (e y : Entry) (ys : List Entry) → entries_told fresh b a (e ∷ (y ∷ ys)) ≡ e ∷ entries_told fresh b a (y ∷ ys)
 told-behind is.Stale b a e y ys = refl
 told-behind is.Added b a e y ys = refl
 told-behind (is.Joined p) b a e y ys = refl

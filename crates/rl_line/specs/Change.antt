@@ -1,5 +1,5 @@
 -- What the private functions of one entry say of it: joining, and going over it either way.
-use Rattle.std.specs.Prelude.{◌≡◌, ℕ, ◌+◌, ◌-◌, max, count_by, Bool, true, false, not, ◌||◌, List, [], ◌∷◌, length, Option, Some, None, option_and_then, if◌then◌else◌}
+use Rattle.std.specs.Prelude.{◌≡◌, ℕ, ◌+◌, ◌-◌, max, count_by, Bool, true, not, ◌||◌, List, [], ◌∷◌, length, Option, Some, None, option_and_then, if◌then◌else◌}
 use Rattle.std.specs.Option.{option_map_or}
 use Rattle.rl_base.specs.Event.{Event, apply}
 use Rattle.rl_base.specs.Text.{is_boundary}
@@ -9,12 +9,15 @@ use Rattle.rl_line.specs.declared.change.Measure.{Measure}
 use Rattle.rl_line.specs.declared.change.Measure.TheVariants.{Bytes, Newlines}
 use Rattle.rl_line.specs.declared.change.Way.{Way}
 use Rattle.rl_line.specs.declared.change.Way.TheVariants.{Back, Ahead}
-use Rattle.rl_line.specs.Record.{Entry, Begin, End, Inserted, Deleted, Replaced, entry_of, event_of, inverse, joined}
+use Rattle.rl_line.specs.Record.{Entry, Begin, End, Inserted, Deleted, Replaced, cursors_of, entry_of, event_of, freshness_joined, inverse, joined}
+use Rattle.rl_line.specs.declared.change.Freshness.{Freshness}
 use Rattle.rl_line.specs.Undo.{cursor_told}
 
--- what an entry makes of an event: it takes the event in, where they join, and else stays as it is
-abbrev pub TakesIn : Event → Entry → Entry → Bool → Type 0
-TakesIn event old new answer = joined event old ≡ (if answer then Some new else None) × (answer ≡ false → new ≡ old)
+-- what an entry makes of an event: it takes the event in, where they join, and then its cursors may be told so far; else it stays
+-- as it is
+abbrev pub TakesIn : Event → Entry → Entry → Option Freshness → Type 0
+TakesIn event old new (Some fresh) = (joined event old ≡ Some new) × (fresh ≡ freshness_joined (cursors_of old))
+TakesIn event old new None = (joined event old ≡ None) × (new ≡ old)
 
 -- where that is asked: the cursor stands between two characters of the text after an entry, if it was told
 abbrev pub cursor_stands : Bool → Entry → List ℕ → Bool

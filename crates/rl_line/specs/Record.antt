@@ -27,7 +27,7 @@ entry_of made.Begin = Begin
 entry_of made.End = End
 entry_of (made.Insert cursors i s) = Inserted i (string_bytes s) cursors
 entry_of (made.Delete cursors i s) = Deleted i (string_bytes s) cursors
-entry_of (made.Replace cursors i s t) = Replaced i (string_bytes s) (string_bytes t) cursors
+entry_of (made.Replace cursors i texts) = Replaced i (string_bytes texts.value.before) (string_bytes texts.value.after) cursors
 
 -- what was recorded, the oldest first, what was undone and waits to be redone, in the order in which it was made, and whether the
 -- cursors of the last recorded change may still be told
@@ -77,12 +77,6 @@ cursors_of End = None
 cursors_of (Inserted i s cursors) = cursors
 cursors_of (Deleted i s cursors) = cursors
 cursors_of (Replaced i s t cursors) = cursors
-
--- the cursors of the last entry
-abbrev pub last_cursors : List Entry → Option (ℕ × ℕ)
-last_cursors [] = None
-last_cursors (e ∷ []) = cursors_of e
-last_cursors (e ∷ (d ∷ ds)) = last_cursors (d ∷ ds)
 
 -- a change that an event joined has kept the cursor before it where its cursors were told, and else can't be told any
 abbrev pub freshness_joined : Option (ℕ × ℕ) → Freshness

@@ -1,5 +1,5 @@
 //! An entry of a record, and how a text goes over it.
-ghost use Rattle.std.specs.Prelude.{◌≡◌, ℕ, List, Some, true, OnOk, IfOk, IfErr, ◌+◌, ◌-◌, ◌<◌, ◌≤◌, IsSome, IfSome, is_some, length, map, vec_len, vec_capacity};
+ghost use Rattle.std.specs.Prelude.{◌≡◌, ℕ, List, None, Some, true, OnOk, IfOk, IfErr, ◌+◌, ◌-◌, ◌<◌, ◌≤◌, IsSome, IfSome, is_some, length, map, vec_len, vec_capacity};
 ghost use Rattle.std.specs.Option.{option_map};
 ghost use Rattle.std.specs.String.{string_bytes, string_len, string_capacity};
 ghost use Rattle.std.specs.Str.{IsCharBoundary};
@@ -7,7 +7,7 @@ ghost use Rattle.rl_base.specs.Event.{InsertChar, Delete, Replace, apply};
 ghost use Rattle.rl_base.specs.Text.{stands_at};
 ghost use Rattle.rl_base.specs.declared.listeners.Direction.TheVariants.{Forward};
 ghost use Rattle.rl_base.specs.declared.listeners.Refusal.TheVariants.{NoMemory};
-ghost use Rattle.rl_line.specs.Record.{cursors_of, entry_of, event_of, inverse, with_cursors};
+ghost use Rattle.rl_line.specs.Record.{cursors_of, entry_of, event_of, freshness_joined, inverse, with_cursors};
 ghost use Rattle.rl_line.specs.Undo.{cursor_after, cursor_told};
 ghost use Rattle.rl_line.specs.Units.{is_begin, is_change};
 ghost use Rattle.rl_line.specs.Change.{TakesIn, cursor_stands, text_back, new_text, old_text, place, faced, greatest_back_over, size_back, size_of};
@@ -28,7 +28,14 @@ pub(crate) enum Change {
     End,
     Insert(Cursors, usize, String),
     Delete(Cursors, usize, String),
-    Replace(Cursors, usize, String, String),
+    Replace(Cursors, usize, Box<Texts>),
+}
+
+/// The text that a replacement took out, and the one that it put in. They are boxed, so that an entry is not longer for them.
+#[derive(Drop)]
+pub(crate) struct Texts {
+    pub(crate) before: String,
+    pub(crate) after: String,
 }
 
 /// The byte places of the cursor before a change and after it, where they were told.
@@ -43,6 +50,19 @@ pub(crate) enum Freshness {
     Added,
     /// It was joined, and had its cursors, of which it keeps the one before it.
     Joined(usize),
+}
+
+impl Freshness {
+    // That of a change that was joined, which loses its cursors, but keeps the one before it where they were told.
+    fn of_joined(cursors: &mut Cursors) -> Freshness
+        ensures fresh { result ≡ freshness_joined cursors.old }
+        ensures cursors { cursors.new ≡ None }
+    {
+        match cursors.take() {
+            Some((before, _)) => Freshness::Joined(before),
+            None => Freshness::Stale,
+        }
+    }
 }
 
 /// The two ways over a record: its changes are taken back, or made again.
@@ -78,7 +98,7 @@ impl Change {
     {
         match self {
             Change::Begin | Change::End => false,
-            Change::Insert(_, _, _) | Change::Delete(_, _, _) | Change::Replace(_, _, _, _) => true,
+            Change::Insert(_, _, _) | Change::Delete(_, _, _) | Change::Replace(_, _, _) => true,
         }
     }
 
@@ -91,7 +111,7 @@ impl Change {
             Change::End
             | Change::Insert(_, _, _)
             | Change::Delete(_, _, _)
-            | Change::Replace(_, _, _, _) => false,
+            | Change::Replace(_, _, _) => false,
         }
     }
 
@@ -101,8 +121,9 @@ impl Change {
     {
         match self {
             Change::Begin | Change::End => None,
-            Change::Insert(_, at, _) | Change::Delete(_, at, _) | Change::Replace(_, at, _, _) =>
-                Some(*at),
+            Change::Insert(_, at, _) | Change::Delete(_, at, _) | Change::Replace(_, at, _) => Some(
+                *at,
+            ),
         }
     }
 
@@ -131,7 +152,8 @@ impl Change {
         ensures { result.now ≡ old_text (entry_of self.now) }
     {
         match self {
-            Change::Delete(_, _, old) | Change::Replace(_, _, old, _) => old.as_str(),
+            Change::Delete(_, _, old) => old.as_str(),
+            Change::Replace(_, _, texts) => texts.before.as_str(),
             Change::Begin | Change::End | Change::Insert(_, _, _) => "",
         }
     }
@@ -141,7 +163,8 @@ impl Change {
         ensures { result.now ≡ new_text (entry_of self.now) }
     {
         match self {
-            Change::Insert(_, _, new) | Change::Replace(_, _, _, new) => new.as_str(),
+            Change::Insert(_, _, new) => new.as_str(),
+            Change::Replace(_, _, texts) => texts.after.as_str(),
             Change::Begin | Change::End | Change::Delete(_, _, _) => "",
         }
     }
@@ -165,7 +188,7 @@ impl Change {
             Change::Begin | Change::End => None,
             Change::Insert(cursors, _, _)
             | Change::Delete(cursors, _, _)
-            | Change::Replace(cursors, _, _, _) => *cursors,
+            | Change::Replace(cursors, _, _) => *cursors,
         }
     }
 
@@ -177,7 +200,7 @@ impl Change {
             Change::Begin | Change::End => {}
             Change::Insert(cursors, _, _) => *cursors = Some(told),
             Change::Delete(cursors, _, _) => *cursors = Some(told),
-            Change::Replace(cursors, _, _, _) => *cursors = Some(told),
+            Change::Replace(cursors, _, _) => *cursors = Some(told),
         }
     }
 
@@ -361,56 +384,60 @@ pub(crate) fn copied(alloc: Global, text: &str) -> Result<String, Refusal>
     }
 }
 
-// Joining: each of these takes an event in where it joins the change, and answers whether it did. What was joined has
-// no cursors yet.
+// Joining: each of these takes an event in where it joins the change, and answers what may be told of it then, or None where it
+// does not. What was joined has no cursors yet.
 impl Change {
     /// An alphanumeric character that goes in right behind what was inserted.
-    pub(crate) fn join_char(&mut self, idx: usize, c: char) -> Result<bool, Refusal>
-        ensures ok { IfOk result (λ answer. TakesIn (InsertChar idx c) (entry_of self.old) (entry_of self.new) answer) }
+    pub(crate) fn join_char(&mut self, idx: usize, c: char) -> Result<Option<Freshness>, Refusal>
+        ensures ok { IfOk result (λ fresh. TakesIn (InsertChar idx c) (entry_of self.old) (entry_of self.new) fresh) }
         ensures err { IfErr result (λ r. (r ≡ NoMemory) × (entry_of self.new ≡ entry_of self.old)) }
     {
         match self {
             Change::Insert(cursors, at, text) => {
                 if !is_alphanumeric(c) || at.checked_add(text.len()) != Some(idx) {
-                    return Ok(false);
+                    return Ok(None);
                 }
                 if text.push(c).is_err() {
                     return Err(Refusal::NoMemory);
                 }
-                *cursors = None;
-                Ok(true)
+                Ok(Some(Freshness::of_joined(cursors)))
             }
-            Change::Begin | Change::End | Change::Delete(_, _, _) | Change::Replace(_, _, _, _) =>
-                Ok(false),
+            Change::Begin | Change::End | Change::Delete(_, _, _) | Change::Replace(_, _, _) => Ok(
+                None,
+            ),
         }
     }
 
     /// An alphanumeric cluster that stood right behind what was deleted, or right before it.
-    pub(crate) fn join_deletion(&mut self, idx: usize, string: &str) -> Result<bool, Refusal>
-        ensures ok { IfOk result (λ answer. TakesIn (Delete idx string.now Forward) (entry_of self.old) (entry_of self.new) answer) }
+    pub(crate) fn join_deletion(
+        &mut self,
+        idx: usize,
+        string: &str,
+    ) -> Result<Option<Freshness>, Refusal>
+        ensures ok { IfOk result (λ fresh. TakesIn (Delete idx string.now Forward) (entry_of self.old) (entry_of self.new) fresh) }
         ensures err { IfErr result (λ r. (r ≡ NoMemory) × (entry_of self.new ≡ entry_of self.old)) }
     {
         match self {
             Change::Delete(cursors, at, text) => {
                 if !is_word_cluster(string) {
-                    return Ok(false);
+                    return Ok(None);
                 }
                 let taken = if *at == idx {
                     text.push_str(string)
                 } else if idx.checked_add(string.len()) == Some(*at) {
                     text.insert_str(0, string)
                 } else {
-                    return Ok(false);
+                    return Ok(None);
                 };
                 if taken.is_err() {
                     return Err(Refusal::NoMemory);
                 }
                 *at = idx;
-                *cursors = None;
-                Ok(true)
+                Ok(Some(Freshness::of_joined(cursors)))
             }
-            Change::Begin | Change::End | Change::Insert(_, _, _) | Change::Replace(_, _, _, _) =>
-                Ok(false),
+            Change::Begin | Change::End | Change::Insert(_, _, _) | Change::Replace(_, _, _) => Ok(
+                None,
+            ),
         }
     }
 
@@ -420,27 +447,26 @@ impl Change {
         idx: usize,
         old: &str,
         new: &str,
-    ) -> Result<bool, Refusal>
-        ensures ok { IfOk result (λ answer. TakesIn (Replace idx old.now new.now) (entry_of self.old) (entry_of self.new) answer) }
+    ) -> Result<Option<Freshness>, Refusal>
+        ensures ok { IfOk result (λ fresh. TakesIn (Replace idx old.now new.now) (entry_of self.old) (entry_of self.new) fresh) }
         ensures err { IfErr result (λ r. (r ≡ NoMemory) × (entry_of self.new ≡ entry_of self.old)) }
     {
         match self {
-            Change::Replace(cursors, at, before, after) => {
-                if at.checked_add(after.len()) != Some(idx) {
-                    return Ok(false);
+            Change::Replace(cursors, at, texts) => {
+                if at.checked_add(texts.after.len()) != Some(idx) {
+                    return Ok(None);
                 }
-                if before.reserve(old.len()).is_err() || after.push_str(new).is_err() {
+                if texts.before.reserve(old.len()).is_err() || texts.after.push_str(new).is_err() {
                     return Err(Refusal::NoMemory);
                 }
-                match before.push_str(old) {
+                match texts.before.push_str(old) {
                     Ok(()) => {}
                     Err(_) => unreachable!(),
                 }
-                *cursors = None;
-                Ok(true)
+                Ok(Some(Freshness::of_joined(cursors)))
             }
             Change::Begin | Change::End | Change::Insert(_, _, _) | Change::Delete(_, _, _) => Ok(
-                false,
+                None,
             ),
         }
     }

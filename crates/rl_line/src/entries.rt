@@ -6,13 +6,13 @@ ghost use Rattle.std.specs.Vec.{vec_len, vec_capacity};
 ghost use Rattle.rl_base.specs.Event.{InsertChar, InsertStr, Delete, Replace};
 ghost use Rattle.rl_base.specs.declared.listeners.Direction.TheVariants.{Forward};
 ghost use Rattle.rl_base.specs.declared.listeners.Refusal.TheVariants.{NoMemory};
-ghost use Rattle.rl_line.specs.Record.{entries_after, entries_told, entry_of, freshness_joined, freshness_of, last_cursors, last_insert};
+ghost use Rattle.rl_line.specs.Record.{entries_after, entries_told, entry_of, freshness_of, last_insert};
 ghost use Rattle.rl_line.specs.Undo.{line_back};
 ghost use Rattle.rl_line.specs.Units.{IsMatched, adds_end, end_one, end_times, ends_in_begin, has_change, last_of, level, redo_of};
 ghost use Rattle.rl_line.specs.Change.{faced};
 ghost use Rattle.rl_line.specs.Entries.{JoinsLast, deep};
 
-use crate::change::{Change, Freshness, Way, copied};
+use crate::change::{Change, Freshness, Texts, Way, copied};
 use crate::line_buffer::LineBuffer;
 use rl_base::{Refusal, RepeatCount};
 use std::alloc::Global;
@@ -27,8 +27,7 @@ pub(crate) fn insert_char(
     ensures ok { IfOk result (λ fresh. (map entry_of entries.new.items ≡ entries_after (InsertChar idx c) (map entry_of entries.old.items)) × (fresh ≡ freshness_of (InsertChar idx c) (map entry_of entries.old.items))) }
     ensures err { IfErr result (λ r. (r ≡ NoMemory) × (map entry_of entries.new.items ≡ map entry_of entries.old.items)) }
 {
-    let fresh = freshness_joined(entries);
-    if join_char(entries, idx, c)? {
+    if let Some(fresh) = join_char(entries, idx, c)? {
         return Ok(fresh);
     }
     let mut text = String::new(*entries.allocator());
@@ -70,8 +69,7 @@ pub(crate) fn delete(
     if string.is_empty() {
         return Ok(Freshness::Stale);
     }
-    let fresh = freshness_joined(entries);
-    if join_deletion(entries, idx, string)? {
+    if let Some(fresh) = join_deletion(entries, idx, string)? {
         return Ok(fresh);
     }
     let text = copied(*entries.allocator(), string)?;
@@ -90,27 +88,17 @@ pub(crate) fn replace(
     ensures ok { IfOk result (λ fresh. (map entry_of entries.new.items ≡ entries_after (Replace idx old.now new.now) (map entry_of entries.old.items)) × (fresh ≡ freshness_of (Replace idx old.now new.now) (map entry_of entries.old.items))) }
     ensures err { IfErr result (λ r. (r ≡ NoMemory) × (map entry_of entries.new.items ≡ map entry_of entries.old.items)) }
 {
-    let fresh = freshness_joined(entries);
-    if join_replacement(entries, idx, old, new)? {
+    if let Some(fresh) = join_replacement(entries, idx, old, new)? {
         return Ok(fresh);
     }
-    let before = copied(*entries.allocator(), old)?;
-    let after = copied(*entries.allocator(), new)?;
-    add(entries, Change::Replace(None, idx, before, after))?;
-    Ok(Freshness::Added)
-}
-
-// What may be told of the last entry once an event has joined it.
-fn freshness_joined(entries: &[Change]) -> Freshness
-    ensures { result ≡ freshness_joined (last_cursors (map entry_of entries.now)) }
-{
-    let Some(last) = entries.last() else {
-        return Freshness::Stale;
-    };
-    match last.cursors() {
-        Some((before, _)) => Freshness::Joined(before),
-        None => Freshness::Stale,
+    let alloc = *entries.allocator();
+    let before = copied(alloc, old)?;
+    let after = copied(alloc, new)?;
+    match Box::new(alloc, Texts { before, after }) {
+        Ok(texts) => add(entries, Change::Replace(None, idx, texts))?,
+        Err(_) => return Err(Refusal::NoMemory),
     }
+    Ok(Freshness::Added)
 }
 
 /// Tells the last entry its cursors, where it may be told them yet.
@@ -127,42 +115,46 @@ pub(crate) fn tell(entries: &mut Vec<Change>, fresh: Freshness, before: usize, a
     }
 }
 
-// Joins a character that was inserted to the last entry, if it does.
-fn join_char(entries: &mut Vec<Change>, idx: usize, c: char) -> Result<bool, Refusal>
-    ensures ok { IfOk result (λ answer. JoinsLast (InsertChar idx c) (map entry_of entries.old.items) (map entry_of entries.new.items) answer) }
+// Joins a character that was inserted to the last entry, if it does. Answers what may be told of that then.
+fn join_char(entries: &mut Vec<Change>, idx: usize, c: char) -> Result<Option<Freshness>, Refusal>
+    ensures ok { IfOk result (λ fresh. JoinsLast (InsertChar idx c) (map entry_of entries.old.items) (map entry_of entries.new.items) fresh) }
     ensures err { IfErr result (λ r. (r ≡ NoMemory) × (map entry_of entries.new.items ≡ map entry_of entries.old.items)) }
 {
     if let Some(last) = entries.last_mut() {
         return last.join_char(idx, c);
     }
-    Ok(false)
+    Ok(None)
 }
 
-// Joins a deletion to the last entry, if it does.
-fn join_deletion(entries: &mut Vec<Change>, idx: usize, string: &str) -> Result<bool, Refusal>
-    ensures ok { IfOk result (λ answer. JoinsLast (Delete idx string.now Forward) (map entry_of entries.old.items) (map entry_of entries.new.items) answer) }
+// Joins a deletion to the last entry, if it does. Answers what may be told of that then.
+fn join_deletion(
+    entries: &mut Vec<Change>,
+    idx: usize,
+    string: &str,
+) -> Result<Option<Freshness>, Refusal>
+    ensures ok { IfOk result (λ fresh. JoinsLast (Delete idx string.now Forward) (map entry_of entries.old.items) (map entry_of entries.new.items) fresh) }
     ensures err { IfErr result (λ r. (r ≡ NoMemory) × (map entry_of entries.new.items ≡ map entry_of entries.old.items)) }
 {
     if let Some(last) = entries.last_mut() {
         return last.join_deletion(idx, string);
     }
-    Ok(false)
+    Ok(None)
 }
 
-// Joins a replacement to the last entry, if it does.
+// Joins a replacement to the last entry, if it does. Answers what may be told of that then.
 fn join_replacement(
     entries: &mut Vec<Change>,
     idx: usize,
     old: &str,
     new: &str,
-) -> Result<bool, Refusal>
-    ensures ok { IfOk result (λ answer. JoinsLast (Replace idx old.now new.now) (map entry_of entries.old.items) (map entry_of entries.new.items) answer) }
+) -> Result<Option<Freshness>, Refusal>
+    ensures ok { IfOk result (λ fresh. JoinsLast (Replace idx old.now new.now) (map entry_of entries.old.items) (map entry_of entries.new.items) fresh) }
     ensures err { IfErr result (λ r. (r ≡ NoMemory) × (map entry_of entries.new.items ≡ map entry_of entries.old.items)) }
 {
     if let Some(last) = entries.last_mut() {
         return last.join_replacement(idx, old, new);
     }
-    Ok(false)
+    Ok(None)
 }
 
 /// Adds an entry.
@@ -213,7 +205,7 @@ fn level_behind(entry: &Change, level: usize) -> usize
     match entry {
         Change::Begin => level + 1,
         Change::End => level.saturating_sub(1),
-        Change::Insert(_, _, _) | Change::Delete(_, _, _) | Change::Replace(_, _, _, _) => level,
+        Change::Insert(_, _, _) | Change::Delete(_, _, _) | Change::Replace(_, _, _) => level,
     }
 }
 
@@ -231,7 +223,7 @@ pub(crate) fn level_at(entries: &[Change], len: usize, last: usize) -> usize
         match entries[at] {
             Change::Begin => level -= 1,
             Change::End => level += 1,
-            Change::Insert(_, _, _) | Change::Delete(_, _, _) | Change::Replace(_, _, _, _) => {}
+            Change::Insert(_, _, _) | Change::Delete(_, _, _) | Change::Replace(_, _, _) => {}
         }
     }
     level
@@ -302,7 +294,7 @@ pub(crate) fn last_len(entries: &[Change], n: RepeatCount) -> usize
                     depth -= 1;
                 }
             }
-            Change::Insert(_, _, _) | Change::Delete(_, _, _) | Change::Replace(_, _, _, _) => {
+            Change::Insert(_, _, _) | Change::Delete(_, _, _) | Change::Replace(_, _, _) => {
                 if depth == 0 {
                     units -= 1;
                 }
@@ -339,9 +331,8 @@ pub(crate) fn last_insert(entries: &[Change], alloc: Global) -> Result<Option<St
         left -= 1;
         match &entries[left] {
             Change::End => {}
-            Change::Insert(_, _, new) | Change::Replace(_, _, _, new) => {
-                return Ok(Some(copied(alloc, new.as_str())?));
-            }
+            Change::Insert(_, _, new) => return Ok(Some(copied(alloc, new.as_str())?)),
+            Change::Replace(_, _, texts) => return Ok(Some(copied(alloc, texts.after.as_str())?)),
             Change::Begin | Change::Delete(_, _, _) => return Ok(None),
         }
     }

@@ -17,8 +17,8 @@ use Rattle.rl_line.specs.Record.{Entry, Begin, End, Inserted, Deleted, Replaced,
 use Rattle.rl_line.proofs.JoinLemmas.{fresh-Delete-nothing}
 use Rattle.rl_line.proofs.PlanLemmas.{first_step}
 use Rattle.rl_line.proofs.RecordLemmas.{entries_of-undo, if_else, if_some, redone-joined, undoes-inverse, unless}
-use Rattle.rl_line.proofs.ToldLemmas.{told-cases}
-use Rattle.rl_line.proofs.WalkLemmas.{none_or_one}
+use Rattle.rl_line.proofs.ToldLemmas.{same-event, told-cases}
+use Rattle.rl_line.proofs.WalkLemmas.{after-some, none_or_one, told-added, told-behind}
 
 -- an event of a text, which is the last one where it is a replacement
 abbrev pub IsLone : Event → List Step → Type 0
@@ -60,23 +60,6 @@ recorded-next b (Replace i s t) a ss r h = refl
 recorded-next b Start a ss r h = absurd h
 recorded-next b Stop a ss r h = absurd h
 recorded-next b (Cursors b' a') a ss r h = absurd h
-
-after-some : (event : Event) (d : Entry) (ds : List Entry) → (y : Entry) × (ys : List Entry) × (entries_after event (d ∷ ds) ≡ y ∷ ys)
-after-some event d [] = from (joined event d)
-  where
-    from : (o : Option Entry) → (y : Entry) × (ys : List Entry) × (option_map_or (λ joint. joint ∷ []) o (d ∷ entries_of event) ≡ y ∷ ys)
-    from None = (d, entries_of event, refl)
-    from (Some j) = (j, [], refl)
-after-some event d (c ∷ cs) = (d, _, refl)
-
-told-behind : (fresh : Freshness) (b a : ℕ) (e y : Entry) (ys : List Entry) → entries_told fresh b a (e ∷ (y ∷ ys)) ≡ e ∷ entries_told fresh b a (y ∷ ys)
-told-behind is.Stale b a e y ys = refl
-told-behind is.Added b a e y ys = refl
-told-behind (is.Joined p) b a e y ys = refl
-
-told-added : (e : Entry) (ys : List Entry) (b a : ℕ) → entries_told (freshness_added ys) b a (e ∷ ys) ≡ e ∷ entries_told (freshness_added ys) b a ys
-told-added e [] b a = refl
-told-added e (y ∷ ys) b a = refl
 
 -- only the last entry may change
 next-cons : (event : Event) (e d : Entry) (ds : List Entry) (b a : ℕ) → next event (e ∷ (d ∷ ds)) b a ≡ e ∷ next event (d ∷ ds) b a
@@ -268,14 +251,6 @@ joint-cursors (Delete i s side) (Deleted k t ps) joint p h =
 joint-cursors (Replace i s t) (Replaced k o w ps) joint p h =
     let b = if_some (k + length w == i) (Replaced k (o ++ s) (w ++ t) None) joint h in ap (λ (q : Entry). cursors_of (with_cursors p q)) (sym b.1)
 joint-cursors event e joint p h = cc
-
--- the cursors that an entry is told leave its event
-same-event : (p : ℕ × ℕ) (e : Entry) → event_of (with_cursors p e) ≡ event_of e
-same-event p Begin = refl
-same-event p End = refl
-same-event p (Inserted i s ps) = refl
-same-event p (Deleted i s ps) = refl
-same-event p (Replaced i s t ps) = refl
 
 -- an event that adds no entry leaves the text
 text-same : (event : Event) (x y : List ℕ) → IsUtf8 x → apply event x ≡ Some y → entries_of event ≡ [] → y ≡ x

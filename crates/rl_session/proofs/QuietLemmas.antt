@@ -43,28 +43,6 @@ pub record Settles {A : Type 0} (line : Line) (plan : Plan A) : Type 0 where
   pub quiet : Quiet line.cursor plan.steps
   pub ends : (plan.steps ≡ [] → ⊥) → plan.cursor ≡ ends_at line.cursor plan.steps
 
--- the same, where only of two and more steps they are asked to be quiet: an empty range that is taken out moves the cursor to it
-abbrev pub QuietIfSeveral : ℕ → List Step → Type 0
-QuietIfSeveral cursor [] = Unit {0}
-QuietIfSeveral cursor (s ∷ []) = IsLone s.0 []
-QuietIfSeveral cursor (s ∷ (t ∷ ss)) = Quiet cursor (s ∷ (t ∷ ss))
-
-pub record SettlesIfSeveral {A : Type 0} (line : Line) (plan : Plan A) : Type 0 where
-  pub quiet : QuietIfSeveral line.cursor plan.steps
-  pub ends : (plan.steps ≡ [] → ⊥) → plan.cursor ≡ ends_at line.cursor plan.steps
-
-Quiet-weaker : (cursor : ℕ) (steps : List Step) → Quiet cursor steps → QuietIfSeveral cursor steps
-Quiet-weaker cursor [] q = tt
-Quiet-weaker cursor (s ∷ []) q = q.1
-Quiet-weaker cursor (s ∷ (t ∷ ss)) q = q
-
-pub Settles-weaker : {A : Type 0} (line : Line) (plan : Plan A) → Settles line plan → SettlesIfSeveral line plan
-Settles-weaker line plan h = record { quiet = Quiet-weaker line.cursor plan.steps h.quiet; ends = h.ends }
-
--- the plan ends where its last step leaves the cursor
-abbrev pub Ends : {A : Type 0} → Line → Plan A → Type 0
-Ends line plan = (plan.steps ≡ [] → ⊥) → plan.cursor ≡ ends_at line.cursor plan.steps
-
 -- ---- an event that adds no entry is one of an empty text
 pub empty-inserted : (i : ℕ) (s : List ℕ) → entries_of (InsertStr i s) ≡ [] → length s ≡ 0
 unfolding entries_of
@@ -99,9 +77,6 @@ pub Settles-nothing : {A : Type 0} (line : Line) (a : A) → Settles line (nothi
 Settles-nothing line a = record { quiet = tt; ends = λ some. absurd (some refl) }
 
 -- one step ends where it leaves the cursor
-pub Ends-single : {A : Type 0} (line : Line) (event : Event) (cursor : ℕ) (a : A) → Ends line (single event cursor a)
-Ends-single line event cursor a = λ some. refl
-
 Settles-single : {A : Type 0} (line : Line) (event : Event) (cursor : ℕ) (a : A) → (entries_of event ≡ [] → cursor ≡ line.cursor) → IsLone event [] → Settles line (single event cursor a)
 Settles-single line event cursor a same lone = record { quiet = (same, lone, tt); ends = λ some. refl }
 
@@ -138,14 +113,6 @@ Settles-replace line i j s =
     Settles-single line (Replace i (slice_range line.text i j) s) (i + length s) tt (λ e. absurd (never-replaced i (slice_range line.text i j) s e)) refl
 
 -- ---- what is taken out: an empty range may be taken out at another place than the cursor's, which moves the cursor there
-pub Ends-delete_range : (line : Line) (i j : ℕ) → Ends line (delete_range_plan line i j)
-Ends-delete_range line i j = λ some. refl
-
-pub Settles-delete_range : (line : Line) (i j : ℕ) → (i < j) → (j ≤ length line.text) → Settles line (delete_range_plan line i j)
-Settles-delete_range line i j some within =
-    Settles-single line (Delete i (slice_range line.text i j) Forward) i tt
-    (λ e. absurd (omega (arith, length-between line.text i j within, empty-deleted i (slice_range line.text i j) Forward e))) tt
-
 -- a range that is removed is at the cursor, or it is not empty
 abbrev pub MovesBy : Line → Option (Range ℕ) → Type 0
 MovesBy line None = Unit {0}
@@ -154,23 +121,6 @@ MovesBy line (Some r) = length (text_in line r) ≡ 0 → r.start ≡ line.curso
 pub Settles-removal : (line : Line) (range : Option (Range ℕ)) (side : Direction) → MovesBy line range → Settles line (removal line range side)
 Settles-removal line None side h = Settles-nothing line false
 Settles-removal line (Some r) side h = Settles-single line (Delete r.start (text_in line r) side) r.start true (λ e. h (empty-deleted r.start (text_in line r) side e)) tt
-
-Ends-removal : (line : Line) (range : Option (Range ℕ)) (side : Direction) → Ends line (removal line range side)
-Ends-removal line None side = λ some. absurd (some refl)
-Ends-removal line (Some r) side = λ some. refl
-
-several-removal : (line : Line) (range : Option (Range ℕ)) (side : Direction) → SettlesIfSeveral line (removal line range side)
-several-removal line None side = record { quiet = tt; ends = λ some. absurd (some refl) }
-several-removal line (Some r) side = record { quiet = tt; ends = λ some. refl }
-
-pub SettlesIfSeveral-kill : (line : Line) (m : Movement) → SettlesIfSeveral line (kill_plan line m)
-SettlesIfSeveral-kill line m = several-removal line (killed line m) (side_of m)
-
-pub SettlesIfSeveral-delete_range : (line : Line) (i j : ℕ) → SettlesIfSeveral line (delete_range_plan line i j)
-SettlesIfSeveral-delete_range line i j = record { quiet = tt; ends = λ some. refl }
-
-pub Ends-kill : (line : Line) (m : Movement) → Ends line (kill_plan line m)
-Ends-kill line m = Ends-removal line (killed line m) (side_of m)
 
 pub Settles-kill : (line : Line) (m : Movement) → MovesBy line (killed line m) → Settles line (kill_plan line m)
 Settles-kill line m h = Settles-removal line (killed line m) (side_of m) h
@@ -214,14 +164,6 @@ Settles-update line s q within =
       );
       ends = λ some. refl;
     }
-
-Settles-put_for : (line : Line) (word : Option (Range ℕ)) (made : List ℕ) → (length made ≡ 0 → ⊥) → Settles line (put_for line word made)
-Settles-put_for line None made some = Settles-nothing line false
-Settles-put_for line (Some word) made some =
-    record { quiet = (λ e. refl, tt, (λ e. absurd (some (empty-inserted word.start made e)), tt, tt)); ends = λ steps. refl }
-
-pub Settles-edit_word : (line : Line) (made : List ℕ) → (length made ≡ 0 → ⊥) → Settles line (edit_word_plan line made)
-Settles-edit_word line made some = Settles-put_for line (word_ahead line) made some
 
 -- ---- indents
 -- steps of which none is a replacement

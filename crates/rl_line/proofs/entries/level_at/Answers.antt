@@ -21,7 +21,7 @@ loop-at-preserved c =
       | inl e ↦ stays _ c.loop-at-test.true e.3 refl c.loop-at.invariant
       | inr f ↦ elim f [
         | inl e ↦ stays _ c.loop-at-test.true e.3 refl c.loop-at.invariant
-        | inr e ↦ stays _ c.loop-at-test.true e.4 refl c.loop-at.invariant
+        | inr e ↦ stays _ c.loop-at-test.true e.3 refl c.loop-at.invariant
       ]
     ]
 
