@@ -318,7 +318,9 @@ pub(crate) fn find_room_over(
     find_room(text, starts, bytes, newlines)
 }
 
-// How much more than at first a text of size `size` has at most on the way over the changes, the last first.
+// How much more than at first a text of size `size` has at most on the way over the changes, the last first. Inlined, so that
+// what is measured, and the way, are known when it is compiled.
+#[inline(always)]
 fn growth_over(
     changes: &[Change],
     measure: Measure,

@@ -340,7 +340,9 @@ pub(crate) fn last_insert(entries: &[Change], alloc: Global) -> Result<Option<St
 }
 
 /// Takes a line over the last entries of a list, and moves these to the end of another, the last first. It finds
-/// all room before it changes anything. Answers whether there was a change among them.
+/// all room before it changes anything. Answers whether there was a change among them. Inlined, so that undo and redo each know
+/// their way when they are compiled.
+#[inline(always)]
 pub(crate) fn carry_over(
     from: &mut Vec<Change>,
     to: &mut Vec<Change>,
