@@ -1,0 +1,2 @@
+mod HandleSteps
+mod PartsSteps

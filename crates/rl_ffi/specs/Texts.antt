@@ -1,0 +1,46 @@
+-- What the calls answer that need no session.
+use Rattle.std.specs.Prelude.{◌≡◌, ◌⊎◌, ℕ, zero, suc, List, [], ◌∷◌, length, reverse, take, Option, Some, None}
+use Rattle.std.specs.Str.{IsCharBoundary, IsUtf8}
+use Rattle.rl_base.specs.Clusters.{clusters}
+use Rattle.rl_base.specs.Widths.{width}
+use Rattle.rl_base.specs.declared.layout.GraphemeClusterMode.{GraphemeClusterMode}
+use Rattle.rl_session.specs.Script.{Ran, Stopped}
+use Rattle.rl_ffi.specs.Cells.{cell}
+use Rattle.rl_ffi.specs.Numbers.{bad_place, done, no_memory, no_such_number, not_utf8}
+
+-- a number about a text, where it is one
+abbrev pub Told : List ℕ → ℕ → ℕ → ℕ → ℕ → Type 0
+Told text value n old new = (IsUtf8 text × (n ≡ done) × (new ≡ value)) ⊎ ((¬ (IsUtf8 text)) × (n ≡ not_utf8) × (new ≡ old))
+
+abbrev pub WidthTold : Option GraphemeClusterMode → List ℕ → ℕ → ℕ → ℕ → Type 0
+WidthTold None text n old new = (n ≡ no_such_number) × (new ≡ old)
+WidthTold (Some mode) text n old new = Told text (width mode text) n old new
+
+-- how many bytes the first of some clusters has
+abbrev pub first_length : List (List ℕ) → ℕ
+first_length [] = 0
+first_length (cluster ∷ more) = length cluster
+
+abbrev pub first_cluster : List ℕ → ℕ
+first_cluster text = first_length (clusters text)
+
+abbrev pub last_cluster : List ℕ → ℕ
+last_cluster text = first_length (reverse (clusters text))
+
+-- the cell of a place in two numbers, row and column
+abbrev pub CellIn : GraphemeClusterMode → ℕ → ℕ → List ℕ → ℕ → ℕ → ℕ × ℕ → ℕ × ℕ → Type 0
+CellIn mode columns prompt text place n old new =
+    (IsUtf8 text × IsCharBoundary text place × (n ≡ done) × (new ≡ cell mode columns prompt (take place text)))
+    ⊎ ((¬ (IsUtf8 text)) × (n ≡ not_utf8) × (new ≡ old))
+    ⊎ (IsUtf8 text × (¬ (IsCharBoundary text place)) × (n ≡ bad_place) × (new ≡ old))
+
+-- on a screen without columns nothing stands
+abbrev pub CellTold : Option GraphemeClusterMode → ℕ → ℕ → List ℕ → ℕ → ℕ → ℕ × ℕ → ℕ × ℕ → Type 0
+CellTold None columns prompt text place n old new = (n ≡ no_such_number) × (new ≡ old)
+CellTold (Some mode) zero prompt text place n old new = (n ≡ no_such_number) × (new ≡ old)
+CellTold (Some mode) (suc k) prompt text place n old new = CellIn mode (suc k) prompt text place n old new
+
+-- what a script prints: it was read to its end, or stopped where memory ended
+abbrev pub Printed : List ℕ → ℕ → List ℕ → Type 0
+Printed script n out =
+    ((n ≡ done) × (left : List ℕ) × Ran (Some script) (Some left) (Some []) (Some out)) ⊎ ((n ≡ no_memory) × Stopped (Some script) (Some []) (Some out))

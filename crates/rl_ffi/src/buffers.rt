@@ -1,0 +1,19 @@
+// Writing a text to a buffer of C.
+ghost use Rattle.std.specs.Prelude.{◌≡◌, ◌≤◌, length};
+ghost use Rattle.rl_ffi.specs.Buffers.{put, written};
+
+// Writes the whole text to the buffer's front.
+pub(crate) fn put(text: &[u8], out: &mut [u8])
+    requires { length text.now ≤ length out.old }
+    ensures { out.new ≡ put text.now out.old }
+{
+    out[..text.len()].copy_from_slice(text);
+}
+
+// Writes as much of the text as there is room for.
+pub(crate) fn write(text: &[u8], out: &mut [u8])
+    ensures { out.new ≡ written text.now out.old }
+{
+    let count = text.len().min(out.len());
+    put(&text[..count], out);
+}

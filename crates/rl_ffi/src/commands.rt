@@ -1,0 +1,566 @@
+// The calls that open and close a session, and those that ask it for a command.
+ghost use Rattle.std.specs.Prelude.{◌≡◌, ℕ, ◌≤◌, None, Some, Ok, Err, Result, IfErr, IfOk, MatchResult, length};
+ghost use Rattle.std.specs.Option.{option_map};
+ghost use Rattle.std.specs.Str.{IsCharBoundary, IsUtf8};
+ghost use Rattle.std.specs.String.{string_bytes};
+ghost use Rattle.rl_base.specs.declared.motion.Movement.{Movement};
+ghost use Rattle.rl_line.specs.Kills.{copied};
+ghost use Rattle.rl_session.specs.State.{fresh};
+ghost use Rattle.rl_session.specs.declared.session.Command.{Command};
+ghost use Rattle.rl_session.specs.declared.session.Reply.{Reply};
+ghost use Rattle.rl_ffi.specs.Numbers.{action_of, at_of, char_of, dedents_of, mode_of, movement_of, reply_number, search_of, word_of};
+ghost use Rattle.rl_ffi.specs.Commands.{Called, CalledWith, CannotOpen, CopyCalled, Copies, DeleteCalled, Deletes, Fits, HandsOut, IsTextOf, OpensAs, Replies, both_named, column_in, handed, line_in, mark_in, named, number_of, text_length};
+
+use crate::buffers::put;
+use crate::handle::Handle;
+use crate::numbers::{
+    CLOSED, DONE, NO_MEMORY, NO_SUCH_NUMBER, NOT_UTF8, TOO_SMALL, action_of, at_of, char_of,
+    dedents_of, fault_number, mode_of, movement_of, reply_number, search_of, word_of,
+};
+use rl_base::places::next_pos;
+use rl_base::{GraphemeClusterMode, Movement, RepeatCount};
+use rl_line::LineBuffer;
+use rl_session::{Command, Reply, Session};
+use std::alloc::Global;
+use std::mem::replace;
+
+// Asks the session for a command, unless a number says why there is none.
+fn ask(alloc: Global, s: &mut Handle, command: Result<Command, u32>) -> Result<Reply, u32>
+    ensures { Replies command s.old.value result s.new.value }
+{
+    let Some(mut session) = Handle::take(replace(s, Handle::closed(alloc))) else {
+        return Err(CLOSED);
+    };
+    let answer = match command {
+        Ok(command) => Ok(session.apply(&command)),
+        Err(number) => Err(number),
+    };
+    *s = Handle::of(session);
+    answer
+}
+
+fn number_of(answer: &Result<Reply, u32>) -> u32
+    ensures { result ≡ number_of answer.now }
+{
+    match answer {
+        Ok(reply) => reply_number(reply),
+        Err(number) => *number,
+    }
+}
+
+// The same, where the number tells all.
+fn call(alloc: Global, s: &mut Handle, command: Result<Command, u32>) -> u32
+    ensures { Called command s.old.value result s.new.value }
+{
+    let answer = ask(alloc, s, command);
+    number_of(&answer)
+}
+
+// A text of C as one of a command.
+fn text_of(alloc: Global, bytes: &[u8]) -> Result<String, u32>
+    ensures { IsTextOf bytes.now result }
+{
+    let Ok(text) = std::str::from_utf8(bytes) else {
+        return Err(NOT_UTF8);
+    };
+    match String::from_str(alloc, text) {
+        Ok(text) => Ok(text),
+        Err(_) => Err(NO_MEMORY),
+    }
+}
+
+fn opened(
+    alloc: Global,
+    text: &[u8],
+    pos: usize,
+    limit: usize,
+    ring_size: usize,
+    mode: GraphemeClusterMode,
+) -> Result<Box<Session>, u32>
+    ensures ok { IfOk result (λ b. IsUtf8 text.now × IsCharBoundary text.now pos × (b.value ≡ fresh text.now pos limit ring_size mode)) }
+    ensures err { IfErr result (CannotOpen text.now pos) }
+{
+    let Ok(text) = std::str::from_utf8(text) else {
+        return Err(NOT_UTF8);
+    };
+    match Session::new(alloc, text, pos, limit, ring_size, mode) {
+        Ok(session) => match Box::new(alloc, session) {
+            Ok(session) => Ok(session),
+            Err(_) => Err(NO_MEMORY),
+        },
+        Err(fault) => Err(fault_number(fault)),
+    }
+}
+
+/// Opens a session on a text, with the cursor at the byte place `pos`, in the place of the one that was there: DONE.
+/// The line's limit is `limit` bytes, or the text's length where that is greater; the ring has room for `ring_size`
+/// texts. NO_SUCH_NUMBER (of the mode), NOT_UTF8, BAD_PLACE and NO_MEMORY leave the one that was there.
+#[unsafe(no_mangle)]
+pub extern "C" fn lodvarn_open(
+    alloc: Global,
+    s: &mut Handle,
+    text: &[u8],
+    pos: usize,
+    limit: usize,
+    ring_size: usize,
+    mode: u32,
+) -> u32
+    ensures { OpensAs (mode_of mode) text.now pos limit ring_size s.old.value result s.new.value }
+{
+    let Some(mode) = mode_of(mode) else {
+        return NO_SUCH_NUMBER;
+    };
+    match opened(alloc, text, pos, limit, ring_size, mode) {
+        Ok(session) => {
+            drop(Handle::take(replace(s, Handle::of(session))));
+            DONE
+        }
+        Err(number) => number,
+    }
+}
+
+/// Closes the session, if there is one.
+#[unsafe(no_mangle)]
+pub extern "C" fn lodvarn_close(alloc: Global, s: &mut Handle)
+    ensures { s.new.value ≡ None }
+{
+    drop(Handle::take(replace(s, Handle::closed(alloc))));
+}
+
+/// Moves the cursor to a byte place: DONE. BAD_PLACE and CLOSED change nothing.
+#[unsafe(no_mangle)]
+pub extern "C" fn lodvarn_set_pos(alloc: Global, s: &mut Handle, pos: usize) -> u32
+    ensures { Called (Ok (Command.SetPos pos)) s.old.value result s.new.value }
+{
+    call(alloc, s, Ok(Command::SetPos(pos)))
+}
+
+/// Moves the cursor by a movement: TRUE or FALSE, whether there was a place to go to. CLOSED and NO_SUCH_NUMBER change
+/// nothing.
+#[unsafe(no_mangle)]
+pub extern "C" fn lodvarn_move(alloc: Global, s: &mut Handle, movement: u32, n: u16, c: u32) -> u32
+    ensures { Called (named Command.Move (movement_of movement n c)) s.old.value result s.new.value }
+{
+    match movement_of(movement, n, c) {
+        Some(movement) => call(alloc, s, Ok(Command::Move(movement))),
+        None => call(alloc, s, Err(NO_SUCH_NUMBER)),
+    }
+}
+
+/// Inserts a character n times at the cursor: TRUE or FALSE, whether the cursor was at the end, or NONE where the text
+/// would get longer than it may. CLOSED, NO_SUCH_NUMBER (of the character) and NO_MEMORY change no text.
+#[unsafe(no_mangle)]
+pub extern "C" fn lodvarn_insert(alloc: Global, s: &mut Handle, c: u32, n: u16) -> u32
+    ensures { Called (named (λ x. Command.Insert x n) (char_of c)) s.old.value result s.new.value }
+{
+    match char_of(c) {
+        Some(c) => call(alloc, s, Ok(Command::Insert(c, n))),
+        None => call(alloc, s, Err(NO_SUCH_NUMBER)),
+    }
+}
+
+/// Inserts a text n times at the cursor, and answers as `lodvarn_insert` does, and NONE of an empty text too. CLOSED,
+/// NOT_UTF8 and NO_MEMORY change no text.
+#[unsafe(no_mangle)]
+pub extern "C" fn lodvarn_paste(alloc: Global, s: &mut Handle, text: &[u8], n: u16) -> u32
+    ensures { CalledWith text.now (λ t. Command.Paste t n) s.old.value result s.new.value }
+{
+    match text_of(alloc, text) {
+        Ok(text) => call(alloc, s, Ok(Command::Paste(text, n))),
+        Err(number) => call(alloc, s, Err(number)),
+    }
+}
+
+/// Inserts the ring's current text n times at the cursor, and answers as `lodvarn_insert` does, and NONE where the ring
+/// has none too. CLOSED and NO_MEMORY change no text.
+#[unsafe(no_mangle)]
+pub extern "C" fn lodvarn_yank(alloc: Global, s: &mut Handle, n: u16) -> u32
+    ensures { Called (Ok (Command.Yank n)) s.old.value result s.new.value }
+{
+    call(alloc, s, Ok(Command::Yank(n)))
+}
+
+/// Puts the ring's text before in the place of the one that was just yanked, and answers as `lodvarn_insert` does.
+/// BAD_YANK_SIZE and CLOSED change nothing; NO_MEMORY leaves what the steps before it did.
+#[unsafe(no_mangle)]
+pub extern "C" fn lodvarn_yank_pop(alloc: Global, s: &mut Handle) -> u32
+    ensures { Called (Ok Command.YankPop) s.old.value result s.new.value }
+{
+    call(alloc, s, Ok(Command::YankPop))
+}
+
+/// Puts a text in the place of the line's, with the cursor at a byte place of it: DONE. BAD_PLACE, NOT_UTF8 and CLOSED
+/// change nothing; NO_MEMORY leaves what the steps before it did.
+#[unsafe(no_mangle)]
+pub extern "C" fn lodvarn_update(alloc: Global, s: &mut Handle, text: &[u8], pos: usize) -> u32
+    ensures { CalledWith text.now (λ t. Command.Update t pos) s.old.value result s.new.value }
+{
+    match text_of(alloc, text) {
+        Ok(text) => call(alloc, s, Ok(Command::Update(text, pos))),
+        Err(number) => call(alloc, s, Err(number)),
+    }
+}
+
+/// Inserts a text at a byte place, and leaves the cursor at its own: TRUE or FALSE, whether the place was the end.
+/// BAD_PLACE, NOT_UTF8, NO_MEMORY and CLOSED change no text.
+#[unsafe(no_mangle)]
+pub extern "C" fn lodvarn_insert_str(alloc: Global, s: &mut Handle, at: usize, text: &[u8]) -> u32
+    ensures { CalledWith text.now (λ t. Command.InsertStr at t) s.old.value result s.new.value }
+{
+    match text_of(alloc, text) {
+        Ok(text) => call(alloc, s, Ok(Command::InsertStr(at, text))),
+        Err(number) => call(alloc, s, Err(number)),
+    }
+}
+
+/// Puts a text in the place of what stands between two byte places: DONE. BAD_PLACE, NOT_UTF8, NO_MEMORY and CLOSED
+/// change no text.
+#[unsafe(no_mangle)]
+pub extern "C" fn lodvarn_replace(
+    alloc: Global,
+    s: &mut Handle,
+    from: usize,
+    to: usize,
+    text: &[u8],
+) -> u32
+    ensures { CalledWith text.now (λ t. Command.Replace from to t) s.old.value result s.new.value }
+{
+    match text_of(alloc, text) {
+        Ok(text) => call(alloc, s, Ok(Command::Replace(from, to, text))),
+        Err(number) => call(alloc, s, Err(number)),
+    }
+}
+
+/// Deletes what stands between two byte places: DONE. BAD_PLACE, NO_MEMORY and CLOSED change no text.
+#[unsafe(no_mangle)]
+pub extern "C" fn lodvarn_delete_range(alloc: Global, s: &mut Handle, from: usize, to: usize) -> u32
+    ensures { Called (Ok (Command.DeleteRange from to)) s.old.value result s.new.value }
+{
+    call(alloc, s, Ok(Command::DeleteRange(from, to)))
+}
+
+/// Deletes n grapheme clusters before the cursor: TRUE or FALSE, whether there was one. NO_MEMORY and CLOSED change no
+/// text.
+#[unsafe(no_mangle)]
+pub extern "C" fn lodvarn_backspace(alloc: Global, s: &mut Handle, n: u16) -> u32
+    ensures { Called (Ok (Command.Backspace n)) s.old.value result s.new.value }
+{
+    call(alloc, s, Ok(Command::Backspace(n)))
+}
+
+/// Deletes from the cursor to the end of its line, or the newline there: TRUE or FALSE, whether there was anything.
+/// NO_MEMORY and CLOSED change no text.
+#[unsafe(no_mangle)]
+pub extern "C" fn lodvarn_kill_line(alloc: Global, s: &mut Handle) -> u32
+    ensures { Called (Ok Command.KillLine) s.old.value result s.new.value }
+{
+    call(alloc, s, Ok(Command::KillLine))
+}
+
+/// Deletes from the cursor to the end of the text: TRUE or FALSE, whether there was anything. NO_MEMORY and CLOSED
+/// change no text.
+#[unsafe(no_mangle)]
+pub extern "C" fn lodvarn_kill_buffer(alloc: Global, s: &mut Handle) -> u32
+    ensures { Called (Ok Command.KillBuffer) s.old.value result s.new.value }
+{
+    call(alloc, s, Ok(Command::KillBuffer))
+}
+
+/// Deletes from the start of the cursor's line to the cursor, or the cluster before it: TRUE or FALSE, whether there
+/// was anything. NO_MEMORY and CLOSED change no text.
+#[unsafe(no_mangle)]
+pub extern "C" fn lodvarn_discard_line(alloc: Global, s: &mut Handle) -> u32
+    ensures { Called (Ok Command.DiscardLine) s.old.value result s.new.value }
+{
+    call(alloc, s, Ok(Command::DiscardLine))
+}
+
+/// Deletes from the start of the text to the cursor: TRUE or FALSE, whether there was anything. NO_MEMORY and CLOSED
+/// change no text.
+#[unsafe(no_mangle)]
+pub extern "C" fn lodvarn_discard_buffer(alloc: Global, s: &mut Handle) -> u32
+    ensures { Called (Ok Command.DiscardBuffer) s.old.value result s.new.value }
+{
+    call(alloc, s, Ok(Command::DiscardBuffer))
+}
+
+/// Deletes back to the start of the n-th word before the cursor: TRUE or FALSE, whether there was anything. NO_MEMORY,
+/// NO_SUCH_NUMBER and CLOSED change no text.
+#[unsafe(no_mangle)]
+pub extern "C" fn lodvarn_delete_prev_word(alloc: Global, s: &mut Handle, word: u32, n: u16) -> u32
+    ensures { Called (named (λ w. Command.DeletePrevWord w n) (word_of word)) s.old.value result s.new.value }
+{
+    match word_of(word) {
+        Some(word) => call(alloc, s, Ok(Command::DeletePrevWord(word, n))),
+        None => call(alloc, s, Err(NO_SUCH_NUMBER)),
+    }
+}
+
+/// Deletes to the start or the end of the n-th word ahead: TRUE or FALSE, whether there was anything. NO_MEMORY,
+/// NO_SUCH_NUMBER and CLOSED change no text.
+#[unsafe(no_mangle)]
+pub extern "C" fn lodvarn_delete_word(
+    alloc: Global,
+    s: &mut Handle,
+    at: u32,
+    word: u32,
+    n: u16,
+) -> u32
+    ensures { Called (both_named (λ a w. Command.DeleteWord a w n) (at_of at) (word_of word)) s.old.value result s.new.value }
+{
+    match (at_of(at), word_of(word)) {
+        (Some(at), Some(word)) => call(alloc, s, Ok(Command::DeleteWord(at, word, n))),
+        _ => call(alloc, s, Err(NO_SUCH_NUMBER)),
+    }
+}
+
+/// Deletes to the n-th hit of a search for a character, or the farthest: TRUE or FALSE, whether there was one.
+/// NO_MEMORY, NO_SUCH_NUMBER and CLOSED change no text.
+#[unsafe(no_mangle)]
+pub extern "C" fn lodvarn_delete_to(
+    alloc: Global,
+    s: &mut Handle,
+    search: u32,
+    c: u32,
+    n: u16,
+) -> u32
+    ensures { Called (named (λ x. Command.DeleteTo x n) (search_of search c)) s.old.value result s.new.value }
+{
+    match search_of(search, c) {
+        Some(search) => call(alloc, s, Ok(Command::DeleteTo(search, n))),
+        None => call(alloc, s, Err(NO_SUCH_NUMBER)),
+    }
+}
+
+/// Exchanges the clusters at the cursor: TRUE or FALSE, whether there were two. CLOSED changes nothing; NO_MEMORY
+/// leaves what the steps before it did.
+#[unsafe(no_mangle)]
+pub extern "C" fn lodvarn_transpose_chars(alloc: Global, s: &mut Handle) -> u32
+    ensures { Called (Ok Command.TransposeChars) s.old.value result s.new.value }
+{
+    call(alloc, s, Ok(Command::TransposeChars))
+}
+
+/// Exchanges the word before the n-th word's end ahead with the word n words before it: TRUE or FALSE, whether there
+/// were two. CLOSED changes nothing; NO_MEMORY leaves what the steps before it did.
+#[unsafe(no_mangle)]
+pub extern "C" fn lodvarn_transpose_words(alloc: Global, s: &mut Handle, n: u16) -> u32
+    ensures { Called (Ok (Command.TransposeWords n)) s.old.value result s.new.value }
+{
+    call(alloc, s, Ok(Command::TransposeWords(n)))
+}
+
+/// Changes the letter case of the word at the cursor or ahead: TRUE or FALSE, whether there was one. NO_SUCH_NUMBER and
+/// CLOSED change nothing; NO_MEMORY leaves what the steps before it did.
+#[unsafe(no_mangle)]
+pub extern "C" fn lodvarn_edit_word(alloc: Global, s: &mut Handle, action: u32) -> u32
+    ensures { Called (named Command.EditWord (action_of action)) s.old.value result s.new.value }
+{
+    match action_of(action) {
+        Some(action) => call(alloc, s, Ok(Command::EditWord(action))),
+        None => call(alloc, s, Err(NO_SUCH_NUMBER)),
+    }
+}
+
+/// Kills by a movement: TRUE or FALSE, whether there was anything. NO_MEMORY, NO_SUCH_NUMBER and CLOSED change no text.
+#[unsafe(no_mangle)]
+pub extern "C" fn lodvarn_kill(alloc: Global, s: &mut Handle, movement: u32, n: u16, c: u32) -> u32
+    ensures { Called (named Command.Kill (movement_of movement n c)) s.old.value result s.new.value }
+{
+    match movement_of(movement, n, c) {
+        Some(movement) => call(alloc, s, Ok(Command::Kill(movement))),
+        None => call(alloc, s, Err(NO_SUCH_NUMBER)),
+    }
+}
+
+/// Indents the lines of a movement by `amount` spaces, or dedents them by up to `amount` bytes of blanks: TRUE or
+/// FALSE, whether anything changed. NO_SUCH_NUMBER and CLOSED change nothing; NO_MEMORY leaves what the steps before it
+/// did.
+#[unsafe(no_mangle)]
+pub extern "C" fn lodvarn_indent(
+    alloc: Global,
+    s: &mut Handle,
+    movement: u32,
+    n: u16,
+    c: u32,
+    amount: u8,
+    direction: u32,
+) -> u32
+    ensures { Called (both_named (λ m d. Command.Indent m amount d) (movement_of movement n c) (dedents_of direction)) s.old.value result s.new.value }
+{
+    match (movement_of(movement, n, c), dedents_of(direction)) {
+        (Some(movement), Some(dedent)) => call(
+            alloc,
+            s,
+            Ok(Command::Indent(movement, amount, dedent)),
+        ),
+        _ => call(alloc, s, Err(NO_SUCH_NUMBER)),
+    }
+}
+
+/// Closes all open groups of changes: TRUE or FALSE, whether one held a change. NO_MEMORY and CLOSED change nothing.
+#[unsafe(no_mangle)]
+pub extern "C" fn lodvarn_end(alloc: Global, s: &mut Handle) -> u32
+    ensures { Called (Ok Command.End) s.old.value result s.new.value }
+{
+    call(alloc, s, Ok(Command::End))
+}
+
+/// Undoes n units, one for 0, and all where there are fewer: TRUE or FALSE, whether a change was undone. NO_MEMORY and
+/// CLOSED change no text.
+#[unsafe(no_mangle)]
+pub extern "C" fn lodvarn_undo(alloc: Global, s: &mut Handle, n: u16) -> u32
+    ensures { Called (Ok (Command.Undo n)) s.old.value result s.new.value }
+{
+    call(alloc, s, Ok(Command::Undo(n)))
+}
+
+/// Does again what was undone last: TRUE or FALSE, whether there was a change. NO_MEMORY and CLOSED change no text.
+#[unsafe(no_mangle)]
+pub extern "C" fn lodvarn_redo(alloc: Global, s: &mut Handle) -> u32
+    ensures { Called (Ok Command.Redo) s.old.value result s.new.value }
+{
+    call(alloc, s, Ok(Command::Redo))
+}
+
+/// Forgets all but `entries` entries of the record: DONE. NOT_REPLAYING, NO_MEMORY and CLOSED leave the record.
+#[unsafe(no_mangle)]
+pub extern "C" fn lodvarn_truncate(alloc: Global, s: &mut Handle, entries: usize) -> u32
+    ensures { Called (Ok (Command.Truncate entries)) s.old.value result s.new.value }
+{
+    call(alloc, s, Ok(Command::Truncate(entries)))
+}
+
+/// Opens a group of changes: MARK, with `mark` written, how many entries the record had. NO_MEMORY and CLOSED leave
+/// both as they were.
+#[unsafe(no_mangle)]
+pub extern "C" fn lodvarn_begin(alloc: Global, s: &mut Handle, mark: &mut usize) -> u32
+    ensures { (answer : Result Reply ℕ) × Replies (Ok Command.Begin) s.old.value answer s.new.value × (result ≡ number_of answer) × (mark.new ≡ mark_in answer mark.old) }
+{
+    let answer = ask(alloc, s, Ok(Command::Begin));
+    if let Ok(Reply::Mark(entries)) = &answer {
+        *mark = *entries;
+    }
+    number_of(&answer)
+}
+
+/// Where the cursor stands: AT, with the number of its line, from 0, and the columns from the line's start written.
+/// CLOSED leaves both as they were.
+#[unsafe(no_mangle)]
+pub extern "C" fn lodvarn_line_place(
+    alloc: Global,
+    s: &mut Handle,
+    line: &mut usize,
+    column: &mut u16,
+) -> u32
+    ensures { (answer : Result Reply ℕ) × Replies (Ok Command.LinePlace) s.old.value answer s.new.value × (result ≡ number_of answer)
+        × (line.new ≡ line_in answer line.old) × (column.new ≡ column_in answer column.old) }
+{
+    let answer = ask(alloc, s, Ok(Command::LinePlace));
+    if let Ok(Reply::At(number, columns)) = &answer {
+        *line = *number;
+        *column = *columns;
+    }
+    number_of(&answer)
+}
+
+// Hands a reply's text out.
+fn hand_out(reply: &Reply, out: &mut [u8], len: &mut usize) -> u32
+    requires { Fits reply.now out.old }
+    ensures number { result ≡ reply_number reply.now }
+    ensures outs { (out.new, len.new) ≡ handed reply.now (out.old, len.old) }
+{
+    if let Reply::Text(Some(text)) = reply {
+        put(text.as_bytes(), out);
+        *len = text.as_str().len();
+    }
+    reply_number(reply)
+}
+
+// How many bytes the next n clusters have.
+fn ahead_len(line: &LineBuffer, n: RepeatCount) -> usize
+    ensures { result ≡ text_length (copied line.now (Movement.ForwardChar n)) }
+{
+    let pos = line.pos();
+    match next_pos(line.as_str(), pos, n) {
+        Some(end) => end - pos,
+        None => 0,
+    }
+}
+
+fn delete(session: &mut Session, n: RepeatCount, out: &mut [u8], len: &mut usize) -> u32
+    ensures { Deletes n session.old result session.new (out.old, len.old) (out.new, len.new) }
+{
+    let ahead = ahead_len(session.line(), n);
+    if ahead > out.len() {
+        *len = ahead;
+        return TOO_SMALL;
+    }
+    let reply = session.apply(&Command::Delete(n));
+    hand_out(&reply, out, len)
+}
+
+/// Deletes n grapheme clusters from the cursor on: TEXT, with the deleted text in `out` and its bytes in `len`, or NONE
+/// where there were none. TOO_SMALL writes to `len` what is needed, and changes nothing else; NO_MEMORY and CLOSED
+/// change no text.
+#[unsafe(no_mangle)]
+pub extern "C" fn lodvarn_delete(
+    alloc: Global,
+    s: &mut Handle,
+    n: u16,
+    out: &mut [u8],
+    len: &mut usize,
+) -> u32
+    ensures { DeleteCalled n s.old.value result s.new.value (out.old, len.old) (out.new, len.new) }
+{
+    match Handle::take(replace(s, Handle::closed(alloc))) {
+        Some(mut session) => {
+            let number = delete(&mut session, n, out, len);
+            *s = Handle::of(session);
+            number
+        }
+        None => CLOSED,
+    }
+}
+
+fn copy(session: &mut Session, movement: Movement, out: &mut [u8], len: &mut usize) -> u32
+    ensures { Copies movement session.old result session.new (out.old, len.old) (out.new, len.new) }
+{
+    let needed = match session.line().copy(&movement) {
+        Ok(Some(text)) => text.as_str().len(),
+        Ok(None) => 0,
+        Err(_) => return NO_MEMORY,
+    };
+    if needed > out.len() {
+        *len = needed;
+        return TOO_SMALL;
+    }
+    let reply = session.apply(&Command::Copy(movement));
+    hand_out(&reply, out, len)
+}
+
+/// Copies what a movement covers: TEXT, with the text in `out` and its bytes in `len`, or NONE where that is nothing.
+/// TOO_SMALL writes to `len` what is needed, and changes nothing else; NO_SUCH_NUMBER, NO_MEMORY and CLOSED change no
+/// text.
+#[unsafe(no_mangle)]
+pub extern "C" fn lodvarn_copy(
+    alloc: Global,
+    s: &mut Handle,
+    movement: u32,
+    n: u16,
+    c: u32,
+    out: &mut [u8],
+    len: &mut usize,
+) -> u32
+    ensures { CopyCalled (movement_of movement n c) s.old.value result s.new.value (out.old, len.old) (out.new, len.new) }
+{
+    let Some(mut session) = Handle::take(replace(s, Handle::closed(alloc))) else {
+        return CLOSED;
+    };
+    let number = match movement_of(movement, n, c) {
+        Some(movement) => copy(&mut session, movement, out, len),
+        None => NO_SUCH_NUMBER,
+    };
+    *s = Handle::of(session);
+    number
+}

@@ -1,0 +1,165 @@
+// The calls that change nothing.
+ghost use Rattle.std.specs.Prelude.{◌≡◌, length};
+ghost use Rattle.rl_ffi.specs.Buffers.{written};
+ghost use Rattle.rl_ffi.specs.Reads.{text_of, pos_of, line_number_of, line_count_of, limit_of, entries_of, last_was_yank_of, RangeIn, RangeRead};
+ghost use Rattle.rl_line.specs.LineRanges.{range_of_line};
+
+use crate::buffers::write;
+use crate::handle::Handle;
+use crate::numbers::{CLOSED, DONE, NONE, truth_number};
+use rl_line::LineBuffer;
+use std::alloc::Global;
+use std::mem::replace;
+
+/// Copies the text, in bytes as much of it as there is room for, and answers how long the whole is; 0 for a closed
+/// session.
+#[unsafe(no_mangle)]
+pub extern "C" fn lodvarn_text(alloc: Global, s: &mut Handle, out: &mut [u8]) -> usize
+    ensures length { result ≡ length (text_of s.old.value) }
+    ensures copied { out.new ≡ written (text_of s.old.value) out.old }
+    ensures kept { s.new.value ≡ s.old.value }
+{
+    match Handle::take(replace(s, Handle::closed(alloc))) {
+        Some(session) => {
+            let text = session.line().as_str().as_bytes();
+            write(text, out);
+            let len = text.len();
+            *s = Handle::of(session);
+            len
+        }
+        None => 0,
+    }
+}
+
+/// The cursor's place, in bytes; 0 for a closed session.
+#[unsafe(no_mangle)]
+pub extern "C" fn lodvarn_pos(alloc: Global, s: &mut Handle) -> usize
+    ensures value { result ≡ pos_of s.old.value }
+    ensures kept { s.new.value ≡ s.old.value }
+{
+    match Handle::take(replace(s, Handle::closed(alloc))) {
+        Some(session) => {
+            let pos = session.line().pos();
+            *s = Handle::of(session);
+            pos
+        }
+        None => 0,
+    }
+}
+
+/// The number of the cursor's line, from 0; 0 for a closed session.
+#[unsafe(no_mangle)]
+pub extern "C" fn lodvarn_line_number(alloc: Global, s: &mut Handle) -> usize
+    ensures value { result ≡ line_number_of s.old.value }
+    ensures kept { s.new.value ≡ s.old.value }
+{
+    match Handle::take(replace(s, Handle::closed(alloc))) {
+        Some(session) => {
+            let number = session.line().line_number();
+            *s = Handle::of(session);
+            number
+        }
+        None => 0,
+    }
+}
+
+/// How many lines the text has, at least one; 0 for a closed session.
+#[unsafe(no_mangle)]
+pub extern "C" fn lodvarn_line_count(alloc: Global, s: &mut Handle) -> usize
+    ensures value { result ≡ line_count_of s.old.value }
+    ensures kept { s.new.value ≡ s.old.value }
+{
+    match Handle::take(replace(s, Handle::closed(alloc))) {
+        Some(session) => {
+            let count = session.line().line_count();
+            *s = Handle::of(session);
+            count
+        }
+        None => 0,
+    }
+}
+
+/// The limit on the text's length, in bytes; 0 for a closed session.
+#[unsafe(no_mangle)]
+pub extern "C" fn lodvarn_limit(alloc: Global, s: &mut Handle) -> usize
+    ensures value { result ≡ limit_of s.old.value }
+    ensures kept { s.new.value ≡ s.old.value }
+{
+    match Handle::take(replace(s, Handle::closed(alloc))) {
+        Some(session) => {
+            let limit = session.line().limit();
+            *s = Handle::of(session);
+            limit
+        }
+        None => 0,
+    }
+}
+
+/// How many entries the record has; 0 for a closed session.
+#[unsafe(no_mangle)]
+pub extern "C" fn lodvarn_entries(alloc: Global, s: &mut Handle) -> usize
+    ensures value { result ≡ entries_of s.old.value }
+    ensures kept { s.new.value ≡ s.old.value }
+{
+    match Handle::take(replace(s, Handle::closed(alloc))) {
+        Some(session) => {
+            let len = session.record().len();
+            *s = Handle::of(session);
+            len
+        }
+        None => 0,
+    }
+}
+
+/// Whether the last action of the ring was a yank: TRUE or FALSE, or CLOSED.
+#[unsafe(no_mangle)]
+pub extern "C" fn lodvarn_last_was_yank(alloc: Global, s: &mut Handle) -> u32
+    ensures value { result ≡ last_was_yank_of s.old.value }
+    ensures kept { s.new.value ≡ s.old.value }
+{
+    match Handle::take(replace(s, Handle::closed(alloc))) {
+        Some(session) => {
+            let number = truth_number(session.ring().yank_size().is_some());
+            *s = Handle::of(session);
+            number
+        }
+        None => CLOSED,
+    }
+}
+
+// Writes where a line's text stands, if there is such a line.
+fn range_in(line: &LineBuffer, i: usize, start: &mut usize, end: &mut usize) -> u32
+    ensures { RangeIn (range_of_line line.now.text i) result (start.old, end.old) (start.new, end.new) }
+{
+    match line.line_range(i) {
+        Some(range) => {
+            *start = range.start;
+            *end = range.end;
+            DONE
+        }
+        None => NONE,
+    }
+}
+
+/// Where the text of line `line` stands, from 0, in bytes and without its newline: DONE, with both ends written. NONE
+/// where there is no such line, and CLOSED; then both stay as they were.
+#[unsafe(no_mangle)]
+pub extern "C" fn lodvarn_line_range(
+    alloc: Global,
+    s: &mut Handle,
+    line: usize,
+    start: &mut usize,
+    end: &mut usize,
+) -> u32
+    ensures value { RangeRead s.old.value line result (start.old, end.old) (start.new, end.new) }
+    ensures kept { s.new.value ≡ s.old.value }
+{
+    match Handle::take(replace(s, Handle::closed(alloc))) {
+        Some(session) => {
+            let number = range_in(session.line(), line, start, end);
+            *s = Handle::of(session);
+            number
+        }
+        None => CLOSED,
+    }
+}

@@ -1,0 +1,135 @@
+// The calls that need no session.
+ghost use Rattle.std.specs.Prelude.{◌≡◌, ℕ, List, length};
+ghost use Rattle.rl_ffi.specs.Buffers.{written};
+ghost use Rattle.rl_ffi.specs.Numbers.{mode_of};
+ghost use Rattle.rl_ffi.specs.Texts.{CellIn, CellTold, Printed, Told, WidthTold, first_cluster, last_cluster};
+
+use crate::buffers::write;
+use crate::cells::cell;
+use crate::numbers::{BAD_PLACE, DONE, NO_MEMORY, NO_SUCH_NUMBER, NOT_UTF8, mode_of};
+use rl_base::GraphemeClusterMode;
+use rl_session::run_script;
+use std::alloc::Global;
+use unicode_segmentation::UnicodeSegmentation;
+
+/// Runs a whole script in a session of its own, and copies what it prints, in bytes as much of it as there is room
+/// for; `len` is how long the whole is. Answers DONE, or NO_MEMORY, where that is what its first lines print.
+#[unsafe(no_mangle)]
+pub extern "C" fn lodvarn_script(
+    alloc: Global,
+    script: &[u8],
+    out: &mut [u8],
+    len: &mut usize,
+) -> u32
+    ensures { (printed : List ℕ) × Printed script.now result printed × (out.new ≡ written printed out.old) × (len.new ≡ length printed) }
+{
+    let mut reader = script;
+    let mut printed = Vec::new(alloc);
+    // A slice gives every byte, and a vector fails to take one only for want of memory.
+    let number = match run_script(alloc, &mut reader, &mut printed) {
+        Ok(()) => DONE,
+        Err(_) => NO_MEMORY,
+    };
+    write(printed.as_slice(), out);
+    *len = printed.len();
+    number
+}
+
+/// The columns that a text takes in a mode, at most 65535: DONE, with `columns` written. NO_SUCH_NUMBER or NOT_UTF8
+/// leaves it as it was.
+#[unsafe(no_mangle)]
+pub extern "C" fn lodvarn_width(text: &[u8], mode: u32, columns: &mut u16) -> u32
+    ensures { WidthTold (mode_of mode) text.now result columns.old columns.new }
+{
+    let Some(mode) = mode_of(mode) else {
+        return NO_SUCH_NUMBER;
+    };
+    match std::str::from_utf8(text) {
+        Ok(text) => {
+            *columns = mode.width(text);
+            DONE
+        }
+        Err(_) => NOT_UTF8,
+    }
+}
+
+/// How many bytes the first grapheme cluster of a text has, 0 where it is empty: DONE, with `len` written. NOT_UTF8
+/// leaves it as it was.
+#[unsafe(no_mangle)]
+pub extern "C" fn lodvarn_first_cluster(text: &[u8], len: &mut usize) -> u32
+    ensures { Told text.now (first_cluster text.now) result len.old len.new }
+{
+    match std::str::from_utf8(text) {
+        Ok(text) => {
+            *len = match text.graphemes(true).next() {
+                Some(cluster) => cluster.len(),
+                None => 0,
+            };
+            DONE
+        }
+        Err(_) => NOT_UTF8,
+    }
+}
+
+/// How many bytes the last grapheme cluster of a text has, 0 where it is empty: DONE, with `len` written. NOT_UTF8
+/// leaves it as it was.
+#[unsafe(no_mangle)]
+pub extern "C" fn lodvarn_last_cluster(text: &[u8], len: &mut usize) -> u32
+    ensures { Told text.now (last_cluster text.now) result len.old len.new }
+{
+    match std::str::from_utf8(text) {
+        Ok(text) => {
+            *len = match text.graphemes(true).next_back() {
+                Some(cluster) => cluster.len(),
+                None => 0,
+            };
+            DONE
+        }
+        Err(_) => NOT_UTF8,
+    }
+}
+
+fn cell_in(
+    text: &[u8],
+    place: usize,
+    prompt: u16,
+    columns: u16,
+    mode: GraphemeClusterMode,
+    row: &mut usize,
+    column: &mut usize,
+) -> u32
+    ensures { CellIn mode columns prompt text.now place result (row.old, column.old) (row.new, column.new) }
+{
+    let Ok(text) = std::str::from_utf8(text) else {
+        return NOT_UTF8;
+    };
+    if !text.is_char_boundary(place) {
+        return BAD_PLACE;
+    }
+    (*row, *column) = cell(mode, columns, prompt, &text[..place]);
+    DONE
+}
+
+/// The row and the column, from 0, of a byte place of a text that begins at column `prompt` of row 0 of a screen with
+/// `columns` columns: DONE, with both written. NO_SUCH_NUMBER (also where `columns` is 0), NOT_UTF8, and BAD_PLACE
+/// where the place is no boundary of a character, leave them as they were.
+#[unsafe(no_mangle)]
+pub extern "C" fn lodvarn_cell(
+    text: &[u8],
+    place: usize,
+    prompt: u16,
+    columns: u16,
+    mode: u32,
+    row: &mut usize,
+    column: &mut usize,
+) -> u32
+    ensures { CellTold (mode_of mode) columns prompt text.now place result (row.old, column.old) (row.new, column.new) }
+{
+    let Some(mode) = mode_of(mode) else {
+        return NO_SUCH_NUMBER;
+    };
+    if columns == 0 {
+        return NO_SUCH_NUMBER;
+    }
+    cell_in(text, place, prompt, columns, mode, row, column)
+}
