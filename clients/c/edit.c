@@ -1,0 +1,301 @@
+/* A line editor for a terminal over Lodvarn: the Emacs keys of GNU readline, UTF-8, several rows. Each accepted text
+ * is printed as "=> text"; C-d on an empty text ends it. */
+#define _DEFAULT_SOURCE
+#include "lodvarn.h"
+#include <poll.h>
+#include <stdio.h>
+#include <stdlib.h>
+#include <string.h>
+#include <sys/ioctl.h>
+#include <termios.h>
+#include <unistd.h>
+
+enum { LIMIT = 4096, RING = 60, WAIT = 200, ROOM = 2 * LIMIT };
+
+static const char prompt[] = "> ";
+static const uint16_t prompt_columns = 2;
+static lodvarn *s;
+static struct termios before;
+static int is_over;
+
+static void leave_raw(void) { tcsetattr(0, TCSADRAIN, &before); }
+
+static void enter_raw(void) {
+    struct termios raw = before;
+    raw.c_iflag &= ~(tcflag_t)(BRKINT | ICRNL | INPCK | ISTRIP | IXON);
+    raw.c_lflag &= ~(tcflag_t)(ECHO | ICANON | IEXTEN | ISIG);
+    raw.c_cc[VMIN] = 1;
+    raw.c_cc[VTIME] = 0;
+    tcsetattr(0, TCSADRAIN, &raw);
+}
+
+/* The text of the session, in a buffer that the next call uses again. */
+static const char *text(size_t *len) {
+    static char *bytes;
+    static size_t room;
+    *len = lodvarn_text(&s, bytes, room);
+    if (*len > room) {
+        room = 2 * *len;
+        free(bytes);
+        bytes = malloc(room);
+        if (!bytes) exit(1);
+        lodvarn_text(&s, bytes, room);
+    }
+    return bytes;
+}
+
+/* The screen. A frame is drawn over the one before, of which only the row of its cursor is known. */
+static size_t shown_row;
+
+/* The bytes of the first cluster; a character of ASCII before another one needs no look ahead. */
+static size_t cluster(const char *bytes, size_t len) {
+    size_t first = 1;
+    if (len > 1 && ((bytes[0] | bytes[1]) & 0x80)) lodvarn_first_cluster(bytes, len, &first);
+    return first;
+}
+
+/* Draws the text from the prompt on. Rows are begun, and columns are told, as Lodvarn lays them out, so that a
+ * terminal that measures a cluster otherwise is put right behind it. */
+static void draw(const char *bytes, size_t len, uint16_t columns) {
+    unsigned column = prompt_columns;
+    for (size_t k; len > 0; bytes += k, len -= k) {
+        uint16_t width = 0;
+        k = cluster(bytes, len);
+        if (*bytes == '\n') {
+            fputs("\r\n", stdout);
+            column = 0;
+            continue;
+        }
+        lodvarn_width(bytes, k, LODVARN_UNICODE, &width);
+        if (column + width > columns) {
+            fputs("\r\n", stdout);
+            column = 0;
+        }
+        fwrite(bytes, 1, k, stdout);
+        column += width;
+        if (k > 1 && column < columns) printf("\x1b[%uG", column + 1);
+    }
+    if (column >= columns) fputs("\r\n", stdout);
+}
+
+static uint16_t screen_columns(void) {
+    struct winsize size;
+    return ioctl(1, TIOCGWINSZ, &size) == 0 && size.ws_col ? size.ws_col : 80;
+}
+
+static void redraw(void) {
+    uint16_t columns = screen_columns();
+    size_t len, row = 0, column = 0, last_row = 0, last_column = 0;
+    const char *bytes = text(&len);
+    lodvarn_cell(bytes, len, lodvarn_pos(&s), prompt_columns, columns, LODVARN_UNICODE, &row, &column);
+    lodvarn_cell(bytes, len, len, prompt_columns, columns, LODVARN_UNICODE, &last_row, &last_column);
+    if (shown_row) printf("\x1b[%zuA", shown_row);
+    printf("\r\x1b[J%s", prompt);
+    draw(bytes, len, columns);
+    if (last_row > row) printf("\x1b[%zuA", last_row - row);
+    printf("\x1b[%zuG", column + 1);
+    fflush(stdout);
+    shown_row = row;
+}
+
+/* The functions of keys, each with a number of its own. */
+static void move(uint32_t movement) { lodvarn_move(&s, movement, 1, 0); }
+
+static void kill_to(uint32_t movement) { lodvarn_kill(&s, movement, 1, 0); }
+
+static void insert(uint32_t c) { lodvarn_insert(&s, c, 1); }
+
+static void erase(uint32_t ahead) {
+    char gone[ROOM];
+    size_t len;
+    if (ahead) lodvarn_delete(&s, 1, gone, sizeof gone, &len);
+    else lodvarn_backspace(&s, 1);
+}
+
+static void delete_or_end(uint32_t unused) {
+    (void)unused;
+    if (lodvarn_text(&s, NULL, 0) == 0) is_over = 1;
+    else erase(1);
+}
+
+static void yank(uint32_t older) {
+    if (older) lodvarn_yank_pop(&s);
+    else lodvarn_yank(&s, 1);
+}
+
+/* These are several changes each, which one undo takes back. */
+static void change_case(uint32_t action) {
+    size_t mark;
+    lodvarn_begin(&s, &mark);
+    lodvarn_edit_word(&s, action);
+    lodvarn_end(&s);
+}
+
+static void transpose(uint32_t words) {
+    size_t mark;
+    lodvarn_begin(&s, &mark);
+    if (words) lodvarn_transpose_words(&s, 1);
+    else lodvarn_transpose_chars(&s);
+    lodvarn_end(&s);
+}
+
+static void undo(uint32_t again) {
+    if (again) lodvarn_redo(&s);
+    else lodvarn_undo(&s, 1);
+}
+
+static void clear_screen(uint32_t unused) {
+    (void)unused;
+    fputs("\x1b[H\x1b[2J", stdout);
+    shown_row = 0;
+}
+
+static void begin_text(void) {
+    if (lodvarn_open(&s, "", 0, 0, LIMIT, RING, LODVARN_UNICODE) != LODVARN_DONE) exit(1);
+    shown_row = 0;
+}
+
+static void accept_text(uint32_t unused) {
+    size_t len;
+    (void)unused;
+    move(LODVARN_END_OF_BUFFER);
+    redraw();
+    const char *bytes = text(&len);
+    printf("\n=> %.*s\n", (int)len, bytes);
+    begin_text();
+}
+
+/* Keys, readline's name for what they do, and that. The last four names are of this editor. */
+static const struct key {
+    const char *bytes, *name;
+    void (*does)(uint32_t);
+    uint32_t number;
+} keys[] = {
+    {"\x01", "beginning-of-line", move, LODVARN_BEGINNING_OF_LINE},
+    {"\x1b[H", "beginning-of-line", move, LODVARN_BEGINNING_OF_LINE},
+    {"\x1b[1~", "beginning-of-line", move, LODVARN_BEGINNING_OF_LINE},
+    {"\x02", "backward-char", move, LODVARN_BACKWARD_CHAR},
+    {"\x1b[D", "backward-char", move, LODVARN_BACKWARD_CHAR},
+    {"\x04", "delete-char", delete_or_end, 0},
+    {"\x1b[3~", "delete-char", erase, 1},
+    {"\x05", "end-of-line", move, LODVARN_END_OF_LINE},
+    {"\x1b[F", "end-of-line", move, LODVARN_END_OF_LINE},
+    {"\x1b[4~", "end-of-line", move, LODVARN_END_OF_LINE},
+    {"\x06", "forward-char", move, LODVARN_FORWARD_CHAR},
+    {"\x1b[C", "forward-char", move, LODVARN_FORWARD_CHAR},
+    {"\x08", "backward-delete-char", erase, 0},
+    {"\x7f", "backward-delete-char", erase, 0},
+    {"\n", "accept-line", accept_text, 0},
+    {"\r", "accept-line", accept_text, 0},
+    {"\x0b", "kill-line", kill_to, LODVARN_END_OF_LINE},
+    {"\x0c", "clear-screen", clear_screen, 0},
+    {"\x0e", "next-screen-line", move, LODVARN_LINE_DOWN},
+    {"\x1b[B", "next-screen-line", move, LODVARN_LINE_DOWN},
+    {"\x10", "previous-screen-line", move, LODVARN_LINE_UP},
+    {"\x1b[A", "previous-screen-line", move, LODVARN_LINE_UP},
+    {"\x14", "transpose-chars", transpose, 0},
+    {"\x15", "unix-line-discard", kill_to, LODVARN_BEGINNING_OF_LINE},
+    {"\x17", "unix-word-rubout", kill_to, LODVARN_BACKWARD_BIG_WORD},
+    {"\x19", "yank", yank, 0},
+    {"\x1f", "undo", undo, 0},
+    {"\x18\x15", "undo", undo, 0},
+    {"\x1b" "b", "backward-word", move, LODVARN_BACKWARD_EMACS_WORD},
+    {"\x1b[1;5D", "backward-word", move, LODVARN_BACKWARD_EMACS_WORD},
+    {"\x1b" "f", "forward-word", move, LODVARN_FORWARD_EMACS_WORD_AFTER_END},
+    {"\x1b[1;5C", "forward-word", move, LODVARN_FORWARD_EMACS_WORD_AFTER_END},
+    {"\x1b" "d", "kill-word", kill_to, LODVARN_FORWARD_EMACS_WORD_AFTER_END},
+    {"\x1b\x7f", "backward-kill-word", kill_to, LODVARN_BACKWARD_EMACS_WORD},
+    {"\x1b\x08", "backward-kill-word", kill_to, LODVARN_BACKWARD_EMACS_WORD},
+    {"\x18\x7f", "backward-kill-line", kill_to, LODVARN_BEGINNING_OF_LINE},
+    {"\x1b" "c", "capitalize-word", change_case, LODVARN_CAPITALIZE},
+    {"\x1b" "l", "downcase-word", change_case, LODVARN_LOWERCASE},
+    {"\x1b" "u", "upcase-word", change_case, LODVARN_UPPERCASE},
+    {"\x1b" "t", "transpose-words", transpose, 1},
+    {"\x1b" "y", "yank-pop", yank, 1},
+    {"\x1b" "_", "redo", undo, 1},
+    {"\x1b" "<", "beginning-of-text", move, LODVARN_BEGINNING_OF_BUFFER},
+    {"\x1b" ">", "end-of-text", move, LODVARN_END_OF_BUFFER},
+    {"\x1b\r", "insert-newline", insert, '\n'},
+    {"\x1b\n", "insert-newline", insert, '\n'},
+};
+
+/* The key of exactly these bytes, or one that begins with them. */
+static const struct key *key_of(const char *bytes, size_t len, int whole) {
+    for (size_t i = 0; i < sizeof keys / sizeof *keys; i++)
+        if (!strncmp(keys[i].bytes, bytes, len) && whole == !keys[i].bytes[len]) return &keys[i];
+    return NULL;
+}
+
+/* The next byte, -1 at the end of input, or -2 where none comes in time; one may have been put back. */
+static int put_back = -1;
+
+static int next_byte(int in_time) {
+    unsigned char byte;
+    struct pollfd input = {0, POLLIN, 0};
+    int last = put_back;
+    put_back = -1;
+    if (last >= 0) return last;
+    if (in_time && poll(&input, 1, WAIT) <= 0) return -2;
+    return read(0, &byte, 1) == 1 ? byte : -1;
+}
+
+/* Inserts the character that begins with this byte; bytes that are no character are left out. */
+static void self_insert(int byte) {
+    static const uint32_t least[] = {0, 0x80, 0x800, 0x10000};
+    int more = byte < 0x80 ? 0 : byte < 0xc0 ? -1 : byte < 0xe0 ? 1 : byte < 0xf0 ? 2 : byte < 0xf8 ? 3 : -1;
+    uint32_t c = more > 0 ? (uint32_t)byte & (0x3fu >> more) : (uint32_t)byte;
+    for (int i = 0; i < more; i++) {
+        int next = next_byte(1);
+        if ((next & ~0x3f) != 0x80) {
+            put_back = next;
+            return;
+        }
+        c = c << 6 | ((uint32_t)next & 0x3f);
+    }
+    int is_control = c < 0x20 || (0x7f <= c && c < 0xa0);
+    if (more >= 0 && c >= least[more] && !is_control) insert(c);
+}
+
+/* Passes over the rest of a key that has no function, as F5. An escape that came in place of it begins another. */
+static void pass_over(const char *bytes, size_t len) {
+    int byte = bytes[len - 1], ends = len > 2;
+    if (len > 1 && byte == 0x1b) put_back = byte;
+    if (len < 2 || byte == 0x1b || (bytes[1] != '[' && bytes[1] != 'O')) return;
+    for (; byte >= 0 && !(ends && 0x40 <= byte && byte <= 0x7e); ends = 1) byte = next_byte(1);
+}
+
+/* Reads a key and does what it says. A key that is broken off is passed over. Gives 0 at the end of input. */
+static int take_key(void) {
+    char bytes[8];
+    size_t len = 0;
+    int byte = next_byte(0);
+    if (byte >= 0x20 && byte != 0x7f) {
+        self_insert(byte);
+        return 1;
+    }
+    while (byte >= 0) {
+        bytes[len++] = (char)byte;
+        const struct key *key = key_of(bytes, len, 1);
+        if (key) key->does(key->number);
+        else if (len == sizeof bytes || !key_of(bytes, len, 0)) pass_over(bytes, len);
+        else {
+            byte = next_byte(1);
+            continue;
+        }
+        break;
+    }
+    return byte != -1 && !is_over;
+}
+
+int main(void) {
+    if (tcgetattr(0, &before)) {
+        perror("edit");
+        return 1;
+    }
+    enter_raw();
+    atexit(leave_raw);
+    for (begin_text(), redraw(); take_key(); redraw()) {}
+    lodvarn_close(&s);
+    fputs("\r\n", stdout);
+    return 0;
+}

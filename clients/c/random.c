@@ -1,0 +1,161 @@
+/* random SEED LINES SCRIPT ANSWERS: makes a script of random lines, runs each by the typed calls, and writes the
+ * script, and what the calls answered in the form in which a script prints it. */
+#include "typed.h"
+#include <stdarg.h>
+#include <stdlib.h>
+#include <string.h>
+
+static uint64_t chance;
+
+/* A number below n (xorshift). */
+static unsigned below(unsigned n) {
+    chance ^= chance << 13;
+    chance ^= chance >> 7;
+    chance ^= chance << 17;
+    return (unsigned)(chance >> 33) % n;
+}
+
+#define ONE_OF(table) ((table)[below(sizeof(table) / sizeof *(table))])
+
+static char line[1024];
+
+static void add(const char *format, ...) {
+    size_t len = strlen(line);
+    va_list given;
+    va_start(given, format);
+    vsnprintf(line + len, sizeof line - len, format, given);
+    va_end(given);
+}
+
+static unsigned count(void) {
+    static const unsigned counts[] = {0, 1, 1, 1, 1, 2, 2, 3, 5, 65535};
+    return ONE_OF(counts);
+}
+
+/* Mostly a place of the text, now and then one past its end. */
+static unsigned place(struct typed *t) { return below((unsigned)lodvarn_text(&t->s, NULL, 0) + 2); }
+
+static void add_char(void) {
+    static const char *const chars[] = {
+        "a", "b", "c", "Z", "7", "_", ".", "/", "\\s", "\\s", "\\n", "\\t", "\\r", "\\\\", "é", "ß", "δ", "漢", "ǆ",
+        "\\u{301}", "\\u{200d}", "\\u{1f469}", "\\u{1f680}", "\\u{fe0f}", "\\u{1f1e9}", "\\u{1f1ea}", "\\u{3000}",
+        "\\u{1100}", "\\u{1161}", "\\u{0}", "\\u{10ffff}",
+    };
+    add("%s", ONE_OF(chars));
+}
+
+static void add_text(void) {
+    static const char *const texts[] = {"word", "one two", "a\\nb", "\\s\\sx", "foo_bar", "ÉTÉ", "\\u{1f44b}\\u{1f3ff}"};
+    for (unsigned i = below(4); i > 0; i--) {
+        if (below(2)) add_char();
+        else add("%s", ONE_OF(texts));
+    }
+}
+
+static const char *const kinds[] = {"big", "emacs", "vi"};
+static const char *const ats[] = {"start", "before", "after"};
+static const char *const searches[] = {"f", "t", "F", "T"};
+
+static void add_movement(void) {
+    static const char *const plain[] = {"line", "home", "eol", "first", "buf", "bob", "eob"};
+    static const char *const counted[] = {"bchar", "fchar", "up", "down"};
+    switch (below(8)) {
+    case 0: case 1: add(" %s", ONE_OF(plain)); break;
+    case 2: case 3: add(" %s %u", ONE_OF(counted), count()); break;
+    case 4: add(" bword %u %s", count(), ONE_OF(kinds)); break;
+    case 5: case 6: add(" fword %u %s ", count(), ONE_OF(ats)); add("%s", ONE_OF(kinds)); break;
+    default: add(" find %u %s ", count(), ONE_OF(searches)); add_char();
+    }
+}
+
+/* A line that begins anew. */
+static void add_start(void) {
+    static const unsigned limits[] = {0, 3, 20, 100, 300}, rings[] = {0, 1, 2, 5};
+    static const char *const modes[] = {"unicode", "wcwidth", "nozwj"};
+    switch (below(4)) {
+    case 0: add("limit %u", ONE_OF(limits)); break;
+    case 1: add("ring %u", ONE_OF(rings)); break;
+    case 2: add("mode %s", ONE_OF(modes)); break;
+    default: add("text "); add_text();
+    }
+}
+
+/* A line that puts something in, or in the place of something. */
+static void add_insertion(struct typed *t) {
+    unsigned from = place(t);
+    switch (below(8)) {
+    case 0: add("paste %u ", count()); add_text(); break;
+    case 1: add("str %u ", from); add_text(); break;
+    case 2: add("rep %u %u ", from, from + below(4)); add_text(); break;
+    case 3:
+        if (below(8)) { add("indent %u", below(4)); add_movement(); }
+        else { add("update %u ", below(6)); add_text(); }
+        break;
+    default: add("ins %u ", count()); add_char();
+    }
+}
+
+/* A line that takes something out. */
+static void add_deletion(struct typed *t) {
+    static const char *const whole[] = {"killline", "killline", "discline", "discline", "killbuf", "discbuf"};
+    unsigned from = place(t);
+    switch (below(10)) {
+    case 0: add("range %u %u", from, from + below(4)); break;
+    case 1: add("del %u", count()); break;
+    case 2: add("back %u", count()); break;
+    case 3: add("%s", ONE_OF(whole)); break;
+    case 4: add("prevword %u %s", count(), ONE_OF(kinds)); break;
+    case 5: add("nextword %u %s ", count(), ONE_OF(ats)); add("%s", ONE_OF(kinds)); break;
+    case 6: add("to %u %s ", count(), ONE_OF(searches)); add_char(); break;
+    case 7: add("dedent %u", below(4)); add_movement(); break;
+    default: add("kill"); add_movement();
+    }
+}
+
+/* Any other line. */
+static void add_other(struct typed *t) {
+    static const char *const plain[] = {"tchars", "begin", "end", "redo", "redo", "where", "yankpop", "yankpop"};
+    static const char *const cases[] = {"cap", "low", "up"};
+    switch (below(9)) {
+    case 0: add("pos %u", place(t)); break;
+    case 1: add("move"); add_movement(); break;
+    case 2: add("copy"); add_movement(); break;
+    case 3: add("case %s", ONE_OF(cases)); break;
+    case 4: add("twords %u", count()); break;
+    case 5: add("yank %u", below(3)); break;
+    case 6: add("undo %u", count() % 9); break;
+    case 7: add("trunc %u", below((unsigned)lodvarn_entries(&t->s) + 2)); break;
+    default: add("%s", ONE_OF(plain));
+    }
+}
+
+/* A line for the session as it stands: one that grew long is cut back. */
+static void make_line(struct typed *t) {
+    line[0] = 0;
+    if (lodvarn_text(&t->s, NULL, 0) > 400) { add("text "); add_text(); return; }
+    unsigned which = below(100);
+    if (which < 2) add_start();
+    else if (which < 38) add_insertion(t);
+    else if (which < 62) add_deletion(t);
+    else add_other(t);
+}
+
+int main(int argc, char **argv) {
+    if (argc != 5) { fputs("random SEED LINES SCRIPT ANSWERS\n", stderr); return 2; }
+    chance = strtoull(argv[1], NULL, 10) * 2654435761u + 88172645463325252u;
+    long lines = strtol(argv[2], NULL, 10), disagree = 0;
+    FILE *script = fopen(argv[3], "w"), *answers = fopen(argv[4], "w");
+    if (!script || !answers) { perror("fopen"); return 2; }
+    struct typed t;
+    typed_begin(&t);
+    for (long i = 0; i < lines; i++) {
+        make_line(&t);
+        fprintf(script, "%s\n", line);
+        typed_line(&t, line, answers);
+        if (typed_reads_agree(&t)) continue;
+        printf("the reads disagree with the text behind line %ld: %s\n", i + 1, line);
+        disagree++;
+    }
+    lodvarn_close(&t.s);
+    return fclose(script) || fclose(answers) || disagree;
+}

@@ -1,0 +1,482 @@
+/* Worked scripts and bad input, by the typed calls. Its last line is 'N passed, M failed'. */
+#define _POSIX_C_SOURCE 200809L
+#include "lodvarn.h"
+#include "rows.h"
+#include "typed.h"
+#include <stdlib.h>
+#include <string.h>
+
+#define FAMILY "\U0001F468\u200D\U0001F469\u200D\U0001F467"
+#define FLAGS "\U0001F1E9\U0001F1EA\U0001F1EB\U0001F1F7"
+
+static int passed, failed;
+
+static void see(const char *what, int holds) {
+    if (holds) passed++;
+    else {
+        failed++;
+        printf("FAILED: %s\n", what);
+    }
+}
+
+/* What the script prints by typed calls; to be freed. */
+static char *printed_by(const char *script, int *reads) {
+    struct typed t;
+    char *printed = NULL;
+    size_t len = 0;
+    FILE *out = open_memstream(&printed, &len);
+    if (!out) exit(2);
+    typed_begin(&t);
+    typed_script(&t, script, out);
+    fclose(out);
+    *reads = typed_reads_agree(&t);
+    lodvarn_close(&t.s);
+    return printed;
+}
+
+/* What the script prints by lodvarn_script; to be freed. */
+static char *printed_at_once(const char *script) {
+    size_t len = 0;
+    lodvarn_script(script, strlen(script), NULL, 0, &len);
+    char *printed = malloc(len + 1);
+    if (!printed || lodvarn_script(script, strlen(script), printed, len, &len) != LODVARN_DONE) exit(2);
+    printed[len] = 0;
+    return printed;
+}
+
+static void prints(const char *what, const char *script, const char *wanted) {
+    int reads;
+    char *typed = printed_by(script, &reads), *at_once = printed_at_once(script);
+    see(what, !strcmp(typed, wanted) && !strcmp(at_once, wanted) && reads);
+    if (strcmp(typed, wanted)) printf("  wanted\n%s  but got\n%s", wanted, typed);
+    free(typed);
+    free(at_once);
+}
+
+static void scripts_print(void) {
+    for (size_t i = 0; i < sizeof rows / sizeof *rows; i++) prints(rows[i].what, rows[i].script, rows[i].wanted);
+}
+
+static void lines_print(void) {
+    for (size_t i = 0; i < sizeof lines / sizeof *lines; i++) {
+        const struct lines *row = &lines[i];
+        char script[1024], wanted[1024], what[1200];
+        snprintf(script, sizeof script, "text %s\npos %zu\n%s\n", row->text, row->pos, row->lines);
+        snprintf(what, sizeof what, "%s on \"%s\" at %zu", row->lines, row->text, row->pos);
+        char *start = printed_at_once((snprintf(wanted, sizeof wanted, "text %s\n", row->text), wanted));
+        snprintf(wanted, sizeof wanted, "%sok %zu %s\n%s\n", start, row->pos, row->text, row->wanted);
+        free(start);
+        prints(what, script, wanted);
+    }
+}
+
+/* Whether the session has that text and cursor. */
+static int stands(lodvarn **s, const char *text, size_t pos) {
+    char out[256];
+    size_t len = lodvarn_text(s, out, sizeof out);
+    return len == strlen(text) && !memcmp(out, text, len) && lodvarn_pos(s) == pos;
+}
+
+static lodvarn *opened(const char *text, size_t pos, size_t limit) {
+    lodvarn *s = NULL;
+    if (lodvarn_open(&s, text, strlen(text), pos, limit, 60, LODVARN_UNICODE) != LODVARN_DONE) exit(2);
+    return s;
+}
+
+static void a_case_change_is_undone_at_once(void) {
+    lodvarn *s = opened("one two", 0, 64);
+    size_t mark = 99;
+    see("a group opens in an empty record", lodvarn_begin(&s, &mark) == LODVARN_MARK && mark == 0);
+    see("a word is raised", lodvarn_edit_word(&s, LODVARN_UPPERCASE) == LODVARN_TRUE && stands(&s, "ONE two", 3));
+    see("the group closes", lodvarn_end(&s) == LODVARN_TRUE && lodvarn_entries(&s) == 4);
+    see("one undo takes it back", lodvarn_undo(&s, 1) == LODVARN_TRUE && stands(&s, "one two", 0));
+    see("one redo makes it again", lodvarn_redo(&s) == LODVARN_TRUE && stands(&s, "ONE two", 3));
+    see("another begin names the entries", lodvarn_begin(&s, &mark) == LODVARN_MARK && mark == 4);
+    see("an empty group leaves none", lodvarn_end(&s) == LODVARN_FALSE && lodvarn_entries(&s) == 4);
+    lodvarn_close(&s);
+}
+
+static void reads_read(void) {
+    lodvarn *s = opened("ab\n\ncd", 3, 2);
+    size_t start = 9, end = 9;
+    see("the text's length is the least limit", lodvarn_limit(&s) == 6);
+    see("the cursor's line", lodvarn_line_number(&s) == 1 && lodvarn_line_count(&s) == 3);
+    see("the first line", lodvarn_line_range(&s, 0, &start, &end) == LODVARN_DONE && start == 0 && end == 2);
+    see("an empty line", lodvarn_line_range(&s, 1, &start, &end) == LODVARN_DONE && start == 3 && end == 3);
+    see("the last line", lodvarn_line_range(&s, 2, &start, &end) == LODVARN_DONE && start == 4 && end == 6);
+    see("no line", lodvarn_line_range(&s, 3, &start, &end) == LODVARN_NONE && start == 4 && end == 6);
+    see("no such line", lodvarn_line_range(&s, SIZE_MAX, &start, &end) == LODVARN_NONE);
+    see("no yank was done", lodvarn_last_was_yank(&s) == LODVARN_FALSE && lodvarn_entries(&s) == 0);
+    lodvarn_kill(&s, LODVARN_BEGINNING_OF_BUFFER, 1, 0);
+    lodvarn_yank(&s, 1);
+    see("a yank was done", lodvarn_last_was_yank(&s) == LODVARN_TRUE && lodvarn_entries(&s) == 2);
+    lodvarn_set_pos(&s, 0);
+    see("something else was done", lodvarn_last_was_yank(&s) == LODVARN_FALSE);
+    lodvarn_close(&s);
+}
+
+static void reads_part_no_kills(void) {
+    lodvarn *s = opened("one two", 7, 64);
+    char out[8];
+    size_t n;
+    lodvarn_kill(&s, LODVARN_BACKWARD_EMACS_WORD, 1, 0);
+    n = lodvarn_text(&s, out, sizeof out) + lodvarn_pos(&s) + lodvarn_line_number(&s) + lodvarn_line_count(&s)
+        + lodvarn_limit(&s) + lodvarn_entries(&s) + lodvarn_last_was_yank(&s);
+    see("the reads answer", n == 4 + 4 + 0 + 1 + 64 + 1 + LODVARN_FALSE);
+    lodvarn_kill(&s, LODVARN_BACKWARD_EMACS_WORD, 1, 0);
+    see("two kills are one text", lodvarn_yank(&s, 1) == LODVARN_TRUE && stands(&s, "one two", 7));
+    lodvarn_close(&s);
+}
+
+static void sessions_are_apart(void) {
+    lodvarn *a = opened("a", 1, 64), *b = opened("b", 1, 64);
+    lodvarn_insert(&a, 'x', 1);
+    lodvarn_kill(&b, LODVARN_WHOLE_BUFFER, 1, 0);
+    see("two sessions do not meet", stands(&a, "ax", 2) && stands(&b, "", 0));
+    see("nor do their rings", lodvarn_yank(&a, 1) == LODVARN_NONE && lodvarn_yank(&b, 1) == LODVARN_TRUE);
+    lodvarn_close(&b);
+    see("one is closed", b == NULL && stands(&a, "ax", 2));
+    see("one opens in the place of another",
+        lodvarn_open(&a, "new", 3, 0, 64, 60, LODVARN_UNICODE) == LODVARN_DONE && stands(&a, "new", 0));
+    lodvarn_close(&a);
+    lodvarn_close(&a);
+    see("a closed one is closed again", a == NULL);
+}
+
+static void widths_are_measured(void) {
+    static const struct { const char *text; uint16_t in[3]; } table[] = {
+        {"", {0, 0, 0}},
+        {"ab", {2, 2, 2}},
+        {"漢a", {3, 3, 3}},
+        {"\U0001F44B\U0001F3FF", {2, 4, 2}},
+        {"\U0001F469\u200D\U0001F680", {2, 4, 4}},
+        {"\u2764\uFE0F", {2, 1, 2}},
+    };
+    for (size_t i = 0; i < sizeof table / sizeof *table; i++)
+        for (uint32_t mode = 0; mode < 3; mode++) {
+            uint16_t columns = 99;
+            uint32_t answer = lodvarn_width(table[i].text, strlen(table[i].text), mode, &columns);
+            see("a width", answer == LODVARN_DONE && columns == table[i].in[mode]);
+        }
+    static char letters[70000];
+    uint16_t columns = 0;
+    memset(letters, 'a', sizeof letters);
+    lodvarn_width(letters, sizeof letters, LODVARN_UNICODE, &columns);
+    see("a width is cut", columns == 65535);
+}
+
+static void clusters_are_found(void) {
+    static const struct { const char *text; size_t first, last; } table[] = {
+        {"", 0, 0},     {"ab", 1, 1},    {"e\u0301x", 3, 1}, {"xe\u0301", 1, 3},
+        {"\r\n", 2, 2}, {"\n\r", 1, 1}, {FAMILY "x", 18, 1}, {"x" FAMILY, 1, 18}, {FLAGS, 8, 8},
+    };
+    for (size_t i = 0; i < sizeof table / sizeof *table; i++) {
+        size_t first = 99, last = 99, len = strlen(table[i].text);
+        see("a first cluster", lodvarn_first_cluster(table[i].text, len, &first) == LODVARN_DONE && first == table[i].first);
+        see("a last cluster", lodvarn_last_cluster(table[i].text, len, &last) == LODVARN_DONE && last == table[i].last);
+    }
+}
+
+static void cells_are_placed(void) {
+    static const struct {
+        const char *what, *text;
+        size_t place;
+        uint16_t prompt, columns;
+        uint32_t mode;
+        size_t row, column;
+    } table[] = {
+        {"nothing, without a prompt", "", 0, 0, 10, 0, 0, 0},
+        {"nothing, behind a prompt", "", 0, 2, 10, 0, 0, 2},
+        {"two letters behind a prompt", "ab", 2, 2, 10, 0, 0, 4},
+        {"a newline leads below, and to the left", "ab\ncd", 3, 2, 10, 0, 1, 0},
+        {"and letters go on there", "ab\ncd", 5, 2, 10, 0, 1, 2},
+        {"newlines alone", "\n\n", 2, 5, 10, 0, 2, 0},
+        {"before the right edge", "abcd", 3, 0, 4, 0, 0, 3},
+        {"the right edge is the next row", "abcd", 4, 0, 4, 0, 1, 0},
+        {"and the next letter stands there", "abcde", 5, 0, 4, 0, 1, 1},
+        {"a prompt counts for its row alone", "abcdef", 6, 2, 4, 0, 2, 0},
+        {"a newline at the edge makes one row", "abcd\ne", 5, 0, 4, 0, 1, 0},
+        {"and the letter behind it stands on that", "abcd\ne", 6, 0, 4, 0, 1, 1},
+        {"a wide letter that fits to the edge", "ab漢", 5, 0, 4, 0, 1, 0},
+        {"before a wide letter that does not fit", "abc漢", 3, 0, 4, 0, 0, 3},
+        {"a wide letter that does not fit is whole below", "abc漢", 6, 0, 4, 0, 1, 2},
+        {"a family is one cluster", FAMILY "x", 18, 0, 10, LODVARN_UNICODE, 0, 2},
+        {"or three characters", FAMILY "x", 18, 0, 10, LODVARN_WC_WIDTH, 0, 6},
+        {"or three parts", FAMILY "x", 18, 0, 10, LODVARN_NO_ZWJ, 0, 6},
+        {"a mark takes no column", "e\u0301x", 3, 0, 10, 0, 0, 1},
+        {"inside a cluster", "e\u0301x", 1, 0, 10, 0, 0, 1},
+        {"a prompt up to the edge", "", 0, 4, 4, 0, 1, 0},
+        {"a letter that is wider than the screen", "漢", 3, 0, 1, 0, 2, 0},
+    };
+    for (size_t i = 0; i < sizeof table / sizeof *table; i++) {
+        size_t row = 99, column = 99;
+        uint32_t answer = lodvarn_cell(table[i].text, strlen(table[i].text), table[i].place, table[i].prompt,
+                                       table[i].columns, table[i].mode, &row, &column);
+        see(table[i].what, answer == LODVARN_DONE && row == table[i].row && column == table[i].column);
+        if (row != table[i].row || column != table[i].column) printf("  got %zu, %zu\n", row, column);
+    }
+}
+
+/* Bad input. The session, and what the calls write to. */
+static lodvarn *s;
+static char out[8];
+static size_t number, other;
+static uint16_t columns;
+
+/* All that a refused call leaves, but for what the ring did last. */
+struct state {
+    char text[64], out[8];
+    size_t len, pos, entries, limit, number, other;
+    uint16_t columns;
+};
+
+static struct state state(void) {
+    struct state now;
+    memset(&now, 0, sizeof now);
+    now.len = lodvarn_text(&s, now.text, sizeof now.text);
+    memcpy(now.out, out, sizeof out);
+    now.pos = lodvarn_pos(&s);
+    now.entries = lodvarn_entries(&s);
+    now.limit = lodvarn_limit(&s);
+    now.number = number;
+    now.other = other;
+    now.columns = columns;
+    return now;
+}
+
+static int same(const struct state *a, const struct state *b) {
+    return !memcmp(a->text, b->text, sizeof a->text) && !memcmp(a->out, b->out, sizeof a->out) && a->len == b->len
+        && a->pos == b->pos && a->entries == b->entries && a->limit == b->limit && a->number == b->number
+        && a->other == b->other && a->columns == b->columns;
+}
+
+/* The call answers that, and leaves session and numbers; an error that is no command's own leaves also that a yank
+ * was done last. */
+#define LEAVES(wanted, call)                                                                          \
+    do {                                                                                              \
+        struct state before = state();                                                                \
+        uint32_t yanked = lodvarn_last_was_yank(&s), answer = (call);                                 \
+        struct state after = state();                                                                 \
+        int kept = (wanted) < LODVARN_CLOSED || lodvarn_last_was_yank(&s) == yanked;                  \
+        see(#call " answers " #wanted " and leaves all", answer == (wanted) && same(&before, &after) && kept); \
+    } while (0)
+
+/* "aé\nb" with "é\nb" yanked last, an entry for the kill and one for the yank. */
+static void begin_bad_input(void) {
+    memset(out, '#', sizeof out);
+    number = other = 77;
+    columns = 77;
+    lodvarn_close(&s);
+    s = opened("aé\nb", 1, 64);
+    lodvarn_kill(&s, LODVARN_END_OF_BUFFER, 1, 0);
+    lodvarn_yank(&s, 1);
+    see("a yank was done last", lodvarn_last_was_yank(&s) == LODVARN_TRUE && lodvarn_entries(&s) == 2);
+}
+
+static void nothing_is_open(void) {
+    lodvarn_close(&s);
+    LEAVES(LODVARN_CLOSED, lodvarn_set_pos(&s, 0));
+    LEAVES(LODVARN_CLOSED, lodvarn_move(&s, LODVARN_END_OF_LINE, 1, 0));
+    LEAVES(LODVARN_CLOSED, lodvarn_insert(&s, 'a', 1));
+    LEAVES(LODVARN_CLOSED, lodvarn_paste(&s, "a", 1, 1));
+    LEAVES(LODVARN_CLOSED, lodvarn_yank(&s, 1));
+    LEAVES(LODVARN_CLOSED, lodvarn_yank_pop(&s));
+    LEAVES(LODVARN_CLOSED, lodvarn_update(&s, "a", 1, 0));
+    LEAVES(LODVARN_CLOSED, lodvarn_insert_str(&s, 0, "a", 1));
+    LEAVES(LODVARN_CLOSED, lodvarn_replace(&s, 0, 0, "a", 1));
+    LEAVES(LODVARN_CLOSED, lodvarn_delete_range(&s, 0, 0));
+    LEAVES(LODVARN_CLOSED, lodvarn_delete(&s, 1, out, sizeof out, &number));
+    LEAVES(LODVARN_CLOSED, lodvarn_backspace(&s, 1));
+    LEAVES(LODVARN_CLOSED, lodvarn_kill_line(&s));
+    LEAVES(LODVARN_CLOSED, lodvarn_kill_buffer(&s));
+    LEAVES(LODVARN_CLOSED, lodvarn_discard_line(&s));
+    LEAVES(LODVARN_CLOSED, lodvarn_discard_buffer(&s));
+    LEAVES(LODVARN_CLOSED, lodvarn_delete_prev_word(&s, LODVARN_EMACS, 1));
+    LEAVES(LODVARN_CLOSED, lodvarn_delete_word(&s, LODVARN_START, LODVARN_EMACS, 1));
+    LEAVES(LODVARN_CLOSED, lodvarn_delete_to(&s, LODVARN_FORWARD, 'a', 1));
+    LEAVES(LODVARN_CLOSED, lodvarn_transpose_chars(&s));
+    LEAVES(LODVARN_CLOSED, lodvarn_transpose_words(&s, 1));
+    LEAVES(LODVARN_CLOSED, lodvarn_edit_word(&s, LODVARN_CAPITALIZE));
+    LEAVES(LODVARN_CLOSED, lodvarn_kill(&s, LODVARN_END_OF_LINE, 1, 0));
+    LEAVES(LODVARN_CLOSED, lodvarn_copy(&s, LODVARN_END_OF_LINE, 1, 0, out, sizeof out, &number));
+    LEAVES(LODVARN_CLOSED, lodvarn_indent(&s, LODVARN_WHOLE_LINE, 1, 0, 2, LODVARN_INDENT));
+    LEAVES(LODVARN_CLOSED, lodvarn_begin(&s, &number));
+    LEAVES(LODVARN_CLOSED, lodvarn_end(&s));
+    LEAVES(LODVARN_CLOSED, lodvarn_undo(&s, 1));
+    LEAVES(LODVARN_CLOSED, lodvarn_redo(&s));
+    LEAVES(LODVARN_CLOSED, lodvarn_truncate(&s, 0));
+    LEAVES(LODVARN_CLOSED, lodvarn_line_place(&s, &number, &columns));
+    LEAVES(LODVARN_CLOSED, lodvarn_line_range(&s, 0, &number, &other));
+    LEAVES(LODVARN_CLOSED, lodvarn_last_was_yank(&s));
+    see("the reads of a closed session are 0", !lodvarn_text(&s, out, sizeof out) && !lodvarn_pos(&s)
+        && !lodvarn_line_number(&s) && !lodvarn_line_count(&s) && !lodvarn_limit(&s) && !lodvarn_entries(&s));
+    see("it stays closed", s == NULL && out[0] == '#');
+}
+
+static void texts_of_no_bytes(void) {
+    begin_bad_input();
+    LEAVES(LODVARN_NONE, lodvarn_paste(&s, NULL, 0, 1));
+    LEAVES(LODVARN_NONE, lodvarn_paste(&s, "a", 0, 1));
+    LEAVES(LODVARN_FALSE, lodvarn_insert_str(&s, 0, NULL, 0));
+    LEAVES(LODVARN_NONE, lodvarn_delete(&s, 0, NULL, 0, &number));
+    LEAVES(LODVARN_NONE, lodvarn_copy(&s, LODVARN_FORWARD_CHAR, 0, 0, NULL, 0, &number));
+    LEAVES(LODVARN_TRUE, lodvarn_insert(&s, 'a', 0));
+    LEAVES(LODVARN_FALSE, lodvarn_backspace(&s, 0));
+    LEAVES(LODVARN_DONE, lodvarn_delete_range(&s, 5, 5));
+    see("the length is asked for with no buffer", lodvarn_text(&s, NULL, 0) == 5);
+    number = columns = 77;
+    see("no text has no width", lodvarn_width(NULL, 0, LODVARN_UNICODE, &columns) == LODVARN_DONE && columns == 0);
+    see("nor a first cluster", lodvarn_first_cluster(NULL, 0, &number) == LODVARN_DONE && number == 0);
+    number = 77;
+    see("nor a last one", lodvarn_last_cluster(NULL, 0, &number) == LODVARN_DONE && number == 0);
+    number = 77;
+    see("no script prints nothing", lodvarn_script(NULL, 0, NULL, 0, &number) == LODVARN_DONE && number == 0);
+    see("no text stands at the prompt",
+        lodvarn_cell(NULL, 0, 0, 3, 10, LODVARN_UNICODE, &number, &other) == LODVARN_DONE && number == 0 && other == 3);
+    see("a session opens on no text",
+        lodvarn_open(&s, NULL, 0, 0, 0, 0, LODVARN_UNICODE) == LODVARN_DONE && stands(&s, "", 0) && !lodvarn_limit(&s));
+    see("its text may not grow", lodvarn_insert(&s, 'a', 1) == LODVARN_NONE);
+}
+
+static void texts_that_are_no_utf8(void) {
+    static const char *const table[] = {
+        "\xff", "\x80", "\xc3", "a\xc3", "\xc0\x80", "\xed\xa0\x80", "\xf4\x90\x80\x80", "\xe2\x82", "\xf0\x9f\x91",
+    };
+    begin_bad_input();
+    for (size_t i = 0; i < sizeof table / sizeof *table; i++) {
+        const char *bad = table[i];
+        size_t len = strlen(bad);
+        LEAVES(LODVARN_NOT_UTF8, lodvarn_open(&s, bad, len, 0, 64, 60, LODVARN_UNICODE));
+        LEAVES(LODVARN_NOT_UTF8, lodvarn_paste(&s, bad, len, 1));
+        LEAVES(LODVARN_NOT_UTF8, lodvarn_update(&s, bad, len, 0));
+        LEAVES(LODVARN_NOT_UTF8, lodvarn_insert_str(&s, 0, bad, len));
+        LEAVES(LODVARN_NOT_UTF8, lodvarn_replace(&s, 0, 1, bad, len));
+        LEAVES(LODVARN_NOT_UTF8, lodvarn_width(bad, len, LODVARN_UNICODE, &columns));
+        LEAVES(LODVARN_NOT_UTF8, lodvarn_first_cluster(bad, len, &number));
+        LEAVES(LODVARN_NOT_UTF8, lodvarn_last_cluster(bad, len, &number));
+        LEAVES(LODVARN_NOT_UTF8, lodvarn_cell(bad, len, 0, 0, 10, LODVARN_UNICODE, &number, &other));
+    }
+    see("a yank can still be popped", lodvarn_yank_pop(&s) == LODVARN_TRUE && stands(&s, "aé\nb", 5));
+    see("a line of a script that is no UTF-8 is bad",
+        lodvarn_script("\xff\n", 2, out, sizeof out, &number) == LODVARN_DONE && number == 4 && !memcmp(out, "bad\n", 4));
+}
+
+static void places_that_are_none(void) {
+    begin_bad_input();
+    LEAVES(LODVARN_BAD_PLACE, lodvarn_open(&s, "é", 2, 1, 64, 60, LODVARN_UNICODE));
+    LEAVES(LODVARN_BAD_PLACE, lodvarn_open(&s, "é", 2, 3, 64, 60, LODVARN_UNICODE));
+    LEAVES(LODVARN_BAD_PLACE, lodvarn_cell("é", 2, 1, 0, 10, LODVARN_UNICODE, &number, &other));
+    LEAVES(LODVARN_BAD_PLACE, lodvarn_cell("é", 2, 3, 0, 10, LODVARN_UNICODE, &number, &other));
+    static const size_t bad[] = {2, 6, SIZE_MAX};
+    for (size_t i = 0; i < sizeof bad / sizeof *bad; i++) {
+        LEAVES(LODVARN_BAD_PLACE, lodvarn_set_pos(&s, bad[i]));
+        LEAVES(LODVARN_BAD_PLACE, lodvarn_insert_str(&s, bad[i], "x", 1));
+        LEAVES(LODVARN_BAD_PLACE, lodvarn_replace(&s, 0, bad[i], "x", 1));
+        LEAVES(LODVARN_BAD_PLACE, lodvarn_replace(&s, bad[i], 5, "x", 1));
+        LEAVES(LODVARN_BAD_PLACE, lodvarn_delete_range(&s, 0, bad[i]));
+        LEAVES(LODVARN_BAD_PLACE, lodvarn_delete_range(&s, bad[i], 5));
+    }
+    LEAVES(LODVARN_BAD_PLACE, lodvarn_replace(&s, 3, 1, "x", 1));
+    LEAVES(LODVARN_BAD_PLACE, lodvarn_delete_range(&s, 3, 1));
+    LEAVES(LODVARN_BAD_PLACE, lodvarn_update(&s, "é", 2, 1));
+    LEAVES(LODVARN_BAD_PLACE, lodvarn_update(&s, "é", 2, 3));
+    lodvarn_set_pos(&s, 3);
+    LEAVES(LODVARN_BAD_PLACE, lodvarn_insert_str(&s, 0, "é漢", 5));
+    LEAVES(LODVARN_NOT_REPLAYING, lodvarn_truncate(&s, 1));
+}
+
+static void numbers_that_name_nothing(void) {
+    static const uint32_t chars[] = {0xd800, 0xdfff, 0x110000, UINT32_MAX};
+    begin_bad_input();
+    for (size_t i = 0; i < sizeof chars / sizeof *chars; i++) {
+        LEAVES(LODVARN_NO_SUCH_NUMBER, lodvarn_insert(&s, chars[i], 1));
+        LEAVES(LODVARN_NO_SUCH_NUMBER, lodvarn_delete_to(&s, LODVARN_BACKWARD, chars[i], 1));
+        for (uint32_t m = LODVARN_SEARCH_FORWARD; m <= LODVARN_SEARCH_BACKWARD_AFTER; m++) {
+            LEAVES(LODVARN_NO_SUCH_NUMBER, lodvarn_move(&s, m, 1, chars[i]));
+            LEAVES(LODVARN_NO_SUCH_NUMBER, lodvarn_kill(&s, m, 1, chars[i]));
+            LEAVES(LODVARN_NO_SUCH_NUMBER, lodvarn_copy(&s, m, 1, chars[i], out, sizeof out, &number));
+            LEAVES(LODVARN_NO_SUCH_NUMBER, lodvarn_indent(&s, m, 1, chars[i], 1, LODVARN_INDENT));
+        }
+    }
+    static const uint32_t past[] = {0, 1, 256, 65536};
+    for (size_t i = 0; i < sizeof past / sizeof *past; i++) {
+        uint32_t by = past[i];
+        LEAVES(LODVARN_NO_SUCH_NUMBER, lodvarn_open(&s, "", 0, 0, 64, 60, LODVARN_NO_ZWJ + 1 + by));
+        LEAVES(LODVARN_NO_SUCH_NUMBER, lodvarn_move(&s, LODVARN_END_OF_BUFFER + 1 + by, 1, 'a'));
+        LEAVES(LODVARN_NO_SUCH_NUMBER, lodvarn_kill(&s, LODVARN_END_OF_BUFFER + 1 + by, 1, 'a'));
+        LEAVES(LODVARN_NO_SUCH_NUMBER, lodvarn_copy(&s, LODVARN_END_OF_BUFFER + 1 + by, 1, 'a', out, 8, &number));
+        LEAVES(LODVARN_NO_SUCH_NUMBER, lodvarn_indent(&s, LODVARN_END_OF_BUFFER + 1 + by, 1, 'a', 1, LODVARN_INDENT));
+        LEAVES(LODVARN_NO_SUCH_NUMBER, lodvarn_indent(&s, LODVARN_WHOLE_LINE, 1, 0, 1, LODVARN_DEDENT + 1 + by));
+        LEAVES(LODVARN_NO_SUCH_NUMBER, lodvarn_delete_prev_word(&s, LODVARN_VI + 1 + by, 1));
+        LEAVES(LODVARN_NO_SUCH_NUMBER, lodvarn_delete_word(&s, LODVARN_START, LODVARN_VI + 1 + by, 1));
+        LEAVES(LODVARN_NO_SUCH_NUMBER, lodvarn_delete_word(&s, LODVARN_AFTER_END + 1 + by, LODVARN_VI, 1));
+        LEAVES(LODVARN_NO_SUCH_NUMBER, lodvarn_delete_to(&s, LODVARN_BACKWARD_AFTER + 1 + by, 'a', 1));
+        LEAVES(LODVARN_NO_SUCH_NUMBER, lodvarn_edit_word(&s, LODVARN_UPPERCASE + 1 + by));
+        LEAVES(LODVARN_NO_SUCH_NUMBER, lodvarn_width("a", 1, LODVARN_NO_ZWJ + 1 + by, &columns));
+        LEAVES(LODVARN_NO_SUCH_NUMBER, lodvarn_cell("a", 1, 1, 0, 10, LODVARN_NO_ZWJ + 1 + by, &number, &other));
+    }
+    LEAVES(LODVARN_NO_SUCH_NUMBER, lodvarn_cell("a", 1, 1, 0, 0, LODVARN_UNICODE, &number, &other));
+    see("a yank can still be popped", lodvarn_yank_pop(&s) == LODVARN_TRUE && stands(&s, "aé\nb", 5));
+    see("a movement without a search ignores the character",
+        lodvarn_move(&s, LODVARN_BACKWARD_CHAR, 1, UINT32_MAX) == LODVARN_TRUE && stands(&s, "aé\nb", 4));
+}
+
+static void buffers_that_are_too_small(void) {
+    begin_bad_input();
+    lodvarn_set_pos(&s, 1);
+    uint32_t answer = lodvarn_copy(&s, LODVARN_FORWARD_CHAR, 2, 0, out, 2, &number);
+    see("a copy does not fit", answer == LODVARN_TOO_SMALL && number == 3 && out[0] == '#' && stands(&s, "aé\nb", 1));
+    number = 77;
+    answer = lodvarn_delete(&s, 2, out, 2, &number);
+    see("a deletion does not fit, and is not done",
+        answer == LODVARN_TOO_SMALL && number == 3 && out[0] == '#' && stands(&s, "aé\nb", 1) && lodvarn_entries(&s) == 2);
+    number = 77;
+    answer = lodvarn_delete(&s, 1, NULL, 0, &number);
+    see("nor with no buffer", answer == LODVARN_TOO_SMALL && number == 2 && stands(&s, "aé\nb", 1));
+    answer = lodvarn_copy(&s, LODVARN_FORWARD_CHAR, 2, 0, out, 3, &number);
+    see("a copy fits exactly", answer == LODVARN_TEXT && number == 3 && !memcmp(out, "é\n#", 4));
+    answer = lodvarn_delete(&s, 2, out, 3, &number);
+    see("a deletion fits exactly", answer == LODVARN_TEXT && number == 3 && !memcmp(out, "é\n#", 4) && stands(&s, "ab", 1));
+    memset(out, '#', sizeof out);
+    see("as much of the text as there is room for", lodvarn_text(&s, out, 1) == 2 && out[0] == 'a' && out[1] == '#');
+    answer = lodvarn_script("ins 1 x\n", 8, out, 3, &number);
+    see("as much of a script's output", answer == LODVARN_DONE && number == 9 && !memcmp(out, "tru#", 4));
+}
+
+static void a_yank_is_kept_where_a_buffer_is_too_small(void) {
+    begin_bad_input();
+    lodvarn_move(&s, LODVARN_BEGINNING_OF_BUFFER, 1, 0);
+    lodvarn_yank(&s, 1);
+    see("too small for a deletion", lodvarn_delete(&s, 1, out, 0, &number) == LODVARN_TOO_SMALL && number == 1);
+    see("too small for a copy",
+        lodvarn_copy(&s, LODVARN_WHOLE_BUFFER, 1, 0, out, 8, &number) == LODVARN_TOO_SMALL && number == 9);
+    see("a yank was still done last", lodvarn_last_was_yank(&s) == LODVARN_TRUE);
+}
+
+static void memory_that_is_not_there(void) {
+    begin_bad_input();
+    LEAVES(LODVARN_NO_MEMORY, lodvarn_open(&s, "a", 1, 0, SIZE_MAX, 60, LODVARN_UNICODE));
+}
+
+int main(void) {
+    scripts_print();
+    lines_print();
+    a_case_change_is_undone_at_once();
+    reads_read();
+    reads_part_no_kills();
+    sessions_are_apart();
+    widths_are_measured();
+    clusters_are_found();
+    cells_are_placed();
+    nothing_is_open();
+    texts_of_no_bytes();
+    texts_that_are_no_utf8();
+    places_that_are_none();
+    numbers_that_name_nothing();
+    buffers_that_are_too_small();
+    a_yank_is_kept_where_a_buffer_is_too_small();
+    memory_that_is_not_there();
+    lodvarn_close(&s);
+    printf("%d passed, %d failed\n", passed, failed);
+    return failed != 0;
+}
