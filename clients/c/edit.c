@@ -216,7 +216,6 @@ static const struct key {
     {"\x1b" "<", "beginning-of-text", move, LODVARN_BEGINNING_OF_BUFFER},
     {"\x1b" ">", "end-of-text", move, LODVARN_END_OF_BUFFER},
     {"\x1b\r", "insert-newline", insert, '\n'},
-    {"\x1b\n", "insert-newline", insert, '\n'},
 };
 
 /* The key of exactly these bytes, or one that begins with them. */

@@ -1,0 +1,544 @@
+"""Lodvarn for Python: a line of text with its cursor, its undo and its kill ring.
+
+    from lodvarn import Movement, Session
+
+    with Session("one two") as session:
+        session.kill(Movement.BACKWARD_EMACS_WORD)
+        session.yank()
+        print(session.text, session.pos)
+
+It calls the shared library liblodvarn.so: that of the environment's LODVARN_LIBRARY, else the one that clients/build
+made beside this folder, else the system's. Places are numbers of bytes of the text's UTF-8, and stand between two
+characters; a count n is at most 65535. What is refused raises a Fault. One thread at a time uses a session.
+"""
+
+from __future__ import annotations
+
+import ctypes
+import ctypes.util
+import os
+from enum import IntEnum
+from pathlib import Path
+from types import TracebackType
+from typing import Optional
+
+
+class Mode(IntEnum):
+    """How columns are counted."""
+
+    UNICODE = 0
+    WC_WIDTH = 1
+    NO_ZWJ = 2
+
+
+class Word(IntEnum):
+    """What belongs to a word: all but blanks, letters and digits, or these and _."""
+
+    BIG = 0
+    EMACS = 1
+    VI = 2
+
+
+class At(IntEnum):
+    """Where a motion to a word ahead stops."""
+
+    START = 0
+    BEFORE_END = 1
+    AFTER_END = 2
+
+
+class Search(IntEnum):
+    """Where a search for a character leads: to it, or to the side of it that is met first."""
+
+    FORWARD = 0
+    FORWARD_BEFORE = 1
+    BACKWARD = 2
+    BACKWARD_AFTER = 3
+
+
+class Action(IntEnum):
+    """What happens to a word's case."""
+
+    CAPITALIZE = 0
+    LOWERCASE = 1
+    UPPERCASE = 2
+
+
+class Movement(IntEnum):
+    """Where a motion goes, and what a kill, a copy or an indent is about."""
+
+    WHOLE_LINE = 0
+    BEGINNING_OF_LINE = 1
+    END_OF_LINE = 2
+    BACKWARD_BIG_WORD = 3
+    BACKWARD_EMACS_WORD = 4
+    BACKWARD_VI_WORD = 5
+    FORWARD_BIG_WORD_START = 6
+    FORWARD_BIG_WORD_BEFORE_END = 7
+    FORWARD_BIG_WORD_AFTER_END = 8
+    FORWARD_EMACS_WORD_START = 9
+    FORWARD_EMACS_WORD_BEFORE_END = 10
+    FORWARD_EMACS_WORD_AFTER_END = 11
+    FORWARD_VI_WORD_START = 12
+    FORWARD_VI_WORD_BEFORE_END = 13
+    FORWARD_VI_WORD_AFTER_END = 14
+    SEARCH_FORWARD = 15
+    SEARCH_FORWARD_BEFORE = 16
+    SEARCH_BACKWARD = 17
+    SEARCH_BACKWARD_AFTER = 18
+    FIRST_PRINT = 19
+    BACKWARD_CHAR = 20
+    FORWARD_CHAR = 21
+    LINE_UP = 22
+    LINE_DOWN = 23
+    WHOLE_BUFFER = 24
+    BEGINNING_OF_BUFFER = 25
+    END_OF_BUFFER = 26
+
+
+class Answer(IntEnum):
+    """What a call of the library answers."""
+
+    DONE = 0
+    TRUE = 1
+    FALSE = 2
+    NONE = 3
+    TEXT = 4
+    MARK = 5
+    AT = 6
+    NO_MEMORY = 11
+    BAD_PLACE = 12
+    BAD_YANK_SIZE = 13
+    NOT_REPLAYING = 14
+    CLOSED = 20
+    NOT_UTF8 = 21
+    NO_SUCH_NUMBER = 22
+    TOO_SMALL = 23
+
+
+class Fault(Exception):
+    """A call was refused. Text, cursor and record are as they were, but after NoMemory in an edit of several steps."""
+
+
+class NoMemory(Fault):
+    """A growth found no memory."""
+
+
+class BadPlace(Fault):
+    """A place is past the text's end or inside a character, or two places are out of order."""
+
+
+class BadYankSize(Fault):
+    """What was yanked does not stand before the cursor."""
+
+
+class NotReplaying(Fault):
+    """The entries to keep do not lead to the present text."""
+
+
+class Closed(Fault):
+    """The session is closed."""
+
+
+class NotUtf8(Fault):
+    """A text is no UTF-8. No str that can be encoded is."""
+
+
+class NoSuchNumber(Fault):
+    """A number names nothing, or no character."""
+
+
+_FAULTS = {
+    Answer.NO_MEMORY: NoMemory,
+    Answer.BAD_PLACE: BadPlace,
+    Answer.BAD_YANK_SIZE: BadYankSize,
+    Answer.NOT_REPLAYING: NotReplaying,
+    Answer.CLOSED: Closed,
+    Answer.NOT_UTF8: NotUtf8,
+    Answer.NO_SUCH_NUMBER: NoSuchNumber,
+}
+
+_HANDLE = ctypes.POINTER(ctypes.c_void_p)
+_TEXT, _SIZE = ctypes.c_char_p, ctypes.c_size_t
+_U32, _U16, _U8 = ctypes.c_uint32, ctypes.c_uint16, ctypes.c_uint8
+_TO_SIZE, _TO_U16 = ctypes.POINTER(_SIZE), ctypes.POINTER(_U16)
+
+# What each call takes; each answers a code.
+_CALLS = {
+    "open": [_HANDLE, _TEXT, _SIZE, _SIZE, _SIZE, _SIZE, _U32],
+    "set_pos": [_HANDLE, _SIZE],
+    "move": [_HANDLE, _U32, _U16, _U32],
+    "insert": [_HANDLE, _U32, _U16],
+    "paste": [_HANDLE, _TEXT, _SIZE, _U16],
+    "yank": [_HANDLE, _U16],
+    "yank_pop": [_HANDLE],
+    "update": [_HANDLE, _TEXT, _SIZE, _SIZE],
+    "insert_str": [_HANDLE, _SIZE, _TEXT, _SIZE],
+    "replace": [_HANDLE, _SIZE, _SIZE, _TEXT, _SIZE],
+    "delete_range": [_HANDLE, _SIZE, _SIZE],
+    "delete": [_HANDLE, _U16, _TEXT, _SIZE, _TO_SIZE],
+    "backspace": [_HANDLE, _U16],
+    "kill_line": [_HANDLE],
+    "kill_buffer": [_HANDLE],
+    "discard_line": [_HANDLE],
+    "discard_buffer": [_HANDLE],
+    "delete_prev_word": [_HANDLE, _U32, _U16],
+    "delete_word": [_HANDLE, _U32, _U32, _U16],
+    "delete_to": [_HANDLE, _U32, _U32, _U16],
+    "transpose_chars": [_HANDLE],
+    "transpose_words": [_HANDLE, _U16],
+    "edit_word": [_HANDLE, _U32],
+    "kill": [_HANDLE, _U32, _U16, _U32],
+    "copy": [_HANDLE, _U32, _U16, _U32, _TEXT, _SIZE, _TO_SIZE],
+    "indent": [_HANDLE, _U32, _U16, _U32, _U8, _U32],
+    "begin": [_HANDLE, _TO_SIZE],
+    "end": [_HANDLE],
+    "undo": [_HANDLE, _U16],
+    "redo": [_HANDLE],
+    "truncate": [_HANDLE, _SIZE],
+    "line_place": [_HANDLE, _TO_SIZE, _TO_U16],
+    "line_range": [_HANDLE, _SIZE, _TO_SIZE, _TO_SIZE],
+    "last_was_yank": [_HANDLE],
+    "script": [_TEXT, _SIZE, _TEXT, _SIZE, _TO_SIZE],
+    "width": [_TEXT, _SIZE, _U32, _TO_U16],
+    "first_cluster": [_TEXT, _SIZE, _TO_SIZE],
+    "last_cluster": [_TEXT, _SIZE, _TO_SIZE],
+    "cell": [_TEXT, _SIZE, _SIZE, _U16, _U16, _U32, _TO_SIZE, _TO_SIZE],
+}
+
+# The calls that answer a size.
+_SIZES = {
+    "text": [_HANDLE, _TEXT, _SIZE],
+    "pos": [_HANDLE],
+    "line_number": [_HANDLE],
+    "line_count": [_HANDLE],
+    "limit": [_HANDLE],
+    "entries": [_HANDLE],
+}
+
+
+def _load() -> ctypes.PyDLL:
+    built = Path(__file__).resolve().parent.parent / "out/lib/liblodvarn.so"
+    name = os.environ.get("LODVARN_LIBRARY") or (str(built) if built.exists() else ctypes.util.find_library("lodvarn"))
+    if not name:
+        raise OSError("liblodvarn.so is not found: build it by clients/build, or name it in LODVARN_LIBRARY")
+    # A PyDLL keeps the interpreter's lock, so that no two threads are in a call on a session at once.
+    library = ctypes.PyDLL(name)
+    for calls, answer in ((_CALLS, _U32), (_SIZES, _SIZE), ({"close": [_HANDLE]}, None)):
+        for call, takes in calls.items():
+            function = getattr(library, f"lodvarn_{call}")
+            function.argtypes, function.restype = takes, answer
+    return library
+
+
+_library = _load()
+
+
+def _in_range(number: int, kind: type) -> int:
+    """The number, where the kind holds it: ctypes would cut it off without a word."""
+    if not 0 <= number < 1 << 8 * ctypes.sizeof(kind):
+        raise OverflowError(f"{number} is not in the range of {kind.__name__}")
+    return number
+
+
+def _call(name: str, *given: object) -> Answer:
+    """Makes the call, and raises what it is refused for. A text stands for its bytes and their number."""
+    arguments: list[object] = []
+    for one in given:
+        arguments += [one, len(one)] if isinstance(one, bytes) else [one]
+    for one, kind in zip(arguments, _CALLS[name]):
+        if isinstance(one, int):
+            _in_range(one, kind)
+    answer = Answer(getattr(_library, f"lodvarn_{name}")(*arguments))
+    if answer in _FAULTS:
+        raise _FAULTS[answer](f"{name}: {_FAULTS[answer].__doc__}")
+    return answer
+
+
+def _call_for_text(name: str, *given: object) -> Optional[str]:
+    """Makes a call that hands out a text, with a larger buffer where the first one is too small."""
+    length = _SIZE(64)
+    answer = Answer.TOO_SMALL
+    while answer == Answer.TOO_SMALL:
+        room = length.value
+        out = ctypes.create_string_buffer(room)
+        answer = _call(name, *given, out, room, length)
+    return out.raw[: length.value].decode() if answer == Answer.TEXT else None
+
+
+def _yes(answer: Answer) -> Optional[bool]:
+    """Yes or no, or None where there was nothing to insert or no room."""
+    return None if answer == Answer.NONE else answer == Answer.TRUE
+
+
+class Session:
+    """A text with its cursor, a ring of killed texts, and the record of its changes.
+
+    In a `with` it is closed at the end; else `close` does that, or the garbage collector.
+    """
+
+    def __init__(
+        self,
+        text: str = "",
+        pos: Optional[int] = None,
+        limit: int = 65536,
+        ring_size: int = 60,
+        mode: Mode = Mode.UNICODE,
+    ) -> None:
+        """Opens a session on a text, with the cursor at the place pos, or at the end.
+
+        The text may grow to `limit` bytes, and the ring keeps `ring_size` texts. Raises BadPlace, NoMemory.
+        """
+        self._at = ctypes.c_void_p()
+        given = text.encode()
+        _call("open", self._at, given, len(given) if pos is None else pos, limit, ring_size, mode)
+
+    def close(self) -> None:
+        """Closes the session. Every later call but this raises Closed, or reads 0."""
+        _library.lodvarn_close(self._at)
+
+    def __enter__(self) -> Session:
+        return self
+
+    def __exit__(
+        self, kind: Optional[type[BaseException]], fault: Optional[BaseException], trace: Optional[TracebackType]
+    ) -> None:
+        self.close()
+
+    def __del__(self) -> None:
+        if hasattr(self, "_at"):
+            self.close()
+
+    def __copy__(self) -> Session:
+        raise TypeError("a session has no copy")
+
+    def __deepcopy__(self, memo: object) -> Session:
+        raise TypeError("a session has no copy")
+
+    def __reduce__(self) -> str:
+        raise TypeError("a session has no copy")
+
+    def set_pos(self, pos: int) -> None:
+        """Moves the cursor to a place. Raises BadPlace."""
+        _call("set_pos", self._at, pos)
+
+    def move(self, movement: Movement, n: int = 1, c: str = "\0") -> bool:
+        """Moves the cursor by a movement; c is the character of a search. False where there is nowhere to go."""
+        return _call("move", self._at, movement, n, ord(c)) == Answer.TRUE
+
+    def insert(self, c: str, n: int = 1) -> Optional[bool]:
+        """Inserts a character n times at the cursor. Whether that was the end, or None where there is no room."""
+        return _yes(_call("insert", self._at, ord(c), n))
+
+    def paste(self, text: str, n: int = 1) -> Optional[bool]:
+        """Inserts a text n times at the cursor. Whether that was the end, or None for no text or no room."""
+        return _yes(_call("paste", self._at, text.encode(), n))
+
+    def yank(self, n: int = 1) -> Optional[bool]:
+        """Inserts the ring's current text n times. Whether at the end, or None for no text or no room."""
+        return _yes(_call("yank", self._at, n))
+
+    def yank_pop(self) -> Optional[bool]:
+        """Puts the ring's text before in the place of the one that was just yanked.
+
+        Whether the cursor was at the end, or None where no yank was done last. Raises BadYankSize.
+        """
+        return _yes(_call("yank_pop", self._at))
+
+    def update(self, text: str, pos: Optional[int] = None) -> None:
+        """Puts a text in the place of the whole text, with the cursor at a place of it, or at its end.
+
+        A text that is longer than the limit is cut. Raises BadPlace.
+        """
+        given = text.encode()
+        _call("update", self._at, given, len(given) if pos is None else pos)
+
+    def insert_str(self, at: int, text: str) -> bool:
+        """Inserts a text at a place; the cursor keeps its number. Whether it was the end. Raises BadPlace."""
+        return _call("insert_str", self._at, at, text.encode()) == Answer.TRUE
+
+    def replace(self, start: int, end: int, text: str) -> None:
+        """Puts a text in the place of what stands between two places. Raises BadPlace."""
+        _call("replace", self._at, start, end, text.encode())
+
+    def delete_range(self, start: int, end: int) -> None:
+        """Deletes what stands between two places. Raises BadPlace."""
+        _call("delete_range", self._at, start, end)
+
+    def delete(self, n: int = 1) -> Optional[str]:
+        """Deletes n clusters from the cursor on, and gives them, or None where there are none."""
+        return _call_for_text("delete", self._at, n)
+
+    def backspace(self, n: int = 1) -> bool:
+        """Deletes n clusters before the cursor. False where there are none."""
+        return _call("backspace", self._at, n) == Answer.TRUE
+
+    def kill_line(self) -> bool:
+        """Deletes to the end of the cursor's line, or the newline there; the ring does not keep it."""
+        return _call("kill_line", self._at) == Answer.TRUE
+
+    def kill_buffer(self) -> bool:
+        """Deletes to the end of the text; the ring does not keep it."""
+        return _call("kill_buffer", self._at) == Answer.TRUE
+
+    def discard_line(self) -> bool:
+        """Deletes back to the start of the cursor's line, or the newline before it; the ring does not keep it."""
+        return _call("discard_line", self._at) == Answer.TRUE
+
+    def discard_buffer(self) -> bool:
+        """Deletes back to the start of the text; the ring does not keep it."""
+        return _call("discard_buffer", self._at) == Answer.TRUE
+
+    def delete_prev_word(self, word: Word, n: int = 1) -> bool:
+        """Deletes back to the start of the n-th word. False where there is nothing."""
+        return _call("delete_prev_word", self._at, word, n) == Answer.TRUE
+
+    def delete_word(self, at: At, word: Word, n: int = 1) -> bool:
+        """Deletes ahead to a place at the n-th word. False where there is nothing."""
+        return _call("delete_word", self._at, at, word, n) == Answer.TRUE
+
+    def delete_to(self, search: Search, c: str, n: int = 1) -> bool:
+        """Deletes to the n-th character c, or the farthest. False where there is none."""
+        return _call("delete_to", self._at, search, ord(c), n) == Answer.TRUE
+
+    def transpose_chars(self) -> bool:
+        """Exchanges the clusters at the cursor: two changes. False where there are not two."""
+        return _call("transpose_chars", self._at) == Answer.TRUE
+
+    def transpose_words(self, n: int = 1) -> bool:
+        """Exchanges a word with the n-th before it: four changes. False where there are not two."""
+        return _call("transpose_words", self._at, n) == Answer.TRUE
+
+    def edit_word(self, action: Action) -> bool:
+        """Changes the case of the word at the cursor or ahead: two changes. False where there is none."""
+        return _call("edit_word", self._at, action) == Answer.TRUE
+
+    def kill(self, movement: Movement, n: int = 1, c: str = "\0") -> bool:
+        """Deletes what a movement covers; the ring keeps it, but by clusters. False where there is nothing."""
+        return _call("kill", self._at, movement, n, ord(c)) == Answer.TRUE
+
+    def copy(self, movement: Movement, n: int = 1, c: str = "\0") -> Optional[str]:
+        """What a movement covers, or None where that is nothing."""
+        return _call_for_text("copy", self._at, movement, n, ord(c))
+
+    def indent(self, movement: Movement, amount: int, n: int = 1, c: str = "\0") -> bool:
+        """Indents the lines of a movement by so many spaces, at most 255."""
+        return _call("indent", self._at, movement, n, ord(c), amount, 0) == Answer.TRUE
+
+    def dedent(self, movement: Movement, amount: int, n: int = 1, c: str = "\0") -> bool:
+        """Takes up to so many bytes of blanks, at most 255, off the front of the lines of a movement."""
+        return _call("indent", self._at, movement, n, ord(c), amount, 1) == Answer.TRUE
+
+    def begin(self) -> int:
+        """Opens a group of changes, which one undo takes back once it is closed. How many entries there were."""
+        mark = _SIZE()
+        _call("begin", self._at, mark)
+        return mark.value
+
+    def end(self) -> bool:
+        """Closes all open groups. False where there was no change in them, or no group."""
+        return _call("end", self._at) == Answer.TRUE
+
+    def undo(self, n: int = 1) -> bool:
+        """Undoes the last n changes or groups. False where there was no change to undo."""
+        return _call("undo", self._at, n) == Answer.TRUE
+
+    def redo(self) -> bool:
+        """Does again what was undone last. False where there is nothing."""
+        return _call("redo", self._at) == Answer.TRUE
+
+    def truncate(self, entries: int) -> None:
+        """Keeps so many entries of the record from the front. Raises NotReplaying."""
+        _call("truncate", self._at, entries)
+
+    def line_place(self) -> tuple[int, int]:
+        """The number of the cursor's line and its column in it, from 0. A kill behind this begins a new text."""
+        line, column = _SIZE(), _U16()
+        _call("line_place", self._at, line, column)
+        return line.value, column.value
+
+    @property
+    def text(self) -> str:
+        """The text."""
+        room = _library.lodvarn_text(self._at, None, 0)
+        out = ctypes.create_string_buffer(room)
+        _library.lodvarn_text(self._at, out, room)
+        return out.raw[:room].decode()
+
+    @property
+    def pos(self) -> int:
+        """The place of the cursor."""
+        return _library.lodvarn_pos(self._at)
+
+    @property
+    def line_number(self) -> int:
+        """The number of the cursor's line, from 0."""
+        return _library.lodvarn_line_number(self._at)
+
+    @property
+    def line_count(self) -> int:
+        """How many lines the text has."""
+        return _library.lodvarn_line_count(self._at)
+
+    def line_range(self, line: int) -> Optional[tuple[int, int]]:
+        """The places where a line begins and ends, before its newline, or None where there is no such line."""
+        start, end = _SIZE(), _SIZE()
+        answer = _call("line_range", self._at, line, start, end)
+        return (start.value, end.value) if answer == Answer.DONE else None
+
+    @property
+    def limit(self) -> int:
+        """How many bytes the text may have."""
+        return _library.lodvarn_limit(self._at)
+
+    @property
+    def entries(self) -> int:
+        """How many entries the record has."""
+        return _library.lodvarn_entries(self._at)
+
+    @property
+    def last_was_yank(self) -> bool:
+        """Whether a yank that put something in was done last."""
+        return _call("last_was_yank", self._at) == Answer.TRUE
+
+
+def run_script(script: bytes) -> bytes:
+    """What a script prints, run in a session of its own."""
+    length = _SIZE(len(script))
+    room = -1
+    while room < length.value:
+        room = length.value
+        out = ctypes.create_string_buffer(room)
+        _call("script", script, out, room, length)
+    return out.raw[: length.value]
+
+
+def width(text: str, mode: Mode = Mode.UNICODE) -> int:
+    """The columns that a text takes, at most 65535."""
+    columns = _U16()
+    _call("width", text.encode(), mode, columns)
+    return columns.value
+
+
+def first_cluster(text: str) -> str:
+    """The first grapheme cluster of a text, which is empty where the text is."""
+    length, given = _SIZE(), text.encode()
+    _call("first_cluster", given, length)
+    return given[: length.value].decode()
+
+
+def last_cluster(text: str) -> str:
+    """The last grapheme cluster of a text, which is empty where the text is."""
+    length, given = _SIZE(), text.encode()
+    _call("last_cluster", given, length)
+    return given[len(given) - length.value :].decode()
+
+
+def cell(text: str, place: int, prompt: int, columns: int, mode: Mode = Mode.UNICODE) -> tuple[int, int]:
+    """The row and column of a place of a text on a screen that is so many columns wide.
+
+    The text begins at the column `prompt` of row 0. Raises BadPlace, and NoSuchNumber for no columns.
+    """
+    row, column = _SIZE(), _SIZE()
+    _call("cell", text.encode(), place, prompt, columns, mode, row, column)
+    return row.value, column.value

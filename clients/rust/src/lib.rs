@@ -1,0 +1,357 @@
+//! Lodvarn for Rust: a line of text with its cursor, its undo and its kill ring.
+//!
+//! ```
+//! use lodvarn::{Fault, Mode, Movement, Session, Word};
+//!
+//! fn main() -> Result<(), Fault> {
+//!     let mut session = Session::new("one two", 7, 4096, 60, Mode::Unicode)?;
+//!     session.kill(Movement::BackwardWord(1, Word::Emacs))?;
+//!     session.yank(2)?;
+//!     session.undo(1)?;
+//!     assert_eq!((session.text().as_str(), session.pos()), ("one ", 4));
+//!     Ok(())
+//! }
+//! ```
+//!
+//! Places are byte places, as those of a `str`, and counts are of grapheme clusters, words, lines or repetitions. Links
+//! `liblodvarn.a`, which `clients/build` makes.
+#![warn(missing_docs)]
+
+mod ffi;
+mod texts;
+mod words;
+
+pub use texts::{cell, first_cluster, last_cluster, run_script, width};
+pub use words::{Action, At, Fault, Mode, Movement, Search, Word};
+
+use std::cell::UnsafeCell;
+use std::fmt;
+use std::ops::Range;
+use std::ptr::{null_mut, NonNull};
+
+/// A text with its cursor, a ring of killed texts, and the record of its changes.
+///
+/// One thread at a time uses it: it may be sent to another, and not shared.
+///
+/// ```compile_fail
+/// fn shared<T: Sync>() {}
+/// shared::<lodvarn::Session>();
+/// ```
+pub struct Session {
+    // A read takes the session out of the handle and puts it back, so it is handed a pointer to write to.
+    at: UnsafeCell<ffi::Handle>,
+}
+
+// All that a session has is memory of the program's `malloc`, which any thread may use and free.
+unsafe impl Send for Session {}
+
+impl Drop for Session {
+    fn drop(&mut self) {
+        unsafe { ffi::lodvarn_close(self.at.get()) }
+    }
+}
+
+impl fmt::Debug for Session {
+    fn fmt(&self, f: &mut fmt::Formatter<'_>) -> fmt::Result {
+        let mut fields = f.debug_struct("Session");
+        fields.field("text", &self.text()).field("pos", &self.pos());
+        fields.finish()
+    }
+}
+
+fn done(answer: u32) -> Result<(), Fault> {
+    match answer {
+        ffi::DONE => Ok(()),
+        answer => Err(Fault::of(answer)),
+    }
+}
+
+fn yes(answer: u32) -> Result<bool, Fault> {
+    match answer {
+        ffi::TRUE => Ok(true),
+        ffi::FALSE => Ok(false),
+        answer => Err(Fault::of(answer)),
+    }
+}
+
+fn inserted(answer: u32) -> Result<Option<bool>, Fault> {
+    match answer {
+        ffi::NONE => Ok(None),
+        answer => yes(answer).map(Some),
+    }
+}
+
+fn string(bytes: Vec<u8>) -> String {
+    String::from_utf8(bytes).expect("the library's texts are UTF-8")
+}
+
+// The text that a call hands out; where the buffer is too small, the call did nothing and is made again.
+fn handed(
+    mut call: impl FnMut(*mut u8, usize, &mut usize) -> u32,
+) -> Result<Option<String>, Fault> {
+    let mut out = vec![0; 64];
+    loop {
+        let mut len = 0;
+        match call(out.as_mut_ptr(), out.len(), &mut len) {
+            ffi::TOO_SMALL => out.resize(len, 0),
+            ffi::TEXT => {
+                out.truncate(len);
+                return Ok(Some(string(out)));
+            }
+            ffi::NONE => return Ok(None),
+            answer => return Err(Fault::of(answer)),
+        }
+    }
+}
+
+impl Session {
+    /// A session on a text, with the cursor at the place `pos`. Its text may grow to `limit` bytes, or stay as long as
+    /// it is; its ring keeps `ring_size` texts. `BadPlace`, `NoMemory`.
+    pub fn new(
+        text: &str,
+        pos: usize,
+        limit: usize,
+        ring_size: usize,
+        mode: Mode,
+    ) -> Result<Session, Fault> {
+        let session = Session {
+            at: UnsafeCell::new(null_mut()),
+        };
+        let (ptr, len, at) = (text.as_ptr(), text.len(), session.at.get());
+        done(unsafe { ffi::lodvarn_open(at, ptr, len, pos, limit, ring_size, mode as u32) })?;
+        Ok(session)
+    }
+
+    /// Moves the cursor to a place. `BadPlace`.
+    pub fn set_pos(&mut self, pos: usize) -> Result<(), Fault> {
+        done(unsafe { ffi::lodvarn_set_pos(self.at.get(), pos) })
+    }
+
+    /// Moves the cursor by a movement. False where there is nowhere to go.
+    pub fn move_by(&mut self, movement: Movement) -> bool {
+        let (number, n, c) = movement.numbers();
+        unsafe { ffi::lodvarn_move(self.at.get(), number, n, c) == ffi::TRUE }
+    }
+
+    /// Inserts a character n times at the cursor. Whether that was the end, or `None` where there is no room within
+    /// the limit. `NoMemory`.
+    pub fn insert(&mut self, c: char, n: u16) -> Result<Option<bool>, Fault> {
+        inserted(unsafe { ffi::lodvarn_insert(self.at.get(), c.into(), n) })
+    }
+
+    /// Inserts a text n times at the cursor. Whether that was the end, or `None` where the text is empty or there is
+    /// no room within the limit. `NoMemory`.
+    pub fn paste(&mut self, text: &str, n: u16) -> Result<Option<bool>, Fault> {
+        inserted(unsafe { ffi::lodvarn_paste(self.at.get(), text.as_ptr(), text.len(), n) })
+    }
+
+    /// Inserts the ring's current text n times at the cursor, and answers as `paste`. `NoMemory`.
+    pub fn yank(&mut self, n: u16) -> Result<Option<bool>, Fault> {
+        inserted(unsafe { ffi::lodvarn_yank(self.at.get(), n) })
+    }
+
+    /// Puts the ring's text before in the place of the one that was just yanked. Whether the cursor was at the end, or
+    /// `None` where no yank was done last or there is no room. `BadYankSize`, `NoMemory`.
+    pub fn yank_pop(&mut self) -> Result<Option<bool>, Fault> {
+        inserted(unsafe { ffi::lodvarn_yank_pop(self.at.get()) })
+    }
+
+    /// Puts a text, cut to the limit, in the place of the whole text, with the cursor at the place `pos` of it.
+    /// `BadPlace`, `NoMemory`.
+    pub fn update(&mut self, text: &str, pos: usize) -> Result<(), Fault> {
+        done(unsafe { ffi::lodvarn_update(self.at.get(), text.as_ptr(), text.len(), pos) })
+    }
+
+    /// Inserts a text at a place, whatever the limit; the cursor keeps its number. Whether the place was the end.
+    /// `BadPlace`, also where the cursor would stand inside a character, `NoMemory`.
+    pub fn insert_str(&mut self, at: usize, text: &str) -> Result<bool, Fault> {
+        yes(unsafe { ffi::lodvarn_insert_str(self.at.get(), at, text.as_ptr(), text.len()) })
+    }
+
+    /// Puts a text in the place of a range, whatever the limit, with the cursor behind it. `BadPlace`, `NoMemory`.
+    pub fn replace(&mut self, range: Range<usize>, text: &str) -> Result<(), Fault> {
+        let (from, to, ptr, len) = (range.start, range.end, text.as_ptr(), text.len());
+        done(unsafe { ffi::lodvarn_replace(self.at.get(), from, to, ptr, len) })
+    }
+
+    /// Deletes a range, with the cursor there. `BadPlace`, `NoMemory`.
+    pub fn delete_range(&mut self, range: Range<usize>) -> Result<(), Fault> {
+        done(unsafe { ffi::lodvarn_delete_range(self.at.get(), range.start, range.end) })
+    }
+
+    /// Deletes n clusters from the cursor on, and gives them, or `None` where there are none. `NoMemory`.
+    pub fn delete(&mut self, n: u16) -> Result<Option<String>, Fault> {
+        let at = self.at.get();
+        handed(|out, cap, len| unsafe { ffi::lodvarn_delete(at, n, out, cap, len) })
+    }
+
+    /// Deletes n clusters before the cursor. False where there are none. `NoMemory`.
+    pub fn backspace(&mut self, n: u16) -> Result<bool, Fault> {
+        yes(unsafe { ffi::lodvarn_backspace(self.at.get(), n) })
+    }
+
+    /// Deletes to the end of the cursor's line, or the newline there; the ring does not keep it, here and in the
+    /// deletions below. False where there is nothing. `NoMemory`.
+    pub fn kill_line(&mut self) -> Result<bool, Fault> {
+        yes(unsafe { ffi::lodvarn_kill_line(self.at.get()) })
+    }
+
+    /// Deletes to the end of the text. False where there is nothing. `NoMemory`.
+    pub fn kill_buffer(&mut self) -> Result<bool, Fault> {
+        yes(unsafe { ffi::lodvarn_kill_buffer(self.at.get()) })
+    }
+
+    /// Deletes back to the start of the cursor's line, or the newline before it. False where there is nothing.
+    /// `NoMemory`.
+    pub fn discard_line(&mut self) -> Result<bool, Fault> {
+        yes(unsafe { ffi::lodvarn_discard_line(self.at.get()) })
+    }
+
+    /// Deletes back to the start of the text. False where there is nothing. `NoMemory`.
+    pub fn discard_buffer(&mut self) -> Result<bool, Fault> {
+        yes(unsafe { ffi::lodvarn_discard_buffer(self.at.get()) })
+    }
+
+    /// Deletes back to the start of the n-th word. False where there is nothing. `NoMemory`.
+    pub fn delete_prev_word(&mut self, word: Word, n: u16) -> Result<bool, Fault> {
+        yes(unsafe { ffi::lodvarn_delete_prev_word(self.at.get(), word as u32, n) })
+    }
+
+    /// Deletes ahead to a place at the n-th word. False where there is nothing. `NoMemory`.
+    pub fn delete_word(&mut self, at: At, word: Word, n: u16) -> Result<bool, Fault> {
+        yes(unsafe { ffi::lodvarn_delete_word(self.at.get(), at as u32, word as u32, n) })
+    }
+
+    /// Deletes to the n-th hit of a search, or the farthest. False where there is none. `NoMemory`.
+    pub fn delete_to(&mut self, search: Search, n: u16) -> Result<bool, Fault> {
+        let (number, c) = search.numbers();
+        yes(unsafe { ffi::lodvarn_delete_to(self.at.get(), number, c, n) })
+    }
+
+    /// Exchanges the clusters at the cursor: two changes, to be wrapped in `begin` and `end` where one undo is to take
+    /// them back. False where there are not two. `NoMemory`.
+    pub fn transpose_chars(&mut self) -> Result<bool, Fault> {
+        yes(unsafe { ffi::lodvarn_transpose_chars(self.at.get()) })
+    }
+
+    /// Exchanges a word with the n-th before it: four changes. False where there are not two, when the cursor may
+    /// still have moved. `NoMemory`.
+    pub fn transpose_words(&mut self, n: u16) -> Result<bool, Fault> {
+        yes(unsafe { ffi::lodvarn_transpose_words(self.at.get(), n) })
+    }
+
+    /// Changes the case of the word from the cursor on: two changes. False where there is none. `NoMemory`.
+    pub fn edit_word(&mut self, action: Action) -> Result<bool, Fault> {
+        yes(unsafe { ffi::lodvarn_edit_word(self.at.get(), action as u32) })
+    }
+
+    /// Deletes what a movement covers. The ring keeps it, but not by clusters; kills right behind one another are one
+    /// text of it. False where there is nothing. `NoMemory`.
+    pub fn kill(&mut self, movement: Movement) -> Result<bool, Fault> {
+        let (number, n, c) = movement.numbers();
+        yes(unsafe { ffi::lodvarn_kill(self.at.get(), number, n, c) })
+    }
+
+    /// What a movement covers, or `None` where that is nothing. `NoMemory`.
+    pub fn copy(&mut self, movement: Movement) -> Result<Option<String>, Fault> {
+        let ((number, n, c), at) = (movement.numbers(), self.at.get());
+        handed(|out, cap, len| unsafe { ffi::lodvarn_copy(at, number, n, c, out, cap, len) })
+    }
+
+    /// Indents the lines of a movement by so many spaces, a change or more a line. `NoMemory`.
+    pub fn indent(&mut self, movement: Movement, amount: u8) -> Result<bool, Fault> {
+        let (number, n, c) = movement.numbers();
+        yes(unsafe { ffi::lodvarn_indent(self.at.get(), number, n, c, amount, 0) })
+    }
+
+    /// Takes up to so many bytes of blanks off the front of the lines of a movement, a change a line. `NoMemory`.
+    pub fn dedent(&mut self, movement: Movement, amount: u8) -> Result<bool, Fault> {
+        let (number, n, c) = movement.numbers();
+        yes(unsafe { ffi::lodvarn_indent(self.at.get(), number, n, c, amount, 1) })
+    }
+
+    /// Opens a group of changes, which one undo takes back once it is closed. How many entries there were.
+    /// `NoMemory`.
+    pub fn begin(&mut self) -> Result<usize, Fault> {
+        let mut mark = 0;
+        match unsafe { ffi::lodvarn_begin(self.at.get(), &mut mark) } {
+            ffi::MARK => Ok(mark),
+            answer => Err(Fault::of(answer)),
+        }
+    }
+
+    /// Closes all open groups. False where there was no change in them, or no group. `NoMemory`.
+    pub fn end(&mut self) -> Result<bool, Fault> {
+        yes(unsafe { ffi::lodvarn_end(self.at.get()) })
+    }
+
+    /// Undoes the last n changes or groups, one for 0, and all where there are fewer. False where there was no change
+    /// to undo. `NoMemory`.
+    pub fn undo(&mut self, n: u16) -> Result<bool, Fault> {
+        yes(unsafe { ffi::lodvarn_undo(self.at.get(), n) })
+    }
+
+    /// Does again what was undone last. False where there is nothing. `NoMemory`.
+    pub fn redo(&mut self) -> Result<bool, Fault> {
+        yes(unsafe { ffi::lodvarn_redo(self.at.get()) })
+    }
+
+    /// Keeps so many entries of the record from the front, and forgets the others. `NotReplaying`, `NoMemory`.
+    pub fn truncate(&mut self, entries: usize) -> Result<(), Fault> {
+        done(unsafe { ffi::lodvarn_truncate(self.at.get(), entries) })
+    }
+
+    /// The number of the cursor's line and its column in it, from 0. It is a command: a kill behind it begins a new
+    /// text of the ring.
+    pub fn line_place(&mut self) -> (usize, u16) {
+        let (mut line, mut column) = (0, 0);
+        unsafe { ffi::lodvarn_line_place(self.at.get(), &mut line, &mut column) };
+        (line, column)
+    }
+
+    /// The text.
+    pub fn text(&self) -> String {
+        let at = self.at.get();
+        let nothing = NonNull::dangling().as_ptr();
+        let mut out = vec![0; unsafe { ffi::lodvarn_text(at, nothing, 0) }];
+        unsafe { ffi::lodvarn_text(at, out.as_mut_ptr(), out.len()) };
+        string(out)
+    }
+
+    /// The place of the cursor.
+    pub fn pos(&self) -> usize {
+        unsafe { ffi::lodvarn_pos(self.at.get()) }
+    }
+
+    /// The number of the cursor's line, from 0.
+    pub fn line_number(&self) -> usize {
+        unsafe { ffi::lodvarn_line_number(self.at.get()) }
+    }
+
+    /// How many lines the text has.
+    pub fn line_count(&self) -> usize {
+        unsafe { ffi::lodvarn_line_count(self.at.get()) }
+    }
+
+    /// Where a line stands, without its newline, or `None` where there is no such line.
+    pub fn line_range(&self, line: usize) -> Option<Range<usize>> {
+        let (mut start, mut end) = (0, 0);
+        let answer = unsafe { ffi::lodvarn_line_range(self.at.get(), line, &mut start, &mut end) };
+        (answer == ffi::DONE).then_some(start..end)
+    }
+
+    /// How many bytes the text may have.
+    pub fn limit(&self) -> usize {
+        unsafe { ffi::lodvarn_limit(self.at.get()) }
+    }
+
+    /// How many entries the record has.
+    pub fn entries(&self) -> usize {
+        unsafe { ffi::lodvarn_entries(self.at.get()) }
+    }
+
+    /// Whether a yank that put something in was done last.
+    pub fn last_was_yank(&self) -> bool {
+        unsafe { ffi::lodvarn_last_was_yank(self.at.get()) == ffi::TRUE }
+    }
+}

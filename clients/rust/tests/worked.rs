@@ -1,0 +1,302 @@
+//! Worked scripts of sessions in Rust, with answers that were worked out by hand.
+use lodvarn::{
+    cell, first_cluster, last_cluster, run_script, width, Action, At, Fault, Mode, Movement,
+    Search, Session, Word,
+};
+use std::num::NonZeroU16;
+
+const FAMILY: &str = "\u{1f468}\u{200d}\u{1f469}\u{200d}\u{1f467}";
+
+fn opened(text: &str, pos: usize) -> Session {
+    Session::new(text, pos, 64, 60, Mode::Unicode).expect("a session opens")
+}
+
+#[track_caller]
+fn stands(session: &Session, text: &str, pos: usize) {
+    assert_eq!((session.text().as_str(), session.pos()), (text, pos));
+}
+
+#[test]
+fn an_insertion_is_undone() {
+    let mut session = opened("ab", 1);
+    assert_eq!(session.insert('c', 1), Ok(Some(false)));
+    stands(&session, "acb", 2);
+    assert_eq!(session.undo(1), Ok(true));
+    stands(&session, "ab", 1);
+    assert_eq!(session.redo(), Ok(true));
+    assert_eq!(session.redo(), Ok(false));
+    stands(&session, "acb", 2);
+}
+
+#[test]
+fn an_insertion_has_to_fit() {
+    let mut session = Session::new("ab", 2, 3, 60, Mode::Unicode).expect("a session opens");
+    assert_eq!(session.insert('é', 1), Ok(None));
+    assert_eq!(session.paste("cd", 1), Ok(None));
+    assert_eq!(session.paste("", 1), Ok(None));
+    assert_eq!(session.insert('c', 1), Ok(Some(true)));
+    stands(&session, "abc", 3);
+    assert_eq!(session.insert_str(0, "more"), Ok(false));
+    assert_eq!(session.limit(), 7);
+}
+
+#[test]
+fn every_command_does_something() -> Result<(), Fault> {
+    let mut s = opened("ab cd", 5);
+    assert_eq!(s.insert('e', 1)?, Some(true));
+    assert!(s.backspace(1)?);
+    s.truncate(0)?;
+    assert_eq!(s.begin()?, 0);
+    s.set_pos(0)?;
+    assert_eq!(s.paste("x y", 1)?, Some(false));
+    assert!(s.end()?);
+    assert!(s.undo(1)?);
+    assert!(s.redo()?);
+    stands(&s, "x yab cd", 3);
+    assert!(s.delete_prev_word(Word::Emacs, 1)?);
+    assert!(s.delete_word(At::AfterEnd, Word::Emacs, 1)?);
+    assert!(s.edit_word(Action::Uppercase)?);
+    assert!(s.delete_to(Search::Backward('C'), 1)?);
+    stands(&s, "x  ", 3);
+    assert!(s.move_by(Movement::BeginningOfBuffer));
+    assert!(s.kill(Movement::EndOfLine)?);
+    s.update("one two", 7)?;
+    assert!(s.transpose_words(1)?);
+    assert!(s.transpose_chars()?);
+    stands(&s, "two oen", 7);
+    assert!(s.kill(Movement::BackwardWord(1, Word::Emacs))?);
+    assert_eq!(s.yank(1)?, Some(true));
+    assert!(s.last_was_yank());
+    assert_eq!(s.yank_pop()?, Some(true));
+    stands(&s, "two x  ", 7);
+    let copied = s.copy(Movement::BackwardWord(1, Word::Emacs))?;
+    assert_eq!(copied.as_deref(), Some("x  "));
+    assert!(!s.insert_str(0, "ab\n")?);
+    assert!(s.indent(Movement::WholeBuffer, 2)?);
+    assert!(s.dedent(Movement::WholeLine, 1)?);
+    stands(&s, "  ab\n two x  ", 10);
+    s.replace(0..4, "cd\ne")?;
+    assert_eq!(s.line_place(), (1, 1));
+    s.delete_range(5..6)?;
+    assert_eq!(s.delete(1)?.as_deref(), Some("t"));
+    s.set_pos(3)?;
+    assert!(s.kill_line()?);
+    assert!(s.kill_buffer()?);
+    assert!(s.discard_line()?);
+    assert!(s.discard_buffer()?);
+    stands(&s, "", 0);
+    Ok(())
+}
+
+#[test]
+fn movements_move() {
+    // The text, the cursor, the movement, and where that goes.
+    let rows = [
+        ("ba\nsdf", 4, Movement::BeginningOfLine, Some(3)),
+        ("ba\nsdf", 0, Movement::EndOfLine, Some(2)),
+        ("ba\nsdf", 0, Movement::WholeLine, None),
+        ("ba\nsdf", 4, Movement::WholeBuffer, None),
+        ("ba\nsdf", 4, Movement::FirstPrint, None),
+        ("ba\nsdf", 4, Movement::BeginningOfBuffer, Some(0)),
+        ("ba\nsdf", 4, Movement::EndOfBuffer, Some(6)),
+        ("ba\nsdf", 4, Movement::LineUp(1), Some(1)),
+        ("ba\nsdf", 1, Movement::LineDown(1), Some(4)),
+        ("ag\u{308}", 4, Movement::BackwardChar(1), Some(1)),
+        ("ag\u{308}", 1, Movement::ForwardChar(1), Some(4)),
+        ("a/b", 3, Movement::BackwardWord(2, Word::Vi), Some(1)),
+        ("a ß  c", 6, Movement::BackwardWord(1, Word::Emacs), Some(2)),
+        ("a/b c", 5, Movement::BackwardWord(2, Word::Big), Some(0)),
+        (
+            "a/b",
+            0,
+            Movement::ForwardWord(2, At::Start, Word::Vi),
+            Some(2),
+        ),
+        (
+            "a ß  c",
+            0,
+            Movement::ForwardWord(1, At::Start, Word::Big),
+            Some(2),
+        ),
+        (
+            "a ß  c",
+            1,
+            Movement::ForwardWord(2, At::AfterEnd, Word::Emacs),
+            Some(7),
+        ),
+        (
+            "alpha, b",
+            0,
+            Movement::ForwardWord(1, At::BeforeEnd, Word::Vi),
+            Some(4),
+        ),
+        (
+            "alpha, b",
+            0,
+            Movement::ForwardWord(1, At::BeforeEnd, Word::Big),
+            Some(5),
+        ),
+        (
+            "abcbe",
+            0,
+            Movement::Search(2, Search::Forward('b')),
+            Some(3),
+        ),
+        (
+            "abcbe",
+            0,
+            Movement::Search(1, Search::ForwardBefore('e')),
+            Some(3),
+        ),
+        (
+            "abcbe",
+            4,
+            Movement::Search(1, Search::Backward('b')),
+            Some(3),
+        ),
+        (
+            "abcbe",
+            4,
+            Movement::Search(1, Search::BackwardAfter('a')),
+            Some(1),
+        ),
+        ("abcbe", 4, Movement::Search(1, Search::Forward('x')), None),
+    ];
+    for (text, pos, movement, goes) in rows {
+        let mut session = opened(text, pos);
+        assert_eq!(session.move_by(movement), goes.is_some(), "{movement:?}");
+        assert_eq!(
+            session.pos(),
+            goes.unwrap_or(pos),
+            "{movement:?} on {text:?}"
+        );
+    }
+}
+
+#[test]
+fn kills_come_back() {
+    let mut session = opened("one two three", 4);
+    let ahead = Movement::ForwardWord(1, At::AfterEnd, Word::Emacs);
+    for movement in [ahead, Movement::BeginningOfLine, Movement::EndOfLine] {
+        assert_eq!(session.kill(movement), Ok(true));
+        // a read parts no kills
+        assert!(!session.last_was_yank());
+    }
+    stands(&session, "", 0);
+    assert_eq!(session.yank(1), Ok(Some(true)));
+    stands(&session, "one two three", 13);
+}
+
+#[test]
+fn a_group_is_undone_at_once() {
+    let mut session = opened("one two", 0);
+    assert_eq!(session.begin(), Ok(0));
+    assert_eq!(session.edit_word(Action::Capitalize), Ok(true));
+    assert_eq!(session.end(), Ok(true));
+    assert_eq!(session.entries(), 4);
+    stands(&session, "One two", 3);
+    assert_eq!(session.undo(1), Ok(true));
+    stands(&session, "one two", 0);
+}
+
+#[test]
+fn lines_are_read() {
+    let session = opened("ab\n\ncd", 3);
+    assert_eq!((session.line_number(), session.line_count()), (1, 3));
+    let ranges: Vec<_> = (0..4).map(|it| session.line_range(it)).collect();
+    assert_eq!(ranges, [Some(0..2), Some(3..3), Some(4..6), None]);
+}
+
+#[test]
+fn long_texts_are_handed_out() {
+    let text = "\0é漢".repeat(1000);
+    let mut session = opened(&text, 0);
+    assert_eq!(session.copy(Movement::WholeLine), Ok(Some(text.clone())));
+    assert_eq!(session.delete(65535), Ok(Some(text)));
+    stands(&session, "", 0);
+    assert_eq!(session.delete(1), Ok(None));
+}
+
+#[test]
+fn what_is_refused_says_why_and_changes_nothing() {
+    let new = |text, pos, limit| Session::new(text, pos, limit, 60, Mode::Unicode).map(|_| ());
+    assert_eq!(new("é", 1, 64), Err(Fault::BadPlace));
+    assert_eq!(new("é", 3, 64), Err(Fault::BadPlace));
+    assert_eq!(new("a", 1, usize::MAX), Err(Fault::NoMemory));
+    let mut session = opened("aé", 3);
+    assert_eq!(session.set_pos(2), Err(Fault::BadPlace));
+    assert_eq!(session.replace(0..4, "x"), Err(Fault::BadPlace));
+    assert_eq!(session.delete_range(2..3), Err(Fault::BadPlace));
+    assert_eq!(session.update("é", 1), Err(Fault::BadPlace));
+    assert_eq!(session.insert_str(2, "x"), Err(Fault::BadPlace));
+    stands(&session, "aé", 3);
+    assert_eq!(session.kill(Movement::BeginningOfLine), Ok(true));
+    assert_eq!(session.truncate(0), Err(Fault::NotReplaying));
+    assert_eq!(session.yank(0), Ok(Some(true)));
+    assert_eq!(session.yank_pop(), Err(Fault::BadYankSize));
+    stands(&session, "", 0);
+    assert_eq!(session.entries(), 1);
+}
+
+#[test]
+fn a_session_goes_to_another_thread() {
+    let mut session = opened("ab", 2);
+    let there = std::thread::spawn(move || {
+        assert_eq!(session.insert('c', 1), Ok(Some(true)));
+        session
+    });
+    stands(&there.join().expect("the thread ends"), "abc", 3);
+}
+
+#[test]
+fn widths_and_clusters_are_found() {
+    for (text, unicode, wc_width, no_zwj) in [
+        ("", 0, 0, 0),
+        ("漢a", 3, 3, 3),
+        ("\u{1f469}\u{200d}\u{1f680}", 2, 4, 4),
+    ] {
+        let modes = [Mode::Unicode, Mode::WcWidth, Mode::NoZwj];
+        assert_eq!(modes.map(|it| width(text, it)), [unicode, wc_width, no_zwj]);
+    }
+    for (text, first, last) in [
+        ("", "", ""),
+        ("e\u{301}x", "e\u{301}", "x"),
+        (FAMILY, FAMILY, FAMILY),
+    ] {
+        assert_eq!((first_cluster(text), last_cluster(text)), (first, last));
+    }
+}
+
+#[test]
+fn cells_are_placed() {
+    for (text, place, prompt, columns, wanted) in [
+        ("", 0, 2, 10, (0, 2)),
+        ("ab\ncd", 5, 2, 10, (1, 2)),
+        ("abc漢", 6, 0, 4, (1, 2)),
+        ("abcd", 4, 0, 4, (1, 0)),
+        (FAMILY, 18, 2, 10, (0, 4)),
+    ] {
+        let columns = NonZeroU16::new(columns).expect("some columns");
+        let placed = cell(text, place, prompt, columns, Mode::Unicode);
+        assert_eq!(placed, Ok(wanted), "{text:?}");
+    }
+    let columns = NonZeroU16::new(1).expect("a column");
+    assert_eq!(
+        cell("é", 1, 0, columns, Mode::Unicode),
+        Err(Fault::BadPlace)
+    );
+}
+
+#[test]
+fn scripts_run() {
+    let wanted: &[u8] = b"ok 2 ab\nok 1 ab\nfalse 2 acb\ntrue 1 ab\n";
+    let printed = run_script(b"text ab\npos 1\nins 1 c\nundo 1\n");
+    assert_eq!(printed.as_deref(), Ok(wanted));
+    assert_eq!(run_script(b"\xff").as_deref(), Ok(b"bad\n".as_slice()));
+    assert_eq!(run_script(b"").as_deref(), Ok(b"".as_slice()));
+}
+
+#[test]
+fn faults_have_words() {
+    assert_eq!(Fault::BadPlace.to_string(), "no such place in the text");
+}
