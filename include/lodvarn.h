@@ -225,7 +225,8 @@ uint32_t lodvarn_transpose_chars(lodvarn **s);
 uint32_t lodvarn_transpose_words(lodvarn **s, uint16_t n);
 
 /* Changes the case of the word from the cursor on, by an enum lodvarn_action; the cursor goes behind it. TRUE, or
- * FALSE where there is none. It is two changes, to be wrapped like lodvarn_transpose_chars. NO_SUCH_NUMBER, NO_MEMORY. */
+ * FALSE where there is none. It is two changes, to be wrapped like lodvarn_transpose_chars. NO_SUCH_NUMBER,
+ * NO_MEMORY. */
 uint32_t lodvarn_edit_word(lodvarn **s, uint32_t action);
 
 /* Deletes what an enum lodvarn_movement covers. The ring keeps it, but not by BACKWARD_CHAR and FORWARD_CHAR; kills
@@ -299,7 +300,8 @@ uint32_t lodvarn_last_was_yank(lodvarn **s);
  * than cap. NO_MEMORY. */
 uint32_t lodvarn_script(const char *script, size_t len, char *out, size_t cap, size_t *out_len);
 
-/* The columns that a text takes, at most 65535, by an enum lodvarn_mode, in *columns. DONE. NOT_UTF8, NO_SUCH_NUMBER. */
+/* The columns that a text takes, at most 65535, by an enum lodvarn_mode, in *columns. DONE. NOT_UTF8,
+ * NO_SUCH_NUMBER. */
 uint32_t lodvarn_width(const char *text, size_t len, uint32_t mode, uint16_t *columns);
 
 /* The bytes of a text's first grapheme cluster in *out_len, 0 where the text is empty. DONE. NOT_UTF8. */

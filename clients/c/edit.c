@@ -278,7 +278,7 @@ static int take_key(void) {
         if (key) key->does(key->number);
         else if (len == sizeof bytes || !key_of(bytes, len, 0)) pass_over(bytes, len);
         else {
-            byte = next_byte(1);
+            byte = next_byte(bytes[0] == 0x1b);
             continue;
         }
         break;

@@ -12,7 +12,9 @@ static double nanoseconds(void) {
     return (double)now.tv_sec * 1e9 + (double)now.tv_nsec;
 }
 
-static void say(const char *what, double since) { printf("%s: %.1f ns a call\n", what, (nanoseconds() - since) / CALLS); }
+static void say(const char *what, double since) {
+    printf("%s: %.1f ns a call\n", what, (nanoseconds() - since) / CALLS);
+}
 
 int main(void) {
     lodvarn *s = NULL;

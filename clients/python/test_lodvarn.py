@@ -5,6 +5,7 @@ import ctypes
 import gc
 import pickle
 import re
+import sys
 import unittest
 from pathlib import Path
 
@@ -232,4 +233,7 @@ class Numbers(unittest.TestCase):
 
 
 if __name__ == "__main__":
-    unittest.main()
+    result = unittest.main(exit=False).result
+    failed = len(result.failures) + len(result.errors)
+    print(f"{result.testsRun - failed} passed, {failed} failed")
+    sys.exit(failed != 0)

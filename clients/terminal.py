@@ -1,0 +1,185 @@
+#!/usr/bin/env python3
+"""Tests the line editor in a terminal: keys go in by tmux, and the screen and the cursor's place are compared.
+
+    python3 clients/terminal.py [PROGRAM]
+
+Its last line is 'N passed, M failed'.
+"""
+
+import os
+import subprocess
+import sys
+import time
+from pathlib import Path
+
+PROGRAM = Path(__file__).resolve().parent / "out/edit"
+COLUMNS, ROWS = 60, 20
+# How long a screen may take to come, in seconds, and how long the editor waits for the rest of a key, and then some.
+PATIENCE, PAUSE = 10, 0.5
+FAMILY = "\U0001f468\u200d\U0001f469\u200d\U0001f467"
+# What is sent is a text, bytes, a list of keys by tmux's names, or this.
+PAUSED = object()
+
+
+def keys(names):
+    return names.split()
+
+
+class Terminal:
+    """A terminal of its own in which the editor runs."""
+
+    def __init__(self, program):
+        self.socket = f"lodvarn-{os.getpid()}"
+        environment = {**os.environ, "LC_ALL": "C.UTF-8"}
+        environment.pop("TMUX", None)
+        self.environment = environment
+        size = ["-x", str(COLUMNS), "-y", str(ROWS)]
+        self.tmux("new-session", "-d", *size, "-s", "edit", f"exec '{program}'", ";", "set", "remain-on-exit", "on")
+
+    def tmux(self, *words):
+        ran = subprocess.run(
+            ["tmux", "-u", "-L", self.socket, "-f", "/dev/null", *words],
+            env=self.environment,
+            capture_output=True,
+            text=True,
+            timeout=PATIENCE,
+        )
+        if ran.returncode != 0:
+            raise RuntimeError(f"tmux {words[0]}: {ran.stderr.strip()}")
+        return ran.stdout
+
+    def send(self, given):
+        if given is PAUSED:
+            time.sleep(PAUSE)
+        elif isinstance(given, bytes):
+            self.tmux("send-keys", "-t", "edit", "-H", *(f"{byte:02x}" for byte in given))
+        elif isinstance(given, list):
+            self.tmux("send-keys", "-t", "edit", *given)
+        else:
+            self.tmux("send-keys", "-t", "edit", "-l", "--", given)
+
+    def screen(self):
+        """The rows, without the empty ones at the end, and the cursor's row and column."""
+        rows = [row.rstrip() for row in self.tmux("capture-pane", "-p", "-t", "edit").split("\n")]
+        while rows and not rows[-1]:
+            rows.pop()
+        row, column = self.tmux("display", "-p", "-t", "edit", "#{cursor_y} #{cursor_x}").split()
+        return rows, (int(row), int(column))
+
+    def ended(self):
+        """The editor's status, or None while it runs."""
+        dead, status = self.tmux("display", "-p", "-t", "edit", "#{pane_dead}:#{pane_dead_status}").strip().split(":")
+        return int(status) if dead == "1" else None
+
+    def close(self):
+        self.tmux("kill-server")
+
+
+def await_that(look, is_wanted):
+    """Looks until what is seen is wanted, or patience ends. What was seen last."""
+    end = time.monotonic() + PATIENCE
+    while True:
+        seen = look()
+        if is_wanted(seen) or time.monotonic() > end:
+            return seen
+        time.sleep(0.02)
+
+
+# What is shown, what is sent, and the rows and the cursor that this leads to; rows that are None are not compared,
+# where terminals draw a cluster in ways of their own.
+CASES = [
+    ("a prompt", [], [">"], (0, 2)),
+    ("typing", ["hello"], ["> hello"], (0, 7)),
+    ("the start and the end of the line", ["hello", keys("C-a"), "x", keys("C-e"), "y"], ["> xhelloy"], (0, 9)),
+    ("Home and End", ["hello", keys("Home"), "x", keys("End"), "y"], ["> xhelloy"], (0, 9)),
+    ("arrows", ["hello", keys("Left Left Right"), "x"], ["> hellxo"], (0, 7)),
+    ("deletions to both sides", ["hello", keys("Left Left BSpace C-d"), "x", keys("DC")], ["> hex"], (0, 5)),
+    ("words back", ["one two three", keys("M-b M-b")], ["> one two three"], (0, 6)),
+    ("words ahead", ["one two three", keys("C-a M-f M-f"), "x"], ["> one twox three"], (0, 10)),
+    ("a word is killed", ["one two three", keys("M-b M-b M-d")], ["> one  three"], (0, 6)),
+    ("a word back is killed", ["one two/three", keys("M-BSpace")], ["> one two/"], (0, 10)),
+    ("a word to the blank is killed", ["one two/three", keys("C-w")], ["> one"], (0, 6)),
+    ("a kill is yanked", ["one two", keys("M-b C-k C-a C-y")], ["> twoone"], (0, 5)),
+    ("kills in a row are one", ["one two three", keys("C-w C-w C-y")], ["> one two three"], (0, 15)),
+    ("a yank is popped", ["one two", keys("C-w Left C-u C-y M-y")], ["> two"], (0, 5)),
+    ("a line is killed to its start", ["one two", keys("M-b C-u")], ["> two"], (0, 2)),
+    ("an undo takes back a word", ["one", " two", keys("C-_")], ["> one"], (0, 5)),
+    ("an undo behind a change of case", ["hello world", keys("M-b M-u C-_")], ["> hello world"], (0, 8)),
+    ("a redo of it", ["hello world", keys("M-b M-u C-_ M-_")], ["> hello WORLD"], (0, 13)),
+    ("the other cases", ["HELLO world", keys("C-a M-l M-c")], ["> hello World"], (0, 13)),
+    ("clusters are transposed", ["abc", keys("C-t")], ["> acb"], (0, 5)),
+    ("and put back by one undo", ["abc", keys("C-t C-_")], ["> abc"], (0, 5)),
+    ("words are transposed", ["one two", keys("M-t")], ["> two one"], (0, 9)),
+    ("and put back by one undo as well", ["one two", keys("M-t C-x C-u")], ["> one two"], (0, 9)),
+    ("a row that is full", ["a" * 58], ["> " + "a" * 58], (1, 0)),
+    ("a line that is wrapped", ["a" * 70], ["> " + "a" * 58, "a" * 12], (1, 12)),
+    ("its start", ["a" * 70, keys("C-a")], ["> " + "a" * 58, "a" * 12], (0, 2)),
+    ("a line that is no longer wrapped", ["b" * 59, keys("BSpace BSpace")], ["> " + "b" * 57], (0, 59)),
+    ("an insertion before the edge", ["c" * 58, keys("C-a"), "d"], ["> d" + "c" * 57, "c"], (0, 3)),
+    ("wide characters", ["日本語"], ["> 日本語"], (0, 8)),
+    ("are taken whole", ["日本語", keys("BSpace Left"), "é"], ["> 日é本"], (0, 5)),
+    ("and do not fit in one column", ["a" * 57 + "日"], ["> " + "a" * 57, "日"], (1, 2)),
+    ("a mark is a part of its letter", ["xe\u0301y", keys("Left Left")], None, (0, 3)),
+    ("a family of emoji is two columns wide", ["x" + FAMILY + "y"], None, (0, 6)),
+    ("and one step", ["x" + FAMILY + "y", keys("Left Left")], None, (0, 3)),
+    ("and one deletion", ["x" + FAMILY + "y", keys("Left BSpace")], ["> xy"], (0, 3)),
+    ("two rows", ["ab", keys("M-Enter"), "cd"], ["> ab", "cd"], (1, 2)),
+    ("the row above", ["ab", keys("M-Enter"), "cd", keys("Up"), "x"], ["> abx", "cd"], (0, 5)),
+    ("and the row below", ["ab", keys("M-Enter"), "cd", keys("Up Left Down"), "x"], ["> ab", "cxd"], (1, 2)),
+    ("the start of the text", ["ab", keys("M-Enter"), "cd", keys("M-<")], ["> ab", "cd"], (0, 2)),
+    ("rows are joined", ["ab", keys("M-Enter"), "cd", keys("C-a BSpace")], ["> abcd"], (0, 4)),
+    ("a text is accepted", ["hello", keys("C-a Enter")], ["> hello", "=> hello", ">"], (2, 2)),
+    ("of two rows", ["ab", keys("M-Enter"), "cd", keys("Enter"), "e"], ["> ab", "cd", "=> ab", "cd", "> e"], (4, 3)),
+    ("a wrapped text", ["a" * 58, keys("Enter")], ["> " + "a" * 58, "", "=> " + "a" * 57, "a", ">"], (4, 2)),
+    ("the screen is cleared", ["ab", keys("Enter"), "cd", keys("C-l")], ["> cd"], (0, 4)),
+    ("keys without a function", ["a", keys("F5 PageUp C-g C-Left"), "b"], ["> ba"], (0, 3)),
+    ("a lone escape", [keys("Escape"), PAUSED, "b"], ["> b"], (0, 3)),
+    ("an escape before a key", ["a", b"\x1b\x1bb", "b", b"\x1b\x1b[D", "c"], ["> cba"], (0, 3)),
+    ("bytes that are text", [b"\xc3\xa9\xe6\x97\xa5"], ["> é日"], (0, 5)),
+    ("bytes that are no text", ["a", b"\xff\x80\xc3", "b", b"\xe2\x82", keys("Left"), "c"], ["> acb"], (0, 4)),
+    ("and bytes of no character", ["a", b"\xed\xa0\x80\xc0\x80\xf4\x90\x80\x80", "b"], ["> ab"], (0, 4)),
+    ("a character that stays broken off", [b"\xe6\x97", PAUSED, "x"], ["> x"], (0, 3)),
+]
+
+
+def run_case(program, what, given, rows, cursor):
+    """Whether the keys lead to that screen."""
+    terminal = Terminal(program)
+    try:
+        await_that(terminal.screen, lambda seen: seen == ([">"], (0, 2)))
+        for one in [*given, *([] if rows else [PAUSED])]:
+            terminal.send(one)
+        seen = await_that(terminal.screen, lambda seen: (rows or seen[0], cursor) == seen)
+        if (rows or seen[0], cursor) == seen and terminal.ended() is None:
+            return True
+        print(f"FAILED: {what}\n  wanted {rows} {cursor}\n  saw {seen[0]} {seen[1]}")
+        return False
+    finally:
+        terminal.close()
+
+
+def run_end(program, what, given):
+    """Whether the editor ends by itself, with status 0."""
+    terminal = Terminal(program)
+    try:
+        for one in given:
+            terminal.send(one)
+        status = await_that(terminal.ended, lambda status: status is not None)
+        if status != 0:
+            print(f"FAILED: {what}: status {status}")
+        return status == 0
+    finally:
+        terminal.close()
+
+
+def main():
+    program = Path(sys.argv[1]).resolve() if len(sys.argv) > 1 else PROGRAM
+    outcomes = [run_case(program, *case) for case in CASES]
+    outcomes.append(run_end(program, "the end of input", [keys("C-d")]))
+    outcomes.append(run_end(program, "the end of input behind a text", ["ab", keys("Enter"), "c", keys("BSpace C-d")]))
+    print(f"{outcomes.count(True)} passed, {outcomes.count(False)} failed")
+    return 0 if all(outcomes) else 1
+
+
+if __name__ == "__main__":
+    sys.exit(main())
