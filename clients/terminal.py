@@ -9,6 +9,7 @@ Its last line is 'N passed, M failed'.
 import os
 import subprocess
 import sys
+import tempfile
 import time
 from pathlib import Path
 
@@ -26,10 +27,10 @@ def keys(names):
 
 
 class Terminal:
-    """A terminal of its own in which the editor runs."""
+    """A terminal of its own, on a socket in a folder of its own, in which the editor runs."""
 
     def __init__(self, program):
-        self.socket = f"lodvarn-{os.getpid()}"
+        self.room = tempfile.TemporaryDirectory(prefix="lodvarn-")
         environment = {**os.environ, "LC_ALL": "C.UTF-8"}
         environment.pop("TMUX", None)
         self.environment = environment
@@ -38,7 +39,7 @@ class Terminal:
 
     def tmux(self, *words):
         ran = subprocess.run(
-            ["tmux", "-u", "-L", self.socket, "-f", "/dev/null", *words],
+            ["tmux", "-u", "-S", f"{self.room.name}/socket", "-f", "/dev/null", *words],
             env=self.environment,
             capture_output=True,
             text=True,
@@ -73,6 +74,7 @@ class Terminal:
 
     def close(self):
         self.tmux("kill-server")
+        self.room.cleanup()
 
 
 def await_that(look, is_wanted):
@@ -116,6 +118,9 @@ CASES = [
     ("its start", ["a" * 70, keys("C-a")], ["> " + "a" * 58, "a" * 12], (0, 2)),
     ("a line that is no longer wrapped", ["b" * 59, keys("BSpace BSpace")], ["> " + "b" * 57], (0, 59)),
     ("an insertion before the edge", ["c" * 58, keys("C-a"), "d"], ["> d" + "c" * 57, "c"], (0, 3)),
+    ("a text that is longer than the screen", ["e" * 1300 + "z"], ["e" * 60] * 19 + ["e" * 42 + "z"], (19, 43)),
+    ("its start", ["e" * 1300 + "z", keys("C-a")], ["> " + "e" * 58] + ["e" * 60] * 19, (0, 2)),
+    ("and its end again", ["e" * 1300 + "z", keys("C-a C-e BSpace")], ["e" * 60] * 19 + ["e" * 42], (19, 42)),
     ("wide characters", ["日本語"], ["> 日本語"], (0, 8)),
     ("are taken whole", ["日本語", keys("BSpace Left"), "é"], ["> 日é本"], (0, 5)),
     ("and do not fit in one column", ["a" * 57 + "日"], ["> " + "a" * 57, "日"], (1, 2)),

@@ -54,48 +54,51 @@ static size_t cluster(const char *bytes, size_t len) {
     return first;
 }
 
+/* The rows that fit on the screen. */
+struct view { size_t top, bottom; };
+
+static void begin_row(size_t row, struct view view) {
+    if (view.top < row && row <= view.bottom) fputs("\r\n", stdout);
+}
+
 /* Draws the text from the prompt on. Rows are begun, and columns are told, as Lodvarn lays them out, so that a
  * terminal that measures a cluster otherwise is put right behind it. */
-static void draw(const char *bytes, size_t len, uint16_t columns) {
+static void draw(const char *bytes, size_t len, uint16_t columns, struct view view) {
+    size_t row = 0;
     unsigned column = prompt_columns;
+    if (view.top == 0) fputs(prompt, stdout);
     for (size_t k; len > 0; bytes += k, len -= k) {
         uint16_t width = 0;
         k = cluster(bytes, len);
-        if (*bytes == '\n') {
-            fputs("\r\n", stdout);
+        if (*bytes != '\n') lodvarn_width(bytes, k, LODVARN_UNICODE, &width);
+        if (*bytes == '\n' || column + width > columns) {
             column = 0;
-            continue;
+            begin_row(++row, view);
         }
-        lodvarn_width(bytes, k, LODVARN_UNICODE, &width);
-        if (column + width > columns) {
-            fputs("\r\n", stdout);
-            column = 0;
-        }
-        fwrite(bytes, 1, k, stdout);
         column += width;
+        if (*bytes == '\n' || row < view.top || view.bottom < row) continue;
+        fwrite(bytes, 1, k, stdout);
         if (k > 1 && column < columns) printf("\x1b[%uG", column + 1);
     }
-    if (column >= columns) fputs("\r\n", stdout);
-}
-
-static uint16_t screen_columns(void) {
-    struct winsize size;
-    return ioctl(1, TIOCGWINSZ, &size) == 0 && size.ws_col ? size.ws_col : 80;
+    if (column >= columns) begin_row(++row, view);
 }
 
 static void redraw(void) {
-    uint16_t columns = screen_columns();
+    struct winsize size;
+    if (ioctl(1, TIOCGWINSZ, &size) || !size.ws_col || !size.ws_row) size = (struct winsize){24, 80, 0, 0};
     size_t len, row = 0, column = 0, last_row = 0, last_column = 0;
     const char *bytes = text(&len);
-    lodvarn_cell(bytes, len, lodvarn_pos(&s), prompt_columns, columns, LODVARN_UNICODE, &row, &column);
-    lodvarn_cell(bytes, len, len, prompt_columns, columns, LODVARN_UNICODE, &last_row, &last_column);
+    lodvarn_cell(bytes, len, lodvarn_pos(&s), prompt_columns, size.ws_col, LODVARN_UNICODE, &row, &column);
+    lodvarn_cell(bytes, len, len, prompt_columns, size.ws_col, LODVARN_UNICODE, &last_row, &last_column);
+    struct view view = {row < size.ws_row ? 0 : row - size.ws_row + 1, last_row};
+    if (last_row - view.top >= size.ws_row) view.bottom = view.top + size.ws_row - 1;
     if (shown_row) printf("\x1b[%zuA", shown_row);
-    printf("\r\x1b[J%s", prompt);
-    draw(bytes, len, columns);
-    if (last_row > row) printf("\x1b[%zuA", last_row - row);
+    fputs("\r\x1b[J", stdout);
+    draw(bytes, len, size.ws_col, view);
+    if (view.bottom > row) printf("\x1b[%zuA", view.bottom - row);
     printf("\x1b[%zuG", column + 1);
     fflush(stdout);
-    shown_row = row;
+    shown_row = row - view.top;
 }
 
 /* The functions of keys, each with a number of its own. */
@@ -205,7 +208,6 @@ static const struct key {
     {"\x1b[1;5C", "forward-word", move, LODVARN_FORWARD_EMACS_WORD_AFTER_END},
     {"\x1b" "d", "kill-word", kill_to, LODVARN_FORWARD_EMACS_WORD_AFTER_END},
     {"\x1b\x7f", "backward-kill-word", kill_to, LODVARN_BACKWARD_EMACS_WORD},
-    {"\x1b\x08", "backward-kill-word", kill_to, LODVARN_BACKWARD_EMACS_WORD},
     {"\x18\x7f", "backward-kill-line", kill_to, LODVARN_BEGINNING_OF_LINE},
     {"\x1b" "c", "capitalize-word", change_case, LODVARN_CAPITALIZE},
     {"\x1b" "l", "downcase-word", change_case, LODVARN_LOWERCASE},
@@ -287,10 +289,7 @@ static int take_key(void) {
 }
 
 int main(void) {
-    if (tcgetattr(0, &before)) {
-        perror("edit");
-        return 1;
-    }
+    if (tcgetattr(0, &before)) return perror("edit"), 1;
     enter_raw();
     atexit(leave_raw);
     for (begin_text(), redraw(); take_key(); redraw()) {}

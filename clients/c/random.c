@@ -116,7 +116,7 @@ static void add_deletion(struct typed *t) {
 static void add_other(struct typed *t) {
     static const char *const plain[] = {"tchars", "begin", "end", "redo", "redo", "where", "yankpop", "yankpop"};
     static const char *const cases[] = {"cap", "low", "up"};
-    switch (below(9)) {
+    switch (below(12)) {
     case 0: add("pos %u", place(t)); break;
     case 1: add("move"); add_movement(); break;
     case 2: add("copy"); add_movement(); break;

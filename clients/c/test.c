@@ -276,6 +276,7 @@ static void begin_bad_input(void) {
 }
 
 static void nothing_is_open(void) {
+    begin_bad_input();
     lodvarn_close(&s);
     LEAVES(LODVARN_CLOSED, lodvarn_set_pos(&s, 0));
     LEAVES(LODVARN_CLOSED, lodvarn_move(&s, LODVARN_END_OF_LINE, 1, 0));
