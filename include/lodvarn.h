@@ -311,9 +311,9 @@ uint32_t lodvarn_first_cluster(const char *text, size_t len, size_t *out_len);
 uint32_t lodvarn_last_cluster(const char *text, size_t len, size_t *out_len);
 
 /* Where a place of a text stands on a screen that is so many columns wide, where the text begins at column prompt of
- * row 0: in *row and *column. A newline leads to the next row; so does a cluster that does not fit on what is left of
- * its row, and it stands there whole. A place at the right edge is column 0 of the next row. The mode is an enum
- * lodvarn_mode. DONE. NOT_UTF8, BAD_PLACE, NO_SUCH_NUMBER also where columns is 0. */
+ * row 0: in *row and *column. A newline, "\n" or "\r\n", leads to the next row; so does a cluster that does not fit on
+ * what is left of its row, and it stands there whole. A place at the right edge is column 0 of the next row. The mode
+ * is an enum lodvarn_mode. DONE. NOT_UTF8, BAD_PLACE, NO_SUCH_NUMBER also where columns is 0. */
 uint32_t lodvarn_cell(const char *text, size_t len, size_t place, uint16_t prompt, uint16_t columns, uint32_t mode,
                       size_t *row, size_t *column);
 

@@ -192,6 +192,7 @@ static void cells_are_placed(void) {
         {"two letters behind a prompt", "ab", 2, 2, 10, 0, 0, 4},
         {"a newline leads below, and to the left", "ab\ncd", 3, 2, 10, 0, 1, 0},
         {"and letters go on there", "ab\ncd", 5, 2, 10, 0, 1, 2},
+        {"so does the one cluster of a carriage return and a newline", "ab\r\ncd", 5, 2, 10, 0, 1, 1},
         {"newlines alone", "\n\n", 2, 5, 10, 0, 2, 0},
         {"before the right edge", "abcd", 3, 0, 4, 0, 0, 3},
         {"the right edge is the next row", "abcd", 4, 0, 4, 0, 1, 0},

@@ -19,7 +19,7 @@ fn behind(
     ensures row { result.0 ≤ row + 1 }
     ensures column { result.1 ≤ 65535 }
 {
-    if cluster == "\n" {
+    if cluster == "\n" || cluster == "\r\n" {
         return (row + 1, 0);
     }
     let width = usize::from(mode.width(cluster));
