@@ -131,6 +131,12 @@ CASES = [
     ("a text is accepted", ["hello", keys("C-a Enter")], ["> hello", "=> hello", ">"], (2, 2)),
     ("of two rows", ["ab", keys("M-Enter"), "cd", keys("Enter"), "e"], ["> ab", "cd", "=> ab", "cd", "> e"], (4, 3)),
     ("a wrapped text", ["a" * 58, keys("Enter")], ["> " + "a" * 58, "", "=> " + "a" * 57, "a", ">"], (4, 2)),
+    (
+        "several of these",
+        ["hello wörld 日本", keys("M-b M-b M-u C-e M-Enter"), "and a second row", keys("Enter"), "one two", keys("M-t")],
+        ["> hello WÖRLD 日本", "and a second row", "=> hello WÖRLD 日本", "and a second row", "> two one"],
+        (4, 9),
+    ),
     ("the screen is cleared", ["ab", keys("Enter"), "cd", keys("C-l")], ["> cd"], (0, 4)),
     ("keys without a function", ["a", keys("F5 PageUp C-g C-Left"), "b"], ["> ba"], (0, 3)),
     ("a lone escape", [keys("Escape"), PAUSED, "b"], ["> b"], (0, 3)),

@@ -220,6 +220,126 @@ static void cells_are_placed(void) {
     }
 }
 
+/* What each number means: a call with it, and the line of a script that says the same. */
+static uint32_t move(lodvarn **at, uint32_t movement) { return lodvarn_move(at, movement, 2, 'x'); }
+static uint32_t kill(lodvarn **at, uint32_t movement) { return lodvarn_kill(at, movement, 2, 'x'); }
+static uint32_t prev_word(lodvarn **at, uint32_t word) { return lodvarn_delete_prev_word(at, word, 2); }
+static uint32_t big_word(lodvarn **at, uint32_t place) { return lodvarn_delete_word(at, place, LODVARN_BIG, 2); }
+static uint32_t word_end(lodvarn **at, uint32_t word) { return lodvarn_delete_word(at, LODVARN_AFTER_END, word, 2); }
+static uint32_t delete_to(lodvarn **at, uint32_t search) { return lodvarn_delete_to(at, search, 'x', 2); }
+static uint32_t indent(lodvarn **at, uint32_t direction) {
+    return lodvarn_indent(at, LODVARN_WHOLE_BUFFER, 0, 0, 2, direction);
+}
+
+static const struct meaning {
+    uint32_t (*call)(lodvarn **, uint32_t);
+    uint32_t number;
+    const char *line;
+} meanings[] = {
+    {kill, LODVARN_WHOLE_LINE, "kill line"},
+    {kill, LODVARN_BEGINNING_OF_LINE, "kill home"},
+    {kill, LODVARN_END_OF_LINE, "kill eol"},
+    {kill, LODVARN_BACKWARD_BIG_WORD, "kill bword 2 big"},
+    {kill, LODVARN_BACKWARD_EMACS_WORD, "kill bword 2 emacs"},
+    {kill, LODVARN_BACKWARD_VI_WORD, "kill bword 2 vi"},
+    {kill, LODVARN_FORWARD_BIG_WORD_START, "kill fword 2 start big"},
+    {kill, LODVARN_FORWARD_BIG_WORD_BEFORE_END, "kill fword 2 before big"},
+    {kill, LODVARN_FORWARD_BIG_WORD_AFTER_END, "kill fword 2 after big"},
+    {kill, LODVARN_FORWARD_EMACS_WORD_START, "kill fword 2 start emacs"},
+    {kill, LODVARN_FORWARD_EMACS_WORD_BEFORE_END, "kill fword 2 before emacs"},
+    {kill, LODVARN_FORWARD_EMACS_WORD_AFTER_END, "kill fword 2 after emacs"},
+    {kill, LODVARN_FORWARD_VI_WORD_START, "kill fword 2 start vi"},
+    {kill, LODVARN_FORWARD_VI_WORD_BEFORE_END, "kill fword 2 before vi"},
+    {kill, LODVARN_FORWARD_VI_WORD_AFTER_END, "kill fword 2 after vi"},
+    {kill, LODVARN_SEARCH_FORWARD, "kill find 2 f x"},
+    {kill, LODVARN_SEARCH_FORWARD_BEFORE, "kill find 2 t x"},
+    {kill, LODVARN_SEARCH_BACKWARD, "kill find 2 F x"},
+    {kill, LODVARN_SEARCH_BACKWARD_AFTER, "kill find 2 T x"},
+    {kill, LODVARN_FIRST_PRINT, "kill first"},
+    {kill, LODVARN_BACKWARD_CHAR, "kill bchar 2"},
+    {kill, LODVARN_FORWARD_CHAR, "kill fchar 2"},
+    {kill, LODVARN_LINE_UP, "kill up 2"},
+    {kill, LODVARN_LINE_DOWN, "kill down 2"},
+    {kill, LODVARN_WHOLE_BUFFER, "kill buf"},
+    {kill, LODVARN_BEGINNING_OF_BUFFER, "kill bob"},
+    {kill, LODVARN_END_OF_BUFFER, "kill eob"},
+    {move, LODVARN_BACKWARD_VI_WORD, "move bword 2 vi"},
+    {move, LODVARN_FORWARD_VI_WORD_START, "move fword 2 start vi"},
+    {move, LODVARN_SEARCH_BACKWARD_AFTER, "move find 2 T x"},
+    {move, LODVARN_LINE_UP, "move up 2"},
+    {move, LODVARN_LINE_DOWN, "move down 2"},
+    {prev_word, LODVARN_BIG, "prevword 2 big"},
+    {prev_word, LODVARN_EMACS, "prevword 2 emacs"},
+    {prev_word, LODVARN_VI, "prevword 2 vi"},
+    {word_end, LODVARN_BIG, "nextword 2 after big"},
+    {word_end, LODVARN_EMACS, "nextword 2 after emacs"},
+    {word_end, LODVARN_VI, "nextword 2 after vi"},
+    {big_word, LODVARN_START, "nextword 2 start big"},
+    {big_word, LODVARN_BEFORE_END, "nextword 2 before big"},
+    {big_word, LODVARN_AFTER_END, "nextword 2 after big"},
+    {delete_to, LODVARN_FORWARD, "to 2 f x"},
+    {delete_to, LODVARN_FORWARD_BEFORE, "to 2 t x"},
+    {delete_to, LODVARN_BACKWARD, "to 2 F x"},
+    {delete_to, LODVARN_BACKWARD_AFTER, "to 2 T x"},
+    {lodvarn_edit_word, LODVARN_CAPITALIZE, "case cap"},
+    {lodvarn_edit_word, LODVARN_LOWERCASE, "case low"},
+    {lodvarn_edit_word, LODVARN_UPPERCASE, "case up"},
+    {indent, LODVARN_INDENT, "indent 2 buf"},
+    {indent, LODVARN_DEDENT, "dedent 2 buf"},
+};
+enum { MEANINGS = sizeof meanings / sizeof *meanings };
+
+/* On this text, with the cursor at the one place or the other, no two lines of a call do the same. */
+static const char amid[] = "text   x One\\nx-two\\ntwo_x/y z,x aB b_c,d e.f x\\n3x\\n4\\n5";
+static const char *const amid_places[] = {"pos 25", "pos 27"};
+
+/* The last line of what was printed, which shows cursor and text. */
+static void copy_last_line(char *printed, char *to, size_t cap) {
+    printed[strlen(printed) - 1] = 0;
+    snprintf(to, cap, "%s", strrchr(printed, '\n') + 1);
+}
+
+/* What the call leaves at a place. Setting a limit prints the session and leaves it. */
+static void left_by_call(const struct meaning *m, const char *place, char *left, size_t cap) {
+    struct typed t;
+    char printed[512];
+    FILE *out = fmemopen(printed, sizeof printed, "w");
+    if (!out) exit(2);
+    typed_begin(&t);
+    typed_line(&t, amid, out);
+    typed_line(&t, place, out);
+    m->call(&t.s, m->number);
+    typed_line(&t, "limit 4096", out);
+    fclose(out);
+    lodvarn_close(&t.s);
+    copy_last_line(printed, left, cap);
+}
+
+/* What the script leaves there. */
+static void left_by_script(const struct meaning *m, const char *place, char *left, size_t cap) {
+    char script[256];
+    snprintf(script, sizeof script, "%s\n%s\n%s\nlimit 4096\n", amid, place, m->line);
+    char *printed = printed_at_once(script);
+    copy_last_line(printed, left, cap);
+    free(printed);
+}
+
+static void numbers_mean_what_they_say(void) {
+    static char left[MEANINGS][2][80], wanted[80];
+    int apart = 1;
+    for (size_t i = 0; i < MEANINGS; i++) {
+        const struct meaning *m = &meanings[i];
+        for (size_t k = 0; k < 2; k++) {
+            left_by_call(m, amid_places[k], left[i][k], sizeof left[i][k]);
+            left_by_script(m, amid_places[k], wanted, sizeof wanted);
+            see(m->line, !strcmp(left[i][k], wanted));
+        }
+        for (size_t j = 0; j < i; j++)
+            if (m->call == meanings[j].call && !memcmp(left[i], left[j], sizeof left[i])) apart = 0;
+    }
+    see("no two numbers of a call do the same", apart);
+}
+
 /* Bad input. The session, and what the calls write to. */
 static lodvarn *s;
 static char out[8];
@@ -470,6 +590,7 @@ int main(void) {
     reads_read();
     reads_part_no_kills();
     sessions_are_apart();
+    numbers_mean_what_they_say();
     widths_are_measured();
     clusters_are_found();
     cells_are_placed();
