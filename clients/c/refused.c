@@ -1,0 +1,116 @@
+/* Each request of the library for memory is refused in turn: the call says so, the session stands, and undo leads back
+ * to the text that it began with. To be linked with -Wl,--wrap=malloc,--wrap=realloc. Its last line is 'N passed, M
+ * failed', where each request counts one. */
+#include "lodvarn.h"
+#include <stdio.h>
+#include <stdlib.h>
+#include <string.h>
+
+static lodvarn *s;
+static size_t left = SIZE_MAX; /* requests before the one that is refused */
+static int was_refused;
+
+void *__real_malloc(size_t size);
+void *__real_realloc(void *at, size_t size);
+void *__wrap_malloc(size_t size);
+void *__wrap_realloc(void *at, size_t size);
+
+static int refuses(void) {
+    if (left-- > 0) return 0;
+    was_refused = 1;
+    return 1;
+}
+
+void *__wrap_malloc(size_t size) { return refuses() ? NULL : __real_malloc(size); }
+
+void *__wrap_realloc(void *at, size_t size) { return refuses() ? NULL : __real_realloc(at, size); }
+
+static const char start[] = "ab cd";
+
+/* The calls that may take memory, one behind the other, until there are no more. */
+static uint32_t step(unsigned which) {
+    static char out[256];
+    size_t len;
+    uint16_t column;
+    switch (which) {
+    case 0: return lodvarn_open(&s, start, 5, 5, 64, 3, LODVARN_UNICODE);
+    case 1: return lodvarn_insert(&s, 'e', 3);
+    case 2: return lodvarn_backspace(&s, 1);
+    case 3: return lodvarn_begin(&s, &len);
+    case 4: return lodvarn_paste(&s, "x y", 3, 2);
+    case 5: return lodvarn_edit_word(&s, LODVARN_UPPERCASE);
+    case 6: return lodvarn_end(&s);
+    case 7: return lodvarn_kill(&s, LODVARN_BACKWARD_EMACS_WORD, 1, 0);
+    case 8: return lodvarn_kill(&s, LODVARN_BACKWARD_EMACS_WORD, 1, 0);
+    case 9: return lodvarn_yank(&s, 2);
+    case 10: return lodvarn_yank_pop(&s);
+    case 11: return lodvarn_copy(&s, LODVARN_WHOLE_BUFFER, 1, 0, out, sizeof out, &len);
+    case 12: return lodvarn_transpose_words(&s, 1);
+    case 13: return lodvarn_transpose_chars(&s);
+    case 14: return lodvarn_insert_str(&s, 0, "ab\n", 3);
+    case 15: return lodvarn_indent(&s, LODVARN_WHOLE_BUFFER, 1, 0, 40, LODVARN_INDENT);
+    case 16: return lodvarn_indent(&s, LODVARN_WHOLE_BUFFER, 1, 0, 3, LODVARN_DEDENT);
+    case 17: return lodvarn_replace(&s, 0, 4, "cd\ne", 4);
+    case 18: return lodvarn_line_place(&s, &len, &column);
+    case 19: return lodvarn_delete_range(&s, 0, 1);
+    case 20: return lodvarn_delete(&s, 1, out, sizeof out, &len);
+    case 21: return lodvarn_delete_prev_word(&s, LODVARN_VI, 1);
+    case 22: return lodvarn_undo(&s, 2);
+    case 23: return lodvarn_redo(&s);
+    case 24: return lodvarn_update(&s, "one two", 7, 3);
+    case 25: return lodvarn_delete_word(&s, LODVARN_AFTER_END, LODVARN_BIG, 1);
+    case 26: return lodvarn_delete_to(&s, LODVARN_BACKWARD, 'o', 1);
+    case 27: return lodvarn_kill_line(&s);
+    case 28: return lodvarn_discard_buffer(&s);
+    default: return UINT32_MAX;
+    }
+}
+
+/* The text is UTF-8, the cursor is a place of it, and it keeps to the limit. */
+static int stands(void) {
+    static char text[1024];
+    size_t len = lodvarn_text(&s, text, sizeof text), cell;
+    return len <= sizeof text && len <= lodvarn_limit(&s)
+        && lodvarn_cell(text, len, lodvarn_pos(&s), 0, 80, LODVARN_UNICODE, &cell, &cell) == LODVARN_DONE;
+}
+
+/* With everything undone the text is the first one. */
+static int leads_back(void) {
+    char text[8];
+    while (lodvarn_entries(&s) > 0 && lodvarn_undo(&s, UINT16_MAX) != LODVARN_NO_MEMORY) {}
+    return lodvarn_text(&s, text, sizeof text) == 5 && !memcmp(text, start, 5);
+}
+
+/* How many calls said that there is no memory, where the request of that number finds none. */
+static int refused_at(size_t request, int *holds) {
+    int refused = 0;
+    uint32_t answer;
+    if (lodvarn_open(&s, start, 5, 0, 64, 3, LODVARN_UNICODE) != LODVARN_DONE) exit(2);
+    was_refused = 0;
+    left = request;
+    for (unsigned i = 0; (answer = step(i)) != UINT32_MAX; i++) {
+        refused += answer == LODVARN_NO_MEMORY;
+        *holds = *holds && stands();
+    }
+    left = SIZE_MAX;
+    *holds = *holds && leads_back();
+    lodvarn_close(&s);
+    return refused;
+}
+
+int main(void) {
+    int passed = 0, failed = 0;
+    size_t request = 0;
+    do {
+        int holds = 1;
+        int refused = refused_at(request, &holds);
+        if (refused == was_refused && holds) passed++;
+        else {
+            failed++;
+            printf("FAILED: request %zu, said by %d calls\n", request, refused);
+        }
+        request++;
+    } while (was_refused);
+    printf("%d passed, %d failed\n", passed, failed);
+    return failed != 0;
+}
