@@ -13,10 +13,9 @@ use Rattle.rl_base.specs.declared.listeners.Direction.TheVariants.{Forward}
 use Rattle.rl_base.specs.declared.motion.Movement.{Movement}
 use Rattle.rl_base.specs.declared.motion.Movement.TheVariants.{ForwardChar}
 use Rattle.rl_line.proofs.EditLemmas.{length-repeat}
-use Rattle.rl_line.specs.Edits.{cut_to_limit, insert_event, insert_plan, insert_str_plan, replace_plan, delete_range_plan, too_long, update_plan, yank_plan, yank_pop_plan}
+use Rattle.rl_line.specs.Edits.{cut_to_limit, insert_event, insert_plan, insert_str_plan, replace_plan, too_long, update_plan, yank_plan, yank_pop_plan}
 use Rattle.rl_line.specs.Indents.{blanks, indent_plan, line_plan, lines_plan, parts, pulled, pushed, put_spaces, spaces}
 use Rattle.rl_line.specs.Kills.{delete_plan, kill_plan, removal, side_of}
-use Rattle.rl_line.specs.LetterCase.{edit_word_plan, put_for, word_ahead}
 use Rattle.rl_session.proofs.CursorLemmas.{IsLone, Quiet, ends_at}
 use Rattle.rl_line.specs.Line.{Line, between, stepped}
 use Rattle.rl_line.specs.Plan.{Step, Plan, answering, nothing, single}
