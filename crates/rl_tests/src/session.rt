@@ -296,3 +296,19 @@ fn kills_run_and_come_back(rt: HostRuntime) -> Result<(), Fail> {
     let mut session = Session::new(alloc, text, 13, 64, 2, GraphemeClusterMode::Unicode)?;
     runs(&rt, &mut session, &commands, &wanted, text, 13)
 }
+
+// What may be handed to another thread: whoever calls the library for C relies on it.
+fn sent<S: Send>(it: S) -> S {
+    it
+}
+
+#[test]
+fn a_session_may_be_sent(rt: HostRuntime) -> Result<(), Fail> {
+    let session = Session::new(rt.alloc(), "ab", 1, 9, 60, GraphemeClusterMode::Unicode)?;
+    is_so(
+        &rt,
+        sent(session).line().as_str() == "ab",
+        "the text of a session that was sent",
+    );
+    Ok(())
+}
