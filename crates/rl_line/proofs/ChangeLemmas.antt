@@ -1,7 +1,7 @@
 -- What stands in a text where it can go over an entry.
-use Rattle.std.proofs.Common.{◌≡◌, ℕ, ◌+◌, ◌-◌, ◌<◌, ◌≤◌, Bool, true, false, List, [], ◌∷◌, ◌++◌, length, take, drop, get_or, map, slice_range, Option, Some, None, refl, sym, ap, subst, ◌∙◌, arith, append-nil}
+use Rattle.std.proofs.Common.{◌≡◌, ℕ, ◌+◌, ◌-◌, ◌<◌, ◌≤◌, Bool, true, false, List, [], ◌∷◌, ◌++◌, length, take, drop, get_or, map, reverse, slice_range, Option, Some, None, refl, sym, ap, subst, ◌∙◌, arith, append-nil}
 use Rattle.std.proofs.lemmas.Grind.{take_at_read}
-use Rattle.std.proofs.lemmas.List.{map-append}
+use Rattle.std.proofs.lemmas.List.{get_or-reverse, length-reverse, map-append, reverse-append}
 use Rattle.std.proofs.lemmas.Str.{IsUtf8-nil, IsUtf8-string_bytes, is_utf8-from_IsUtf8}
 use Rattle.std.specs.Prelude.{◌&&◌, IsSome, cond, is_some, option_and_then}
 use Rattle.std.specs.List.{replace_range}
@@ -18,7 +18,7 @@ use Rattle.rl_line.specs.declared.change.Way.{Way}
 use Rattle.rl_line.specs.declared.change.Way.TheVariants.{Back, Ahead}
 use Rattle.rl_line.specs.Record.{Entry, Begin, End, Inserted, Deleted, Replaced, entry_of, event_of, inverse, unwind}
 use Rattle.rl_line.specs.Undo.{cursor_told, place_after}
-use Rattle.rl_line.specs.Change.{cursor_stands, faced, new_text, old_text, place, text_after, text_back}
+use Rattle.rl_line.specs.Change.{cursor_stands, faced, new_text, old_text, order, place, text_after, text_back}
 
 -- an entry's new text stands at its place, and the old one may take its place
 pub record StandsNew (e : Entry) (text : List ℕ) (at : ℕ) : Type 0 where
@@ -137,6 +137,29 @@ stands_at-not text i s h = from (stands_at text i s) refl
     from : (b : Bool) → stands_at text i s ≡ b → false ≡ b
     from false e = refl
     from true e = let m = stands_at-means text i s e in absurd (h m.start m.end)
+
+-- ---- the order in which changes are gone over
+pub length-order : (way : Way) (xs : List Change) → length (order way xs) ≡ length xs
+length-order Back xs = refl
+length-order Ahead xs = length-reverse xs
+
+-- ahead, the change with so many behind it comes when so many are left
+pub ahead-nth : (xs : List Change) (left at : ℕ) (x : Change) → left < length xs → at ≡ length xs - 1 - left → x ≡ get_or xs at x → x ≡ get_or (order Ahead xs) left x
+ahead-nth xs left at x lt place is = is ∙ ap (λ k. get_or xs k x) place ∙ sym (get_or-reverse xs left x lt)
+
+pub map-reverse : (xs : List Change) → map entry_of (reverse xs) ≡ reverse (map entry_of xs)
+map-reverse [] = refl
+map-reverse (x ∷ xs) =
+    ap (map entry_of) (reverse-append (x ∷ []) xs) ∙ map-append entry_of (reverse xs) (x ∷ []) ∙ ap (λ l. l ++ entry_of x ∷ []) (map-reverse xs)
+    ∙ sym (reverse-append (entry_of x ∷ []) (map entry_of xs))
+
+-- going ahead takes the inverses back
+pub ahead-inverse : (xs : List Change) → map (faced Ahead) (order Ahead xs) ≡ map inverse (reverse (map entry_of xs))
+ahead-inverse xs = each (reverse xs) ∙ ap (map inverse) (map-reverse xs)
+  where
+    each : (ys : List Change) → map (faced Ahead) ys ≡ map inverse (map entry_of ys)
+    each [] = refl
+    each (y ∷ ys) = ap (λ l. inverse (entry_of y) ∷ l) (each ys)
 
 -- ---- a text that goes over changes, the last first
 -- those before n are left, and lead from the text now to where all lead from the text at first

@@ -1,17 +1,16 @@
--- Entries in the lists of the code: counting them from the end, and moving them.
-use Rattle.std.proofs.Common.{◌≡◌, ℕ, ◌+◌, ◌-◌, ◌<◌, ◌≤◌, arith, suc, List, [], ◌∷◌, ◌++◌, length, length-append, take, drop, take_at, drop_at, add-one, append_assoc, drop-cons, get_or, map, reverse, refl, sym, ap, ◌∙◌, ◌⊎◌, inl, inr}
+-- Entries in the list of the code: counting them, and closing groups.
+use Rattle.std.proofs.Common.{◌≡◌, ℕ, ◌+◌, ◌-◌, ◌<◌, ◌≤◌, arith, suc, List, [], ◌∷◌, ◌++◌, length, take, drop, add-one, drop-cons, get_or, map, reverse, refl, sym, ap, ◌∙◌, ◌⊎◌, inl, inr}
 use Rattle.std.proofs.lemmas.Grind.{take_at_read}
-use Rattle.std.proofs.lemmas.List.{map-append, reverse-append, reverse-reverse, length-map, length-drop, drop-map, take-append-drop}
+use Rattle.std.proofs.lemmas.List.{map-append, reverse-append, drop_all}
 use Rattle.std.specs.Prelude.{zero, max, slice_get, cond, IsSome, Bool, true, false, not, ◌||◌, Option, Some, None}
 use Rattle.std.specs.Option.{option_to_list}
 use Rattle.rl_line.specs.declared.change.Change.{Change}
 use Rattle.rl_line.specs.Record.{Entry, Begin, End, Inserted, Deleted, Replaced, entry_of}
-use Rattle.rl_line.specs.Units.{last_of, kept_of, redo_of, adds_end, end_one, end_times, ends_in_begin, has_change, is_begin, is_change, IsMatched}
+use Rattle.rl_line.specs.Units.{last_of, redo_of, adds_end, end_one, end_times, ends_in_begin, is_begin, IsMatched}
 use Rattle.rl_line.specs.Entries.{deep}
 use Rattle.rl_line.proofs.Counts.{ahead_len, back_len}
 use Rattle.rl_line.proofs.CountLemmas.{last-counted, redo-counted}
 use Rattle.rl_line.proofs.RecordLemmas.{value_of}
-use Rattle.rl_line.proofs.UnitLemmas.{kept-last}
 
 -- the entries before a place, the last first, with one entry more
 pub back-read : (xs : List Change) (m : ℕ) (z x : Change) → m < length xs → get_or xs m z ≡ x
@@ -68,36 +67,6 @@ count-end xs at d k n m done h =
     all_taken : d ≡ 0 → k ≡ 0 → back_len d k (reverse (map entry_of (take at xs))) ≡ 0
     all_taken e f = ap (λ a. back_len a k (reverse (map entry_of (take at xs)))) e ∙ ap (λ a. back_len 0 a (reverse (map entry_of (take at xs)))) f
 
--- the last units are the last entries, and what is kept stands before them
-pub last-drop : (n : ℕ) (es : List Entry) → drop (length es - length (last_of n es)) es ≡ last_of n es
-last-drop n es =
-    let whole = kept-last n es in
-    let long : length (kept_of n es) ≡ length es - length (last_of n es) = let l = length-append (kept_of n es) (last_of n es) in let e = ap length whole in omega arith in
-    ap (drop (length es - length (last_of n es))) (sym whole) ∙ drop_at (kept_of n es) (last_of n es) (length es - length (last_of n es)) long
-
-pub kept-take : (n : ℕ) (es : List Entry) → take (length es - length (last_of n es)) es ≡ kept_of n es
-kept-take n es =
-    let whole = kept-last n es in
-    let long : length (kept_of n es) ≡ length es - length (last_of n es) = let l = length-append (kept_of n es) (last_of n es) in let e = ap length whole in omega arith in
-    ap (take (length es - length (last_of n es))) (sym whole) ∙ take_at (kept_of n es) (last_of n es) (length es - length (last_of n es)) long
-
-pub map-reverse : (xs : List Change) → map entry_of (reverse xs) ≡ reverse (map entry_of xs)
-map-reverse [] = refl
-map-reverse (x ∷ xs) =
-    ap (map entry_of) (reverse-append (x ∷ []) xs) ∙ map-append entry_of (reverse xs) (x ∷ []) ∙ ap (λ l. l ++ entry_of x ∷ []) (map-reverse xs)
-    ∙ sym (reverse-append (entry_of x ∷ []) (map entry_of xs))
-
--- entries moved behind the undone ones, the last first, are seen before them, in order
-pub pending-view : (moved pending : List Change) → reverse (map entry_of (pending ++ reverse moved)) ≡ map entry_of moved ++ reverse (map entry_of pending)
-pending-view moved pending =
-    ap reverse (map-append entry_of pending (reverse moved)) ∙ reverse-append (map entry_of pending) (map entry_of (reverse moved))
-    ∙ ap (λ x. x ++ reverse (map entry_of pending)) (ap reverse (map-reverse moved) ∙ reverse-reverse (map entry_of moved))
-
-pub drop-view : (from : List Change) (n : ℕ) → map entry_of (drop (length from - length (last_of n (map entry_of from))) from) ≡ last_of n (map entry_of from)
-drop-view from n =
-    sym (drop-map entry_of (length from - length (last_of n (map entry_of from))) from)
-    ∙ ap (λ k. drop (k - length (last_of n (map entry_of from))) (map entry_of from)) (sym (length-map from entry_of)) ∙ last-drop n (map entry_of from)
-
 -- ---- counting what is open
 pub deep-append : (d : ℕ) (xs ys : List Entry) → deep d (xs ++ ys) ≡ deep (deep d xs) ys
 deep-append d [] ys = refl
@@ -115,7 +84,7 @@ deep-next xs i n x lt is e =
     ∙ ap (deep 0) (map-append entry_of (take i xs) (x ∷ []))
     ∙ deep-append 0 (map entry_of (take i xs)) (entry_of x ∷ []) ∙ ap (λ d. deep d (entry_of x ∷ [])) (sym e)
 
--- ---- counting ahead, of entries that stand the last first
+-- ---- counting ahead
 -- what is left to count where d groups are open: nothing where none is
 abbrev pub rest_len : ℕ → List Entry → ℕ
 rest_len zero rs = 0
@@ -134,54 +103,46 @@ ahead-step (suc d) (Deleted i s ps) rs = refl
 ahead-step zero (Replaced i s t ps) rs = refl
 ahead-step (suc d) (Replaced i s t ps) rs = refl
 
--- the entries from `at` on, the last first, were counted: so many groups are open behind them, and the whole unit has as many entries as these and what is left of it
+-- the first `at` entries were counted: so many groups are open behind them, and the whole unit has as many entries as these and what is left of it
 pub record Counted (xs : List Change) (at d : ℕ) : Type 0 where
   pub within : at ≤ length xs
-  pub small : d + at ≤ length xs
-  pub opened : d ≡ deep 0 (reverse (map entry_of (drop at xs)))
-  pub unit : (length xs - at) + ahead_len d (reverse (map entry_of (take at xs))) ≡ ahead_len 0 (reverse (map entry_of xs))
+  pub small : d ≤ at
+  pub unit : at + ahead_len d (map entry_of (drop at xs)) ≡ ahead_len 0 (map entry_of xs)
 
--- the last first, with the entry before them
-turned : (xs : List Change) (at : ℕ) (x : Change) → at < length xs → x ≡ get_or xs at x → reverse (map entry_of (drop at xs)) ≡ reverse (map entry_of (drop (at + 1) xs)) ++ entry_of x ∷ []
-turned xs at x lt is =
-    ap (λ ys. reverse (map entry_of ys)) (drop-cons xs at x lt ∙ ap (λ y. y ∷ drop (suc at) xs) (sym is) ∙ ap (λ k. x ∷ drop k xs) (sym (add-one at)))
-    ∙ reverse-append (entry_of x ∷ []) (map entry_of (drop (at + 1) xs))
+-- the entries from `at` on are the one there and those behind it
+pub front-read : (xs : List Change) (at : ℕ) (x : Change) → at < length xs → x ≡ get_or xs at x → map entry_of (drop at xs) ≡ entry_of x ∷ map entry_of (drop (at + 1) xs)
+front-read xs at x lt is =
+    ap (map entry_of) (drop-cons xs at x lt) ∙ ap (λ (y : Change). entry_of y ∷ map entry_of (drop (suc at) xs)) (sym is)
+    ∙ ap (λ k. entry_of x ∷ map entry_of (drop k xs)) (sym (add-one at))
 
-next-open : (xs : List Change) (at d : ℕ) (x : Change) → at < length xs → x ≡ get_or xs at x → Counted xs (at + 1) d
-    → deep d (entry_of x ∷ []) ≡ deep 0 (reverse (map entry_of (drop at xs)))
-next-open xs at d x lt is c =
-    ap (λ k. deep k (entry_of x ∷ [])) c.opened ∙ sym (deep-append 0 (reverse (map entry_of (drop (at + 1) xs))) (entry_of x ∷ [])) ∙ ap (deep 0) (sym (turned xs at x lt is))
-
-next-unit : (xs : List Change) (at d : ℕ) (x : Change) → at < length xs → x ≡ get_or xs at x → Counted xs (at + 1) d
-    → (length xs - at) + rest_len (deep d (entry_of x ∷ [])) (reverse (map entry_of (take at xs))) ≡ ahead_len 0 (reverse (map entry_of xs))
+next-unit : (xs : List Change) (at d : ℕ) (x : Change) → at < length xs → x ≡ get_or xs at x → Counted xs at d
+    → (at + 1) + rest_len (deep d (entry_of x ∷ [])) (map entry_of (drop (at + 1) xs)) ≡ ahead_len 0 (map entry_of xs)
 next-unit xs at d x lt is c =
-    let rest = reverse (map entry_of (take at xs)) in
-    let one : ahead_len d (reverse (map entry_of (take (at + 1) xs))) ≡ suc (rest_len (deep d (entry_of x ∷ [])) rest) =
-    ap (ahead_len d) (back-read xs at x x lt (sym is)) ∙ ahead-step d (entry_of x) rest in
+    let rest = map entry_of (drop (at + 1) xs) in
+    let one : ahead_len d (map entry_of (drop at xs)) ≡ suc (rest_len (deep d (entry_of x ∷ [])) rest) = ap (ahead_len d) (front-read xs at x lt is) ∙ ahead-step d (entry_of x) rest in
     omega (arith, one, c.unit)
 
 -- one entry more, where groups are open behind it
-pub Counted-next : (xs : List Change) (at d n : ℕ) (x : Change) → at < length xs → x ≡ get_or xs at x → Counted xs (at + 1) d
-    → n ≡ deep d (entry_of x ∷ []) → n ≤ d + 1 → 0 < n → Counted xs at n
+pub Counted-next : (xs : List Change) (at d n : ℕ) (x : Change) → at < length xs → x ≡ get_or xs at x → Counted xs at d
+    → n ≡ deep d (entry_of x ∷ []) → n ≤ d + 1 → 0 < n → Counted xs (at + 1) n
 Counted-next xs at d zero x lt is c e small some = absurd (omega arith)
 Counted-next xs at d (suc n) x lt is c e small some = record {
   within = omega arith;
   small = omega (arith, c.small);
-  opened = e ∙ next-open xs at d x lt is c;
-  unit = ap (λ k. (length xs - at) + rest_len k (reverse (map entry_of (take at xs)))) e ∙ next-unit xs at d x lt is c;
+  unit = ap (λ k. (at + 1) + rest_len k (map entry_of (drop (at + 1) xs))) e ∙ next-unit xs at d x lt is c;
 }
 
 -- the unit ends where no group is open behind an entry, or where no entry is left
-pub Counted-end : (xs : List Change) (at d : ℕ) (x : Change) → IsMatched (reverse (map entry_of xs)) → at < length xs → x ≡ get_or xs at x → Counted xs (at + 1) d
-    → 0 ≡ deep d (entry_of x ∷ []) → length xs - at ≡ length (redo_of (reverse (map entry_of xs)))
+pub Counted-end : (xs : List Change) (at d : ℕ) (x : Change) → IsMatched (map entry_of xs) → at < length xs → x ≡ get_or xs at x → Counted xs at d
+    → 0 ≡ deep d (entry_of x ∷ []) → at + 1 ≡ length (redo_of (map entry_of xs))
 Counted-end xs at d x m lt is c e =
-    let all = ap (λ k. (length xs - at) + rest_len k (reverse (map entry_of (take at xs)))) e ∙ next-unit xs at d x lt is c in
-    (omega arith) ∙ all ∙ redo-counted (reverse (map entry_of xs)) m
+    let all = ap (λ k. (at + 1) + rest_len k (map entry_of (drop (at + 1) xs))) e ∙ next-unit xs at d x lt is c in
+    (omega arith) ∙ all ∙ redo-counted (map entry_of xs) m
 
-pub Counted-all : (xs : List Change) (at d : ℕ) → at ≡ 0 → IsMatched (reverse (map entry_of xs)) → Counted xs at d → length xs ≡ length (redo_of (reverse (map entry_of xs)))
-Counted-all xs at d z m c =
-    let none : ahead_len d (reverse (map entry_of (take at xs))) ≡ 0 = ap (λ k. ahead_len d (reverse (map entry_of (take k xs)))) z ∙ nothing d in
-    omega (arith, none, c.unit, redo-counted (reverse (map entry_of xs)) m)
+pub Counted-all : (xs : List Change) (at d : ℕ) → length xs ≤ at → IsMatched (map entry_of xs) → Counted xs at d → at ≡ length (redo_of (map entry_of xs))
+Counted-all xs at d past m c =
+    let none : ahead_len d (map entry_of (drop at xs)) ≡ 0 = ap (λ ys. ahead_len d (map entry_of ys)) (drop_all at xs past) ∙ nothing d in
+    omega (arith, none, c.unit, redo-counted (map entry_of xs) m)
   where
     nothing : (d : ℕ) → ahead_len d [] ≡ 0
     nothing zero = refl
@@ -244,29 +205,3 @@ adds-next count i es next added more now total lt e m n h =
     turn true false c = refl
     turn false true c = refl
     turn false false c = refl
-
--- ---- moving the last entries
--- i entries were moved from the end of one list to the end of another, the last first
-pub record Moved (from to now_from now_to : List Change) (i : ℕ) (changed : Bool) : Type 0 where
-  pub left : now_from ≡ take (length from - i) from
-  pub moved : now_to ≡ to ++ reverse (drop (length from - i) from)
-  pub change : changed ≡ has_change (map entry_of (drop (length from - i) from))
-
--- and one more
-pub Moved-next : (from to now_from now_to next_from next_to : List Change) (i : ℕ) (changed now : Bool) (x : Change) → i < length from → Moved from to now_from now_to i changed
-    → now_from ≡ next_from ++ x ∷ [] → next_to ≡ now_to ++ x ∷ [] → now ≡ (is_change (entry_of x) || changed)
-    → Moved from to next_from next_to (i + 1) now
-Moved-next from to now_from now_to next_from next_to i changed now x lt m popped pushed n =
-    let k = length from - i in
-    let behind = drop k from in
-    let all : from ≡ next_from ++ x ∷ behind =
-    sym (take-append-drop k from) ∙ ap (λ l. l ++ behind) (sym m.left ∙ popped) ∙ append_assoc next_from (x ∷ []) behind in
-    let sizes : length from ≡ length next_from + suc (length behind) = ap length all ∙ length-append next_from (x ∷ behind) in
-    let size : length next_from ≡ length from - (i + 1) = omega (arith, sizes, length-drop k from, lt) in
-    let cut : drop (length from - (i + 1)) from ≡ x ∷ behind = ap (drop (length from - (i + 1))) all ∙ drop_at next_from (x ∷ behind) (length from - (i + 1)) size in
-    record {
-      left = sym (ap (take (length from - (i + 1))) all ∙ take_at next_from (x ∷ behind) (length from - (i + 1)) size);
-      moved = pushed ∙ ap (λ l. l ++ x ∷ []) m.moved ∙ append_assoc to (reverse behind) (x ∷ [])
-          ∙ ap (λ l. to ++ l) (sym (ap reverse cut ∙ reverse-append (x ∷ []) behind));
-      change = n ∙ ap (λ b. is_change (entry_of x) || b) m.change ∙ ap (λ l. has_change (map entry_of l)) (sym cut);
-    }

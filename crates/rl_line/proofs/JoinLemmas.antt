@@ -1,6 +1,7 @@
--- The last entry of a record, where an event joins it and where it does not.
-use Rattle.std.proofs.Common.{◌≡◌, ℕ, zero, suc, ◌-◌, ◌<◌, List, [], ◌∷◌, ◌++◌, length, get_or, set, map, Some, None, refl, sym, ap, ◌∙◌, arith}
-use Rattle.std.proofs.lemmas.List.{append-nil, nil_from_length}
+-- The last recorded entry, where an event joins it and where it does not.
+use Rattle.std.proofs.Common.{◌≡◌, ℕ, zero, suc, ◌-◌, ◌<◌, ◌≤◌, List, [], ◌∷◌, ◌++◌, length, take, drop, get_or, set, map, Some, None, refl, sym, ap, subst, ◌∙◌, arith}
+use Rattle.std.proofs.lemmas.List.{append-nil, drop-map, drop-set-lt, get_or-take, length-take-le, nil_from_length, take-map}
+use Rattle.std.proofs.Math.Seq.{take-set-lt}
 use Rattle.std.proofs.lemmas.Result.{IfErr-weaker, IfOk-weaker}
 use Rattle.std.specs.Option.{option_map_or}
 use Rattle.std.specs.Prelude.{IfErr, IfOk, Option, Result}
@@ -66,30 +67,68 @@ told-last cursors (z ∷ []) (suc k) x y n is e = absurd (omega arith)
 told-last cursors (z ∷ (w ∷ ws)) zero x y n is e = absurd (omega arith)
 told-last cursors (z ∷ (w ∷ ws)) (suc k) x y n is e = ap (λ es. entry_of z ∷ es) (told-last cursors (w ∷ ws) k x y (omega arith) is e)
 
-pub told-last-of : (cursors : ℕ × ℕ) (xs : List Change) (n : ℕ) (x y : Change) → n ≡ length xs → 0 < n → x ≡ get_or xs (n - 1) x
-    → entry_of y ≡ with_cursors cursors (entry_of x) → map entry_of (set xs (n - 1) y) ≡ last_told cursors (map entry_of xs)
-told-last-of cursors xs n x y count some is e = told-last cursors xs (n - 1) x y (omega arith) is e
+-- the entry that stands last among the first n of a list, and the list with another in its place
+record LastOf (xs : List Change) (n k : ℕ) (x y : Change) : Type 0 where
+  count : suc k ≡ length (take n xs)
+  is : x ≡ get_or (take n xs) k x
+  front : map entry_of (take n xs) ≡ take n (map entry_of xs)
+  changed : take n (map entry_of (set xs k y)) ≡ map entry_of (set (take n xs) k y)
+  others : drop n (map entry_of (set xs k y)) ≡ drop n (map entry_of xs)
+
+LastOf-at : (xs : List Change) (n k : ℕ) (x y : Change) → n ≤ length xs → 0 < n → k ≡ n - 1 → x ≡ get_or xs k x → LastOf xs n k x y
+LastOf-at xs n k x y le some at is =
+    let before : k < n = omega arith in
+    record {
+      count = omega (arith, length-take-le n xs le);
+      is = is ∙ sym (get_or-take n xs k x before);
+      front = sym (take-map entry_of n xs);
+      changed = take-map entry_of n (set xs k y) ∙ ap (map entry_of) (take-set-lt n xs k y before);
+      others = drop-map entry_of n (set xs k y) ∙ ap (map entry_of) (drop-set-lt n xs k y before) ∙ sym (drop-map entry_of n xs);
+    }
+
+pub told-last-of : (cursors : ℕ × ℕ) (xs : List Change) (n : ℕ) (x y : Change) → n ≤ length xs → 0 < n → x ≡ get_or xs (n - 1) x → entry_of y ≡ with_cursors cursors (entry_of x)
+    → take n (map entry_of (set xs (n - 1) y)) ≡ last_told cursors (take n (map entry_of xs))
+told-last-of cursors xs n x y le some is e =
+    let l = LastOf-at xs n (n - 1) x y le some refl is in
+    l.changed ∙ told-last cursors (take n xs) (n - 1) x y l.count l.is e ∙ ap (last_told cursors) l.front
+
+pub told-others : (xs : List Change) (n : ℕ) (y : Change) → 0 < n → drop n (map entry_of (set xs (n - 1) y)) ≡ drop n (map entry_of xs)
+told-others xs n y some =
+    drop-map entry_of n (set xs (n - 1) y) ∙ ap (map entry_of) (drop-set-lt n xs (n - 1) y (omega arith)) ∙ sym (drop-map entry_of n xs)
 
 same-last : (xs : List Change) (k : ℕ) (x y : Change) → k < length xs → x ≡ get_or xs k x → entry_of y ≡ entry_of x → map entry_of (set xs k y) ≡ map entry_of xs
 same-last [] k x y l is e = absurd (omega arith)
 same-last (z ∷ xs) zero x y l is e = ap (λ w. w ∷ map entry_of xs) (e ∙ ap entry_of is)
 same-last (z ∷ xs) (suc k) x y l is e = ap (λ es. entry_of z ∷ es) (same-last xs k x y (omega arith) is e)
 
--- the entries, of which the last took the event in or did not
-joins_last : (event : Event) (xs : List Change) (k : ℕ) (x y : Change) (fresh : Option Freshness) → suc k ≡ length xs → x ≡ get_or xs k x → TakesIn event (entry_of x) (entry_of y) fresh
-    → JoinsLast event (map entry_of xs) (map entry_of (set xs k y)) fresh
-joins_last event xs k x y (Some fresh) n is t = (joined-last event xs k x y n is t.0, t.1 ∙ sym (joined-fresh event xs k x (entry_of y) n is t.0))
-joins_last event xs k x y None n is t = (same-last xs k x y (omega arith) is t.1, added-last event xs k x n is t.0, added-fresh event xs k x n is t.0)
+-- the entries, of which the last recorded one took the event in or did not
+joins_last : (event : Event) (xs : List Change) (n k : ℕ) (x y : Change) (fresh : Option Freshness) → n ≤ length xs → 0 < n → k ≡ n - 1 → x ≡ get_or xs k x
+    → TakesIn event (entry_of x) (entry_of y) fresh → JoinsLast event n (map entry_of xs) (map entry_of (set xs k y)) fresh
+joins_last event xs n k x y (Some fresh) le some at is t =
+    let l = LastOf-at xs n k x y le some at is in (
+      l.changed ∙ joined-last event (take n xs) k x y l.count l.is t.0 ∙ ap (entries_after event) l.front,
+      t.1 ∙ sym (joined-fresh event (take n xs) k x (entry_of y) l.count l.is t.0) ∙ ap (freshness_of event) l.front,
+    )
+joins_last event xs n k x y None le some at is t =
+    let l = LastOf-at xs n k x y le some at is in (
+      same-last xs k x y (omega arith) is t.1,
+      ap (entries_after event) (sym l.front) ∙ added-last event (take n xs) k x l.count l.is t.0 ∙ ap (λ es. es ++ entries_of event) l.front,
+      ap (freshness_of event) (sym l.front) ∙ added-fresh event (take n xs) k x l.count l.is t.0,
+    )
 
--- the same of what a call on the last entry answers, and of a call that was refused
-pub joins_last-ok : (event : Event) (xs : List Change) (n : ℕ) (x y : Change) (result : Result (Option Freshness) Refusal) → n ≡ length xs → 0 < n → x ≡ get_or xs (n - 1) x
-    → IfOk result (λ fresh. TakesIn event (entry_of x) (entry_of y) fresh) → IfOk result (λ fresh. JoinsLast event (map entry_of xs) (map entry_of (set xs (n - 1) y)) fresh)
-joins_last-ok event xs n x y result count some is =
-    IfOk-weaker result _ _ (λ fresh t. joins_last event xs (n - 1) x y fresh (omega arith) is t)
+pub joins_last-nothing : (event : Event) (xs : List Change) (n : ℕ) → n ≡ 0 → JoinsLast event n (map entry_of xs) (map entry_of xs) None
+joins_last-nothing event xs n none =
+    subst (λ k. JoinsLast event k (map entry_of xs) (map entry_of xs) None) (sym none) (refl, refl, refl)
 
-pub joins_last-err : (xs : List Change) (n : ℕ) (x y : Change) (result : Result (Option Freshness) Refusal) → n ≡ length xs → 0 < n → x ≡ get_or xs (n - 1) x
+-- the same of what a call on that entry answers, and of a call that was refused
+pub joins_last-ok : (event : Event) (xs : List Change) (n : ℕ) (x y : Change) (result : Result (Option Freshness) Refusal) → n ≤ length xs → 0 < n → x ≡ get_or xs (n - 1) x
+    → IfOk result (λ fresh. TakesIn event (entry_of x) (entry_of y) fresh) → IfOk result (λ fresh. JoinsLast event n (map entry_of xs) (map entry_of (set xs (n - 1) y)) fresh)
+joins_last-ok event xs n x y result le some is =
+    IfOk-weaker result _ _ (λ fresh t. joins_last event xs n (n - 1) x y fresh le some refl is t)
+
+pub joins_last-err : (xs : List Change) (n : ℕ) (x y : Change) (result : Result (Option Freshness) Refusal) → n ≤ length xs → 0 < n → x ≡ get_or xs (n - 1) x
     → IfErr result (λ r. (r ≡ NoMemory) × (entry_of y ≡ entry_of x)) → IfErr result (λ r. (r ≡ NoMemory) × (map entry_of (set xs (n - 1) y) ≡ map entry_of xs))
-joins_last-err xs n x y result count some is =
+joins_last-err xs n x y result le some is =
     IfErr-weaker result _ _ (λ r t. (t.0, same-last xs (n - 1) x y (omega arith) is t.1))
 
 -- ---- events that join nothing

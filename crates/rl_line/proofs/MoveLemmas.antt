@@ -1,8 +1,8 @@
--- The record that the code's lists stand for, and what an event, an undo and a redo make of it.
-use Rattle.std.proofs.Common.{◌≡◌, ℕ, ◌-◌, ◌≤◌, min, leb, arith, Option, None, String, Global, string_bytes, option_map, take_all, List, [], ◌∷◌, ◌++◌, length, length-append, take, drop, take_at, drop_at, map, reverse, Bool, true, false, Some, refl, sym, ap, subst, ◌∙◌}
+-- The record that the code's list of entries stands for, and what an event, an undo and a redo make of it.
+use Rattle.std.proofs.Common.{◌≡◌, ℕ, zero, suc, ◌+◌, ◌-◌, ◌≤◌, min, leb, arith, Option, None, String, Global, string_bytes, option_map, take_all, List, [], ◌∷◌, ◌++◌, append_assoc, length, length-append, take, drop, take_at, drop_at, map, reverse, Bool, true, false, Some, refl, sym, ap, subst, ◌∙◌}
 use Rattle.std.proofs.lemmas.Bool.{leb-true, leb-false}
-use Rattle.std.proofs.lemmas.List.{map-append, reverse-append, length-drop, length-map, length-reverse, reverse-reverse, take-map, take-append-drop}
-use Rattle.std.specs.Prelude.{IsSome, is_some, ◌||◌}
+use Rattle.std.proofs.lemmas.List.{drop-map, drop_all, length-map, length-take-le, take-map, take-append-drop, take_rest}
+use Rattle.std.specs.Prelude.{IsSome, is_some}
 use Rattle.std.specs.Str.{IsCharBoundary, IsUtf8}
 use Rattle.rl_base.specs.Event.{Event, InsertChar, InsertStr, Delete, Replace, Cursors}
 use Rattle.rl_line.specs.declared.change.Change.{Change}
@@ -10,10 +10,10 @@ use Rattle.rl_line.specs.declared.change.Way.TheVariants.{Ahead}
 use Rattle.rl_line.specs.Line.{Line}
 use Rattle.rl_line.specs.Record.{Entry, Record, entries_after, entry_of, inverse, record_step, entries_told, freshness_of}
 use Rattle.rl_line.specs.Undo.{line_ahead, line_back}
-use Rattle.rl_line.specs.Units.{BothMatched, has_change, is_change, kept_of, last_of, redo_of, redone, undone}
-use Rattle.rl_line.specs.Change.{faced, text_back}
-use Rattle.rl_line.proofs.EntryLemmas.{drop-view, kept-take, map-reverse, pending-view}
-use Rattle.rl_line.proofs.GroupLemmas.{has_change-append}
+use Rattle.rl_line.specs.Units.{AtLevel, IsMatched, kept_of, last_of, redo_of, redone, undone}
+use Rattle.rl_line.specs.Change.{faced, order, text_back}
+use Rattle.rl_line.specs.Entries.{IsCutAt, cut_at}
+use Rattle.rl_line.proofs.ChangeLemmas.{ahead-inverse}
 use Rattle.rl_line.proofs.MatchLemmas.{Redoes-of}
 use Rattle.rl_line.proofs.RecordLemmas.{IsSome-through}
 use Rattle.rl_line.proofs.UndoLemmas.{line_ahead-append, line_ahead-back, line_back-append, line_back-is_some}
@@ -22,28 +22,37 @@ use Rattle.rl_line.specs.declared.change.Freshness.TheVariants.{Stale}
 use Rattle.rl_line.specs.declared.change.Freshness.{Freshness}
 use Rattle.rl_base.specs.declared.listeners.Direction.{Direction}
 
-abbrev pub view : List Change → List Change → Freshness → Record
-view recorded pending fresh = record { recorded = map entry_of recorded; pending = reverse (map entry_of pending); fresh = fresh }
+abbrev lists : List Entry → List Entry → Freshness → Record
+lists recorded pending fresh = record { recorded = recorded; pending = pending; fresh = fresh }
 
-same : (a b c d : List Entry) (fresh : Freshness) → a ≡ b → c ≡ d → (r : Record) → record { recorded = b; pending = d; fresh = fresh } ≡ r → record { recorded = a; pending = c; fresh = fresh } ≡ r
-same a b c d fresh e f r g =
-    ap (λ (x : List Entry). record { recorded = x; pending = c; fresh = fresh }) e ∙ ap (λ (y : List Entry). record { recorded = b; pending = y; fresh = fresh }) f ∙ g
+same : (a b c d : List Entry) (fresh : Freshness) → a ≡ b → c ≡ d → lists a c fresh ≡ lists b d fresh
+same a b c d fresh e f = ap (λ x. lists x c fresh) e ∙ ap (λ y. lists b y fresh) f
+
+-- a list of which so many are recorded, where it stands for a record of that level
+pub IsCutAt-of : (n level : ℕ) (es : List Entry) (fresh : Freshness) (r : Record) → n ≤ length es → cut_at n es fresh ≡ r → AtLevel level r → IsCutAt n level es fresh
+IsCutAt-of n level es fresh r within e h = record { within = within; at_level = subst (AtLevel level) (sym e) h }
+
+pub within-list : (n level : ℕ) (xs : List Change) (fresh : Freshness) → IsCutAt n level (map entry_of xs) fresh → n ≤ length xs
+within-list n level xs fresh c = omega (arith, c.within, length-map xs entry_of)
+
+pub count-is : (n level : ℕ) (es : List Entry) (fresh : Freshness) (r : Record) → IsCutAt n level es fresh → cut_at n es fresh ≡ r → n ≡ length r.recorded
+count-is n level es fresh r c v = sym (length-take-le n es c.within) ∙ ap (λ (s : Record). length s.recorded) v
 
 -- what was recorded changed, and nothing waits to be redone
-pub dropped-view : (f : List Entry → List Entry) (r : Record) (xs ys now_xs now_ys : List Change) (fresh now_fresh : Freshness) → view xs ys fresh ≡ r
-    → map entry_of now_xs ≡ f (map entry_of xs) → now_ys ≡ [] → view now_xs now_ys now_fresh ≡ record { recorded = f r.recorded; pending = []; fresh = now_fresh }
-dropped-view f r xs ys now_xs now_ys fresh now_fresh v e none =
-    same (map entry_of now_xs) (f r.recorded) (reverse (map entry_of now_ys)) [] now_fresh
-    (e ∙ ap (λ (s : Record). f s.recorded) v) (ap (λ l. reverse (map entry_of l)) none) _ refl
+pub dropped-view : (f : List Entry → List Entry) (r : Record) (n k : ℕ) (es now : List Entry) (fresh now_fresh : Freshness) → cut_at n es fresh ≡ r
+    → now ≡ f (take n es) → k ≡ length now → cut_at k now now_fresh ≡ record { recorded = f r.recorded; pending = []; fresh = now_fresh }
+dropped-view f r n k es now fresh now_fresh v e all =
+    let past : length now ≤ k = omega (arith, all) in
+    same (take k now) (f r.recorded) (drop k now) [] now_fresh (take_all k now past ∙ e ∙ ap (λ (s : Record). f s.recorded) v) (drop_all k now past)
 
 -- an event of a text
-pub hears : (event : Event) (r : Record) (xs ys now_xs now_ys : List Change) (fresh now_fresh : Freshness)
-    → record_step r event ≡ record { recorded = entries_after event r.recorded; pending = []; fresh = freshness_of event r.recorded } → view xs ys fresh ≡ r
-    → (map entry_of now_xs ≡ entries_after event (map entry_of xs)) × (now_fresh ≡ freshness_of event (map entry_of xs)) → now_ys ≡ []
-    → view now_xs now_ys now_fresh ≡ record_step r event
-hears event r xs ys now_xs now_ys fresh now_fresh step v e f =
-    dropped-view (entries_after event) r xs ys now_xs now_ys fresh now_fresh v e.0 f
-    ∙ ap (λ k. record { recorded = entries_after event r.recorded; pending = []; fresh = k }) (e.1 ∙ ap (λ (s : Record). freshness_of event s.recorded) v) ∙ sym step
+pub hears : (event : Event) (r : Record) (n k : ℕ) (es now : List Entry) (fresh now_fresh : Freshness)
+    → record_step r event ≡ record { recorded = entries_after event r.recorded; pending = []; fresh = freshness_of event r.recorded } → cut_at n es fresh ≡ r
+    → (now ≡ entries_after event (take n es)) × (now_fresh ≡ freshness_of event (take n es)) → k ≡ length now
+    → cut_at k now now_fresh ≡ record_step r event
+hears event r n k es now fresh now_fresh step v e all =
+    dropped-view (entries_after event) r n k es now fresh now_fresh v e.0 all
+    ∙ ap (λ f. record { recorded = entries_after event r.recorded; pending = []; fresh = f }) (e.1 ∙ ap (λ (s : Record). freshness_of event s.recorded) v) ∙ sym step
 
 pub step-InsertChar : (r : Record) (i c : ℕ) → record_step r (InsertChar i c) ≡ record { recorded = entries_after (InsertChar i c) r.recorded; pending = []; fresh = freshness_of (InsertChar i c) r.recorded }
 unfolding record_step
@@ -62,141 +71,115 @@ unfolding record_step
 step-Replace r i s t = refl
 
 -- cursors that are told
-pub hears-Cursors : (r : Record) (xs ys now_xs : List Change) (fresh : Freshness) (before after : ℕ) → view xs ys fresh ≡ r
-    → map entry_of now_xs ≡ entries_told fresh before after (map entry_of xs) → view now_xs ys Stale ≡ record_step r (Cursors before after)
+pub hears-Cursors : (r : Record) (n : ℕ) (es now : List Entry) (fresh : Freshness) (before after : ℕ) → cut_at n es fresh ≡ r
+    → take n now ≡ entries_told fresh before after (take n es) → drop n now ≡ drop n es → cut_at n now Stale ≡ record_step r (Cursors before after)
 unfolding record_step
-hears-Cursors r xs ys now_xs fresh before after v e =
-    ap (λ (x : List Entry). record { recorded = x; pending = reverse (map entry_of ys); fresh = Stale }) e
+hears-Cursors r n es now fresh before after v e f =
+    same (take n now) (entries_told fresh before after (take n es)) (drop n now) (drop n es) Stale e f
     ∙ ap (λ (s : Record). record { recorded = entries_told s.fresh before after s.recorded; pending = s.pending; fresh = Stale }) v
 
--- ---- undo: so many entries were moved from the end of xs to the end of ys
-pub undo-count : (n count : ℕ) (xs : List Change) → count ≡ length (last_of n (map entry_of xs)) → count ≤ length xs
-undo-count n count xs e =
-    let sum = ap length (kept-last n (map entry_of xs)) in
-    omega (arith, sum, length-append (kept_of n (map entry_of xs)) (last_of n (map entry_of xs)), length-map xs entry_of)
+-- the parts of the code's list
+pub recorded-part : (n : ℕ) (xs ys : List Change) → ys ≡ xs → map entry_of (take n ys) ≡ take n (map entry_of xs)
+recorded-part n xs ys e = ap (λ zs. map entry_of (take n zs)) e ∙ sym (take-map entry_of n xs)
 
-pub undo-part : (n count : ℕ) (xs : List Change) → count ≡ length (last_of n (map entry_of xs)) → map entry_of (drop (length xs - count) xs) ≡ last_of n (map entry_of xs)
-undo-part n count xs e = ap (λ k. map entry_of (drop (length xs - k) xs)) e ∙ drop-view xs n
+pub pending-part : (n : ℕ) (xs ys : List Change) → ys ≡ xs → map entry_of (take (length ys - n) (drop n ys)) ≡ drop n (map entry_of xs)
+pending-part n xs ys e = ap (map entry_of) (take_rest ys n) ∙ ap (λ zs. map entry_of (drop n zs)) e ∙ sym (drop-map entry_of n xs)
 
--- the list that the code cuts off is all that stands from there on
-rest : (xs : List Change) (k : ℕ) → take (length xs - k) (drop k xs) ≡ drop k xs
-rest xs k = take_all (length xs - k) (drop k xs) (omega (arith, length-drop k xs))
+pub unit-part : (from to : ℕ) (xs ys : List Change) → ys ≡ xs → map entry_of (take (to - from) (drop from ys)) ≡ take (to - from) (drop from (map entry_of xs))
+unit-part from to xs ys e =
+    ap (λ zs. map entry_of (take (to - from) (drop from zs))) e ∙ sym (take-map entry_of (to - from) (drop from xs)) ∙ ap (take (to - from)) (sym (drop-map entry_of from xs))
 
--- the slice of what will be moved
-pub undo-slice : (n count len : ℕ) (xs slice : List Change) → count ≡ length (last_of n (map entry_of xs)) → len ≡ length xs → slice ≡ xs
-    → map entry_of (take (length slice - (len - count)) (drop (len - count) slice)) ≡ last_of n (map entry_of xs)
-undo-slice n count len xs slice e l s =
-    ap (λ zs. map entry_of (take (length zs - (len - count)) (drop (len - count) zs))) s ∙ ap (map entry_of) (rest xs (len - count))
-    ∙ ap (λ k. map entry_of (drop (k - count) xs)) l ∙ undo-part n count xs e
+pub take-both : (m n k : ℕ) (es : List Entry) → m ≡ min n k → take m es ≡ take n (take k es)
+take-both zero zero k es e = refl
+take-both zero (suc n) zero es e = refl
+take-both zero (suc n) (suc k) es e = absurd (omega arith)
+take-both (suc m) zero k es e = absurd (omega arith)
+take-both (suc m) (suc n) zero es e = absurd (omega arith)
+take-both (suc m) (suc n) (suc k) [] e = refl
+take-both (suc m) (suc n) (suc k) (x ∷ es) e = ap (λ l. x ∷ l) (take-both m n k es (omega arith))
 
-pub undo-fits : (n count : ℕ) (xs : List Change) (line : Line) → count ≡ length (last_of n (map entry_of xs)) → IsSome (line_back (map entry_of xs) line)
-    → IsSome (line_back (map entry_of (drop (length xs - count) xs)) line)
-undo-fits n count xs line e h =
-    let es = map entry_of xs in
-    let all : line_back es line ≡ _ = ap (λ l. line_back l line) (sym (kept-last n es)) ∙ line_back-append (kept_of n es) (last_of n es) line in
-    subst (λ l. IsSome (line_back l line)) (sym (undo-part n count xs e)) (IsSome-through (line_back (kept_of n es)) (line_back (last_of n es) line) (subst IsSome all h))
+-- ---- undo: of k that are recorded the first ones stay
+pub record Undoes (n k first : ℕ) (es : List Entry) : Type 0 where
+  pub within : first ≤ k
+  pub recorded : take first es ≡ kept_of n (take k es)
+  pub pending : drop first es ≡ last_of n (take k es) ++ drop k es
+  pub unit : take (k - first) (drop first es) ≡ last_of n (take k es)
 
-pub undone-view : (n count : ℕ) (r : Record) (xs ys now_xs now_ys : List Change) (fresh : Freshness) → view xs ys fresh ≡ r → count ≡ length (last_of n (map entry_of xs))
-    → now_xs ≡ take (length xs - count) xs → now_ys ≡ ys ++ reverse (drop (length xs - count) xs) → view now_xs now_ys Stale ≡ undone n r
-undone-view n count r xs ys now_xs now_ys fresh v e f g =
-    let es = map entry_of xs in
-    let k : length xs - count ≡ length es - length (last_of n es) = omega (arith, e, length-map xs entry_of) in
-    same (map entry_of now_xs) (kept_of n es) (reverse (map entry_of now_ys)) (last_of n es ++ reverse (map entry_of ys)) Stale
-    (ap (map entry_of) f ∙ sym (take-map entry_of (length xs - count) xs) ∙ ap (λ j. take j es) k ∙ kept-take n es)
-    (ap (λ l. reverse (map entry_of l)) g ∙ pending-view (drop (length xs - count) xs) ys ∙ ap (λ l. l ++ reverse (map entry_of ys)) (undo-part n count xs e))
-    (undone n r) (ap (undone n) v)
+pub undo-count : (n k count : ℕ) (es : List Entry) → k ≤ length es → count ≡ length (last_of n (take k es)) → count ≤ k
+undo-count n k count es le e =
+    let sum : length (kept_of n (take k es)) + length (last_of n (take k es)) ≡ k =
+    sym (length-append (kept_of n (take k es)) (last_of n (take k es))) ∙ ap length (kept-last n (take k es)) ∙ length-take-le k es le in
+    omega (arith, sum, e)
 
--- ---- redo: from the end of ys to the end of xs
-pub redo-count : (count : ℕ) (ys : List Change) (pending : List Entry) → reverse (map entry_of ys) ≡ pending → BothMatched (record { recorded = []; pending = pending; fresh = Stale }) → count ≡ length (redo_of pending) → count ≤ length ys
-redo-count count ys pending v m e =
-    let sum = ap length (Redoes-of pending m.pending).list_is in
-    omega (arith, e, sum, length-append (redo_of pending) (drop (length (redo_of pending)) pending), ap length v, length-reverse (map entry_of ys), length-map ys entry_of)
-
--- what is moved and what stays, in the order in which it waits
-record RedoParts (count : ℕ) (ys : List Change) : Type 0 where
-  pub moved : reverse (map entry_of (drop (length ys - count) ys)) ≡ redo_of (reverse (map entry_of ys))
-  pub left : reverse (map entry_of (take (length ys - count) ys)) ≡ drop (length (redo_of (reverse (map entry_of ys)))) (reverse (map entry_of ys))
-
-redo-parts : (count : ℕ) (ys : List Change) → BothMatched (view [] ys Stale) → count ≡ length (redo_of (reverse (map entry_of ys))) → RedoParts count ys
-redo-parts count ys m e =
-    let p = reverse (map entry_of ys) in
-    let k = length ys - count in
-    let back = reverse (map entry_of (drop k ys)) in
-    let front = reverse (map entry_of (take k ys)) in
-    let d = Redoes-of p m.pending in
-    let split : p ≡ back ++ front =
-    ap (λ l. reverse (map entry_of l)) (sym (take-append-drop k ys)) ∙ ap reverse (map-append entry_of (take k ys) (drop k ys))
-    ∙ reverse-append (map entry_of (take k ys)) (map entry_of (drop k ys)) in
-    let within = redo-count count ys p refl m e in
-    let size : length back ≡ count = omega (arith, length-reverse (map entry_of (drop k ys)), length-map (drop k ys) entry_of, length-drop k ys, within) in
+pub Undoes-of : (n k count first : ℕ) (es : List Entry) → k ≤ length es → count ≡ length (last_of n (take k es)) → first ≡ k - count → Undoes n k first es
+Undoes-of n k count first es le e f =
+    let kept = kept_of n (take k es) in
+    let unit = last_of n (take k es) in
+    let whole : es ≡ kept ++ (unit ++ drop k es) = sym (take-append-drop k es) ∙ ap (λ l. l ++ drop k es) (sym (kept-last n (take k es))) ∙ append_assoc kept unit (drop k es) in
+    let sum : length kept + length unit ≡ k = sym (length-append kept unit) ∙ ap length (kept-last n (take k es)) ∙ length-take-le k es le in
+    let long : length kept ≡ first = omega (arith, sum, e, f) in
+    let behind : drop first es ≡ unit ++ drop k es = ap (drop first) whole ∙ drop_at kept (unit ++ drop k es) first long in
     record {
-      moved = sym (ap (take count) split ∙ take_at back front count size) ∙ ap (take count) (sym d.list_is) ∙ take_at (redo_of p) (drop (length (redo_of p)) p) count (sym e);
-      left = sym (ap (drop count) split ∙ drop_at back front count size) ∙ ap (λ j. drop j p) e;
+      within = omega (arith, f);
+      recorded = ap (take first) whole ∙ take_at kept (unit ++ drop k es) first long;
+      pending = behind;
+      unit = ap (take (k - first)) behind ∙ take_at unit (drop k es) (k - first) (omega (arith, sum, long));
     }
 
--- the slice of what was moved
-pub redo-slice : (count len : ℕ) (xs ys now_xs slice : List Change) → BothMatched (view [] ys Stale) → count ≡ length (redo_of (reverse (map entry_of ys))) → len ≡ length xs
-    → now_xs ≡ xs ++ reverse (drop (length ys - count) ys) → slice ≡ now_xs → map entry_of (take (length slice - len) (drop len slice)) ≡ redo_of (reverse (map entry_of ys))
-redo-slice count len xs ys now_xs slice m e l g s =
-    let behind = drop (length ys - count) ys in
-    ap (map entry_of) (rest slice len ∙ ap (drop len) (s ∙ g) ∙ drop_at xs (reverse behind) len (sym l)) ∙ map-reverse behind ∙ (redo-parts count ys m e).moved
+pub undone-view : (n k first : ℕ) (r : Record) (es : List Entry) (fresh : Freshness) → cut_at k es fresh ≡ r → Undoes n k first es → cut_at first es Stale ≡ undone n r
+undone-view n k first r es fresh v u =
+    same (take first es) (kept_of n (take k es)) (drop first es) (last_of n (take k es) ++ drop k es) Stale u.recorded u.pending ∙ ap (undone n) v
 
-faced-ahead : (xs : List Change) → map (faced Ahead) xs ≡ map inverse (map entry_of xs)
-faced-ahead [] = refl
-faced-ahead (x ∷ xs) = ap (λ l. inverse (entry_of x) ∷ l) (faced-ahead xs)
+pub undo-fits : (n : ℕ) (es : List Entry) (line : Line) → IsSome (line_back es line) → IsSome (line_back (last_of n es) line)
+undo-fits n es line h =
+    let all : line_back es line ≡ _ = ap (λ l. line_back l line) (sym (kept-last n es)) ∙ line_back-append (kept_of n es) (last_of n es) line in
+    IsSome-through (line_back (kept_of n es)) (line_back (last_of n es) line) (subst IsSome all h)
 
--- a text can go over all that waits where a line can go ahead over it
-pub all-ahead : (ys : List Change) (line : Line) → IsUtf8 line.text → IsCharBoundary line.text line.cursor
-    → is_some (text_back true (map (faced Ahead) ys) line.text) ≡ is_some (line_ahead (reverse (map entry_of ys)) line)
-all-ahead ys line u at =
-    let p = reverse (map entry_of ys) in
-    let turned : map (faced Ahead) ys ≡ map inverse (reverse p) = faced-ahead ys ∙ ap (map inverse) (sym (reverse-reverse (map entry_of ys))) in
-    line_back-is_some (map (faced Ahead) ys) line u at ∙ ap (λ l. is_some (line_back l line)) turned ∙ ap is_some (line_ahead-back p line)
+-- ---- redo: behind the k that are recorded more come to it
+pub record RedoesTo (k end : ℕ) (es : List Entry) : Type 0 where
+  pub from : k ≤ end
+  pub within : end ≤ length es
+  pub recorded : take end es ≡ take k es ++ redo_of (drop k es)
+  pub pending : drop end es ≡ drop (length (redo_of (drop k es))) (drop k es)
+  pub unit : take (end - k) (drop k es) ≡ redo_of (drop k es)
 
-redo-faced : (count : ℕ) (ys : List Change) → BothMatched (view [] ys Stale) → count ≡ length (redo_of (reverse (map entry_of ys)))
-    → map (faced Ahead) (drop (length ys - count) ys) ≡ map inverse (reverse (redo_of (reverse (map entry_of ys))))
-redo-faced count ys m e =
-    faced-ahead (drop (length ys - count) ys) ∙ ap (map inverse) (sym (reverse-reverse (map entry_of (drop (length ys - count) ys))) ∙ ap reverse (redo-parts count ys m e).moved)
+pub RedoesTo-of : (k count end : ℕ) (es : List Entry) → k ≤ length es → IsMatched (drop k es) → count ≡ length (redo_of (drop k es)) → end ≡ k + count → RedoesTo k end es
+RedoesTo-of k count end es le m e f =
+    let unit = redo_of (drop k es) in
+    let left = drop (length unit) (drop k es) in
+    let list = (Redoes-of (drop k es) m).list_is in
+    let front : length (take k es) ≡ k = length-take-le k es le in
+    let whole : es ≡ (take k es ++ unit) ++ left =
+    sym (take-append-drop k es) ∙ ap (λ l. take k es ++ l) (sym list) ∙ sym (append_assoc (take k es) unit left) in
+    let long : length (take k es ++ unit) ≡ end = omega (arith, length-append (take k es) unit, front, e, f) in
+    record {
+      from = omega (arith, f);
+      within = omega (arith, ap length whole, length-append (take k es ++ unit) left, long);
+      recorded = ap (take end) whole ∙ take_at (take k es ++ unit) left end long;
+      pending = ap (drop end) whole ∙ drop_at (take k es ++ unit) left end long;
+      unit = ap (take (end - k)) (sym list) ∙ take_at unit left (end - k) (omega (arith, e, f));
+    }
 
--- a line that goes over what is moved goes ahead over the unit
-pub redo-line : (count : ℕ) (ys : List Change) (line : Line) → BothMatched (view [] ys Stale) → count ≡ length (redo_of (reverse (map entry_of ys)))
-    → line_back (map (faced Ahead) (drop (length ys - count) ys)) line ≡ line_ahead (redo_of (reverse (map entry_of ys))) line
-redo-line count ys line m e = ap (λ l. line_back l line) (redo-faced count ys m e) ∙ line_ahead-back (redo_of (reverse (map entry_of ys))) line
+pub redone-view : (k end : ℕ) (r : Record) (es : List Entry) (fresh : Freshness) → cut_at k es fresh ≡ r → RedoesTo k end es → cut_at end es Stale ≡ redone r
+redone-view k end r es fresh v u =
+    same (take end es) (take k es ++ redo_of (drop k es)) (drop end es) (drop (length (redo_of (drop k es))) (drop k es)) Stale u.recorded u.pending ∙ ap redone v
 
-pub redo-fits : (count : ℕ) (ys : List Change) (line : Line) → BothMatched (view [] ys Stale) → count ≡ length (redo_of (reverse (map entry_of ys)))
-    → IsSome (line_ahead (reverse (map entry_of ys)) line) → IsSome (line_back (map (faced Ahead) (drop (length ys - count) ys)) line)
-redo-fits count ys line m e h =
-    let p = reverse (map entry_of ys) in
-    let unit = redo_of p in
-    let all : line_ahead p line ≡ _ = ap (λ l. line_ahead l line) (sym (Redoes-of p m.pending).list_is) ∙ line_ahead-append unit (drop (length unit) p) line in
-    subst IsSome (sym (redo-line count ys line m e)) (IsSome-through (line_ahead (drop (length unit) p)) (line_ahead unit line) (subst IsSome all h))
+-- a line that goes ahead over changes of the code's list
+pub ahead-line : (xs : List Change) (es : List Entry) (line : Line) → map entry_of xs ≡ es → line_back (map (faced Ahead) (order Ahead xs)) line ≡ line_ahead es line
+ahead-line xs es line e = ap (λ l. line_back l line) (ahead-inverse xs ∙ ap (λ l. map inverse (reverse l)) e) ∙ line_ahead-back es line
 
-has_change-reverse : (es : List Entry) → has_change (reverse es) ≡ has_change es
-has_change-reverse [] = refl
-has_change-reverse (e ∷ es) =
-    ap has_change (reverse-append (e ∷ []) es) ∙ has_change-append (reverse es) (e ∷ []) ∙ ap (λ b. b || has_change (e ∷ [])) (has_change-reverse es) ∙ turn (has_change es) (is_change e)
-  where
-    turn : (a b : Bool) → (a || (b || false)) ≡ (b || a)
-    turn true true = refl
-    turn true false = refl
-    turn false true = refl
-    turn false false = refl
-
-pub redo-change : (count : ℕ) (ys : List Change) → BothMatched (view [] ys Stale) → count ≡ length (redo_of (reverse (map entry_of ys)))
-    → has_change (map entry_of (drop (length ys - count) ys)) ≡ has_change (redo_of (reverse (map entry_of ys)))
-redo-change count ys m e = sym (has_change-reverse (map entry_of (drop (length ys - count) ys))) ∙ ap has_change (redo-parts count ys m e).moved
-
-pub redone-view : (count : ℕ) (r : Record) (xs ys now_xs now_ys : List Change) (fresh : Freshness) → view xs ys fresh ≡ r → BothMatched (view [] ys Stale) → count ≡ length (redo_of (reverse (map entry_of ys)))
-    → now_ys ≡ take (length ys - count) ys → now_xs ≡ xs ++ reverse (drop (length ys - count) ys) → view now_xs now_ys Stale ≡ redone r
-redone-view count r xs ys now_xs now_ys fresh v m e f g =
-    let p = reverse (map entry_of ys) in
-    let parts = redo-parts count ys m e in
-    same (map entry_of now_xs) (map entry_of xs ++ redo_of p) (reverse (map entry_of now_ys)) (drop (length (redo_of p)) p) Stale
-    (ap (map entry_of) g ∙ map-append entry_of xs (reverse (drop (length ys - count) ys)) ∙ ap (λ l. map entry_of xs ++ l) (map-reverse (drop (length ys - count) ys) ∙ parts.moved))
-    (ap (λ l. reverse (map entry_of l)) f ∙ parts.left)
-    (redone r) (ap redone v)
+pub redo-fits : (es : List Entry) (line : Line) → IsMatched es → IsSome (line_ahead es line) → IsSome (line_ahead (redo_of es) line)
+redo-fits es line m h =
+    let unit = redo_of es in
+    let all : line_ahead es line ≡ _ = ap (λ l. line_ahead l line) (sym (Redoes-of es m).list_is) ∙ line_ahead-append unit (drop (length unit) es) line in
+    IsSome-through (line_ahead (drop (length unit) es)) (line_ahead unit line) (subst IsSome all h)
 
 -- ---- questions
+-- a text can go over all that waits where a line can go ahead over it
+pub all-ahead : (xs : List Change) (es : List Entry) (line : Line) → map entry_of xs ≡ es → IsUtf8 line.text → IsCharBoundary line.text line.cursor
+    → is_some (text_back true (map (faced Ahead) (order Ahead xs)) line.text) ≡ is_some (line_ahead es line)
+all-ahead xs es line e u at = line_back-is_some (map (faced Ahead) (order Ahead xs)) line u at ∙ ap is_some (ahead-line xs es line e)
+
 pub some-map : (o : Option (String Global)) → is_some o ≡ is_some (option_map string_bytes o)
 some-map None = refl
 some-map (Some s) = refl

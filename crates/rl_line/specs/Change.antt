@@ -1,5 +1,5 @@
 -- What the private functions of one entry say of it: joining, and going over it either way.
-use Rattle.std.specs.Prelude.{◌≡◌, ℕ, ◌+◌, ◌-◌, max, count_by, Bool, true, not, ◌||◌, List, [], ◌∷◌, length, Option, Some, None, option_and_then, if◌then◌else◌}
+use Rattle.std.specs.Prelude.{◌≡◌, ℕ, ◌+◌, ◌-◌, max, count_by, Bool, true, not, ◌||◌, List, [], ◌∷◌, length, reverse, Option, Some, None, option_and_then, if◌then◌else◌}
 use Rattle.std.specs.Option.{option_map_or}
 use Rattle.rl_base.specs.Event.{Event, apply}
 use Rattle.rl_base.specs.Text.{is_boundary}
@@ -55,6 +55,11 @@ new_text _ = []
 abbrev pub faced : Way → Change → Entry
 faced Back change = entry_of change
 faced Ahead change = inverse (entry_of change)
+
+-- the changes as a line goes over them, the last first: going ahead, the first one is gone over first
+abbrev pub order : Way → List Change → List Change
+order Back changes = changes
+order Ahead changes = reverse changes
 
 -- how much a text has of what it is measured by
 abbrev pub size_of : Measure → List ℕ → ℕ

@@ -1,13 +1,24 @@
 -- What the private functions of a list of entries say of it.
-use Rattle.std.specs.Prelude.{◌≡◌, ℕ, suc, ◌-◌, Option, Some, None, List, [], ◌∷◌, ◌++◌}
+use Rattle.std.specs.Prelude.{◌≡◌, ◌≤◌, ℕ, suc, ◌-◌, Option, Some, None, List, [], ◌∷◌, ◌++◌, length, take, drop}
 use Rattle.rl_base.specs.Event.{Event}
-use Rattle.rl_line.specs.Record.{Entry, Begin, End, entries_after, entries_of, freshness_added, freshness_of}
+use Rattle.rl_line.specs.Record.{Entry, Begin, End, Record, entries_after, entries_of, freshness_added, freshness_of}
+use Rattle.rl_line.specs.Units.{AtLevel}
 use Rattle.rl_line.specs.declared.change.Freshness.{Freshness}
 
--- what a try to join an event to the last of these entries does: it joins, or they stay and the event is to be added
-abbrev pub JoinsLast : Event → List Entry → List Entry → Option Freshness → Type 0
-JoinsLast event old new (Some fresh) = (new ≡ entries_after event old) × (fresh ≡ freshness_of event old)
-JoinsLast event old new None = (new ≡ old) × (entries_after event old ≡ old ++ entries_of event) × (freshness_of event old ≡ freshness_added (entries_of event))
+-- the record that one list of entries is: the first n are recorded, and those behind them wait to be redone
+abbrev pub cut_at : ℕ → List Entry → Freshness → Record
+cut_at n es fresh = record { recorded = take n es; pending = drop n es; fresh = fresh }
+
+-- there are so many, and so many groups are open in them
+pub record IsCutAt (n level : ℕ) (es : List Entry) (fresh : Freshness) : Type 0 where
+  pub within : n ≤ length es
+  pub at_level : AtLevel level (cut_at n es fresh)
+
+-- what a try to join an event to the last of the first n entries does: it joins, or all entries stay and the event is to be added
+abbrev pub JoinsLast : Event → ℕ → List Entry → List Entry → Option Freshness → Type 0
+JoinsLast event n old new (Some fresh) = (take n new ≡ entries_after event (take n old)) × (fresh ≡ freshness_of event (take n old))
+JoinsLast event n old new None =
+    (new ≡ old) × (entries_after event (take n old) ≡ take n old ++ entries_of event) × (freshness_of event (take n old) ≡ freshness_added (entries_of event))
 
 -- how many groups are open after the entries, where d are open before them
 abbrev pub deep : ℕ → List Entry → ℕ

@@ -1,5 +1,5 @@
 //! An entry of a record, and how a text goes over it.
-ghost use Rattle.std.specs.Prelude.{◌≡◌, ℕ, List, None, Some, true, OnOk, IfOk, IfErr, ◌+◌, ◌-◌, ◌<◌, ◌≤◌, IsSome, IfSome, is_some, length, map, vec_len, vec_capacity};
+ghost use Rattle.std.specs.Prelude.{◌≡◌, ℕ, List, None, Some, true, OnOk, IfOk, IfErr, ◌+◌, ◌-◌, ◌<◌, ◌≤◌, IsSome, IfSome, get_or, is_some, length, map, vec_len, vec_capacity};
 ghost use Rattle.std.specs.Option.{option_map};
 ghost use Rattle.std.specs.String.{string_bytes, string_len, string_capacity};
 ghost use Rattle.std.specs.Str.{IsCharBoundary};
@@ -10,7 +10,7 @@ ghost use Rattle.rl_base.specs.declared.listeners.Refusal.TheVariants.{NoMemory}
 ghost use Rattle.rl_line.specs.Record.{cursors_of, entry_of, event_of, freshness_joined, inverse, with_cursors};
 ghost use Rattle.rl_line.specs.Undo.{cursor_after, cursor_told};
 ghost use Rattle.rl_line.specs.Units.{is_begin, is_change};
-ghost use Rattle.rl_line.specs.Change.{TakesIn, cursor_stands, text_back, new_text, old_text, place, faced, greatest_back_over, size_back, size_of};
+ghost use Rattle.rl_line.specs.Change.{TakesIn, cursor_stands, text_back, new_text, old_text, place, faced, greatest_back_over, order, size_back, size_of};
 ghost use Rattle.rl_line.specs.declared.change.Measure.TheVariants.{Bytes, Newlines};
 ghost use Rattle.rl_line.specs.LineStarts.{line_starts};
 
@@ -298,7 +298,19 @@ fn stands_at(text: &str, at: usize, part: &str) -> bool
     &text[at..end] == part
 }
 
-/// Finds room in a line's text and its table for the longest of each on the way over the changes, the last first.
+/// The change that is gone over when so many are left with it: going back the last comes first, and going ahead the first.
+#[inline(always)]
+pub(crate) fn nth_on(way: Way, changes: &[Change], left: usize) -> &Change
+    requires { left < length changes.now }
+    ensures { result.now ≡ get_or (order way changes.now) left result.now }
+{
+    match way {
+        Way::Back => &changes[left],
+        Way::Ahead => &changes[changes.len() - 1 - left],
+    }
+}
+
+/// Finds room in a line's text and its table for the longest of each on the way over the changes.
 pub(crate) fn find_room_over(
     text: &mut String,
     starts: &mut Vec<usize>,
@@ -309,8 +321,8 @@ pub(crate) fn find_room_over(
     ensures len { string_len text.new ≡ string_len text.old }
     ensures starts { starts.new.items ≡ starts.old.items }
     ensures count { vec_len starts.new ≡ vec_len starts.old }
-    ensures room { OnOk result (greatest_back_over Bytes (map (faced way) changes.now) (string_len text.old) ≤ string_capacity text.new) }
-    ensures table { OnOk result (greatest_back_over Newlines (map (faced way) changes.now) (vec_len starts.old) ≤ vec_capacity starts.new) }
+    ensures room { OnOk result (greatest_back_over Bytes (map (faced way) (order way changes.now)) (string_len text.old) ≤ string_capacity text.new) }
+    ensures table { OnOk result (greatest_back_over Newlines (map (faced way) (order way changes.now)) (vec_len starts.old) ≤ vec_capacity starts.new) }
     ensures err { IfErr result (λ r. (r ≡ NoMemory) × (0 < length changes.now)) }
 {
     let bytes = growth_over(changes, Measure::Bytes, way, text.len())?;
@@ -318,8 +330,8 @@ pub(crate) fn find_room_over(
     find_room(text, starts, bytes, newlines)
 }
 
-// How much more than at first a text of size `size` has at most on the way over the changes, the last first. Inlined, so that
-// what is measured, and the way, are known when it is compiled.
+// How much more than at first a text of size `size` has at most on the way over the changes. Inlined, so that what is
+// measured, and the way, are known when it is compiled.
 #[inline(always)]
 fn growth_over(
     changes: &[Change],
@@ -327,7 +339,7 @@ fn growth_over(
     way: Way,
     size: usize,
 ) -> Result<usize, Refusal>
-    ensures ok { IfOk result (λ n. size + n ≡ greatest_back_over measure (map (faced way) changes.now) size) }
+    ensures ok { IfOk result (λ n. size + n ≡ greatest_back_over measure (map (faced way) (order way changes.now)) size) }
     ensures err { IfErr result (λ r. (r ≡ NoMemory) × (0 < length changes.now)) }
 {
     let mut now = size;
@@ -335,7 +347,7 @@ fn growth_over(
     let mut left = changes.len();
     while left > 0 {
         left -= 1;
-        now = match changes[left].size_over(measure, way, now) {
+        now = match nth_on(way, changes, left).size_over(measure, way, now) {
             Some(now) => now,
             None => return Err(Refusal::NoMemory),
         };
@@ -344,8 +356,8 @@ fn growth_over(
     Ok(greatest - size)
 }
 
-/// The text once it went over the changes, the last first, or none where one of them does not fit, or, if
-/// `asks` says so, where a cursor that was told would not stand between two characters.
+/// The text once it went over the changes, or none where one of them does not fit, or, if `asks` says so, where a cursor that
+/// was told would not stand between two characters.
 pub(crate) fn text_over(
     alloc: Global,
     text: &str,
@@ -353,14 +365,14 @@ pub(crate) fn text_over(
     way: Way,
     asks: bool,
 ) -> Result<Option<String>, Refusal>
-    ensures ok { IfOk result (λ over. option_map string_bytes over ≡ text_back asks (map (faced way) changes.now) text.now) }
+    ensures ok { IfOk result (λ over. option_map string_bytes over ≡ text_back asks (map (faced way) (order way changes.now)) text.now) }
     ensures err { IfErr result (λ r. r ≡ NoMemory) }
 {
     let mut now = copied(alloc, text)?;
     let mut left = changes.len();
     while left > 0 {
         left -= 1;
-        let change = &changes[left];
+        let change = nth_on(way, changes, left);
         if !change.fits(now.as_str(), way) {
             return Ok(None);
         }

@@ -1,5 +1,6 @@
-//! Lists of entries: what an event adds to one, and which entries an undo or a redo moves to another.
-ghost use Rattle.std.specs.Prelude.{◌≡◌, ◌-◌, ◌+◌, ◌^◌, ◌≤◌, ◌<◌, [], ◌∷◌, ◌++◌, length, map, take, drop, reverse, not, IfOk, IfErr, IsSome, OnOk};
+//! A list of entries, of which the first are recorded, and those behind them were undone: what an event makes of it, and which
+//! of them an undo or a redo goes over. A function that records drops what was undone, and refused it leaves every entry.
+ghost use Rattle.std.specs.Prelude.{◌≡◌, ◌+◌, ◌^◌, ◌≤◌, ◌<◌, [], ◌∷◌, ◌++◌, length, map, take, drop, not, IfOk, IfErr, IsSome, OnOk};
 ghost use Rattle.std.specs.Option.{option_map};
 ghost use Rattle.std.specs.String.{string_bytes};
 ghost use Rattle.std.specs.Vec.{vec_len, vec_capacity};
@@ -7,13 +8,10 @@ ghost use Rattle.rl_base.specs.Event.{InsertChar, InsertStr, Delete, Replace};
 ghost use Rattle.rl_base.specs.declared.listeners.Direction.TheVariants.{Forward};
 ghost use Rattle.rl_base.specs.declared.listeners.Refusal.TheVariants.{NoMemory};
 ghost use Rattle.rl_line.specs.Record.{entries_after, entries_told, entry_of, freshness_of, last_insert};
-ghost use Rattle.rl_line.specs.Undo.{line_back};
 ghost use Rattle.rl_line.specs.Units.{IsMatched, adds_end, end_one, end_times, ends_in_begin, has_change, last_of, level, redo_of};
-ghost use Rattle.rl_line.specs.Change.{faced};
 ghost use Rattle.rl_line.specs.Entries.{JoinsLast, deep};
 
-use crate::change::{Change, Freshness, Texts, Way, copied};
-use crate::line_buffer::LineBuffer;
+use crate::change::{Change, Freshness, Texts, copied};
 use rl_base::{Refusal, RepeatCount};
 use std::alloc::Global;
 
@@ -21,20 +19,23 @@ use std::alloc::Global;
 #[tactic(auto, using(crate::proofs::JoinLemmas::alone_in_list), unfolding(crate::specs::Record::entries_of))]
 pub(crate) fn insert_char(
     entries: &mut Vec<Change>,
+    recorded: usize,
     idx: usize,
     c: char,
 ) -> Result<Freshness, Refusal>
-    ensures ok { IfOk result (λ fresh. (map entry_of entries.new.items ≡ entries_after (InsertChar idx c) (map entry_of entries.old.items)) × (fresh ≡ freshness_of (InsertChar idx c) (map entry_of entries.old.items))) }
+    requires { recorded ≤ length entries.old.items }
+    ensures ok { IfOk result (λ fresh. (map entry_of entries.new.items ≡ entries_after (InsertChar idx c) (take recorded (map entry_of entries.old.items))) × (fresh ≡ freshness_of (InsertChar idx c) (take recorded (map entry_of entries.old.items)))) }
     ensures err { IfErr result (λ r. (r ≡ NoMemory) × (map entry_of entries.new.items ≡ map entry_of entries.old.items)) }
 {
-    if let Some(fresh) = join_char(entries, idx, c)? {
+    if let Some(fresh) = join_char(entries, recorded, idx, c)? {
+        keep(entries, recorded);
         return Ok(fresh);
     }
     let mut text = String::new(*entries.allocator());
     if text.push(c).is_err() {
         return Err(Refusal::NoMemory);
     }
-    add(entries, Change::Insert(None, idx, text))?;
+    add(entries, recorded, Change::Insert(None, idx, text))?;
     Ok(Freshness::Added)
 }
 
@@ -42,17 +43,20 @@ pub(crate) fn insert_char(
 #[tactic(auto, using(crate::proofs::JoinLemmas::alone_in_list), unfolding(crate::specs::Record::entries_of))]
 pub(crate) fn insert_str(
     entries: &mut Vec<Change>,
+    recorded: usize,
     idx: usize,
     string: &str,
 ) -> Result<Freshness, Refusal>
-    ensures ok { IfOk result (λ fresh. (map entry_of entries.new.items ≡ entries_after (InsertStr idx string.now) (map entry_of entries.old.items)) × (fresh ≡ freshness_of (InsertStr idx string.now) (map entry_of entries.old.items))) }
+    requires { recorded ≤ length entries.old.items }
+    ensures ok { IfOk result (λ fresh. (map entry_of entries.new.items ≡ entries_after (InsertStr idx string.now) (take recorded (map entry_of entries.old.items))) × (fresh ≡ freshness_of (InsertStr idx string.now) (take recorded (map entry_of entries.old.items)))) }
     ensures err { IfErr result (λ r. (r ≡ NoMemory) × (map entry_of entries.new.items ≡ map entry_of entries.old.items) × (0 < length string.now)) }
 {
     if string.is_empty() {
+        keep(entries, recorded);
         return Ok(Freshness::Stale);
     }
     let text = copied(*entries.allocator(), string)?;
-    add(entries, Change::Insert(None, idx, text))?;
+    add(entries, recorded, Change::Insert(None, idx, text))?;
     Ok(Freshness::Added)
 }
 
@@ -60,20 +64,24 @@ pub(crate) fn insert_str(
 #[tactic(auto, using(crate::proofs::JoinLemmas::alone_in_list), unfolding(crate::specs::Record::entries_of))]
 pub(crate) fn delete(
     entries: &mut Vec<Change>,
+    recorded: usize,
     idx: usize,
     string: &str,
 ) -> Result<Freshness, Refusal>
-    ensures ok { IfOk result (λ fresh. (map entry_of entries.new.items ≡ entries_after (Delete idx string.now Forward) (map entry_of entries.old.items)) × (fresh ≡ freshness_of (Delete idx string.now Forward) (map entry_of entries.old.items))) }
+    requires { recorded ≤ length entries.old.items }
+    ensures ok { IfOk result (λ fresh. (map entry_of entries.new.items ≡ entries_after (Delete idx string.now Forward) (take recorded (map entry_of entries.old.items))) × (fresh ≡ freshness_of (Delete idx string.now Forward) (take recorded (map entry_of entries.old.items)))) }
     ensures err { IfErr result (λ r. (r ≡ NoMemory) × (map entry_of entries.new.items ≡ map entry_of entries.old.items) × (0 < length string.now)) }
 {
     if string.is_empty() {
+        keep(entries, recorded);
         return Ok(Freshness::Stale);
     }
-    if let Some(fresh) = join_deletion(entries, idx, string)? {
+    if let Some(fresh) = join_deletion(entries, recorded, idx, string)? {
+        keep(entries, recorded);
         return Ok(fresh);
     }
     let text = copied(*entries.allocator(), string)?;
-    add(entries, Change::Delete(None, idx, text))?;
+    add(entries, recorded, Change::Delete(None, idx, text))?;
     Ok(Freshness::Added)
 }
 
@@ -81,99 +89,131 @@ pub(crate) fn delete(
 #[tactic(auto, using(crate::proofs::JoinLemmas::alone_in_list), unfolding(crate::specs::Record::entries_of))]
 pub(crate) fn replace(
     entries: &mut Vec<Change>,
+    recorded: usize,
     idx: usize,
     old: &str,
     new: &str,
 ) -> Result<Freshness, Refusal>
-    ensures ok { IfOk result (λ fresh. (map entry_of entries.new.items ≡ entries_after (Replace idx old.now new.now) (map entry_of entries.old.items)) × (fresh ≡ freshness_of (Replace idx old.now new.now) (map entry_of entries.old.items))) }
+    requires { recorded ≤ length entries.old.items }
+    ensures ok { IfOk result (λ fresh. (map entry_of entries.new.items ≡ entries_after (Replace idx old.now new.now) (take recorded (map entry_of entries.old.items))) × (fresh ≡ freshness_of (Replace idx old.now new.now) (take recorded (map entry_of entries.old.items)))) }
     ensures err { IfErr result (λ r. (r ≡ NoMemory) × (map entry_of entries.new.items ≡ map entry_of entries.old.items)) }
 {
-    if let Some(fresh) = join_replacement(entries, idx, old, new)? {
+    if let Some(fresh) = join_replacement(entries, recorded, idx, old, new)? {
+        keep(entries, recorded);
         return Ok(fresh);
     }
     let alloc = *entries.allocator();
     let before = copied(alloc, old)?;
     let after = copied(alloc, new)?;
     match Box::new(alloc, Texts { before, after }) {
-        Ok(texts) => add(entries, Change::Replace(None, idx, texts))?,
+        Ok(texts) => add(entries, recorded, Change::Replace(None, idx, texts))?,
         Err(_) => return Err(Refusal::NoMemory),
     }
     Ok(Freshness::Added)
 }
 
-/// Tells the last entry its cursors, where it may be told them yet.
-pub(crate) fn tell(entries: &mut Vec<Change>, fresh: Freshness, before: usize, after: usize)
-    ensures { map entry_of entries.new.items ≡ entries_told fresh before after (map entry_of entries.old.items) }
+/// Tells the last recorded entry its cursors, where it may be told them yet.
+pub(crate) fn tell(
+    entries: &mut Vec<Change>,
+    recorded: usize,
+    fresh: Freshness,
+    before: usize,
+    after: usize,
+)
+    requires { recorded ≤ length entries.old.items }
+    ensures told { take recorded (map entry_of entries.new.items) ≡ entries_told fresh before after (take recorded (map entry_of entries.old.items)) }
+    ensures others { drop recorded (map entry_of entries.new.items) ≡ drop recorded (map entry_of entries.old.items) }
+    ensures len { length entries.new.items ≡ length entries.old.items }
 {
     let first = match fresh {
         Freshness::Stale => return,
         Freshness::Added => before,
         Freshness::Joined(first) => first,
     };
-    if let Some(last) = entries.last_mut() {
-        last.tell((first, after));
+    if recorded > 0 {
+        entries[recorded - 1].tell((first, after));
     }
 }
 
-// Joins a character that was inserted to the last entry, if it does. Answers what may be told of that then.
-fn join_char(entries: &mut Vec<Change>, idx: usize, c: char) -> Result<Option<Freshness>, Refusal>
-    ensures ok { IfOk result (λ fresh. JoinsLast (InsertChar idx c) (map entry_of entries.old.items) (map entry_of entries.new.items) fresh) }
+// Joins a character that was inserted to the last recorded entry, if it does. Answers what may be told of that then.
+fn join_char(
+    entries: &mut Vec<Change>,
+    recorded: usize,
+    idx: usize,
+    c: char,
+) -> Result<Option<Freshness>, Refusal>
+    requires { recorded ≤ length entries.old.items }
+    ensures ok { IfOk result (λ fresh. JoinsLast (InsertChar idx c) recorded (map entry_of entries.old.items) (map entry_of entries.new.items) fresh) }
     ensures err { IfErr result (λ r. (r ≡ NoMemory) × (map entry_of entries.new.items ≡ map entry_of entries.old.items)) }
 {
-    if let Some(last) = entries.last_mut() {
-        return last.join_char(idx, c);
+    if recorded == 0 {
+        return Ok(None);
     }
-    Ok(None)
+    entries[recorded - 1].join_char(idx, c)
 }
 
-// Joins a deletion to the last entry, if it does. Answers what may be told of that then.
+// Joins a deletion to the last recorded entry, if it does. Answers what may be told of that then.
 fn join_deletion(
     entries: &mut Vec<Change>,
+    recorded: usize,
     idx: usize,
     string: &str,
 ) -> Result<Option<Freshness>, Refusal>
-    ensures ok { IfOk result (λ fresh. JoinsLast (Delete idx string.now Forward) (map entry_of entries.old.items) (map entry_of entries.new.items) fresh) }
+    requires { recorded ≤ length entries.old.items }
+    ensures ok { IfOk result (λ fresh. JoinsLast (Delete idx string.now Forward) recorded (map entry_of entries.old.items) (map entry_of entries.new.items) fresh) }
     ensures err { IfErr result (λ r. (r ≡ NoMemory) × (map entry_of entries.new.items ≡ map entry_of entries.old.items)) }
 {
-    if let Some(last) = entries.last_mut() {
-        return last.join_deletion(idx, string);
+    if recorded == 0 {
+        return Ok(None);
     }
-    Ok(None)
+    entries[recorded - 1].join_deletion(idx, string)
 }
 
-// Joins a replacement to the last entry, if it does. Answers what may be told of that then.
+// Joins a replacement to the last recorded entry, if it does. Answers what may be told of that then.
 fn join_replacement(
     entries: &mut Vec<Change>,
+    recorded: usize,
     idx: usize,
     old: &str,
     new: &str,
 ) -> Result<Option<Freshness>, Refusal>
-    ensures ok { IfOk result (λ fresh. JoinsLast (Replace idx old.now new.now) (map entry_of entries.old.items) (map entry_of entries.new.items) fresh) }
+    requires { recorded ≤ length entries.old.items }
+    ensures ok { IfOk result (λ fresh. JoinsLast (Replace idx old.now new.now) recorded (map entry_of entries.old.items) (map entry_of entries.new.items) fresh) }
     ensures err { IfErr result (λ r. (r ≡ NoMemory) × (map entry_of entries.new.items ≡ map entry_of entries.old.items)) }
 {
-    if let Some(last) = entries.last_mut() {
-        return last.join_replacement(idx, old, new);
+    if recorded == 0 {
+        return Ok(None);
     }
-    Ok(None)
+    entries[recorded - 1].join_replacement(idx, old, new)
 }
 
-/// Adds an entry.
-pub(crate) fn add(entries: &mut Vec<Change>, entry: Change) -> Result<(), Refusal>
-    ensures ok { OnOk result (map entry_of entries.new.items ≡ map entry_of entries.old.items ++ entry_of entry ∷ []) }
+/// Adds an entry to the recorded ones. Where it takes the place of one that was undone, there is room for it.
+pub(crate) fn add(entries: &mut Vec<Change>, recorded: usize, entry: Change) -> Result<(), Refusal>
+    requires { recorded ≤ length entries.old.items }
+    ensures ok { OnOk result (map entry_of entries.new.items ≡ take recorded (map entry_of entries.old.items) ++ entry_of entry ∷ []) }
     ensures err { IfErr result (λ r. (r ≡ NoMemory) × (map entry_of entries.new.items ≡ map entry_of entries.old.items)) }
 {
-    if entries.push(entry).is_err() {
-        return Err(Refusal::NoMemory);
+    if recorded < entries.len() {
+        entries.truncate(recorded);
+        match entries.push(entry) {
+            Ok(()) => return Ok(()),
+            Err(_) => unreachable!(),
+        }
     }
-    Ok(())
+    match entries.push(entry) {
+        Ok(()) => Ok(()),
+        Err(_) => Err(Refusal::NoMemory),
+    }
 }
 
-/// Empties a list. It mostly is empty, and then costs no call.
-pub(crate) fn clear(entries: &mut Vec<Change>)
-    ensures items { entries.new.items ≡ [] }
+/// Keeps the first `len` entries. Mostly these are all, and then it costs no call.
+pub(crate) fn keep(entries: &mut Vec<Change>, len: usize)
+    ensures items { map entry_of entries.new.items ≡ take len (map entry_of entries.old.items) }
+    ensures len { vec_len entries.new ≤ vec_len entries.old }
+    ensures capacity { vec_capacity entries.new ≡ vec_capacity entries.old }
 {
-    if !entries.is_empty() {
-        entries.clear();
+    if len < entries.len() {
+        entries.truncate(len);
     }
 }
 
@@ -304,21 +344,33 @@ pub(crate) fn last_len(entries: &[Change], n: RepeatCount) -> usize
     entries.len() - at
 }
 
-/// How many entries the unit has that is redone next, of undone entries of which the last comes first.
+/// How many entries the unit has that is redone next, of undone entries.
 pub(crate) fn next_len(entries: &[Change]) -> usize
-    requires { IsMatched (reverse (map entry_of entries.now)) }
-    ensures { result ≡ length (redo_of (reverse (map entry_of entries.now))) }
+    requires { IsMatched (map entry_of entries.now) }
+    ensures { result ≡ length (redo_of (map entry_of entries.now)) }
 {
     let mut level = 0;
-    let mut at = entries.len();
-    while at > 0 {
-        at -= 1;
+    let mut at = 0;
+    while at < entries.len() {
         level = level_behind(&entries[at], level);
+        at += 1;
         if level == 0 {
-            return entries.len() - at;
+            return at;
         }
     }
-    entries.len()
+    at
+}
+
+/// Whether there is a change among the entries.
+pub(crate) fn has_change(entries: &[Change]) -> bool
+    ensures { result ≡ has_change (map entry_of entries.now) }
+{
+    for entry in entries {
+        if entry.is_change() {
+            return true;
+        }
+    }
+    false
 }
 
 /// A copy of what the last entry put in, Ends passed over.
@@ -337,53 +389,4 @@ pub(crate) fn last_insert(entries: &[Change], alloc: Global) -> Result<Option<St
         }
     }
     Ok(None)
-}
-
-/// Takes a line over the last entries of a list, and moves these to the end of another, the last first. It finds
-/// all room before it changes anything. Answers whether there was a change among them. Inlined, so that undo and redo each know
-/// their way when they are compiled.
-#[inline(always)]
-pub(crate) fn carry_over(
-    from: &mut Vec<Change>,
-    to: &mut Vec<Change>,
-    count: usize,
-    line: &mut LineBuffer,
-    way: Way,
-) -> Result<bool, Refusal>
-    requires count { count ≤ length from.old.items }
-    requires fits { IsSome (line_back (map (faced way) (drop (length from.old.items - count) from.old.items)) line.old) }
-    ensures line { OnOk result (line_back (map (faced way) (drop (length from.old.items - count) from.old.items)) line.old ≡ Some line.new) }
-    ensures from { OnOk result (from.new.items ≡ take (length from.old.items - count) from.old.items) }
-    ensures to { OnOk result (to.new.items ≡ to.old.items ++ reverse (drop (length from.old.items - count) from.old.items)) }
-    ensures answer { IfOk result (λ answer. answer ≡ has_change (map entry_of (drop (length from.old.items - count) from.old.items))) }
-    ensures err { IfErr result (λ r. (r ≡ NoMemory) × (from.new.items ≡ from.old.items) × (to.new.items ≡ to.old.items) × (line.new ≡ line.old) × (0 < count)) }
-{
-    if to.reserve(count).is_err() {
-        return Err(Refusal::NoMemory);
-    }
-    line.go_over_all(&from[from.len() - count..], way)?;
-    Ok(move_last(from, to, count))
-}
-
-// Moves the last entries of a list to the end of another that has room for them, the last first. Answers whether
-// there was a change among them.
-fn move_last(from: &mut Vec<Change>, to: &mut Vec<Change>, count: usize) -> bool
-    requires count { count ≤ length from.old.items }
-    requires room { vec_len to.old + count ≤ vec_capacity to.old }
-    ensures from { from.new.items ≡ take (length from.old.items - count) from.old.items }
-    ensures to { to.new.items ≡ to.old.items ++ reverse (drop (length from.old.items - count) from.old.items) }
-    ensures answer { result ≡ has_change (map entry_of (drop (length from.old.items - count) from.old.items)) }
-{
-    let mut changed = false;
-    for _ in 0..count {
-        let Some(entry) = from.pop() else {
-            unreachable!();
-        };
-        changed = entry.is_change() | changed;
-        match to.push(entry) {
-            Ok(()) => {}
-            Err(_) => unreachable!(),
-        }
-    }
-    changed
 }

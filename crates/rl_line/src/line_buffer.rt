@@ -8,7 +8,7 @@ ghost use Rattle.rl_base.specs.declared.listeners.Refusal.TheVariants.{NoMemory}
 ghost use Rattle.rl_line.specs.Line.{Line, stepped};
 ghost use Rattle.rl_line.specs.Plan.{Step, Taken, after, events_of, or_no_memory};
 ghost use Rattle.rl_line.specs.Undo.{line_back};
-ghost use Rattle.rl_line.specs.Change.{faced};
+ghost use Rattle.rl_line.specs.Change.{faced, order};
 
 mod edits;
 mod indents;
@@ -20,7 +20,7 @@ mod motions;
 mod ranges;
 mod transpositions;
 
-use crate::change::{Change, Way, find_room_over, go_over};
+use crate::change::{Change, Way, find_room_over, go_over, nth_on};
 use crate::line_starts::newlines;
 use crate::swap::{find_room, swap_in};
 pub use kills::kill_agrees_with_copy;
@@ -294,11 +294,11 @@ impl LineBuffer {
         Ok(())
     }
 
-    // Goes over the changes, the last first. It finds the room for the longest text and the longest table on the way before
-    // it changes anything.
+    // Goes over the changes, the last first going back, the first first going ahead. It finds the room for the longest text and
+    // the longest table on the way before it changes anything.
     pub(crate) fn go_over_all(&mut self, changes: &[Change], way: Way) -> Result<(), Refusal>
-        requires { IsSome (line_back (map (faced way) changes.now) self.old) }
-        ensures ok { OnOk result (line_back (map (faced way) changes.now) self.old ≡ Some self.new) }
+        requires { IsSome (line_back (map (faced way) (order way changes.now)) self.old) }
+        ensures ok { OnOk result (line_back (map (faced way) (order way changes.now)) self.old ≡ Some self.new) }
         ensures err { IfErr result (λ r. (r ≡ NoMemory) × (self.new ≡ self.old) × (0 < length changes.now)) }
     {
         find_room_over(&mut self.buf, &mut self.starts, changes, way)?;
@@ -308,7 +308,7 @@ impl LineBuffer {
             self.pos = go_over(
                 &mut self.buf,
                 &mut self.starts,
-                &changes[left],
+                nth_on(way, changes, left),
                 way,
                 self.pos,
             );

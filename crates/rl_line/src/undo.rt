@@ -29,9 +29,10 @@ use std::marker::Model;
 /// joins another keeps the first cursor before and the last one after.
 #[derive(Drop)]
 pub struct Changeset {
-    recorded: Vec<Change>,
-    // The entry that is redone next stands last.
-    pending: Vec<Change>,
+    // What is recorded, and behind it what was undone, the entry that is redone next first: an undo and a redo move no entry.
+    entries: Vec<Change>,
+    // How many of them are recorded.
+    recorded: usize,
     // Whether the last recorded change may be told its cursors yet.
     fresh: Freshness,
     // How many groups are open, so that no call has to count them over the whole record.
@@ -39,15 +40,15 @@ pub struct Changeset {
 }
 
 impl Model for Changeset {
-    ghost use Rattle.std.specs.Prelude.{map, reverse};
+    ghost use Rattle.std.specs.Prelude.{map};
     ghost use Rattle.rl_line.specs.Record.{Record, entry_of};
-    ghost use Rattle.rl_line.specs.Units.{AtLevel};
+    ghost use Rattle.rl_line.specs.Entries.{IsCutAt, cut_at};
 
     ghost Value = { Record };
 
-    ghost view = { λ c. record { recorded = map entry_of c.recorded.items; pending = reverse (map entry_of c.pending.items); fresh = c.fresh } };
+    ghost view = { λ c. cut_at c.recorded (map entry_of c.entries.items) c.fresh };
 
-    ghost invariant = { λ c. AtLevel c.level (record { recorded = map entry_of c.recorded.items; pending = reverse (map entry_of c.pending.items); fresh = c.fresh }) };
+    ghost invariant = { λ c. IsCutAt c.recorded c.level (map entry_of c.entries.items) c.fresh };
 }
 
 impl Changeset {
@@ -56,8 +57,8 @@ impl Changeset {
         ensures { result ≡ record { recorded = []; pending = []; fresh = Stale } }
     {
         Changeset {
-            recorded: Vec::new(alloc),
-            pending: Vec::new(alloc),
+            entries: Vec::new(alloc),
+            recorded: 0,
             fresh: Freshness::Stale,
             level: 0,
         }
@@ -67,7 +68,7 @@ impl Changeset {
     pub fn len(&self) -> usize
         ensures { result ≡ length self.now.recorded }
     {
-        self.recorded.len()
+        self.recorded
     }
 
     /// How many groups are open. In the record every end of a group has its begin, in the same list, and every
@@ -85,9 +86,9 @@ impl Changeset {
         ensures done { IfOk result (λ answer. (answer ≡ length self.old.recorded) × (self.new ≡ begun self.old)) }
         ensures err { IfErr result (λ r. (r ≡ NoMemory) × (self.new ≡ self.old)) }
     {
-        let before = self.recorded.len();
-        entries::add(&mut self.recorded, Change::Begin)?;
-        entries::clear(&mut self.pending);
+        let before = self.recorded;
+        entries::add(&mut self.entries, self.recorded, Change::Begin)?;
+        self.recorded += 1;
         self.fresh = Freshness::Stale;
         self.level += 1;
         Ok(before)
@@ -99,11 +100,12 @@ impl Changeset {
         ensures done { IfOk result (λ answer. (answer ≡ adds_end (level self.old.recorded) self.old.recorded) × (self.new ≡ ended self.old)) }
         ensures err { IfErr result (λ r. (r ≡ NoMemory) × (self.new ≡ self.old) × (0 < level self.old.recorded)) }
     {
-        if self.recorded.reserve(self.level).is_err() {
+        if self.entries.reserve(self.level).is_err() {
             return Err(Refusal::NoMemory);
         }
-        let added = entries::close_groups(&mut self.recorded, self.level);
-        entries::clear(&mut self.pending);
+        entries::keep(&mut self.entries, self.recorded);
+        let added = entries::close_groups(&mut self.entries, self.level);
+        self.recorded = self.entries.len();
         self.fresh = Freshness::Stale;
         self.level = 0;
         Ok(added)
@@ -115,8 +117,8 @@ impl Changeset {
         ensures done { OnOk result (self.new ≡ record_step self.old (InsertChar idx c)) }
         ensures err { IfErr result (λ r. (r ≡ NoMemory) × (self.new ≡ self.old)) }
     {
-        self.fresh = entries::insert_char(&mut self.recorded, idx, c)?;
-        entries::clear(&mut self.pending);
+        self.fresh = entries::insert_char(&mut self.entries, self.recorded, idx, c)?;
+        self.recorded = self.entries.len();
         Ok(())
     }
 
@@ -125,8 +127,8 @@ impl Changeset {
         ensures done { OnOk result (self.new ≡ record_step self.old (InsertStr idx string.now)) }
         ensures err { IfErr result (λ r. (r ≡ NoMemory) × (self.new ≡ self.old) × (0 < length string.now)) }
     {
-        self.fresh = entries::insert_str(&mut self.recorded, idx, string)?;
-        entries::clear(&mut self.pending);
+        self.fresh = entries::insert_str(&mut self.entries, self.recorded, idx, string)?;
+        self.recorded = self.entries.len();
         Ok(())
     }
 
@@ -137,8 +139,8 @@ impl Changeset {
         ensures done { OnOk result (self.new ≡ record_step self.old (Delete idx string.now Forward)) }
         ensures err { IfErr result (λ r. (r ≡ NoMemory) × (self.new ≡ self.old) × (0 < length string.now)) }
     {
-        self.fresh = entries::delete(&mut self.recorded, idx, string)?;
-        entries::clear(&mut self.pending);
+        self.fresh = entries::delete(&mut self.entries, self.recorded, idx, string)?;
+        self.recorded = self.entries.len();
         Ok(())
     }
 
@@ -148,8 +150,8 @@ impl Changeset {
         ensures done { OnOk result (self.new ≡ record_step self.old (Replace idx old.now new.now)) }
         ensures err { IfErr result (λ r. (r ≡ NoMemory) × (self.new ≡ self.old)) }
     {
-        self.fresh = entries::replace(&mut self.recorded, idx, old, new)?;
-        entries::clear(&mut self.pending);
+        self.fresh = entries::replace(&mut self.entries, self.recorded, idx, old, new)?;
+        self.recorded = self.entries.len();
         Ok(())
     }
 
@@ -165,16 +167,14 @@ impl Changeset {
         ensures unmoved { IfOk result (λ answer. answer ≡ false → (line.new.text ≡ line.old.text) × (line.new.cursor ≡ line.old.cursor)) }
         ensures err { IfErr result (λ r. (r ≡ NoMemory) × (self.new ≡ self.old) × (line.new ≡ line.old) × (0 < length self.old.recorded)) }
     {
-        let count = entries::last_len(&self.recorded, n);
-        let opened = entries::level(&self.recorded[self.recorded.len() - count..]);
-        let changed = entries::carry_over(
-            &mut self.recorded,
-            &mut self.pending,
-            count,
-            line,
-            Way::Back,
-        )?;
+        let count = entries::last_len(&self.entries[..self.recorded], n);
+        let first = self.recorded - count;
+        let unit = &self.entries[first..self.recorded];
+        line.go_over_all(unit, Way::Back)?;
+        let changed = entries::has_change(unit);
+        let opened = entries::level(unit);
         self.level -= opened;
+        self.recorded = first;
         self.fresh = Freshness::Stale;
         Ok(changed)
     }
@@ -190,16 +190,14 @@ impl Changeset {
         ensures unmoved { IfOk result (λ answer. answer ≡ false → (line.new.text ≡ line.old.text) × (line.new.cursor ≡ line.old.cursor)) }
         ensures err { IfErr result (λ r. (r ≡ NoMemory) × (self.new ≡ self.old) × (line.new ≡ line.old) × (0 < length self.old.pending)) }
     {
-        let len = self.recorded.len();
-        let count = entries::next_len(&self.pending);
-        let changed = entries::carry_over(
-            &mut self.pending,
-            &mut self.recorded,
-            count,
-            line,
-            Way::Ahead,
-        )?;
-        self.level += entries::level(&self.recorded[len..]);
+        let count = entries::next_len(&self.entries[self.recorded..]);
+        let end = self.recorded + count;
+        let unit = &self.entries[self.recorded..end];
+        line.go_over_all(unit, Way::Ahead)?;
+        let changed = entries::has_change(unit);
+        let opened = entries::level(unit);
+        self.level += opened;
+        self.recorded = end;
         self.fresh = Freshness::Stale;
         Ok(changed)
     }
@@ -209,9 +207,9 @@ impl Changeset {
     pub fn truncate(&mut self, len: usize)
         ensures { self.new ≡ truncated len self.old }
     {
-        self.level = entries::level_at(&self.recorded, len, self.level);
-        self.recorded.truncate(len);
-        entries::clear(&mut self.pending);
+        self.level = entries::level_at(&self.entries[..self.recorded], len, self.level);
+        entries::keep(&mut self.entries, len.min(self.recorded));
+        self.recorded = self.entries.len();
         self.fresh = Freshness::Stale;
     }
 
@@ -221,7 +219,7 @@ impl Changeset {
         ensures ok { IfOk result (λ text. option_map string_bytes text ≡ last_insert self.now.recorded) }
         ensures err { IfErr result (λ r. (r ≡ NoMemory) × IsSome (last_insert self.now.recorded)) }
     {
-        entries::last_insert(&self.recorded, *self.recorded.allocator())
+        entries::last_insert(&self.entries[..self.recorded], *self.entries.allocator())
     }
 
     /// Whether all recorded changes can be taken back from the line's text, the last first, and each cursor that was
@@ -232,8 +230,9 @@ impl Changeset {
     {
         // So the proof knows that the cursor stands between two characters.
         let _cursor = line.pos();
-        let alloc = *self.recorded.allocator();
-        let text = text_over(alloc, line.as_str(), &self.recorded, Way::Back, true)?;
+        let alloc = *self.entries.allocator();
+        let recorded = &self.entries[..self.recorded];
+        let text = text_over(alloc, line.as_str(), recorded, Way::Back, true)?;
         Ok(text.is_some())
     }
 
@@ -245,8 +244,9 @@ impl Changeset {
     {
         // So the proof knows that the cursor stands between two characters.
         let _cursor = line.pos();
-        let alloc = *self.recorded.allocator();
-        let text = text_over(alloc, line.as_str(), &self.pending, Way::Ahead, true)?;
+        let alloc = *self.entries.allocator();
+        let pending = &self.entries[self.recorded..];
+        let text = text_over(alloc, line.as_str(), pending, Way::Ahead, true)?;
         Ok(text.is_some())
     }
 
@@ -256,12 +256,13 @@ impl Changeset {
         ensures ok { IfOk result (λ answer. answer ≡ replays_to len self.now line.now.text) }
         ensures err { IfErr result (λ r. r ≡ NoMemory) }
     {
-        let alloc = *self.recorded.allocator();
+        let alloc = *self.entries.allocator();
         let text = line.as_str();
-        let Some(all) = text_over(alloc, text, &self.recorded, Way::Back, false)? else {
+        let recorded = &self.entries[..self.recorded];
+        let Some(all) = text_over(alloc, text, recorded, Way::Back, false)? else {
             return Ok(false);
         };
-        let first = entries::first(&self.recorded, len);
+        let first = entries::first(recorded, len);
         match text_over(alloc, text, first, Way::Back, false)? {
             Some(some) => Ok(all.as_str() == some.as_str()),
             None => Ok(false),
@@ -286,7 +287,7 @@ impl DeleteListener for Changeset {
     fn stop_killing(&mut self) {}
 
     fn cursors(&mut self, before: usize, after: usize) {
-        entries::tell(&mut self.recorded, self.fresh, before, after);
+        entries::tell(&mut self.entries, self.recorded, self.fresh, before, after);
         self.fresh = Freshness::Stale;
     }
 }

@@ -1,15 +1,18 @@
-use Rattle.std.proofs.Common.{rules, refl, vec_len}
+use Rattle.std.proofs.Common.{arith}
 use Rattle.rl_base.specs.Event.{Delete}
 use Rattle.rl_base.specs.declared.listeners.Direction.TheVariants.{Forward}
-use Rattle.rl_line.proofs.JoinLemmas.{joins_last-err, joins_last-ok}
+use Rattle.rl_line.proofs.JoinLemmas.{joins_last-err, joins_last-nothing, joins_last-ok}
 use Rattle.rl_line.proofs.entries.join_deletion.Goals as goal
 
-pub returns-in-Some-clause-ok : goal.returns-in-Some-clause-ok
-returns-in-Some-clause-ok c =
-    let entries = c.args.entries.now in
-    joins_last-ok (Delete c.args.idx c.args.string.now Forward) entries.items (vec_len entries) c.in-Some.last.now c.join_deletion.new.self c.join_deletion.result entries.ok.0 (c.in-Some.ensures.variant.0 refl) (search rules) c.join_deletion.ensures.ok
+pub returns-then-recorded-eq0-clause-ok : goal.returns-then-recorded-eq0-clause-ok
+returns-then-recorded-eq0-clause-ok c = joins_last-nothing (Delete c.args.idx c.args.string.now Forward) c.args.entries.now.items c.args.recorded c.if-recorded-eq0.true
 
-pub returns-in-Some-clause-err : goal.returns-in-Some-clause-err
-returns-in-Some-clause-err c =
-    let entries = c.args.entries.now in
-    joins_last-err entries.items (vec_len entries) c.in-Some.last.now c.join_deletion.new.self c.join_deletion.result entries.ok.0 (c.in-Some.ensures.variant.0 refl) (search rules) c.join_deletion.ensures.err
+pub returns-clause-ok : goal.returns-clause-ok
+returns-clause-ok c =
+    joins_last-ok (Delete c.args.idx c.args.string.now Forward) c.args.entries.now.items c.args.recorded c.index_mut.result.now c.join_deletion.new.self c.join_deletion.result c.requires (omega (arith, c.if-recorded-eq0.false))
+    c.index_mut.ensures.value c.join_deletion.ensures.ok
+
+pub returns-clause-err : goal.returns-clause-err
+returns-clause-err c =
+    joins_last-err c.args.entries.now.items c.args.recorded c.index_mut.result.now c.join_deletion.new.self c.join_deletion.result c.requires (omega (arith, c.if-recorded-eq0.false))
+    c.index_mut.ensures.value c.join_deletion.ensures.err

@@ -1,4 +1,4 @@
-use Rattle.std.proofs.Common.{arith, rules, ◌≡◌, ◌+◌, ◌-◌, ◌<◌, ◌≤◌, ℕ, List, [], length, le_refl, map, drop, count_by, vec_len, vec_capacity, refl, sym, ap, subst, ◌∙◌}
+use Rattle.std.proofs.Common.{arith, rules, ◌≡◌, ◌+◌, ◌-◌, ◌<◌, ◌≤◌, ℕ, List, [], length, map, drop, count_by, vec_len, vec_capacity, refl, sym, ap, subst, ◌∙◌}
 use Rattle.std.specs.Str.{IsCharBoundary}
 use Rattle.std.specs.String.{string_bytes}
 use Rattle.rl_base.specs.Lines.{is_newline}
@@ -6,94 +6,97 @@ use Rattle.rl_line.specs.LineStarts.{line_starts}
 use Rattle.rl_line.specs.Line.{Line}
 use Rattle.rl_line.specs.declared.change.Measure.{Measure}
 use Rattle.rl_line.specs.declared.change.Measure.TheVariants.{Bytes, Newlines}
-use Rattle.rl_line.specs.Change.{faced, size_back, size_back_over, greatest_back_over}
+use Rattle.rl_line.specs.Change.{faced, size_back, size_back_over, greatest_back_over, order}
 use Rattle.std.proofs.lemmas.List.{drop-map, drop_all}
+use Rattle.rl_line.proofs.ChangeLemmas.{length-order}
 use Rattle.rl_line.proofs.LineStartLemmas.{length-line_starts}
 use Rattle.rl_line.proofs.UndoLemmas.{IsBack, IsBack-none, IsBack-fits, IsBack-next, IsBack-stands, entries_from, size_back_over-within}
 use Rattle.rl_line.proofs.line_buffer.LineBuffer.go_over_all.Goals as goal
-use Rattle.rl_line.proofs.line_buffer.LineBuffer.go_over_all.Goals.{After-index-changes-left}
+use Rattle.rl_line.proofs.line_buffer.LineBuffer.go_over_all.Goals.{After-nth_on}
 
 -- the line as it stands when a change is taken back
-abbrev now : After-index-changes-left → Line
+abbrev now : After-nth_on → Line
 now c =
     let inside = c.loop-left.self-inside in
     record { text = string_bytes inside.buf; cursor = inside.pos; limit = inside.limit; grow = inside.can_growth }
 
-one_more : (c : After-index-changes-left) → c.loop-left.left ≡ (c.loop-left.left - 1) + 1
+one_more : (c : After-nth_on) → c.loop-left.left ≡ (c.loop-left.left - 1) + 1
 one_more c = omega arith
 
-back : (c : After-index-changes-left) → IsBack c.args.way c.args.changes.now ((c.loop-left.left - 1) + 1) c.args.self.now (now c)
-back c = subst (λ k. IsBack c.args.way c.args.changes.now k c.args.self.now (now c)) (one_more c) c.loop-left.invariant.back
+back : (c : After-nth_on) → IsBack c.args.way (order c.args.way c.args.changes.now) ((c.loop-left.left - 1) + 1) c.args.self.now (now c)
+back c = subst (λ k. IsBack c.args.way (order c.args.way c.args.changes.now) k c.args.self.now (now c)) (one_more c) c.loop-left.invariant.back
 
-inside : (c : After-index-changes-left) → c.loop-left.left - 1 < length c.args.changes.now
-inside c = omega arith
+inside : (c : After-nth_on) → c.loop-left.left - 1 < length (order c.args.way c.args.changes.now)
+inside c = omega (arith, length-order c.args.way c.args.changes.now)
 
 -- a size that the text or the table gets is one on the way
-size : (k : Measure) (n now : ℕ) (c : After-index-changes-left) → now ≡ size_back_over k (map (faced c.args.way) (drop c.loop-left.left c.args.changes.now)) n
-    → size_back k (faced c.args.way c.index-changes-left.result) now ≡ size_back_over k (map (faced c.args.way) (drop (c.loop-left.left - 1) c.args.changes.now)) n
+size : (k : Measure) (n now : ℕ) (c : After-nth_on) → now ≡ size_back_over k (map (faced c.args.way) (drop c.loop-left.left (order c.args.way c.args.changes.now))) n
+    → size_back k (faced c.args.way c.nth_on.result.now) now ≡ size_back_over k (map (faced c.args.way) (drop (c.loop-left.left - 1) (order c.args.way c.args.changes.now))) n
 size k n now c e =
-    let xs = c.args.changes.now in
-    ap (size_back k (faced c.args.way c.index-changes-left.result)) (e ∙ ap (λ m. size_back_over k (map (faced c.args.way) (drop m xs)) n) (one_more c))
-    ∙ ap (λ es. size_back_over k es n) (sym (entries_from c.args.way xs (c.loop-left.left - 1) c.index-changes-left.result (inside c) c.index-changes-left.is))
+    let xs = order c.args.way c.args.changes.now in
+    ap (size_back k (faced c.args.way c.nth_on.result.now)) (e ∙ ap (λ m. size_back_over k (map (faced c.args.way) (drop m xs)) n) (one_more c))
+    ∙ ap (λ es. size_back_over k es n) (sym (entries_from c.args.way xs (c.loop-left.left - 1) c.nth_on.result.now (inside c) c.nth_on.ensures))
 
 -- so there is room for it
-fits : (k : Measure) (n now room : ℕ) (c : After-index-changes-left) → now ≡ size_back_over k (map (faced c.args.way) (drop c.loop-left.left c.args.changes.now)) n
-    → greatest_back_over k (map (faced c.args.way) c.args.changes.now) n ≤ room → size_back k (faced c.args.way c.index-changes-left.result) now ≤ room
+fits : (k : Measure) (n now room : ℕ) (c : After-nth_on) → now ≡ size_back_over k (map (faced c.args.way) (drop c.loop-left.left (order c.args.way c.args.changes.now))) n
+    → greatest_back_over k (map (faced c.args.way) (order c.args.way c.args.changes.now)) n ≤ room → size_back k (faced c.args.way c.nth_on.result.now) now ≤ room
 fits k n now room c e h =
     let m = c.loop-left.left - 1 in
-    let within = size_back_over-within k m (map (faced c.args.way) c.args.changes.now) n in
-    let same = ap (λ es. size_back_over k es n) (drop-map (faced c.args.way) m c.args.changes.now) in
+    let within = size_back_over-within k m (map (faced c.args.way) (order c.args.way c.args.changes.now)) n in
+    let same = ap (λ es. size_back_over k es n) (drop-map (faced c.args.way) m (order c.args.way c.args.changes.now)) in
     omega (arith, size k n now c e, within, same, h)
 
 pub go_over-self-inside-requires-clause-fits : goal.go_over-self-inside-requires-clause-fits
 go_over-self-inside-requires-clause-fits c =
-    let d = (goal.at.go_over-self-inside-requires-clause-fits c).After-index-changes-left in
-    IsBack-fits c.args.way c.args.changes.now (c.loop-left.left - 1) c.index-changes-left.result c.args.self.now (now d) (inside d) c.index-changes-left.is (back d)
+    let d = (goal.at.go_over-self-inside-requires-clause-fits c).After-nth_on in
+    IsBack-fits c.args.way (order c.args.way c.args.changes.now) (c.loop-left.left - 1) c.nth_on.result.now c.args.self.now (now d) (inside d) c.nth_on.ensures (back d)
 
 pub go_over-self-inside-requires-clause-stands : goal.go_over-self-inside-requires-clause-stands
 go_over-self-inside-requires-clause-stands c =
-    let d = (goal.at.go_over-self-inside-requires-clause-stands c).After-index-changes-left in
-    IsBack-stands c.args.way c.args.changes.now (c.loop-left.left - 1) c.index-changes-left.result c.args.self.now (now d) (inside d) c.index-changes-left.is (back d)
+    let d = (goal.at.go_over-self-inside-requires-clause-stands c).After-nth_on in
+    IsBack-stands c.args.way (order c.args.way c.args.changes.now) (c.loop-left.left - 1) c.nth_on.result.now c.args.self.now (now d) (inside d) c.nth_on.ensures (back d)
 
 pub go_over-self-inside-requires-clause-room : goal.go_over-self-inside-requires-clause-room
 go_over-self-inside-requires-clause-room c =
-    fits Bytes _ _ _ (goal.at.go_over-self-inside-requires-clause-room c).After-index-changes-left c.loop-left.invariant.len c.loop-left.invariant.room
+    fits Bytes _ _ _ (goal.at.go_over-self-inside-requires-clause-room c).After-nth_on c.loop-left.invariant.len c.loop-left.invariant.room
 
 pub go_over-self-inside-requires-clause-table_room : goal.go_over-self-inside-requires-clause-table_room
 go_over-self-inside-requires-clause-table_room c =
-    fits Newlines _ _ _ (goal.at.go_over-self-inside-requires-clause-table_room c).After-index-changes-left c.loop-left.invariant.count c.loop-left.invariant.table_room
+    fits Newlines _ _ _ (goal.at.go_over-self-inside-requires-clause-table_room c).After-nth_on c.loop-left.invariant.count c.loop-left.invariant.table_room
 
 pub loop-left-init : goal.loop-left-init
 loop-left-init c =
-    let xs = c.args.changes.now in
+    let xs = order c.args.way c.args.changes.now in
     let text = c.args.self.now.text in
     let bytes : string_bytes c.self.inside.buf ≡ text = ap (λ (l : Line). l.text) c.self.view_is in
-    let count : vec_len c.self.inside.starts ≡ count_by is_newline text = c.self.inside.starts.ok.0 ∙ length-line_starts c.self.inside.starts.items text (c.self.invariant.table ∙ ap line_starts bytes) in
+    let newlines : vec_len c.self.inside.starts ≡ count_by is_newline text = c.self.inside.starts.ok.0 ∙ length-line_starts c.self.inside.starts.items text (c.self.invariant.table ∙ ap line_starts bytes) in
     let table : c.find_room_over.new.starts.items ≡ line_starts (string_bytes c.find_room_over.new.text) =
     c.find_room_over.ensures.starts ∙ c.self.invariant.table ∙ ap line_starts (sym c.find_room_over.ensures.text) in
     let inside = c.self.inside in
     let same : record { text = string_bytes c.find_room_over.new.text; cursor = inside.pos; limit = inside.limit; grow = inside.can_growth } ≡ c.args.self.now =
     ap (λ (t : List ℕ). record { text = t; cursor = inside.pos; limit = inside.limit; grow = inside.can_growth }) c.find_room_over.ensures.text ∙ c.self.view_is in
-    let none : drop (length xs) xs ≡ [] = drop_all (length xs) xs (le_refl (length xs)) in
+    let count : length c.args.changes.now ≡ length xs = sym (length-order c.args.way c.args.changes.now) in
+    let none : drop (length c.args.changes.now) xs ≡ [] = drop_all (length c.args.changes.now) xs (omega (arith, count)) in
     record {
-      back = subst (IsBack c.args.way xs (length xs) c.args.self.now) (sym same) (IsBack-none c.args.way xs c.args.self.now c.requires);
+      back = subst (IsBack c.args.way xs (length c.args.changes.now) c.args.self.now) (sym same)
+          (subst (λ k. IsBack c.args.way xs k c.args.self.now c.args.self.now) (sym count) (IsBack-none c.args.way xs c.args.self.now c.requires));
       len = search rules;
-      count = c.find_room_over.ensures.count ∙ count ∙ sym (ap (λ es. size_back_over Newlines (map (faced c.args.way) es) (count_by is_newline text)) none);
+      count = c.find_room_over.ensures.count ∙ newlines ∙ sym (ap (λ es. size_back_over Newlines (map (faced c.args.way) es) (count_by is_newline text)) none);
       room = search rules;
-      table_room = subst (λ n. greatest_back_over Newlines (map (faced c.args.way) xs) n ≤ vec_capacity c.find_room_over.new.starts) count c.in_ok-find_room_over.ensures.table;
+      table_room = subst (λ n. greatest_back_over Newlines (map (faced c.args.way) xs) n ≤ vec_capacity c.find_room_over.new.starts) newlines c.in_ok-find_room_over.ensures.table;
       is_line = record { table = table; at_boundary = search rules; within = search rules };
       within = omega arith;
     }
 
 pub loop-left-preserved : goal.loop-left-preserved
 loop-left-preserved c =
-    let d = (goal.at.loop-left-preserved c).After-index-changes-left in
+    let d = (goal.at.loop-left-preserved c).After-nth_on in
     let taken = c.go_over-self-inside.ensures in
-    let x = c.index-changes-left.result in
+    let x = c.nth_on.result.now in
     let text = c.go_over-self-inside.new.text in
     let width : c.len.result ≡ length (string_bytes text) = c.len.ensures ∙ text.bytes.ok.0 in
     record {
-      back = IsBack-next c.args.way c.args.changes.now (c.loop-left.left - 1) x c.args.self.now (now d) _ (string_bytes text) (inside d) c.index-changes-left.is (back d) taken.text
+      back = IsBack-next c.args.way (order c.args.way c.args.changes.now) (c.loop-left.left - 1) x c.args.self.now (now d) _ (string_bytes text) (inside d) c.nth_on.ensures (back d) taken.text
           (rw (taken.cursor, c.max-self-inside.ensures, width) refl) (subst (IsCharBoundary (string_bytes text)) taken.cursor taken.boundary);
       len = taken.len ∙ size Bytes _ _ d c.loop-left.invariant.len;
       count = taken.count ∙ size Newlines _ _ d c.loop-left.invariant.count;

@@ -3,7 +3,7 @@ use Rattle.std.specs.String.{string_bytes, string_len, string_capacity}
 use Rattle.rl_base.specs.Lines.{is_newline}
 use Rattle.rl_line.specs.Line.{IsLine}
 use Rattle.rl_line.specs.declared.change.Measure.TheVariants.{Bytes, Newlines}
-use Rattle.rl_line.specs.Change.{faced, size_back_over, greatest_back_over}
+use Rattle.rl_line.specs.Change.{faced, size_back_over, greatest_back_over, order}
 use Rattle.rl_line.proofs.UndoLemmas.{IsBack}
 use Rattle.rl_line.proofs.line_buffer.LineBuffer.go_over_all.Given as goal
 
@@ -11,11 +11,11 @@ abbrev pub invariant-loop-left : goal.invariant-loop-left
 invariant-loop-left l =
     let inside = l.self-inside in
     record {
-      back : IsBack l.way l.changes l.left l.fn.self record { text = string_bytes inside.buf; cursor = inside.pos; limit = inside.limit; grow = inside.can_growth };
-      len : string_len inside.buf ≡ size_back_over Bytes (map (faced l.way) (drop l.left l.changes)) (length l.fn.self.text);
-      count : vec_len inside.starts ≡ size_back_over Newlines (map (faced l.way) (drop l.left l.changes)) (count_by is_newline l.fn.self.text);
-      room : greatest_back_over Bytes (map (faced l.way) l.changes) (length l.fn.self.text) ≤ string_capacity inside.buf;
-      table_room : greatest_back_over Newlines (map (faced l.way) l.changes) (count_by is_newline l.fn.self.text) ≤ vec_capacity inside.starts;
+      back : IsBack l.way (order l.way l.changes) l.left l.fn.self record { text = string_bytes inside.buf; cursor = inside.pos; limit = inside.limit; grow = inside.can_growth };
+      len : string_len inside.buf ≡ size_back_over Bytes (map (faced l.way) (drop l.left (order l.way l.changes))) (length l.fn.self.text);
+      count : vec_len inside.starts ≡ size_back_over Newlines (map (faced l.way) (drop l.left (order l.way l.changes))) (count_by is_newline l.fn.self.text);
+      room : greatest_back_over Bytes (map (faced l.way) (order l.way l.changes)) (length l.fn.self.text) ≤ string_capacity inside.buf;
+      table_room : greatest_back_over Newlines (map (faced l.way) (order l.way l.changes)) (count_by is_newline l.fn.self.text) ≤ vec_capacity inside.starts;
       is_line : IsLine (string_bytes inside.buf) inside.starts.items inside.pos inside.limit;
       within : l.left ≤ length l.changes;
     }

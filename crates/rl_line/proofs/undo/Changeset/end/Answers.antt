@@ -1,22 +1,44 @@
-use Rattle.std.proofs.Common.{rules, sym, ◌≡◌, subst, ap, ◌∙◌, map}
-use Rattle.rl_line.specs.Record.{entry_of}
+use Rattle.std.proofs.Common.{arith, ◌≡◌, subst, ap, ◌∙◌, length, map, take}
+use Rattle.std.proofs.lemmas.List.{length-map}
+use Rattle.rl_line.specs.Record.{Record, entry_of}
 use Rattle.rl_line.specs.declared.change.Freshness.TheVariants.{Stale}
-use Rattle.rl_line.specs.Units.{AtLevel, end_times, level}
+use Rattle.rl_line.specs.Entries.{cut_at}
+use Rattle.rl_line.specs.Units.{AtLevel, adds_end, end_times, ended, level}
 use Rattle.rl_line.proofs.LevelLemmas.{AtLevel-ended}
-use Rattle.rl_line.proofs.MoveLemmas.{dropped-view}
+use Rattle.rl_line.proofs.MoveLemmas.{IsCutAt-of, dropped-view}
 use Rattle.rl_line.proofs.undo.Changeset.end.Goals as goal
-use Rattle.rl_line.proofs.undo.Changeset.end.Goals.{After-clear}
+use Rattle.rl_line.proofs.undo.Changeset.end.Goals.{After-keep, After-len-self-inside}
 
-closed : (c : After-clear) → map entry_of c.close_groups-added.new.entries.items ≡ end_times (level (map entry_of c.self.inside.recorded.items)) (map entry_of c.self.inside.recorded.items)
+-- what stands in the list before the groups are closed
+kept : (c : After-keep) → map entry_of c.keep.new.entries.items ≡ take c.self.inside.recorded (map entry_of c.self.inside.entries.items)
+kept c =
+    c.keep.ensures.items ∙ ap (λ xs. take c.self.inside.recorded (map entry_of xs)) c.reserve.ensures.items
+
+all : (c : After-len-self-inside) → c.len-self-inside.result ≡ length (map entry_of c.close_groups-added.new.entries.items)
+all c = omega (arith, c.len-self-inside.ensures, c.close_groups-added.new.entries.ok.0, length-map c.close_groups-added.new.entries.items entry_of)
+
+closed : (c : After-len-self-inside) → map entry_of c.close_groups-added.new.entries.items
+    ≡ end_times (level (take c.self.inside.recorded (map entry_of c.self.inside.entries.items))) (take c.self.inside.recorded (map entry_of c.self.inside.entries.items))
 closed c =
-    c.close_groups-added.ensures.entries ∙ ap (λ xs. end_times c.self.inside.level (map entry_of xs)) c.reserve.ensures.items
-    ∙ ap (λ k. end_times k (map entry_of c.self.inside.recorded.items)) c.self.invariant.level
+    let es = take c.self.inside.recorded (map entry_of c.self.inside.entries.items) in
+    c.close_groups-added.ensures.entries ∙ ap (end_times c.self.inside.level) (kept (goal.at.After-len-self-inside c).After-keep) ∙ ap (λ k. end_times k es) c.self.invariant.at_level.level
+
+now : (c : After-len-self-inside) → cut_at c.len-self-inside.result (map entry_of c.close_groups-added.new.entries.items) Stale ≡ ended c.args.self.now
+now c =
+    dropped-view (λ es. end_times (level es) es) c.args.self.now c.self.inside.recorded c.len-self-inside.result (map entry_of c.self.inside.entries.items) _ c.self.inside.fresh Stale c.self.view_is
+    (closed c) (all c)
 
 pub invariant_of-self-2 : goal.invariant_of-self-2
 invariant_of-self-2 c =
-    let h = subst (AtLevel c.self.inside.level) c.self.view_is c.self.invariant in
-    subst (AtLevel 0) (sym (dropped-view (λ es. end_times (level es) es) c.args.self.now c.self.inside.recorded.items c.self.inside.pending.items _ _ c.self.inside.fresh Stale c.self.view_is (closed (goal.at.invariant_of-self-2 c).After-clear) c.clear.ensures.items))
-    (AtLevel-ended c.self.inside.level c.args.self.now h)
+    let d = (goal.at.invariant_of-self-2 c).After-len-self-inside in
+    let h = subst (AtLevel c.self.inside.level) c.self.view_is c.self.invariant.at_level in
+    IsCutAt-of c.len-self-inside.result 0 _ _ (ended c.args.self.now) (omega (arith, all d)) (now d) (AtLevel-ended c.self.inside.level c.args.self.now h)
 
 pub returns-clause-done : goal.returns-clause-done
-returns-clause-done c = search rules
+returns-clause-done c =
+    let d = goal.at.returns-clause-done c in
+    let es = take c.self.inside.recorded (map entry_of c.self.inside.entries.items) in (
+      c.close_groups-added.ensures.answer ∙ ap (adds_end c.self.inside.level) (kept d.After-keep) ∙ ap (λ k. adds_end k es) c.self.invariant.at_level.level
+          ∙ ap (λ (r : Record). adds_end (level r.recorded) r.recorded) c.self.view_is,
+      now d.After-len-self-inside,
+    )

@@ -1,20 +1,23 @@
 use Rattle.std.proofs.Common.{◌≡◌, None, ap, bytes_eq, map, option_map, string_bytes, sym, take, Some, ◌∙◌}
 use Rattle.rl_line.specs.Record.{Record, agree, entry_of, unwind}
 use Rattle.rl_line.proofs.ChangeLemmas.{text_back-unwind}
+use Rattle.rl_line.proofs.MoveLemmas.{recorded-part}
 use Rattle.rl_line.proofs.undo.Changeset.replays_to.Goals as goal
 use Rattle.rl_line.proofs.undo.Changeset.replays_to.Goals.{In_ok-some}
 
 all : (c : In_ok-some) → option_map string_bytes c.in_ok-all.field-0 ≡ unwind c.args.self.now.recorded c.args.line.now.text
 all c =
     let text = c.as_str-text.result.now in
-    c.in_ok-all.ensures.ok ∙ text_back-unwind (map entry_of c.deref.result.now) text ∙ ap (λ xs. unwind (map entry_of xs) text) c.deref.ensures.value ∙ ap (λ (r : Record). unwind r.recorded text) c.self.view_is
+    c.in_ok-all.ensures.ok ∙ text_back-unwind (map entry_of (take c.self.inside.recorded c.deref.result.now)) text ∙ ap (λ es. unwind es text) (recorded-part c.self.inside.recorded c.self.inside.entries.items c.deref.result.now c.deref.ensures.value)
+    ∙ ap (λ (r : Record). unwind r.recorded text) c.self.view_is
     ∙ ap (unwind c.args.self.now.recorded) c.as_str-text.ensures
 
 first : (c : In_ok-some) → option_map string_bytes c.in_ok-some.field-0 ≡ unwind (take c.args.len c.args.self.now.recorded) c.args.line.now.text
 first c =
     let text = c.as_str-text.result.now in
     c.in_ok-some.ensures.ok ∙ text_back-unwind (map entry_of c.first-first.result.now) text
-    ∙ ap (λ es. unwind es text) (c.first-first.ensures ∙ ap (λ xs. take c.args.len (map entry_of xs)) c.deref-2.ensures.value ∙ ap (λ (r : Record). take c.args.len r.recorded) c.self.view_is)
+    ∙ ap (λ es. unwind es text) (c.first-first.ensures ∙ ap (take c.args.len) (recorded-part c.self.inside.recorded c.self.inside.entries.items c.deref.result.now c.deref.ensures.value)
+    ∙ ap (λ (r : Record). take c.args.len r.recorded) c.self.view_is)
     ∙ ap (unwind (take c.args.len c.args.self.now.recorded)) c.as_str-text.ensures
 
 -- where not all can be taken back
@@ -22,7 +25,7 @@ pub returns-in_default-clause-ok : goal.returns-in_default-clause-ok
 returns-in_default-clause-ok c =
     let text = c.as_str-text.result.now in
     let all : option_map string_bytes c.in_ok-all.field-0 ≡ unwind c.args.self.now.recorded c.args.line.now.text =
-    c.in_ok-all.ensures.ok ∙ text_back-unwind (map entry_of c.deref.result.now) text ∙ ap (λ xs. unwind (map entry_of xs) text) c.deref.ensures.value
+    c.in_ok-all.ensures.ok ∙ text_back-unwind (map entry_of (take c.self.inside.recorded c.deref.result.now)) text ∙ ap (λ es. unwind es text) (recorded-part c.self.inside.recorded c.self.inside.entries.items c.deref.result.now c.deref.ensures.value)
     ∙ ap (λ (r : Record). unwind r.recorded text) c.self.view_is ∙ ap (unwind c.args.self.now.recorded) c.as_str-text.ensures in
     let none : unwind c.args.self.now.recorded c.args.line.now.text ≡ None = sym all ∙ ap (option_map string_bytes) c.in_default.is in
     ap (λ o. agree o (unwind (take c.args.len c.args.self.now.recorded) c.args.line.now.text)) (sym none)

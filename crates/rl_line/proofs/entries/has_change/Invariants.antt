@@ -1,0 +1,7 @@
+use Rattle.std.proofs.Common.{◌≡◌, drop, map}
+use Rattle.rl_line.specs.Record.{entry_of}
+use Rattle.rl_line.specs.Units.{has_change}
+use Rattle.rl_line.proofs.entries.has_change.Given as goal
+
+abbrev pub invariant-loop-entry : goal.invariant-loop-entry
+invariant-loop-entry l = has_change (map entry_of (drop l.entry-index l.entries)) ≡ has_change (map entry_of l.entries)
