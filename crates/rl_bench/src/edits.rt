@@ -1,0 +1,95 @@
+//! Edits that a ring and a record hear, timed.
+use crate::stop::Stop;
+use crate::texts::{number_of, text_of};
+use crate::workloads::Edit;
+use rl_base::{At, KillRing, Movement, NoListener, Refusal, Word};
+use rl_line::{Changeset, LineBuffer};
+use rl_session::Pair;
+use std::alloc::Global;
+use std::time::{Duration, Instant};
+
+// As many texts as a session's ring has.
+const RING_SIZE: usize = 60;
+
+// Edits, for the `i`-th time.
+fn edits(line: &mut LineBuffer, pair: &mut Pair, edit: Edit, i: usize) -> Result<(), Refusal> {
+    match edit {
+        Edit::Letter => {
+            let _ = line.insert('a', 1, pair)?;
+        }
+        Edit::Dot => {
+            let _ = line.insert('.', 1, pair)?;
+        }
+        Edit::Backspace => {
+            let _ = line.backspace(1, pair)?;
+        }
+        Edit::KillBoth if i % 2 == 0 => {
+            let _ = line.kill(&Movement::ForwardWord(1, At::AfterEnd, Word::Emacs), pair)?;
+        }
+        Edit::KillBack | Edit::KillBoth => {
+            let _ = line.kill(&Movement::BackwardWord(1, Word::Emacs), pair)?;
+        }
+    }
+    Ok(())
+}
+
+fn edits_often(
+    line: &mut LineBuffer,
+    pair: &mut Pair,
+    edit: Edit,
+    count: usize,
+) -> Result<(), Refusal> {
+    for i in 0..count {
+        edits(line, pair, edit, i)?;
+    }
+    Ok(())
+}
+
+// A line with a text of `size` bytes, the cursor in its middle or at its end, and there what the edits are to take.
+fn line_for(
+    alloc: Global,
+    edit: Edit,
+    in_middle: bool,
+    count: usize,
+    size: usize,
+) -> Result<LineBuffer, Stop> {
+    let text = text_of(alloc, size)?;
+    let mut line = LineBuffer::with_capacity(alloc, size)?.can_growth(true);
+    let _ = line.yank(text.as_str(), 1, &mut NoListener)?;
+    let middle = size / 2;
+    if in_middle && line.as_str().is_char_boundary(middle) {
+        line.set_pos(middle);
+    }
+    if let Edit::Backspace = edit {
+        for _ in 0..count {
+            let _ = line.insert('a', 1, &mut NoListener)?;
+        }
+    }
+    Ok(line)
+}
+
+/// Times the edit in a text of `size` bytes, and tells the state at the end: the text's, the cursor's and the ring's.
+pub fn time_edit(
+    rt: &HostRuntime,
+    edit: Edit,
+    in_middle: bool,
+    count: usize,
+    size: usize,
+) -> Result<(Duration, u64), Stop> {
+    let mut line = line_for(rt.alloc(), edit, in_middle, count, size)?;
+    let mut pair = Pair {
+        ring: KillRing::new(rt.alloc(), RING_SIZE),
+        changes: Changeset::new(rt.alloc()),
+    };
+    let start = Instant::now(rt)?;
+    edits_often(&mut line, &mut pair, edit, count)?;
+    let time = start.elapsed(rt)?;
+    let killed = match pair.ring.yank() {
+        Some(text) => number_of(text.as_str(), 0),
+        None => 0,
+    };
+    Ok((
+        time,
+        number_of(line.as_str(), line.pos()).wrapping_add(killed),
+    ))
+}

@@ -1,0 +1,98 @@
+//! Times the workloads of an editor. `rl_bench NAME COUNT SIZE` makes a text of SIZE bytes, does the calls of the workload COUNT
+//! times, and prints the nanoseconds that a call took, and a number made of the state at the end, by which two states of the
+//! code can be seen to have done the same. Without words it prints what workloads there are.
+#![tactic(auto)]
+
+mod edits;
+mod history;
+mod motions;
+mod stop;
+mod texts;
+mod widths;
+mod workloads;
+
+ghost use Rattle.std.specs.Prelude.{◌≡◌, OnOk, OnErr};
+ghost use Rattle.std.specs.Process.{exit_status};
+
+use edits::time_edit;
+use history::time_history;
+use motions::time_motion;
+use std::env;
+use std::process::ExitCode;
+use std::time::Duration;
+use stop::Stop;
+use widths::time_width;
+use workloads::{WORKLOADS, Workload, workload_of};
+
+fn time(
+    rt: &HostRuntime,
+    workload: Workload,
+    count: usize,
+    size: usize,
+) -> Result<(Duration, u64), Stop> {
+    match workload {
+        Workload::Motion(motion) => time_motion(rt, motion, count, size),
+        Workload::AtEnd(edit) => time_edit(rt, edit, false, count, size),
+        Workload::InMiddle(edit) => time_edit(rt, edit, true, count, size),
+        Workload::UndoAtEnd => time_history(rt, false, false, count, size),
+        Workload::UndoMixed => time_history(rt, true, false, count, size),
+        Workload::RedoAtEnd => time_history(rt, false, true, count, size),
+        Workload::RedoMixed => time_history(rt, true, true, count, size),
+        Workload::Width => time_width(rt, count, size),
+    }
+}
+
+fn number(word: Option<String>) -> Result<usize, Stop> {
+    let Some(word) = word else {
+        return Err(Stop::Usage);
+    };
+    match word.as_str().parse::<usize>() {
+        Ok(number) => Ok(number),
+        Err(_) => Err(Stop::Usage),
+    }
+}
+
+fn list(rt: &HostRuntime) -> Result<(), Stop> {
+    println!(rt; "usage: rl_bench NAME COUNT SIZE")?;
+    for (name, _) in WORKLOADS {
+        println!(rt; "{name}")?;
+    }
+    Ok(())
+}
+
+// Does what the words say.
+fn run(rt: &HostRuntime) -> Result<(), Stop> {
+    let mut words = env::args(rt)?;
+    let _ = words.next();
+    let Some(name) = words.next() else {
+        return list(rt);
+    };
+    let Some(workload) = workload_of(name.as_str()) else {
+        return Err(Stop::Usage);
+    };
+    let count = number(words.next())?;
+    let size = number(words.next())?;
+    let (time, state) = time(rt, workload, count, size)?;
+    let each = time.as_nanos() / count.max(1) as u128;
+    println!(rt; "{name} {count} {size}: {each} ns a call, {state}")?;
+    Ok(())
+}
+
+// The status at the end: 0 exactly where a workload was timed, or all were listed, and else 1.
+fn status(outcome: &Result<(), Stop>) -> ExitCode
+    ensures ran { OnOk outcome.now (exit_status result ≡ 0) }
+    ensures stopped { OnErr outcome.now (exit_status result ≡ 1) }
+{
+    match outcome {
+        Ok(()) => ExitCode::SUCCESS,
+        Err(_) => ExitCode::FAILURE,
+    }
+}
+
+fn main(rt: HostRuntime) -> ExitCode {
+    let outcome = run(&rt);
+    if let Err(stop) = &outcome {
+        let _ = eprintln!(rt; "{stop}");
+    }
+    status(&outcome)
+}
