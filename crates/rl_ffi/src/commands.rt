@@ -24,7 +24,9 @@ use rl_session::{Command, Reply, Session};
 use std::alloc::Global;
 use std::mem::replace;
 
-// Asks the session for a command, unless a number says why there is none.
+// Asks the session for a command, unless a number says why there is none. Inlined here and below, so that each call knows its
+// command when it is compiled.
+#[inline(always)]
 fn ask(alloc: Global, s: &mut Handle, command: Result<Command, u32>) -> Result<Reply, u32>
     ensures { Replies command s.old.value result s.new.value }
 {
@@ -39,6 +41,7 @@ fn ask(alloc: Global, s: &mut Handle, command: Result<Command, u32>) -> Result<R
     answer
 }
 
+#[inline(always)]
 fn number_of(answer: &Result<Reply, u32>) -> u32
     ensures { result ≡ number_of answer.now }
 {
@@ -49,6 +52,7 @@ fn number_of(answer: &Result<Reply, u32>) -> u32
 }
 
 // The same, where the number tells all.
+#[inline(always)]
 fn call(alloc: Global, s: &mut Handle, command: Result<Command, u32>) -> u32
     ensures { Called command s.old.value result s.new.value }
 {

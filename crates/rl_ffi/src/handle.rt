@@ -23,6 +23,7 @@ impl Model for Handle {
 
 impl Handle {
     /// Holds none.
+    #[inline(always)]
     pub fn closed(alloc: Global) -> Handle
         ensures { result.value ≡ None }
     {
@@ -32,6 +33,7 @@ impl Handle {
         }
     }
 
+    #[inline(always)]
     fn of_parts(parts: Parts<Session, Global>) -> Handle
         ensures { result.value ≡ Some parts.value }
     {
@@ -42,6 +44,7 @@ impl Handle {
         }
     }
 
+    #[inline(always)]
     fn into_parts(self) -> Option<Parts<Session, Global>>
         ensures { option_map (λ p. p.value) result ≡ self.value }
     {
@@ -57,6 +60,7 @@ impl Handle {
     }
 
     /// Holds the session.
+    #[inline(always)]
     pub fn of(session: Box<Session>) -> Handle
         ensures { result.value ≡ Some session.value }
     {
@@ -64,6 +68,7 @@ impl Handle {
     }
 
     /// The session.
+    #[inline(always)]
     pub fn take(self) -> Option<Box<Session>>
         ensures { option_map (λ b. b.value) result ≡ self.value }
     {

@@ -18,6 +18,7 @@ impl<T, A: Allocator> Model for Parts<T, A> {
 
 impl<T, A: Allocator> Parts<T, A> {
     // The box taken apart.
+    #[inline(always)]
     pub fn of(boxed: Box<T, A>) -> Parts<T, A>
     where
         T: Drop,
@@ -28,6 +29,7 @@ impl<T, A: Allocator> Parts<T, A> {
     }
 
     // The box put together.
+    #[inline(always)]
     pub fn into_box(self) -> Box<T, A>
         ensures { result.value ≡ self.value }
     {
