@@ -1,4 +1,4 @@
-// Writing a text to a buffer of C.
+//! Writing a text to a buffer of C.
 ghost use Rattle.std.specs.Prelude.{◌≡◌, ◌≤◌, length};
 ghost use Rattle.rl_ffi.specs.Buffers.{put, written};
 

@@ -1,4 +1,4 @@
-// Laying a text out on a screen.
+//! Laying a text out on a screen.
 ghost use Rattle.std.specs.Prelude.{◌≡◌, ◌+◌, ◌≤◌, ◌<◌, ◌^◌};
 ghost use Rattle.rl_ffi.specs.Cells.{behind, cell, wrapped};
 

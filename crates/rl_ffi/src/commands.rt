@@ -1,4 +1,4 @@
-// The calls that open and close a session, and those that ask it for a command.
+//! The calls that open and close a session, and those that ask it for a command.
 ghost use Rattle.std.specs.Prelude.{◌≡◌, ℕ, ◌≤◌, None, Some, Ok, Err, Result, IfErr, IfOk, MatchResult, length};
 ghost use Rattle.std.specs.Option.{option_map};
 ghost use Rattle.std.specs.Str.{IsCharBoundary, IsUtf8};
@@ -377,9 +377,8 @@ pub extern "C" fn lodvarn_kill(alloc: Global, s: &mut Handle, movement: u32, n: 
     }
 }
 
-/// Indents the lines of a movement by `amount` spaces, or dedents them by up to `amount` bytes of blanks: TRUE or
-/// FALSE, whether anything changed. NO_SUCH_NUMBER and CLOSED change nothing; NO_MEMORY leaves what the steps before it
-/// did.
+/// Indents the lines of a movement by `amount` spaces, or dedents them by up to `amount` bytes of blanks: TRUE, also
+/// where nothing changed. NO_SUCH_NUMBER and CLOSED change nothing; NO_MEMORY leaves what the steps before it did.
 #[unsafe(no_mangle)]
 pub extern "C" fn lodvarn_indent(
     alloc: Global,

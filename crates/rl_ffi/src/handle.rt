@@ -1,4 +1,4 @@
-// What C holds: null, or a session on the heap.
+//! What C holds: null, or a session on the heap.
 ghost use Rattle.std.specs.Prelude.{◌≡◌, Option, None, Some, option_map};
 ghost use Rattle.rl_session.specs.State.{State};
 ghost use Rattle.rl_ffi.specs.Handle.{kept, value_coded};

@@ -1,4 +1,4 @@
-// The numbers of the calls, and what they stand for.
+//! The numbers of the calls, and what they stand for.
 ghost use Rattle.std.specs.Prelude.{◌≡◌};
 ghost use Rattle.std.specs.Option.{option_map};
 ghost use Rattle.rl_base.specs.declared.motion.Movement.{Movement};

@@ -1,4 +1,4 @@
-// A box on the heap as its pointer and its allocator, which another module may keep and put together again.
+//! A box on the heap as its pointer and its allocator, which another module may keep and put together again.
 ghost use Rattle.std.specs.Prelude.{◌≡◌};
 ghost use Rattle.std.specs.Box.Ownership.{box_owns};
 

@@ -1,4 +1,4 @@
-// The calls that change nothing.
+//! The calls that change nothing.
 ghost use Rattle.std.specs.Prelude.{◌≡◌, length};
 ghost use Rattle.rl_ffi.specs.Buffers.{written};
 ghost use Rattle.rl_ffi.specs.Reads.{text_of, pos_of, line_number_of, line_count_of, limit_of, entries_of, last_was_yank_of, RangeIn, RangeRead};

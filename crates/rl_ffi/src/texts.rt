@@ -1,4 +1,4 @@
-// The calls that need no session.
+//! The calls that need no session.
 ghost use Rattle.std.specs.Prelude.{◌≡◌, ℕ, List, length};
 ghost use Rattle.rl_ffi.specs.Buffers.{written};
 ghost use Rattle.rl_ffi.specs.Numbers.{mode_of};
