@@ -2,12 +2,14 @@ pub mod TextLemmas
 pub mod WidthLemmas
 pub mod LineLemmas
 pub mod ClusterLemmas
+pub mod PieceLemmas
 pub mod WordLemmas
 pub mod ClassLemmas
 pub mod BlankLemmas
 pub mod SearchLemmas
 pub mod EventLemmas
 pub mod SwapLemmas
+pub mod GatheredLemmas
 pub mod RingLemmas
 pub mod SlotLemmas
 pub mod KillGroupLemmas

@@ -1,13 +1,14 @@
 -- What a kill makes of a ring.
-use Rattle.std.proofs.Common.{◌≡◌, ℕ, ◌+◌, ◌<◌, ◌≤◌, zero, suc, Bool, true, false, cond, List, [], ◌∷◌, ◌++◌, length, map, set, get_or, Result, Ok, Err, OnOk, IfErr, String, Global, string_bytes, refl, ap, ◌∙◌, ◌⊎◌, inl, inr, arith, length-append}
+use Rattle.std.proofs.Common.{◌≡◌, ℕ, ◌+◌, ◌<◌, ◌≤◌, zero, suc, Bool, true, false, cond, List, [], ◌∷◌, ◌++◌, length, set, get_or, Result, Ok, Err, OnOk, IfErr, Some, option_map, refl, ap, ◌∙◌, ◌⊎◌, inl, inr, arith, length-append}
 use Rattle.std.proofs.lemmas.Bool.{eqb-true, eqb-false}
 use Rattle.std.proofs.lemmas.List.{length-set}
-use Rattle.std.specs.Prelude.{max, ◌==◌, slice_set}
+use Rattle.std.specs.Prelude.{max, ◌==◌, slice_get, slice_set}
 use Rattle.rl_base.specs.declared.kill_ring.Action.{Action}
 use Rattle.rl_base.specs.declared.kill_ring.Action.TheVariants.{Kill, Yank, Other}
 use Rattle.rl_base.specs.declared.kill_ring.Mode.{Mode}
 use Rattle.rl_base.specs.declared.listeners.Refusal.{Refusal}
 use Rattle.rl_base.specs.declared.listeners.Refusal.TheVariants.{NoMemory}
+use Rattle.rl_base.specs.Gathered.{Gathering, IsPackedAt, texts}
 use Rattle.rl_base.specs.KillRing.{Ring, joined, raised, next_index, put_at, join_at, in_new_slot, killed_as, killed, IsRing}
 
 -- joining leaves as many slots
@@ -73,28 +74,38 @@ pub IsRing-killed : (text : List ℕ) (mode : Mode) (r : Ring) → IsRing r → 
 IsRing-killed text mode r h = IsRing-killed_as r.size r.last text mode r refl h
 
 -- ---- joining, in the code's list
-join-set : (xs : List (String Global)) (i : ℕ) (mode : Mode) (text : List ℕ) (x y : String Global) → i < length xs → x ≡ get_or xs i x
-    → string_bytes y ≡ joined mode (string_bytes x) text → map string_bytes (set xs i y) ≡ join_at i mode text (map string_bytes xs)
+join-set : (xs : List Gathering) (i : ℕ) (mode : Mode) (text : List ℕ) (x y : Gathering) → i < length xs → x ≡ get_or xs i x
+    → y.text ≡ joined mode x.text text → texts (set xs i y) ≡ join_at i mode text (texts xs)
 join-set [] i mode text x y l is e = absurd (omega arith)
-join-set (z ∷ xs) zero mode text x y l is e = ap (λ w. w ∷ map string_bytes xs) (e ∙ ap (λ (w : String Global). joined mode (string_bytes w) text) is)
-join-set (z ∷ xs) (suc i) mode text x y l is e = ap (λ ws. string_bytes z ∷ ws) (join-set xs i mode text x y (omega arith) is e)
+join-set (z ∷ xs) zero mode text x y l is e = ap (λ w. w ∷ texts xs) (e ∙ ap (λ (w : Gathering). joined mode w.text text) is)
+join-set (z ∷ xs) (suc i) mode text x y l is e = ap (λ ws. z.text ∷ ws) (join-set xs i mode text x y (omega arith) is e)
 
-same-set : (xs : List (String Global)) (i : ℕ) (x y : String Global) → i < length xs → x ≡ get_or xs i x → string_bytes y ≡ string_bytes x
-    → map string_bytes (set xs i y) ≡ map string_bytes xs
+pub same-set : (xs : List Gathering) (i : ℕ) (x y : Gathering) → i < length xs → x ≡ get_or xs i x → y.text ≡ x.text → texts (set xs i y) ≡ texts xs
 same-set [] i x y l is e = absurd (omega arith)
-same-set (z ∷ xs) zero x y l is e = ap (λ w. w ∷ map string_bytes xs) (e ∙ ap (λ (w : String Global). string_bytes w) is)
-same-set (z ∷ xs) (suc i) x y l is e = ap (λ ws. string_bytes z ∷ ws) (same-set xs i x y (omega arith) is e)
+same-set (z ∷ xs) zero x y l is e = ap (λ w. w ∷ texts xs) (e ∙ ap (λ (w : Gathering). w.text) is)
+same-set (z ∷ xs) (suc i) x y l is e = ap (λ ws. z.text ∷ ws) (same-set xs i x y (omega arith) is e)
 
 -- the same of what the call on the slot answers
-pub joins-ok : (xs : List (String Global)) (i : ℕ) (mode : Mode) (text : List ℕ) (x y : String Global) (result : Result (Unit {0}) Refusal) → i < length xs → x ≡ get_or xs i x
-    → OnOk result (string_bytes y ≡ joined mode (string_bytes x) text) → OnOk result (map string_bytes (set xs i y) ≡ join_at i mode text (map string_bytes xs))
+pub joins-ok : (xs : List Gathering) (i : ℕ) (mode : Mode) (text : List ℕ) (x y : Gathering) (result : Result (Unit {0}) Refusal) → i < length xs → x ≡ get_or xs i x
+    → OnOk result (y.text ≡ joined mode x.text text) → OnOk result (texts (set xs i y) ≡ join_at i mode text (texts xs))
 joins-ok xs i mode text x y (Ok a) l is e = join-set xs i mode text x y l is e
 joins-ok xs i mode text x y (Err r) l is e = tt
 
-pub joins-err : (xs : List (String Global)) (i : ℕ) (x y : String Global) (result : Result (Unit {0}) Refusal) → i < length xs → x ≡ get_or xs i x
-    → IfErr result (λ r. (r ≡ NoMemory) × (string_bytes y ≡ string_bytes x)) → IfErr result (λ r. (r ≡ NoMemory) × (map string_bytes (set xs i y) ≡ map string_bytes xs))
+pub joins-err : (xs : List Gathering) (i : ℕ) (x y : Gathering) (result : Result (Unit {0}) Refusal) → i < length xs → x ≡ get_or xs i x
+    → IfErr result (λ r. (r ≡ NoMemory) × (y.text ≡ x.text)) → IfErr result (λ r. (r ≡ NoMemory) × (texts (set xs i y) ≡ texts xs))
 joins-err xs i x y (Ok a) l is e = tt
 joins-err xs i x y (Err r) l is e = (e.0, same-set xs i x y l is e.1)
+
+-- ---- a slot of the code's list, packed
+pub packed-set : (xs : List Gathering) (i : ℕ) (y : Gathering) → i < length xs → y.blanks ≡ 0 → IsPackedAt i (set xs i y)
+packed-set [] i y l e = absurd (omega arith)
+packed-set (z ∷ xs) zero y l e = e
+packed-set (z ∷ xs) (suc i) y l e = packed-set xs i y (omega arith) e
+
+pub size-at : (xs : List Gathering) (i : ℕ) (x : Gathering) → i < length xs → x ≡ get_or xs i x → Some (length x.text) ≡ option_map length (slice_get (texts xs) i)
+size-at [] i x l is = absurd (omega arith)
+size-at (z ∷ xs) zero x l is = ap (λ (w : Gathering). Some (length w.text)) is
+size-at (z ∷ xs) (suc i) x l is = size-at xs i x (omega arith) is
 
 -- where there is no such slot
 pub join-past : (slots : List (List ℕ)) (i : ℕ) (mode : Mode) (text : List ℕ) → (i < length slots → ⊥) → slots ≡ join_at i mode text slots

@@ -8,6 +8,7 @@ pub mod ClusterClass
 pub mod Blanks
 pub mod Search
 pub mod Event
+pub mod Gathered
 pub mod KillRing
 pub mod KillGroups
 pub mod RingLends

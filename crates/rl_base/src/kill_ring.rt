@@ -1,11 +1,13 @@
 //! The ring of killed texts, from which they are yanked back.
-ghost use Rattle.std.specs.Prelude.{◌≡◌, ◌<◌, ◌≤◌, max, length, map, MatchOption, IfErr, OnOk};
+ghost use Rattle.std.specs.Prelude.{◌≡◌, ◌<◌, ◌≤◌, Some, None, max, length, slice_get, option_map, MatchOption, IfErr, OnOk};
 ghost use Rattle.std.specs.String.{string_bytes};
 ghost use Rattle.std.specs.Borrow.{sem};
 ghost use Rattle.rl_base.specs.declared.listeners.Refusal.TheVariants.{NoMemory};
+ghost use Rattle.rl_base.specs.Gathered.{IsPackedAt, texts};
 ghost use Rattle.rl_base.specs.KillRing.{IsRing, index_before, join_at, joined, killed, new_ring, next_index, put_at, reset, yank, yank_pop, yank_popped, yank_size, yanked};
 ghost use Rattle.rl_base.specs.RingLends.{EndsAs};
 
+use crate::gathered::Gathered;
 use crate::listeners::{DeleteListener, Direction, Refusal};
 use std::alloc::Global;
 use std::marker::Model;
@@ -34,7 +36,7 @@ enum Action {
 #[derive(Drop)]
 pub struct KillRing {
     size: usize,
-    slots: Vec<String>,
+    slots: Vec<Gathered>,
     // Where the current text stands.
     index: usize,
     last: Action,
@@ -42,15 +44,14 @@ pub struct KillRing {
 }
 
 impl Model for KillRing {
-    ghost use Rattle.std.specs.Prelude.{map};
-    ghost use Rattle.std.specs.String.{string_bytes};
+    ghost use Rattle.rl_base.specs.Gathered.{texts};
     ghost use Rattle.rl_base.specs.KillRing.{Ring, IsRing};
 
     ghost Value = { Ring };
 
-    ghost view = { λ r. record { size = r.size; slots = map string_bytes r.slots.items; index = r.index; last = r.last; killing = r.killing } };
+    ghost view = { λ r. record { size = r.size; slots = texts r.slots.items; index = r.index; last = r.last; killing = r.killing } };
 
-    ghost invariant = { λ r. IsRing (record { size = r.size; slots = map string_bytes r.slots.items; index = r.index; last = r.last; killing = r.killing }) };
+    ghost invariant = { λ r. IsRing (record { size = r.size; slots = texts r.slots.items; index = r.index; last = r.last; killing = r.killing }) };
 }
 
 impl KillRing {
@@ -104,11 +105,10 @@ impl KillRing {
         ensures* moved { sem 𝓛 (EndsAs self.entry (yanked self.old)) }
         ensures value { MatchOption result (yank self.old ≡ None) (λ s. yank self.old ≡ Some (string_bytes s.now)) }
     {
-        let slot = self.slots.get(self.index);
-        if let Some(text) = slot {
-            self.last = Action::Yank(text.as_str().len());
+        if let Some(size) = pack_at(&mut self.slots, self.index) {
+            self.last = Action::Yank(size);
         }
-        slot
+        text_at(&self.slots, self.index)
     }
 
     /// Right after a `yank` or another `yank_pop`, goes to the text before the current one, from the first round
@@ -168,9 +168,9 @@ impl DeleteListener for KillRing {
 }
 
 // The index of the next new slot.
-fn next_index(size: usize, index: usize, slots: &[String]) -> usize
+fn next_index(size: usize, index: usize, slots: &[Gathered]) -> usize
     requires { index < max 1 (length slots.now) }
-    ensures { result ≡ next_index size index (map string_bytes slots.now) }
+    ensures { result ≡ next_index size index (texts slots.now) }
 {
     if index + 1 == size {
         return 0;
@@ -179,8 +179,8 @@ fn next_index(size: usize, index: usize, slots: &[String]) -> usize
 }
 
 // The index of the slot before.
-fn index_before(index: usize, slots: &[String]) -> usize
-    ensures { result ≡ index_before index (map string_bytes slots.now) }
+fn index_before(index: usize, slots: &[Gathered]) -> usize
+    ensures { result ≡ index_before index (texts slots.now) }
 {
     if index == 0 {
         return slots.len().saturating_sub(1);
@@ -189,14 +189,12 @@ fn index_before(index: usize, slots: &[String]) -> usize
 }
 
 // Puts a text over the slot at an index, or behind all slots.
-fn put(slots: &mut Vec<String>, index: usize, text: &str) -> Result<(), Refusal>
+fn put(slots: &mut Vec<Gathered>, index: usize, text: &str) -> Result<(), Refusal>
     requires { index ≤ length slots.old.items }
-    ensures ok { OnOk result (map string_bytes slots.new.items ≡ put_at index text.now (map string_bytes slots.old.items)) }
-    ensures err { IfErr result (λ r. (r ≡ NoMemory) × (map string_bytes slots.new.items ≡ map string_bytes slots.old.items)) }
+    ensures ok { OnOk result (texts slots.new.items ≡ put_at index text.now (texts slots.old.items)) }
+    ensures err { IfErr result (λ r. (r ≡ NoMemory) × (texts slots.new.items ≡ texts slots.old.items)) }
 {
-    let Ok(slot) = String::from_str(*slots.allocator(), text) else {
-        return Err(Refusal::NoMemory);
-    };
+    let slot = Gathered::of(*slots.allocator(), text)?;
     if index < slots.len() {
         slots[index] = slot;
         return Ok(());
@@ -208,9 +206,9 @@ fn put(slots: &mut Vec<String>, index: usize, text: &str) -> Result<(), Refusal>
 }
 
 // Joins a text to the slot at an index.
-fn join(slots: &mut Vec<String>, index: usize, text: &str, mode: Mode) -> Result<(), Refusal>
-    ensures ok { OnOk result (map string_bytes slots.new.items ≡ join_at index mode text.now (map string_bytes slots.old.items)) }
-    ensures err { IfErr result (λ r. (r ≡ NoMemory) × (map string_bytes slots.new.items ≡ map string_bytes slots.old.items)) }
+fn join(slots: &mut Vec<Gathered>, index: usize, text: &str, mode: Mode) -> Result<(), Refusal>
+    ensures ok { OnOk result (texts slots.new.items ≡ join_at index mode text.now (texts slots.old.items)) }
+    ensures err { IfErr result (λ r. (r ≡ NoMemory) × (texts slots.new.items ≡ texts slots.old.items)) }
 {
     if let Some(slot) = slots.get_mut(index) {
         return join_to(slot, text, mode);
@@ -219,16 +217,34 @@ fn join(slots: &mut Vec<String>, index: usize, text: &str, mode: Mode) -> Result
 }
 
 // Joins a text to a slot.
-fn join_to(slot: &mut String, text: &str, mode: Mode) -> Result<(), Refusal>
-    ensures ok { OnOk result (string_bytes slot.new ≡ joined mode (string_bytes slot.old) text.now) }
-    ensures err { IfErr result (λ r. (r ≡ NoMemory) × (string_bytes slot.new ≡ string_bytes slot.old)) }
+fn join_to(slot: &mut Gathered, text: &str, mode: Mode) -> Result<(), Refusal>
+    ensures ok { OnOk result (slot.new.text ≡ joined mode slot.old.text text.now) }
+    ensures err { IfErr result (λ r. (r ≡ NoMemory) × (slot.new.text ≡ slot.old.text)) }
 {
-    let done = match mode {
-        Mode::Append => slot.push_str(text),
-        Mode::Prepend => slot.insert_str(0, text),
-    };
-    match done {
-        Ok(()) => Ok(()),
-        Err(_) => Err(Refusal::NoMemory),
+    match mode {
+        Mode::Append => slot.push_back(text),
+        Mode::Prepend => slot.push_front(text),
+    }
+}
+
+// Packs the text of the slot at an index, and answers its length in bytes.
+fn pack_at(slots: &mut Vec<Gathered>, index: usize) -> Option<usize>
+    ensures texts { texts slots.new.items ≡ texts slots.old.items }
+    ensures packed { IsPackedAt index slots.new.items }
+    ensures size { result ≡ option_map length (slice_get (texts slots.old.items) index) }
+{
+    let slot = slots.get_mut(index)?;
+    slot.pack();
+    Some(slot.len())
+}
+
+// Lends the text of the slot at an index.
+fn text_at(slots: &[Gathered], index: usize) -> Option<&String>
+    requires { IsPackedAt index slots.now }
+    ensures { MatchOption result (slice_get (texts slots.now) index ≡ None) (λ s. slice_get (texts slots.now) index ≡ Some (string_bytes s.now)) }
+{
+    match slots.get(index) {
+        Some(slot) => Some(slot.as_string()),
+        None => None,
     }
 }

@@ -1,6 +1,7 @@
 //! What a line of text and its listeners share: places in a text, events, and the traits that hear them.
 #![tactic(auto)]
 
+mod gathered;
 pub mod kill_ring;
 pub mod laws;
 pub mod layout;
@@ -8,6 +9,7 @@ pub mod listeners;
 pub mod motion;
 pub mod places;
 
+pub use gathered::Gathered;
 pub use kill_ring::{KillRing, Mode};
 pub use layout::{GraphemeClusterMode, Layout, Position, Unit};
 pub use listeners::{ChangeListener, DeleteListener, Direction, NoListener, Refusal};

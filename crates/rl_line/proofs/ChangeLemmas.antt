@@ -1,8 +1,8 @@
 -- What stands in a text where it can go over an entry.
 use Rattle.std.proofs.Common.{◌≡◌, ℕ, ◌+◌, ◌-◌, ◌<◌, ◌≤◌, Bool, true, false, List, [], ◌∷◌, ◌++◌, length, take, drop, get_or, map, reverse, slice_range, Option, Some, None, refl, sym, ap, subst, ◌∙◌, arith, append-nil}
 use Rattle.std.proofs.lemmas.Grind.{take_at_read}
-use Rattle.std.proofs.lemmas.List.{get_or-reverse, length-reverse, map-append, reverse-append}
-use Rattle.std.proofs.lemmas.Str.{IsUtf8-nil, IsUtf8-string_bytes, is_utf8-from_IsUtf8}
+use Rattle.std.proofs.lemmas.List.{length-reverse, map-append, reverse-append}
+use Rattle.std.proofs.lemmas.Str.{IsUtf8-nil, is_utf8-from_IsUtf8}
 use Rattle.std.specs.Prelude.{◌&&◌, IsSome, cond, is_some, option_and_then}
 use Rattle.std.specs.List.{replace_range}
 use Rattle.std.specs.Option.{option_map_or}
@@ -13,7 +13,6 @@ use Rattle.rl_base.specs.Text.{fits_at, is_boundary, stands_at}
 use Rattle.rl_base.proofs.TextLemmas.{is_boundary-means, is_boundary-true, stands_at-means}
 use Rattle.rl_base.proofs.EventLemmas.{Deletes-from_IsSome, Inserts-from_IsSome, Replaces-from_IsSome}
 use Rattle.rl_line.specs.declared.change.Change.{Change}
-use Rattle.rl_line.specs.declared.change.Change.TheVariants as made
 use Rattle.rl_line.specs.declared.change.Way.{Way}
 use Rattle.rl_line.specs.declared.change.Way.TheVariants.{Back, Ahead}
 use Rattle.rl_line.specs.Record.{Entry, Begin, End, Inserted, Deleted, Replaced, entry_of, event_of, inverse, unwind}
@@ -113,19 +112,6 @@ fits-is (Replaced i s t ps) text at p u =
     let same : i ≡ at = cc in
     tested (stands_at text i t && is_utf8 s) _ ∙ right_true (stands_at text i t) (is_utf8 s) (is_utf8-from_IsUtf8 s u) ∙ ap (λ k. stands_at text k t) same
 
--- the texts of a change are texts
-pub old_text-utf8 : (way : Way) (change : Change) → IsUtf8 (old_text (faced way change))
-old_text-utf8 Back made.Begin = IsUtf8-nil
-old_text-utf8 Back made.End = IsUtf8-nil
-old_text-utf8 Back (made.Insert ps i s) = IsUtf8-nil
-old_text-utf8 Back (made.Delete ps i s) = IsUtf8-string_bytes s
-old_text-utf8 Back (made.Replace ps i texts) = IsUtf8-string_bytes texts.value.before
-old_text-utf8 Ahead made.Begin = IsUtf8-nil
-old_text-utf8 Ahead made.End = IsUtf8-nil
-old_text-utf8 Ahead (made.Insert ps i s) = IsUtf8-string_bytes s
-old_text-utf8 Ahead (made.Delete ps i s) = IsUtf8-nil
-old_text-utf8 Ahead (made.Replace ps i texts) = IsUtf8-string_bytes texts.value.after
-
 -- what stands between two boundaries is told by its bytes
 pub stands_at-is : (text : List ℕ) (i : ℕ) (s : List ℕ) → IsUtf8 s → IsCharBoundary text i → IsCharBoundary text (i + length s) → stands_at text i s ≡ bytes_eq (slice_range text i (i + length s)) s
 unfolding stands_at
@@ -143,11 +129,7 @@ pub length-order : (way : Way) (xs : List Change) → length (order way xs) ≡ 
 length-order Back xs = refl
 length-order Ahead xs = length-reverse xs
 
--- ahead, the change with so many behind it comes when so many are left
-pub ahead-nth : (xs : List Change) (left at : ℕ) (x : Change) → left < length xs → at ≡ length xs - 1 - left → x ≡ get_or xs at x → x ≡ get_or (order Ahead xs) left x
-ahead-nth xs left at x lt place is = is ∙ ap (λ k. get_or xs k x) place ∙ sym (get_or-reverse xs left x lt)
-
-pub map-reverse : (xs : List Change) → map entry_of (reverse xs) ≡ reverse (map entry_of xs)
+map-reverse : (xs : List Change) → map entry_of (reverse xs) ≡ reverse (map entry_of xs)
 map-reverse [] = refl
 map-reverse (x ∷ xs) =
     ap (map entry_of) (reverse-append (x ∷ []) xs) ∙ map-append entry_of (reverse xs) (x ∷ []) ∙ ap (λ l. l ++ entry_of x ∷ []) (map-reverse xs)

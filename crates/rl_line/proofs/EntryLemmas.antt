@@ -13,7 +13,7 @@ use Rattle.rl_line.proofs.CountLemmas.{last-counted, redo-counted}
 use Rattle.rl_line.proofs.RecordLemmas.{value_of}
 
 -- the entries before a place, the last first, with one entry more
-pub back-read : (xs : List Change) (m : ℕ) (z x : Change) → m < length xs → get_or xs m z ≡ x
+back-read : (xs : List Change) (m : ℕ) (z x : Change) → m < length xs → get_or xs m z ≡ x
     → reverse (map entry_of (take (m + 1) xs)) ≡ entry_of x ∷ reverse (map entry_of (take m xs))
 back-read xs m z x lt e =
     ap (λ ys. reverse (map entry_of ys)) ((take_at_read xs m z lt).1 ∙ ap (λ y. take m xs ++ y ∷ []) e)
@@ -110,7 +110,7 @@ pub record Counted (xs : List Change) (at d : ℕ) : Type 0 where
   pub unit : at + ahead_len d (map entry_of (drop at xs)) ≡ ahead_len 0 (map entry_of xs)
 
 -- the entries from `at` on are the one there and those behind it
-pub front-read : (xs : List Change) (at : ℕ) (x : Change) → at < length xs → x ≡ get_or xs at x → map entry_of (drop at xs) ≡ entry_of x ∷ map entry_of (drop (at + 1) xs)
+front-read : (xs : List Change) (at : ℕ) (x : Change) → at < length xs → x ≡ get_or xs at x → map entry_of (drop at xs) ≡ entry_of x ∷ map entry_of (drop (at + 1) xs)
 front-read xs at x lt is =
     ap (map entry_of) (drop-cons xs at x lt) ∙ ap (λ (y : Change). entry_of y ∷ map entry_of (drop (suc at) xs)) (sym is)
     ∙ ap (λ k. entry_of x ∷ map entry_of (drop k xs)) (sym (add-one at))

@@ -1,11 +1,14 @@
 -- The places right behind the newlines of a text: of two joined, of one moved, how many there are, and where they lie.
 use borrow.Rule.Slice.PartMut.{put_mid, post_of}
-use Rattle.std.proofs.Common.{◌≡◌, ℕ, suc, ◌+◌, ◌-◌, ◌^◌, ◌<◌, ◌≤◌, Bool, true, false, cond, List, [], ◌∷◌, ◌++◌, map, filter, length, get_or, set, take, drop, take-add, append_assoc, append-nil, length-append, length-drop, slice_range, All, count_by, refl, sym, ap, ap₂, subst, ◌∙◌, arith, eq-eqb, ne_eqb}
+use Rattle.std.proofs.Common.{◌≡◌, ℕ, suc, ◌+◌, ◌-◌, ◌^◌, ◌<◌, ◌≤◌, ◌&&◌, ◌==◌, nat_le, Bool, true, false, cond, List, [], ◌∷◌, ◌++◌, map, filter, length, get_or, set, take, drop, take-add, append_assoc, append-nil, length-append, length-drop, slice_range, All, count_by, refl, sym, ap, ap₂, subst, ◌∙◌, arith, eq-eqb, ne_eqb, ⊎_elim}
+use Rattle.std.proofs.lemmas.Bool.{cases_lt, and_parts, eqb-true, leb-true}
 use Rattle.std.proofs.lemmas.List.{nil_from_length, take-append-drop, length-take-le, get_or-take, get_or-drop, take-take, take-append-le, take_at, take_all, take_more, take_more_set, take-set, drop-drop, drop_at, drop_more, drop-set, drop-set-lt, set_at, map_more}
 use Rattle.std.proofs.lemmas.List.Sums.{sum_by-cons, sum_by-append, count_by_more_yes, count_by_more_no}
 use Rattle.std.proofs.lemmas.List.Elements.{All-nil, All-cons, All-get_or, All-weaker}
 use Rattle.std.proofs.lemmas.Slice.{take-put_mid}
+use Rattle.std.proofs.lemmas.Str.{encode_ascii, inside_one}
 use Rattle.std.specs.List.{enumerate_from, replace_range}
+use Rattle.std.specs.Prelude.{encode_utf8}
 use Rattle.rl_base.specs.Lines.{is_newline, line_number}
 use Rattle.rl_line.specs.LineStarts.{behind_newlines, line_starts, shifted, CanShift}
 
@@ -94,6 +97,33 @@ newlines-front text from to le =
 
 pub newlines-take : (text : List ℕ) (n : ℕ) → count_by is_newline (take n text) ≤ count_by is_newline text
 newlines-take text n = omega (arith, newlines-append (take n text) (drop n text), ap (count_by is_newline) (take-append-drop n text))
+
+pub newlines-replaced : (text part : List ℕ) (from to : ℕ) → from ≤ to
+    → count_by is_newline (replace_range text from to part) ≡ count_by is_newline text - count_by is_newline (slice_range text from to) + count_by is_newline part
+newlines-replaced text part from to le =
+    omega (
+      arith,
+      newlines-append (take from text ++ part) (drop to text),
+      newlines-append (take from text) part,
+      newlines-append (take to text) (drop to text),
+      ap (count_by is_newline) (take-append-drop to text),
+      newlines-front text from to le,
+    )
+
+-- the newlines of a character: one where it is the newline, since the bytes of any other that is not ASCII are not ASCII either
+newlines-none : (bytes : List ℕ) → ((k : ℕ) → k < length bytes → get_or bytes k 0 ≡ 10 → ⊥) → count_by is_newline bytes ≡ 0
+newlines-none [] others = refl
+newlines-none (b ∷ bytes) others =
+    let here : is_newline b ≡ false = ne_eqb b 10 (others 0 (omega arith)) in
+    sum_by-cons (λ x. cond (is_newline x) 1 0) b bytes
+    ∙ ap₂ (λ is n. cond is 1 0 + n) here (newlines-none bytes (λ k within is. others (suc k) (omega arith) is))
+
+pub newlines-one : (c : ℕ) → c ≡ 10 → count_by is_newline (encode_utf8 c) ≡ 1
+newlines-one c is = ap (count_by is_newline) (encode_ascii c (omega (arith, is))) ∙ ap (λ b. count_by is_newline (b ∷ [])) is
+
+pub newlines-other : (c : ℕ) → (c ≡ 10 → ⊥) → count_by is_newline (encode_utf8 c) ≡ 0
+newlines-other c isnt =
+    newlines-none (encode_utf8 c) (λ k within is. isnt (inside_one c [] (encode_utf8 c) k (sym (append-nil (encode_utf8 c))) within (omega (arith, is)) ∙ is))
 
 -- the table up to a place, and behind it
 module _ (starts text : List ℕ) (pos k : ℕ) (e : starts ≡ line_starts text) (within : pos ≤ length text) (number : k ≡ count_by is_newline (take pos text)) where
@@ -251,23 +281,27 @@ Puts-all n i k part old now past h =
     let all = take_all i part past in
     h.1 ∙ ap₂ (λ l m. behind_newlines n l ++ drop m old) all (h.0 ∙ ap (count_by is_newline) all)
 
--- where no newline stood and none comes, there is no table
-pub line_starts-none : (starts text part : List ℕ) (from to : ℕ) → starts ≡ line_starts text → length starts ≡ 0 → from ≤ to → count_by is_newline part ≡ 0
-    → starts ≡ line_starts (replace_range text from to part)
-line_starts-none starts text part from to e none le clean =
-    let count = length-line_starts starts text e in
-    let head = take from text in
-    let size : length (line_starts (replace_range text from to part)) ≡ 0 =
-    omega (
-      arith,
-      length-behind_newlines 1 (replace_range text from to part),
-      newlines-append (head ++ part) (drop to text),
-      newlines-append head part,
-      newlines-append (take to text) (drop to text),
-      ap (count_by is_newline) (take-append-drop to text),
-      newlines-front text from to le,
-      clean,
-      count,
-      none,
-    ) in
-    nil_from_length starts none ∙ sym (nil_from_length (line_starts (replace_range text from to part)) size)
+-- where no start lies behind a place and no newline comes, what changes from there on leaves the table
+pub line_starts-stay : (starts text part : List ℕ) (from to come : ℕ) → starts ≡ line_starts text → from ≤ to → to ≤ length text → come ≡ count_by is_newline part
+    → (come == 0 && nat_le (get_or starts (length starts - 1) 0) from) ≡ true → starts ≡ line_starts (replace_range text from to part)
+line_starts-stay starts text part from to come e order within count stay =
+    let both = and_parts (come == 0) (nat_le (get_or starts (length starts - 1) 0) from) stay in
+    let last = leb-true _ _ both.1 in
+    let clean : count_by is_newline part ≡ 0 = sym count ∙ eqb-true come 0 both.0 in
+    let first = line_number text from in
+    let gone = count_by is_newline (slice_range text from to) in
+    let all : length starts ≤ first = ⊎_elim (λ less. absurd (omega (arith, last, behind less))) (λ le. le) (cases_lt first (length starts)) in
+    let none : drop (first + gone) starts ≡ [] = nil_from_length _ (omega (arith, length-drop (first + gone) starts)) in
+    let new : behind_newlines (from + 1) part ≡ [] = nil_from_length _ (length-behind_newlines (from + 1) part ∙ clean) in
+    sym (append-nil starts)
+    ∙ ap₂ (λ l r. l ++ r) (sym (take_all first starts all)) (sym (ap₂ (λ l r. l ++ map (shifted to (from + length part)) r) new none))
+    ∙ sym (line_starts-replaced starts text from to first gone e order within refl refl part)
+  where
+    behind : line_number text from < length starts → from + 1 ≤ get_or starts (length starts - 1) 0
+    behind less =
+        let first = line_number text from in
+        let i = length starts - 1 - first in
+        let rest = drop-line_starts starts text from first e (omega arith) refl in
+        let place : first + i ≡ length starts - 1 = omega arith in
+        let lies = All-get_or (λ s. (from + 1 ≤ s) × (s < from + 1 + length (drop from text))) (behind_newlines (from + 1) (drop from text)) i 0 (omega (arith, ap length rest, length-drop first starts)) (behind_newlines-within (from + 1) (drop from text)) in
+        subst (λ k. from + 1 ≤ k) (ap (λ l. get_or l i 0) (sym rest) ∙ get_or-drop first starts i 0 ∙ ap (λ k. get_or starts k 0) place) lies.0

@@ -100,7 +100,6 @@ take-both (suc m) (suc n) (suc k) (x ∷ es) e = ap (λ l. x ∷ l) (take-both m
 
 -- ---- undo: of k that are recorded the first ones stay
 pub record Undoes (n k first : ℕ) (es : List Entry) : Type 0 where
-  pub within : first ≤ k
   pub recorded : take first es ≡ kept_of n (take k es)
   pub pending : drop first es ≡ last_of n (take k es) ++ drop k es
   pub unit : take (k - first) (drop first es) ≡ last_of n (take k es)
@@ -120,7 +119,6 @@ Undoes-of n k count first es le e f =
     let long : length kept ≡ first = omega (arith, sum, e, f) in
     let behind : drop first es ≡ unit ++ drop k es = ap (drop first) whole ∙ drop_at kept (unit ++ drop k es) first long in
     record {
-      within = omega (arith, f);
       recorded = ap (take first) whole ∙ take_at kept (unit ++ drop k es) first long;
       pending = behind;
       unit = ap (take (k - first)) behind ∙ take_at unit (drop k es) (k - first) (omega (arith, sum, long));
@@ -137,7 +135,6 @@ undo-fits n es line h =
 
 -- ---- redo: behind the k that are recorded more come to it
 pub record RedoesTo (k end : ℕ) (es : List Entry) : Type 0 where
-  pub from : k ≤ end
   pub within : end ≤ length es
   pub recorded : take end es ≡ take k es ++ redo_of (drop k es)
   pub pending : drop end es ≡ drop (length (redo_of (drop k es))) (drop k es)
@@ -153,7 +150,6 @@ RedoesTo-of k count end es le m e f =
     sym (take-append-drop k es) ∙ ap (λ l. take k es ++ l) (sym list) ∙ sym (append_assoc (take k es) unit left) in
     let long : length (take k es ++ unit) ≡ end = omega (arith, length-append (take k es) unit, front, e, f) in
     record {
-      from = omega (arith, f);
       within = omega (arith, ap length whole, length-append (take k es ++ unit) left, long);
       recorded = ap (take end) whole ∙ take_at (take k es ++ unit) left end long;
       pending = ap (drop end) whole ∙ drop_at (take k es ++ unit) left end long;

@@ -26,7 +26,7 @@ abbrev pub entry_of : Change → Entry
 entry_of made.Begin = Begin
 entry_of made.End = End
 entry_of (made.Insert cursors i s) = Inserted i (string_bytes s) cursors
-entry_of (made.Delete cursors i s) = Deleted i (string_bytes s) cursors
+entry_of (made.Delete cursors i gathered) = Deleted i gathered.text cursors
 entry_of (made.Replace cursors i texts) = Replaced i (string_bytes texts.value.before) (string_bytes texts.value.after) cursors
 
 -- what was recorded, the oldest first, what was undone and waits to be redone, in the order in which it was made, and whether the

@@ -2,7 +2,7 @@
 ghost use Rattle.std.specs.Prelude.{◌≡◌, ℕ, List, None, Some, true, OnOk, IfOk, IfErr, ◌+◌, ◌-◌, ◌<◌, ◌≤◌, IsSome, IfSome, get_or, is_some, length, map, vec_len, vec_capacity};
 ghost use Rattle.std.specs.Option.{option_map};
 ghost use Rattle.std.specs.String.{string_bytes, string_len, string_capacity};
-ghost use Rattle.std.specs.Str.{IsCharBoundary};
+ghost use Rattle.std.specs.Str.{IsCharBoundary, IsUtf8};
 ghost use Rattle.rl_base.specs.Event.{InsertChar, Delete, Replace, apply};
 ghost use Rattle.rl_base.specs.Text.{stands_at};
 ghost use Rattle.rl_base.specs.declared.listeners.Direction.TheVariants.{Forward};
@@ -16,8 +16,8 @@ ghost use Rattle.rl_line.specs.LineStarts.{line_starts};
 
 use crate::line_starts::newlines;
 use crate::swap::{find_room, swap_in, swap_text};
-use rl_base::Refusal;
 use rl_base::places::{is_alphanumeric, is_word_cluster};
+use rl_base::{Gathered, Refusal};
 use std::alloc::Global;
 
 /// An entry of a record: the begin or the end of a group, or one change of a text: its cursors and its byte place, with what
@@ -27,7 +27,7 @@ pub(crate) enum Change {
     Begin,
     End,
     Insert(Cursors, usize, String),
-    Delete(Cursors, usize, String),
+    Delete(Cursors, usize, Gathered),
     Replace(Cursors, usize, Box<Texts>),
 }
 
@@ -79,6 +79,13 @@ pub(crate) enum Measure {
     Newlines,
 }
 
+// How much longer a text gets, in bytes, and its table, in newlines.
+#[derive(Clone, Copy)]
+struct Growth {
+    bytes: usize,
+    newlines: usize,
+}
+
 impl Measure {
     // How much a text has of it.
     fn of(self, text: &str) -> usize
@@ -88,6 +95,16 @@ impl Measure {
             Measure::Bytes => text.len(),
             Measure::Newlines => newlines(text),
         }
+    }
+
+    // The size of a text of size `size` once a part of it gave way to another, if a `usize` holds it. Inlined, so that what is
+    // measured is known when it is compiled.
+    #[inline(always)]
+    fn size_over(self, size: usize, going: &str, coming: &str) -> Option<usize>
+        ensures { IfSome result (λ n. n ≡ (size - size_of self going.now) + size_of self coming.now) }
+    {
+        size.saturating_sub(self.of(going))
+            .checked_add(self.of(coming))
     }
 }
 
@@ -127,45 +144,22 @@ impl Change {
         }
     }
 
-    // The text at the place that goes on this way.
-    fn going(&self, way: Way) -> &str
-        ensures { result.now ≡ new_text (faced way self.now) }
+    // The text at the place that goes on this way, and the one that comes. Inlined, so that the way is known when it is compiled.
+    #[inline(always)]
+    fn texts(&self, way: Way) -> (&str, &str)
+        ensures going { result.0.now ≡ new_text (faced way self.now) }
+        ensures coming { result.1.now ≡ old_text (faced way self.now) }
+        ensures utf8 { IsUtf8 result.1.now }
     {
+        let (old, new) = match self {
+            Change::Begin | Change::End => ("", ""),
+            Change::Insert(_, _, new) => ("", new.as_str()),
+            Change::Delete(_, _, old) => (old.as_str(), ""),
+            Change::Replace(_, _, texts) => (texts.before.as_str(), texts.after.as_str()),
+        };
         match way {
-            Way::Back => self.new_text(),
-            Way::Ahead => self.old_text(),
-        }
-    }
-
-    // The text that comes in its place.
-    fn coming(&self, way: Way) -> &str
-        ensures { result.now ≡ old_text (faced way self.now) }
-    {
-        match way {
-            Way::Back => self.old_text(),
-            Way::Ahead => self.new_text(),
-        }
-    }
-
-    // The text that stood at the place before the change.
-    fn old_text(&self) -> &str
-        ensures { result.now ≡ old_text (entry_of self.now) }
-    {
-        match self {
-            Change::Delete(_, _, old) => old.as_str(),
-            Change::Replace(_, _, texts) => texts.before.as_str(),
-            Change::Begin | Change::End | Change::Insert(_, _, _) => "",
-        }
-    }
-
-    // The text that stood at the place after the change.
-    fn new_text(&self) -> &str
-        ensures { result.now ≡ new_text (entry_of self.now) }
-    {
-        match self {
-            Change::Insert(_, _, new) => new.as_str(),
-            Change::Replace(_, _, texts) => texts.after.as_str(),
-            Change::Begin | Change::End | Change::Delete(_, _, _) => "",
+            Way::Back => (new, old),
+            Way::Ahead => (old, new),
         }
     }
 
@@ -219,20 +213,13 @@ impl Change {
 
     // Whether a text can go over the change.
     fn fits(&self, text: &str, way: Way) -> bool
+        requires { IsUtf8 (old_text (faced way self.now)) }
         ensures { result ≡ is_some (apply (event_of (inverse (faced way self.now))) text.now) }
     {
         match self.place() {
-            Some(at) => stands_at(text, at, self.going(way)),
+            Some(at) => stands_at(text, at, self.texts(way).0),
             None => true,
         }
-    }
-
-    // The size of a text of size `size` once the change was gone over in it, if a `usize` holds it.
-    fn size_over(&self, measure: Measure, way: Way, size: usize) -> Option<usize>
-        ensures { IfSome result (λ n. n ≡ size_back measure (faced way self.now) size) }
-    {
-        size.saturating_sub(measure.of(self.going(way)))
-            .checked_add(measure.of(self.coming(way)))
     }
 }
 
@@ -262,8 +249,8 @@ pub(crate) fn go_over(
 {
     match change.place() {
         Some(at) => {
-            let end = at + change.going(way).len();
-            let behind = swap_in(text, starts, at, end, change.coming(way));
+            let (going, coming) = change.texts(way);
+            let behind = swap_in(text, starts, at, at + going.len(), coming);
             change.cursor_over(way).unwrap_or(behind)
         }
         None => cursor,
@@ -277,7 +264,10 @@ fn go_over_in_text(text: &mut String, change: &Change, way: Way)
     ensures text { apply (event_of (inverse (faced way change.now))) (string_bytes text.old) ≡ Some (string_bytes text.new) }
 {
     match change.place() {
-        Some(at) => swap_text(text, at, at + change.going(way).len(), change.coming(way)),
+        Some(at) => {
+            let (going, coming) = change.texts(way);
+            swap_text(text, at, at + going.len(), coming);
+        }
         None => {}
     }
 }
@@ -310,7 +300,9 @@ pub(crate) fn nth_on(way: Way, changes: &[Change], left: usize) -> &Change
     }
 }
 
-/// Finds room in a line's text and its table for the longest of each on the way over the changes.
+/// Finds room in a line's text and its table for the longest of each on the way over the changes. Inlined, as `nth_on` is, so that
+/// the way is known when it is compiled.
+#[inline(always)]
 pub(crate) fn find_room_over(
     text: &mut String,
     starts: &mut Vec<usize>,
@@ -325,35 +317,44 @@ pub(crate) fn find_room_over(
     ensures table { OnOk result (greatest_back_over Newlines (map (faced way) (order way changes.now)) (vec_len starts.old) ≤ vec_capacity starts.new) }
     ensures err { IfErr result (λ r. (r ≡ NoMemory) × (0 < length changes.now)) }
 {
-    let bytes = growth_over(changes, Measure::Bytes, way, text.len())?;
-    let newlines = growth_over(changes, Measure::Newlines, way, starts.len())?;
-    find_room(text, starts, bytes, newlines)
+    let growth = growth_over(changes, way, text.len(), starts.len())?;
+    find_room(text, starts, growth.bytes, growth.newlines)
 }
 
-// How much more than at first a text of size `size` has at most on the way over the changes. Inlined, so that what is
-// measured, and the way, are known when it is compiled.
+// How much more than at first a text of so many bytes, and a table of so many newlines, have at most on the way over the
+// changes. Inlined, so that the way is known when it is compiled.
 #[inline(always)]
 fn growth_over(
     changes: &[Change],
-    measure: Measure,
     way: Way,
-    size: usize,
-) -> Result<usize, Refusal>
-    ensures ok { IfOk result (λ n. size + n ≡ greatest_back_over measure (map (faced way) (order way changes.now)) size) }
+    bytes: usize,
+    newlines: usize,
+) -> Result<Growth, Refusal>
+    ensures bytes { IfOk result (λ growth. bytes + growth.bytes ≡ greatest_back_over Bytes (map (faced way) (order way changes.now)) bytes) }
+    ensures newlines { IfOk result (λ growth. newlines + growth.newlines ≡ greatest_back_over Newlines (map (faced way) (order way changes.now)) newlines) }
     ensures err { IfErr result (λ r. (r ≡ NoMemory) × (0 < length changes.now)) }
 {
-    let mut now = size;
-    let mut greatest = size;
+    let (mut long, mut longest) = (bytes, bytes);
+    let (mut high, mut highest) = (newlines, newlines);
     let mut left = changes.len();
     while left > 0 {
         left -= 1;
-        now = match nth_on(way, changes, left).size_over(measure, way, now) {
-            Some(now) => now,
+        let (going, coming) = nth_on(way, changes, left).texts(way);
+        long = match Measure::Bytes.size_over(long, going, coming) {
+            Some(long) => long,
             None => return Err(Refusal::NoMemory),
         };
-        greatest = greatest.max(now);
+        high = match Measure::Newlines.size_over(high, going, coming) {
+            Some(high) => high,
+            None => return Err(Refusal::NoMemory),
+        };
+        longest = longest.max(long);
+        highest = highest.max(high);
     }
-    Ok(greatest - size)
+    Ok(Growth {
+        bytes: longest - bytes,
+        newlines: highest - newlines,
+    })
 }
 
 /// The text once it went over the changes, or none where one of them does not fit, or, if `asks` says so, where a cursor that
@@ -373,10 +374,11 @@ pub(crate) fn text_over(
     while left > 0 {
         left -= 1;
         let change = nth_on(way, changes, left);
+        let (_, coming) = change.texts(way);
         if !change.fits(now.as_str(), way) {
             return Ok(None);
         }
-        if now.reserve(change.coming(way).len()).is_err() {
+        if now.reserve(coming.len()).is_err() {
             return Err(Refusal::NoMemory);
         }
         go_over_in_text(&mut now, change, way);
@@ -437,15 +439,13 @@ impl Change {
                     return Ok(None);
                 }
                 let taken = if *at == idx {
-                    text.push_str(string)
+                    text.push_back(string)
                 } else if idx.checked_add(string.len()) == Some(*at) {
-                    text.insert_str(0, string)
+                    text.push_front(string)
                 } else {
                     return Ok(None);
                 };
-                if taken.is_err() {
-                    return Err(Refusal::NoMemory);
-                }
+                taken?;
                 *at = idx;
                 Ok(Some(Freshness::of_joined(cursors)))
             }

@@ -12,7 +12,7 @@ ghost use Rattle.rl_line.specs.Units.{IsMatched, adds_end, end_one, end_times, e
 ghost use Rattle.rl_line.specs.Entries.{JoinsLast, deep};
 
 use crate::change::{Change, Freshness, Texts, copied};
-use rl_base::{Refusal, RepeatCount};
+use rl_base::{Gathered, Refusal, RepeatCount};
 use std::alloc::Global;
 
 /// Records that a character was put in.
@@ -80,7 +80,7 @@ pub(crate) fn delete(
         keep(entries, recorded);
         return Ok(fresh);
     }
-    let text = copied(*entries.allocator(), string)?;
+    let text = Gathered::of(*entries.allocator(), string)?;
     add(entries, recorded, Change::Delete(None, idx, text))?;
     Ok(Freshness::Added)
 }

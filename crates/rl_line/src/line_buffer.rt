@@ -21,8 +21,8 @@ mod ranges;
 mod transpositions;
 
 use crate::change::{Change, Way, find_room_over, go_over, nth_on};
-use crate::line_starts::newlines;
-use crate::swap::{find_room, swap_in};
+use crate::line_starts::{newlines, newlines_of};
+use crate::swap::{find_room, swap_in, swap_in_char};
 pub use kills::kill_agrees_with_copy;
 use rl_base::{ChangeListener, DeleteListener, Direction, Refusal};
 use std::alloc::Global;
@@ -211,12 +211,11 @@ impl LineBuffer {
         ensures kept { OnErr result (self.new ≡ self.old) }
         ensures cause { IfErr result (λ r. or_no_memory L.refused listener.old (InsertChar idx c) r listener.new) }
     {
-        let mut bytes = [0; 4];
-        let part = c.encode_utf8(&mut bytes);
-        find_room(&mut self.buf, &mut self.starts, part.len(), newlines(part))?;
+        let bytes = c.len_utf8();
+        find_room(&mut self.buf, &mut self.starts, bytes, newlines_of(c))?;
         listener.insert_char(idx, c)?;
         listener.cursors(self.pos, cursor);
-        swap_in(&mut self.buf, &mut self.starts, idx, idx, part);
+        swap_in_char(&mut self.buf, &mut self.starts, idx, c);
         self.pos = cursor;
         self.limit = self.limit.max(self.buf.len());
         Ok(())
@@ -295,7 +294,9 @@ impl LineBuffer {
     }
 
     // Goes over the changes, the last first going back, the first first going ahead. It finds the room for the longest text and
-    // the longest table on the way before it changes anything.
+    // the longest table on the way before it changes anything. Inlined, so that undo and redo each know their way when they are
+    // compiled.
+    #[inline(always)]
     pub(crate) fn go_over_all(&mut self, changes: &[Change], way: Way) -> Result<(), Refusal>
         requires { IsSome (line_back (map (faced way) (order way changes.now)) self.old) }
         ensures ok { OnOk result (line_back (map (faced way) (order way changes.now)) self.old ≡ Some self.new) }

@@ -1,5 +1,5 @@
 //! The table of a line's text: the places right behind its newlines, in order, where its lines begin but for the first.
-ghost use Rattle.std.specs.Prelude.{◌≡◌, ℕ, ◌+◌, ◌-◌, ◌^◌, ◌<◌, ◌≤◌, ◌++◌, All, List, map, take, drop, length, count_by, slice_range, vec_len, vec_capacity};
+ghost use Rattle.std.specs.Prelude.{◌≡◌, ℕ, ◌+◌, ◌-◌, ◌^◌, ◌<◌, ◌≤◌, ◌++◌, ◌==◌, ◌&&◌, nat_le, All, List, map, take, drop, get_or, length, count_by, encode_utf8, slice_range, vec_len, vec_capacity};
 ghost use Rattle.std.specs.List.{replace_range};
 ghost use Rattle.std.specs.Str.{IsCharBoundary};
 ghost use Rattle.rl_base.specs.Lines.{is_newline, line_number};
@@ -10,6 +10,13 @@ pub(crate) fn newlines(text: &str) -> usize
     ensures { result ≡ count_by is_newline text.now }
 {
     text.bytes().filter(|b| *b == b'\n').count()
+}
+
+/// How many newlines a character is.
+pub(crate) fn newlines_of(c: char) -> usize
+    ensures { result ≡ count_by is_newline (encode_utf8 c) }
+{
+    usize::from(c == '\n')
 }
 
 /// The number of the line that a place lies in, from 0, by binary search in the table of the text.
@@ -32,8 +39,7 @@ pub(crate) fn swap_starts(starts: &mut Vec<usize>, text: &str, from: usize, to: 
     ensures count { vec_len starts.new ≡ (vec_len starts.old - count_by is_newline (slice_range text.now from to)) + count_by is_newline part.now }
 {
     let come = newlines(part);
-    // No start is there and none comes: typing in a line without newlines asks no more than this.
-    if starts.len() + come == 0 {
+    if stays(starts, from, come) {
         return;
     }
     let first = line_number(starts, from);
@@ -41,6 +47,17 @@ pub(crate) fn swap_starts(starts: &mut Vec<usize>, text: &str, from: usize, to: 
     let next = first + come;
     move_behind(starts, behind, next, to, from + part.len());
     put_behind_newlines(&mut starts[first..], from, part);
+}
+
+/// Whether a table stays as it is where a change begins at a place and brings so many newlines: it brings none, and no start
+/// lies behind the place. A change in the last line of a text asks no more than this.
+pub(crate) fn stays(starts: &[usize], from: usize, come: usize) -> bool
+    ensures { result ≡ (come == 0 && nat_le (get_or starts.now (length starts.now - 1) 0) from) }
+{
+    match starts.last() {
+        Some(last) => come == 0 && *last <= from,
+        None => come == 0,
+    }
 }
 
 // The starts from number `behind` on get the numbers from `next` on, and move with what stands behind a range that ended at

@@ -7,7 +7,7 @@ ghost use Rattle.rl_base.specs.Lines.{is_newline};
 ghost use Rattle.rl_base.specs.declared.listeners.Refusal.TheVariants.{NoMemory};
 ghost use Rattle.rl_line.specs.LineStarts.{line_starts};
 
-use crate::line_starts::swap_starts;
+use crate::line_starts::{newlines_of, stays, swap_starts};
 use rl_base::Refusal;
 
 /// Finds room in a text and in its table for so many bytes and newlines more.
@@ -63,6 +63,26 @@ pub(crate) fn swap_in(
     from + part.len()
 }
 
+/// Puts a character in at a place, as `swap_in` does. In the last line of a text any but a newline is neither
+/// encoded nor counted.
+pub(crate) fn swap_in_char(text: &mut String, starts: &mut Vec<usize>, at: usize, c: char)
+    requires place { IsCharBoundary (string_bytes text.old) at }
+    requires table { starts.old.items ≡ line_starts (string_bytes text.old) }
+    requires room { string_len text.old + length (encode_utf8 c) ≤ string_capacity text.old }
+    requires table_room { vec_len starts.old + count_by is_newline (encode_utf8 c) ≤ vec_capacity starts.old }
+    ensures text { string_bytes text.new ≡ insert_slice (string_bytes text.old) at (encode_utf8 c) }
+    ensures table { starts.new.items ≡ line_starts (string_bytes text.new) }
+    ensures len { string_len text.new ≡ string_len text.old + length (encode_utf8 c) }
+{
+    if stays(starts, at, newlines_of(c)) {
+        put_char_in(text, at, c);
+        return;
+    }
+    let mut bytes = [0; 4];
+    swap_starts(starts, text.as_str(), at, at, c.encode_utf8(&mut bytes));
+    put_char_in(text, at, c);
+}
+
 /// Puts a part in the place of a range, in a text that has room for what this makes of it.
 pub(crate) fn swap_text(text: &mut String, from: usize, to: usize, part: &str)
     requires order { from ≤ to }
@@ -78,7 +98,7 @@ pub(crate) fn swap_text(text: &mut String, from: usize, to: usize, part: &str)
     put_in(text, from, part);
 }
 
-// Takes a range out.
+// Takes a range out. Where nothing stands behind it, nothing has to move.
 fn cut_out(text: &mut String, from: usize, to: usize)
     requires order { from ≤ to }
     requires start { IsCharBoundary (string_bytes text.old) from }
@@ -88,6 +108,10 @@ fn cut_out(text: &mut String, from: usize, to: usize)
     ensures len { string_len text.new ≡ string_len text.old - (to - from) }
 {
     if from == to {
+        return;
+    }
+    if to == text.len() {
+        text.truncate(from);
         return;
     }
     match text.replace_range(from..to, "") {
@@ -108,14 +132,25 @@ fn put_in(text: &mut String, at: usize, part: &str)
         return;
     }
     match lone_char(part) {
-        Some(c) => match text.insert(at, c) {
-            Ok(()) => {}
-            Err(_) => unreachable!(),
-        },
+        Some(c) => put_char_in(text, at, c),
         None => match text.insert_str(at, part) {
             Ok(()) => {}
             Err(_) => unreachable!(),
         },
+    }
+}
+
+// Puts a character in at a place.
+fn put_char_in(text: &mut String, at: usize, c: char)
+    requires place { IsCharBoundary (string_bytes text.old) at }
+    requires room { string_len text.old + length (encode_utf8 c) ≤ string_capacity text.old }
+    ensures text { string_bytes text.new ≡ insert_slice (string_bytes text.old) at (encode_utf8 c) }
+    ensures capacity { string_capacity text.old ≤ string_capacity text.new }
+    ensures len { string_len text.new ≡ string_len text.old + length (encode_utf8 c) }
+{
+    match text.insert(at, c) {
+        Ok(()) => {}
+        Err(_) => unreachable!(),
     }
 }
 

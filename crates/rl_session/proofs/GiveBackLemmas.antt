@@ -32,7 +32,7 @@ use Rattle.rl_line.proofs.UnitLemmas.{cut_more-append}
 use Rattle.rl_session.proofs.CursorLemmas.{AddedAlone, IsLone, Quiet, added-alone, ends_at, next, recorded-next}
 use Rattle.rl_session.proofs.HistoryLemmas.{redo-row, undo-row}
 use Rattle.rl_session.proofs.PairLemmas.{Done-changes}
-use Rattle.rl_session.proofs.PieceLemmas.{clusters-some, places-before_end}
+use Rattle.rl_base.proofs.PieceLemmas.{clusters-some, places-before_end}
 use Rattle.rl_session.proofs.QuietLemmas.{Settles, Settles-delete, Settles-indent, Settles-insert, Settles-insert_str, Settles-nothing, Settles-replace, Settles-transpose_chars, Settles-transpose_words, Settles-update, Settles-yank, Settles-yank_pop, empty-deleted, empty-inserted, never-char, never-replaced}
 use Rattle.rl_session.proofs.RowLemmas.{Leads-split}
 use Rattle.rl_session.specs.Commands.{Asked, Telling, Tells, Edited, Edits, Others, DoesAsked, asked, edit, other, answers, inserts, hands_out, is_done, lent, lent_plan, popped, popped_plan, readied}

@@ -1,7 +1,8 @@
 //! What a grapheme cluster is to each sense of a word.
-ghost use Rattle.std.specs.Prelude.{◌≡◌, List, ℕ};
+ghost use Rattle.std.specs.Prelude.{◌≡◌, ◌==◌, List, ℕ, length};
 ghost use Rattle.ucd_props.specs.Binary.{is_white_space};
 ghost use Rattle.rl_base.specs.Classes.{is_alphanumeric, has_blank, is_word_cluster, all_alphanumeric, starts, ends};
+ghost use Rattle.rl_base.specs.Clusters.{clusters};
 ghost use Rattle.rl_base.specs.ClusterClass.{class_of};
 
 use crate::motion::Word;
@@ -43,13 +44,38 @@ fn is_blank(c: char) -> bool
     c.is_whitespace()
 }
 
+// Most clusters are one ASCII character, which tells this at once.
+#[inline]
 fn has_blank(cluster: &str) -> bool
+    ensures { result ≡ has_blank cluster.now }
+{
+    match cluster.as_bytes() {
+        [b] if b.is_ascii() => is_blank(char::from(*b)),
+        _ => any_blank(cluster),
+    }
+}
+
+// Stays out of what calls `has_blank`, or a cluster of one ASCII character would be slower for it.
+#[inline(never)]
+fn any_blank(cluster: &str) -> bool
     ensures { result ≡ has_blank cluster.now }
 {
     cluster.chars().any(is_blank)
 }
 
+// Quick where `has_blank` is.
+#[inline]
 fn all_alphanumeric(cluster: &str) -> bool
+    ensures { result ≡ all_alphanumeric cluster.now }
+{
+    match cluster.as_bytes() {
+        [b] if b.is_ascii() => b.is_ascii_alphanumeric(),
+        _ => each_alphanumeric(cluster),
+    }
+}
+
+#[inline(never)]
+fn each_alphanumeric(cluster: &str) -> bool
     ensures { result ≡ all_alphanumeric cluster.now }
 {
     cluster.chars().all(is_alphanumeric)
@@ -59,11 +85,22 @@ fn all_alphanumeric(cluster: &str) -> bool
 pub fn is_word_cluster(text: &str) -> bool
     ensures { result ≡ is_word_cluster text.now }
 {
+    is_one_cluster(text) && all_alphanumeric(text)
+}
+
+// A text of one byte is one without being cut.
+fn is_one_cluster(text: &str) -> bool
+    ensures { result ≡ (length (clusters text.now) == 1) }
+{
+    if text.len() == 1 {
+        return true;
+    }
     let mut clusters = text.graphemes(true);
-    clusters.next().is_some() && clusters.next().is_none() && all_alphanumeric(text)
+    clusters.next().is_some() && clusters.next().is_none()
 }
 
 /// What the cluster is to the sense of a word.
+#[inline]
 pub fn class_of(sense: Word, cluster: &str) -> Class
     ensures { result ≡ class_of sense cluster.now }
 {

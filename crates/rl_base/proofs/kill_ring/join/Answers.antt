@@ -1,5 +1,6 @@
-use Rattle.std.proofs.Common.{◌<◌, length, map, refl, arith, string_bytes}
+use Rattle.std.proofs.Common.{◌<◌, length, refl, arith}
 use Rattle.std.proofs.lemmas.List.{length-map}
+use Rattle.rl_base.specs.Gathered.{Gathering, texts}
 use Rattle.rl_base.proofs.RingLemmas.{join-past, joins-err, joins-ok}
 use Rattle.rl_base.proofs.kill_ring.join.Goals as goal
 
@@ -18,5 +19,5 @@ returns-in-Some-clause-err c =
 pub returns-clause-ok : goal.returns-clause-ok
 returns-clause-ok c =
     let slots = c.args.slots.now in
-    join-past (map string_bytes slots.items) c.args.index c.args.mode c.args.text.now
-    (λ l. let none = c.in_default.ensures.variant.1 (omega (arith, slots.ok.0, l, length-map slots.items string_bytes)) in cc)
+    join-past (texts slots.items) c.args.index c.args.mode c.args.text.now
+    (λ l. let none = c.in_default.ensures.variant.1 (omega (arith, slots.ok.0, l, length-map slots.items (λ (g : Gathering). g.text))) in cc)

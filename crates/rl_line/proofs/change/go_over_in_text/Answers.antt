@@ -11,17 +11,17 @@ stands c =
 
 pub overflow_add-at : goal.overflow_add-at
 overflow_add-at c =
-    omega (arith, (stands (goal.at.overflow_add-at c).In-Some).end.0, ap length c.going.ensures, c.args.text.now.bytes.ok.0, c.args.text.now.bytes.ok.1, c.args.text.now.bytes.small)
+    omega (arith, (stands (goal.at.overflow_add-at c).In-Some).end.0, ap length c.texts.ensures.going, c.args.text.now.bytes.ok.0, c.args.text.now.bytes.ok.1, c.args.text.now.bytes.small)
 
 pub swap_text-requires-clause-start : goal.swap_text-requires-clause-start
 swap_text-requires-clause-start c = (stands (goal.at.swap_text-requires-clause-start c).In-Some).start
 
 pub swap_text-requires-clause-end : goal.swap_text-requires-clause-end
-swap_text-requires-clause-end c = rw c.going.ensures (stands (goal.at.swap_text-requires-clause-end c).In-Some).end
+swap_text-requires-clause-end c = rw c.texts.ensures.going (stands (goal.at.swap_text-requires-clause-end c).In-Some).end
 
 pub returns-in-Some : goal.returns-in-Some
 returns-in-Some c =
-    record { text = rw ((stands (goal.at.returns-in-Some c).In-Some).makes, c.swap_text.ensures.text, c.going.ensures, c.coming.ensures) refl }
+    record { text = rw ((stands (goal.at.returns-in-Some c).In-Some).makes, c.swap_text.ensures.text, c.texts.ensures.going, c.texts.ensures.coming) refl }
 
 pub returns-in-None : goal.returns-in-None
 returns-in-None c =

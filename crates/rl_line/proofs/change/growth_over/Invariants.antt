@@ -1,12 +1,16 @@
 use Rattle.std.proofs.Common.{◌≡◌, ◌≤◌, length, map, drop}
+use Rattle.rl_line.specs.declared.change.Measure.TheVariants.{Bytes, Newlines}
 use Rattle.rl_line.specs.Change.{faced, size_back_over, greatest_back_over, order}
 use Rattle.rl_line.proofs.change.growth_over.Given as goal
 
 abbrev pub invariant-loop-left : goal.invariant-loop-left
 invariant-loop-left l = record {
-  now : l.now ≡ size_back_over l.measure (map (faced l.way) (drop l.left (order l.way l.changes))) l.size;
-  greatest : l.greatest ≡ greatest_back_over l.measure (map (faced l.way) (drop l.left (order l.way l.changes))) l.size;
-  above : l.size ≤ l.greatest;
+  long : l.long ≡ size_back_over Bytes (map (faced l.way) (drop l.left (order l.way l.changes))) l.bytes;
+  longest : l.longest ≡ greatest_back_over Bytes (map (faced l.way) (drop l.left (order l.way l.changes))) l.bytes;
+  longer : l.bytes ≤ l.longest;
+  high : l.high ≡ size_back_over Newlines (map (faced l.way) (drop l.left (order l.way l.changes))) l.newlines;
+  highest : l.highest ≡ greatest_back_over Newlines (map (faced l.way) (drop l.left (order l.way l.changes))) l.newlines;
+  higher : l.newlines ≤ l.highest;
   within : l.left ≤ length l.changes;
 }
 

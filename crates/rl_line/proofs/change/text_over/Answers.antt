@@ -1,5 +1,6 @@
 use Rattle.std.proofs.Common.{arith, ◌≡◌, ◌+◌, ◌-◌, ◌<◌, length, subst, sym, ap, Some, ◌∙◌}
 use Rattle.std.specs.String.{string_bytes}
+use Rattle.std.specs.Str.{IsUtf8}
 use Rattle.std.specs.Prelude.{is_some}
 use Rattle.rl_base.specs.Event.{apply}
 use Rattle.rl_line.specs.Record.{event_of, inverse}
@@ -10,6 +11,9 @@ use Rattle.rl_line.proofs.change.text_over.Goals.{After-fits, After-stands}
 
 inside : (c : After-fits) → c.loop-left.left - 1 < length (order c.args.way c.args.changes.now)
 inside c = omega (arith, c.loop-left.invariant.within, c.loop-left-test.true)
+
+pub fits-requires : goal.fits-requires
+fits-requires c = subst IsUtf8 c.texts.ensures.coming c.texts.ensures.utf8
 
 over : (c : After-fits) → GoesOver c.args.asks c.args.way (order c.args.way c.args.changes.now) ((c.loop-left.left - 1) + 1) c.args.text.now (string_bytes c.loop-left.now)
 over c =

@@ -2,14 +2,15 @@ use Rattle.std.proofs.Common.{◌≡◌, ◌≤◌, ◌+◌, ◌-◌, ◌++◌, 
 use Rattle.std.proofs.lemmas.List.{take_rest, length-drop}
 use Rattle.std.proofs.lemmas.List.Sums.{count_by-le-length}
 use Rattle.rl_base.specs.Lines.{is_newline, line_number}
-use Rattle.rl_line.specs.LineStarts.{behind_newlines}
-use Rattle.rl_line.proofs.LineStartLemmas.{behind-within, behind-can, line_starts-none, line_starts-put, written-behind}
+use Rattle.std.specs.List.{replace_range}
+use Rattle.rl_line.specs.LineStarts.{behind_newlines, line_starts}
+use Rattle.rl_line.proofs.LineStartLemmas.{behind-within, behind-can, length-line_starts, line_starts-stay, line_starts-put, newlines-replaced, written-behind}
 use Rattle.rl_line.proofs.line_starts.swap_starts.Goals as goal
 use Rattle.rl_line.proofs.line_starts.swap_starts.Goals.{After-newlines}
 
 -- the starts before the range, and those that go with it
 first : (c : After-newlines) → c.line_number-first.result ≡ line_number c.args.text.now c.args.from
-first c = c.line_number-first.ensures.value c.args.text.now (c.deref.ensures.value ∙ c.requires.table) c.requires.start.0
+first c = c.line_number-first.ensures.value c.args.text.now (c.deref-2.ensures.value ∙ c.requires.table) c.requires.start.0
 
 gone : (c : After-newlines) → c.newlines.result ≡ count_by is_newline (slice_range c.args.text.now c.args.from c.args.to)
 gone c = c.newlines.ensures ∙ ap (count_by is_newline) c.range.ensures.value
@@ -18,8 +19,8 @@ within : (c : After-newlines) → c.line_number-first.result + c.newlines.result
 within c =
     omega (
       arith,
-      behind-within c.deref.result.now c.args.text.now c.args.from c.args.to _ _ (c.deref.ensures.value ∙ c.requires.table) c.requires.order c.requires.end.0 (first c) (gone c),
-      c.deref.ensures.len,
+      behind-within c.deref-2.result.now c.args.text.now c.args.from c.args.to _ _ (c.deref-2.ensures.value ∙ c.requires.table) c.requires.order c.requires.end.0 (first c) (gone c),
+      c.deref-2.ensures.len,
     )
 
 pub move_behind-requires-clause-within : goal.move_behind-requires-clause-within
@@ -54,9 +55,23 @@ returns-clause-count c =
     let d = (goal.at.returns-clause-count c).After-newlines in
     omega (arith, within d, gone d, c.newlines-come.ensures, c.move_behind.ensures.count)
 
-pub returns-then-len-come-eq0-clause-table : goal.returns-then-len-come-eq0-clause-table
-returns-then-len-come-eq0-clause-table c =
-    line_starts-none c.args.starts.now.items c.args.text.now c.args.part.now c.args.from c.args.to c.requires.table (omega (arith, c.args.starts.now.ok.0)) c.requires.order (omega (arith, c.newlines-come.ensures))
+-- the table is that of the new text too, where the function returns at once
+stays : (c : goal.Then-stays) → c.deref.result.now ≡ line_starts (replace_range c.args.text.now c.args.from c.args.to c.args.part.now)
+stays c =
+    line_starts-stay c.deref.result.now c.args.text.now c.args.part.now c.args.from c.args.to _ (c.deref.ensures.value ∙ c.requires.table) c.requires.order c.requires.end.0 c.newlines-come.ensures (sym c.stays.ensures ∙ c.if-stays.true)
+
+pub returns-then-stays-clause-table : goal.returns-then-stays-clause-table
+returns-then-stays-clause-table c = sym c.deref.ensures.value ∙ stays c
+
+pub returns-then-stays-clause-count : goal.returns-then-stays-clause-count
+returns-then-stays-clause-count c =
+    omega (
+      arith,
+      c.deref.ensures.len,
+      length-line_starts c.deref.result.now c.args.text.now (c.deref.ensures.value ∙ c.requires.table),
+      length-line_starts c.deref.result.now (replace_range c.args.text.now c.args.from c.args.to c.args.part.now) (stays c),
+      newlines-replaced c.args.text.now c.args.part.now c.args.from c.args.to c.requires.order,
+    )
 
 pub overflow_add-behind : goal.overflow_add-behind
 overflow_add-behind c = omega (arith, c.line_number-first.ensures.within, c.newlines.ensures, count_by-le-length is_newline c.range.result.now)

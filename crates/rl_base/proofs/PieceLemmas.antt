@@ -1,5 +1,5 @@
--- No cluster of a text is empty, and each stands before the text's end.
-use Rattle.std.proofs.Common.{◌≡◌, ℕ, ◌+◌, ◌<◌, true, List, [], ◌∷◌, length, arith, length-append}
+-- No cluster of a text is empty, each stands before the text's end, and a text of one byte is one.
+use Rattle.std.proofs.Common.{◌≡◌, ℕ, ◌+◌, ◌<◌, ◌≤◌, true, List, [], ◌∷◌, length, arith, length-append}
 use Rattle.std.proofs.lemmas.List.Elements.{All-nil, All-cons, All-weaker}
 use Rattle.std.specs.List.{All, concat}
 use Rattle.std.specs.Str.{IsUtf8}
@@ -30,3 +30,16 @@ pub places-before_end : (text : List ℕ) → IsUtf8 text → All (λ (x : Place
 places-before_end text u =
     All-weaker (λ (x : PlacedCluster). x.0 < 0 + bytes_in (clusters text)) (λ (x : PlacedCluster). x.0 < length text) (λ x h. omega (arith, bytes_in-clusters text u, h)) _
     (placed-below 0 (clusters text) (segments_nonempty (is_grapheme_break true) text))
+
+-- there are no more pieces than bytes in them, where none is empty
+count-within : (ps : List (List ℕ)) → AllPieces (λ p. 0 < length p) ps → length ps ≤ bytes_in ps
+count-within [] some = omega arith
+count-within (p ∷ ps) some = omega (arith, length-append p (concat ps), some.0, count-within ps some.1)
+
+-- so a text of one byte is one cluster
+pub clusters-lone : (text : List ℕ) → IsUtf8 text → length text ≡ 1 → length (clusters text) ≡ 1
+clusters-lone text u one = from (clusters text) (bytes_in-clusters text u) (count-within (clusters text) (segments_nonempty (is_grapheme_break true) text))
+  where
+    from : (ps : List (List ℕ)) → bytes_in ps ≡ length text → length ps ≤ bytes_in ps → length ps ≡ 1
+    from [] e few = absurd (omega (arith, e, one))
+    from (p ∷ ps) e few = omega (arith, e, one, few)

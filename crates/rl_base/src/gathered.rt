@@ -1,0 +1,126 @@
+//! A text that grows at both ends.
+ghost use Rattle.std.specs.Prelude.{◌≡◌, ◌≤◌, ◌++◌, drop, length, IfErr, IfOk, OnOk};
+ghost use Rattle.std.specs.String.{string_bytes};
+ghost use Rattle.rl_base.specs.declared.listeners.Refusal.TheVariants.{NoMemory};
+ghost use Rattle.rl_base.specs.Gathered.{BeginsBlank};
+
+use crate::listeners::Refusal;
+use std::alloc::Global;
+use std::marker::Model;
+
+/// A text that grows at both ends. A row of parts that are put there takes time of the text that they make, and not of that
+/// for each part.
+#[derive(Drop)]
+pub struct Gathered {
+    buf: String,
+    // So many blanks stand before the text. A part in front takes the place of the last of them, so that the
+    // text need not move.
+    blanks: usize,
+}
+
+impl Model for Gathered {
+    ghost use Rattle.std.specs.Prelude.{drop};
+    ghost use Rattle.std.specs.String.{string_bytes};
+    ghost use Rattle.rl_base.specs.Gathered.{BeginsBlank, Gathering};
+
+    ghost Value = { Gathering };
+
+    ghost view = { λ g. record { blanks = g.blanks; text = drop g.blanks (string_bytes g.buf) } };
+
+    ghost invariant = { λ g. BeginsBlank g.blanks (string_bytes g.buf) };
+}
+
+impl Gathered {
+    /// A text that holds a copy of `text`. It is refused only for want of memory.
+    pub fn of(alloc: Global, text: &str) -> Result<Gathered, Refusal>
+        ensures ok { IfOk result (λ g. g.text ≡ text.now) }
+        ensures err { IfErr result (λ r. r ≡ NoMemory) }
+    {
+        match String::from_str(alloc, text) {
+            Ok(buf) => Ok(Gathered { buf, blanks: 0 }),
+            Err(_) => Err(Refusal::NoMemory),
+        }
+    }
+
+    /// The text's length in bytes.
+    pub fn len(&self) -> usize
+        ensures { result ≡ length self.now.text }
+    {
+        self.buf.len() - self.blanks
+    }
+
+    /// The text.
+    pub fn as_str(&self) -> &str
+        ensures { result.now ≡ self.now.text }
+    {
+        &self.buf.as_str()[self.blanks..]
+    }
+
+    /// Puts a part at the end. Refused, for want of memory, it changes nothing.
+    pub fn push_back(&mut self, part: &str) -> Result<(), Refusal>
+        ensures ok { OnOk result (self.new.text ≡ self.old.text ++ part.now) }
+        ensures err { IfErr result (λ r. (r ≡ NoMemory) × (self.new.text ≡ self.old.text)) }
+    {
+        match self.buf.push_str(part) {
+            Ok(()) => Ok(()),
+            Err(_) => Err(Refusal::NoMemory),
+        }
+    }
+
+    /// Puts a part in front. Refused, for want of memory, it changes nothing.
+    pub fn push_front(&mut self, part: &str) -> Result<(), Refusal>
+        ensures ok { OnOk result (self.new.text ≡ part.now ++ self.old.text) }
+        ensures err { IfErr result (λ r. (r ≡ NoMemory) × (self.new.text ≡ self.old.text)) }
+    {
+        self.blanks = find_blanks(&mut self.buf, self.blanks, part.len())?;
+        let from = self.blanks - part.len();
+        match self.buf.replace_range(from..self.blanks, part) {
+            Ok(()) => {
+                self.blanks = from;
+                Ok(())
+            }
+            Err(_) => Err(Refusal::NoMemory),
+        }
+    }
+
+    /// Packs the text, so that it can be lent: takes away what stands before it. It takes no memory.
+    pub fn pack(&mut self)
+        ensures text { self.new.text ≡ self.old.text }
+        ensures blanks { self.new.blanks ≡ 0 }
+    {
+        match self.buf.replace_range(..self.blanks, "") {
+            Ok(()) => self.blanks = 0,
+            Err(_) => unreachable!(),
+        }
+    }
+
+    /// Lends the text, once it is packed.
+    pub fn as_string(&self) -> &String
+        requires { self.now.blanks ≡ 0 }
+        ensures { string_bytes result.now ≡ self.now.text }
+    {
+        &self.buf
+    }
+}
+
+// Finds blanks for so many bytes before a text, and answers how many stand there then. Where there are too few, as
+// many come as there are bytes to move, so that the next move comes only after as many bytes in front.
+fn find_blanks(buf: &mut String, blanks: usize, bytes: usize) -> Result<usize, Refusal>
+    requires { BeginsBlank blanks (string_bytes buf.old) }
+    ensures blanks { IfOk result (λ n. BeginsBlank n (string_bytes buf.new)) }
+    ensures room { IfOk result (λ n. bytes ≤ n) }
+    ensures text { IfOk result (λ n. drop n (string_bytes buf.new) ≡ drop blanks (string_bytes buf.old)) }
+    ensures err { IfErr result (λ r. (r ≡ NoMemory) × (string_bytes buf.new ≡ string_bytes buf.old)) }
+{
+    if bytes <= blanks {
+        return Ok(blanks);
+    }
+    let more = bytes.max(buf.len());
+    let Ok(row) = " ".repeat(*buf.allocator(), more) else {
+        return Err(Refusal::NoMemory);
+    };
+    match buf.insert_str(0, row.as_str()) {
+        Ok(()) => Ok(blanks + more),
+        Err(_) => Err(Refusal::NoMemory),
+    }
+}
