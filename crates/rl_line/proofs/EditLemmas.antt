@@ -1,6 +1,6 @@
 -- The plans of the edits, by their cases. The lemmas name each number of the code by a variable and an
 -- equation, so that they fit what the code computed.
-use Rattle.std.proofs.Common.{◌≡◌, ℕ, ◌+◌, ◌-◌, ◌*◌, ◌<◌, Bool, true, false, List, zero, suc, length, length-append, take, slice_range, Some, None, refl, arith, lt-ltb}
+use Rattle.std.proofs.Common.{◌≡◌, ◌≢◌, ◌⊎◌, inl, inr, ℕ, ◌+◌, ◌-◌, ◌*◌, ◌<◌, Bool, true, false, List, zero, suc, length, length-append, take, slice_range, Some, None, refl, arith, lt-ltb}
 use Rattle.std.specs.List.{repeat, remove_range}
 use Rattle.std.specs.Prelude.{encode_utf8, ◌==◌, ◌||◌}
 use Rattle.rl_base.specs.Event.{InsertStr, Delete}
@@ -40,3 +40,13 @@ yank_pop_plan-is line mid z p from s at to e = rw (e, to, at) refl
 pub length-repeat : (n : ℕ) (s : List ℕ) → length (repeat n s) ≡ length s * n
 length-repeat zero s = omega arith
 length-repeat (suc n) s = omega (arith, length-append s (repeat n s), length-repeat n s)
+
+-- a text that needs room in another's place is longer, or has more newlines
+pub longer_or_more : (more a b c d : ℕ) → more ≡ a - b → 0 < more + (c - d) → (b < a) ⊎ (d < c)
+longer_or_more zero a b c d e h = inr (omega (arith, e, h))
+longer_or_more (suc n) a b c d e h = inl (omega (arith, e))
+
+-- some copies of a text that is not empty
+pub some_copies : (n : ℕ) (s : List ℕ) → 0 < length s → n ≢ 0 → 0 < length (repeat n s)
+some_copies zero s h some = absurd (some refl)
+some_copies (suc n) s h some = omega (arith, length-append s (repeat n s), h)

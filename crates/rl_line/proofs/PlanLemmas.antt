@@ -1,5 +1,5 @@
 -- How the steps of a plan are put together.
-use Rattle.std.proofs.Common.{◌≡◌, ℕ, List, [], ◌∷◌, ◌++◌, Some, refl, sym, ap, subst, append_assoc, ◌∙◌, Bool, true, false, inr}
+use Rattle.std.proofs.Common.{◌≡◌, ℕ, List, [], ◌∷◌, ◌++◌, Some, refl, sym, ap, subst, append_assoc, ◌∙◌}
 use Rattle.std.specs.Prelude.{option_and_then}
 use Rattle.rl_base.specs.Event.{Event, apply, replay}
 use Rattle.rl_base.specs.declared.listeners.Refusal.{Refusal}
@@ -7,7 +7,7 @@ use Rattle.std.specs.Str.{IsCharBoundary}
 use Rattle.rl_base.specs.Text.{is_boundary}
 use Rattle.rl_base.proofs.TextLemmas.{is_boundary-true, is_boundary-means}
 use Rattle.rl_line.specs.Line.{Line, stepped, if_standing, after_step}
-use Rattle.rl_line.specs.Plan.{Step, Plan, nothing, single, followed_by, after, events_of, heard, heard_step, or_no_memory, or_no_memory_if, Taken, Completed, Done, Halted}
+use Rattle.rl_line.specs.Plan.{Step, Plan, nothing, single, followed_by, after, events_of, heard, heard_step, Taken, Completed, Done, Halted}
 use Rattle.rl_line.proofs.RecordLemmas.{if_some, through}
 
 -- a line that stands is what the test lets through
@@ -226,9 +226,3 @@ module _ {L : Type 0} (step : L → Event → L) where
     taken = h.taken;
     cause = cause;
   }
-
-  -- a plan that its listener alone may have halted
-  pub Halted-or_no_memory : {A : Type 0} (takes : Bool) (refused : L → Event → Refusal → L → Type 0) (plan : Plan A) (old new : Line) (b n : L) (r : Refusal)
-      → Halted step (or_no_memory_if takes refused) plan old new b n r → Halted step (or_no_memory refused) plan old new b n r
-  Halted-or_no_memory true refused plan old new b n r h = h
-  Halted-or_no_memory false refused plan old new b n r h = Halted-caused refused (or_no_memory refused) plan old new b n r r h (inr h.cause)

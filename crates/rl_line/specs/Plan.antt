@@ -1,6 +1,7 @@
 -- What an edit does: its steps, each one event and the cursor after it, the cursor at the end, and its answer.
-use Rattle.std.specs.Prelude.{◌≡◌, ℕ, Bool, true, false, map, List, [], ◌∷◌, ◌++◌, Option, Some, option_and_then, ◌⊎◌}
-use Rattle.rl_base.specs.Event.{Event, Cursors}
+use Rattle.std.specs.Prelude.{◌≡◌, ℕ, ◌<◌, map, List, [], ◌∷◌, ◌++◌, length, count_by, encode_utf8, ◌+◌, Option, Some, option_and_then, ◌⊎◌}
+use Rattle.rl_base.specs.Event.{Event, InsertChar, InsertStr, Delete, Replace, Cursors}
+use Rattle.rl_base.specs.Lines.{is_newline}
 use Rattle.rl_base.specs.declared.listeners.Refusal.{Refusal}
 use Rattle.rl_base.specs.declared.listeners.Refusal.TheVariants.{NoMemory}
 use Rattle.rl_line.specs.Line.{Line, after_step}
@@ -43,14 +44,33 @@ abbrev pub after : List Step → Line → Option Line
 after [] line = Some line
 after (s ∷ ss) line = option_and_then (after ss) (after_step s.0 s.1 line)
 
--- the refusals of a listener, and want of memory, of which the listener hears nothing
-abbrev pub or_no_memory : {L : Type 0} → (L → Event → Refusal → L → Type 0) → L → Event → Refusal → L → Type 0
-or_no_memory refused before event r now = ((r ≡ NoMemory) × (now ≡ before)) ⊎ refused before event r now
+-- an event for which the text or its table needs room: it puts something in, or makes the text longer, or its newlines more
+abbrev pub Grows : Event → Type 0
+Grows (InsertChar i c) = Unit {0}
+Grows (InsertStr i s) = 0 < length s
+Grows (Replace i s t) = (length s < length t) ⊎ (count_by is_newline s < count_by is_newline t)
+Grows _ = ⊥
 
--- the same where a step takes memory of its own, and else the refusals of its listener alone
-abbrev pub or_no_memory_if : {L : Type 0} → Bool → (L → Event → Refusal → L → Type 0) → L → Event → Refusal → L → Type 0
-or_no_memory_if true refused = or_no_memory refused
-or_no_memory_if false refused = refused
+-- the refusals of a listener, and want of memory where the event grows, of which the listener hears nothing
+abbrev pub or_no_memory : {L : Type 0} → (L → Event → Refusal → L → Type 0) → L → Event → Refusal → L → Type 0
+or_no_memory refused before event r now = ((r ≡ NoMemory) × (now ≡ before) × Grows event) ⊎ refused before event r now
+
+-- how many bytes an event tells
+abbrev pub bytes_told : Event → ℕ
+bytes_told (InsertChar i c) = length (encode_utf8 c)
+bytes_told (InsertStr i s) = length s
+bytes_told (Delete i s side) = length s
+bytes_told (Replace i s t) = length s + length t
+bytes_told _ = 0
+
+-- how many bytes the steps tell
+abbrev pub bytes_of : List Step → ℕ
+bytes_of [] = 0
+bytes_of (s ∷ ss) = bytes_told s.0 + bytes_of ss
+
+-- the plan was not begun for want of memory: what its steps move is copied first, and that is not empty
+abbrev pub Uncopied : {L A : Type 0} → Plan A → Line → Line → L → L → Refusal → Type 0
+Uncopied plan old new before now r = (r ≡ NoMemory) × (new ≡ old) × (now ≡ before) × (0 < bytes_of plan.steps)
 
 module _ {L : Type 0} (step : L → Event → L) where
   -- the listener after a step, from the cursor before it: it hears of the event, and then of where the cursor was and where it goes

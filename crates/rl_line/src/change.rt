@@ -1,5 +1,5 @@
 //! An entry of a record, and how a text goes over it.
-ghost use Rattle.std.specs.Prelude.{◌≡◌, ℕ, List, None, Some, true, OnOk, IfOk, IfErr, ◌+◌, ◌-◌, ◌<◌, ◌≤◌, IsSome, IfSome, get_or, is_some, length, map, vec_len, vec_capacity};
+ghost use Rattle.std.specs.Prelude.{◌≡◌, ℕ, List, None, Some, true, OnErr, OnOk, IfOk, IfErr, ◌+◌, ◌-◌, ◌<◌, ◌≤◌, IsSome, IfSome, get_or, is_some, length, map, vec_len, vec_capacity};
 ghost use Rattle.std.specs.Option.{option_map};
 ghost use Rattle.std.specs.String.{string_bytes, string_len, string_capacity};
 ghost use Rattle.std.specs.Str.{IsCharBoundary, IsUtf8};
@@ -393,7 +393,11 @@ pub(crate) fn text_over(
 pub(crate) fn copied(alloc: Global, text: &str) -> Result<String, Refusal>
     ensures ok { IfOk result (λ copy. string_bytes copy ≡ text.now) }
     ensures err { IfErr result (λ r. r ≡ NoMemory) }
+    ensures some { OnErr result (0 < length text.now) }
 {
+    if text.is_empty() {
+        return Ok(String::new(alloc));
+    }
     match String::from_str(alloc, text) {
         Ok(copy) => Ok(copy),
         Err(_) => Err(Refusal::NoMemory),

@@ -13,7 +13,7 @@ use Rattle.rl_line.specs.Indents.{indent_plan, line_plan, lines_plan, parts, pus
 use Rattle.rl_line.specs.Kills.{Told, kill_plan, removal, side_of}
 use Rattle.rl_line.specs.LetterCase.{edit_word_plan, put_for, word_ahead}
 use Rattle.rl_line.specs.Line.{Line, stepped}
-use Rattle.rl_line.specs.Plan.{Step, Plan, heard, Done, Halted, or_no_memory_if}
+use Rattle.rl_line.specs.Plan.{Step, Plan, heard, Done, Halted, or_no_memory}
 use Rattle.rl_line.specs.Ranges.{killed}
 use Rattle.rl_line.specs.Transpositions.{are_two, first_word, pulled_back, second_word, transpose_chars_plan, transpose_words_plan}
 use Rattle.rl_session.specs.Pair.{pair_step, pair_refused}
@@ -63,15 +63,14 @@ idle-refused p q e w n h c = elim c.2 [
   | inr step ↦ ap (λ (r : Ring). r.killing) step.0 ∙ idle-step e p.ring n h
 ]
 
-idle-cause : (takes : Bool) (p q : Pair) (e : Event) (w : Refusal) → IsNoStart e → p.ring.killing ≡ false → or_no_memory_if takes pair_refused p e w q → q.ring.killing ≡ false
-idle-cause true p q e w n h c = elim c [ inl same ↦ ap (λ (k : Pair). k.ring.killing) same.1 ∙ h | inr d ↦ idle-refused p q e w n h d ]
-idle-cause false p q e w n h c = idle-refused p q e w n h c
+idle-cause : (p q : Pair) (e : Event) (w : Refusal) → IsNoStart e → p.ring.killing ≡ false → or_no_memory pair_refused p e w q → q.ring.killing ≡ false
+idle-cause p q e w n h c = elim c [ inl same ↦ ap (λ (k : Pair). k.ring.killing) same.1 ∙ h | inr d ↦ idle-refused p q e w n h d ]
 
-pub idle-Halted : {A : Type 0} (takes : Bool) (plan : Plan A) (old new : Line) (p q : Pair) (w : Refusal) → NoneStarts plan.steps
-    → Halted pair_step (or_no_memory_if takes pair_refused) plan old new p q w → p.ring.killing ≡ false → q.ring.killing ≡ false
-idle-Halted takes plan old new p q w n d h =
+pub idle-Halted : {A : Type 0} (plan : Plan A) (old new : Line) (p q : Pair) (w : Refusal) → NoneStarts plan.steps
+    → Halted pair_step (or_no_memory pair_refused) plan old new p q w → p.ring.killing ≡ false → q.ring.killing ≡ false
+idle-Halted plan old new p q w n d h =
     let parts = NoneStarts-first d.first d.next d.others (subst NoneStarts d.split n) in
-    idle-cause takes d.middle q d.next.0 w parts.1 (idle-taken old.cursor d.first p d.middle d.taken.listener parts.0 h) d.cause
+    idle-cause d.middle q d.next.0 w parts.1 (idle-taken old.cursor d.first p d.middle d.taken.listener parts.0 h) d.cause
 
 -- the end of a kill was told, whatever was heard in it
 pub idle-Told : (b : Bool) (P : Pair → Pair → Type 0) (p q : Pair) → (P p q → q.ring.killing ≡ false) → Told pair_step b P p q → q.ring.killing ≡ false

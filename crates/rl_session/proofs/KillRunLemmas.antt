@@ -24,7 +24,7 @@ use Rattle.rl_base.proofs.KillGroupLemmas.{lent-size, ring_step-size}
 use Rattle.rl_base.proofs.RingLemmas.{next_index-is}
 use Rattle.rl_base.proofs.SwapLemmas.{Swaps, Swaps-back, Swaps-Delete, Swaps-behind, Swaps-before, apply-InsertStr-Swaps}
 use Rattle.rl_line.specs.Line.{Line, stepped}
-use Rattle.rl_line.specs.Plan.{Step as PlanStep, Plan, nothing, single, heard as heard_steps, heard_step, Taken, Done, Halted, or_no_memory_if}
+use Rattle.rl_line.specs.Plan.{Step as PlanStep, Plan, nothing, single, heard as heard_steps, heard_step, Taken, Done, Halted, or_no_memory}
 use Rattle.rl_line.specs.Edits.{too_long, yank_plan}
 use Rattle.rl_line.specs.Kills.{Between, Told, removal, kill_plan, side_of, is_by_characters}
 use Rattle.rl_line.specs.Ranges.{killed as killed_range, text_in}
@@ -32,7 +32,7 @@ use Rattle.rl_line.proofs.EditLemmas.{yank_plan-nothing, yank_plan-some}
 use Rattle.rl_line.proofs.SideLemmas.{LiesOn, BeginningOfLine-side, EndOfLine-side, BackwardWord-side, ForwardWord-side, ViCharSearch-side, BeginningOfBuffer-side, EndOfBuffer-side}
 use Rattle.rl_session.specs.Pair.{pair_step, pair_refused}
 use Rattle.rl_session.specs.State.{State, Stands, with_ring, fresh}
-use Rattle.rl_session.specs.Commands.{Asked, edit, other, asked, Telling, answers, inserts, hands_out, is_done, Tells, CutShort, Does, DoesAsked, Edited, Edits, Others, Step, is_vain_yank, lent as lent_state, lent_plan, readied}
+use Rattle.rl_session.specs.Commands.{Unbegun, Asked, edit, other, asked, Telling, answers, inserts, hands_out, is_done, Tells, CutShort, Does, DoesAsked, Edited, Edits, Others, Step, is_vain_yank, lent as lent_state, lent_plan, readied}
 use Rattle.rl_session.specs.KillRuns.{IsDirected, AllDirected, IsNoKill, AnyTook, NoneRefused, GivenBack}
 use Rattle.rl_session.specs.Run.{Row, Leads, Run, before_last, commands_of, replies_of}
 use Rattle.rl_session.specs.declared.pair.Pair.{Pair}
@@ -126,12 +126,11 @@ module _ {A : Type 0} (plan : Plan A) (old new : Line) (p q : Pair) where
 refused-size : (p q : Pair) (e : Event) (w : Refusal) → pair_refused p e w q → q.ring.size ≡ p.ring.size
 refused-size p q e w h = elim (h.2) [ inl same ↦ ap (λ (r : Ring). r.size) same.0 | inr step ↦ ap (λ (r : Ring). r.size) step.0 ∙ ring_step-size p.ring e ]
 
-cause-size : (takes : Bool) (p q : Pair) (e : Event) (w : Refusal) → or_no_memory_if takes pair_refused p e w q → q.ring.size ≡ p.ring.size
-cause-size true p q e w h = elim h [ inl c ↦ ap (λ (k : Pair). k.ring.size) c.1 | inr c ↦ refused-size p q e w c ]
-cause-size false p q e w h = refused-size p q e w h
+cause-size : (p q : Pair) (e : Event) (w : Refusal) → or_no_memory pair_refused p e w q → q.ring.size ≡ p.ring.size
+cause-size p q e w h = elim h [ inl c ↦ ap (λ (k : Pair). k.ring.size) c.1 | inr c ↦ refused-size p q e w c ]
 
-Halted-size : {A : Type 0} (takes : Bool) (plan : Plan A) (old new : Line) (p q : Pair) (w : Refusal) → Halted pair_step (or_no_memory_if takes pair_refused) plan old new p q w → q.ring.size ≡ p.ring.size
-Halted-size takes plan old new p q w h = cause-size takes h.middle q h.next.0 w h.cause ∙ Taken-size plan old new p h.middle h.first new h.taken
+Halted-size : {A : Type 0} (plan : Plan A) (old new : Line) (p q : Pair) (w : Refusal) → Halted pair_step (or_no_memory pair_refused) plan old new p q w → q.ring.size ≡ p.ring.size
+Halted-size plan old new p q w h = cause-size h.middle q h.next.0 w h.cause ∙ Taken-size plan old new p h.middle h.first new h.taken
 
 Told-size : (b : Bool) (P : Pair → Pair → Type 0) (p q : Pair) → ((before now : Pair) → P before now → now.ring.size ≡ before.ring.size) → Told pair_step b P p q → q.ring.size ≡ p.ring.size
 Told-size true P p q keeps t = keeps p q t
@@ -140,12 +139,17 @@ Told-size false P p q keeps t = ap (λ (k : Pair). k.ring.size) t.ended ∙ keep
 same-size : (old new : State) → new ≡ old → new.pair.ring.size ≡ old.pair.ring.size
 same-size old new e = ap (λ (s : State). s.pair.ring.size) e
 
-cut-size : {A : Type 0} (takes : Bool) (plan : Plan A) (old new : State) → CutShort takes plan old new → new.pair.ring.size ≡ old.pair.ring.size
-cut-size takes plan old new c = Halted-size takes plan old.line new.line old.pair new.pair _ c.halted
+cut-size : {A : Type 0} (plan : Plan A) (old new : State) → CutShort plan old new → new.pair.ring.size ≡ old.pair.ring.size
+cut-size plan old new c = Halted-size plan old.line new.line old.pair new.pair _ c.halted
+
+stopped-size : {A : Type 0} (copies : Bool) (plan : Plan A) (old new : State) → Unbegun copies plan old new ⊎ CutShort plan old new → new.pair.ring.size ≡ old.pair.ring.size
+stopped-size true plan old new (inl e) = same-size old new e.0
+stopped-size false plan old new (inl e) = absurd e
+stopped-size _ plan old new (inr c) = cut-size plan old new c
 
 -- an edit of a text that the ring may have lent
-borrowed-size : {A : Type 0} (plan : Plan A) (lent new : State) → (new ≡ lent) ⊎ CutShort true plan lent new → new.pair.ring.size ≡ lent.pair.ring.size
-borrowed-size plan lent new h = elim h [ inl e ↦ same-size lent new e | inr c ↦ cut-size true plan lent new c ]
+borrowed-size : {A : Type 0} (plan : Plan A) (lent new : State) → (new ≡ lent) ⊎ CutShort plan lent new → new.pair.ring.size ≡ lent.pair.ring.size
+borrowed-size plan lent new h = elim h [ inl e ↦ same-size lent new e | inr c ↦ cut-size plan lent new c ]
 
 -- an edit that was told, and any edit
 told-size : {A : Type 0} (telling : Telling A) (plan : Plan A) (old new : State) (reply : Reply) → Tells telling (λ a. Edited plan old new a) reply
@@ -156,11 +160,11 @@ told-size hands_out plan old new (says.Text x) t = Done-size plan old.line new.l
 told-size is_done plan old new says.Done t = Done-size plan old.line new.line old.pair new.pair tt t.done
 told-size _ plan old new _ t = absurd t
 
-Edits-size : {A : Type 0} (takes : Bool) (condition : Type 0) (plan : Plan A) (telling : Telling A) (old : State) (reply : Reply) (new : State)
-    → Edits takes condition plan telling old reply new → new.pair.ring.size ≡ old.pair.ring.size
-Edits-size takes condition plan telling old (says.Refused BadPlace) new d = same-size old new d.1
-Edits-size takes condition plan telling old (says.Refused NoMemory) new d = cut-size takes plan old new d.1
-Edits-size takes condition plan telling old reply new d = told-size telling plan old new reply d.1
+Edits-size : {A : Type 0} (copies : Bool) (condition : Type 0) (plan : Plan A) (telling : Telling A) (old : State) (reply : Reply) (new : State)
+    → Edits copies condition plan telling old reply new → new.pair.ring.size ≡ old.pair.ring.size
+Edits-size copies condition plan telling old (says.Refused BadPlace) new d = same-size old new d.1
+Edits-size copies condition plan telling old (says.Refused NoMemory) new d = stopped-size copies plan old new d.1
+Edits-size copies condition plan telling old reply new d = told-size telling plan old new reply d.1
 
 Others-size : (old : State) (command : Command) (reply : Reply) (new : State) → Others old command reply new → new.pair.ring.size ≡ old.pair.ring.size
 Others-size old (SetPos q) says.Done new s = ap (λ (n : State). n.pair.ring.size) s.1
@@ -169,18 +173,18 @@ Others-size old (Move m) (says.Answer a) new s = ap (λ (n : State). n.pair.ring
 Others-size old (Copy m) (says.Text t) new s = same-size old new s.1
 Others-size old (Copy m) (says.Refused NoMemory) new s = same-size old new s.1
 Others-size old (EditWord action) (says.Answer a) new s = Done-size _ old.line new.line old.pair new.pair a s.holds.done
-Others-size old (EditWord action) (says.Refused NoMemory) new s = cut-size true _ old new s.holds
+Others-size old (EditWord action) (says.Refused NoMemory) new s = stopped-size true _ old new s.holds
 Others-size old (Kill m) (says.Answer a) new s =
     Told-size (is_by_characters m) _ old.pair new.pair (λ before now d. Done-size (kill_plan old.line m) old.line new.line before now a d) s.told
 Others-size old (Kill m) (says.Refused NoMemory) new s =
-    Told-size (is_by_characters m) _ old.pair new.pair (λ before now h. Halted-size false (kill_plan old.line m) old.line new.line before now _ h) s.told
+    Told-size (is_by_characters m) _ old.pair new.pair (λ before now h. Halted-size (kill_plan old.line m) old.line new.line before now _ h) s.told
 Others-size old (Yank n) (says.Inserted a) new s =
     Done-size _ old.line new.line _ new.pair a s.done ∙ lent-size (yank old.pair.ring) old.pair.ring
 Others-size old (Yank n) (says.Refused NoMemory) new s = borrowed-size _ _ new s.1 ∙ lent-size (yank old.pair.ring) old.pair.ring
 Others-size old YankPop (says.Inserted a) new s =
     Done-size _ old.line new.line _ new.pair a s.1.done ∙ popped-size (yank_size old.pair.ring) old.pair.ring
 Others-size old YankPop (says.Refused BadYankSize) new s = same-size old new s.1
-Others-size old YankPop (says.Refused NoMemory) new s = cut-size true _ _ new s.1 ∙ popped-size (yank_size old.pair.ring) old.pair.ring
+Others-size old YankPop (says.Refused NoMemory) new s = borrowed-size _ _ new s.2 ∙ popped-size (yank_size old.pair.ring) old.pair.ring
 Others-size old Begin (says.Mark n) new s = ap (λ (n : State). n.pair.ring.size) s.1
 Others-size old Begin (says.Refused NoMemory) new s = same-size old new s
 Others-size old End (says.Answer a) new s = ap (λ (n : State). n.pair.ring.size) s.1
@@ -196,7 +200,7 @@ Others-size old LinePlace (says.At k columns) new s = same-size old new s.1
 Others-size _ _ _ _ s = absurd s
 
 Asked-size : (asks : Asked) (old : State) (command : Command) (reply : Reply) (new : State) → DoesAsked asks old command reply new → new.pair.ring.size ≡ old.pair.ring.size
-Asked-size (edit takes condition plan telling) old command reply new d = Edits-size takes condition plan telling old reply new d
+Asked-size (edit copies condition plan telling) old command reply new d = Edits-size copies condition plan telling old reply new d
 Asked-size other old command reply new d = Others-size old command reply new d
 
 Does-size : (old : State) (command : Command) (reply : Reply) (new : State) → Does old command reply new → new.pair.ring.size ≡ old.pair.ring.size

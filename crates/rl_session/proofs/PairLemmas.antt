@@ -1,11 +1,11 @@
 -- What a pair of a ring and a record hears, as each of the two hears it.
-use Rattle.std.proofs.Common.{◌≡◌, ℕ, ◌∷◌, [], Bool, true, false, List, refl, ap, inl, inr, ◌∙◌}
+use Rattle.std.proofs.Common.{◌⊎◌, ◌≡◌, ℕ, ◌∷◌, [], Bool, true, false, List, refl, ap, inl, inr, ◌∙◌}
 use Rattle.rl_base.specs.Event.{Event}
 use Rattle.rl_base.specs.KillRing.{ring_step}
 use Rattle.rl_base.specs.declared.listeners.Refusal.{Refusal}
 use Rattle.rl_base.specs.declared.listeners.Refusal.TheVariants as why
 use Rattle.rl_line.specs.Line.{Line}
-use Rattle.rl_line.specs.Plan.{Step, Plan, heard, heard_step, Taken, Done, Halted, or_no_memory_if}
+use Rattle.rl_line.specs.Plan.{Step, Plan, heard, heard_step, Taken, Done, Halted, or_no_memory, Uncopied}
 use Rattle.rl_line.specs.Kills.{Told}
 use Rattle.rl_line.specs.Record.{Record, record_step}
 use Rattle.rl_line.proofs.PlanLemmas.{Halted-caused}
@@ -32,36 +32,39 @@ abbrev pub keeps_changes : Record → Event → Refusal → Record → Type 0
 keeps_changes r _ _ now = now ≡ r
 
 -- whatever refused, a pair or the line for want of memory, the record is as it was
-pub cause-changes : (takes : Bool) (p q : Pair) (e : Event) (w : Refusal) → or_no_memory_if takes pair_refused p e w q → q.changes ≡ p.changes
-cause-changes true p q e w h = elim h [ inl c ↦ ap (λ (k : Pair). k.changes) c.1 | inr c ↦ c.1 ]
-cause-changes false p q e w h = h.1
+pub cause-changes : (p q : Pair) (e : Event) (w : Refusal) → or_no_memory pair_refused p e w q → q.changes ≡ p.changes
+cause-changes p q e w h = elim h [ inl c ↦ ap (λ (k : Pair). k.changes) c.1 | inr c ↦ c.1 ]
 
 -- and it was for want of memory
-cause-memory : (takes : Bool) (p q : Pair) (e : Event) (w : Refusal) → or_no_memory_if takes pair_refused p e w q → or_no_memory_if takes pair_refused p e why.NoMemory q
-cause-memory true p q e w h = elim h [ inl c ↦ inl (refl, c.1) | inr c ↦ inr (refl, c.1, c.2) ]
-cause-memory false p q e w h = (refl, h.1, h.2)
+cause-memory : (p q : Pair) (e : Event) (w : Refusal) → or_no_memory pair_refused p e w q → or_no_memory pair_refused p e why.NoMemory q
+cause-memory p q e w h = elim h [ inl c ↦ inl (refl, c.1, c.2) | inr c ↦ inr (refl, c.1, c.2) ]
 
-pub Halted-changes : {A : Type 0} (takes : Bool) (plan : Plan A) (old new : Line) (p q : Pair) (w : Refusal) → Halted pair_step (or_no_memory_if takes pair_refused) plan old new p q w
+pub Halted-changes : {A : Type 0} (plan : Plan A) (old new : Line) (p q : Pair) (w : Refusal) → Halted pair_step (or_no_memory pair_refused) plan old new p q w
     → Halted record_step keeps_changes plan old new p.changes q.changes w
-Halted-changes takes plan old new p q w h = record {
+Halted-changes plan old new p q w h = record {
   first = h.first;
   next = h.next;
   others = h.others;
   split = h.split;
   middle = h.middle.changes;
   taken = Taken-changes h.first old new p h.middle h.taken;
-  cause = cause-changes takes h.middle q h.next.0 w h.cause;
+  cause = cause-changes h.middle q h.next.0 w h.cause;
 }
 
-pub Halted-pair : {A : Type 0} (takes : Bool) (plan : Plan A) (old new : Line) (p q : Pair) (w : Refusal) → Halted pair_step (or_no_memory_if takes pair_refused) plan old new p q w
-    → Halted pair_step (or_no_memory_if takes pair_refused) plan old new p q why.NoMemory
-Halted-pair takes plan old new p q w h =
-    Halted-caused pair_step (or_no_memory_if takes pair_refused) (or_no_memory_if takes pair_refused) plan old new p q w why.NoMemory h
-    (cause-memory takes h.middle q h.next.0 w h.cause)
+pub Halted-pair : {A : Type 0} (plan : Plan A) (old new : Line) (p q : Pair) (w : Refusal) → Halted pair_step (or_no_memory pair_refused) plan old new p q w
+    → Halted pair_step (or_no_memory pair_refused) plan old new p q why.NoMemory
+Halted-pair plan old new p q w h =
+    Halted-caused pair_step (or_no_memory pair_refused) (or_no_memory pair_refused) plan old new p q w why.NoMemory h
+    (cause-memory h.middle q h.next.0 w h.cause)
 
 -- a kill that the pair refused, whatever refusal was handed on
 pub Told-pair : {A : Type 0} (b : Bool) (plan : Plan A) (old new : Line) (p q : Pair) (w : Refusal)
-    → Told pair_step b (λ before now. Halted pair_step pair_refused plan old new before now w) p q
-    → Told pair_step b (λ before now. Halted pair_step pair_refused plan old new before now why.NoMemory) p q
-Told-pair true plan old new p q w t = Halted-pair false plan old new p q w t
-Told-pair false plan old new p q w t = record { last = t.last; inside = Halted-pair false plan old new _ t.last w t.inside; ended = t.ended }
+    → Told pair_step b (λ before now. Halted pair_step (or_no_memory pair_refused) plan old new before now w) p q
+    → Told pair_step b (λ before now. Halted pair_step (or_no_memory pair_refused) plan old new before now why.NoMemory) p q
+Told-pair true plan old new p q w t = Halted-pair plan old new p q w t
+Told-pair false plan old new p q w t = record { last = t.last; inside = Halted-pair plan old new _ t.last w t.inside; ended = t.ended }
+
+-- an edit was halted, or, where it copies what it moves, not begun
+abbrev pub Stopped : {A : Type 0} → Bool → Plan A → Line → Line → Pair → Pair → Refusal → Type 0
+Stopped true plan old new p q w = Halted pair_step (or_no_memory pair_refused) plan old new p q w ⊎ Uncopied plan old new p q w
+Stopped false plan old new p q w = Halted pair_step (or_no_memory pair_refused) plan old new p q w

@@ -1,5 +1,5 @@
 -- What holds whatever a call answered.
-use Rattle.std.proofs.Common.{List, [], Result, Ok, Err, ◌≡◌, ◌∙◌, ap, refl, subst, sym, append-nil, inl}
+use Rattle.std.proofs.Common.{Bool, false, true, inr, List, [], Result, Ok, Err, ◌≡◌, ◌∙◌, ap, refl, subst, sym, append-nil, inl}
 use Rattle.std.proofs.lemmas.Str.{IsCharBoundary-start, IsUtf8-nil}
 use Rattle.std.specs.Prelude.{ℕ, ◌<◌, Bool, true, Option, None, false, max, length, IsSome, Some, IfOk, IfErr}
 use Rattle.std.specs.Str.{IsUtf8}
@@ -11,8 +11,8 @@ use Rattle.rl_base.specs.declared.motion.Movement.{Movement}
 use Rattle.rl_base.specs.declared.motion.WordAction.{WordAction}
 use Rattle.rl_line.specs.Line.{Line, stepped}
 use Rattle.rl_line.specs.Motions.{Moved}
-use Rattle.rl_line.specs.Plan.{Plan, nothing, Done, Halted, or_no_memory, or_no_memory_if}
-use Rattle.rl_line.specs.Edits.{insert_str_plan, yank_pop_plan}
+use Rattle.rl_line.specs.Plan.{Plan, nothing, Done, Halted, or_no_memory}
+use Rattle.rl_line.specs.Edits.{insert_str_plan}
 use Rattle.rl_line.specs.Kills.{Told, is_by_characters, kill_plan}
 use Rattle.rl_line.specs.LetterCase.{edit_word_plan, Recased}
 use Rattle.rl_line.specs.Record.{Record, unwind}
@@ -21,12 +21,12 @@ use Rattle.rl_line.specs.Undo.{Redone, Undone}
 use Rattle.rl_line.specs.Units.{adds_end, begun, ended, level}
 use Rattle.rl_line.proofs.OriginLemmas.{Kept, Kept-Done, Kept-Halted}
 use Rattle.rl_session.specs.State.{State, AtRest, Follows}
-use Rattle.rl_line.proofs.PlanLemmas.{Halted-at_first, first_step}
-use Rattle.rl_session.specs.Commands.{CutShort, Edited, lent, lent_plan, popped, popped_plan}
+use Rattle.rl_line.proofs.PlanLemmas.{first_step}
+use Rattle.rl_session.specs.Commands.{Edited, lent, lent_plan, popped, popped_plan}
 use Rattle.rl_session.specs.Pair.{pair_step, pair_refused}
 use Rattle.rl_session.specs.declared.pair.Pair.{Pair}
 use Rattle.rl_session.proofs.IdleLemmas.{NoneStarts, NoneStarts-edit_word, NoneStarts-kill, idle-Done, idle-Halted, idle-Told}
-use Rattle.rl_session.proofs.PairLemmas.{Done-changes, Halted-changes, keeps_changes}
+use Rattle.rl_session.proofs.PairLemmas.{Stopped, Done-changes, Halted-changes, keeps_changes}
 use Rattle.std.specs.Str.{IsCharBoundary}
 use Rattle.rl_line.specs.Walk.{Walks}
 use Rattle.rl_line.specs.Undo.{line_back}
@@ -69,17 +69,17 @@ keeps m e w k h = h
 pub Kept-pair : {A : Type 0} (plan : Plan A) (p q : Pair) (old new : Line) (a : A) → IsUtf8 old.text → Done pair_step plan old new p q a → Kept p.changes q.changes old new
 Kept-pair plan p q old new a u d = Kept-Done plan p.changes q.changes old new a u (Done-changes plan old new p q a d)
 
-pub Kept-refused : {A : Type 0} (takes : Bool) (plan : Plan A) (p q : Pair) (old new : Line) (w : Refusal) → IsUtf8 old.text → Halted pair_step (or_no_memory_if takes pair_refused) plan old new p q w
+pub Kept-refused : {A : Type 0} (plan : Plan A) (p q : Pair) (old new : Line) (w : Refusal) → IsUtf8 old.text → Halted pair_step (or_no_memory pair_refused) plan old new p q w
     → Kept p.changes q.changes old new
-Kept-refused takes plan p q old new w u h = Kept-Halted keeps_changes plan p.changes q.changes old new w keeps u (Halted-changes takes plan old new p q w h)
+Kept-refused plan p q old new w u h = Kept-Halted keeps_changes plan p.changes q.changes old new w keeps u (Halted-changes plan old new p q w h)
 
 -- and the record leads to the text again
 Walks-pair : {A : Type 0} (plan : Plan A) (p q : Pair) (old new : Line) (a : A) → IsCharBoundary old.text old.cursor → Done pair_step plan old new p q a → Walks p.changes old.text → Walks q.changes new.text
 Walks-pair plan p q old new a at d = Walks-Done plan p.changes q.changes old new a at (Done-changes plan old new p q a d)
 
-Walks-refused : {A : Type 0} (takes : Bool) (plan : Plan A) (p q : Pair) (old new : Line) (w : Refusal) → IsCharBoundary old.text old.cursor → Halted pair_step (or_no_memory_if takes pair_refused) plan old new p q w
+Walks-refused : {A : Type 0} (plan : Plan A) (p q : Pair) (old new : Line) (w : Refusal) → IsCharBoundary old.text old.cursor → Halted pair_step (or_no_memory pair_refused) plan old new p q w
     → Walks p.changes old.text → Walks q.changes new.text
-Walks-refused takes plan p q old new w at h = Walks-Halted keeps_changes plan p.changes q.changes old new w keeps at (Halted-changes takes plan old new p q w h)
+Walks-refused plan p q old new w at h = Walks-Halted keeps_changes plan p.changes q.changes old new w keeps at (Halted-changes plan old new p q w h)
 
 -- ---- the session's invariant
 pub AtRest-Moved : (place : Option ℕ) (p : Pair) (old new : Line) (a : Bool) → Moved place old new a → AtRest old p → AtRest new p
@@ -89,25 +89,34 @@ AtRest-pair : {A : Type 0} (plan : Plan A) (p q : Pair) (old new : Line) (a : A)
     → AtRest old p → AtRest new q
 AtRest-pair plan p q old new a at none d h = record { walks = Walks-pair plan p q old new a at d h.walks; idle = idle-Done plan old new p q a none d h.idle }
 
-AtRest-refused : {A : Type 0} (takes : Bool) (plan : Plan A) (p q : Pair) (old new : Line) (w : Refusal) → IsCharBoundary old.text old.cursor → NoneStarts plan.steps → Halted pair_step (or_no_memory_if takes pair_refused) plan old new p q w
+AtRest-refused : {A : Type 0} (plan : Plan A) (p q : Pair) (old new : Line) (w : Refusal) → IsCharBoundary old.text old.cursor → NoneStarts plan.steps → Halted pair_step (or_no_memory pair_refused) plan old new p q w
     → AtRest old p → AtRest new q
-AtRest-refused takes plan p q old new w at none d h =
-    record { walks = Walks-refused takes plan p q old new w at d h.walks; idle = idle-Halted takes plan old new p q w none d h.idle }
+AtRest-refused plan p q old new w at none d h =
+    record { walks = Walks-refused plan p q old new w at d h.walks; idle = idle-Halted plan old new p q w none d h.idle }
 
--- an edit, which may take memory of its own
-pub AtRest-edit : {A B : Type 0} (takes : Bool) (plan : Plan A) (shown : B → A) (p q : Pair) (old new : Line) (result : Result B Refusal) → IsCharBoundary old.text old.cursor → NoneStarts plan.steps
-    → IfOk result (λ b. Done pair_step plan old new p q (shown b)) → IfErr result (λ w. Halted pair_step (or_no_memory_if takes pair_refused) plan old new p q w)
+-- an edit, which may copy what it moves
+AtRest-same : (p q : Pair) (old new : Line) → new ≡ old → q ≡ p → AtRest old p → AtRest new q
+AtRest-same p q old new e f h = subst (λ k. AtRest new k) (sym f) (subst (λ l. AtRest l p) (sym e) h)
+
+AtRest-stopped : {A : Type 0} (copies : Bool) (plan : Plan A) (p q : Pair) (old new : Line) (w : Refusal) → IsCharBoundary old.text old.cursor → NoneStarts plan.steps → Stopped copies plan old new p q w
     → AtRest old p → AtRest new q
-AtRest-edit takes plan shown p q old new (Ok b) at none d h = AtRest-pair plan p q old new (shown b) at none d
-AtRest-edit takes plan shown p q old new (Err w) at none d h = AtRest-refused takes plan p q old new w at none h
+AtRest-stopped true plan p q old new w at none (inl h) = AtRest-refused plan p q old new w at none h
+AtRest-stopped true plan p q old new w at none (inr u) = AtRest-same p q old new u.1 u.2
+AtRest-stopped false plan p q old new w at none h = AtRest-refused plan p q old new w at none h
+
+pub AtRest-edit : {A B : Type 0} (copies : Bool) (plan : Plan A) (shown : B → A) (p q : Pair) (old new : Line) (result : Result B Refusal) → IsCharBoundary old.text old.cursor → NoneStarts plan.steps
+    → IfOk result (λ b. Done pair_step plan old new p q (shown b)) → IfErr result (λ w. Stopped copies plan old new p q w)
+    → AtRest old p → AtRest new q
+AtRest-edit copies plan shown p q old new (Ok b) at none d h = AtRest-pair plan p q old new (shown b) at none d
+AtRest-edit copies plan shown p q old new (Err w) at none d h = AtRest-stopped copies plan p q old new w at none h
 
 -- an edit of the letters of a word, whose text is not told
 pub AtRest-recased : (action : WordAction) (p q : Pair) (old new : Line) (result : Result Bool Refusal) → IsCharBoundary old.text old.cursor
     → IfOk result (λ a. Recased old action (λ made. Done pair_step (edit_word_plan old made) old new p q a))
-    → IfErr result (λ w. Recased old action (λ made. Halted pair_step (or_no_memory pair_refused) (edit_word_plan old made) old new p q w))
+    → IfErr result (λ w. Recased old action (λ made. Stopped true (edit_word_plan old made) old new p q w))
     → AtRest old p → AtRest new q
 AtRest-recased action p q old new (Ok a) at d h = AtRest-pair (edit_word_plan old d.made) p q old new a at (NoneStarts-edit_word old d.made) d.holds
-AtRest-recased action p q old new (Err w) at d h = AtRest-refused true (edit_word_plan old h.made) p q old new w at (NoneStarts-edit_word old h.made) h.holds
+AtRest-recased action p q old new (Err w) at d h = AtRest-stopped true (edit_word_plan old h.made) p q old new w at (NoneStarts-edit_word old h.made) h.holds
 
 -- the record hears nothing of the start and the end of a kill
 pub Kept-Told : (b : Bool) (P : Pair → Pair → Type 0) (p q : Pair) (old new : Line)
@@ -128,15 +137,15 @@ Walks-Told false P p q old new keeps t f =
 
 pub AtRest-kill : (m : Movement) (p q : Pair) (old new : Line) (result : Result Bool Refusal) → IsCharBoundary old.text old.cursor
     → IfOk result (λ a. Told pair_step (is_by_characters m) (λ before now. Done pair_step (kill_plan old m) old new before now a) p q)
-    → IfErr result (λ w. Told pair_step (is_by_characters m) (λ before now. Halted pair_step pair_refused (kill_plan old m) old new before now w) p q)
+    → IfErr result (λ w. Told pair_step (is_by_characters m) (λ before now. Halted pair_step (or_no_memory pair_refused) (kill_plan old m) old new before now w) p q)
     → AtRest old p → AtRest new q
 AtRest-kill m p q old new (Ok a) at d h r = record {
   walks = Walks-Told (is_by_characters m) _ p q old new (λ before now i. Walks-pair (kill_plan old m) before now old new a at i) d r.walks;
   idle = idle-Told (is_by_characters m) _ p q (λ i. idle-Done (kill_plan old m) old new p q a (NoneStarts-kill old m) i r.idle) d;
 }
 AtRest-kill m p q old new (Err w) at d h r = record {
-  walks = Walks-Told (is_by_characters m) _ p q old new (λ before now i. Walks-refused false (kill_plan old m) before now old new w at i) h r.walks;
-  idle = idle-Told (is_by_characters m) _ p q (λ i. idle-Halted false (kill_plan old m) old new p q w (NoneStarts-kill old m) i r.idle) h;
+  walks = Walks-Told (is_by_characters m) _ p q old new (λ before now i. Walks-refused (kill_plan old m) before now old new w at i) h r.walks;
+  idle = idle-Told (is_by_characters m) _ p q (λ i. idle-Halted (kill_plan old m) old new p q w (NoneStarts-kill old m) i r.idle) h;
 }
 
 -- nothing was done for want of memory
@@ -186,9 +195,3 @@ nothing_lent n old slot e left l = subst (λ s. Edited (lent_plan old.line s n) 
 pub nothing_popped : (old : State) (slot : Option (ℕ × List ℕ)) → slot ≡ None → (left : State) → left ≡ popped old → Edited (popped_plan old.line slot) (popped old) left None
 nothing_popped old slot e left l = subst (λ s. Edited (popped_plan old.line s) (popped old) left None) (sym e) (subst (λ s. Edited (popped_plan old.line None) (popped old) s None) (sym l) (Edited-nothing None (popped old)))
 
--- a text was lent for which there was no memory, so that no step was taken
-pub popped_cut : (old : State) (slot : Option (ℕ × List ℕ)) → IsSome slot → (left : State) → left ≡ popped old → CutShort true (popped_plan old.line slot) (popped old) left
-popped_cut old None h left l = cc
-popped_cut old (Some p) h left l =
-    subst (λ s. CutShort true (popped_plan old.line (Some p)) (popped old) s) (sym l)
-    (record { halted = Halted-at_first pair_step (or_no_memory pair_refused) (yank_pop_plan old.line p.0 p.1) _ _ _ _ _ _ _ refl refl (inl (refl, refl)); mode = refl })

@@ -148,9 +148,9 @@ Inside-other front old command reply new i d k =
 
 Inside-asked : (what : Asked) (front : List Entry) (old : State) (command : Command) (reply : Reply) (new : State) → MayStandInGroup command reply
     → DoesAsked what old command reply new → Inside front old.pair.changes → Inside front new.pair.changes
-Inside-asked (edit takes condition plan telling) front old command reply new i d k =
-    Inside-Heard front (held_by_edit takes condition plan telling old reply new d) old.line old.pair.changes new.line.text new.pair.changes k
-    (Heard-edit takes condition plan telling old reply new d)
+Inside-asked (edit copies condition plan telling) front old command reply new i d k =
+    Inside-Heard front (held_by_edit copies condition plan telling old reply new d) old.line old.pair.changes new.line.text new.pair.changes k
+    (Heard-edit copies condition plan telling old reply new d)
 Inside-asked other front old command reply new i d k = Inside-other front old command reply new i d k
 
 Inside-row : (front : List Entry) (row : Row) → MayStandInGroup row.command row.reply → Inside front row.before.pair.changes → Inside front row.after.pair.changes

@@ -16,7 +16,7 @@ use Rattle.rl_base.specs.declared.motion.Movement.TheVariants.{BeginningOfLine, 
 use Rattle.rl_line.specs.Line.{Line}
 use Rattle.rl_line.specs.LineMotions.{columns_before, home, line_end, place_above, place_below}
 use Rattle.rl_line.specs.Motions.{Moved, unless_there}
-use Rattle.rl_line.specs.Plan.{Plan, nothing, Done, Halted, or_no_memory_if}
+use Rattle.rl_line.specs.Plan.{Plan, nothing, Done, Halted, or_no_memory, bytes_of}
 use Rattle.rl_line.specs.Edits.{insert_plan, insert_str_plan, yank_plan, yank_pop_plan, update_plan, replace_plan, delete_range_plan}
 use Rattle.rl_line.specs.Indents.{indent_plan}
 use Rattle.rl_line.specs.Kills.{copied, delete_plan, kill_plan, is_by_characters, Told}
@@ -62,10 +62,15 @@ pub record Edited {A : Type 0} (plan : Plan A) (old new : State) (answer : A) : 
   pub done : Done pair_step plan old.line new.line old.pair new.pair answer
   pub mode : new.mode ≡ old.mode
 
--- an edit was refused for want of memory, after its first steps; one that takes none of its own was refused by its listener
-pub record CutShort {A : Type 0} (takes : Bool) (plan : Plan A) (old new : State) : Type 0 where
-  pub halted : Halted pair_step (or_no_memory_if takes pair_refused) plan old.line new.line old.pair new.pair why.NoMemory
+-- an edit was refused for want of memory, after its first steps
+pub record CutShort {A : Type 0} (plan : Plan A) (old new : State) : Type 0 where
+  pub halted : Halted pair_step (or_no_memory pair_refused) plan old.line new.line old.pair new.pair why.NoMemory
   pub mode : new.mode ≡ old.mode
+
+-- an edit that copies what it moves was not begun, since there was no memory for the copy
+abbrev pub Unbegun : {A : Type 0} → Bool → Plan A → State → State → Type 0
+Unbegun true plan old new = (new ≡ old) × (0 < bytes_of plan.steps)
+Unbegun false plan old new = ⊥
 
 -- a kill was done, and told
 pub record Killed (mvt : Movement) (old new : State) (answer : Bool) : Type 0 where
@@ -74,7 +79,7 @@ pub record Killed (mvt : Movement) (old new : State) (answer : Bool) : Type 0 wh
 
 -- a kill was refused, and told
 pub record KillRefused (mvt : Movement) (old new : State) : Type 0 where
-  pub told : Told pair_step (is_by_characters mvt) (λ before now. Halted pair_step pair_refused (kill_plan old.line mvt) old.line new.line before now why.NoMemory) old.pair new.pair
+  pub told : Told pair_step (is_by_characters mvt) (λ before now. Halted pair_step (or_no_memory pair_refused) (kill_plan old.line mvt) old.line new.line before now why.NoMemory) old.pair new.pair
   pub mode : new.mode ≡ old.mode
 
 -- a text that the ring lent goes in n times, if it lent one
@@ -141,18 +146,18 @@ Tells hands_out P (says.Text t) = P (option_map string_bytes t)
 Tells is_done P says.Done = P tt
 Tells _ P _ = ⊥
 
--- what a command asks for: an edit, with whether it takes memory of its own, a condition on its places, its plan, and the reply
+-- what a command asks for: an edit, with whether it copies what it moves, a condition on its places, its plan, and the reply
 -- that tells its answer; or something else
 pub data Asked : Type 1 where
-  edit : {A : Type 0} → (takes : Bool) → (condition : Type 0) → (plan : Plan A) → (telling : Telling A) → Asked
+  edit : {A : Type 0} → (copies : Bool) → (condition : Type 0) → (plan : Plan A) → (telling : Telling A) → Asked
   other : Asked
 
 abbrev pub asked : Line → Command → Asked
-asked line (Insert c n) = edit true (Unit {0}) (insert_plan line c n) inserts
-asked line (Paste s n) = edit true (Unit {0}) (yank_plan line (string_bytes s) n) inserts
-asked line (Update s q) = edit true (IsCharBoundary (string_bytes s) q) (update_plan line (string_bytes s) q) is_done
-asked line (InsertStr i s) = edit true (CanGoIn line i (string_bytes s)) (insert_str_plan line i (string_bytes s)) answers
-asked line (Replace i j s) = edit true (IsRange line.text i j) (replace_plan line i j (string_bytes s)) is_done
+asked line (Insert c n) = edit false (Unit {0}) (insert_plan line c n) inserts
+asked line (Paste s n) = edit false (Unit {0}) (yank_plan line (string_bytes s) n) inserts
+asked line (Update s q) = edit false (IsCharBoundary (string_bytes s) q) (update_plan line (string_bytes s) q) is_done
+asked line (InsertStr i s) = edit false (CanGoIn line i (string_bytes s)) (insert_str_plan line i (string_bytes s)) answers
+asked line (Replace i j s) = edit false (IsRange line.text i j) (replace_plan line i j (string_bytes s)) is_done
 asked line (DeleteRange i j) = edit false (IsRange line.text i j) (delete_range_plan line i j) is_done
 asked line (Delete n) = edit true (Unit {0}) (delete_plan line n) hands_out
 asked line (Backspace n) = edit false (Unit {0}) (kill_plan line (BackwardChar n)) answers
@@ -165,14 +170,14 @@ asked line (DeleteWord at word n) = edit false (Unit {0}) (kill_plan line (Forwa
 asked line (DeleteTo cs n) = edit false (Unit {0}) (kill_plan line (ViCharSearch n cs)) answers
 asked line TransposeChars = edit true (Unit {0}) (transpose_chars_plan line) answers
 asked line (TransposeWords n) = edit true (Unit {0}) (transpose_words_plan line n) answers
-asked line (Indent m amount dedent) = edit (not dedent) (Unit {0}) (indent_plan line m amount dedent) answers
+asked line (Indent m amount dedent) = edit false (Unit {0}) (indent_plan line m amount dedent) answers
 asked line _ = other
 
 -- an edit: refused where its condition fails, and else done, or cut short for want of memory
 abbrev pub Edits : {A : Type 0} → Bool → Type 0 → Plan A → Telling A → State → Reply → State → Type 0
-Edits takes condition plan telling old (says.Refused BadPlace) new = (¬ condition) × (new ≡ old)
-Edits takes condition plan telling old (says.Refused NoMemory) new = condition × CutShort takes plan old new
-Edits takes condition plan telling old reply new = condition × Tells telling (λ a. Edited plan old new a) reply
+Edits copies condition plan telling old (says.Refused BadPlace) new = (¬ condition) × (new ≡ old)
+Edits copies condition plan telling old (says.Refused NoMemory) new = condition × (Unbegun copies plan old new ⊎ CutShort plan old new)
+Edits copies condition plan telling old reply new = condition × Tells telling (λ a. Edited plan old new a) reply
 
 -- what is no edit, or one of a text that is not told by the command. What has nothing to copy, to close, to undo or to redo is
 -- not refused.
@@ -183,18 +188,18 @@ Others old (Move m) (says.Answer a) new = Went (destination old m) old new a
 Others old (Copy m) (says.Text t) new = (option_map string_bytes t ≡ copied old.line m) × (new ≡ old)
 Others old (Copy m) (says.Refused NoMemory) new = IsSome (copied old.line m) × (new ≡ old)
 Others old (EditWord action) (says.Answer a) new = Recased old.line action (λ made. Edited (edit_word_plan old.line made) old new a)
-Others old (EditWord action) (says.Refused NoMemory) new = Recased old.line action (λ made. CutShort true (edit_word_plan old.line made) old new)
+Others old (EditWord action) (says.Refused NoMemory) new = Recased old.line action (λ made. Unbegun true (edit_word_plan old.line made) old new ⊎ CutShort (edit_word_plan old.line made) old new)
 Others old (Kill m) (says.Answer a) new = Killed m old new a
 Others old (Kill m) (says.Refused NoMemory) new = KillRefused m old new
 -- a yanked text is copied out of the ring, for which there may be no memory either; where none is lent, nothing is refused
 Others old (Yank n) (says.Inserted a) new = Edited (lent_plan old.line (yank old.pair.ring) n) (lent old) new a
 Others old (Yank n) (says.Refused NoMemory) new =
-    IsSome (yank old.pair.ring) × ((new ≡ lent old) ⊎ CutShort true (lent_plan old.line (yank old.pair.ring) n) (lent old) new)
+    IsSome (yank old.pair.ring) × ((new ≡ lent old) ⊎ CutShort (lent_plan old.line (yank old.pair.ring) n) (lent old) new)
 Others old YankPop (says.Inserted a) new =
     StandsYanked (yank_size old.pair.ring) old.line × Edited (popped_plan old.line (yank_pop old.pair.ring)) (popped old) new a
 Others old YankPop (says.Refused BadYankSize) new = (¬ (StandsYanked (yank_size old.pair.ring) old.line)) × (new ≡ old)
 Others old YankPop (says.Refused NoMemory) new =
-    StandsYanked (yank_size old.pair.ring) old.line × CutShort true (popped_plan old.line (yank_pop old.pair.ring)) (popped old) new
+    StandsYanked (yank_size old.pair.ring) old.line × IsSome (yank_pop old.pair.ring) × ((new ≡ popped old) ⊎ CutShort (popped_plan old.line (yank_pop old.pair.ring)) (popped old) new)
 Others old Begin (says.Mark n) new = (n ≡ length old.pair.changes.recorded) × (new ≡ with_changes (begun old.pair.changes) old)
 Others old Begin (says.Refused NoMemory) new = new ≡ old
 Others old End (says.Answer a) new =
@@ -213,7 +218,7 @@ Others old LinePlace (says.At k columns) new = ((k, columns) ≡ line_place old)
 Others _ _ _ _ = ⊥
 
 abbrev pub DoesAsked : Asked → State → Command → Reply → State → Type 0
-DoesAsked (edit takes condition plan telling) old command reply new = Edits takes condition plan telling old reply new
+DoesAsked (edit copies condition plan telling) old command reply new = Edits copies condition plan telling old reply new
 DoesAsked other old command reply new = Others old command reply new
 
 -- from old, the command may have this reply and lead to new, the ring's resets aside

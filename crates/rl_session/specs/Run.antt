@@ -30,11 +30,11 @@ texts_of_steps steps text = texts_after (map (λ (s : PlanStep). s.0) steps) tex
 abbrev pub texts_of : {A : Type 0} → Plan A → Line → List (List ℕ)
 texts_of plan line = texts_of_steps plan.steps line.text
 
-abbrev pub texts_of_first : {A : Type 0} {takes : Bool} {plan : Plan A} {old new : State} → CutShort takes plan old new → List (List ℕ)
+abbrev pub texts_of_first : {A : Type 0} {plan : Plan A} {old new : State} → CutShort plan old new → List (List ℕ)
 texts_of_first {old = old} cut = texts_of_steps cut.halted.first old.line.text
 
 -- the same of an edit that may have been refused before it began
-abbrev pub texts_of_cut : {A : Type 0} {takes : Bool} {plan : Plan A} {old new : State} → (new ≡ old) ⊎ CutShort takes plan old new → List (List ℕ)
+abbrev pub texts_of_cut : {A U : Type 0} {plan : Plan A} {old new : State} → U ⊎ CutShort plan old new → List (List ℕ)
 texts_of_cut (inl _) = []
 texts_of_cut (inr cut) = texts_of_first cut
 
@@ -46,27 +46,27 @@ abbrev pub texts_ahead : List Entry → List ℕ → List (List ℕ)
 texts_ahead entries text = texts_after (map event_of entries) text
 
 -- the texts that an edit held
-abbrev pub held_by_edit : {A : Type 0} → (takes : Bool) → (condition : Type 0) → (plan : Plan A) → (telling : Telling A) → (old : State) → (reply : Reply) → (new : State)
-    → Edits takes condition plan telling old reply new → List (List ℕ)
-held_by_edit takes condition plan telling old (says.Refused BadPlace) new d = []
-held_by_edit takes condition plan telling old (says.Refused NoMemory) new d = texts_of_first d.1
-held_by_edit takes condition plan telling old reply new d = texts_of plan old.line
+abbrev pub held_by_edit : {A : Type 0} → (copies : Bool) → (condition : Type 0) → (plan : Plan A) → (telling : Telling A) → (old : State) → (reply : Reply) → (new : State)
+    → Edits copies condition plan telling old reply new → List (List ℕ)
+held_by_edit copies condition plan telling old (says.Refused BadPlace) new d = []
+held_by_edit copies condition plan telling old (says.Refused NoMemory) new d = texts_of_cut d.1
+held_by_edit copies condition plan telling old reply new d = texts_of plan old.line
 
 -- the texts that another command held; a kill has one step at most, so a refused one held none
 abbrev pub held_by_other : (old : State) (command : Command) (reply : Reply) (new : State) → Others old command reply new → List (List ℕ)
 held_by_other old (EditWord action) (says.Answer a) new d = texts_of (edit_word_plan old.line d.made) old.line
-held_by_other old (EditWord action) (says.Refused NoMemory) new d = texts_of_first d.holds
+held_by_other old (EditWord action) (says.Refused NoMemory) new d = texts_of_cut d.holds
 held_by_other old (Kill m) (says.Answer a) new d = texts_of (kill_plan old.line m) old.line
 held_by_other old (Yank n) (says.Inserted a) new d = texts_of (lent_plan old.line (yank old.pair.ring) n) old.line
 held_by_other old (Yank n) (says.Refused NoMemory) new d = texts_of_cut d.1
 held_by_other old YankPop (says.Inserted a) new d = texts_of (popped_plan old.line (yank_pop old.pair.ring)) old.line
-held_by_other old YankPop (says.Refused NoMemory) new d = texts_of_first d.1
+held_by_other old YankPop (says.Refused NoMemory) new d = texts_of_cut d.2
 held_by_other old (Undo n) (says.Answer a) new d = texts_back (last_of n old.pair.changes.recorded) old.line.text
 held_by_other old Redo (says.Answer a) new d = texts_ahead (redo_of old.pair.changes.pending) old.line.text
 held_by_other _ _ _ _ _ = []
 
 abbrev pub held_by : (asks : Asked) → (old : State) (command : Command) (reply : Reply) (new : State) → DoesAsked asks old command reply new → List (List ℕ)
-held_by (edit takes condition plan telling) old command reply new d = held_by_edit takes condition plan telling old reply new d
+held_by (edit copies condition plan telling) old command reply new d = held_by_edit copies condition plan telling old reply new d
 held_by other old command reply new d = held_by_other old command reply new d
 
 -- the texts that a row held: after each step that was taken, or after each entry that was taken back or made again

@@ -1,5 +1,5 @@
 //! The edits that put a text in, or take a given range out, each generic over the listener that it tells.
-ghost use Rattle.std.specs.Prelude.{◌≡◌, ◌+◌, ◌*◌, ◌-◌, ◌≤◌, ◌∷◌, [], length, encode_utf8, IfOk, IfErr, OnOk, OnErr};
+ghost use Rattle.std.specs.Prelude.{◌≡◌, ◌+◌, ◌*◌, ◌-◌, ◌<◌, ◌≤◌, ◌∷◌, [], length, encode_utf8, IfOk, IfErr, OnOk, OnErr};
 ghost use Rattle.std.specs.Str.{IsCharBoundary};
 ghost use Rattle.std.specs.List.{insert_slice, remove_range, replace_range, repeat};
 ghost use Rattle.rl_base.specs.Event.{InsertStr};
@@ -33,6 +33,7 @@ impl LineBuffer {
         n: RepeatCount,
         listener: &mut L,
     ) -> Result<(), Refusal>
+        requires { 0 < length text.now }
         ensures taken { OnOk result (Taken L.step ((InsertStr self.old.cursor (repeat n text.now), self.old.cursor + length text.now * n) ∷ []) self.old self.new listener.old listener.new) }
         ensures cursor { OnOk result (self.new.cursor ≡ self.old.cursor + length text.now * n) }
         ensures kept { OnErr result (self.new ≡ self.old) }
@@ -41,6 +42,9 @@ impl LineBuffer {
         let at = self.pos();
         if n == 1 {
             return self.put_str(at, text, at + text.len(), listener);
+        }
+        if n == 0 {
+            return self.put_str(at, "", at, listener);
         }
         match text.repeat(*self.buf.allocator(), usize::from(n)) {
             Ok(copies) => self.put_str(at, copies.as_str(), at + copies.len(), listener),
@@ -224,7 +228,7 @@ impl LineBuffer {
         requires start { IsCharBoundary self.old.text range.start }
         requires end { IsCharBoundary self.old.text range.end }
         ensures done { IfOk result (λ answer. Done L.step (delete_range_plan self.old range.start range.end) self.old self.new listener.old listener.new answer) }
-        ensures halted { IfErr result (λ r. Halted L.step L.refused (delete_range_plan self.old range.start range.end) self.old self.new listener.old listener.new r) }
+        ensures halted { IfErr result (λ r. Halted L.step (or_no_memory L.refused) (delete_range_plan self.old range.start range.end) self.old self.new listener.old listener.new r) }
     {
         self.take_out(range, Direction::Forward, listener)
     }

@@ -2,7 +2,7 @@
 ghost use Rattle.std.specs.Prelude.{◌≡◌, ◌+◌, ◌^◌, ◌<◌, ◌≤◌, true, false, not, IfErr, IfOk, OnOk};
 ghost use Rattle.std.specs.Str.{IsCharBoundary};
 ghost use Rattle.rl_line.specs.Indents.{indent_plan, line_plan, pulled, pushed};
-ghost use Rattle.rl_line.specs.Plan.{Completed, Done, Halted, or_no_memory, or_no_memory_if};
+ghost use Rattle.rl_line.specs.Plan.{Completed, Done, Halted, or_no_memory};
 ghost use Rattle.rl_line.specs.Ranges.{text_in};
 
 use crate::line_buffer::LineBuffer;
@@ -27,7 +27,7 @@ impl LineBuffer {
         listener: &mut L,
     ) -> Result<bool, Refusal>
         ensures done { IfOk result (λ answer. Done L.step (indent_plan self.old mvt.now amount dedent) self.old self.new listener.old listener.new answer) }
-        ensures halted { IfErr result (λ r. Halted L.step (or_no_memory_if (not dedent) L.refused) (indent_plan self.old mvt.now amount dedent) self.old self.new listener.old listener.new r) }
+        ensures halted { IfErr result (λ r. Halted L.step (or_no_memory L.refused) (indent_plan self.old mvt.now amount dedent) self.old self.new listener.old listener.new r) }
     {
         let range = self.indented(mvt);
         let first = self.line_at(range.start);
@@ -51,7 +51,7 @@ impl LineBuffer {
         requires start { IsCharBoundary self.old.text line.start }
         requires end { IsCharBoundary self.old.text line.end }
         ensures done { OnOk result (Completed L.step (line_plan dedent amount (text_in self.old line) line.start self.old.cursor) self.old self.new listener.old listener.new) }
-        ensures halted { IfErr result (λ r. Halted L.step (or_no_memory_if (not dedent) L.refused) (line_plan dedent amount (text_in self.old line) line.start self.old.cursor) self.old self.new listener.old listener.new r) }
+        ensures halted { IfErr result (λ r. Halted L.step (or_no_memory L.refused) (line_plan dedent amount (text_in self.old line) line.start self.old.cursor) self.old self.new listener.old listener.new r) }
     {
         if dedent {
             return self.take_blanks(line, amount, listener);
@@ -91,7 +91,7 @@ impl LineBuffer {
         requires start { IsCharBoundary self.old.text line.start }
         requires end { IsCharBoundary self.old.text line.end }
         ensures done { OnOk result (Completed L.step (line_plan true amount (text_in self.old line) line.start self.old.cursor) self.old self.new listener.old listener.new) }
-        ensures halted { IfErr result (λ r. Halted L.step L.refused (line_plan true amount (text_in self.old line) line.start self.old.cursor) self.old self.new listener.old listener.new r) }
+        ensures halted { IfErr result (λ r. Halted L.step (or_no_memory L.refused) (line_plan true amount (text_in self.old line) line.start self.old.cursor) self.old self.new listener.old listener.new r) }
     {
         let text = &self.as_str()[line.start..line.end];
         let blank = text.len() - text.trim_start().len();

@@ -1,5 +1,5 @@
 //! Copying, deleting and killing by a movement.
-ghost use Rattle.std.specs.Prelude.{◌≡◌, ◌≤◌, ◌↔◌, ◌∷◌, [], ℕ, List, true, Some, None, IfOk, IfErr, IsSome};
+ghost use Rattle.std.specs.Prelude.{◌⊎◌, ◌≡◌, ◌<◌, ◌≤◌, ◌↔◌, length, OnErr, ◌∷◌, [], ℕ, List, true, Some, None, IfOk, IfErr, IsSome};
 ghost use Rattle.std.specs.Str.{IsCharBoundary};
 ghost use Rattle.std.specs.Option.{option_map};
 ghost use Rattle.std.specs.String.{string_bytes};
@@ -8,7 +8,7 @@ ghost use Rattle.rl_base.specs.declared.listeners.Refusal.TheVariants.{NoMemory}
 ghost use Rattle.rl_base.specs.declared.motion.Movement.{Movement};
 ghost use Rattle.rl_base.specs.declared.motion.Movement.TheVariants.{BeginningOfLine, EndOfLine, BackwardWord, ForwardWord, ViCharSearch, BackwardChar, BeginningOfBuffer, EndOfBuffer};
 ghost use Rattle.rl_line.specs.Line.{Line};
-ghost use Rattle.rl_line.specs.Plan.{Done, Halted, or_no_memory};
+ghost use Rattle.rl_line.specs.Plan.{Done, Halted, Uncopied, or_no_memory};
 ghost use Rattle.rl_line.specs.Kills.{Told, copied, delete_plan, is_by_characters, is_exact, kill_plan, side_of};
 ghost use Rattle.rl_line.specs.Ranges.{text_in};
 
@@ -36,6 +36,7 @@ impl LineBuffer {
         requires end { IsCharBoundary self.now.text range.now.end }
         ensures ok { IfOk result (λ copy. string_bytes copy ≡ text_in self.now range.now) }
         ensures err { IfErr result (λ r. r ≡ NoMemory) }
+        ensures some { OnErr result (0 < length (text_in self.now range.now)) }
     {
         let text = &self.as_str()[range.start..range.end];
         copied(*self.buf.allocator(), text)
@@ -50,7 +51,7 @@ impl LineBuffer {
         listener: &mut L,
     ) -> Result<Option<String>, Refusal>
         ensures done { IfOk result (λ answer. Done L.step (delete_plan self.old n) self.old self.new listener.old listener.new (option_map string_bytes answer)) }
-        ensures halted { IfErr result (λ r. Halted L.step (or_no_memory L.refused) (delete_plan self.old n) self.old self.new listener.old listener.new r) }
+        ensures halted { IfErr result (λ r. Halted L.step (or_no_memory L.refused) (delete_plan self.old n) self.old self.new listener.old listener.new r ⊎ Uncopied (delete_plan self.old n) self.old self.new listener.old listener.new r) }
     {
         match self.covered(&Movement::ForwardChar(n)) {
             Some(range) => {
@@ -69,7 +70,7 @@ impl LineBuffer {
         listener: &mut L,
     ) -> Result<bool, Refusal>
         ensures done { IfOk result (λ answer. Done L.step (kill_plan self.old mvt.now) self.old self.new listener.old listener.new answer) }
-        ensures halted { IfErr result (λ r. Halted L.step L.refused (kill_plan self.old mvt.now) self.old self.new listener.old listener.new r) }
+        ensures halted { IfErr result (λ r. Halted L.step (or_no_memory L.refused) (kill_plan self.old mvt.now) self.old self.new listener.old listener.new r) }
     {
         match self.killed(mvt) {
             Some(range) => {
@@ -91,7 +92,7 @@ impl LineBuffer {
         listener: &mut L,
     ) -> Result<bool, Refusal>
         ensures done { IfOk result (λ answer. Told L.step (is_by_characters mvt.now) (λ before now. Done L.step (kill_plan self.old mvt.now) self.old self.new before now answer) listener.old listener.new) }
-        ensures halted { IfErr result (λ r. Told L.step (is_by_characters mvt.now) (λ before now. Halted L.step L.refused (kill_plan self.old mvt.now) self.old self.new before now r) listener.old listener.new) }
+        ensures halted { IfErr result (λ r. Told L.step (is_by_characters mvt.now) (λ before now. Halted L.step (or_no_memory L.refused) (kill_plan self.old mvt.now) self.old self.new before now r) listener.old listener.new) }
     {
         if is_by_characters(mvt) {
             return self.delete_by(mvt, listener);
@@ -111,7 +112,7 @@ impl LineBuffer {
         listener: &mut L,
     ) -> Result<bool, Refusal>
         ensures done { IfOk result (λ answer. Done L.step (kill_plan self.old (BackwardChar n)) self.old self.new listener.old listener.new answer) }
-        ensures halted { IfErr result (λ r. Halted L.step L.refused (kill_plan self.old (BackwardChar n)) self.old self.new listener.old listener.new r) }
+        ensures halted { IfErr result (λ r. Halted L.step (or_no_memory L.refused) (kill_plan self.old (BackwardChar n)) self.old self.new listener.old listener.new r) }
     {
         self.delete_by(&Movement::BackwardChar(n), listener)
     }
@@ -121,7 +122,7 @@ impl LineBuffer {
     /// where its listener refuses, the line stays as it was.
     pub fn kill_line<L: DeleteListener>(&mut self, listener: &mut L) -> Result<bool, Refusal>
         ensures done { IfOk result (λ answer. Done L.step (kill_plan self.old EndOfLine) self.old self.new listener.old listener.new answer) }
-        ensures halted { IfErr result (λ r. Halted L.step L.refused (kill_plan self.old EndOfLine) self.old self.new listener.old listener.new r) }
+        ensures halted { IfErr result (λ r. Halted L.step (or_no_memory L.refused) (kill_plan self.old EndOfLine) self.old self.new listener.old listener.new r) }
     {
         self.delete_by(&Movement::EndOfLine, listener)
     }
@@ -130,7 +131,7 @@ impl LineBuffer {
     /// no memory; where its listener refuses, the line stays as it was.
     pub fn kill_buffer<L: DeleteListener>(&mut self, listener: &mut L) -> Result<bool, Refusal>
         ensures done { IfOk result (λ answer. Done L.step (kill_plan self.old EndOfBuffer) self.old self.new listener.old listener.new answer) }
-        ensures halted { IfErr result (λ r. Halted L.step L.refused (kill_plan self.old EndOfBuffer) self.old self.new listener.old listener.new r) }
+        ensures halted { IfErr result (λ r. Halted L.step (or_no_memory L.refused) (kill_plan self.old EndOfBuffer) self.old self.new listener.old listener.new r) }
     {
         self.delete_by(&Movement::EndOfBuffer, listener)
     }
@@ -140,7 +141,7 @@ impl LineBuffer {
     /// text. It takes no memory; where its listener refuses, the line stays as it was.
     pub fn discard_line<L: DeleteListener>(&mut self, listener: &mut L) -> Result<bool, Refusal>
         ensures done { IfOk result (λ answer. Done L.step (kill_plan self.old BeginningOfLine) self.old self.new listener.old listener.new answer) }
-        ensures halted { IfErr result (λ r. Halted L.step L.refused (kill_plan self.old BeginningOfLine) self.old self.new listener.old listener.new r) }
+        ensures halted { IfErr result (λ r. Halted L.step (or_no_memory L.refused) (kill_plan self.old BeginningOfLine) self.old self.new listener.old listener.new r) }
     {
         self.delete_by(&Movement::BeginningOfLine, listener)
     }
@@ -149,7 +150,7 @@ impl LineBuffer {
     /// no memory; where its listener refuses, the line stays as it was.
     pub fn discard_buffer<L: DeleteListener>(&mut self, listener: &mut L) -> Result<bool, Refusal>
         ensures done { IfOk result (λ answer. Done L.step (kill_plan self.old BeginningOfBuffer) self.old self.new listener.old listener.new answer) }
-        ensures halted { IfErr result (λ r. Halted L.step L.refused (kill_plan self.old BeginningOfBuffer) self.old self.new listener.old listener.new r) }
+        ensures halted { IfErr result (λ r. Halted L.step (or_no_memory L.refused) (kill_plan self.old BeginningOfBuffer) self.old self.new listener.old listener.new r) }
     {
         self.delete_by(&Movement::BeginningOfBuffer, listener)
     }
@@ -164,7 +165,7 @@ impl LineBuffer {
         listener: &mut L,
     ) -> Result<bool, Refusal>
         ensures done { IfOk result (λ answer. Done L.step (kill_plan self.old (BackwardWord n word)) self.old self.new listener.old listener.new answer) }
-        ensures halted { IfErr result (λ r. Halted L.step L.refused (kill_plan self.old (BackwardWord n word)) self.old self.new listener.old listener.new r) }
+        ensures halted { IfErr result (λ r. Halted L.step (or_no_memory L.refused) (kill_plan self.old (BackwardWord n word)) self.old self.new listener.old listener.new r) }
     {
         self.delete_by(&Movement::BackwardWord(n, word), listener)
     }
@@ -179,7 +180,7 @@ impl LineBuffer {
         listener: &mut L,
     ) -> Result<bool, Refusal>
         ensures done { IfOk result (λ answer. Done L.step (kill_plan self.old (ForwardWord n at word)) self.old self.new listener.old listener.new answer) }
-        ensures halted { IfErr result (λ r. Halted L.step L.refused (kill_plan self.old (ForwardWord n at word)) self.old self.new listener.old listener.new r) }
+        ensures halted { IfErr result (λ r. Halted L.step (or_no_memory L.refused) (kill_plan self.old (ForwardWord n at word)) self.old self.new listener.old listener.new r) }
     {
         self.delete_by(&Movement::ForwardWord(n, at, word), listener)
     }
@@ -194,7 +195,7 @@ impl LineBuffer {
         listener: &mut L,
     ) -> Result<bool, Refusal>
         ensures done { IfOk result (λ answer. Done L.step (kill_plan self.old (ViCharSearch n cs)) self.old self.new listener.old listener.new answer) }
-        ensures halted { IfErr result (λ r. Halted L.step L.refused (kill_plan self.old (ViCharSearch n cs)) self.old self.new listener.old listener.new r) }
+        ensures halted { IfErr result (λ r. Halted L.step (or_no_memory L.refused) (kill_plan self.old (ViCharSearch n cs)) self.old self.new listener.old listener.new r) }
     {
         self.delete_by(&Movement::ViCharSearch(n, cs), listener)
     }

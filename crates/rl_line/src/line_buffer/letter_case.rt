@@ -1,7 +1,7 @@
 //! Editing the letters of a word.
-ghost use Rattle.std.specs.Prelude.{◌≡◌, ◌≤◌, min, length, string_bytes, IsAscii, IfSome, IfOk, IfErr, OnOk};
+ghost use Rattle.std.specs.Prelude.{◌⊎◌, ◌≡◌, ◌<◌, ◌≤◌, min, length, string_bytes, IsAscii, IfSome, IfOk, IfErr, OnErr, OnOk};
 ghost use Rattle.std.specs.Str.{IsCharBoundary};
-ghost use Rattle.rl_line.specs.Plan.{Done, Halted, or_no_memory};
+ghost use Rattle.rl_line.specs.Plan.{Done, Halted, Uncopied, or_no_memory};
 ghost use Rattle.rl_base.specs.declared.motion.WordAction.TheVariants.{Capitalize};
 ghost use Rattle.rl_line.specs.LetterCase.{Maps, Recased, edit_word_plan, mapped, recased, word_ahead};
 ghost use Rattle.rl_line.specs.Transpositions.{end_of_cluster};
@@ -24,7 +24,7 @@ impl LineBuffer {
     ) -> Result<bool, Refusal>
         ensures done { IfOk result (λ answer. Recased self.old action (λ made. Done L.step (edit_word_plan self.old made) self.old self.new listener.old listener.new answer)) }
         ensures mapped { OnOk result (Maps self.old action self.new) }
-        ensures halted { IfErr result (λ r. Recased self.old action (λ made. Halted L.step (or_no_memory L.refused) (edit_word_plan self.old made) self.old self.new listener.old listener.new r)) }
+        ensures halted { IfErr result (λ r. Recased self.old action (λ made. Halted L.step (or_no_memory L.refused) (edit_word_plan self.old made) self.old self.new listener.old listener.new r ⊎ Uncopied (edit_word_plan self.old made) self.old self.new listener.old listener.new r)) }
     {
         let at = self.pos();
         let Some(word) = self.word_ahead() else {
@@ -57,7 +57,11 @@ impl LineBuffer {
 fn recased(alloc: Global, word: &str, action: WordAction) -> Result<String, AllocError>
     ensures ascii { IfOk result (λ made. IsAscii word.now → string_bytes made ≡ recased action word.now) }
     ensures others { IfOk result (λ made. ¬ (IsAscii word.now) → string_bytes made ≡ mapped action word.now) }
+    ensures some { OnErr result (0 < length word.now) }
 {
+    if word.is_empty() {
+        return Ok(String::new(alloc));
+    }
     match action {
         WordAction::Capitalize => capitalized(alloc, word),
         WordAction::Lowercase => word.to_lowercase(alloc),

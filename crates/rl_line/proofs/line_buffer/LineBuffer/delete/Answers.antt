@@ -1,20 +1,24 @@
-use Rattle.std.proofs.Common.{rules, refl, inl, inr}
+use Rattle.std.proofs.Common.{rules, ◌<◌, arith, refl, sym, subst, inl, inr}
 use Rattle.std.proofs.lemmas.Result.{err_from_is_err_and}
 use Rattle.rl_line.proofs.KillLemmas.{delete_plan-nothing, delete_plan-some}
+use Rattle.rl_line.specs.Kills.{delete_plan}
+use Rattle.rl_line.specs.Plan.{Plan, bytes_of}
 use Rattle.rl_line.proofs.PlanLemmas.{Done-nothing, Done-single, Halted-single}
 use Rattle.rl_line.proofs.line_buffer.LineBuffer.delete.Goals as goal
 
 pub returns-in_err-gone-in-Some-clause-halted : goal.returns-in_err-gone-in-Some-clause-halted
 returns-in_err-gone-in-Some-clause-halted g c =
     let p = err_from_is_err_and c.from_residual.result c.from_residual.ensures.1 in
-    rw (p.1, p.2) (Halted-single _ _ _ _ _ _ _ _ _ _ _ (inl (c.in_err-gone-in-Some.ensures.err, refl)) refl
-    (delete_plan-some c.args.self.now c.args.n c.in-Some.range _ c.in-Some.ensures.value refl))
+    let plan = delete_plan-some c.args.self.now c.args.n c.in-Some.range _ c.in-Some.ensures.value refl in
+    let some : 0 < bytes_of (delete_plan c.args.self.now c.args.n).steps =
+    subst (λ (q : Plan _). 0 < bytes_of q.steps) (sym plan) (omega (arith, c.in_err-gone-in-Some.ensures.some)) in
+    rw (p.1, p.2) (inr (c.in_err-gone-in-Some.ensures.err, refl, refl, some))
 
 pub returns-in_err-take_out-in-Some-clause-halted : goal.returns-in_err-take_out-in-Some-clause-halted
 returns-in_err-take_out-in-Some-clause-halted g c =
     let p = err_from_is_err_and c.from_residual-in_err-take_out-in-Some.result c.from_residual-in_err-take_out-in-Some.ensures.1 in
-    rw (p.1, p.2) (Halted-single _ _ _ _ _ _ _ _ _ _ _ (inr c.in_err-take_out-in-Some.ensures.cause) c.in_err-take_out-in-Some.ensures.kept
-    (delete_plan-some c.args.self.now c.args.n c.in-Some.range _ c.in-Some.ensures.value refl))
+    rw (p.1, p.2) (inl (Halted-single _ _ _ _ _ _ _ _ _ _ _ (inr c.in_err-take_out-in-Some.ensures.cause) c.in_err-take_out-in-Some.ensures.kept
+    (delete_plan-some c.args.self.now c.args.n c.in-Some.range _ c.in-Some.ensures.value refl)))
 
 pub returns-in_ok-take_out-in-Some-clause-done : goal.returns-in_ok-take_out-in-Some-clause-done
 returns-in_ok-take_out-in-Some-clause-done g c =

@@ -1,4 +1,4 @@
-use Rattle.std.proofs.Common.{arith, rules, ◌+◌, [], ℕ, ◌≡◌, true, slice_range, refl, inl, ap, subst, ◌∙◌}
+use Rattle.std.proofs.Common.{arith, rules, ◌+◌, ◌<◌, length, sym, inr, [], ℕ, ◌≡◌, true, slice_range, refl, inl, ap, subst, ◌∙◌}
 use Rattle.std.proofs.lemmas.Option.{same_Some}
 use Rattle.std.proofs.lemmas.Str.{IsUtf8-nil}
 use Rattle.std.specs.List.{replace_range}
@@ -10,10 +10,10 @@ use Rattle.rl_base.proofs.TextLemmas.{IsCharBoundary-before_removal, IsCharBound
 use Rattle.rl_line.specs.Edits.{exchange_plan}
 use Rattle.rl_line.specs.LetterCase.{edit_word_plan, mapped}
 use Rattle.rl_line.specs.Line.{Line}
-use Rattle.rl_line.specs.Plan.{Plan, answering}
+use Rattle.rl_line.specs.Plan.{Plan, answering, bytes_of}
 use Rattle.rl_line.specs.Ranges.{text_in}
 use Rattle.rl_line.proofs.LetterCaseLemmas.{edit_word_plan-nothing, edit_word_plan-some, made_for, recased-ascii}
-use Rattle.rl_line.proofs.PlanLemmas.{Done-as, Done-nothing, Done-steps, Halted-as, Halted-at_first, Halted-front}
+use Rattle.rl_line.proofs.PlanLemmas.{Done-as, Done-nothing, Done-steps, Halted-as, Halted-front}
 use Rattle.rl_line.proofs.line_buffer.LineBuffer.edit_word.Goals as goal
 
 pub returns-in_default-clause-done : goal.returns-in_default-clause-done
@@ -29,12 +29,14 @@ pub returns-in-Err-clause-halted : goal.returns-in-Err-clause-halted
 returns-in-Err-clause-halted g c =
     let some = made_for c.args.action (text_in c.args.self.now c.in-Some.word) in
     let made = some.made in
+    let is : c.range-text.result.now ≡ text_in c.args.self.now c.in-Some.word =
+    c.range-text.ensures.value ∙ ap (λ t. slice_range t c.in-Some.word.start c.in-Some.word.end) c.as_str.ensures in
+    let some_text : 0 < length (text_in c.args.self.now c.in-Some.word) = subst (λ t. 0 < length t) is c.in-Err.ensures.some in
     record {
       made = made;
       utf8 = some.utf8;
       ascii = recased-ascii c.args.self.now c.args.action c.in-Some.word _ made c.in-Some.ensures.value refl some.ascii;
-      holds = Halted-at_first _ _ (edit_word_plan c.args.self.now made) _ _ _ _ _ _ _
-          (ap (λ (p : Plan _). p.steps) (edit_word_plan-some c.args.self.now c.in-Some.word made _ _ c.in-Some.ensures.value refl refl)) refl (inl (refl, refl));
+      holds = inr (refl, refl, refl, subst (λ (q : Plan _). 0 < bytes_of q.steps) (sym (edit_word_plan-some c.args.self.now c.in-Some.word made _ _ c.in-Some.ensures.value refl refl)) (omega (arith, some_text)));
     }
 
 pub returns-in_err-exchange-clause-halted : goal.returns-in_err-exchange-clause-halted
@@ -48,8 +50,8 @@ returns-in_err-exchange-clause-halted g c =
       utf8 = c.as_str-2.utf8;
       ascii = recased-ascii line c.args.action c.in-Some.word c.range-text.result.now made c.in-Some.ensures.value
           (c.range-text.ensures.value ∙ ap (λ t. slice_range t c.in-Some.word.start c.in-Some.word.end) c.as_str.ensures) (λ a. c.as_str-2.ensures.value ∙ c.in-Ok.ensures.ascii a);
-      holds = Halted-as _ _ (edit_word_plan line made) (answering true plan) _ _ _ _ _ (Halted-front _ _ (answering true plan) plan [] _ _ _ _ _ c.in_err-exchange.ensures.halted refl)
-          (edit_word_plan-some line c.in-Some.word made c.pos-at.result (c.in-Some.word.start + c.len.result) c.in-Some.ensures.value c.pos-at.ensures.place (ap (λ n. c.in-Some.word.start + n) (search rules)));
+      holds = inl (Halted-as _ _ (edit_word_plan line made) (answering true plan) _ _ _ _ _ (Halted-front _ _ (answering true plan) plan [] _ _ _ _ _ c.in_err-exchange.ensures.halted refl)
+          (edit_word_plan-some line c.in-Some.word made c.pos-at.result (c.in-Some.word.start + c.len.result) c.in-Some.ensures.value c.pos-at.ensures.place (ap (λ n. c.in-Some.word.start + n) (search rules))));
     }
 
 pub returns-clause-done : goal.returns-clause-done

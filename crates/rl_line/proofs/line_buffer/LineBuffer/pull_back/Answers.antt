@@ -1,4 +1,4 @@
-use Rattle.std.proofs.Common.{rules, refl, inl, inr, ℕ, ◌+◌, ap, ap₂, subst, ◌∙◌}
+use Rattle.std.proofs.Common.{rules, arith, refl, inl, inr, ℕ, ◌+◌, ap, ap₂, subst, ◌∙◌}
 use Rattle.std.proofs.lemmas.Result.{err_from_is_err_and}
 use Rattle.std.specs.List.{insert_slice}
 use Rattle.std.specs.Str.{IsCharBoundary, IsUtf8}
@@ -12,12 +12,12 @@ use Rattle.rl_line.proofs.line_buffer.LineBuffer.pull_back.Goals as goal
 pub returns-in_err-moved-clause-halted : goal.returns-in_err-moved-clause-halted
 returns-in_err-moved-clause-halted g c =
     let p = err_from_is_err_and c.from_residual.result c.from_residual.ensures.1 in
-    rw (p.1, p.2) (Halted-at_first _ _ (pull_back_plan c.args.self.now c.args.front c.args.behind) _ _ _ _ _ _ _ refl refl (inl (c.in_err-moved.ensures.err, refl)))
+    rw (p.1, p.2) (inr (c.in_err-moved.ensures.err, refl, refl, omega (arith, c.in_err-moved.ensures.some)))
 
 pub returns-in_err-take_out-clause-halted : goal.returns-in_err-take_out-clause-halted
 returns-in_err-take_out-clause-halted g c =
     let p = err_from_is_err_and c.from_residual-in_err-take_out.result c.from_residual-in_err-take_out.ensures.1 in
-    rw (p.1, p.2) (Halted-at_first _ _ (pull_back_plan c.args.self.now c.args.front c.args.behind) _ _ _ _ _ _ _ refl c.in_err-take_out.ensures.kept (inr c.in_err-take_out.ensures.cause))
+    rw (p.1, p.2) (inl (Halted-at_first _ _ (pull_back_plan c.args.self.now c.args.front c.args.behind) _ _ _ _ _ _ _ refl c.in_err-take_out.ensures.kept (inr c.in_err-take_out.ensures.cause)))
 
 pub put_str-requires-clause-boundary : goal.put_str-requires-clause-boundary
 put_str-requires-clause-boundary g c =

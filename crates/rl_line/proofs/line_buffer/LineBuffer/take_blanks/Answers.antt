@@ -1,4 +1,4 @@
-use Rattle.std.proofs.Common.{rules, ◌+◌, slice_range, ap, subst, sym, ◌∙◌, arith}
+use Rattle.std.proofs.Common.{rules, inr, ◌+◌, slice_range, ap, subst, sym, ◌∙◌, arith}
 use Rattle.std.proofs.lemmas.Result.{err_from_is_err_and}
 use Rattle.std.specs.List.{remove_range}
 use Rattle.std.specs.Str.{IsCharBoundary}
@@ -30,7 +30,7 @@ returns-in_err-take_out_before-clause-halted g c =
     let gone = c.floor_char_boundary-gone in
     let plan = line_plan-dedent c.args.self.now.text c.args.line.start c.args.line.end c.args.amount c.min.result gone.result c.args.self.now.cursor c.pulled-cursor.result c.range-text.result.now c.trim_start.result.now
     c.requires.order c.requires.end.0 (search rules) c.trim_start.ensures.trim (search rules) gone.ensures.bound gone.ensures.boundary gone.ensures.nearest (search rules) in
-    rw (p.1, p.2) (Halted-single _ _ _ _ _ _ _ _ _ _ _ c.in_err-take_out_before.ensures.cause c.in_err-take_out_before.ensures.kept plan)
+    rw (p.1, p.2) (Halted-single _ _ _ _ _ _ _ _ _ _ _ (inr c.in_err-take_out_before.ensures.cause) c.in_err-take_out_before.ensures.kept plan)
 
 pub returns-clause-done : goal.returns-clause-done
 returns-clause-done g c =

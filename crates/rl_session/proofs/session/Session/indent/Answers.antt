@@ -1,5 +1,4 @@
-use Rattle.std.proofs.Common.{refl}
-use Rattle.std.specs.Prelude.{not}
+use Rattle.std.proofs.Common.{false, refl}
 use Rattle.rl_line.specs.Indents.{indent_plan}
 use Rattle.rl_session.specs.Commands.{answers}
 use Rattle.rl_session.proofs.ReplyLemmas.{Edits-replied}
@@ -9,8 +8,8 @@ use Rattle.rl_session.proofs.session.Session.indent.Goals as goal
 
 pub invariant_of-self : goal.invariant_of-self
 invariant_of-self c =
-    AtRest-edit (not c.args.dedent) _ (λ a. a) c.self.inside.pair c.indent.new.listener c.self.inside.line c.indent.new.self c.indent.result (rw (← c.self.view_is) at c.stands.ensures.cursor) (NoneStarts-indent c.self.inside.line c.args.movement.now c.args.amount c.args.dedent) c.indent.ensures.done c.indent.ensures.halted c.self.invariant
+    AtRest-edit false _ (λ a. a) c.self.inside.pair c.indent.new.listener c.self.inside.line c.indent.new.self c.indent.result (rw (← c.self.view_is) at c.stands.ensures.cursor) (NoneStarts-indent c.self.inside.line c.args.movement.now c.args.amount c.args.dedent) c.indent.ensures.done c.indent.ensures.halted c.self.invariant
 
 pub returns : goal.returns
 returns c =
-    Edits-replied (not c.args.dedent) answers (λ l. indent_plan l c.args.movement.now c.args.amount c.args.dedent) c.self.view_is tt c.answered.ensures (record { mode = refl; done = c.indent.ensures.done; halted = c.indent.ensures.halted })
+    Edits-replied false answers (λ l. indent_plan l c.args.movement.now c.args.amount c.args.dedent) c.self.view_is tt c.answered.ensures (record { mode = refl; done = c.indent.ensures.done; halted = c.indent.ensures.halted })

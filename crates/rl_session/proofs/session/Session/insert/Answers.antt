@@ -1,4 +1,4 @@
-use Rattle.std.proofs.Common.{refl, true}
+use Rattle.std.proofs.Common.{false, refl}
 use Rattle.rl_line.specs.Edits.{insert_plan}
 use Rattle.rl_session.specs.Commands.{inserts}
 use Rattle.rl_session.proofs.ReplyLemmas.{Edits-replied}
@@ -8,8 +8,8 @@ use Rattle.rl_session.proofs.session.Session.insert.Goals as goal
 
 pub invariant_of-self : goal.invariant_of-self
 invariant_of-self c =
-    AtRest-edit true _ (λ a. a) c.self.inside.pair c.insert.new.listener c.self.inside.line c.insert.new.self c.insert.result (rw (← c.self.view_is) at c.stands.ensures.cursor) (NoneStarts-insert c.self.inside.line c.args.c c.args.n) c.insert.ensures.done c.insert.ensures.halted c.self.invariant
+    AtRest-edit false _ (λ a. a) c.self.inside.pair c.insert.new.listener c.self.inside.line c.insert.new.self c.insert.result (rw (← c.self.view_is) at c.stands.ensures.cursor) (NoneStarts-insert c.self.inside.line c.args.c c.args.n) c.insert.ensures.done c.insert.ensures.halted c.self.invariant
 
 pub returns : goal.returns
 returns c =
-    Edits-replied true inserts (λ l. insert_plan l c.args.c c.args.n) c.self.view_is tt c.inserted.ensures (record { mode = refl; done = c.insert.ensures.done; halted = c.insert.ensures.halted })
+    Edits-replied false inserts (λ l. insert_plan l c.args.c c.args.n) c.self.view_is tt c.inserted.ensures (record { mode = refl; done = c.insert.ensures.done; halted = c.insert.ensures.halted })
