@@ -193,15 +193,42 @@ closes-next count i es next all lt e h =
     let k : suc (count - (i + 1)) ≡ count - i = omega arith in
     ap (end_times (count - (i + 1))) e ∙ ap (λ n. end_times n es) k ∙ h
 
-pub adds-next : (count i : ℕ) (es next : List Entry) (added more now total : Bool) → i < count → next ≡ end_one es → more ≡ not (ends_in_begin es) → now ≡ (more || added)
-    → (added || adds_end (count - i) es) ≡ total → (now || adds_end (count - (i + 1)) next) ≡ total
-adds-next count i es next added more now total lt e m n h =
+-- where closing fewer groups adds an End, closing all does
+pub adds-more : (count i : ℕ) (es next : List Entry) → i < count → next ≡ end_one es → adds_end (count - (i + 1)) next ≡ true → adds_end (count - i) es ≡ true
+adds-more count i es next lt e h =
     let k : suc (count - (i + 1)) ≡ count - i = omega arith in
-    ap (λ b. b || adds_end (count - (i + 1)) next) (n ∙ ap (λ b. b || added) m) ∙ ap (λ l. (not (ends_in_begin es) || added) || adds_end (count - (i + 1)) l) e
-    ∙ turn (not (ends_in_begin es)) added (adds_end (count - (i + 1)) (end_one es)) ∙ ap (λ j. added || adds_end j es) k ∙ h
+    ap (λ n. adds_end n es) (sym k) ∙ ap (λ l. not (ends_in_begin es) || adds_end (count - (i + 1)) l) (sym e) ∙ ap (λ b. not (ends_in_begin es) || b) h ∙ or-true (not (ends_in_begin es))
   where
-    turn : (a b c : Bool) → ((a || b) || c) ≡ (b || (a || c))
-    turn true true c = refl
-    turn true false c = refl
-    turn false true c = refl
-    turn false false c = refl
+    or-true : (b : Bool) → (b || true) ≡ true
+    or-true true = refl
+    or-true false = refl
+
+-- so does closing one that is not empty
+pub adds-here : (n : ℕ) (es : List Entry) → 0 < n → ends_in_begin es ≡ false → adds_end n es ≡ true
+adds-here zero es some h = absurd (omega (arith, some))
+adds-here (suc n) es some h = ap (λ b. not b || adds_end n (end_one es)) h
+
+ends_in-last : (ys : List Entry) (e : Entry) → ends_in_begin (ys ++ e ∷ []) ≡ is_begin e
+ends_in-last [] e = refl
+ends_in-last (x ∷ []) e = refl
+ends_in-last (x ∷ (y ∷ ys)) e = ends_in-last (y ∷ ys) e
+
+take-last : (xs : List Change) (m : ℕ) (x : Change) → m < length xs → x ≡ get_or xs m x → map entry_of (take (m + 1) xs) ≡ map entry_of (take m xs) ++ entry_of x ∷ []
+take-last xs m x lt e =
+    ap (map entry_of) ((take_at_read xs m x lt).1 ∙ ap (λ y. take m xs ++ y ∷ []) (sym e)) ∙ map-append entry_of (take m xs) (x ∷ [])
+
+-- a Begin before a place leaves one group less to close, and any other entry gets an End
+pub adds-off : (xs : List Change) (m n : ℕ) (x : Change) → m < length xs → x ≡ get_or xs m x → 0 < n → is_begin (entry_of x) ≡ true
+    → adds_end n (map entry_of (take (m + 1) xs)) ≡ adds_end (n - 1) (map entry_of (take m xs))
+adds-off xs m zero x lt e some h = absurd (omega (arith, some))
+adds-off xs m (suc n) x lt e some h =
+    let k : suc n - 1 ≡ n = omega arith in
+    let ys = map entry_of (take m xs) in
+    let last = ends_in-last ys (entry_of x) ∙ h in
+    ap (adds_end (suc n)) (take-last xs m x lt e) ∙ ap (λ b. not b || adds_end n (end_one (ys ++ entry_of x ∷ []))) last
+    ∙ ap (adds_end n) (sym (takes_begin-off ys (entry_of x) last)) ∙ ap (λ j. adds_end j ys) (sym k)
+
+pub adds-before : (xs : List Change) (m n : ℕ) (x : Change) → m < length xs → x ≡ get_or xs m x → 0 < n → is_begin (entry_of x) ≡ false
+    → adds_end n (map entry_of (take (m + 1) xs)) ≡ true
+adds-before xs m n x lt e some h =
+    adds-here n _ some (ap ends_in_begin (take-last xs m x lt e) ∙ ends_in-last (map entry_of (take m xs)) (entry_of x) ∙ h)

@@ -22,5 +22,6 @@ pub mod GroupLemmas
 pub mod RedoLemmas
 pub mod TranspositionLemmas
 pub mod UndoLemmas
+pub mod RoomLemmas
 pub mod ToldLemmas
 pub mod WalkLemmas

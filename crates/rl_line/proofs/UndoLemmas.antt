@@ -1,6 +1,7 @@
 -- A line that goes over changes of its record, back or ahead.
 use Rattle.std.proofs.Common.{le_refl, ◌≡◌, ℕ, ◌+◌, ◌<◌, ◌≤◌, zero, suc, List, [], ◌∷◌, ◌++◌, length, take, drop, get_or, map, reverse, Option, Some, None, false, refl, sym, ap, subst, ◌∙◌, arith, add-one, append_assoc, true, drop-cons, length-append}
 use Rattle.std.proofs.lemmas.Grind.{take_at_read}
+use Rattle.std.proofs.lemmas.Slice.Eq.{bytes_eq-Decides}
 use Rattle.std.proofs.lemmas.List.{drop_all, take_all, map-append, reverse-append}
 use Rattle.std.proofs.lemmas.Str.{IsCharBoundary-at_seam}
 use Rattle.std.specs.Prelude.{option_and_then, IsSome, is_some, cond, unwrap_or}
@@ -14,7 +15,7 @@ use Rattle.rl_base.specs.Text.{is_boundary}
 use Rattle.rl_base.proofs.TextLemmas.{is_boundary-means, is_boundary-true}
 use Rattle.rl_line.specs.declared.change.Change.{Change}
 use Rattle.rl_line.specs.Line.{Line, stepped, if_standing}
-use Rattle.rl_line.specs.Record.{Entry, Begin, End, Inserted, Deleted, Replaced, event_of, inverse, replay_entries, unwind}
+use Rattle.rl_line.specs.Record.{Entry, Begin, End, Inserted, Deleted, Replaced, agree, event_of, inverse, replay_entries, unwind}
 use Rattle.rl_line.specs.declared.change.Way.{Way}
 use Rattle.rl_line.specs.Units.{has_change}
 use Rattle.rl_line.specs.Undo.{cursor_after, cursor_told, place_after, line_after, line_ahead, line_back}
@@ -247,6 +248,59 @@ line_ahead-marks (End ∷ es) line now none is =
 line_ahead-marks (Inserted i s ps ∷ es) line now none is = cc
 line_ahead-marks (Deleted i s ps ∷ es) line now none is = cc
 line_ahead-marks (Replaced i s t ps ∷ es) line now none is = cc
+
+past_a_mark : (es : List Entry) (line : Line) → has_change es ≡ false → IsCharBoundary line.text line.cursor → IsSome (line_back es line)
+    → IsSome (option_and_then (λ (mid : Line). if_standing (stepped mid mid.text mid.cursor)) (line_back es line))
+past_a_mark es line none at h =
+    let p = value_of (line_back es line) h in
+    let same = line_back-marks es line p.0 none p.1 in
+    let there : IsCharBoundary p.0.text p.0.cursor = rw (same.0, same.1) at in
+    subst (λ o. IsSome (option_and_then (λ (mid : Line). if_standing (stepped mid mid.text mid.cursor)) o)) (sym p.1)
+    (subst IsSome (sym (standing (stepped p.0 p.0.text p.0.cursor) there)) refl)
+
+-- without a change there is always a way
+pub marks-back : (es : List Entry) (line : Line) → has_change es ≡ false → IsCharBoundary line.text line.cursor → IsSome (line_back es line)
+unfolding apply
+marks-back [] line none at = refl
+marks-back (Begin ∷ es) line none at = past_a_mark es line none at (marks-back es line none at)
+marks-back (End ∷ es) line none at = past_a_mark es line none at (marks-back es line none at)
+marks-back (Inserted i s ps ∷ es) line none at = cc
+marks-back (Deleted i s ps ∷ es) line none at = cc
+marks-back (Replaced i s t ps ∷ es) line none at = cc
+
+pub marks-ahead : (es : List Entry) (line : Line) → has_change es ≡ false → IsCharBoundary line.text line.cursor → IsSome (line_ahead es line)
+unfolding apply
+marks-ahead [] line none at = refl
+marks-ahead (Begin ∷ es) line none at =
+    let now = stepped line line.text line.cursor in subst (λ o. IsSome (option_and_then (line_ahead es) o)) (sym (standing now at)) (marks-ahead es now none at)
+marks-ahead (End ∷ es) line none at =
+    let now = stepped line line.text line.cursor in subst (λ o. IsSome (option_and_then (line_ahead es) o)) (sym (standing now at)) (marks-ahead es now none at)
+marks-ahead (Inserted i s ps ∷ es) line none at = cc
+marks-ahead (Deleted i s ps ∷ es) line none at = cc
+marks-ahead (Replaced i s t ps ∷ es) line none at = cc
+
+marks-unwind : (es : List Entry) (text : List ℕ) → has_change es ≡ false → unwind es text ≡ Some text
+unfolding apply
+marks-unwind [] text none = refl
+marks-unwind (Begin ∷ es) text none = ap (option_and_then (λ t. Some t)) (marks-unwind es text none)
+marks-unwind (End ∷ es) text none = ap (option_and_then (λ t. Some t)) (marks-unwind es text none)
+marks-unwind (Inserted i s ps ∷ es) text none = cc
+marks-unwind (Deleted i s ps ∷ es) text none = cc
+marks-unwind (Replaced i s t ps ∷ es) text none = cc
+
+marks-take : (len : ℕ) (es : List Entry) → has_change es ≡ false → has_change (take len es) ≡ false
+marks-take zero es none = refl
+marks-take (suc len) [] none = refl
+marks-take (suc len) (Begin ∷ es) none = marks-take len es none
+marks-take (suc len) (End ∷ es) none = marks-take len es none
+marks-take (suc len) (Inserted i s ps ∷ es) none = cc
+marks-take (suc len) (Deleted i s ps ∷ es) none = cc
+marks-take (suc len) (Replaced i s t ps ∷ es) none = cc
+
+-- and the first entries lead to the text as all do
+pub marks-replay : (len : ℕ) (es : List Entry) (text : List ℕ) → has_change es ≡ false → agree (unwind es text) (unwind (take len es) text) ≡ true
+marks-replay len es text none =
+    ap (λ o. agree o (unwind (take len es) text)) (marks-unwind es text none) ∙ ap (agree (Some text)) (marks-unwind (take len es) text (marks-take len es none)) ∙ (bytes_eq-Decides text text).1 refl
 
 then-same : {A B : Type 0} (f g : A → Option B) → ((a : A) → f a ≡ g a) → (o : Option A) → option_and_then f o ≡ option_and_then g o
 then-same f g same None = refl

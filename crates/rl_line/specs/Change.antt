@@ -9,7 +9,7 @@ use Rattle.rl_line.specs.declared.change.Measure.{Measure}
 use Rattle.rl_line.specs.declared.change.Measure.TheVariants.{Bytes, Newlines}
 use Rattle.rl_line.specs.declared.change.Way.{Way}
 use Rattle.rl_line.specs.declared.change.Way.TheVariants.{Back, Ahead}
-use Rattle.rl_line.specs.Record.{Entry, Begin, End, Inserted, Deleted, Replaced, cursors_of, entry_of, event_of, freshness_joined, inverse, joined}
+use Rattle.rl_line.specs.Record.{Entry, Begin, End, Inserted, Deleted, Replaced, cursors_of, entry_of, event_of, freshness_joined, inverse, joined, new_text, old_text}
 use Rattle.rl_line.specs.declared.change.Freshness.{Freshness}
 use Rattle.rl_line.specs.Undo.{cursor_told}
 
@@ -39,17 +39,6 @@ place End = None
 place (Inserted i s cursors) = Some i
 place (Deleted i s cursors) = Some i
 place (Replaced i s t cursors) = Some i
-
--- the text that stood at a change's place before it, and the one that stood there after it
-abbrev pub old_text : Entry → List ℕ
-old_text (Deleted i s cursors) = s
-old_text (Replaced i s t cursors) = s
-old_text _ = []
-
-abbrev pub new_text : Entry → List ℕ
-new_text (Inserted i s cursors) = s
-new_text (Replaced i s t cursors) = t
-new_text _ = []
 
 -- the entry that is taken back where a line goes over a change: going ahead, its inverse
 abbrev pub faced : Way → Change → Entry

@@ -1,8 +1,9 @@
 -- The state of a line, and ranges of its text.
-use Rattle.std.specs.Prelude.{◌≡◌, ℕ, ◌≤◌, Bool, List, length, max, Option, Some, None, option_and_then, if◌then◌else◌}
+use Rattle.std.specs.Prelude.{◌≡◌, ℕ, ◌<◌, ◌≤◌, Bool, List, length, max, count_by, ◌⊎◌, Option, Some, None, option_and_then, if◌then◌else◌}
 use Rattle.std.specs.Str.{IsCharBoundary}
 use Rattle.std.specs.declared.ops.Range.{Range}
 use Rattle.rl_base.specs.Event.{Event, apply}
+use Rattle.rl_base.specs.Lines.{is_newline}
 use Rattle.rl_base.specs.Text.{is_boundary}
 use Rattle.rl_line.specs.LineStarts.{line_starts}
 
@@ -31,6 +32,10 @@ if_standing line = if is_boundary line.text line.cursor then Some line else None
 -- characters
 abbrev pub after_step : Event → ℕ → Line → Option Line
 after_step event cursor line = option_and_then (λ text. if_standing (stepped line text cursor)) (apply event line.text)
+
+-- a text needs room that another does not: it is longer, or has more newlines
+abbrev pub NeedsRoom : List ℕ → List ℕ → Type 0
+NeedsRoom text other = (length text < length other) ⊎ (count_by is_newline text < count_by is_newline other)
 
 -- the range from a place to another
 abbrev pub between : ℕ → ℕ → Range ℕ

@@ -1,10 +1,9 @@
 -- What an edit does: its steps, each one event and the cursor after it, the cursor at the end, and its answer.
-use Rattle.std.specs.Prelude.{◌≡◌, ℕ, ◌<◌, map, List, [], ◌∷◌, ◌++◌, length, count_by, encode_utf8, ◌+◌, Option, Some, option_and_then, ◌⊎◌}
+use Rattle.std.specs.Prelude.{◌≡◌, ℕ, ◌<◌, map, List, [], ◌∷◌, ◌++◌, length, encode_utf8, ◌+◌, Option, Some, option_and_then, ◌⊎◌}
 use Rattle.rl_base.specs.Event.{Event, InsertChar, InsertStr, Delete, Replace, Cursors}
-use Rattle.rl_base.specs.Lines.{is_newline}
 use Rattle.rl_base.specs.declared.listeners.Refusal.{Refusal}
 use Rattle.rl_base.specs.declared.listeners.Refusal.TheVariants.{NoMemory}
-use Rattle.rl_line.specs.Line.{Line, after_step}
+use Rattle.rl_line.specs.Line.{Line, NeedsRoom, after_step}
 
 -- an event, and the cursor after it
 abbrev pub Step : Type 0
@@ -48,7 +47,7 @@ after (s ∷ ss) line = option_and_then (after ss) (after_step s.0 s.1 line)
 abbrev pub Grows : Event → Type 0
 Grows (InsertChar i c) = Unit {0}
 Grows (InsertStr i s) = 0 < length s
-Grows (Replace i s t) = (length s < length t) ⊎ (count_by is_newline s < count_by is_newline t)
+Grows (Replace i s t) = NeedsRoom s t
 Grows _ = ⊥
 
 -- the refusals of a listener, and want of memory where the event grows, of which the listener hears nothing

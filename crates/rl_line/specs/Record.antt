@@ -173,6 +173,26 @@ inverse (Inserted i s cursors) = Deleted i s (swapped cursors)
 inverse (Deleted i s cursors) = Inserted i s (swapped cursors)
 inverse (Replaced i s t cursors) = Replaced i t s (swapped cursors)
 
+-- the text that stood at a change's place before it, and the one that stood there after it
+abbrev pub old_text : Entry → List ℕ
+old_text (Deleted i s cursors) = s
+old_text (Replaced i s t cursors) = s
+old_text _ = []
+
+abbrev pub new_text : Entry → List ℕ
+new_text (Inserted i s cursors) = s
+new_text (Replaced i s t cursors) = t
+new_text _ = []
+
+-- how many bytes come where the entries are taken back, and where they are made again
+abbrev pub bytes_back : List Entry → ℕ
+bytes_back [] = 0
+bytes_back (e ∷ es) = length (old_text e) + bytes_back es
+
+abbrev pub bytes_ahead : List Entry → ℕ
+bytes_ahead [] = 0
+bytes_ahead (e ∷ es) = length (new_text e) + bytes_ahead es
+
 -- the text after the entries, from the text before them: the first is made first
 abbrev pub replay_entries : List Entry → List ℕ → Option (List ℕ)
 replay_entries es text = replay (map event_of es) text

@@ -1,6 +1,7 @@
 -- How a line goes back over its record, and ahead again.
-use Rattle.std.specs.Prelude.{◌≡◌, ℕ, zero, suc, ◌+◌, Bool, List, [], ◌∷◌, length, Option, Some, option_and_then, unwrap_or}
+use Rattle.std.specs.Prelude.{◌≡◌, ℕ, zero, suc, ◌+◌, Bool, List, [], ◌∷◌, length, map, reverse, Option, Some, None, option_and_then, unwrap_or}
 use Rattle.std.specs.Option.{option_map}
+use Rattle.rl_base.specs.Event.{Event, apply}
 use Rattle.rl_line.specs.Line.{Line, after_step}
 use Rattle.rl_line.specs.Record.{Entry, Begin, End, Inserted, Deleted, Replaced, Record, cursors_of, event_of, inverse}
 use Rattle.rl_line.specs.Units.{last_of, redo_of, has_change, undone, redone}
@@ -34,6 +35,18 @@ line_ahead (e ∷ es) line = option_and_then (line_ahead es) (line_after e line)
 abbrev pub line_back : List Entry → Line → Option Line
 line_back [] line = Some line
 line_back (e ∷ es) line = option_and_then (line_after (inverse e)) (line_back es line)
+
+-- the texts after each of these events, from the text before, as far as they fit
+abbrev pub texts_after : List Event → List ℕ → List (List ℕ)
+texts_after [] text = []
+texts_after (e ∷ es) text = elim (apply e text) [ None ↦ [] | Some next ↦ next ∷ texts_after es next ]
+
+-- the texts after each of these entries was taken back, the last first, and after each was made again
+abbrev pub texts_back : List Entry → List ℕ → List (List ℕ)
+texts_back entries text = texts_after (map (λ (e : Entry). event_of (inverse e)) (reverse entries)) text
+
+abbrev pub texts_ahead : List Entry → List ℕ → List (List ℕ)
+texts_ahead entries text = texts_after (map event_of entries) text
 
 -- what an undo of n does: the line goes back over the last units, which wait to be redone. The answer: was there a change?
 pub record Undone (n : ℕ) (old new : Record) (line line' : Line) (answer : Bool) : Type 0 where

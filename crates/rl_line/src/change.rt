@@ -1,5 +1,5 @@
 //! An entry of a record, and how a text goes over it.
-ghost use Rattle.std.specs.Prelude.{◌≡◌, ℕ, List, None, Some, true, OnErr, OnOk, IfOk, IfErr, ◌+◌, ◌-◌, ◌<◌, ◌≤◌, IsSome, IfSome, get_or, is_some, length, map, vec_len, vec_capacity};
+ghost use Rattle.std.specs.Prelude.{◌⊎◌, ◌≡◌, ℕ, List, None, Some, true, OnErr, OnOk, IfOk, IfErr, ◌+◌, ◌-◌, ◌^◌, ◌<◌, ◌≤◌, IsSome, IfNone, IfSome, get_or, is_some, length, map, vec_len, vec_capacity};
 ghost use Rattle.std.specs.Option.{option_map};
 ghost use Rattle.std.specs.String.{string_bytes, string_len, string_capacity};
 ghost use Rattle.std.specs.Str.{IsCharBoundary, IsUtf8};
@@ -7,10 +7,10 @@ ghost use Rattle.rl_base.specs.Event.{InsertChar, Delete, Replace, apply};
 ghost use Rattle.rl_base.specs.Text.{stands_at};
 ghost use Rattle.rl_base.specs.declared.listeners.Direction.TheVariants.{Forward};
 ghost use Rattle.rl_base.specs.declared.listeners.Refusal.TheVariants.{NoMemory};
-ghost use Rattle.rl_line.specs.Record.{cursors_of, entry_of, event_of, freshness_joined, inverse, with_cursors};
+ghost use Rattle.rl_line.specs.Record.{bytes_back, cursors_of, entry_of, event_of, freshness_joined, inverse, new_text, old_text, with_cursors};
 ghost use Rattle.rl_line.specs.Undo.{cursor_after, cursor_told};
 ghost use Rattle.rl_line.specs.Units.{is_begin, is_change};
-ghost use Rattle.rl_line.specs.Change.{TakesIn, cursor_stands, text_back, new_text, old_text, place, faced, greatest_back_over, order, size_back, size_of};
+ghost use Rattle.rl_line.specs.Change.{TakesIn, cursor_stands, text_back, place, faced, greatest_back_over, order, size_back, size_of};
 ghost use Rattle.rl_line.specs.declared.change.Measure.TheVariants.{Bytes, Newlines};
 ghost use Rattle.rl_line.specs.LineStarts.{line_starts};
 
@@ -101,7 +101,8 @@ impl Measure {
     // measured is known when it is compiled.
     #[inline(always)]
     fn size_over(self, size: usize, going: &str, coming: &str) -> Option<usize>
-        ensures { IfSome result (λ n. n ≡ (size - size_of self going.now) + size_of self coming.now) }
+        ensures some { IfSome result (λ n. n ≡ (size - size_of self going.now) + size_of self coming.now) }
+        ensures none { IfNone result (2 ^ 64 ≤ (size - size_of self going.now) + size_of self coming.now) }
     {
         size.saturating_sub(self.of(going))
             .checked_add(self.of(coming))
@@ -315,7 +316,7 @@ pub(crate) fn find_room_over(
     ensures count { vec_len starts.new ≡ vec_len starts.old }
     ensures room { OnOk result (greatest_back_over Bytes (map (faced way) (order way changes.now)) (string_len text.old) ≤ string_capacity text.new) }
     ensures table { OnOk result (greatest_back_over Newlines (map (faced way) (order way changes.now)) (vec_len starts.old) ≤ vec_capacity starts.new) }
-    ensures err { IfErr result (λ r. (r ≡ NoMemory) × (0 < length changes.now)) }
+    ensures err { IfErr result (λ r. (r ≡ NoMemory) × ((string_len text.old < greatest_back_over Bytes (map (faced way) (order way changes.now)) (string_len text.old)) ⊎ (vec_len starts.old < greatest_back_over Newlines (map (faced way) (order way changes.now)) (vec_len starts.old)))) }
 {
     let growth = growth_over(changes, way, text.len(), starts.len())?;
     find_room(text, starts, growth.bytes, growth.newlines)
@@ -332,7 +333,7 @@ fn growth_over(
 ) -> Result<Growth, Refusal>
     ensures bytes { IfOk result (λ growth. bytes + growth.bytes ≡ greatest_back_over Bytes (map (faced way) (order way changes.now)) bytes) }
     ensures newlines { IfOk result (λ growth. newlines + growth.newlines ≡ greatest_back_over Newlines (map (faced way) (order way changes.now)) newlines) }
-    ensures err { IfErr result (λ r. (r ≡ NoMemory) × (0 < length changes.now)) }
+    ensures err { IfErr result (λ r. (r ≡ NoMemory) × ((bytes < greatest_back_over Bytes (map (faced way) (order way changes.now)) bytes) ⊎ (newlines < greatest_back_over Newlines (map (faced way) (order way changes.now)) newlines))) }
 {
     let (mut long, mut longest) = (bytes, bytes);
     let (mut high, mut highest) = (newlines, newlines);
@@ -367,7 +368,7 @@ pub(crate) fn text_over(
     asks: bool,
 ) -> Result<Option<String>, Refusal>
     ensures ok { IfOk result (λ over. option_map string_bytes over ≡ text_back asks (map (faced way) (order way changes.now)) text.now) }
-    ensures err { IfErr result (λ r. r ≡ NoMemory) }
+    ensures err { IfErr result (λ r. (r ≡ NoMemory) × (0 < length text.now + bytes_back (map (faced way) (order way changes.now)))) }
 {
     let mut now = copied(alloc, text)?;
     let mut left = changes.len();

@@ -1,10 +1,11 @@
 //! A list of entries, of which the first are recorded, and those behind them were undone: what an event makes of it, and which
 //! of them an undo or a redo goes over. A function that records drops what was undone, and refused it leaves every entry.
-ghost use Rattle.std.specs.Prelude.{◌≡◌, ◌+◌, ◌^◌, ◌≤◌, ◌<◌, [], ◌∷◌, ◌++◌, length, map, take, drop, not, IfOk, IfErr, IsSome, OnOk};
+ghost use Rattle.std.specs.Prelude.{◌≡◌, ◌+◌, ◌^◌, ◌≤◌, ◌<◌, [], ◌∷◌, ◌++◌, length, map, take, drop, true, false, IfOk, IfErr, OnOk, OnErr};
 ghost use Rattle.std.specs.Option.{option_map};
 ghost use Rattle.std.specs.String.{string_bytes};
 ghost use Rattle.std.specs.Vec.{vec_len, vec_capacity};
 ghost use Rattle.rl_base.specs.Event.{InsertChar, InsertStr, Delete, Replace};
+ghost use Rattle.rl_base.specs.Text.{HasText};
 ghost use Rattle.rl_base.specs.declared.listeners.Direction.TheVariants.{Forward};
 ghost use Rattle.rl_base.specs.declared.listeners.Refusal.TheVariants.{NoMemory};
 ghost use Rattle.rl_line.specs.Record.{entries_after, entries_told, entry_of, freshness_of, last_insert};
@@ -192,6 +193,7 @@ pub(crate) fn add(entries: &mut Vec<Change>, recorded: usize, entry: Change) -> 
     requires { recorded ≤ length entries.old.items }
     ensures ok { OnOk result (map entry_of entries.new.items ≡ take recorded (map entry_of entries.old.items) ++ entry_of entry ∷ []) }
     ensures err { IfErr result (λ r. (r ≡ NoMemory) × (map entry_of entries.new.items ≡ map entry_of entries.old.items)) }
+    ensures full { OnErr result (length entries.old.items ≤ recorded) }
 {
     if recorded < entries.len() {
         entries.truncate(recorded);
@@ -269,33 +271,67 @@ pub(crate) fn level_at(entries: &[Change], len: usize, last: usize) -> usize
     level
 }
 
-/// Closes so many groups in a list with room for as many entries. Answers whether it added an End.
-pub(crate) fn close_groups(entries: &mut Vec<Change>, count: usize) -> bool
-    requires { vec_len entries.old + count ≤ vec_capacity entries.old }
-    ensures entries { map entry_of entries.new.items ≡ end_times count (map entry_of entries.old.items) }
-    ensures answer { result ≡ adds_end count (map entry_of entries.old.items) }
+/// Whether closing so many groups adds an End, as it does where one of them is not empty.
+pub(crate) fn adds_end(entries: &[Change], count: usize) -> bool
+    ensures { result ≡ adds_end count (map entry_of entries.now) }
 {
-    let mut added = false;
-    for _ in 0..count {
-        added = close_last(entries) | added;
+    let mut left = count;
+    let mut at = entries.len();
+    while left > 0 {
+        if at == 0 {
+            return true;
+        }
+        if !entries[at - 1].is_begin() {
+            return true;
+        }
+        at -= 1;
+        left -= 1;
     }
-    added
+    false
 }
 
-// Closes the group that was opened last: takes a Begin at the end off, or adds an End, and answers whether it did.
-fn close_last(entries: &mut Vec<Change>) -> bool
-    requires { vec_len entries.old < vec_capacity entries.old }
+/// Finds room for so many Ends, where one is to be added.
+pub(crate) fn find_ends(
+    entries: &mut Vec<Change>,
+    adds: bool,
+    count: usize,
+) -> Result<(), Refusal>
+    ensures items { entries.new.items ≡ entries.old.items }
+    ensures room { OnOk result (adds ≡ true → vec_len entries.new + count ≤ vec_capacity entries.new) }
+    ensures err { IfErr result (λ r. (r ≡ NoMemory) × (adds ≡ true)) }
+{
+    if !adds {
+        return Ok(());
+    }
+    match entries.reserve(count) {
+        Ok(()) => Ok(()),
+        Err(_) => Err(Refusal::NoMemory),
+    }
+}
+
+/// Closes so many groups in a list that has room for as many Ends, if one is added.
+pub(crate) fn close_groups(entries: &mut Vec<Change>, count: usize)
+    requires { adds_end count (map entry_of entries.old.items) ≡ true → vec_len entries.old + count ≤ vec_capacity entries.old }
+    ensures { map entry_of entries.new.items ≡ end_times count (map entry_of entries.old.items) }
+{
+    for _ in 0..count {
+        close_last(entries);
+    }
+}
+
+// Closes the group that was opened last: takes a Begin at the end off, or adds an End.
+fn close_last(entries: &mut Vec<Change>)
+    requires { ends_in_begin (map entry_of entries.old.items) ≡ false → vec_len entries.old < vec_capacity entries.old }
     ensures entries { map entry_of entries.new.items ≡ end_one (map entry_of entries.old.items) }
-    ensures answer { result ≡ not (ends_in_begin (map entry_of entries.old.items)) }
     ensures len { vec_len entries.new ≤ vec_len entries.old + 1 }
     ensures capacity { vec_capacity entries.old ≤ vec_capacity entries.new }
 {
     if ends_in_begin(entries) {
         entries.pop();
-        return false;
+        return;
     }
     match entries.push(Change::End) {
-        Ok(()) => true,
+        Ok(()) => {}
         Err(_) => unreachable!(),
     }
 }
@@ -376,7 +412,7 @@ pub(crate) fn has_change(entries: &[Change]) -> bool
 /// A copy of what the last entry put in, Ends passed over.
 pub(crate) fn last_insert(entries: &[Change], alloc: Global) -> Result<Option<String>, Refusal>
     ensures ok { IfOk result (λ text. option_map string_bytes text ≡ last_insert (map entry_of entries.now)) }
-    ensures err { IfErr result (λ r. (r ≡ NoMemory) × IsSome (last_insert (map entry_of entries.now))) }
+    ensures err { IfErr result (λ r. (r ≡ NoMemory) × HasText (last_insert (map entry_of entries.now))) }
 {
     let mut left = entries.len();
     while left > 0 {

@@ -1,13 +1,13 @@
 //! The line: its text, its cursor, and the few steps through which every change of its text goes.
-ghost use Rattle.std.specs.Prelude.{◌≡◌, ℕ, List, [], ◌∷◌, ◌+◌, ◌^◌, ◌<◌, ◌≤◌, ◌↔◌, false, map, length, slice_range, encode_utf8, IsTrue, IsSome, Some, IfOk, IfErr, OnOk, OnErr};
+ghost use Rattle.std.specs.Prelude.{◌≡◌, ℕ, List, [], ◌∷◌, ◌+◌, ◌^◌, ◌<◌, ◌≤◌, ◌↔◌, false, map, length, slice_range, encode_utf8, Any, IsTrue, IsSome, Some, IfOk, IfErr, OnOk, OnErr};
 ghost use Rattle.std.specs.Str.{IsCharBoundary, IsUtf8};
 ghost use Rattle.std.specs.String.{string_bytes};
 ghost use Rattle.std.specs.List.{insert_slice, remove_range, replace_range};
 ghost use Rattle.rl_base.specs.Event.{InsertChar, InsertStr, Delete, Replace, replay};
 ghost use Rattle.rl_base.specs.declared.listeners.Refusal.TheVariants.{NoMemory};
-ghost use Rattle.rl_line.specs.Line.{Line, stepped};
+ghost use Rattle.rl_line.specs.Line.{Line, NeedsRoom, stepped};
 ghost use Rattle.rl_line.specs.Plan.{Step, Taken, after, events_of, or_no_memory};
-ghost use Rattle.rl_line.specs.Undo.{line_back};
+ghost use Rattle.rl_line.specs.Undo.{line_back, texts_back};
 ghost use Rattle.rl_line.specs.Change.{faced, order};
 
 mod edits;
@@ -39,6 +39,8 @@ pub fn steps_are_a_replay<L: DeleteListener>()
 
 /// The length in bytes that a line of an editor is made for.
 pub const MAX_LINE: usize = 4096;
+
+const _: () = prove!(MAX_LINE == 4096);
 
 /// A text, a cursor in it, and a limit on the text's length, all in bytes.
 ///
@@ -78,7 +80,7 @@ impl LineBuffer {
     /// An empty line of that limit, with room for as many bytes, that may not grow.
     pub fn with_capacity(alloc: Global, capacity: usize) -> Result<Self, Refusal>
         ensures ok { IfOk result (λ line. line ≡ record { text = []; cursor = 0; limit = capacity; grow = false }) }
-        ensures err { IfErr result (λ r. r ≡ NoMemory) }
+        ensures err { IfErr result (λ r. (r ≡ NoMemory) × (0 < capacity)) }
     {
         match String::with_capacity(alloc, capacity) {
             Ok(buf) => Ok(LineBuffer {
@@ -300,8 +302,10 @@ impl LineBuffer {
     pub(crate) fn go_over_all(&mut self, changes: &[Change], way: Way) -> Result<(), Refusal>
         requires { IsSome (line_back (map (faced way) (order way changes.now)) self.old) }
         ensures ok { OnOk result (line_back (map (faced way) (order way changes.now)) self.old ≡ Some self.new) }
-        ensures err { IfErr result (λ r. (r ≡ NoMemory) × (self.new ≡ self.old) × (0 < length changes.now)) }
+        ensures err { IfErr result (λ r. (r ≡ NoMemory) × (self.new ≡ self.old) × Any (NeedsRoom self.old.text) (texts_back (map (faced way) (order way changes.now)) self.old.text)) }
     {
+        // So the proof knows that this is UTF-8.
+        let _text = self.buf.as_str();
         find_room_over(&mut self.buf, &mut self.starts, changes, way)?;
         let mut left = changes.len();
         while left > 0 {

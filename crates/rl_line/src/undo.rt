@@ -1,15 +1,16 @@
 //! The record of the changes of a line, which undoes them, in groups where they were made in groups, and redoes them.
-ghost use Rattle.std.specs.Prelude.{◌≡◌, ◌<◌, ℕ, List, Bool, [], ◌∷◌, ◌++◌, suc, false, drop, is_some, length, IsSome, Some, IfOk, IfErr, OnOk};
+ghost use Rattle.std.specs.Prelude.{◌≡◌, ◌<◌, ◌+◌, ℕ, List, Bool, [], ◌∷◌, ◌++◌, suc, true, false, drop, is_some, length, Any, IsSome, Some, IfOk, IfErr, OnOk};
 ghost use Rattle.std.specs.Option.{option_map};
 ghost use Rattle.std.specs.String.{string_bytes};
 ghost use Rattle.std.specs.Str.{IsUtf8};
 ghost use Rattle.rl_base.specs.Event.{InsertChar, InsertStr, Delete, Replace};
+ghost use Rattle.rl_base.specs.Text.{HasText};
 ghost use Rattle.rl_base.specs.declared.listeners.Direction.TheVariants.{Forward};
 ghost use Rattle.rl_base.specs.declared.listeners.Refusal.TheVariants.{NoMemory};
 ghost use Rattle.rl_line.specs.declared.change.Freshness.TheVariants.{Stale};
-ghost use Rattle.rl_line.specs.Line.{Line};
-ghost use Rattle.rl_line.specs.Record.{Entry, End, Record, last_insert, record_step, replay_entries, replays_to, unwind};
-ghost use Rattle.rl_line.specs.Undo.{Redone, Redos, Undone, line_ahead, line_back};
+ghost use Rattle.rl_line.specs.Line.{Line, NeedsRoom};
+ghost use Rattle.rl_line.specs.Record.{Entry, End, Record, bytes_ahead, bytes_back, last_insert, record_step, replay_entries, replays_to, unwind};
+ghost use Rattle.rl_line.specs.Undo.{Redone, Redos, Undone, line_ahead, line_back, texts_ahead, texts_back};
 ghost use Rattle.rl_line.specs.Units.{BothMatched, GroupAt, InGroup, IsMatched, adds_end, after_in_group, begun, ended, has_change, last_of, last_units, level, opens, redo_of, truncated};
 
 use crate::change::{Change, Freshness, Way, text_over};
@@ -84,7 +85,7 @@ impl Changeset {
     /// stand before it, a mark that `truncate` takes.
     pub fn begin(&mut self) -> Result<usize, Refusal>
         ensures done { IfOk result (λ answer. (answer ≡ length self.old.recorded) × (self.new ≡ begun self.old)) }
-        ensures err { IfErr result (λ r. (r ≡ NoMemory) × (self.new ≡ self.old)) }
+        ensures err { IfErr result (λ r. (r ≡ NoMemory) × (self.new ≡ self.old) × (self.old.pending ≡ [])) }
     {
         let before = self.recorded;
         entries::add(&mut self.entries, self.recorded, Change::Begin)?;
@@ -98,13 +99,12 @@ impl Changeset {
     /// was one that holds something.
     pub fn end(&mut self) -> Result<bool, Refusal>
         ensures done { IfOk result (λ answer. (answer ≡ adds_end (level self.old.recorded) self.old.recorded) × (self.new ≡ ended self.old)) }
-        ensures err { IfErr result (λ r. (r ≡ NoMemory) × (self.new ≡ self.old) × (0 < level self.old.recorded)) }
+        ensures err { IfErr result (λ r. (r ≡ NoMemory) × (self.new ≡ self.old) × (adds_end (level self.old.recorded) self.old.recorded ≡ true)) }
     {
-        if self.entries.reserve(self.level).is_err() {
-            return Err(Refusal::NoMemory);
-        }
+        let added = entries::adds_end(&self.entries[..self.recorded], self.level);
+        entries::find_ends(&mut self.entries, added, self.level)?;
         entries::keep(&mut self.entries, self.recorded);
-        let added = entries::close_groups(&mut self.entries, self.level);
+        entries::close_groups(&mut self.entries, self.level);
         self.recorded = self.entries.len();
         self.fresh = Freshness::Stale;
         self.level = 0;
@@ -165,7 +165,7 @@ impl Changeset {
         requires { IsSome (line_back self.old.recorded line.old) }
         ensures done { IfOk result (λ answer. Undone n self.old self.new line.old line.new answer) }
         ensures unmoved { IfOk result (λ answer. answer ≡ false → (line.new.text ≡ line.old.text) × (line.new.cursor ≡ line.old.cursor)) }
-        ensures err { IfErr result (λ r. (r ≡ NoMemory) × (self.new ≡ self.old) × (line.new ≡ line.old) × (0 < length self.old.recorded)) }
+        ensures err { IfErr result (λ r. (r ≡ NoMemory) × (self.new ≡ self.old) × (line.new ≡ line.old) × Any (NeedsRoom line.old.text) (texts_back (last_of n self.old.recorded) line.old.text)) }
     {
         let count = entries::last_len(&self.entries[..self.recorded], n);
         let first = self.recorded - count;
@@ -188,7 +188,7 @@ impl Changeset {
         requires { IsSome (line_ahead self.old.pending line.old) }
         ensures done { IfOk result (λ answer. Redone self.old self.new line.old line.new answer) }
         ensures unmoved { IfOk result (λ answer. answer ≡ false → (line.new.text ≡ line.old.text) × (line.new.cursor ≡ line.old.cursor)) }
-        ensures err { IfErr result (λ r. (r ≡ NoMemory) × (self.new ≡ self.old) × (line.new ≡ line.old) × (0 < length self.old.pending)) }
+        ensures err { IfErr result (λ r. (r ≡ NoMemory) × (self.new ≡ self.old) × (line.new ≡ line.old) × Any (NeedsRoom line.old.text) (texts_ahead (redo_of self.old.pending) line.old.text)) }
     {
         let count = entries::next_len(&self.entries[self.recorded..]);
         let end = self.recorded + count;
@@ -217,7 +217,7 @@ impl Changeset {
     /// it are passed over.
     pub fn last_insert(&self) -> Result<Option<String>, Refusal>
         ensures ok { IfOk result (λ text. option_map string_bytes text ≡ last_insert self.now.recorded) }
-        ensures err { IfErr result (λ r. (r ≡ NoMemory) × IsSome (last_insert self.now.recorded)) }
+        ensures err { IfErr result (λ r. (r ≡ NoMemory) × HasText (last_insert self.now.recorded)) }
     {
         entries::last_insert(&self.entries[..self.recorded], *self.entries.allocator())
     }
@@ -226,12 +226,15 @@ impl Changeset {
     /// told stands between two characters then.
     pub fn can_undo(&self, line: &LineBuffer) -> Result<bool, Refusal>
         ensures ok { IfOk result (λ answer. answer ≡ is_some (line_back self.now.recorded line.now)) }
-        ensures err { IfErr result (λ r. r ≡ NoMemory) }
+        ensures err { IfErr result (λ r. (r ≡ NoMemory) × (has_change self.now.recorded ≡ true) × (0 < length line.now.text + bytes_back self.now.recorded)) }
     {
         // So the proof knows that the cursor stands between two characters.
         let _cursor = line.pos();
         let alloc = *self.entries.allocator();
         let recorded = &self.entries[..self.recorded];
+        if !entries::has_change(recorded) {
+            return Ok(true);
+        }
         let text = text_over(alloc, line.as_str(), recorded, Way::Back, true)?;
         Ok(text.is_some())
     }
@@ -240,12 +243,15 @@ impl Changeset {
     /// was told stands between two characters then.
     pub fn can_redo(&self, line: &LineBuffer) -> Result<bool, Refusal>
         ensures ok { IfOk result (λ answer. answer ≡ is_some (line_ahead self.now.pending line.now)) }
-        ensures err { IfErr result (λ r. r ≡ NoMemory) }
+        ensures err { IfErr result (λ r. (r ≡ NoMemory) × (has_change self.now.pending ≡ true) × (0 < length line.now.text + bytes_ahead self.now.pending)) }
     {
         // So the proof knows that the cursor stands between two characters.
         let _cursor = line.pos();
         let alloc = *self.entries.allocator();
         let pending = &self.entries[self.recorded..];
+        if !entries::has_change(pending) {
+            return Ok(true);
+        }
         let text = text_over(alloc, line.as_str(), pending, Way::Ahead, true)?;
         Ok(text.is_some())
     }
@@ -254,11 +260,14 @@ impl Changeset {
     /// others: both they and all entries can be taken back from it, to the same text.
     pub fn replays_to(&self, len: usize, line: &LineBuffer) -> Result<bool, Refusal>
         ensures ok { IfOk result (λ answer. answer ≡ replays_to len self.now line.now.text) }
-        ensures err { IfErr result (λ r. r ≡ NoMemory) }
+        ensures err { IfErr result (λ r. (r ≡ NoMemory) × (has_change self.now.recorded ≡ true) × (0 < length line.now.text + bytes_back self.now.recorded)) }
     {
         let alloc = *self.entries.allocator();
         let text = line.as_str();
         let recorded = &self.entries[..self.recorded];
+        if !entries::has_change(recorded) {
+            return Ok(true);
+        }
         let Some(all) = text_over(alloc, text, recorded, Way::Back, false)? else {
             return Ok(false);
         };

@@ -17,11 +17,6 @@ use Rattle.rl_session.specs.declared.session.Reply.TheVariants as says
 use Rattle.rl_session.specs.State.{State}
 use Rattle.rl_session.specs.Commands.{Asked, Telling, edit, other, asked, CutShort, Edits, Others, DoesAsked, Does, Step, lent_plan, popped_plan, readied}
 
--- the texts after each of these events, from the text before, as far as they fit
-abbrev pub texts_after : List Event → List ℕ → List (List ℕ)
-texts_after [] text = []
-texts_after (e ∷ es) text = elim (apply e text) [ None ↦ [] | Some next ↦ next ∷ texts_after es next ]
-
 -- the texts after each of these steps of an edit
 abbrev pub texts_of_steps : List PlanStep → List ℕ → List (List ℕ)
 texts_of_steps steps text = texts_after (map (λ (s : PlanStep). s.0) steps) text
@@ -37,13 +32,6 @@ texts_of_first {old = old} cut = texts_of_steps cut.halted.first old.line.text
 abbrev pub texts_of_cut : {A U : Type 0} {plan : Plan A} {old new : State} → U ⊎ CutShort plan old new → List (List ℕ)
 texts_of_cut (inl _) = []
 texts_of_cut (inr cut) = texts_of_first cut
-
--- the texts after each of these entries was taken back, the last first, and after each was made again
-abbrev pub texts_back : List Entry → List ℕ → List (List ℕ)
-texts_back entries text = texts_after (map (λ (e : Entry). event_of (inverse e)) (reverse entries)) text
-
-abbrev pub texts_ahead : List Entry → List ℕ → List (List ℕ)
-texts_ahead entries text = texts_after (map event_of entries) text
 
 -- the texts that an edit held
 abbrev pub held_by_edit : {A : Type 0} → (copies : Bool) → (condition : Type 0) → (plan : Plan A) → (telling : Telling A) → (old : State) → (reply : Reply) → (new : State)

@@ -228,7 +228,7 @@ impl LineBuffer {
         requires start { IsCharBoundary self.old.text range.start }
         requires end { IsCharBoundary self.old.text range.end }
         ensures done { IfOk result (λ answer. Done L.step (delete_range_plan self.old range.start range.end) self.old self.new listener.old listener.new answer) }
-        ensures halted { IfErr result (λ r. Halted L.step (or_no_memory L.refused) (delete_range_plan self.old range.start range.end) self.old self.new listener.old listener.new r) }
+        ensures halted { IfErr result (λ r. Halted L.step L.refused (delete_range_plan self.old range.start range.end) self.old self.new listener.old listener.new r) }
     {
         self.take_out(range, Direction::Forward, listener)
     }

@@ -4,6 +4,7 @@ ghost use Rattle.std.specs.Str.{IsCharBoundary};
 ghost use Rattle.std.specs.Option.{option_map};
 ghost use Rattle.std.specs.String.{string_bytes};
 ghost use Rattle.rl_base.specs.Event.{Delete};
+ghost use Rattle.rl_base.specs.Text.{HasText};
 ghost use Rattle.rl_base.specs.declared.listeners.Refusal.TheVariants.{NoMemory};
 ghost use Rattle.rl_base.specs.declared.motion.Movement.{Movement};
 ghost use Rattle.rl_base.specs.declared.motion.Movement.TheVariants.{BeginningOfLine, EndOfLine, BackwardWord, ForwardWord, ViCharSearch, BackwardChar, BeginningOfBuffer, EndOfBuffer};
@@ -21,7 +22,7 @@ impl LineBuffer {
     /// Copies what a movement covers, or answers None where that is nothing. The line stays as it is.
     pub fn copy(&self, mvt: &Movement) -> Result<Option<String>, Refusal>
         ensures ok { IfOk result (λ answer. option_map string_bytes answer ≡ copied self.now mvt.now) }
-        ensures err { IfErr result (λ r. (r ≡ NoMemory) × IsSome (copied self.now mvt.now)) }
+        ensures err { IfErr result (λ r. (r ≡ NoMemory) × HasText (copied self.now mvt.now)) }
     {
         match self.covered(mvt) {
             Some(range) => Ok(Some(self.text_of(&range)?)),
@@ -70,7 +71,7 @@ impl LineBuffer {
         listener: &mut L,
     ) -> Result<bool, Refusal>
         ensures done { IfOk result (λ answer. Done L.step (kill_plan self.old mvt.now) self.old self.new listener.old listener.new answer) }
-        ensures halted { IfErr result (λ r. Halted L.step (or_no_memory L.refused) (kill_plan self.old mvt.now) self.old self.new listener.old listener.new r) }
+        ensures halted { IfErr result (λ r. Halted L.step L.refused (kill_plan self.old mvt.now) self.old self.new listener.old listener.new r) }
     {
         match self.killed(mvt) {
             Some(range) => {
@@ -92,7 +93,7 @@ impl LineBuffer {
         listener: &mut L,
     ) -> Result<bool, Refusal>
         ensures done { IfOk result (λ answer. Told L.step (is_by_characters mvt.now) (λ before now. Done L.step (kill_plan self.old mvt.now) self.old self.new before now answer) listener.old listener.new) }
-        ensures halted { IfErr result (λ r. Told L.step (is_by_characters mvt.now) (λ before now. Halted L.step (or_no_memory L.refused) (kill_plan self.old mvt.now) self.old self.new before now r) listener.old listener.new) }
+        ensures halted { IfErr result (λ r. Told L.step (is_by_characters mvt.now) (λ before now. Halted L.step L.refused (kill_plan self.old mvt.now) self.old self.new before now r) listener.old listener.new) }
     {
         if is_by_characters(mvt) {
             return self.delete_by(mvt, listener);
@@ -112,7 +113,7 @@ impl LineBuffer {
         listener: &mut L,
     ) -> Result<bool, Refusal>
         ensures done { IfOk result (λ answer. Done L.step (kill_plan self.old (BackwardChar n)) self.old self.new listener.old listener.new answer) }
-        ensures halted { IfErr result (λ r. Halted L.step (or_no_memory L.refused) (kill_plan self.old (BackwardChar n)) self.old self.new listener.old listener.new r) }
+        ensures halted { IfErr result (λ r. Halted L.step L.refused (kill_plan self.old (BackwardChar n)) self.old self.new listener.old listener.new r) }
     {
         self.delete_by(&Movement::BackwardChar(n), listener)
     }
@@ -122,7 +123,7 @@ impl LineBuffer {
     /// where its listener refuses, the line stays as it was.
     pub fn kill_line<L: DeleteListener>(&mut self, listener: &mut L) -> Result<bool, Refusal>
         ensures done { IfOk result (λ answer. Done L.step (kill_plan self.old EndOfLine) self.old self.new listener.old listener.new answer) }
-        ensures halted { IfErr result (λ r. Halted L.step (or_no_memory L.refused) (kill_plan self.old EndOfLine) self.old self.new listener.old listener.new r) }
+        ensures halted { IfErr result (λ r. Halted L.step L.refused (kill_plan self.old EndOfLine) self.old self.new listener.old listener.new r) }
     {
         self.delete_by(&Movement::EndOfLine, listener)
     }
@@ -131,7 +132,7 @@ impl LineBuffer {
     /// no memory; where its listener refuses, the line stays as it was.
     pub fn kill_buffer<L: DeleteListener>(&mut self, listener: &mut L) -> Result<bool, Refusal>
         ensures done { IfOk result (λ answer. Done L.step (kill_plan self.old EndOfBuffer) self.old self.new listener.old listener.new answer) }
-        ensures halted { IfErr result (λ r. Halted L.step (or_no_memory L.refused) (kill_plan self.old EndOfBuffer) self.old self.new listener.old listener.new r) }
+        ensures halted { IfErr result (λ r. Halted L.step L.refused (kill_plan self.old EndOfBuffer) self.old self.new listener.old listener.new r) }
     {
         self.delete_by(&Movement::EndOfBuffer, listener)
     }
@@ -141,7 +142,7 @@ impl LineBuffer {
     /// text. It takes no memory; where its listener refuses, the line stays as it was.
     pub fn discard_line<L: DeleteListener>(&mut self, listener: &mut L) -> Result<bool, Refusal>
         ensures done { IfOk result (λ answer. Done L.step (kill_plan self.old BeginningOfLine) self.old self.new listener.old listener.new answer) }
-        ensures halted { IfErr result (λ r. Halted L.step (or_no_memory L.refused) (kill_plan self.old BeginningOfLine) self.old self.new listener.old listener.new r) }
+        ensures halted { IfErr result (λ r. Halted L.step L.refused (kill_plan self.old BeginningOfLine) self.old self.new listener.old listener.new r) }
     {
         self.delete_by(&Movement::BeginningOfLine, listener)
     }
@@ -150,7 +151,7 @@ impl LineBuffer {
     /// no memory; where its listener refuses, the line stays as it was.
     pub fn discard_buffer<L: DeleteListener>(&mut self, listener: &mut L) -> Result<bool, Refusal>
         ensures done { IfOk result (λ answer. Done L.step (kill_plan self.old BeginningOfBuffer) self.old self.new listener.old listener.new answer) }
-        ensures halted { IfErr result (λ r. Halted L.step (or_no_memory L.refused) (kill_plan self.old BeginningOfBuffer) self.old self.new listener.old listener.new r) }
+        ensures halted { IfErr result (λ r. Halted L.step L.refused (kill_plan self.old BeginningOfBuffer) self.old self.new listener.old listener.new r) }
     {
         self.delete_by(&Movement::BeginningOfBuffer, listener)
     }
@@ -165,7 +166,7 @@ impl LineBuffer {
         listener: &mut L,
     ) -> Result<bool, Refusal>
         ensures done { IfOk result (λ answer. Done L.step (kill_plan self.old (BackwardWord n word)) self.old self.new listener.old listener.new answer) }
-        ensures halted { IfErr result (λ r. Halted L.step (or_no_memory L.refused) (kill_plan self.old (BackwardWord n word)) self.old self.new listener.old listener.new r) }
+        ensures halted { IfErr result (λ r. Halted L.step L.refused (kill_plan self.old (BackwardWord n word)) self.old self.new listener.old listener.new r) }
     {
         self.delete_by(&Movement::BackwardWord(n, word), listener)
     }
@@ -180,7 +181,7 @@ impl LineBuffer {
         listener: &mut L,
     ) -> Result<bool, Refusal>
         ensures done { IfOk result (λ answer. Done L.step (kill_plan self.old (ForwardWord n at word)) self.old self.new listener.old listener.new answer) }
-        ensures halted { IfErr result (λ r. Halted L.step (or_no_memory L.refused) (kill_plan self.old (ForwardWord n at word)) self.old self.new listener.old listener.new r) }
+        ensures halted { IfErr result (λ r. Halted L.step L.refused (kill_plan self.old (ForwardWord n at word)) self.old self.new listener.old listener.new r) }
     {
         self.delete_by(&Movement::ForwardWord(n, at, word), listener)
     }
@@ -195,7 +196,7 @@ impl LineBuffer {
         listener: &mut L,
     ) -> Result<bool, Refusal>
         ensures done { IfOk result (λ answer. Done L.step (kill_plan self.old (ViCharSearch n cs)) self.old self.new listener.old listener.new answer) }
-        ensures halted { IfErr result (λ r. Halted L.step (or_no_memory L.refused) (kill_plan self.old (ViCharSearch n cs)) self.old self.new listener.old listener.new r) }
+        ensures halted { IfErr result (λ r. Halted L.step L.refused (kill_plan self.old (ViCharSearch n cs)) self.old self.new listener.old listener.new r) }
     {
         self.delete_by(&Movement::ViCharSearch(n, cs), listener)
     }

@@ -1,11 +1,12 @@
-use Rattle.std.proofs.Common.{arith, ◌≡◌, ◌+◌, ◌-◌, ◌<◌, length, subst, sym, ap, Some, ◌∙◌}
+use Rattle.std.proofs.Common.{arith, rules, refl, ◌≡◌, ◌+◌, ◌-◌, ◌<◌, length, subst, sym, ap, Some, ◌∙◌}
 use Rattle.std.specs.String.{string_bytes}
 use Rattle.std.specs.Str.{IsUtf8}
 use Rattle.std.specs.Prelude.{is_some}
 use Rattle.rl_base.specs.Event.{apply}
-use Rattle.rl_line.specs.Record.{event_of, inverse}
+use Rattle.rl_line.specs.Record.{event_of, inverse, old_text}
 use Rattle.rl_line.specs.Change.{cursor_stands, faced, order}
 use Rattle.rl_line.proofs.ChangeLemmas.{GoesOver, GoesOver-astray, GoesOver-next, GoesOver-not}
+use Rattle.rl_line.proofs.RoomLemmas.{bytes_back-one}
 use Rattle.rl_line.proofs.change.text_over.Goals as goal
 use Rattle.rl_line.proofs.change.text_over.Goals.{After-fits, After-stands}
 
@@ -45,3 +46,10 @@ loop-left-preserved c =
     let d = goal.at.loop-left-preserved c in
     GoesOver-next c.args.asks c.args.way (order c.args.way c.args.changes.now) (c.loop-left.left - 1) c.nth_on-change.result.now c.args.text.now (string_bytes c.loop-left.now) _ (inside d.After-fits) c.nth_on-change.ensures (over d.After-fits)
     (made d.After-stands) (stood d.After-stands ∙ c.if-not-stands.false)
+
+pub returns-then-is_err-clause-err : goal.returns-then-is_err-clause-err
+returns-then-is_err-clause-err c =
+    let d = (goal.at.returns-then-is_err-clause-err c).After-fits in
+    let x = c.nth_on-change.result.now in
+    let some : 0 < length (old_text (faced c.args.way x)) = subst (λ t. 0 < length t) c.texts.ensures.coming (search rules) in
+    (refl, omega (arith, bytes_back-one c.args.way (order c.args.way c.args.changes.now) (c.loop-left.left - 1) x (inside d) c.nth_on-change.ensures some))

@@ -1,14 +1,18 @@
-use Rattle.std.proofs.Common.{refl, arith, map}
-use Rattle.std.specs.Prelude.{◌||◌}
+use Rattle.std.proofs.Common.{arith, map}
 use Rattle.rl_line.specs.Record.{entry_of}
-use Rattle.rl_line.proofs.EntryLemmas.{adds-next, closes-next}
+use Rattle.rl_line.proofs.EntryLemmas.{adds-here, adds-more, closes-next}
 use Rattle.rl_line.proofs.entries.close_groups.Goals as goal
+
+pub close_last-requires : goal.close_last-requires
+close_last-requires c = λ none.
+    let more = adds-here _ (map entry_of c.loop.entries.items) (omega (arith, c.loop-test.true)) none in omega (arith, c.loop.invariant.room more, c.loop-test.true)
 
 pub loop-preserved : goal.loop-preserved
 loop-preserved c =
-    let closed = c.close_last-added.ensures in
+    let closed = c.close_last.ensures in
     record {
       entries = closes-next c.args.count c.loop.counter (map entry_of c.loop.entries.items) _ _ c.loop-test.true closed.entries c.loop.invariant.entries;
-      added = adds-next c.args.count c.loop.counter (map entry_of c.loop.entries.items) _ c.loop.added c.close_last-added.result (c.close_last-added.result || c.loop.added) _ c.loop-test.true closed.entries closed.answer refl c.loop.invariant.added;
-      room = omega (arith, c.loop.invariant.room, closed.len, closed.capacity, c.loop-test.true);
+      room = λ adds.
+          let more = adds-more c.args.count c.loop.counter (map entry_of c.loop.entries.items) _ c.loop-test.true closed.entries adds in
+          omega (arith, c.loop.invariant.room more, closed.len, closed.capacity, c.loop-test.true);
     }

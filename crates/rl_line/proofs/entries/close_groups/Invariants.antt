@@ -1,5 +1,4 @@
-use Rattle.std.proofs.Common.{◌≡◌, ◌+◌, ◌-◌, ◌≤◌, map}
-use Rattle.std.specs.Prelude.{◌||◌}
+use Rattle.std.proofs.Common.{◌≡◌, ◌+◌, ◌-◌, ◌≤◌, true, map}
 use Rattle.std.specs.Vec.{vec_len, vec_capacity}
 use Rattle.rl_line.specs.Record.{entry_of}
 use Rattle.rl_line.specs.Units.{adds_end, end_times}
@@ -8,6 +7,5 @@ use Rattle.rl_line.proofs.entries.close_groups.Given as goal
 abbrev pub invariant-loop : goal.invariant-loop
 invariant-loop l = record {
   entries : end_times (l.count - l.counter) (map entry_of l.entries.items) ≡ end_times l.count (map entry_of l.fn.entries.items);
-  added : (l.added || adds_end (l.count - l.counter) (map entry_of l.entries.items)) ≡ adds_end l.count (map entry_of l.fn.entries.items);
-  room : vec_len l.entries + (l.count - l.counter) ≤ vec_capacity l.entries;
+  room : adds_end (l.count - l.counter) (map entry_of l.entries.items) ≡ true → vec_len l.entries + (l.count - l.counter) ≤ vec_capacity l.entries;
 }

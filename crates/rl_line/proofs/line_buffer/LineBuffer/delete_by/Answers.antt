@@ -1,4 +1,4 @@
-use Rattle.std.proofs.Common.{rules, inr}
+use Rattle.std.proofs.Common.{rules}
 use Rattle.std.proofs.lemmas.Result.{err_from_is_err_and}
 use Rattle.rl_line.proofs.KillLemmas.{kill_plan-nothing, kill_plan-some}
 use Rattle.rl_line.proofs.PlanLemmas.{Done-nothing, Done-single, Halted-single}
@@ -7,7 +7,7 @@ use Rattle.rl_line.proofs.line_buffer.LineBuffer.delete_by.Goals as goal
 pub returns-in_err-take_out-in-Some-clause-halted : goal.returns-in_err-take_out-in-Some-clause-halted
 returns-in_err-take_out-in-Some-clause-halted g c =
     let p = err_from_is_err_and c.from_residual.result c.from_residual.ensures.1 in
-    rw (p.1, p.2) (Halted-single _ _ _ _ _ _ _ _ _ _ _ (inr c.in_err-take_out-in-Some.ensures.cause) c.in_err-take_out-in-Some.ensures.kept
+    rw (p.1, p.2) (Halted-single _ _ _ _ _ _ _ _ _ _ _ c.in_err-take_out-in-Some.ensures.cause c.in_err-take_out-in-Some.ensures.kept
     (kill_plan-some c.args.self.now c.args.mvt.now c.in-Some.range _ c.in-Some.ensures.value c.side_of.ensures))
 
 pub returns-in_ok-take_out-in-Some-clause-done : goal.returns-in_ok-take_out-in-Some-clause-done

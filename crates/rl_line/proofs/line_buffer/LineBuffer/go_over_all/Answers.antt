@@ -1,6 +1,6 @@
-use Rattle.std.proofs.Common.{arith, rules, ◌≡◌, ◌+◌, ◌-◌, ◌<◌, ◌≤◌, ℕ, List, [], length, map, drop, count_by, vec_len, vec_capacity, refl, sym, ap, subst, ◌∙◌}
-use Rattle.std.specs.Str.{IsCharBoundary}
-use Rattle.std.specs.String.{string_bytes}
+use Rattle.std.proofs.Common.{arith, rules, ◌⊎◌, ◌≡◌, ◌+◌, ◌-◌, ◌<◌, ◌≤◌, ℕ, List, [], length, map, drop, count_by, vec_len, vec_capacity, refl, sym, ap, subst, ◌∙◌}
+use Rattle.std.specs.Str.{IsCharBoundary, IsUtf8}
+use Rattle.std.specs.String.{string_bytes, string_len}
 use Rattle.rl_base.specs.Lines.{is_newline}
 use Rattle.rl_line.specs.LineStarts.{line_starts}
 use Rattle.rl_line.specs.Line.{Line}
@@ -11,6 +11,8 @@ use Rattle.std.proofs.lemmas.List.{drop-map, drop_all}
 use Rattle.rl_line.proofs.ChangeLemmas.{length-order}
 use Rattle.rl_line.proofs.LineStartLemmas.{length-line_starts}
 use Rattle.rl_line.proofs.UndoLemmas.{IsBack, IsBack-none, IsBack-fits, IsBack-next, IsBack-stands, entries_from, size_back_over-within}
+use Rattle.std.proofs.lemmas.Result.{err_from_is_err_and}
+use Rattle.rl_line.proofs.RoomLemmas.{NeedsRoom-line}
 use Rattle.rl_line.proofs.line_buffer.LineBuffer.go_over_all.Goals as goal
 use Rattle.rl_line.proofs.line_buffer.LineBuffer.go_over_all.Goals.{After-nth_on}
 
@@ -105,3 +107,17 @@ loop-left-preserved c =
       is_line = record { table = taken.table; at_boundary = taken.boundary; within = omega (arith, c.max-self-inside.ensures, width) };
       within = omega arith;
     }
+
+pub returns-in_err-find_room_over-clause-err : goal.returns-in_err-find_room_over-clause-err
+returns-in_err-find_room_over-clause-err c =
+    let p = err_from_is_err_and c.from_residual.result c.from_residual.ensures.1 in
+    let e = c.in_err-find_room_over.ensures.err in
+    let es = map (faced c.args.way) (order c.args.way c.args.changes.now) in
+    let text = c.args.self.now.text in
+    let bytes : string_bytes c.self.inside.buf ≡ text = ap (λ (l : Line). l.text) c.self.view_is in
+    let newlines : vec_len c.self.inside.starts ≡ count_by is_newline text = c.self.inside.starts.ok.0 ∙ length-line_starts c.self.inside.starts.items text (c.self.invariant.table ∙ ap line_starts bytes) in
+    let len : string_len c.self.inside.buf ≡ length text = search rules in
+    let more : (length text < greatest_back_over Bytes es (length text)) ⊎ (count_by is_newline text < greatest_back_over Newlines es (count_by is_newline text)) =
+    subst (λ n. (n < greatest_back_over Bytes es n) ⊎ (count_by is_newline text < greatest_back_over Newlines es (count_by is_newline text))) len
+    (subst (λ n. (string_len c.self.inside.buf < greatest_back_over Bytes es (string_len c.self.inside.buf)) ⊎ (n < greatest_back_over Newlines es n)) newlines e.1) in
+    rw (p.1, p.2) (e.0, search rules, NeedsRoom-line es c.args.self.now (subst IsUtf8 bytes (subst IsUtf8 c.as_str-text.ensures.value c.as_str-text.utf8)) c.requires more)

@@ -1,7 +1,8 @@
 use Rattle.std.proofs.Common.{◌≡◌, ap, map, subst, take, ◌∙◌}
 use Rattle.std.specs.Option.{option_map}
-use Rattle.std.specs.Prelude.{IfErr, IfOk, IsSome}
+use Rattle.std.specs.Prelude.{IfErr, IfOk}
 use Rattle.std.specs.String.{string_bytes}
+use Rattle.rl_base.specs.Text.{HasText}
 use Rattle.rl_base.specs.declared.listeners.Refusal.TheVariants.{NoMemory}
 use Rattle.rl_line.specs.Record.{Record, entry_of, last_insert}
 use Rattle.rl_line.proofs.MoveLemmas.{recorded-part}
@@ -17,4 +18,4 @@ returns-clause-ok c =
 
 pub returns-clause-err : goal.returns-clause-err
 returns-clause-err c =
-    subst (λ es. IfErr c.last_insert.result (λ r. (r ≡ NoMemory) × IsSome (last_insert es))) (recorded (goal.at.returns-clause-err c).After-deref) c.last_insert.ensures.err
+    subst (λ es. IfErr c.last_insert.result (λ r. (r ≡ NoMemory) × HasText (last_insert es))) (recorded (goal.at.returns-clause-err c).After-deref) c.last_insert.ensures.err

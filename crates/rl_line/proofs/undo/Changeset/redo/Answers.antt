@@ -12,6 +12,13 @@ use Rattle.rl_line.proofs.MoveLemmas.{IsCutAt-of, RedoesTo, RedoesTo-of, ahead-l
 use Rattle.rl_line.proofs.UndoLemmas.{line_ahead-marks}
 use Rattle.rl_line.proofs.undo.Changeset.redo.Goals as goal
 use Rattle.rl_line.proofs.undo.Changeset.redo.Goals.{After-deref-2, After-level-opened, After-next_len-count}
+use Rattle.std.proofs.lemmas.Result.{err_from_is_err_and}
+use Rattle.std.specs.Prelude.{Any, reverse}
+use Rattle.rl_line.specs.Line.{NeedsRoom}
+use Rattle.rl_line.specs.Undo.{texts_back}
+use Rattle.rl_line.proofs.ChangeLemmas.{ahead-inverse}
+use Rattle.rl_line.proofs.RoomLemmas.{texts_ahead-back}
+use Rattle.rl_line.specs.Record.{inverse}
 
 pub next_len-count-requires : goal.next_len-count-requires
 next_len-count-requires c =
@@ -99,3 +106,11 @@ pub returns-clause-unmoved : goal.returns-clause-unmoved
 returns-clause-unmoved c =
     let u = redone_is (goal.at.returns-clause-unmoved c).After-level-opened in
     λ none. line_ahead-marks (redo_of c.args.self.now.pending) c.args.line.now c.go_over_all.new.self (sym u.answer_is ∙ none) u.line_is
+
+pub returns-in_err-go_over_all-clause-err : goal.returns-in_err-go_over_all-clause-err
+returns-in_err-go_over_all-clause-err c =
+    let p = err_from_is_err_and c.from_residual.result c.from_residual.ensures.1 in
+    let e = c.in_err-go_over_all.ensures.err in
+    let part = unit (goal.at.returns-in_err-go_over_all-clause-err c).After-deref-2 in
+    let text = c.args.line.now.text in
+    rw (p.1, p.2) (e.0, refl, e.1, subst (Any (NeedsRoom text)) (ap (λ es. texts_back es text) (ahead-inverse (take ((c.self.inside.recorded + c.next_len-count.result) - c.self.inside.recorded) (drop c.self.inside.recorded c.deref-2.result.now)) ∙ ap (λ es. map inverse (reverse es)) part) ∙ texts_ahead-back (redo_of c.args.self.now.pending) text) e.2)

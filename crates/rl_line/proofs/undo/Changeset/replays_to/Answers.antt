@@ -1,9 +1,16 @@
-use Rattle.std.proofs.Common.{◌≡◌, None, ap, bytes_eq, map, option_map, string_bytes, sym, take, Some, ◌∙◌}
-use Rattle.rl_line.specs.Record.{Record, agree, entry_of, unwind}
+use Rattle.std.proofs.lemmas.Result.{err_from_is_err_and}
+use Rattle.std.proofs.Common.{arith, length, ◌≡◌, None, ap, bytes_eq, map, option_map, string_bytes, sym, take, Some, ◌∙◌}
+use Rattle.rl_line.specs.Record.{Record, agree, bytes_back, entry_of, unwind}
+use Rattle.rl_line.specs.Units.{has_change}
 use Rattle.rl_line.proofs.ChangeLemmas.{text_back-unwind}
 use Rattle.rl_line.proofs.MoveLemmas.{recorded-part}
+use Rattle.rl_line.proofs.RoomLemmas.{bytes_back-first}
+use Rattle.rl_line.proofs.UndoLemmas.{marks-replay}
 use Rattle.rl_line.proofs.undo.Changeset.replays_to.Goals as goal
-use Rattle.rl_line.proofs.undo.Changeset.replays_to.Goals.{In_ok-some}
+use Rattle.rl_line.proofs.undo.Changeset.replays_to.Goals.{After-deref, In_ok-some}
+
+recorded : (c : After-deref) → map entry_of (take c.self.inside.recorded c.deref.result.now) ≡ c.args.self.now.recorded
+recorded c = recorded-part c.self.inside.recorded c.self.inside.entries.items c.deref.result.now c.deref.ensures.value ∙ ap (λ (r : Record). r.recorded) c.self.view_is
 
 all : (c : In_ok-some) → option_map string_bytes c.in_ok-all.field-0 ≡ unwind c.args.self.now.recorded c.args.line.now.text
 all c =
@@ -44,3 +51,26 @@ returns-clause-ok c =
     ap (λ o. agree (Some (string_bytes c.in-Some.all)) (option_map string_bytes o)) (sym c.in-None.is)
     ∙ ap (λ o. agree (option_map string_bytes o) (option_map string_bytes c.in_ok-some.field-0)) (sym c.in-Some.is)
     ∙ ap (λ o. agree o (option_map string_bytes c.in_ok-some.field-0)) (all d) ∙ ap (agree (unwind c.args.self.now.recorded c.args.line.now.text)) (first d)
+
+pub returns-then-not-has_change-clause-ok : goal.returns-then-not-has_change-clause-ok
+returns-then-not-has_change-clause-ok c =
+    let text = c.args.line.now.text in
+    let none = sym (ap has_change (recorded (goal.at.returns-then-not-has_change-clause-ok c).After-deref)) ∙ sym c.has_change.ensures ∙ c.if-not-has_change.true in
+    sym (marks-replay c.args.len c.args.self.now.recorded text none)
+
+pub returns-in_err-all-clause-err : goal.returns-in_err-all-clause-err
+returns-in_err-all-clause-err c =
+    let p = err_from_is_err_and c.from_residual.result c.from_residual.ensures.1 in
+    let e = c.in_err-all.ensures.err in
+    let all = recorded (goal.at.returns-in_err-all-clause-err c).After-deref in
+    let some = sym (ap has_change all) ∙ sym c.has_change.ensures ∙ c.if-not-has_change.false in
+    rw (p.1, p.2) (e.0, some, omega (arith, e.1, ap length c.as_str-text.ensures, ap bytes_back all))
+
+pub returns-in_err-some-clause-err : goal.returns-in_err-some-clause-err
+returns-in_err-some-clause-err c =
+    let p = err_from_is_err_and c.from_residual-in_err-some.result c.from_residual-in_err-some.ensures.1 in
+    let e = c.in_err-some.ensures.err in
+    let all = recorded (goal.at.returns-in_err-some-clause-err c).After-deref in
+    let some = sym (ap has_change all) ∙ sym c.has_change.ensures ∙ c.if-not-has_change.false in
+    let fewer = bytes_back-first c.args.len c.args.self.now.recorded in
+    rw (p.1, p.2) (e.0, some, omega (arith, e.1, fewer, ap length c.as_str-text.ensures, ap bytes_back (c.first-first.ensures ∙ ap (take c.args.len) all)))

@@ -10,6 +10,10 @@ use Rattle.rl_line.proofs.MoveLemmas.{IsCutAt-of, Undoes, Undoes-of, recorded-pa
 use Rattle.rl_line.proofs.UndoLemmas.{line_back-marks}
 use Rattle.rl_line.proofs.undo.Changeset.undo.Goals as goal
 use Rattle.rl_line.proofs.undo.Changeset.undo.Goals.{After-deref-2, After-last_len-count, After-level-opened}
+use Rattle.std.proofs.lemmas.Result.{err_from_is_err_and}
+use Rattle.std.specs.Prelude.{Any}
+use Rattle.rl_line.specs.Line.{NeedsRoom}
+use Rattle.rl_line.specs.Undo.{texts_back}
 
 pub last_len-count-requires : goal.last_len-count-requires
 last_len-count-requires c =
@@ -87,3 +91,9 @@ pub returns-clause-unmoved : goal.returns-clause-unmoved
 returns-clause-unmoved c =
     let u = undone_is (goal.at.returns-clause-unmoved c).After-level-opened in
     λ none. line_back-marks (last_of c.args.n c.args.self.now.recorded) c.args.line.now c.go_over_all.new.self (sym u.answer_is ∙ none) u.line_is
+
+pub returns-in_err-go_over_all-clause-err : goal.returns-in_err-go_over_all-clause-err
+returns-in_err-go_over_all-clause-err c =
+    let p = err_from_is_err_and c.from_residual.result c.from_residual.ensures.1 in
+    let e = c.in_err-go_over_all.ensures.err in
+    rw (p.1, p.2) (e.0, refl, e.1, subst (λ es. Any (NeedsRoom c.args.line.now.text) (texts_back es c.args.line.now.text)) (unit (goal.at.returns-in_err-go_over_all-clause-err c).After-deref-2) e.2)

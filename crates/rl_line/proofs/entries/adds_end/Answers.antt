@@ -1,0 +1,33 @@
+use Rattle.std.proofs.Common.{arith, ap, sym, refl, [], ◌-◌, ◌+◌, ◌<◌, ◌≡◌, ◌∙◌, length, take, map}
+use Rattle.rl_line.specs.Record.{entry_of}
+use Rattle.rl_line.specs.Units.{adds_end}
+use Rattle.rl_line.proofs.EntryLemmas.{adds-before, adds-here, adds-off}
+use Rattle.rl_line.proofs.entries.adds_end.Goals as goal
+use Rattle.rl_line.proofs.entries.adds_end.Goals.{After-is_begin}
+
+pub returns-then-at-eq0 : goal.returns-then-at-eq0
+returns-then-at-eq0 c =
+    sym (adds-here c.loop-left.left [] c.loop-left-test.true refl)
+    ∙ ap (λ n. adds_end c.loop-left.left (map entry_of (take n c.args.entries.now))) (sym c.if-at-eq0.true) ∙ c.loop-left.invariant.rest
+
+inside : (c : After-is_begin) → c.loop-left.at - 1 < length c.args.entries.now
+inside c = omega (arith, c.loop-left.invariant.within, c.if-at-eq0.false)
+
+-- what is left to close, with the entry that is looked at
+rest : (c : After-is_begin) → adds_end c.loop-left.left (map entry_of (take ((c.loop-left.at - 1) + 1) c.args.entries.now)) ≡ adds_end c.args.count (map entry_of c.args.entries.now)
+rest c =
+    let one_more : (c.loop-left.at - 1) + 1 ≡ c.loop-left.at = omega (arith, c.if-at-eq0.false) in
+    ap (λ n. adds_end c.loop-left.left (map entry_of (take n c.args.entries.now))) one_more ∙ c.loop-left.invariant.rest
+
+pub returns-then-not-is_begin : goal.returns-then-not-is_begin
+returns-then-not-is_begin c =
+    let d = (goal.at.returns-then-not-is_begin c).After-is_begin in
+    sym (adds-before c.args.entries.now (c.loop-left.at - 1) c.loop-left.left _ (inside d) c.index-entries-at.is c.loop-left-test.true (sym c.is_begin.ensures ∙ c.if-not-is_begin.true)) ∙ rest d
+
+pub loop-left-preserved : goal.loop-left-preserved
+loop-left-preserved c =
+    let d = (goal.at.loop-left-preserved c).After-is_begin in
+    record {
+      rest = sym (adds-off c.args.entries.now (c.loop-left.at - 1) c.loop-left.left _ (inside d) c.index-entries-at.is c.loop-left-test.true (sym c.is_begin.ensures ∙ c.if-not-is_begin.false)) ∙ rest d;
+      within = omega (arith, c.loop-left.invariant.within);
+    }

@@ -1,0 +1,13 @@
+use Rattle.std.proofs.Common.{◌≡◌, ◌≤◌, length, take, map}
+use Rattle.rl_line.specs.Record.{entry_of}
+use Rattle.rl_line.specs.Units.{adds_end}
+use Rattle.rl_line.proofs.entries.adds_end.Given as goal
+
+abbrev pub invariant-loop-left : goal.invariant-loop-left
+invariant-loop-left l = record {
+  rest : adds_end l.left (map entry_of (take l.at l.entries)) ≡ adds_end l.fn.count (map entry_of l.entries);
+  within : l.at ≤ length l.entries;
+}
+
+abbrev pub decreases-loop-left : goal.decreases-loop-left
+decreases-loop-left l = l.left
