@@ -53,7 +53,7 @@ size_back_over-is k (e ∷ es) text now u h =
     let p = through (apply (event_of (inverse e))) (unwind es text) now h in
     size_back-is k e p.0 now (unwind-IsUtf8 es text p.0 u p.1) p.2 ∙ ap (size_back k e) (size_back_over-is k es text p.0 u p.1)
 
-texts_after-more : (x : Event) (xs : List Event) (text next : List ℕ) → apply x text ≡ Some next → texts_after (x ∷ xs) text ≡ next ∷ texts_after xs next
+pub texts_after-more : (x : Event) (xs : List Event) (text next : List ℕ) → apply x text ≡ Some next → texts_after (x ∷ xs) text ≡ next ∷ texts_after xs next
 texts_after-more x xs text next h = ap (λ (o : Option (List ℕ)). elim o [ None ↦ [] | Some t ↦ t ∷ texts_after xs t ]) h
 
 texts_after-append : (xs ys : List Event) (text mid : List ℕ) → replay xs text ≡ Some mid → texts_after (xs ++ ys) text ≡ texts_after xs text ++ texts_after ys mid

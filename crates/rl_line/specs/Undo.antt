@@ -1,9 +1,9 @@
 -- How a line goes back over its record, and ahead again.
-use Rattle.std.specs.Prelude.{◌≡◌, ℕ, zero, suc, ◌+◌, Bool, List, [], ◌∷◌, length, map, reverse, Option, Some, None, option_and_then, unwrap_or}
+use Rattle.std.specs.Prelude.{◌≡◌, ℕ, zero, suc, ◌+◌, ◌<◌, Bool, true, List, [], ◌∷◌, length, map, reverse, Option, Some, None, option_and_then, unwrap_or}
 use Rattle.std.specs.Option.{option_map}
 use Rattle.rl_base.specs.Event.{Event, apply}
 use Rattle.rl_line.specs.Line.{Line, after_step}
-use Rattle.rl_line.specs.Record.{Entry, Begin, End, Inserted, Deleted, Replaced, Record, cursors_of, event_of, inverse}
+use Rattle.rl_line.specs.Record.{Entry, Begin, End, Inserted, Deleted, Replaced, Record, bytes_ahead, bytes_back, cursors_of, event_of, inverse}
 use Rattle.rl_line.specs.Units.{last_of, redo_of, has_change, undone, redone}
 
 -- the cursor after an entry was made, where that was told
@@ -35,6 +35,14 @@ line_ahead (e ∷ es) line = option_and_then (line_ahead es) (line_after e line)
 abbrev pub line_back : List Entry → Line → Option Line
 line_back [] line = Some line
 line_back (e ∷ es) line = option_and_then (line_after (inverse e)) (line_back es line)
+
+-- whether a text can go back over entries, or ahead, is asked on a copy of it: so where there is a change, and the text, or one that
+-- comes on the way, is not empty
+abbrev pub CopiesBack : List Entry → List ℕ → Type 0
+CopiesBack es text = (has_change es ≡ true) × (0 < length text + bytes_back es)
+
+abbrev pub CopiesAhead : List Entry → List ℕ → Type 0
+CopiesAhead es text = (has_change es ≡ true) × (0 < length text + bytes_ahead es)
 
 -- the texts after each of these events, from the text before, as far as they fit
 abbrev pub texts_after : List Event → List ℕ → List (List ℕ)

@@ -1,5 +1,5 @@
 //! The record of the changes of a line, which undoes them, in groups where they were made in groups, and redoes them.
-ghost use Rattle.std.specs.Prelude.{◌≡◌, ◌<◌, ◌+◌, ℕ, List, Bool, [], ◌∷◌, ◌++◌, suc, true, false, drop, is_some, length, Any, IsSome, Some, IfOk, IfErr, OnOk};
+ghost use Rattle.std.specs.Prelude.{◌≡◌, ◌<◌, ℕ, List, Bool, [], ◌∷◌, ◌++◌, suc, true, false, drop, is_some, length, Any, IsSome, Some, IfOk, IfErr, OnOk};
 ghost use Rattle.std.specs.Option.{option_map};
 ghost use Rattle.std.specs.String.{string_bytes};
 ghost use Rattle.std.specs.Str.{IsUtf8};
@@ -9,8 +9,8 @@ ghost use Rattle.rl_base.specs.declared.listeners.Direction.TheVariants.{Forward
 ghost use Rattle.rl_base.specs.declared.listeners.Refusal.TheVariants.{NoMemory};
 ghost use Rattle.rl_line.specs.declared.change.Freshness.TheVariants.{Stale};
 ghost use Rattle.rl_line.specs.Line.{Line, NeedsRoom};
-ghost use Rattle.rl_line.specs.Record.{Entry, End, Record, bytes_ahead, bytes_back, last_insert, record_step, replay_entries, replays_to, unwind};
-ghost use Rattle.rl_line.specs.Undo.{Redone, Redos, Undone, line_ahead, line_back, texts_ahead, texts_back};
+ghost use Rattle.rl_line.specs.Record.{Entry, End, Record, last_insert, record_step, replay_entries, replays_to, unwind};
+ghost use Rattle.rl_line.specs.Undo.{CopiesAhead, CopiesBack, Redone, Redos, Undone, line_ahead, line_back, texts_ahead, texts_back};
 ghost use Rattle.rl_line.specs.Units.{BothMatched, GroupAt, InGroup, IsMatched, adds_end, after_in_group, begun, ended, has_change, last_of, last_units, level, opens, redo_of, truncated};
 
 use crate::change::{Change, Freshness, Way, text_over};
@@ -226,7 +226,7 @@ impl Changeset {
     /// told stands between two characters then.
     pub fn can_undo(&self, line: &LineBuffer) -> Result<bool, Refusal>
         ensures ok { IfOk result (λ answer. answer ≡ is_some (line_back self.now.recorded line.now)) }
-        ensures err { IfErr result (λ r. (r ≡ NoMemory) × (has_change self.now.recorded ≡ true) × (0 < length line.now.text + bytes_back self.now.recorded)) }
+        ensures err { IfErr result (λ r. (r ≡ NoMemory) × CopiesBack self.now.recorded line.now.text) }
     {
         // So the proof knows that the cursor stands between two characters.
         let _cursor = line.pos();
@@ -243,7 +243,7 @@ impl Changeset {
     /// was told stands between two characters then.
     pub fn can_redo(&self, line: &LineBuffer) -> Result<bool, Refusal>
         ensures ok { IfOk result (λ answer. answer ≡ is_some (line_ahead self.now.pending line.now)) }
-        ensures err { IfErr result (λ r. (r ≡ NoMemory) × (has_change self.now.pending ≡ true) × (0 < length line.now.text + bytes_ahead self.now.pending)) }
+        ensures err { IfErr result (λ r. (r ≡ NoMemory) × CopiesAhead self.now.pending line.now.text) }
     {
         // So the proof knows that the cursor stands between two characters.
         let _cursor = line.pos();
@@ -260,7 +260,7 @@ impl Changeset {
     /// others: both they and all entries can be taken back from it, to the same text.
     pub fn replays_to(&self, len: usize, line: &LineBuffer) -> Result<bool, Refusal>
         ensures ok { IfOk result (λ answer. answer ≡ replays_to len self.now line.now.text) }
-        ensures err { IfErr result (λ r. (r ≡ NoMemory) × (has_change self.now.recorded ≡ true) × (0 < length line.now.text + bytes_back self.now.recorded)) }
+        ensures err { IfErr result (λ r. (r ≡ NoMemory) × CopiesBack self.now.recorded line.now.text) }
     {
         let alloc = *self.entries.allocator();
         let text = line.as_str();

@@ -35,7 +35,7 @@ use Rattle.rl_session.proofs.PairLemmas.{Done-changes}
 use Rattle.rl_base.proofs.PieceLemmas.{clusters-some, places-before_end}
 use Rattle.rl_session.proofs.QuietLemmas.{Settles, Settles-delete, Settles-indent, Settles-insert, Settles-insert_str, Settles-nothing, Settles-replace, Settles-transpose_chars, Settles-transpose_words, Settles-update, Settles-yank, Settles-yank_pop, empty-deleted, empty-inserted, never-char, never-replaced}
 use Rattle.rl_session.proofs.RowLemmas.{Leads-split}
-use Rattle.rl_session.specs.Commands.{Asked, Telling, Tells, Edited, Edits, Others, DoesAsked, asked, edit, other, answers, inserts, hands_out, is_done, lent, lent_plan, popped, popped_plan, readied}
+use Rattle.rl_session.specs.Commands.{Takes, Asked, Telling, Tells, Edited, Edits, Others, DoesAsked, asked, edit, other, answers, inserts, hands_out, is_done, lent, lent_plan, popped, popped_plan, readied}
 use Rattle.rl_session.specs.declared.pair.Pair.{Pair}
 use Rattle.rl_session.specs.declared.session.Command.{Command}
 use Rattle.rl_session.specs.declared.session.Command.TheVariants as asks
@@ -185,15 +185,15 @@ told-adds hands_out plan old new (says.Text x) e u settles t adds = edited-adds 
 told-adds is_done plan old new says.Done e u settles t adds = edited-adds plan old new tt e u settles t adds
 told-adds _ plan old new _ e u settles t adds = absurd t
 
-edit-adds : {A : Type 0} (copies : Bool) (condition : Type 0) (plan : Plan A) (telling : Telling A) (old : State) (reply : Reply) (new : State) (e : Entry) → IsUtf8 old.line.text
-    → (AddsOne old.line old.pair.changes e plan → Settles old.line plan) → Edits copies condition plan telling old reply new → ¬ (WasRefused reply)
+edit-adds : {A : Type 0} (takes : Takes) (condition : Type 0) (plan : Plan A) (telling : Telling A) (old : State) (reply : Reply) (new : State) (e : Entry) → IsUtf8 old.line.text
+    → (AddsOne old.line old.pair.changes e plan → Settles old.line plan) → Edits takes condition plan telling old reply new → ¬ (WasRefused reply)
     → new.pair.changes.recorded ≡ old.pair.changes.recorded ++ e ∷ [] → Adds e old.line new.line new.pair.changes
-edit-adds copies condition plan telling old (says.Refused f) new e u settles d w adds = absurd (w tt)
-edit-adds copies condition plan telling old reply new e u settles d w adds = told-adds telling plan old new reply e u settles d.1 adds
+edit-adds takes condition plan telling old (says.Refused f) new e u settles d w adds = absurd (w tt)
+edit-adds takes condition plan telling old reply new e u settles d w adds = told-adds telling plan old new reply e u settles d.1 adds
 
 -- the plan of each edit of the table
 abbrev AsksQuietly : Line → Record → Entry → Asked → Type 0
-AsksQuietly line r e (edit copies condition plan telling) = AddsOne line r e plan → Settles line plan
+AsksQuietly line r e (edit takes condition plan telling) = AddsOne line r e plan → Settles line plan
 AsksQuietly line r e other = Unit {0}
 
 asks-quietly : (line : Line) (r : Record) (e : Entry) (command : Command) → IsUtf8 line.text → IsCharBoundary line.text line.cursor → AsksQuietly line r e (asked line command)
@@ -279,7 +279,7 @@ other-adds old command reply new e u at i d w adds = absurd d
 asked-adds : (what : Asked) (old : State) (command : Command) (reply : Reply) (new : State) (e : Entry) → IsUtf8 old.line.text → IsCharBoundary old.line.text old.line.cursor
     → AsksQuietly old.line old.pair.changes e what → IsEdit old.line command → DoesAsked what old command reply new → ¬ (WasRefused reply)
     → new.pair.changes.recorded ≡ old.pair.changes.recorded ++ e ∷ [] → Adds e old.line new.line new.pair.changes
-asked-adds (edit copies condition plan telling) old command reply new e u at quiet i d w adds = edit-adds copies condition plan telling old reply new e u quiet d w adds
+asked-adds (edit takes condition plan telling) old command reply new e u at quiet i d w adds = edit-adds takes condition plan telling old reply new e u quiet d w adds
 asked-adds other old command reply new e u at quiet i d w adds = other-adds old command reply new e u at i d w adds
 
 -- an edit of a session, in a row

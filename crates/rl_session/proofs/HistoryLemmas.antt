@@ -15,7 +15,7 @@ use Rattle.rl_line.specs.Kills.{Told, is_by_characters, kill_plan, removal, side
 use Rattle.rl_line.specs.LetterCase.{edit_word_plan}
 use Rattle.rl_line.specs.Line.{Line}
 use Rattle.rl_line.specs.Motions.{Moved}
-use Rattle.rl_line.specs.Plan.{or_no_memory, Step as PlanStep, Plan, after, heard, Done, Halted}
+use Rattle.rl_line.specs.Plan.{Step as PlanStep, Plan, after, heard, Done, Halted}
 use Rattle.rl_line.specs.Ranges.{killed}
 use Rattle.rl_line.specs.Record.{Record, agree, record_step, unwind}
 use Rattle.rl_line.specs.Undo.{Undone, Redone, Redos}
@@ -25,7 +25,7 @@ use Rattle.rl_line.proofs.RecordLemmas.{replay-IsUtf8}
 use Rattle.rl_line.proofs.RedoLemmas.{redos-give-back}
 use Rattle.rl_line.proofs.UndoLemmas.{line_ahead-replay, line_back-unwind}
 use Rattle.rl_line.proofs.UnitLemmas.{kept-last}
-use Rattle.rl_session.specs.Commands.{Unbegun, Step, Asked, Telling, answers, inserts, hands_out, is_done, edit, other, asked, CutShort, Does, DoesAsked, Edited, Edits, Others, Tells, destination, lent, lent_plan, popped, popped_plan, readied, with_changes}
+use Rattle.rl_session.specs.Commands.{Takes, nothing_more, room_by_step, a_copy, Unbegun, Step, Asked, Telling, answers, inserts, hands_out, is_done, edit, other, asked, CutShort, Does, DoesAsked, Edited, Edits, Others, Tells, destination, lent, lent_plan, popped, popped_plan, readied, with_changes}
 use Rattle.rl_session.specs.History.{AllRedone, History, Holds, WasHeld, WasRefused}
 use Rattle.rl_session.specs.Pair.{pair_step, pair_refused}
 use Rattle.rl_session.specs.Run.{Row, Leads, Run, held, held_by, held_by_edit, held_by_other, held_of, texts_of, texts_of_cut, texts_of_first, texts_of_steps}
@@ -36,7 +36,7 @@ use Rattle.rl_session.specs.declared.session.Command.TheVariants.{SetPos, Move, 
 use Rattle.rl_session.specs.declared.session.Fault.TheVariants.{NoMemory, BadPlace, BadYankSize, NotReplaying}
 use Rattle.rl_session.specs.declared.session.Reply.{Reply}
 use Rattle.rl_session.specs.declared.session.Reply.TheVariants as says
-use Rattle.rl_session.proofs.PairLemmas.{Done-changes, Halted-changes, Taken-changes, cause-changes}
+use Rattle.rl_session.proofs.PairLemmas.{Halted-own, own, Done-changes, Halted-changes, Taken-changes, cause-changes}
 use Rattle.rl_session.proofs.RowLemmas.{Leads-split}
 use Rattle.rl_session.proofs.PlaceLemmas.{History-more, History-steps, History-begun, History-ended, History-undone, History-redone, History-truncated, undo-held}
 
@@ -65,21 +65,22 @@ Heard-Edited : {A : Type 0} (plan : Plan A) (old new : State) (a : A) → Edited
 Heard-Edited plan old new a d =
     Heard-Done plan old.line new.line old.pair.changes new.pair.changes a (Done-changes plan old.line new.line old.pair new.pair a d.done)
 
-Heard-CutShort : {A : Type 0} (plan : Plan A) (old new : State) (c : CutShort plan old new) → Heard (texts_of_first c) old.line old.pair.changes new.line.text new.pair.changes
-Heard-CutShort plan old new c =
+Heard-CutShort : {A : Type 0} (takes : Takes) (plan : Plan A) (old new : State) (c : CutShort takes plan old new) → Heard (texts_of_first c) old.line old.pair.changes new.line.text new.pair.changes
+Heard-CutShort takes plan old new c =
     let h = c.halted in
     let t = Taken-changes h.first old.line new.line old.pair h.middle h.taken in
-    record { steps = h.first; last = new.line; line = t.line; text_is = refl; changes = cause-changes h.middle new.pair h.next.0 why.NoMemory h.cause ∙ t.listener; held_is = refl }
+    record { steps = h.first; last = new.line; line = t.line; text_is = refl; changes = cause-changes h.middle new.pair h.next.0 why.NoMemory (own takes h.middle new.pair h.next.0 why.NoMemory h.cause) ∙ t.listener; held_is = refl }
 
-Heard-cut : {A : Type 0} (plan : Plan A) (old new : State) (c : (new ≡ old) ⊎ CutShort plan old new) → Heard (texts_of_cut c) old.line old.pair.changes new.line.text new.pair.changes
-Heard-cut plan old new (inl e) = Heard-same old new e
-Heard-cut plan old new (inr c) = Heard-CutShort plan old new c
+Heard-cut : {A X : Type 0} (takes : Takes) (plan : Plan A) (old new : State) (c : (X × (new ≡ old)) ⊎ CutShort takes plan old new) → Heard (texts_of_cut c) old.line old.pair.changes new.line.text new.pair.changes
+Heard-cut takes plan old new (inl e) = Heard-same old new e.1
+Heard-cut takes plan old new (inr c) = Heard-CutShort takes plan old new c
 
-Heard-stopped : {A : Type 0} (copies : Bool) (plan : Plan A) (old new : State) (c : Unbegun copies plan old new ⊎ CutShort plan old new)
+Heard-stopped : {A : Type 0} (takes : Takes) (plan : Plan A) (old new : State) (c : Unbegun takes plan old new ⊎ CutShort takes plan old new)
     → Heard (texts_of_cut c) old.line old.pair.changes new.line.text new.pair.changes
-Heard-stopped true plan old new (inl e) = Heard-same old new e.0
-Heard-stopped false plan old new (inl e) = absurd e
-Heard-stopped copies plan old new (inr c) = Heard-CutShort plan old new c
+Heard-stopped nothing_more plan old new (inl e) = absurd e
+Heard-stopped room_by_step plan old new (inl e) = absurd e
+Heard-stopped a_copy plan old new (inl e) = Heard-same old new e.0
+Heard-stopped takes plan old new (inr c) = Heard-CutShort takes plan old new c
 
 Heard-Moved : (place : Option ℕ) (old new : Line) (r now : Record) (a : Bool) → Moved place old new a → now ≡ r → Heard [] old r new.text now
 Heard-Moved None old new r now a m e = Heard-nothing old r new.text now (ap (λ (l : Line). l.text) m.1) e
@@ -103,17 +104,17 @@ removal_first line None side (s ∷ ss) others next e = cc
 removal_first line (Some range) side (s ∷ []) others next e = cc
 removal_first line (Some range) side (s ∷ (t ∷ ts)) others next e = cc
 
-Heard-kept : (range : Option (Range ℕ)) (side : Direction) (old new : Line) (p q : Pair) (w : Refusal) → Halted pair_step (or_no_memory pair_refused) (removal old range side) old new p q w
+Heard-kept : (range : Option (Range ℕ)) (side : Direction) (old new : Line) (p q : Pair) (w : Refusal) → Halted pair_step pair_refused (removal old range side) old new p q w
     → Heard [] old p.changes new.text q.changes
 Heard-kept range side old new p q w h =
-    let c = Halted-changes (removal old range side) old new p q w h in
+    let c = Halted-changes (removal old range side) old new p q w (Halted-own nothing_more (removal old range side) old new p q w h) in
     let none = removal_first old range side c.first c.others c.next c.split in
     let same : Some old ≡ Some new = ap (λ ss. after ss old) (sym none) ∙ c.taken.line in
     let line : new ≡ old = cc in
     Heard-nothing old p.changes new.text q.changes (ap (λ (l : Line). l.text) line) (c.cause ∙ c.taken.listener ∙ ap (λ ss. heard record_step old.cursor ss p.changes) none)
 
 Heard-refused : (b : Bool) (range : Option (Range ℕ)) (side : Direction) (old new : Line) (p q : Pair) (w : Refusal)
-    → Told pair_step b (λ before now. Halted pair_step (or_no_memory pair_refused) (removal old range side) old new before now w) p q
+    → Told pair_step b (λ before now. Halted pair_step pair_refused (removal old range side) old new before now w) p q
     → Heard [] old p.changes new.text q.changes
 Heard-refused true range side old new p q w t = Heard-kept range side old new p q w t
 Heard-refused false range side old new p q w t =
@@ -140,11 +141,11 @@ Heard-told hands_out plan old new (says.Text x) t = Heard-Edited plan old new (o
 Heard-told is_done plan old new says.Done t = Heard-Edited plan old new tt t
 Heard-told _ plan old new _ t = absurd t
 
-pub Heard-edit : {A : Type 0} (copies : Bool) (condition : Type 0) (plan : Plan A) (telling : Telling A) (old : State) (reply : Reply) (new : State) (d : Edits copies condition plan telling old reply new)
-    → Heard (held_by_edit copies condition plan telling old reply new d) old.line old.pair.changes new.line.text new.pair.changes
-Heard-edit copies condition plan telling old (says.Refused BadPlace) new d = Heard-same old new d.1
-Heard-edit copies condition plan telling old (says.Refused NoMemory) new d = Heard-stopped copies plan old new d.1
-Heard-edit copies condition plan telling old reply new d = Heard-told telling plan old new reply d.1
+pub Heard-edit : {A : Type 0} (takes : Takes) (condition : Type 0) (plan : Plan A) (telling : Telling A) (old : State) (reply : Reply) (new : State) (d : Edits takes condition plan telling old reply new)
+    → Heard (held_by_edit takes condition plan telling old reply new d) old.line old.pair.changes new.line.text new.pair.changes
+Heard-edit takes condition plan telling old (says.Refused BadPlace) new d = Heard-same old new d.1
+Heard-edit takes condition plan telling old (says.Refused NoMemory) new d = Heard-stopped takes plan old new d.1
+Heard-edit takes condition plan telling old reply new d = Heard-told telling plan old new reply d.1
 
 pub Heard-other : (old : State) (command : Command) (reply : Reply) (new : State) (d : Others old command reply new) → IsPlain command
     → Heard (held_by_other old command reply new d) old.line old.pair.changes new.line.text new.pair.changes
@@ -156,15 +157,15 @@ Heard-other old (Move m) (says.Answer a) new d i =
 Heard-other old (Copy m) (says.Text t) new d i = Heard-same old new d.1
 Heard-other old (Copy m) (says.Refused NoMemory) new d i = Heard-same old new d.1
 Heard-other old (EditWord action) (says.Answer a) new d i = Heard-Edited (edit_word_plan old.line d.made) old new a d.holds
-Heard-other old (EditWord action) (says.Refused NoMemory) new d i = Heard-stopped true (edit_word_plan old.line d.made) old new d.holds
+Heard-other old (EditWord action) (says.Refused NoMemory) new d i = Heard-stopped a_copy (edit_word_plan old.line d.made) old new d.holds
 Heard-other old (Kill m) (says.Answer a) new d i = Heard-Told (is_by_characters m) (kill_plan old.line m) old.line new.line old.pair new.pair a d.told
 Heard-other old (Kill m) (says.Refused NoMemory) new d i =
     Heard-refused (is_by_characters m) (killed old.line m) (side_of m) old.line new.line old.pair new.pair why.NoMemory d.told
 Heard-other old (Yank n) (says.Inserted a) new d i = Heard-Edited (lent_plan old.line (yank old.pair.ring) n) (lent old) new a d
-Heard-other old (Yank n) (says.Refused NoMemory) new d i = Heard-cut (lent_plan old.line (yank old.pair.ring) n) (lent old) new d.1
+Heard-other old (Yank n) (says.Refused NoMemory) new d i = Heard-cut room_by_step (lent_plan old.line (yank old.pair.ring) n) (lent old) new d
 Heard-other old YankPop (says.Inserted a) new d i = Heard-Edited (popped_plan old.line (yank_pop old.pair.ring)) (popped old) new a d.1
 Heard-other old YankPop (says.Refused BadYankSize) new d i = Heard-same old new d.1
-Heard-other old YankPop (says.Refused NoMemory) new d i = Heard-cut (popped_plan old.line (yank_pop old.pair.ring)) (popped old) new d.2
+Heard-other old YankPop (says.Refused NoMemory) new d i = Heard-cut room_by_step (popped_plan old.line (yank_pop old.pair.ring)) (popped old) new d.1
 Heard-other old Begin reply new d i = absurd i
 Heard-other old End reply new d i = absurd i
 Heard-other old (Undo n) reply new d i = absurd i
@@ -208,7 +209,7 @@ Holds-other : (start : List ℕ) (held : List (List ℕ)) (old : State) (command
     → Holds start held old → Holds start (held ++ held_by_other old command reply new d) new
 Holds-other start held old Begin (says.Mark n) new d h =
     History-changes start held new (with_changes (begun old.pair.changes) old) (History-begun start held old.line.text old.pair.changes h) d.1
-Holds-other start held old Begin (says.Refused NoMemory) new d h = History-changes start held new old h d
+Holds-other start held old Begin (says.Refused NoMemory) new d h = History-changes start held new old h d.1
 Holds-other start held old Begin _ new d h = absurd d
 Holds-other start held old End (says.Answer a) new d h =
     History-changes start held new (with_changes (ended old.pair.changes) old) (History-ended start held old.line.text old.pair.changes h) d.1
@@ -225,16 +226,16 @@ Holds-other start held old (Truncate len) says.Done new d h =
     let same = agree-same (unwind r.recorded old.line.text) (unwind (take len r.recorded) old.line.text) d.0 in
     History-changes start held new (with_changes (truncated len r) old) (History-truncated len start held old.line.text r h same) d.1
 Holds-other start held old (Truncate len) (says.Refused NotReplaying) new d h = History-changes start held new old h d.1
-Holds-other start held old (Truncate len) (says.Refused NoMemory) new d h = History-changes start held new old h d
+Holds-other start held old (Truncate len) (says.Refused NoMemory) new d h = History-changes start held new old h d.2
 Holds-other start held old (Truncate len) _ new d h = absurd d
 Holds-other start held old command reply new d h =
     History-Heard start held (held_by_other old command reply new d) old.line old.pair.changes new.line.text new.pair.changes h (Heard-other old command reply new d tt)
 
 Holds-asked : (asks : Asked) (start : List ℕ) (held : List (List ℕ)) (old : State) (command : Command) (reply : Reply) (new : State) (d : DoesAsked asks old command reply new)
     → Holds start held old → Holds start (held ++ held_by asks old command reply new d) new
-Holds-asked (edit copies condition plan telling) start held old command reply new d h =
-    History-Heard start held (held_by_edit copies condition plan telling old reply new d) old.line old.pair.changes new.line.text new.pair.changes h
-    (Heard-edit copies condition plan telling old reply new d)
+Holds-asked (edit takes condition plan telling) start held old command reply new d h =
+    History-Heard start held (held_by_edit takes condition plan telling old reply new d) old.line old.pair.changes new.line.text new.pair.changes h
+    (Heard-edit takes condition plan telling old reply new d)
 Holds-asked other start held old command reply new d h = Holds-other start held old command reply new d h
 
 -- a row adds its texts to those that were held

@@ -32,7 +32,7 @@ use Rattle.rl_line.proofs.EditLemmas.{yank_plan-nothing, yank_plan-some}
 use Rattle.rl_line.proofs.SideLemmas.{LiesOn, BeginningOfLine-side, EndOfLine-side, BackwardWord-side, ForwardWord-side, ViCharSearch-side, BeginningOfBuffer-side, EndOfBuffer-side}
 use Rattle.rl_session.specs.Pair.{pair_step, pair_refused}
 use Rattle.rl_session.specs.State.{State, Stands, with_ring, fresh}
-use Rattle.rl_session.specs.Commands.{Unbegun, Asked, edit, other, asked, Telling, answers, inserts, hands_out, is_done, Tells, CutShort, Does, DoesAsked, Edited, Edits, Others, Step, is_vain_yank, lent as lent_state, lent_plan, readied}
+use Rattle.rl_session.specs.Commands.{Takes, nothing_more, room_by_step, a_copy, Unbegun, Asked, edit, other, asked, Telling, answers, inserts, hands_out, is_done, Tells, CutShort, Does, DoesAsked, Edited, Edits, Others, Step, is_vain_yank, lent as lent_state, lent_plan, readied}
 use Rattle.rl_session.specs.KillRuns.{IsDirected, AllDirected, IsNoKill, AnyTook, NoneRefused, GivenBack}
 use Rattle.rl_session.specs.Run.{Row, Leads, Run, before_last, commands_of, replies_of}
 use Rattle.rl_session.specs.declared.pair.Pair.{Pair}
@@ -41,6 +41,7 @@ use Rattle.rl_session.specs.declared.session.Command.TheVariants.{SetPos, Move, 
 use Rattle.rl_session.specs.declared.session.Fault.TheVariants.{NoMemory, BadPlace, BadYankSize, NotReplaying}
 use Rattle.rl_session.specs.declared.session.Reply.{Reply}
 use Rattle.rl_session.specs.declared.session.Reply.TheVariants as says
+use Rattle.rl_session.proofs.PairLemmas.{Halted-own}
 use Rattle.rl_line.proofs.PlanLemmas.{first_step}
 
 -- ---- the newest slot
@@ -139,17 +140,18 @@ Told-size false P p q keeps t = ap (λ (k : Pair). k.ring.size) t.ended ∙ keep
 same-size : (old new : State) → new ≡ old → new.pair.ring.size ≡ old.pair.ring.size
 same-size old new e = ap (λ (s : State). s.pair.ring.size) e
 
-cut-size : {A : Type 0} (plan : Plan A) (old new : State) → CutShort plan old new → new.pair.ring.size ≡ old.pair.ring.size
-cut-size plan old new c = Halted-size plan old.line new.line old.pair new.pair _ c.halted
+cut-size : {A : Type 0} (takes : Takes) (plan : Plan A) (old new : State) → CutShort takes plan old new → new.pair.ring.size ≡ old.pair.ring.size
+cut-size takes plan old new c = Halted-size plan old.line new.line old.pair new.pair _ (Halted-own takes plan old.line new.line old.pair new.pair _ c.halted)
 
-stopped-size : {A : Type 0} (copies : Bool) (plan : Plan A) (old new : State) → Unbegun copies plan old new ⊎ CutShort plan old new → new.pair.ring.size ≡ old.pair.ring.size
-stopped-size true plan old new (inl e) = same-size old new e.0
-stopped-size false plan old new (inl e) = absurd e
-stopped-size _ plan old new (inr c) = cut-size plan old new c
+stopped-size : {A : Type 0} (takes : Takes) (plan : Plan A) (old new : State) → Unbegun takes plan old new ⊎ CutShort takes plan old new → new.pair.ring.size ≡ old.pair.ring.size
+stopped-size nothing_more plan old new (inl e) = absurd e
+stopped-size room_by_step plan old new (inl e) = absurd e
+stopped-size a_copy plan old new (inl e) = same-size old new e.0
+stopped-size takes plan old new (inr c) = cut-size takes plan old new c
 
 -- an edit of a text that the ring may have lent
-borrowed-size : {A : Type 0} (plan : Plan A) (lent new : State) → (new ≡ lent) ⊎ CutShort plan lent new → new.pair.ring.size ≡ lent.pair.ring.size
-borrowed-size plan lent new h = elim h [ inl e ↦ same-size lent new e | inr c ↦ cut-size plan lent new c ]
+borrowed-size : {A X : Type 0} (plan : Plan A) (lent new : State) → (X × (new ≡ lent)) ⊎ CutShort room_by_step plan lent new → new.pair.ring.size ≡ lent.pair.ring.size
+borrowed-size plan lent new h = elim h [ inl e ↦ same-size lent new e.1 | inr c ↦ cut-size room_by_step plan lent new c ]
 
 -- an edit that was told, and any edit
 told-size : {A : Type 0} (telling : Telling A) (plan : Plan A) (old new : State) (reply : Reply) → Tells telling (λ a. Edited plan old new a) reply
@@ -160,11 +162,11 @@ told-size hands_out plan old new (says.Text x) t = Done-size plan old.line new.l
 told-size is_done plan old new says.Done t = Done-size plan old.line new.line old.pair new.pair tt t.done
 told-size _ plan old new _ t = absurd t
 
-Edits-size : {A : Type 0} (copies : Bool) (condition : Type 0) (plan : Plan A) (telling : Telling A) (old : State) (reply : Reply) (new : State)
-    → Edits copies condition plan telling old reply new → new.pair.ring.size ≡ old.pair.ring.size
-Edits-size copies condition plan telling old (says.Refused BadPlace) new d = same-size old new d.1
-Edits-size copies condition plan telling old (says.Refused NoMemory) new d = stopped-size copies plan old new d.1
-Edits-size copies condition plan telling old reply new d = told-size telling plan old new reply d.1
+Edits-size : {A : Type 0} (takes : Takes) (condition : Type 0) (plan : Plan A) (telling : Telling A) (old : State) (reply : Reply) (new : State)
+    → Edits takes condition plan telling old reply new → new.pair.ring.size ≡ old.pair.ring.size
+Edits-size takes condition plan telling old (says.Refused BadPlace) new d = same-size old new d.1
+Edits-size takes condition plan telling old (says.Refused NoMemory) new d = stopped-size takes plan old new d.1
+Edits-size takes condition plan telling old reply new d = told-size telling plan old new reply d.1
 
 Others-size : (old : State) (command : Command) (reply : Reply) (new : State) → Others old command reply new → new.pair.ring.size ≡ old.pair.ring.size
 Others-size old (SetPos q) says.Done new s = ap (λ (n : State). n.pair.ring.size) s.1
@@ -173,20 +175,20 @@ Others-size old (Move m) (says.Answer a) new s = ap (λ (n : State). n.pair.ring
 Others-size old (Copy m) (says.Text t) new s = same-size old new s.1
 Others-size old (Copy m) (says.Refused NoMemory) new s = same-size old new s.1
 Others-size old (EditWord action) (says.Answer a) new s = Done-size _ old.line new.line old.pair new.pair a s.holds.done
-Others-size old (EditWord action) (says.Refused NoMemory) new s = stopped-size true _ old new s.holds
+Others-size old (EditWord action) (says.Refused NoMemory) new s = stopped-size a_copy _ old new s.holds
 Others-size old (Kill m) (says.Answer a) new s =
     Told-size (is_by_characters m) _ old.pair new.pair (λ before now d. Done-size (kill_plan old.line m) old.line new.line before now a d) s.told
 Others-size old (Kill m) (says.Refused NoMemory) new s =
-    Told-size (is_by_characters m) _ old.pair new.pair (λ before now h. Halted-size (kill_plan old.line m) old.line new.line before now _ h) s.told
+    Told-size (is_by_characters m) _ old.pair new.pair (λ before now h. Halted-size (kill_plan old.line m) old.line new.line before now _ (Halted-own nothing_more (kill_plan old.line m) old.line new.line before now _ h)) s.told
 Others-size old (Yank n) (says.Inserted a) new s =
     Done-size _ old.line new.line _ new.pair a s.done ∙ lent-size (yank old.pair.ring) old.pair.ring
-Others-size old (Yank n) (says.Refused NoMemory) new s = borrowed-size _ _ new s.1 ∙ lent-size (yank old.pair.ring) old.pair.ring
+Others-size old (Yank n) (says.Refused NoMemory) new s = borrowed-size _ _ new s ∙ lent-size (yank old.pair.ring) old.pair.ring
 Others-size old YankPop (says.Inserted a) new s =
     Done-size _ old.line new.line _ new.pair a s.1.done ∙ popped-size (yank_size old.pair.ring) old.pair.ring
 Others-size old YankPop (says.Refused BadYankSize) new s = same-size old new s.1
-Others-size old YankPop (says.Refused NoMemory) new s = borrowed-size _ _ new s.2 ∙ popped-size (yank_size old.pair.ring) old.pair.ring
+Others-size old YankPop (says.Refused NoMemory) new s = borrowed-size _ _ new s.1 ∙ popped-size (yank_size old.pair.ring) old.pair.ring
 Others-size old Begin (says.Mark n) new s = ap (λ (n : State). n.pair.ring.size) s.1
-Others-size old Begin (says.Refused NoMemory) new s = same-size old new s
+Others-size old Begin (says.Refused NoMemory) new s = same-size old new s.1
 Others-size old End (says.Answer a) new s = ap (λ (n : State). n.pair.ring.size) s.1
 Others-size old End (says.Refused NoMemory) new s = same-size old new s.1
 Others-size old (Undo n) (says.Answer a) new s = ap (λ (n : State). n.pair.ring.size) s.others
@@ -195,12 +197,12 @@ Others-size old Redo (says.Answer a) new s = ap (λ (n : State). n.pair.ring.siz
 Others-size old Redo (says.Refused NoMemory) new s = same-size old new s.1
 Others-size old (Truncate len) says.Done new s = ap (λ (n : State). n.pair.ring.size) s.1
 Others-size old (Truncate len) (says.Refused NotReplaying) new s = same-size old new s.1
-Others-size old (Truncate len) (says.Refused NoMemory) new s = same-size old new s
+Others-size old (Truncate len) (says.Refused NoMemory) new s = same-size old new s.2
 Others-size old LinePlace (says.At k columns) new s = same-size old new s.1
 Others-size _ _ _ _ s = absurd s
 
 Asked-size : (asks : Asked) (old : State) (command : Command) (reply : Reply) (new : State) → DoesAsked asks old command reply new → new.pair.ring.size ≡ old.pair.ring.size
-Asked-size (edit copies condition plan telling) old command reply new d = Edits-size copies condition plan telling old reply new d
+Asked-size (edit takes condition plan telling) old command reply new d = Edits-size takes condition plan telling old reply new d
 Asked-size other old command reply new d = Others-size old command reply new d
 
 Does-size : (old : State) (command : Command) (reply : Reply) (new : State) → Does old command reply new → new.pair.ring.size ≡ old.pair.ring.size

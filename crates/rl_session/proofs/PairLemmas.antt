@@ -9,6 +9,7 @@ use Rattle.rl_line.specs.Plan.{Step, Plan, heard, heard_step, Taken, Done, Halte
 use Rattle.rl_line.specs.Kills.{Told}
 use Rattle.rl_line.specs.Record.{Record, record_step}
 use Rattle.rl_line.proofs.PlanLemmas.{Halted-caused}
+use Rattle.rl_session.specs.Commands.{Takes, nothing_more, room_by_step, a_copy, refusal_of}
 use Rattle.rl_session.specs.Pair.{pair_step, pair_refused}
 use Rattle.rl_session.specs.declared.pair.Pair.{Pair}
 
@@ -35,9 +36,16 @@ keeps_changes r _ _ now = now ≡ r
 pub cause-changes : (p q : Pair) (e : Event) (w : Refusal) → or_no_memory pair_refused p e w q → q.changes ≡ p.changes
 cause-changes p q e w h = elim h [ inl c ↦ ap (λ (k : Pair). k.changes) c.1 | inr c ↦ c.1 ]
 
--- and it was for want of memory
-cause-memory : (p q : Pair) (e : Event) (w : Refusal) → or_no_memory pair_refused p e w q → or_no_memory pair_refused p e why.NoMemory q
-cause-memory p q e w h = elim h [ inl c ↦ inl (refl, c.1, c.2) | inr c ↦ inr (refl, c.1, c.2) ]
+-- however the steps of an edit may be refused, it is since memory is out, or by the pair
+pub own : (takes : Takes) (p q : Pair) (e : Event) (w : Refusal) → refusal_of takes p e w q → or_no_memory pair_refused p e w q
+own nothing_more p q e w h = inr h
+own room_by_step p q e w h = h
+own a_copy p q e w h = h
+
+pub Halted-own : {A : Type 0} (takes : Takes) (plan : Plan A) (old new : Line) (p q : Pair) (w : Refusal) → Halted pair_step (refusal_of takes) plan old new p q w
+    → Halted pair_step (or_no_memory pair_refused) plan old new p q w
+Halted-own takes plan old new p q w h =
+    Halted-caused pair_step (refusal_of takes) (or_no_memory pair_refused) plan old new p q w w h (own takes h.middle q h.next.0 w h.cause)
 
 pub Halted-changes : {A : Type 0} (plan : Plan A) (old new : Line) (p q : Pair) (w : Refusal) → Halted pair_step (or_no_memory pair_refused) plan old new p q w
     → Halted record_step keeps_changes plan old new p.changes q.changes w
@@ -51,20 +59,29 @@ Halted-changes plan old new p q w h = record {
   cause = cause-changes h.middle q h.next.0 w h.cause;
 }
 
-pub Halted-pair : {A : Type 0} (plan : Plan A) (old new : Line) (p q : Pair) (w : Refusal) → Halted pair_step (or_no_memory pair_refused) plan old new p q w
-    → Halted pair_step (or_no_memory pair_refused) plan old new p q why.NoMemory
-Halted-pair plan old new p q w h =
-    Halted-caused pair_step (or_no_memory pair_refused) (or_no_memory pair_refused) plan old new p q w why.NoMemory h
-    (cause-memory h.middle q h.next.0 w h.cause)
+-- whichever refusal it was, memory is out
+pair_memory : (p q : Pair) (e : Event) (w : Refusal) → pair_refused p e w q → pair_refused p e why.NoMemory q
+pair_memory p q e w h = (refl, h.1, h.2)
+
+cause-memory : (takes : Takes) (p q : Pair) (e : Event) (w : Refusal) → refusal_of takes p e w q → refusal_of takes p e why.NoMemory q
+cause-memory nothing_more p q e w h = pair_memory p q e w h
+cause-memory room_by_step p q e w h = elim h [ inl c ↦ inl (refl, c.1, c.2) | inr c ↦ inr (pair_memory p q e w c) ]
+cause-memory a_copy p q e w h = elim h [ inl c ↦ inl (refl, c.1, c.2) | inr c ↦ inr (pair_memory p q e w c) ]
+
+pub Halted-pair : {A : Type 0} (takes : Takes) (plan : Plan A) (old new : Line) (p q : Pair) (w : Refusal) → Halted pair_step (refusal_of takes) plan old new p q w
+    → Halted pair_step (refusal_of takes) plan old new p q why.NoMemory
+Halted-pair takes plan old new p q w h =
+    Halted-caused pair_step (refusal_of takes) (refusal_of takes) plan old new p q w why.NoMemory h (cause-memory takes h.middle q h.next.0 w h.cause)
 
 -- a kill that the pair refused, whatever refusal was handed on
 pub Told-pair : {A : Type 0} (b : Bool) (plan : Plan A) (old new : Line) (p q : Pair) (w : Refusal)
-    → Told pair_step b (λ before now. Halted pair_step (or_no_memory pair_refused) plan old new before now w) p q
-    → Told pair_step b (λ before now. Halted pair_step (or_no_memory pair_refused) plan old new before now why.NoMemory) p q
-Told-pair true plan old new p q w t = Halted-pair plan old new p q w t
-Told-pair false plan old new p q w t = record { last = t.last; inside = Halted-pair plan old new _ t.last w t.inside; ended = t.ended }
+    → Told pair_step b (λ before now. Halted pair_step pair_refused plan old new before now w) p q
+    → Told pair_step b (λ before now. Halted pair_step pair_refused plan old new before now why.NoMemory) p q
+Told-pair true plan old new p q w t = Halted-pair nothing_more plan old new p q w t
+Told-pair false plan old new p q w t = record { last = t.last; inside = Halted-pair nothing_more plan old new _ t.last w t.inside; ended = t.ended }
 
 -- an edit was halted, or, where it copies what it moves, not begun
-abbrev pub Stopped : {A : Type 0} → Bool → Plan A → Line → Line → Pair → Pair → Refusal → Type 0
-Stopped true plan old new p q w = Halted pair_step (or_no_memory pair_refused) plan old new p q w ⊎ Uncopied plan old new p q w
-Stopped false plan old new p q w = Halted pair_step (or_no_memory pair_refused) plan old new p q w
+abbrev pub Stopped : {A : Type 0} → Takes → Plan A → Line → Line → Pair → Pair → Refusal → Type 0
+Stopped nothing_more plan old new p q w = Halted pair_step (refusal_of nothing_more) plan old new p q w
+Stopped room_by_step plan old new p q w = Halted pair_step (refusal_of room_by_step) plan old new p q w
+Stopped a_copy plan old new p q w = Halted pair_step (refusal_of a_copy) plan old new p q w ⊎ Uncopied plan old new p q w

@@ -15,7 +15,8 @@ use Rattle.rl_line.proofs.MatchLemmas.{IsMatched-after, BothMatched-begun, BothM
 use Rattle.rl_line.proofs.RecordLemmas.{through, replay-append, replay-IsUtf8, replay-unwind, unwind-replay, entries_after-unwind}
 use Rattle.rl_line.proofs.UnitLemmas.{kept-last}
 use Rattle.rl_session.specs.History.{StandsAfter, WasHeld, PlacedBack, Placed, History}
-use Rattle.rl_session.specs.Run.{texts_after, texts_of_steps}
+use Rattle.rl_line.proofs.RoomLemmas.{texts_after-more}
+use Rattle.rl_session.specs.Run.{texts_of_steps}
 use Rattle.rl_line.proofs.PlanLemmas.{first_step}
 use Rattle.rl_line.proofs.ToldLemmas.{same-event, told-cases}
 use Rattle.rl_line.proofs.WalkLemmas.{none_or_one}
@@ -266,9 +267,6 @@ History-event Stop start held text next r h k = History-still start held text ne
 History-event (Cursors b a) start held text next r h k =
     let same : text ≡ next = cc in
     subst (λ t. History start (held ++ (t ∷ [])) t (record_step r (Cursors b a))) same (History-more start held (text ∷ []) text (record_step r (Cursors b a)) (History-told b a start held text r h))
-
-texts_after-more : (e : Event) (es : List Event) (text next : List ℕ) → apply e text ≡ Some next → texts_after (e ∷ es) text ≡ next ∷ texts_after es next
-texts_after-more e es text next h = ap (λ (o : Option (List ℕ)). elim o [ None ↦ [] | Some t ↦ t ∷ texts_after es t ]) h
 
 -- the steps of an edit
 pub History-steps : (steps : List Step) (start : List ℕ) (held : List (List ℕ)) (old new : Line) (r : Record) → History start held old.text r → after steps old ≡ Some new

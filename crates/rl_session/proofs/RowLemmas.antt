@@ -1,5 +1,5 @@
 -- What each row of a session keeps, and how a run goes on.
-use Rattle.std.proofs.Common.{◌⊎◌, Bool, true, false, List, [], ◌∷◌, ◌++◌, ◌≡◌, ◌∙◌, ap, refl, subst, sym, append_assoc, inl, inr}
+use Rattle.std.proofs.Common.{◌⊎◌, List, [], ◌∷◌, ◌++◌, ◌≡◌, ◌∙◌, ap, refl, subst, sym, append_assoc, inl, inr}
 use Rattle.std.proofs.lemmas.List.{map-append}
 use Rattle.std.specs.Prelude.{ℕ, ◌⊎◌, IsSome}
 use Rattle.std.specs.Str.{IsUtf8}
@@ -15,8 +15,9 @@ use Rattle.rl_session.specs.declared.session.Fault.TheVariants.{NoMemory, BadPla
 use Rattle.rl_session.specs.declared.session.Reply.{Reply}
 use Rattle.rl_session.specs.declared.session.Reply.TheVariants as says
 use Rattle.rl_session.specs.State.{State, Replays, origin}
-use Rattle.rl_session.specs.Commands.{Unbegun, Asked, edit, other, asked, Telling, answers, inserts, hands_out, is_done, Tells, CutShort, Does, DoesAsked, Edited, Edits, Others, Step, destination, lent, popped, readied, with_changes}
+use Rattle.rl_session.specs.Commands.{Takes, nothing_more, room_by_step, a_copy, Unbegun, Asked, edit, other, asked, Telling, answers, inserts, hands_out, is_done, Tells, CutShort, Does, DoesAsked, Edited, Edits, Others, Step, destination, lent, popped, readied, with_changes}
 use Rattle.rl_session.specs.Run.{Row, held, held_of, Leads, Run, AfterEach, commands_of, replies_of}
+use Rattle.rl_session.proofs.PairLemmas.{Halted-own}
 use Rattle.rl_session.proofs.SessionLemmas.{Kept-Moved, Kept-pair, Kept-refused, Kept-Told}
 
 -- the record leads back to the same text
@@ -35,23 +36,24 @@ told-Kept hands_out plan old new (says.Text x) u t = Kept-pair plan old.pair new
 told-Kept is_done plan old new says.Done u t = Kept-pair plan old.pair new.pair old.line new.line tt u t.done
 told-Kept _ plan old new _ u t = absurd t
 
-cut-Kept : {A : Type 0} (plan : Plan A) (old new : State) → IsUtf8 old.line.text → CutShort plan old new → KeepsOrigin old new
-cut-Kept plan old new u c = Kept-refused plan old.pair new.pair old.line new.line _ u c.halted
+cut-Kept : {A : Type 0} (takes : Takes) (plan : Plan A) (old new : State) → IsUtf8 old.line.text → CutShort takes plan old new → KeepsOrigin old new
+cut-Kept takes plan old new u c = Kept-refused plan old.pair new.pair old.line new.line _ u (Halted-own takes plan old.line new.line old.pair new.pair _ c.halted)
 
-stopped-Kept : {A : Type 0} (copies : Bool) (plan : Plan A) (old new : State) → IsUtf8 old.line.text → Unbegun copies plan old new ⊎ CutShort plan old new → KeepsOrigin old new
-stopped-Kept true plan old new u (inl e) = same_origin old new u e.0
-stopped-Kept false plan old new u (inl e) = absurd e
-stopped-Kept _ plan old new u (inr c) = cut-Kept plan old new u c
+stopped-Kept : {A : Type 0} (takes : Takes) (plan : Plan A) (old new : State) → IsUtf8 old.line.text → Unbegun takes plan old new ⊎ CutShort takes plan old new → KeepsOrigin old new
+stopped-Kept nothing_more plan old new u (inl e) = absurd e
+stopped-Kept room_by_step plan old new u (inl e) = absurd e
+stopped-Kept a_copy plan old new u (inl e) = same_origin old new u e.0
+stopped-Kept takes plan old new u (inr c) = cut-Kept takes plan old new u c
 
-Kept-Edits : {A : Type 0} (copies : Bool) (condition : Type 0) (plan : Plan A) (telling : Telling A) (old : State) (reply : Reply) (new : State) → IsUtf8 old.line.text
-    → Edits copies condition plan telling old reply new → KeepsOrigin old new
-Kept-Edits copies condition plan telling old (says.Refused BadPlace) new u d = same_origin old new u d.1
-Kept-Edits copies condition plan telling old (says.Refused NoMemory) new u d = stopped-Kept copies plan old new u d.1
-Kept-Edits copies condition plan telling old reply new u d = told-Kept telling plan old new reply u d.1
+Kept-Edits : {A : Type 0} (takes : Takes) (condition : Type 0) (plan : Plan A) (telling : Telling A) (old : State) (reply : Reply) (new : State) → IsUtf8 old.line.text
+    → Edits takes condition plan telling old reply new → KeepsOrigin old new
+Kept-Edits takes condition plan telling old (says.Refused BadPlace) new u d = same_origin old new u d.1
+Kept-Edits takes condition plan telling old (says.Refused NoMemory) new u d = stopped-Kept takes plan old new u d.1
+Kept-Edits takes condition plan telling old reply new u d = told-Kept telling plan old new reply u d.1
 
 -- an edit of a text that the ring may have lent
-lent-Kept : {A : Type 0} (plan : Plan A) (lent new : State) → IsUtf8 lent.line.text → (new ≡ lent) ⊎ CutShort plan lent new → KeepsOrigin lent new
-lent-Kept plan lent new u h = elim h [ inl e ↦ same_origin lent new u e | inr c ↦ cut-Kept plan lent new u c ]
+lent-Kept : {A X : Type 0} (plan : Plan A) (lent new : State) → IsUtf8 lent.line.text → (X × (new ≡ lent)) ⊎ CutShort room_by_step plan lent new → KeepsOrigin lent new
+lent-Kept plan lent new u h = elim h [ inl e ↦ same_origin lent new u e.1 | inr c ↦ cut-Kept room_by_step plan lent new u c ]
 
 -- a record in the place of another
 changes-Kept : (changes : Record) (old new : State) → Kept old.pair.changes changes old.line old.line → new ≡ with_changes changes old → KeepsOrigin old new
@@ -66,18 +68,18 @@ Kept-Others old (Move m) (says.Answer a) new u f s =
 Kept-Others old (Copy m) (says.Text t) new u f s = same_origin old new u s.1
 Kept-Others old (Copy m) (says.Refused NoMemory) new u f s = same_origin old new u s.1
 Kept-Others old (EditWord action) (says.Answer a) new u f s = Kept-pair _ old.pair new.pair old.line new.line a u s.holds.done
-Kept-Others old (EditWord action) (says.Refused NoMemory) new u f s = stopped-Kept true _ old new u s.holds
+Kept-Others old (EditWord action) (says.Refused NoMemory) new u f s = stopped-Kept a_copy _ old new u s.holds
 Kept-Others old (Kill m) (says.Answer a) new u f s =
     Kept-Told (is_by_characters m) _ old.pair new.pair old.line new.line (λ before now d. Kept-pair (kill_plan old.line m) before now old.line new.line a u d) s.told
 Kept-Others old (Kill m) (says.Refused NoMemory) new u f s =
-    Kept-Told (is_by_characters m) _ old.pair new.pair old.line new.line (λ before now h. Kept-refused (kill_plan old.line m) before now old.line new.line _ u h) s.told
+    Kept-Told (is_by_characters m) _ old.pair new.pair old.line new.line (λ before now h. Kept-refused (kill_plan old.line m) before now old.line new.line _ u (Halted-own nothing_more (kill_plan old.line m) old.line new.line before now _ h)) s.told
 Kept-Others old (Yank n) (says.Inserted a) new u f s = Kept-pair _ (lent old).pair new.pair old.line new.line a u s.done
-Kept-Others old (Yank n) (says.Refused NoMemory) new u f s = lent-Kept _ (lent old) new u s.1
+Kept-Others old (Yank n) (says.Refused NoMemory) new u f s = lent-Kept _ (lent old) new u s
 Kept-Others old YankPop (says.Inserted a) new u f s = Kept-pair _ (popped old).pair new.pair old.line new.line a u s.1.done
 Kept-Others old YankPop (says.Refused BadYankSize) new u f s = same_origin old new u s.1
-Kept-Others old YankPop (says.Refused NoMemory) new u f s = lent-Kept _ (popped old) new u s.2
+Kept-Others old YankPop (says.Refused NoMemory) new u f s = lent-Kept _ (popped old) new u s.1
 Kept-Others old Begin (says.Mark n) new u f s = changes-Kept _ old new (Kept-begun old.pair.changes old.line u) s.1
-Kept-Others old Begin (says.Refused NoMemory) new u f s = same_origin old new u s
+Kept-Others old Begin (says.Refused NoMemory) new u f s = same_origin old new u s.1
 Kept-Others old End (says.Answer a) new u f s = changes-Kept _ old new (Kept-ended old.pair.changes old.line u) s.1
 Kept-Others old End (says.Refused NoMemory) new u f s = same_origin old new u s.1
 Kept-Others old (Undo n) (says.Answer a) new u f s = Kept-Undone _ old.pair.changes new.pair.changes old.line new.line a u s.undone
@@ -86,13 +88,13 @@ Kept-Others old Redo (says.Answer a) new u f s = Kept-Redone old.pair.changes ne
 Kept-Others old Redo (says.Refused NoMemory) new u f s = same_origin old new u s.1
 Kept-Others old (Truncate len) says.Done new u f s = changes-Kept _ old new (Kept-truncated len old.pair.changes old.line u s.0) s.1
 Kept-Others old (Truncate len) (says.Refused NotReplaying) new u f s = same_origin old new u s.1
-Kept-Others old (Truncate len) (says.Refused NoMemory) new u f s = same_origin old new u s
+Kept-Others old (Truncate len) (says.Refused NoMemory) new u f s = same_origin old new u s.2
 Kept-Others old LinePlace (says.At k columns) new u f s = same_origin old new u s.1
 Kept-Others _ _ _ _ u f s = absurd s
 
 Kept-Asked : (asks : Asked) (old : State) (command : Command) (reply : Reply) (new : State) → IsUtf8 old.line.text → IsSome (unwind old.pair.changes.recorded old.line.text)
     → DoesAsked asks old command reply new → KeepsOrigin old new
-Kept-Asked (edit copies condition plan telling) old command reply new u f d = Kept-Edits copies condition plan telling old reply new u d
+Kept-Asked (edit takes condition plan telling) old command reply new u f d = Kept-Edits takes condition plan telling old reply new u d
 Kept-Asked other old command reply new u f d = Kept-Others old command reply new u f d
 
 Kept-Does : (old : State) (command : Command) (reply : Reply) (new : State) → IsUtf8 old.line.text → IsSome (unwind old.pair.changes.recorded old.line.text)

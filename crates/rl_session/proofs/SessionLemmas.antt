@@ -1,7 +1,7 @@
 -- What holds whatever a call answered.
-use Rattle.std.proofs.Common.{Bool, false, true, inr, List, [], Result, Ok, Err, ◌≡◌, ◌∙◌, ap, refl, subst, sym, append-nil, inl}
+use Rattle.std.proofs.Common.{Bool, false, true, inr, List, [], Result, Ok, Err, ◌≡◌, ◌∙◌, ap, refl, subst, sym, append-nil, inl, ◌≤◌, ℕ, length, take_all}
 use Rattle.std.proofs.lemmas.Str.{IsCharBoundary-start, IsUtf8-nil}
-use Rattle.std.specs.Prelude.{ℕ, ◌<◌, Bool, true, Option, None, false, max, length, IsSome, Some, IfOk, IfErr}
+use Rattle.std.specs.Prelude.{ℕ, Bool, true, Option, None, false, max, length, IsSome, Some, IfOk, IfErr}
 use Rattle.std.specs.Str.{IsUtf8}
 use Rattle.rl_base.specs.Event.{Event, InsertStr, Start, apply}
 use Rattle.rl_base.proofs.EventLemmas.{apply-InsertStr}
@@ -15,21 +15,22 @@ use Rattle.rl_line.specs.Plan.{Plan, nothing, Done, Halted, or_no_memory}
 use Rattle.rl_line.specs.Edits.{insert_str_plan}
 use Rattle.rl_line.specs.Kills.{Told, is_by_characters, kill_plan}
 use Rattle.rl_line.specs.LetterCase.{edit_word_plan, Recased}
-use Rattle.rl_line.specs.Record.{Record, unwind}
+use Rattle.rl_line.specs.Record.{Record, agree, replays_to, unwind}
 use Rattle.rl_line.proofs.JoinLemmas.{record_step-Start, record_step-Stop}
 use Rattle.rl_line.specs.Undo.{Redone, Undone}
 use Rattle.rl_line.specs.Units.{adds_end, begun, ended, level}
 use Rattle.rl_line.proofs.OriginLemmas.{Kept, Kept-Done, Kept-Halted}
 use Rattle.rl_session.specs.State.{State, AtRest, Follows}
 use Rattle.rl_line.proofs.PlanLemmas.{first_step}
-use Rattle.rl_session.specs.Commands.{Edited, lent, lent_plan, popped, popped_plan}
+use Rattle.rl_session.specs.Commands.{Takes, nothing_more, room_by_step, a_copy, Edited, lent, lent_plan, popped, popped_plan}
 use Rattle.rl_session.specs.Pair.{pair_step, pair_refused}
 use Rattle.rl_session.specs.declared.pair.Pair.{Pair}
 use Rattle.rl_session.proofs.IdleLemmas.{NoneStarts, NoneStarts-edit_word, NoneStarts-kill, idle-Done, idle-Halted, idle-Told}
-use Rattle.rl_session.proofs.PairLemmas.{Stopped, Done-changes, Halted-changes, keeps_changes}
+use Rattle.rl_session.proofs.PairLemmas.{Halted-own, Stopped, Done-changes, Halted-changes, keeps_changes}
 use Rattle.std.specs.Str.{IsCharBoundary}
 use Rattle.rl_line.specs.Walk.{Walks}
 use Rattle.rl_line.specs.Undo.{line_back}
+use Rattle.std.proofs.lemmas.Slice.Eq.{bytes_eq-Decides}
 use Rattle.rl_line.proofs.RecordLemmas.{value_of}
 use Rattle.rl_line.proofs.UndoLemmas.{line_back-unwind}
 use Rattle.rl_line.proofs.WalkLemmas.{Walks-Done, Walks-Halted, Walks-Redone, Walks-Undone, Walks-ahead, Walks-back, Walks-begun, Walks-ended}
@@ -98,25 +99,26 @@ AtRest-refused plan p q old new w at none d h =
 AtRest-same : (p q : Pair) (old new : Line) → new ≡ old → q ≡ p → AtRest old p → AtRest new q
 AtRest-same p q old new e f h = subst (λ k. AtRest new k) (sym f) (subst (λ l. AtRest l p) (sym e) h)
 
-AtRest-stopped : {A : Type 0} (copies : Bool) (plan : Plan A) (p q : Pair) (old new : Line) (w : Refusal) → IsCharBoundary old.text old.cursor → NoneStarts plan.steps → Stopped copies plan old new p q w
+AtRest-stopped : {A : Type 0} (takes : Takes) (plan : Plan A) (p q : Pair) (old new : Line) (w : Refusal) → IsCharBoundary old.text old.cursor → NoneStarts plan.steps → Stopped takes plan old new p q w
     → AtRest old p → AtRest new q
-AtRest-stopped true plan p q old new w at none (inl h) = AtRest-refused plan p q old new w at none h
-AtRest-stopped true plan p q old new w at none (inr u) = AtRest-same p q old new u.1 u.2
-AtRest-stopped false plan p q old new w at none h = AtRest-refused plan p q old new w at none h
+AtRest-stopped nothing_more plan p q old new w at none h = AtRest-refused plan p q old new w at none (Halted-own nothing_more plan old new p q w h)
+AtRest-stopped room_by_step plan p q old new w at none h = AtRest-refused plan p q old new w at none (Halted-own room_by_step plan old new p q w h)
+AtRest-stopped a_copy plan p q old new w at none (inl h) = AtRest-refused plan p q old new w at none (Halted-own a_copy plan old new p q w h)
+AtRest-stopped a_copy plan p q old new w at none (inr u) = AtRest-same p q old new u.1 u.2
 
-pub AtRest-edit : {A B : Type 0} (copies : Bool) (plan : Plan A) (shown : B → A) (p q : Pair) (old new : Line) (result : Result B Refusal) → IsCharBoundary old.text old.cursor → NoneStarts plan.steps
-    → IfOk result (λ b. Done pair_step plan old new p q (shown b)) → IfErr result (λ w. Stopped copies plan old new p q w)
+pub AtRest-edit : {A B : Type 0} (takes : Takes) (plan : Plan A) (shown : B → A) (p q : Pair) (old new : Line) (result : Result B Refusal) → IsCharBoundary old.text old.cursor → NoneStarts plan.steps
+    → IfOk result (λ b. Done pair_step plan old new p q (shown b)) → IfErr result (λ w. Stopped takes plan old new p q w)
     → AtRest old p → AtRest new q
-AtRest-edit copies plan shown p q old new (Ok b) at none d h = AtRest-pair plan p q old new (shown b) at none d
-AtRest-edit copies plan shown p q old new (Err w) at none d h = AtRest-stopped copies plan p q old new w at none h
+AtRest-edit takes plan shown p q old new (Ok b) at none d h = AtRest-pair plan p q old new (shown b) at none d
+AtRest-edit takes plan shown p q old new (Err w) at none d h = AtRest-stopped takes plan p q old new w at none h
 
 -- an edit of the letters of a word, whose text is not told
 pub AtRest-recased : (action : WordAction) (p q : Pair) (old new : Line) (result : Result Bool Refusal) → IsCharBoundary old.text old.cursor
     → IfOk result (λ a. Recased old action (λ made. Done pair_step (edit_word_plan old made) old new p q a))
-    → IfErr result (λ w. Recased old action (λ made. Stopped true (edit_word_plan old made) old new p q w))
+    → IfErr result (λ w. Recased old action (λ made. Stopped a_copy (edit_word_plan old made) old new p q w))
     → AtRest old p → AtRest new q
 AtRest-recased action p q old new (Ok a) at d h = AtRest-pair (edit_word_plan old d.made) p q old new a at (NoneStarts-edit_word old d.made) d.holds
-AtRest-recased action p q old new (Err w) at d h = AtRest-stopped true (edit_word_plan old h.made) p q old new w at (NoneStarts-edit_word old h.made) h.holds
+AtRest-recased action p q old new (Err w) at d h = AtRest-stopped a_copy (edit_word_plan old h.made) p q old new w at (NoneStarts-edit_word old h.made) h.holds
 
 -- the record hears nothing of the start and the end of a kill
 pub Kept-Told : (b : Bool) (P : Pair → Pair → Type 0) (p q : Pair) (old new : Line)
@@ -137,40 +139,47 @@ Walks-Told false P p q old new keeps t f =
 
 pub AtRest-kill : (m : Movement) (p q : Pair) (old new : Line) (result : Result Bool Refusal) → IsCharBoundary old.text old.cursor
     → IfOk result (λ a. Told pair_step (is_by_characters m) (λ before now. Done pair_step (kill_plan old m) old new before now a) p q)
-    → IfErr result (λ w. Told pair_step (is_by_characters m) (λ before now. Halted pair_step (or_no_memory pair_refused) (kill_plan old m) old new before now w) p q)
+    → IfErr result (λ w. Told pair_step (is_by_characters m) (λ before now. Halted pair_step pair_refused (kill_plan old m) old new before now w) p q)
     → AtRest old p → AtRest new q
 AtRest-kill m p q old new (Ok a) at d h r = record {
   walks = Walks-Told (is_by_characters m) _ p q old new (λ before now i. Walks-pair (kill_plan old m) before now old new a at i) d r.walks;
   idle = idle-Told (is_by_characters m) _ p q (λ i. idle-Done (kill_plan old m) old new p q a (NoneStarts-kill old m) i r.idle) d;
 }
 AtRest-kill m p q old new (Err w) at d h r = record {
-  walks = Walks-Told (is_by_characters m) _ p q old new (λ before now i. Walks-refused (kill_plan old m) before now old new w at i) h r.walks;
-  idle = idle-Told (is_by_characters m) _ p q (λ i. idle-Halted (kill_plan old m) old new p q w (NoneStarts-kill old m) i r.idle) h;
+  walks = Walks-Told (is_by_characters m) _ p q old new (λ before now i. Walks-refused (kill_plan old m) before now old new w at (Halted-own nothing_more (kill_plan old m) old new before now w i)) h r.walks;
+  idle = idle-Told (is_by_characters m) _ p q (λ i. idle-Halted (kill_plan old m) old new p q w (NoneStarts-kill old m) (Halted-own nothing_more (kill_plan old m) old new p q w i) r.idle) h;
 }
 
 -- nothing was done for want of memory
 Walks-same : (r now : Record) (old new : Line) → (now ≡ r) × (new ≡ old) → Walks r old.text → Walks now new.text
 Walks-same r now old new h w = subst (λ (k : Record). Walks k new.text) (sym h.0) (subst (λ (l : Line). Walks r l.text) (sym h.1) w)
 
-pub Walks-undo : (n : ℕ) (r now : Record) (old new : Line) (result : Result Bool Refusal) → IfOk result (λ a. Undone n r now old new a)
-    → IfErr result (λ w. (w ≡ why.NoMemory) × (now ≡ r) × (new ≡ old) × (0 < length r.recorded)) → Walks r old.text → Walks now new.text
-Walks-undo n r now old new (Ok a) d h = Walks-Undone n r now old new a d
-Walks-undo n r now old new (Err w) d h = Walks-same r now old new (h.1, h.2)
+pub Walks-undo : (X : Type 0) (n : ℕ) (r now : Record) (old new : Line) (result : Result Bool Refusal) → IfOk result (λ a. Undone n r now old new a)
+    → IfErr result (λ w. (w ≡ why.NoMemory) × (now ≡ r) × (new ≡ old) × X) → Walks r old.text → Walks now new.text
+Walks-undo X n r now old new (Ok a) d h = Walks-Undone n r now old new a d
+Walks-undo X n r now old new (Err w) d h = Walks-same r now old new (h.1, h.2)
 
-pub Walks-redo : (r now : Record) (old new : Line) (result : Result Bool Refusal) → IfOk result (λ a. Redone r now old new a)
-    → IfErr result (λ w. (w ≡ why.NoMemory) × (now ≡ r) × (new ≡ old) × (0 < length r.pending)) → Walks r old.text → Walks now new.text
-Walks-redo r now old new (Ok a) d h = Walks-Redone r now old new a d
-Walks-redo r now old new (Err w) d h = Walks-same r now old new (h.1, h.2)
+pub Walks-redo : (X : Type 0) (r now : Record) (old new : Line) (result : Result Bool Refusal) → IfOk result (λ a. Redone r now old new a)
+    → IfErr result (λ w. (w ≡ why.NoMemory) × (now ≡ r) × (new ≡ old) × X) → Walks r old.text → Walks now new.text
+Walks-redo X r now old new (Ok a) d h = Walks-Redone r now old new a d
+Walks-redo X r now old new (Err w) d h = Walks-same r now old new (h.1, h.2)
 
-pub Walks-begin : (r now : Record) (line : Line) (result : Result ℕ Refusal) → IfOk result (λ a. (a ≡ length r.recorded) × (now ≡ begun r)) → IfErr result (λ w. (w ≡ why.NoMemory) × (now ≡ r))
+pub Walks-begin : (X : Type 0) (r now : Record) (line : Line) (result : Result ℕ Refusal) → IfOk result (λ a. (a ≡ length r.recorded) × (now ≡ begun r)) → IfErr result (λ w. (w ≡ why.NoMemory) × (now ≡ r) × X)
     → Walks r line.text → Walks now line.text
-Walks-begin r now line (Ok a) d h w = subst (λ (k : Record). Walks k line.text) (sym d.1) (Walks-begun r line.text w)
-Walks-begin r now line (Err v) d h w = subst (λ (k : Record). Walks k line.text) (sym h.1) w
+Walks-begin X r now line (Ok a) d h w = subst (λ (k : Record). Walks k line.text) (sym d.1) (Walks-begun r line.text w)
+Walks-begin X r now line (Err v) d h w = subst (λ (k : Record). Walks k line.text) (sym h.1) w
 
-pub Walks-end : (r now : Record) (line : Line) (result : Result Bool Refusal) → IfOk result (λ a. (a ≡ adds_end (level r.recorded) r.recorded) × (now ≡ ended r))
-    → IfErr result (λ w. (w ≡ why.NoMemory) × (now ≡ r) × (0 < level r.recorded)) → Walks r line.text → Walks now line.text
-Walks-end r now line (Ok a) d h w = subst (λ (k : Record). Walks k line.text) (sym d.1) (Walks-ended r line.text w)
-Walks-end r now line (Err v) d h w = subst (λ (k : Record). Walks k line.text) (sym h.1) w
+pub Walks-end : (X : Type 0) (r now : Record) (line : Line) (result : Result Bool Refusal) → IfOk result (λ a. (a ≡ adds_end (level r.recorded) r.recorded) × (now ≡ ended r))
+    → IfErr result (λ w. (w ≡ why.NoMemory) × (now ≡ r) × X) → Walks r line.text → Walks now line.text
+Walks-end X r now line (Ok a) d h w = subst (λ (k : Record). Walks k line.text) (sym d.1) (Walks-ended r line.text w)
+Walks-end X r now line (Err v) d h w = subst (λ (k : Record). Walks k line.text) (sym h.1) w
+
+-- all entries lead to the text
+pub replays-all : (len : ℕ) (r : Record) (line : Line) → IsCharBoundary line.text line.cursor → length r.recorded ≤ len → Walks r line.text → replays_to len r line.text ≡ true
+replays-all len r line at all w =
+    let now = value_of (line_back r.recorded line) (Walks-back r line w at) in
+    let back = line_back-unwind r.recorded line now.0 now.1 in
+    ap (λ es. agree (unwind r.recorded line.text) (unwind es line.text)) (take_all len r.recorded all) ∙ ap (λ o. agree o o) back ∙ (bytes_eq-Decides now.0.text now.0.text).1 refl
 
 -- the line can go back then, and ahead
 pub Follows-Walks : (r : Record) (line : Line) → IsCharBoundary line.text line.cursor → Walks r line.text → Follows line r

@@ -128,7 +128,7 @@ Inside-same front old new k e = subst (λ (s : State). Inside front s.pair.chang
 Inside-other : (front : List Entry) (old : State) (command : Command) (reply : Reply) (new : State) → MayStandInGroup command reply → Others old command reply new
     → Inside front old.pair.changes → Inside front new.pair.changes
 Inside-other front old asks.Begin (says.Mark n) new i d k = Inside-same front (with_changes (begun old.pair.changes) old) new (Inside-begun front old.pair.changes k) d.1
-Inside-other front old asks.Begin (says.Refused NoMemory) new i d k = Inside-same front old new k d
+Inside-other front old asks.Begin (says.Refused NoMemory) new i d k = Inside-same front old new k d.1
 Inside-other front old asks.Begin _ new i d k = absurd d
 Inside-other front old asks.End (says.Refused NoMemory) new i d k = Inside-same front old new k d.1
 Inside-other front old asks.End (says.Answer a) new i d k = absurd i
@@ -140,7 +140,7 @@ Inside-other front old asks.Redo (says.Refused NoMemory) new i d k = Inside-same
 Inside-other front old asks.Redo (says.Answer a) new i d k = absurd i
 Inside-other front old asks.Redo _ new i d k = absurd d
 Inside-other front old (asks.Truncate len) (says.Refused NotReplaying) new i d k = Inside-same front old new k d.1
-Inside-other front old (asks.Truncate len) (says.Refused NoMemory) new i d k = Inside-same front old new k d
+Inside-other front old (asks.Truncate len) (says.Refused NoMemory) new i d k = Inside-same front old new k d.2
 Inside-other front old (asks.Truncate len) says.Done new i d k = absurd i
 Inside-other front old (asks.Truncate len) _ new i d k = absurd d
 Inside-other front old command reply new i d k =
@@ -148,9 +148,9 @@ Inside-other front old command reply new i d k =
 
 Inside-asked : (what : Asked) (front : List Entry) (old : State) (command : Command) (reply : Reply) (new : State) → MayStandInGroup command reply
     → DoesAsked what old command reply new → Inside front old.pair.changes → Inside front new.pair.changes
-Inside-asked (edit copies condition plan telling) front old command reply new i d k =
-    Inside-Heard front (held_by_edit copies condition plan telling old reply new d) old.line old.pair.changes new.line.text new.pair.changes k
-    (Heard-edit copies condition plan telling old reply new d)
+Inside-asked (edit takes condition plan telling) front old command reply new i d k =
+    Inside-Heard front (held_by_edit takes condition plan telling old reply new d) old.line old.pair.changes new.line.text new.pair.changes k
+    (Heard-edit takes condition plan telling old reply new d)
 Inside-asked other front old command reply new i d k = Inside-other front old command reply new i d k
 
 Inside-row : (front : List Entry) (row : Row) → MayStandInGroup row.command row.reply → Inside front row.before.pair.changes → Inside front row.after.pair.changes

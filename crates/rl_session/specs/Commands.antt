@@ -1,5 +1,5 @@
 -- What each command does.
-use Rattle.std.specs.Prelude.{◌≡◌, ℕ, ◌-◌, ◌<◌, ◌≤◌, Bool, true, false, not, length, List, Option, Some, None, IsSome, ◌⊎◌, if◌then◌else◌}
+use Rattle.std.specs.Prelude.{◌≡◌, ℕ, ◌-◌, ◌<◌, ◌≤◌, Bool, true, false, not, length, List, [], Any, Option, Some, None, ◌⊎◌, if◌then◌else◌}
 use Rattle.std.specs.List.{insert_slice}
 use Rattle.std.specs.Option.{option_map}
 use Rattle.std.specs.String.{string_bytes}
@@ -9,11 +9,14 @@ use Rattle.rl_base.specs.Clusters.{next_pos, prev_pos}
 use Rattle.rl_base.specs.KillRing.{reset, yank, yanked, yank_size, yank_pop, yank_popped}
 use Rattle.rl_base.specs.Lines.{line_number}
 use Rattle.rl_base.specs.Search.{find_place}
+use Rattle.rl_base.specs.Event.{Event}
+use Rattle.rl_base.specs.Text.{HasText}
+use Rattle.rl_base.specs.declared.listeners.Refusal.{Refusal}
 use Rattle.rl_base.specs.Widths.{blank_layout}
 use Rattle.rl_base.specs.Words.{next_word, prev_word}
 use Rattle.rl_base.specs.declared.motion.Movement.{Movement}
 use Rattle.rl_base.specs.declared.motion.Movement.TheVariants.{BeginningOfLine, EndOfLine, BackwardWord, ForwardWord, ViCharSearch, BackwardChar, ForwardChar, LineUp, LineDown, BeginningOfBuffer, EndOfBuffer}
-use Rattle.rl_line.specs.Line.{Line}
+use Rattle.rl_line.specs.Line.{Line, NeedsRoom}
 use Rattle.rl_line.specs.LineMotions.{columns_before, home, line_end, place_above, place_below}
 use Rattle.rl_line.specs.Motions.{Moved, unless_there}
 use Rattle.rl_line.specs.Plan.{Plan, nothing, Done, Halted, or_no_memory, bytes_of}
@@ -23,9 +26,10 @@ use Rattle.rl_line.specs.Kills.{copied, delete_plan, kill_plan, is_by_characters
 use Rattle.rl_line.specs.LetterCase.{edit_word_plan, Recased}
 use Rattle.rl_line.specs.Record.{Record, replays_to}
 use Rattle.rl_line.specs.Transpositions.{transpose_chars_plan, transpose_words_plan}
-use Rattle.rl_line.specs.Undo.{Undone, Redone}
-use Rattle.rl_line.specs.Units.{adds_end, begun, ended, level, truncated}
+use Rattle.rl_line.specs.Undo.{CopiesBack, Undone, Redone, texts_ahead, texts_back}
+use Rattle.rl_line.specs.Units.{adds_end, begun, ended, last_of, level, redo_of, truncated}
 use Rattle.rl_session.specs.Pair.{pair_step, pair_refused}
+use Rattle.rl_session.specs.declared.pair.Pair.{Pair}
 use Rattle.rl_session.specs.declared.session.Command.{Command}
 use Rattle.rl_session.specs.declared.session.Command.TheVariants.{SetPos, Move, Insert, Paste, Yank, YankPop, Update, InsertStr, Replace, DeleteRange, Delete, Backspace, KillLine, KillBuffer, DiscardLine, DiscardBuffer, DeletePrevWord, DeleteWord, DeleteTo, TransposeChars, TransposeWords, EditWord, Kill, Copy, Indent, Begin, End, Undo, Redo, Truncate, LinePlace}
 use Rattle.rl_session.specs.declared.session.Fault.TheVariants.{NoMemory, BadPlace, BadYankSize, NotReplaying}
@@ -62,15 +66,28 @@ pub record Edited {A : Type 0} (plan : Plan A) (old new : State) (answer : A) : 
   pub done : Done pair_step plan old.line new.line old.pair new.pair answer
   pub mode : new.mode ≡ old.mode
 
--- an edit was refused for want of memory, after its first steps
-pub record CutShort {A : Type 0} (plan : Plan A) (old new : State) : Type 0 where
-  pub halted : Halted pair_step (or_no_memory pair_refused) plan old.line new.line old.pair new.pair why.NoMemory
+-- what memory an edit takes beside its listener: none; at each step the room that the step needs; or, before its first step, that
+-- of a copy of what it moves or hands out
+pub data Takes : Type 0 where
+  nothing_more : Takes
+  room_by_step : Takes
+  a_copy : Takes
+
+-- how its steps may be refused
+abbrev pub refusal_of : Takes → Pair → Event → Refusal → Pair → Type 0
+refusal_of nothing_more = pair_refused
+refusal_of room_by_step = or_no_memory pair_refused
+refusal_of a_copy = or_no_memory pair_refused
+
+-- an edit was refused, since memory is out, after its first steps
+pub record CutShort {A : Type 0} (takes : Takes) (plan : Plan A) (old new : State) : Type 0 where
+  pub halted : Halted pair_step (refusal_of takes) plan old.line new.line old.pair new.pair why.NoMemory
   pub mode : new.mode ≡ old.mode
 
 -- an edit that copies what it moves was not begun, since there was no memory for the copy
-abbrev pub Unbegun : {A : Type 0} → Bool → Plan A → State → State → Type 0
-Unbegun true plan old new = (new ≡ old) × (0 < bytes_of plan.steps)
-Unbegun false plan old new = ⊥
+abbrev pub Unbegun : {A : Type 0} → Takes → Plan A → State → State → Type 0
+Unbegun a_copy plan old new = (new ≡ old) × (0 < bytes_of plan.steps)
+Unbegun _ plan old new = ⊥
 
 -- a kill was done, and told
 pub record Killed (mvt : Movement) (old new : State) (answer : Bool) : Type 0 where
@@ -79,7 +96,7 @@ pub record Killed (mvt : Movement) (old new : State) (answer : Bool) : Type 0 wh
 
 -- a kill was refused, and told
 pub record KillRefused (mvt : Movement) (old new : State) : Type 0 where
-  pub told : Told pair_step (is_by_characters mvt) (λ before now. Halted pair_step (or_no_memory pair_refused) (kill_plan old.line mvt) old.line new.line before now why.NoMemory) old.pair new.pair
+  pub told : Told pair_step (is_by_characters mvt) (λ before now. Halted pair_step pair_refused (kill_plan old.line mvt) old.line new.line before now why.NoMemory) old.pair new.pair
   pub mode : new.mode ≡ old.mode
 
 -- a text that the ring lent goes in n times, if it lent one
@@ -146,79 +163,82 @@ Tells hands_out P (says.Text t) = P (option_map string_bytes t)
 Tells is_done P says.Done = P tt
 Tells _ P _ = ⊥
 
--- what a command asks for: an edit, with whether it copies what it moves, a condition on its places, its plan, and the reply
+-- what a command asks for: an edit, with the memory that it takes, a condition on its places, its plan, and the reply
 -- that tells its answer; or something else
 pub data Asked : Type 1 where
-  edit : {A : Type 0} → (copies : Bool) → (condition : Type 0) → (plan : Plan A) → (telling : Telling A) → Asked
+  edit : {A : Type 0} → (takes : Takes) → (condition : Type 0) → (plan : Plan A) → (telling : Telling A) → Asked
   other : Asked
 
 abbrev pub asked : Line → Command → Asked
-asked line (Insert c n) = edit false (Unit {0}) (insert_plan line c n) inserts
-asked line (Paste s n) = edit false (Unit {0}) (yank_plan line (string_bytes s) n) inserts
-asked line (Update s q) = edit false (IsCharBoundary (string_bytes s) q) (update_plan line (string_bytes s) q) is_done
-asked line (InsertStr i s) = edit false (CanGoIn line i (string_bytes s)) (insert_str_plan line i (string_bytes s)) answers
-asked line (Replace i j s) = edit false (IsRange line.text i j) (replace_plan line i j (string_bytes s)) is_done
-asked line (DeleteRange i j) = edit false (IsRange line.text i j) (delete_range_plan line i j) is_done
-asked line (Delete n) = edit true (Unit {0}) (delete_plan line n) hands_out
-asked line (Backspace n) = edit false (Unit {0}) (kill_plan line (BackwardChar n)) answers
-asked line KillLine = edit false (Unit {0}) (kill_plan line EndOfLine) answers
-asked line KillBuffer = edit false (Unit {0}) (kill_plan line EndOfBuffer) answers
-asked line DiscardLine = edit false (Unit {0}) (kill_plan line BeginningOfLine) answers
-asked line DiscardBuffer = edit false (Unit {0}) (kill_plan line BeginningOfBuffer) answers
-asked line (DeletePrevWord word n) = edit false (Unit {0}) (kill_plan line (BackwardWord n word)) answers
-asked line (DeleteWord at word n) = edit false (Unit {0}) (kill_plan line (ForwardWord n at word)) answers
-asked line (DeleteTo cs n) = edit false (Unit {0}) (kill_plan line (ViCharSearch n cs)) answers
-asked line TransposeChars = edit true (Unit {0}) (transpose_chars_plan line) answers
-asked line (TransposeWords n) = edit true (Unit {0}) (transpose_words_plan line n) answers
-asked line (Indent m amount dedent) = edit false (Unit {0}) (indent_plan line m amount dedent) answers
+asked line (Insert c n) = edit room_by_step (Unit {0}) (insert_plan line c n) inserts
+asked line (Paste s n) = edit room_by_step (Unit {0}) (yank_plan line (string_bytes s) n) inserts
+asked line (Update s q) = edit room_by_step (IsCharBoundary (string_bytes s) q) (update_plan line (string_bytes s) q) is_done
+asked line (InsertStr i s) = edit room_by_step (CanGoIn line i (string_bytes s)) (insert_str_plan line i (string_bytes s)) answers
+asked line (Replace i j s) = edit room_by_step (IsRange line.text i j) (replace_plan line i j (string_bytes s)) is_done
+asked line (DeleteRange i j) = edit nothing_more (IsRange line.text i j) (delete_range_plan line i j) is_done
+asked line (Delete n) = edit a_copy (Unit {0}) (delete_plan line n) hands_out
+asked line (Backspace n) = edit nothing_more (Unit {0}) (kill_plan line (BackwardChar n)) answers
+asked line KillLine = edit nothing_more (Unit {0}) (kill_plan line EndOfLine) answers
+asked line KillBuffer = edit nothing_more (Unit {0}) (kill_plan line EndOfBuffer) answers
+asked line DiscardLine = edit nothing_more (Unit {0}) (kill_plan line BeginningOfLine) answers
+asked line DiscardBuffer = edit nothing_more (Unit {0}) (kill_plan line BeginningOfBuffer) answers
+asked line (DeletePrevWord word n) = edit nothing_more (Unit {0}) (kill_plan line (BackwardWord n word)) answers
+asked line (DeleteWord at word n) = edit nothing_more (Unit {0}) (kill_plan line (ForwardWord n at word)) answers
+asked line (DeleteTo cs n) = edit nothing_more (Unit {0}) (kill_plan line (ViCharSearch n cs)) answers
+asked line TransposeChars = edit a_copy (Unit {0}) (transpose_chars_plan line) answers
+asked line (TransposeWords n) = edit a_copy (Unit {0}) (transpose_words_plan line n) answers
+asked line (Indent m amount dedent) = edit room_by_step (Unit {0}) (indent_plan line m amount dedent) answers
 asked line _ = other
 
 -- an edit: refused where its condition fails, and else done, or cut short for want of memory
-abbrev pub Edits : {A : Type 0} → Bool → Type 0 → Plan A → Telling A → State → Reply → State → Type 0
-Edits copies condition plan telling old (says.Refused BadPlace) new = (¬ condition) × (new ≡ old)
-Edits copies condition plan telling old (says.Refused NoMemory) new = condition × (Unbegun copies plan old new ⊎ CutShort plan old new)
-Edits copies condition plan telling old reply new = condition × Tells telling (λ a. Edited plan old new a) reply
+abbrev pub Edits : {A : Type 0} → Takes → Type 0 → Plan A → Telling A → State → Reply → State → Type 0
+Edits takes condition plan telling old (says.Refused BadPlace) new = (¬ condition) × (new ≡ old)
+Edits takes condition plan telling old (says.Refused NoMemory) new = condition × (Unbegun takes plan old new ⊎ CutShort takes plan old new)
+Edits takes condition plan telling old reply new = condition × Tells telling (λ a. Edited plan old new a) reply
 
--- what is no edit, or one of a text that is not told by the command. What has nothing to copy, to close, to undo or to redo is
--- not refused.
+-- what is no edit, or one of a text that is not told by the command. What needs no room, since there is nothing to copy, to close
+-- or to make longer, is not refused.
 abbrev pub Others : State → Command → Reply → State → Type 0
 Others old (SetPos q) says.Done new = IsCharBoundary old.line.text q × (new ≡ record old { line = record old.line { cursor = q } })
 Others old (SetPos q) (says.Refused BadPlace) new = (¬ (IsCharBoundary old.line.text q)) × (new ≡ old)
 Others old (Move m) (says.Answer a) new = Went (destination old m) old new a
 Others old (Copy m) (says.Text t) new = (option_map string_bytes t ≡ copied old.line m) × (new ≡ old)
-Others old (Copy m) (says.Refused NoMemory) new = IsSome (copied old.line m) × (new ≡ old)
+Others old (Copy m) (says.Refused NoMemory) new = HasText (copied old.line m) × (new ≡ old)
 Others old (EditWord action) (says.Answer a) new = Recased old.line action (λ made. Edited (edit_word_plan old.line made) old new a)
-Others old (EditWord action) (says.Refused NoMemory) new = Recased old.line action (λ made. Unbegun true (edit_word_plan old.line made) old new ⊎ CutShort (edit_word_plan old.line made) old new)
+Others old (EditWord action) (says.Refused NoMemory) new = Recased old.line action (λ made. Unbegun a_copy (edit_word_plan old.line made) old new ⊎ CutShort a_copy (edit_word_plan old.line made) old new)
 Others old (Kill m) (says.Answer a) new = Killed m old new a
 Others old (Kill m) (says.Refused NoMemory) new = KillRefused m old new
--- a yanked text is copied out of the ring, for which there may be no memory either; where none is lent, nothing is refused
+-- a yanked text is copied out of the ring, for which there may be no memory either, unless it is empty
 Others old (Yank n) (says.Inserted a) new = Edited (lent_plan old.line (yank old.pair.ring) n) (lent old) new a
 Others old (Yank n) (says.Refused NoMemory) new =
-    IsSome (yank old.pair.ring) × ((new ≡ lent old) ⊎ CutShort (lent_plan old.line (yank old.pair.ring) n) (lent old) new)
+    (HasText (yank old.pair.ring) × (new ≡ lent old)) ⊎ CutShort room_by_step (lent_plan old.line (yank old.pair.ring) n) (lent old) new
 Others old YankPop (says.Inserted a) new =
     StandsYanked (yank_size old.pair.ring) old.line × Edited (popped_plan old.line (yank_pop old.pair.ring)) (popped old) new a
 Others old YankPop (says.Refused BadYankSize) new = (¬ (StandsYanked (yank_size old.pair.ring) old.line)) × (new ≡ old)
 Others old YankPop (says.Refused NoMemory) new =
-    StandsYanked (yank_size old.pair.ring) old.line × IsSome (yank_pop old.pair.ring) × ((new ≡ popped old) ⊎ CutShort (popped_plan old.line (yank_pop old.pair.ring)) (popped old) new)
+    StandsYanked (yank_size old.pair.ring) old.line × ((HasText (option_map (λ (p : ℕ × List ℕ). p.1) (yank_pop old.pair.ring)) × (new ≡ popped old)) ⊎ CutShort room_by_step (popped_plan old.line (yank_pop old.pair.ring)) (popped old) new)
 Others old Begin (says.Mark n) new = (n ≡ length old.pair.changes.recorded) × (new ≡ with_changes (begun old.pair.changes) old)
-Others old Begin (says.Refused NoMemory) new = new ≡ old
+Others old Begin (says.Refused NoMemory) new = (old.pair.changes.pending ≡ []) × (new ≡ old)
 Others old End (says.Answer a) new =
     (a ≡ adds_end (level old.pair.changes.recorded) old.pair.changes.recorded) × (new ≡ with_changes (ended old.pair.changes) old)
-Others old End (says.Refused NoMemory) new = (0 < level old.pair.changes.recorded) × (new ≡ old)
+Others old End (says.Refused NoMemory) new = (adds_end (level old.pair.changes.recorded) old.pair.changes.recorded ≡ true) × (new ≡ old)
 Others old (Undo n) (says.Answer a) new = TookBack n old new a
-Others old (Undo n) (says.Refused NoMemory) new = (0 < length old.pair.changes.recorded) × (new ≡ old)
+Others old (Undo n) (says.Refused NoMemory) new =
+    Any (NeedsRoom old.line.text) (texts_back (last_of n old.pair.changes.recorded) old.line.text) × (new ≡ old)
 Others old Redo (says.Answer a) new = PutAgain old new a
-Others old Redo (says.Refused NoMemory) new = (0 < length old.pair.changes.pending) × (new ≡ old)
+Others old Redo (says.Refused NoMemory) new =
+    Any (NeedsRoom old.line.text) (texts_ahead (redo_of old.pair.changes.pending) old.line.text) × (new ≡ old)
 Others old (Truncate len) says.Done new =
     (replays_to len old.pair.changes old.line.text ≡ true) × (new ≡ with_changes (truncated len old.pair.changes) old)
 Others old (Truncate len) (says.Refused NotReplaying) new = (replays_to len old.pair.changes old.line.text ≡ false) × (new ≡ old)
-Others old (Truncate len) (says.Refused NoMemory) new = new ≡ old
+Others old (Truncate len) (says.Refused NoMemory) new =
+    (len < length old.pair.changes.recorded) × CopiesBack old.pair.changes.recorded old.line.text × (new ≡ old)
 Others old LinePlace (says.At k columns) new = ((k, columns) ≡ line_place old) × (new ≡ old)
 -- no other reply comes
 Others _ _ _ _ = ⊥
 
 abbrev pub DoesAsked : Asked → State → Command → Reply → State → Type 0
-DoesAsked (edit copies condition plan telling) old command reply new = Edits copies condition plan telling old reply new
+DoesAsked (edit takes condition plan telling) old command reply new = Edits takes condition plan telling old reply new
 DoesAsked other old command reply new = Others old command reply new
 
 -- from old, the command may have this reply and lead to new, the ring's resets aside

@@ -39,6 +39,11 @@ impl Session {
     pub(super) fn truncate(&mut self, len: usize) -> Reply
         ensures { Does self.old (Command.Truncate len) result self.new }
     {
+        self.stands();
+        if len >= self.pair.changes.len() {
+            self.pair.changes.truncate(len);
+            return Reply::Done;
+        }
         match self.pair.changes.replays_to(len, &self.line) {
             Ok(true) => {
                 self.pair.changes.truncate(len);

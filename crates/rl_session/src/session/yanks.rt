@@ -1,7 +1,8 @@
 //! Kills and yanks, and when the ring is reset.
-ghost use Rattle.std.specs.Prelude.{◌≡◌, true, false, IfOk, IfErr, IsSome};
+ghost use Rattle.std.specs.Prelude.{◌≡◌, ◌<◌, true, false, length, IfOk, OnErr};
 ghost use Rattle.std.specs.Option.{option_map};
 ghost use Rattle.std.specs.String.{string_bytes};
+ghost use Rattle.rl_base.specs.Text.{HasText};
 ghost use Rattle.rl_base.specs.KillRing.{yank, yanked, yank_pop, yank_popped, yank_size};
 ghost use Rattle.rl_session.specs.Commands.{Does, StandsYanked, continues, is_vain_yank, readied, settled};
 ghost use Rattle.rl_session.specs.declared.session.Command.{Command};
@@ -100,10 +101,10 @@ fn is_vain_yank(command: &Command, reply: &Reply) -> bool
 fn yanked(alloc: Global, ring: &mut KillRing) -> Result<Option<String>, AllocError>
     ensures ring { ring.new ≡ yanked ring.old }
     ensures text { IfOk result (λ text. option_map string_bytes text ≡ yank ring.old) }
-    ensures lent { IfErr result (λ _. IsSome (yank ring.old)) }
+    ensures lent { OnErr result (HasText (yank ring.old)) }
 {
     match ring.yank() {
-        Some(text) => Ok(Some(String::from_str(alloc, text.as_str())?)),
+        Some(text) => Ok(Some(copied(alloc, text.as_str())?)),
         None => Ok(None),
     }
 }
@@ -112,10 +113,21 @@ fn yanked(alloc: Global, ring: &mut KillRing) -> Result<Option<String>, AllocErr
 fn popped(alloc: Global, ring: &mut KillRing) -> Result<Option<(usize, String)>, AllocError>
     ensures ring { ring.new ≡ yank_popped ring.old }
     ensures text { IfOk result (λ found. option_map (λ p. (p.0, string_bytes p.1)) found ≡ yank_pop ring.old) }
-    ensures lent { IfErr result (λ _. IsSome (yank_pop ring.old)) }
+    ensures lent { OnErr result (HasText (option_map (λ p. p.1) (yank_pop ring.old))) }
 {
     match ring.yank_pop() {
-        Some((size, text)) => Ok(Some((size, String::from_str(alloc, text.as_str())?))),
+        Some((size, text)) => Ok(Some((size, copied(alloc, text.as_str())?))),
         None => Ok(None),
     }
+}
+
+// A copy of a text, which takes no memory where that is empty.
+fn copied(alloc: Global, text: &str) -> Result<String, AllocError>
+    ensures copy { IfOk result (λ copy. string_bytes copy ≡ text.now) }
+    ensures some { OnErr result (0 < length text.now) }
+{
+    if text.is_empty() {
+        return Ok(String::new(alloc));
+    }
+    String::from_str(alloc, text)
 }

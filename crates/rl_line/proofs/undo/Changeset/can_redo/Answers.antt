@@ -41,4 +41,4 @@ returns-in_err-text-clause-err c =
     let some = sym (ap has_change all) ∙ sym c.has_change.ensures ∙ c.if-not-has_change.false in
     let bytes : bytes_back (map (faced Ahead) (order Ahead waits)) ≡ bytes_ahead c.args.self.now.pending =
     ap bytes_back (ahead-inverse waits) ∙ bytes_ahead-back (map entry_of waits) ∙ ap bytes_ahead all in
-    rw (p.1, p.2) (e.0, some, omega (arith, e.1, ap length c.as_str.ensures, bytes))
+    rw (p.1, p.2) (e.0, (some, omega (arith, e.1, ap length c.as_str.ensures, bytes)))

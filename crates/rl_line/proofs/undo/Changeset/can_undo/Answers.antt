@@ -36,4 +36,4 @@ returns-in_err-text-clause-err c =
     let e = c.in_err-text.ensures.err in
     let all = recorded (goal.at.returns-in_err-text-clause-err c).After-deref in
     let some = sym (ap has_change all) ∙ sym c.has_change.ensures ∙ c.if-not-has_change.false in
-    rw (p.1, p.2) (e.0, some, omega (arith, e.1, ap length c.as_str.ensures, ap bytes_back all))
+    rw (p.1, p.2) (e.0, (some, omega (arith, e.1, ap length c.as_str.ensures, ap bytes_back all)))

@@ -64,7 +64,7 @@ returns-in_err-all-clause-err c =
     let e = c.in_err-all.ensures.err in
     let all = recorded (goal.at.returns-in_err-all-clause-err c).After-deref in
     let some = sym (ap has_change all) ∙ sym c.has_change.ensures ∙ c.if-not-has_change.false in
-    rw (p.1, p.2) (e.0, some, omega (arith, e.1, ap length c.as_str-text.ensures, ap bytes_back all))
+    rw (p.1, p.2) (e.0, (some, omega (arith, e.1, ap length c.as_str-text.ensures, ap bytes_back all)))
 
 pub returns-in_err-some-clause-err : goal.returns-in_err-some-clause-err
 returns-in_err-some-clause-err c =
@@ -73,4 +73,4 @@ returns-in_err-some-clause-err c =
     let all = recorded (goal.at.returns-in_err-some-clause-err c).After-deref in
     let some = sym (ap has_change all) ∙ sym c.has_change.ensures ∙ c.if-not-has_change.false in
     let fewer = bytes_back-first c.args.len c.args.self.now.recorded in
-    rw (p.1, p.2) (e.0, some, omega (arith, e.1, fewer, ap length c.as_str-text.ensures, ap bytes_back (c.first-first.ensures ∙ ap (take c.args.len) all)))
+    rw (p.1, p.2) (e.0, (some, omega (arith, e.1, fewer, ap length c.as_str-text.ensures, ap bytes_back (c.first-first.ensures ∙ ap (take c.args.len) all))))

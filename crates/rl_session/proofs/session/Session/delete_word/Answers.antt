@@ -1,7 +1,7 @@
-use Rattle.std.proofs.Common.{refl, false}
+use Rattle.std.proofs.Common.{refl}
 use Rattle.rl_base.specs.declared.motion.Movement.TheVariants.{ForwardWord}
 use Rattle.rl_line.specs.Kills.{kill_plan}
-use Rattle.rl_session.specs.Commands.{answers}
+use Rattle.rl_session.specs.Commands.{nothing_more, answers}
 use Rattle.rl_session.proofs.ReplyLemmas.{Edits-replied}
 use Rattle.rl_session.proofs.IdleLemmas.{NoneStarts-kill}
 use Rattle.rl_session.proofs.SessionLemmas.{AtRest-edit}
@@ -9,8 +9,8 @@ use Rattle.rl_session.proofs.session.Session.delete_word.Goals as goal
 
 pub invariant_of-self : goal.invariant_of-self
 invariant_of-self c =
-    AtRest-edit false _ (λ a. a) c.self.inside.pair c.delete_word.new.listener c.self.inside.line c.delete_word.new.self c.delete_word.result (rw (← c.self.view_is) at c.stands.ensures.cursor) (NoneStarts-kill c.self.inside.line (ForwardWord c.args.n c.args.at c.args.word)) c.delete_word.ensures.done c.delete_word.ensures.halted c.self.invariant
+    AtRest-edit nothing_more _ (λ a. a) c.self.inside.pair c.delete_word.new.listener c.self.inside.line c.delete_word.new.self c.delete_word.result (rw (← c.self.view_is) at c.stands.ensures.cursor) (NoneStarts-kill c.self.inside.line (ForwardWord c.args.n c.args.at c.args.word)) c.delete_word.ensures.done c.delete_word.ensures.halted c.self.invariant
 
 pub returns : goal.returns
 returns c =
-    Edits-replied false answers (λ l. kill_plan l (ForwardWord c.args.n c.args.at c.args.word)) c.self.view_is tt c.answered.ensures (record { mode = refl; done = c.delete_word.ensures.done; halted = c.delete_word.ensures.halted })
+    Edits-replied nothing_more answers (λ l. kill_plan l (ForwardWord c.args.n c.args.at c.args.word)) c.self.view_is tt c.answered.ensures (record { mode = refl; done = c.delete_word.ensures.done; halted = c.delete_word.ensures.halted })

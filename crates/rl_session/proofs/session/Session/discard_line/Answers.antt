@@ -1,7 +1,7 @@
-use Rattle.std.proofs.Common.{refl, false}
+use Rattle.std.proofs.Common.{refl}
 use Rattle.rl_base.specs.declared.motion.Movement.TheVariants.{BeginningOfLine}
 use Rattle.rl_line.specs.Kills.{kill_plan}
-use Rattle.rl_session.specs.Commands.{answers}
+use Rattle.rl_session.specs.Commands.{nothing_more, answers}
 use Rattle.rl_session.proofs.ReplyLemmas.{Edits-replied}
 use Rattle.rl_session.proofs.IdleLemmas.{NoneStarts-kill}
 use Rattle.rl_session.proofs.SessionLemmas.{AtRest-edit}
@@ -9,8 +9,8 @@ use Rattle.rl_session.proofs.session.Session.discard_line.Goals as goal
 
 pub invariant_of-self : goal.invariant_of-self
 invariant_of-self c =
-    AtRest-edit false _ (λ a. a) c.self.inside.pair c.discard_line.new.listener c.self.inside.line c.discard_line.new.self c.discard_line.result (rw (← c.self.view_is) at c.stands.ensures.cursor) (NoneStarts-kill c.self.inside.line BeginningOfLine) c.discard_line.ensures.done c.discard_line.ensures.halted c.self.invariant
+    AtRest-edit nothing_more _ (λ a. a) c.self.inside.pair c.discard_line.new.listener c.self.inside.line c.discard_line.new.self c.discard_line.result (rw (← c.self.view_is) at c.stands.ensures.cursor) (NoneStarts-kill c.self.inside.line BeginningOfLine) c.discard_line.ensures.done c.discard_line.ensures.halted c.self.invariant
 
 pub returns : goal.returns
 returns c =
-    Edits-replied false answers (λ l. kill_plan l BeginningOfLine) c.self.view_is tt c.answered.ensures (record { mode = refl; done = c.discard_line.ensures.done; halted = c.discard_line.ensures.halted })
+    Edits-replied nothing_more answers (λ l. kill_plan l BeginningOfLine) c.self.view_is tt c.answered.ensures (record { mode = refl; done = c.discard_line.ensures.done; halted = c.discard_line.ensures.halted })

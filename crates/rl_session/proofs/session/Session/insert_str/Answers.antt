@@ -1,14 +1,14 @@
-use Rattle.std.proofs.Common.{false, refl, rules}
+use Rattle.std.proofs.Common.{refl, rules}
 use Rattle.rl_line.specs.Edits.{insert_str_plan}
-use Rattle.rl_session.specs.Commands.{answers}
+use Rattle.rl_session.specs.Commands.{room_by_step, answers}
 use Rattle.rl_session.proofs.ReplyLemmas.{Edits-replied}
 use Rattle.rl_session.proofs.SessionLemmas.{AtRest-edit}
 use Rattle.rl_session.proofs.session.Session.insert_str.Goals as goal
 
 pub invariant_of-self : goal.invariant_of-self
 invariant_of-self c =
-    AtRest-edit false _ (λ a. a) c.self.inside.pair c.insert_str.new.listener c.self.inside.line c.insert_str.new.self c.insert_str.result (rw (← c.self.view_is) at c.stands.ensures.cursor) (tt, tt) c.insert_str.ensures.done c.insert_str.ensures.halted c.self.invariant
+    AtRest-edit room_by_step _ (λ a. a) c.self.inside.pair c.insert_str.new.listener c.self.inside.line c.insert_str.new.self c.insert_str.result (rw (← c.self.view_is) at c.stands.ensures.cursor) (tt, tt) c.insert_str.ensures.done c.insert_str.ensures.halted c.self.invariant
 
 pub returns : goal.returns
 returns c =
-    rw (← c.as_str-2.ensures.value) (Edits-replied false answers (λ l. insert_str_plan l c.args.idx c.as_str-2.result.now) c.self.view_is (search rules) c.answered.ensures (record { mode = refl; done = c.insert_str.ensures.done; halted = c.insert_str.ensures.halted }))
+    rw (← c.as_str-2.ensures.value) (Edits-replied room_by_step answers (λ l. insert_str_plan l c.args.idx c.as_str-2.result.now) c.self.view_is (search rules) c.answered.ensures (record { mode = refl; done = c.insert_str.ensures.done; halted = c.insert_str.ensures.halted }))

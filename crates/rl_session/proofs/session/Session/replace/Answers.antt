@@ -1,14 +1,14 @@
-use Rattle.std.proofs.Common.{false, refl}
+use Rattle.std.proofs.Common.{refl}
 use Rattle.rl_line.specs.Edits.{replace_plan}
-use Rattle.rl_session.specs.Commands.{is_done}
+use Rattle.rl_session.specs.Commands.{room_by_step, is_done}
 use Rattle.rl_session.proofs.ReplyLemmas.{Edits-replied}
 use Rattle.rl_session.proofs.SessionLemmas.{AtRest-edit}
 use Rattle.rl_session.proofs.session.Session.replace.Goals as goal
 
 pub invariant_of-self : goal.invariant_of-self
 invariant_of-self c =
-    AtRest-edit false _ (λ a. a) c.self.inside.pair c.replace.new.listener c.self.inside.line c.replace.new.self c.replace.result (rw (← c.self.view_is) at c.stands.ensures.cursor) (tt, tt) c.replace.ensures.done c.replace.ensures.halted c.self.invariant
+    AtRest-edit room_by_step _ (λ a. a) c.self.inside.pair c.replace.new.listener c.self.inside.line c.replace.new.self c.replace.result (rw (← c.self.view_is) at c.stands.ensures.cursor) (tt, tt) c.replace.ensures.done c.replace.ensures.halted c.self.invariant
 
 pub returns : goal.returns
 returns c =
-    rw (← c.as_str.ensures.value) (Edits-replied false is_done (λ l. replace_plan l c.args.from c.args.to c.as_str.result.now) c.self.view_is (c.is_range.ensures.yes c.if-not-is_range.false) c.done.ensures (record { mode = refl; done = c.replace.ensures.done; halted = c.replace.ensures.halted }))
+    rw (← c.as_str.ensures.value) (Edits-replied room_by_step is_done (λ l. replace_plan l c.args.from c.args.to c.as_str.result.now) c.self.view_is (c.is_range.ensures.yes c.if-not-is_range.false) c.done.ensures (record { mode = refl; done = c.replace.ensures.done; halted = c.replace.ensures.halted }))

@@ -5,7 +5,7 @@ use Rattle.rl_line.proofs.WalkLemmas.{Walks-back}
 use Rattle.rl_session.proofs.session.Session.undo.Goals as goal
 
 pub invariant_of-self : goal.invariant_of-self
-invariant_of-self c = record { walks = Walks-undo _ _ _ _ _ c.undo.result c.undo.ensures.done c.undo.ensures.err c.self.invariant.walks; idle = c.self.invariant.idle }
+invariant_of-self c = record { walks = Walks-undo _ _ _ _ _ _ c.undo.result c.undo.ensures.done c.undo.ensures.err c.self.invariant.walks; idle = c.self.invariant.idle }
 
 pub returns : goal.returns
 returns c = Undo-replied c.args.n _ _ c.self.view_is c.answered.ensures refl c.undo.ensures.done c.undo.ensures.err

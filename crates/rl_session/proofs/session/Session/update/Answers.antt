@@ -1,14 +1,14 @@
-use Rattle.std.proofs.Common.{false, refl, rules}
+use Rattle.std.proofs.Common.{refl, rules}
 use Rattle.rl_line.specs.Edits.{update_plan}
-use Rattle.rl_session.specs.Commands.{is_done}
+use Rattle.rl_session.specs.Commands.{room_by_step, is_done}
 use Rattle.rl_session.proofs.ReplyLemmas.{Edits-replied}
 use Rattle.rl_session.proofs.SessionLemmas.{AtRest-edit}
 use Rattle.rl_session.proofs.session.Session.update.Goals as goal
 
 pub invariant_of-self : goal.invariant_of-self
 invariant_of-self c =
-    AtRest-edit false _ (λ a. a) c.self.inside.pair c.update.new.listener c.self.inside.line c.update.new.self c.update.result (rw (← c.self.view_is) at c.stands.ensures.cursor) (tt, (tt, tt)) c.update.ensures.done c.update.ensures.halted c.self.invariant
+    AtRest-edit room_by_step _ (λ a. a) c.self.inside.pair c.update.new.listener c.self.inside.line c.update.new.self c.update.result (rw (← c.self.view_is) at c.stands.ensures.cursor) (tt, (tt, tt)) c.update.ensures.done c.update.ensures.halted c.self.invariant
 
 pub returns : goal.returns
 returns c =
-    rw (← c.as_str-2.ensures.value) (Edits-replied false is_done (λ l. update_plan l c.as_str-2.result.now c.args.pos) c.self.view_is (search rules) c.done.ensures (record { mode = refl; done = c.update.ensures.done; halted = c.update.ensures.halted }))
+    rw (← c.as_str-2.ensures.value) (Edits-replied room_by_step is_done (λ l. update_plan l c.as_str-2.result.now c.args.pos) c.self.view_is (search rules) c.done.ensures (record { mode = refl; done = c.update.ensures.done; halted = c.update.ensures.halted }))
