@@ -25,3 +25,4 @@ pub mod UndoLemmas
 pub mod RoomLemmas
 pub mod ToldLemmas
 pub mod WalkLemmas
+pub mod WayLemmas

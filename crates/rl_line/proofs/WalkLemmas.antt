@@ -44,7 +44,7 @@ pub Walk-replay : (es : List Entry) (x y : List ℕ) → Walk es x y → replay_
 Walk-replay [] x y e = ap (λ t. Some t) e
 Walk-replay (e ∷ es) x y w = ap (option_and_then (replay_entries es)) w.1.makes ∙ Walk-replay es w.0 y w.2
 
-stands-on : (e : Entry) (x y : List ℕ) → apply (event_of e) x ≡ Some y → cursor_stands true e y ≡ true → text_after true e x ≡ Some y
+pub stands-on : (e : Entry) (x y : List ℕ) → apply (event_of e) x ≡ Some y → cursor_stands true e y ≡ true → text_after true e x ≡ Some y
 stands-on e x y makes stands = ap (option_and_then (λ t. cond (cursor_stands true e t) (Some t) None)) makes ∙ ap (λ b. cond b (Some y) None) stands
 
 pub Walk-back : (es : List Entry) (x y : List ℕ) → IsUtf8 x → Walk es x y → text_back true es y ≡ Some x

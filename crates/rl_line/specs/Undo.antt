@@ -1,9 +1,10 @@
 -- How a line goes back over its record, and ahead again.
-use Rattle.std.specs.Prelude.{◌≡◌, ℕ, zero, suc, ◌+◌, ◌<◌, Bool, true, List, [], ◌∷◌, length, map, reverse, Option, Some, None, option_and_then, unwrap_or}
+use Rattle.std.specs.Prelude.{◌≡◌, ℕ, zero, suc, ◌+◌, ◌<◌, Bool, true, List, [], ◌∷◌, ◌++◌, length, map, reverse, Option, Some, None, option_and_then, unwrap_or}
 use Rattle.std.specs.Option.{option_map}
+use Rattle.std.specs.Str.{IsCharBoundary}
 use Rattle.rl_base.specs.Event.{Event, apply}
 use Rattle.rl_line.specs.Line.{Line, after_step}
-use Rattle.rl_line.specs.Record.{Entry, Begin, End, Inserted, Deleted, Replaced, Record, bytes_ahead, bytes_back, cursors_of, event_of, inverse}
+use Rattle.rl_line.specs.Record.{Entry, Begin, End, Inserted, Deleted, Replaced, Record, bytes_ahead, bytes_back, cursors_of, event_of, inverse, replay_entries, unwind}
 use Rattle.rl_line.specs.Units.{last_of, redo_of, has_change, undone, redone}
 
 -- the cursor after an entry was made, where that was told
@@ -55,6 +56,16 @@ texts_back entries text = texts_after (map (λ (e : Entry). event_of (inverse e)
 
 abbrev pub texts_ahead : List Entry → List ℕ → List (List ℕ)
 texts_ahead entries text = texts_after (map event_of entries) text
+
+-- on the way back from a text, the cursor that was told from before a change stands between two characters there
+abbrev pub StandBefore : List Entry → List ℕ → Type 0
+StandBefore es text = (first others : List Entry) (e : Entry) (place : ℕ) (now : List ℕ) → es ≡ first ++ e ∷ others → cursor_told (inverse e) ≡ Some place
+    → unwind (e ∷ others) text ≡ Some now → IsCharBoundary now place
+
+-- on the way ahead, the one from after it
+abbrev pub StandAfter : List Entry → List ℕ → Type 0
+StandAfter es text = (first others : List Entry) (e : Entry) (place : ℕ) (now : List ℕ) → es ≡ first ++ e ∷ others → cursor_told e ≡ Some place
+    → replay_entries (first ++ e ∷ []) text ≡ Some now → IsCharBoundary now place
 
 -- what an undo of n does: the line goes back over the last units, which wait to be redone. The answer: was there a change?
 pub record Undone (n : ℕ) (old new : Record) (line line' : Line) (answer : Bool) : Type 0 where

@@ -1,8 +1,8 @@
 //! The record of the changes of a line, which undoes them, in groups where they were made in groups, and redoes them.
-ghost use Rattle.std.specs.Prelude.{◌≡◌, ◌<◌, ℕ, List, Bool, [], ◌∷◌, ◌++◌, suc, true, false, drop, is_some, length, Any, IsSome, Some, IfOk, IfErr, OnOk};
+ghost use Rattle.std.specs.Prelude.{◌≡◌, ◌<◌, ◌↔◌, ℕ, List, Bool, [], ◌∷◌, ◌++◌, suc, true, false, drop, is_some, length, Any, IsSome, Some, IfOk, IfErr, OnOk};
 ghost use Rattle.std.specs.Option.{option_map};
 ghost use Rattle.std.specs.String.{string_bytes};
-ghost use Rattle.std.specs.Str.{IsUtf8};
+ghost use Rattle.std.specs.Str.{IsCharBoundary, IsUtf8};
 ghost use Rattle.rl_base.specs.Event.{InsertChar, InsertStr, Delete, Replace};
 ghost use Rattle.rl_base.specs.Text.{HasText};
 ghost use Rattle.rl_base.specs.declared.listeners.Direction.TheVariants.{Forward};
@@ -10,7 +10,7 @@ ghost use Rattle.rl_base.specs.declared.listeners.Refusal.TheVariants.{NoMemory}
 ghost use Rattle.rl_line.specs.declared.change.Freshness.TheVariants.{Stale};
 ghost use Rattle.rl_line.specs.Line.{Line, NeedsRoom};
 ghost use Rattle.rl_line.specs.Record.{Entry, End, Record, last_insert, record_step, replay_entries, replays_to, unwind};
-ghost use Rattle.rl_line.specs.Undo.{CopiesAhead, CopiesBack, Redone, Redos, Undone, line_ahead, line_back, texts_ahead, texts_back};
+ghost use Rattle.rl_line.specs.Undo.{CopiesAhead, CopiesBack, Redone, Redos, StandAfter, StandBefore, Undone, line_ahead, line_back, texts_ahead, texts_back};
 ghost use Rattle.rl_line.specs.Units.{BothMatched, GroupAt, InGroup, IsMatched, adds_end, after_in_group, begun, ended, has_change, last_of, last_units, level, opens, redo_of, truncated};
 
 use crate::change::{Change, Freshness, Way, text_over};
@@ -321,6 +321,15 @@ pub fn unwinding_is_replaying()
     ensures replayed { (es : List Entry) (before after : List ℕ) → IsUtf8 after → unwind es after ≡ Some before → replay_entries es before ≡ Some after }
 {}
 
+/// What an undo asks of a line, in terms of its text: that the changes can be taken back from it, the last first, and that each cursor
+/// that was told stands between two characters of the text from before its change. A redo asks the same of the way ahead.
+pub fn conditions_are_of_the_text()
+    ensures back { (es : List Entry) (line : Line) → IsUtf8 line.text → IsCharBoundary line.text line.cursor
+        → IsSome (line_back es line) ↔ (IsSome (unwind es line.text) × StandBefore es line.text) }
+    ensures ahead { (es : List Entry) (line : Line) → IsUtf8 line.text → IsCharBoundary line.text line.cursor
+        → IsSome (line_ahead es line) ↔ (IsSome (replay_entries es line.text) × StandAfter es line.text) }
+{}
+
 /// What an undo leaves is the text unwound over the units that it took off the record, and what a redo leaves is the replay of
 /// the unit that it recorded again.
 pub fn undo_unwinds_and_redo_replays()
@@ -348,7 +357,7 @@ pub fn empty_group_leaves_the_record()
 
 /// As many redos as an undo took units give back the text, what was recorded and what was undone before, unless
 /// the undo took the begin of an open group.
-pub fn redo_gives_back()
+pub fn redos_of_a_line_give_back()
     ensures { (n : ℕ) (r mid now : Record) (line back ahead : Line) (answer : Bool) → IsUtf8 line.text → BothMatched r
         → opens (last_units n r.recorded) ≡ 0 → Undone n r mid line back answer
         → Redos (length (last_units n r.recorded)) mid now back ahead

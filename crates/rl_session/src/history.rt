@@ -88,7 +88,7 @@ pub fn undo_gives_back_the_cursor()
 
 /// As many redos right after an undo as it took units give back the text, the recorded entries and the undone ones from
 /// before it, where none of these was refused and the undo took no begin of an open group.
-pub fn redo_gives_back()
+pub fn redos_of_a_run_give_back()
     ensures { (text : List ℕ) (pos limit ring_size : ℕ) (mode : GraphemeClusterMode) (commands : List Command) (replies : List Reply) (new : State)
         (earlier redos : List Row) (u : Row) (n : ℕ)
         → IsUtf8 text → IsCharBoundary text pos → (run : Run (fresh text pos limit ring_size mode) commands replies new)

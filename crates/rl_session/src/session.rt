@@ -1,6 +1,8 @@
 //! A session: a line with its kill ring and the record of its changes, which takes commands one after another.
-ghost use Rattle.std.specs.Prelude.{◌≡◌, ◌++◌, ◌∷◌, [], List, ℕ, max, length, false, IfOk, IfErr};
+ghost use Rattle.std.specs.Prelude.{◌≡◌, ◌++◌, ◌∷◌, [], List, ℕ, max, length, false, IsSome, IfOk, IfErr};
 ghost use Rattle.std.specs.Str.{IsCharBoundary};
+ghost use Rattle.rl_line.specs.Line.{Line};
+ghost use Rattle.rl_line.specs.Record.{Record, replay_entries, unwind};
 ghost use Rattle.rl_session.specs.State.{State, Follows, Stands, Opens, Replays, origin};
 ghost use Rattle.rl_session.specs.Commands.{Does, Step};
 ghost use Rattle.rl_session.specs.Run.{Row, Run, AfterEach, commands_of, held_of, replies_of};
@@ -343,6 +345,13 @@ pub fn runs_compose()
         → (mid : State) × (first : Run old (commands_of xs) (replies_of xs) mid) × (second : Run mid (commands_of ys) (replies_of ys) new)
         × (first.rows ≡ xs) × (second.rows ≡ ys) }
     ensures row { (row : Row) → (run : Run row.before (row.command ∷ []) (row.reply ∷ []) row.after) × (run.rows ≡ row ∷ []) }
+{}
+
+/// Where a line can go back over its record and ahead (`follows`), as after every command, what is recorded can be taken back from
+/// the text, and what was undone can be made again on it.
+pub fn what_was_undone_can_be_made_again()
+    ensures recorded { (line : Line) (changes : Record) → Follows line changes → IsSome (unwind changes.recorded line.text) }
+    ensures pending { (line : Line) (changes : Record) → Follows line changes → IsSome (replay_entries changes.pending line.text) }
 {}
 
 /// After every row of a run, also where a step was refused, the recorded changes replayed from the starting

@@ -1,5 +1,5 @@
 use Rattle.rl_session.proofs.HistoryLemmas.{redo-in_run}
-use Rattle.rl_session.proofs.history.redo_gives_back.Goals as goal
+use Rattle.rl_session.proofs.history.redos_of_a_run_give_back.Goals as goal
 
 pub returns : goal.returns
 returns c = redo-in_run
