@@ -11,6 +11,10 @@ use std::marker::Model;
 
 /// A text that grows at both ends. A row of parts that are put there takes time of the text that they make, and not of that
 /// for each part.
+///
+/// A slot of a `KillRing` and a deletion in a record of `rl_line` are such texts inside; no call takes or answers one. A
+/// listener of a caller's own may gather what is deleted in one too: `of` the first text, then `push_back` of what stood
+/// ahead of the cursor and `push_front` of what stood before it. `as_str` reads it; `as_string` after `pack` lends a `String`.
 #[derive(Drop)]
 pub struct Gathered {
     buf: String,
