@@ -91,10 +91,11 @@ pub joins-ok : (xs : List Gathering) (i : ℕ) (mode : Mode) (text : List ℕ) (
 joins-ok xs i mode text x y (Ok a) l is e = join-set xs i mode text x y l is e
 joins-ok xs i mode text x y (Err r) l is e = tt
 
-pub joins-err : (xs : List Gathering) (i : ℕ) (x y : Gathering) (result : Result (Unit {0}) Refusal) → i < length xs → x ≡ get_or xs i x
-    → IfErr result (λ r. (r ≡ NoMemory) × (y.text ≡ x.text)) → IfErr result (λ r. (r ≡ NoMemory) × (texts (set xs i y) ≡ texts xs))
-joins-err xs i x y (Ok a) l is e = tt
-joins-err xs i x y (Err r) l is e = (e.0, same-set xs i x y l is e.1)
+pub joins-err : (xs : List Gathering) (i : ℕ) (text : List ℕ) (x y : Gathering) (result : Result (Unit {0}) Refusal) → i < length xs → x ≡ get_or xs i x
+    → IfErr result (λ r. (r ≡ NoMemory) × (y.text ≡ x.text) × (0 < length text))
+    → IfErr result (λ r. (r ≡ NoMemory) × (texts (set xs i y) ≡ texts xs) × (0 < length text))
+joins-err xs i text x y (Ok a) l is e = tt
+joins-err xs i text x y (Err r) l is e = (e.0, same-set xs i x y l is e.1, e.2)
 
 -- ---- a slot of the code's list, packed
 pub packed-set : (xs : List Gathering) (i : ℕ) (y : Gathering) → i < length xs → y.blanks ≡ 0 → IsPackedAt i (set xs i y)

@@ -1,5 +1,5 @@
 -- A ring of killed texts, and what each of its steps makes of it.
-use Rattle.std.specs.Prelude.{◌≡◌, ℕ, ◌+◌, ◌-◌, ◌==◌, zero, suc, Bool, true, false, List, [], ◌∷◌, ◌++◌, max, ◌<◌, ◌≤◌, length, slice_set, slice_get, Option, Some, None, option_map, if◌then◌else◌}
+use Rattle.std.specs.Prelude.{◌≡◌, ℕ, ◌+◌, ◌-◌, ◌==◌, zero, suc, Bool, true, false, List, [], ◌∷◌, ◌++◌, max, ◌<◌, ◌≤◌, ◌⊎◌, length, slice_set, slice_get, Option, Some, None, option_map, if◌then◌else◌}
 use Rattle.rl_base.specs.declared.kill_ring.Action.{Action}
 use Rattle.rl_base.specs.declared.kill_ring.Action.TheVariants.{Kill, Yank, Other}
 use Rattle.rl_base.specs.declared.kill_ring.Mode.{Mode}
@@ -70,6 +70,10 @@ killed_as (suc _) Other text mode r = in_new_slot text r
 -- the ring after a kill: one right after another kill joins its text, any other begins a slot
 abbrev pub killed : List ℕ → Mode → Ring → Ring
 killed text mode r = killed_as r.size r.last text mode r
+
+-- a kill makes the ring larger: it has a place for texts, and the text isn't empty or there is a slot more
+abbrev pub Enlarges : List ℕ → Mode → Ring → Type 0
+Enlarges text mode r = (0 < r.size) × ((0 < length text) ⊎ (length r.slots < length (killed text mode r).slots))
 
 -- the ring where something else was done
 abbrev pub reset : Ring → Ring
@@ -145,9 +149,9 @@ ring_step r (InsertStr _ _) = r
 ring_step r (Replace _ _ _) = r
 ring_step r (Cursors _ _) = r
 
--- the ring keeps an event's text: a deletion while a kill is on, where the ring has a place for texts
+-- the ring needs room to keep an event's text: a deletion while a kill is on, which makes the ring larger
 abbrev pub KeepsText : Ring → Event → Type 0
-KeepsText r (Delete _ _ _) = (r.killing ≡ true) × (0 < r.size)
+KeepsText r (Delete _ text side) = (r.killing ≡ true) × Enlarges text (side_mode side) r
 KeepsText r (InsertChar _ _) = ⊥
 KeepsText r (InsertStr _ _) = ⊥
 KeepsText r (Replace _ _ _) = ⊥
@@ -155,6 +159,6 @@ KeepsText r Start = ⊥
 KeepsText r Stop = ⊥
 KeepsText r (Cursors _ _) = ⊥
 
--- a refusal: for want of memory, of an event whose text the ring keeps, and the ring is as before
+-- a refusal: where memory is out, of an event whose text needs room, and the ring is as before
 abbrev pub ring_refused : Ring → Event → Refusal → Ring → Type 0
 ring_refused old event why now = (why ≡ NoMemory) × (now ≡ old) × KeepsText old event

@@ -13,3 +13,4 @@ pub mod KillRing
 pub mod KillGroups
 pub mod RingLends
 pub mod RefuseAt
+pub mod Sameness

@@ -1,5 +1,5 @@
 -- A listener for tests, which hears so many changes of a text and refuses the next.
-use Rattle.std.specs.Prelude.{◌≡◌, ℕ, ◌+◌, ◌-◌, ◌<◌, List, [], ◌∷◌, ◌++◌, min}
+use Rattle.std.specs.Prelude.{◌≡◌, ℕ, zero, suc, ◌+◌, ◌<◌, List, [], ◌∷◌, ◌++◌, Option, Some, None, min}
 use Rattle.std.specs.String.{string_bytes}
 use Rattle.rl_base.specs.declared.laws.refuse_at.TextEvent.{TextEvent}
 use Rattle.rl_base.specs.declared.laws.refuse_at.TextEvent.TheVariants as seen_as
@@ -7,9 +7,10 @@ use Rattle.rl_base.specs.declared.listeners.Refusal.{Refusal}
 use Rattle.rl_base.specs.declared.listeners.Refusal.TheVariants as why_of
 use Rattle.rl_base.specs.Event.{Event, InsertChar, InsertStr, Delete, Replace, Start, Stop, Cursors}
 
--- how many changes it will hear yet, those that it heard, the first one first, and how many kills started and stopped
+-- how many changes it will hear yet, always Some number, those that it heard, the first one first, and how many
+-- kills started and stopped
 pub record Hearing : Type 0 where
-  pub left : ℕ
+  pub left : Option ℕ
   pub seen : List Event
   pub starts : ℕ
   pub stops : ℕ
@@ -23,15 +24,21 @@ event_of (seen_as.Replace i s t) = Replace i (string_bytes s) (string_bytes t)
 
 -- one that has heard nothing yet
 abbrev pub new_hearing : ℕ → Hearing
-new_hearing left = record { left = left; seen = []; starts = 0; stops = 0 }
+new_hearing left = record { left = Some left; seen = []; starts = 0; stops = 0 }
 
 -- one more of a kill's starts or stops; no count goes past the greatest u16
 abbrev pub counted : ℕ → ℕ
 counted n = min (n + 1) 65535
 
+-- one change less to hear. Where none is left that gives None, which no listener has, so that none hears a change there
+abbrev pub one_less : Option ℕ → Option ℕ
+one_less (Some (suc left)) = Some left
+one_less (Some zero) = None
+one_less None = None
+
 -- one that lists one change more, and will hear one less
 abbrev pub listed : Event → Hearing → Hearing
-listed event h = record h { left = h.left - 1; seen = h.seen ++ event ∷ [] }
+listed event h = record h { left = one_less h.left; seen = h.seen ++ event ∷ [] }
 
 -- the listener after an event
 abbrev pub hearing_step : Hearing → Event → Hearing
@@ -44,9 +51,10 @@ hearing_step h Stop = record h { stops = counted h.stops }
 hearing_step h (Cursors _ _) = h
 
 -- why it refuses: of its own accord exactly where it will hear no more changes, and else for want of memory
-abbrev pub Refuses : ℕ → Refusal → Type 0
-Refuses left why_of.Listener = left ≡ 0
-Refuses left why_of.NoMemory = 0 < left
+abbrev pub Refuses : Option ℕ → Refusal → Type 0
+Refuses (Some left) why_of.Listener = left ≡ 0
+Refuses (Some left) why_of.NoMemory = 0 < left
+Refuses None _ = ⊥
 
 -- a refusal of a change, which leaves it as it was
 abbrev pub hearing_refused : Hearing → Event → Refusal → Hearing → Type 0

@@ -1,5 +1,6 @@
 //! A text that grows at both ends.
-ghost use Rattle.std.specs.Prelude.{◌≡◌, ◌≤◌, ◌++◌, drop, length, IfErr, IfOk, OnOk};
+ghost use Rattle.std.specs.Prelude.{◌≡◌, ◌+◌, ◌<◌, ◌≤◌, ◌++◌, drop, length, IfErr, IfOk, OnOk};
+ghost use Rattle.std.specs.List.{replace_range};
 ghost use Rattle.std.specs.String.{string_bytes};
 ghost use Rattle.rl_base.specs.declared.listeners.Refusal.TheVariants.{NoMemory};
 ghost use Rattle.rl_base.specs.Gathered.{BeginsBlank};
@@ -10,6 +11,10 @@ use std::marker::Model;
 
 /// A text that grows at both ends. A row of parts that are put there takes time of the text that they make, and not of that
 /// for each part.
+///
+/// A slot of a `KillRing` and a deletion in a record of `rl_line` are such texts inside; no call takes or answers one. A
+/// listener of a caller's own may gather what is deleted in one too: `of` the first text, then `push_back` of what stood
+/// ahead of the cursor and `push_front` of what stood before it. `as_str` reads it; `as_string` after `pack` lends a `String`.
 #[derive(Drop)]
 pub struct Gathered {
     buf: String,
@@ -31,11 +36,17 @@ impl Model for Gathered {
 }
 
 impl Gathered {
-    /// A text that holds a copy of `text`. It is refused only for want of memory.
+    /// A text that holds a copy of `text`. It is refused only where memory is out, and an empty one never.
     pub fn of(alloc: Global, text: &str) -> Result<Gathered, Refusal>
         ensures ok { IfOk result (λ g. g.text ≡ text.now) }
-        ensures err { IfErr result (λ r. r ≡ NoMemory) }
+        ensures err { IfErr result (λ r. (r ≡ NoMemory) × (0 < length text.now)) }
     {
+        if text.is_empty() {
+            return Ok(Gathered {
+                buf: String::new(alloc),
+                blanks: 0,
+            });
+        }
         match String::from_str(alloc, text) {
             Ok(buf) => Ok(Gathered { buf, blanks: 0 }),
             Err(_) => Err(Refusal::NoMemory),
@@ -56,10 +67,10 @@ impl Gathered {
         &self.buf.as_str()[self.blanks..]
     }
 
-    /// Puts a part at the end. Refused, for want of memory, it changes nothing.
+    /// Puts a part at the end. Refused, where memory is out, it changes nothing; an empty part is never refused.
     pub fn push_back(&mut self, part: &str) -> Result<(), Refusal>
         ensures ok { OnOk result (self.new.text ≡ self.old.text ++ part.now) }
-        ensures err { IfErr result (λ r. (r ≡ NoMemory) × (self.new.text ≡ self.old.text)) }
+        ensures err { IfErr result (λ r. (r ≡ NoMemory) × (self.new.text ≡ self.old.text) × (0 < length part.now)) }
     {
         match self.buf.push_str(part) {
             Ok(()) => Ok(()),
@@ -67,20 +78,16 @@ impl Gathered {
         }
     }
 
-    /// Puts a part in front. Refused, for want of memory, it changes nothing.
+    /// Puts a part in front. Refused, where memory is out, it changes nothing; a part for which there are blanks
+    /// enough before the text is never refused.
     pub fn push_front(&mut self, part: &str) -> Result<(), Refusal>
         ensures ok { OnOk result (self.new.text ≡ part.now ++ self.old.text) }
-        ensures err { IfErr result (λ r. (r ≡ NoMemory) × (self.new.text ≡ self.old.text)) }
+        ensures err { IfErr result (λ r. (r ≡ NoMemory) × (self.new.text ≡ self.old.text) × (self.old.blanks < length part.now)) }
     {
-        self.blanks = find_blanks(&mut self.buf, self.blanks, part.len())?;
-        let from = self.blanks - part.len();
-        match self.buf.replace_range(from..self.blanks, part) {
-            Ok(()) => {
-                self.blanks = from;
-                Ok(())
-            }
-            Err(_) => Err(Refusal::NoMemory),
-        }
+        let blanks = find_blanks(&mut self.buf, self.blanks, part.len())?;
+        self.blanks = blanks - part.len();
+        put_over_blanks(&mut self.buf, self.blanks, blanks, part);
+        Ok(())
     }
 
     /// Packs the text, so that it can be lent: takes away what stands before it. It takes no memory.
@@ -110,7 +117,7 @@ fn find_blanks(buf: &mut String, blanks: usize, bytes: usize) -> Result<usize, R
     ensures blanks { IfOk result (λ n. BeginsBlank n (string_bytes buf.new)) }
     ensures room { IfOk result (λ n. bytes ≤ n) }
     ensures text { IfOk result (λ n. drop n (string_bytes buf.new) ≡ drop blanks (string_bytes buf.old)) }
-    ensures err { IfErr result (λ r. (r ≡ NoMemory) × (string_bytes buf.new ≡ string_bytes buf.old)) }
+    ensures err { IfErr result (λ r. (r ≡ NoMemory) × (string_bytes buf.new ≡ string_bytes buf.old) × (blanks < bytes)) }
 {
     if bytes <= blanks {
         return Ok(blanks);
@@ -122,5 +129,26 @@ fn find_blanks(buf: &mut String, blanks: usize, bytes: usize) -> Result<usize, R
     match buf.insert_str(0, row.as_str()) {
         Ok(()) => Ok(blanks + more),
         Err(_) => Err(Refusal::NoMemory),
+    }
+}
+
+// Puts a part in the place of as many blanks, the last of those before a text. It takes no memory.
+fn put_over_blanks(buf: &mut String, from: usize, blanks: usize, part: &str)
+    requires begins { BeginsBlank blanks (string_bytes buf.old) }
+    requires room { from + length part.now ≡ blanks }
+    ensures { string_bytes buf.new ≡ replace_range (string_bytes buf.old) from blanks part.now }
+{
+    let Err(_) = buf.replace_range(from..blanks, part) else {
+        return;
+    };
+    // The standard library doesn't promise that a text of the same length needs no more room. It does promise it of a
+    // deletion, and of an insertion where there is room.
+    match buf.replace_range(from..blanks, "") {
+        Ok(()) => {}
+        Err(_) => unreachable!(),
+    }
+    match buf.insert_str(from, part) {
+        Ok(()) => {}
+        Err(_) => unreachable!(),
     }
 }

@@ -1,10 +1,10 @@
 //! The ring of killed texts, from which they are yanked back.
-ghost use Rattle.std.specs.Prelude.{◌≡◌, ◌<◌, ◌≤◌, Some, None, max, length, slice_get, option_map, MatchOption, IfErr, OnOk};
+ghost use Rattle.std.specs.Prelude.{◌≡◌, ◌<◌, ◌≤◌, ◌⊎◌, Some, None, max, length, slice_get, option_map, MatchOption, IfErr, OnOk};
 ghost use Rattle.std.specs.String.{string_bytes};
 ghost use Rattle.std.specs.Borrow.{sem};
 ghost use Rattle.rl_base.specs.declared.listeners.Refusal.TheVariants.{NoMemory};
 ghost use Rattle.rl_base.specs.Gathered.{IsPackedAt, texts};
-ghost use Rattle.rl_base.specs.KillRing.{IsRing, index_before, join_at, joined, killed, new_ring, next_index, put_at, reset, yank, yank_pop, yank_popped, yank_size, yanked};
+ghost use Rattle.rl_base.specs.KillRing.{Enlarges, IsRing, index_before, join_at, joined, killed, new_ring, next_index, put_at, reset, yank, yank_pop, yank_popped, yank_size, yanked};
 ghost use Rattle.rl_base.specs.RingLends.{EndsAs};
 
 use crate::gathered::Gathered;
@@ -32,7 +32,8 @@ enum Action {
 /// Killed texts, as many as its size (GNU readline: kill ring). Kills right after each other make one text.
 /// One of the texts is the current one, which `yank` lends.
 ///
-/// As a listener it keeps what is deleted while a kill is on. No other event can be refused, and at size 0 none.
+/// As a listener it keeps what is deleted while a kill is on. No other event can be refused, nor one that makes it no
+/// larger: at size 0 none, and no empty text that needs no slot more.
 #[derive(Drop)]
 pub struct KillRing {
     size: usize,
@@ -70,11 +71,11 @@ impl KillRing {
 
     /// Puts a killed text into the ring (GNU readline: kill-line and its like). Right after another kill it is
     /// joined to that one's text, at the side that `dir` says. Else it goes right behind the current text, over
-    /// one that stands there, and is the current one. Refused, for want of memory, it changes nothing; a ring of
-    /// size 0, which keeps no text, never refuses.
+    /// one that stands there, and is the current one. Refused, where memory is out, it changes nothing. Where the ring
+    /// would not grow it never refuses: at size 0, where it keeps no text, and an empty text that needs no slot more.
     pub fn kill(&mut self, text: &str, dir: Mode) -> Result<(), Refusal>
         ensures done { OnOk result (self.new ≡ killed text.now dir self.old) }
-        ensures err { IfErr result (λ r. (r ≡ NoMemory) × (self.new ≡ self.old) × (0 < self.old.size)) }
+        ensures err { IfErr result (λ r. (r ≡ NoMemory) × (self.new ≡ self.old) × Enlarges text.now dir self.old) }
     {
         if self.size == 0 {
             self.last = Action::Kill;
@@ -192,7 +193,7 @@ fn index_before(index: usize, slots: &[Gathered]) -> usize
 fn put(slots: &mut Vec<Gathered>, index: usize, text: &str) -> Result<(), Refusal>
     requires { index ≤ length slots.old.items }
     ensures ok { OnOk result (texts slots.new.items ≡ put_at index text.now (texts slots.old.items)) }
-    ensures err { IfErr result (λ r. (r ≡ NoMemory) × (texts slots.new.items ≡ texts slots.old.items)) }
+    ensures err { IfErr result (λ r. (r ≡ NoMemory) × (texts slots.new.items ≡ texts slots.old.items) × ((0 < length text.now) ⊎ (index ≡ length slots.old.items))) }
 {
     let slot = Gathered::of(*slots.allocator(), text)?;
     if index < slots.len() {
@@ -208,7 +209,7 @@ fn put(slots: &mut Vec<Gathered>, index: usize, text: &str) -> Result<(), Refusa
 // Joins a text to the slot at an index.
 fn join(slots: &mut Vec<Gathered>, index: usize, text: &str, mode: Mode) -> Result<(), Refusal>
     ensures ok { OnOk result (texts slots.new.items ≡ join_at index mode text.now (texts slots.old.items)) }
-    ensures err { IfErr result (λ r. (r ≡ NoMemory) × (texts slots.new.items ≡ texts slots.old.items)) }
+    ensures err { IfErr result (λ r. (r ≡ NoMemory) × (texts slots.new.items ≡ texts slots.old.items) × (0 < length text.now)) }
 {
     if let Some(slot) = slots.get_mut(index) {
         return join_to(slot, text, mode);
@@ -219,7 +220,7 @@ fn join(slots: &mut Vec<Gathered>, index: usize, text: &str, mode: Mode) -> Resu
 // Joins a text to a slot.
 fn join_to(slot: &mut Gathered, text: &str, mode: Mode) -> Result<(), Refusal>
     ensures ok { OnOk result (slot.new.text ≡ joined mode slot.old.text text.now) }
-    ensures err { IfErr result (λ r. (r ≡ NoMemory) × (slot.new.text ≡ slot.old.text)) }
+    ensures err { IfErr result (λ r. (r ≡ NoMemory) × (slot.new.text ≡ slot.old.text) × (0 < length text.now)) }
 {
     match mode {
         Mode::Append => slot.push_back(text),

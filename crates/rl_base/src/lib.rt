@@ -11,6 +11,7 @@ pub mod places;
 
 pub use gathered::Gathered;
 pub use kill_ring::{KillRing, Mode};
+pub use laws::{RefuseAt, TextEvent};
 pub use layout::{GraphemeClusterMode, Layout, Position, Unit};
 pub use listeners::{ChangeListener, DeleteListener, Direction, NoListener, Refusal};
 pub use motion::{Anchor, At, CharSearch, Movement, RepeatCount, Word, WordAction};

@@ -6,6 +6,7 @@ ghost use Rattle.std.specs.Prelude.{◌≡◌, OnOk, IfErr};
 ghost use Rattle.rl_base.specs.Event.{Event, InsertChar, InsertStr, Delete, Replace, Start, Stop, Cursors};
 ghost use Rattle.rl_base.specs.declared.listeners.Refusal.{Refusal};
 
+pub use crate::motion::WordAction;
 use thiserror::Error;
 
 /// The side of the cursor from which a text is taken.

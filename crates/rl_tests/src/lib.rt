@@ -11,6 +11,8 @@ mod cursors;
 #[cfg(test)]
 mod edits;
 #[cfg(test)]
+mod gathered;
+#[cfg(test)]
 mod halts;
 #[cfg(test)]
 mod indents;

@@ -36,12 +36,12 @@ pub struct RefuseAt {
 }
 
 impl Model for RefuseAt {
-    ghost use Rattle.std.specs.Prelude.{map};
+    ghost use Rattle.std.specs.Prelude.{Some, map};
     ghost use Rattle.rl_base.specs.RefuseAt.{Hearing, event_of};
 
     ghost Value = { Hearing };
 
-    ghost view = { λ r. record { left = r.left; seen = map event_of r.seen.items; starts = r.starts; stops = r.stops } };
+    ghost view = { λ r. record { left = Some r.left; seen = map event_of r.seen.items; starts = r.starts; stops = r.stops } };
 }
 
 impl RefuseAt {

@@ -14,7 +14,7 @@ pub returns-in-Some-clause-err : goal.returns-in-Some-clause-err
 returns-in-Some-clause-err c =
     let slots = c.args.slots.now in
     let below : c.args.index < length slots.items = omega (arith, slots.ok.0, c.in-Some.ensures.variant.0 refl) in
-    joins-err slots.items c.args.index c.in-Some.slot.now c.join_to.new.slot c.join_to.result below c.in-Some.ensures.value c.join_to.ensures.err
+    joins-err slots.items c.args.index c.args.text.now c.in-Some.slot.now c.join_to.new.slot c.join_to.result below c.in-Some.ensures.value c.join_to.ensures.err
 
 pub returns-clause-ok : goal.returns-clause-ok
 returns-clause-ok c =
