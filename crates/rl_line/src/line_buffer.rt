@@ -78,7 +78,7 @@ impl LineBuffer {
     /// An empty line of that limit, with room for as many bytes, that may not grow.
     pub fn with_capacity(alloc: Global, capacity: usize) -> Result<Self, Refusal>
         ensures ok { IfOk result (λ line. line ≡ record { text = []; cursor = 0; limit = capacity; grow = false }) }
-        ensures err { IfErr result (λ r. r ≡ NoMemory) }
+        ensures err { IfErr result (λ r. (r ≡ NoMemory) × (0 < capacity)) }
     {
         match String::with_capacity(alloc, capacity) {
             Ok(buf) => Ok(LineBuffer {
