@@ -42,10 +42,10 @@ abbrev pub both_named : {A B : Type 0} → (A → B → Command) → Option A �
 both_named make None b = Err no_such_number
 both_named make (Some x) b = named (make x) b
 
--- bytes of C as a text of a command, or what is wrong with them; for the copy there may be no memory
+-- bytes of C as a text of a command, or what is wrong with them; for a copy of some there may be no memory
 abbrev pub IsTextOf : List ℕ → Result (String Global) ℕ → Type 0
 IsTextOf bytes (Ok text) = IsUtf8 bytes × (string_bytes text ≡ bytes)
-IsTextOf bytes (Err n) = ((¬ (IsUtf8 bytes)) × (n ≡ not_utf8)) ⊎ (IsUtf8 bytes × (n ≡ no_memory))
+IsTextOf bytes (Err n) = ((¬ (IsUtf8 bytes)) × (n ≡ not_utf8)) ⊎ (IsUtf8 bytes × (0 < length bytes) × (n ≡ no_memory))
 
 abbrev pub with_text : (String Global → Command) → Result (String Global) ℕ → Result Command ℕ
 with_text make (Ok text) = Ok (make text)

@@ -4,7 +4,8 @@ use Rattle.std.specs.Str.{IsCharBoundary, IsUtf8}
 use Rattle.rl_base.specs.Clusters.{clusters}
 use Rattle.rl_base.specs.Widths.{width}
 use Rattle.rl_base.specs.declared.layout.GraphemeClusterMode.{GraphemeClusterMode}
-use Rattle.rl_session.specs.Script.{Ran, Stopped}
+use Rattle.rl_session.specs.Script.{Ran, StoppedBy}
+use Rattle.rl_session.specs.declared.script.ScriptFault.{ScriptFault}
 use Rattle.rl_ffi.specs.Cells.{cell}
 use Rattle.rl_ffi.specs.Numbers.{bad_place, done, no_memory, no_such_number, not_utf8}
 
@@ -40,7 +41,8 @@ CellTold None columns prompt text place n old new = (n ≡ no_such_number) × (n
 CellTold (Some mode) zero prompt text place n old new = (n ≡ no_such_number) × (new ≡ old)
 CellTold (Some mode) (suc k) prompt text place n old new = CellIn mode (suc k) prompt text place n old new
 
--- what a script prints: it was read to its end, or stopped where memory ended
+-- what a script prints: it was read to its end, or a fault stopped it. That the reads of a slice do not fail is said of slices alone.
 abbrev pub Printed : List ℕ → ℕ → List ℕ → Type 0
 Printed script n out =
-    ((n ≡ done) × (left : List ℕ) × Ran (Some script) (Some left) (Some []) (Some out)) ⊎ ((n ≡ no_memory) × Stopped (Some script) (Some []) (Some out))
+    ((n ≡ done) × (left : List ℕ) × Ran (Some script) (Some left) (Some []) (Some out))
+    ⊎ ((n ≡ no_memory) × (fault : ScriptFault) × (left : List ℕ) × StoppedBy fault (Some script) (Some left) (Some []) (Some out))

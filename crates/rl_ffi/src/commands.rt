@@ -67,6 +67,10 @@ fn text_of(alloc: Global, bytes: &[u8]) -> Result<String, u32>
     let Ok(text) = std::str::from_utf8(bytes) else {
         return Err(NOT_UTF8);
     };
+    // No clause of `from_str` says that a copy of nothing takes no memory.
+    if text.is_empty() {
+        return Ok(String::new(alloc));
+    }
     match String::from_str(alloc, text) {
         Ok(text) => Ok(text),
         Err(_) => Err(NO_MEMORY),

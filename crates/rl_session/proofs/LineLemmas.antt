@@ -5,7 +5,7 @@ use Rattle.std.proofs.lemmas.Bool.Decides.{nat_tests}
 use borrow.Author.Tests.{eqb-true}
 use Rattle.std.proofs.KnownBytes.{Appends-trans, Appends-nil, Consumes-trans}
 use Rattle.std.specs.Io.KnownBytes.{Appends, Consumes, IsAtEnd}
-use Rattle.rl_session.specs.Lines.{lines_of, onto}
+use Rattle.rl_session.specs.Lines.{lines_of, whole_lines, onto, onto_some}
 use Rattle.rl_session.specs.Script.{LineOut, started, Outputs, Ran}
 use Rattle.rl_session.specs.Progress.{HasNoNewline, Took, Runs}
 use Rattle.rl_session.specs.declared.script.Interpreter.{Interpreter}
@@ -22,6 +22,15 @@ lines_of-ended (b ∷ bs) rest h = rw (not_ten b h.0) (ap (onto b) (lines_of-end
 pub lines_of-last : (b : ℕ) (bs : List ℕ) → HasNoNewline (b ∷ bs) → lines_of (b ∷ bs) ≡ (b ∷ bs) ∷ []
 lines_of-last b [] h = rw (not_ten b h.0) refl
 lines_of-last b (c ∷ cs) h = rw (not_ten b h.0) (ap (onto b) (lines_of-last c cs h.1))
+
+pub whole_lines-ended : (line rest : List ℕ) → HasNoNewline line → whole_lines (line ++ 10 ∷ rest) ≡ line ∷ whole_lines rest
+whole_lines-ended [] rest h = refl
+whole_lines-ended (b ∷ bs) rest h = rw (not_ten b h.0) (ap (onto_some b) (whole_lines-ended bs rest h.1))
+
+-- a part of a line is none
+pub whole_lines-part : (part : List ℕ) → HasNoNewline part → whole_lines part ≡ []
+whole_lines-part [] h = refl
+whole_lines-part (b ∷ bs) h = rw (not_ten b h.0) (ap (onto_some b) (whole_lines-part bs h.1))
 
 pub HasNoNewline-more : (bs : List ℕ) (b : ℕ) → HasNoNewline bs → b ≢ 10 → HasNoNewline (bs ++ b ∷ [])
 HasNoNewline-more [] b h n = (n, tt)
@@ -40,6 +49,7 @@ Took-byte old part b held = record {
   lines = [];
   out = [];
   split = λ more. ap lines_of (sym (append_assoc part (b ∷ []) more));
+  ended = λ more. ap whole_lines (sym (append_assoc part (b ∷ []) more));
   outputs = (refl, refl);
   written = Appends-nil held;
 }
@@ -54,6 +64,11 @@ Took-trans old mid new part part' part'' bytes bytes' a b c h k = record {
       ∙ h.split (bytes' ++ more)
       ∙ ap (λ l. h.lines ++ l) (k.split more)
       ∙ sym (append_assoc h.lines k.lines (lines_of (part'' ++ more)));
+  ended = λ more.
+      ap (λ l. whole_lines (part ++ l)) (append_assoc bytes bytes' more)
+      ∙ h.ended (bytes' ++ more)
+      ∙ ap (λ l. h.lines ++ l) (k.ended more)
+      ∙ sym (append_assoc h.lines k.lines (whole_lines (part'' ++ more)));
   outputs = Outputs-append h.lines k.lines old mid new h.out k.out h.outputs k.outputs;
   written = Appends-trans a b c h.out k.out h.written k.written;
 }
@@ -65,6 +80,7 @@ Took-line old new line out a b h k w = record {
   lines = line ∷ [];
   out = out;
   split = λ more. lines_of-ended line more h;
+  ended = λ more. whole_lines-ended line more h;
   outputs = (new, out, [], sym (append-nil out), k, (refl, refl));
   written = w;
 }

@@ -220,6 +220,9 @@ not_slash bytes rest c e n is = n rest (e ∙ ap (λ l. l ++ rest) (ap encode_ut
 
 -- the loop over the plain parts
 
+pub read_all : (bytes : List ℕ) → Begins bytes [] bytes
+read_all bytes = record { on = λ more s. s; only = λ whole s. (whole, s, refl) }
+
 pub read_on : (bytes text rest xs behind : List ℕ) (c : ℕ) (others : List ℕ) → Begins bytes text rest → rest ≡ xs ++ 92 ∷ behind → Lacks 92 xs
     → BeginsEscape behind c others → Begins bytes ((text ++ xs) ++ encode_utf8 c) others
 read_on bytes text rest xs behind c others b e h p =
@@ -234,6 +237,21 @@ read_none bytes text rest xs behind b e h none whole s =
 
 pub read_end : (bytes text rest : List ℕ) → Begins bytes text rest → Lacks 92 rest → Spells bytes (text ++ rest)
 read_end bytes text rest b h = b.on rest (Spells-plain rest h)
+
+-- what stands for something is not nothing, and stands for a text that is not empty
+
+pub some_text : (bytes text : List ℕ) → Spells bytes text → 0 < length bytes → 0 < length text
+some_text bytes [] s h =
+    let none : length bytes ≡ 0 = ap length (empty-only s refl) in omega (arith, h)
+some_text bytes (b ∷ bs) s h = omega arith
+
+pub read_some : (bytes text rest : List ℕ) → Begins bytes text rest → 0 < length rest → 0 < length bytes
+read_some [] text rest b h =
+    let one : (more : List ℕ) × Spells rest more × ([] ≡ text ++ more) = b.only [] nothing in
+    let none : length text + length one.0 ≡ 0 = sym (length-append text one.0) ∙ ap length (sym one.2) in
+    let some = some_text rest one.0 one.1 h in
+    omega (arith, none, some)
+read_some (x ∷ xs) text rest b h = omega arith
 
 pub SpellsChar-one : {bytes : List ℕ} {c d : ℕ} → SpellsChar bytes c → SpellsChar bytes d → c ≡ d
 SpellsChar-one {bytes = bytes} {c = c} {d = d} p q =

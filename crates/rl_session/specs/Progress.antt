@@ -1,9 +1,11 @@
 -- How far the running of a script has come.
 use Rattle.std.specs.Prelude.{◌≡◌, ◌≢◌, ℕ, List, [], ◌∷◌, ◌++◌, Option}
 use Rattle.std.specs.Io.KnownBytes.{Consumes, Appends}
-use Rattle.rl_session.specs.Lines.{lines_of}
-use Rattle.rl_session.specs.Script.{Outputs, CutOutputs, started}
+use Rattle.rl_session.specs.Lines.{lines_of, whole_lines}
+use Rattle.rl_session.specs.Script.{Outputs, IsCut, started}
 use Rattle.rl_session.specs.declared.script.Interpreter.{Interpreter}
+use Rattle.rl_session.specs.declared.script.ScriptFault.{ScriptFault}
+use Rattle.rl_session.specs.declared.script.ScriptFault.TheVariants as why
 
 -- there is no newline in it
 abbrev pub HasNoNewline : List ℕ → Type 0
@@ -15,17 +17,29 @@ pub record Took (old : Interpreter) (part bytes : List ℕ) (held holds : Option
   pub lines : List (List ℕ)
   pub out : List ℕ
   pub split : (more : List ℕ) → lines_of (part ++ (bytes ++ more)) ≡ lines ++ lines_of (part' ++ more)
+  pub ended : (more : List ℕ) → whole_lines (part ++ (bytes ++ more)) ≡ lines ++ whole_lines (part' ++ more)
   pub outputs : Outputs old lines out new
   pub written : Appends held holds out
 
--- Behind `part` came `bytes`. Some lines from the front were run and printed, the last one perhaps cut.
-pub record Halts (old : Interpreter) (part bytes : List ℕ) (held holds : Option (List ℕ)) : Type 0 where
+-- a line's output may not be written, or be cut, for this fault
+abbrev pub Cuts : ScriptFault → Interpreter → List ℕ → List ℕ → Type 0
+Cuts why.Read now line cut = ⊥
+Cuts why.Write now line cut = IsCut now line cut
+Cuts why.NoMemory now line cut = cut ≡ []
+
+-- After `part` came `bytes`. Some lines from the front were run and printed, and then a fault came at the next line, of whose output
+-- `cut` was written.
+pub record Halts (fault : ScriptFault) (old : Interpreter) (part bytes : List ℕ) (held holds : Option (List ℕ)) : Type 0 where
   pub lines : List (List ℕ)
   pub out : List ℕ
+  pub now : Interpreter
+  pub line : List ℕ → List ℕ
   pub others : List ℕ → List (List ℕ)
-  pub split : (more : List ℕ) → lines_of (part ++ (bytes ++ more)) ≡ lines ++ others more
-  pub outputs : CutOutputs old lines out
-  pub written : Appends held holds out
+  pub cut : List ℕ
+  pub split : (more : List ℕ) → lines_of (part ++ (bytes ++ more)) ≡ lines ++ line more ∷ others more
+  pub outputs : Outputs old lines out now
+  pub written : Appends held holds (out ++ cut)
+  pub cuts : (more : List ℕ) → Cuts fault now (line more) cut
 
 -- So far this was read, and its lines were run and printed.
 pub record Runs (left leaves held holds : Option (List ℕ)) (now : Interpreter) (part : List ℕ) : Type 0 where

@@ -1,10 +1,11 @@
 -- What the readers of parts of a line find.
-use Rattle.std.specs.Prelude.{◌≡◌, ℕ, Bool, true, false, List, ◌++◌, Option, Some, None, encode_utf8}
+use Rattle.std.specs.Prelude.{◌≡◌, ℕ, ◌-◌, ◌^◌, ◌<◌, Bool, true, false, List, ◌++◌, length, Option, Some, None, codes, encode_utf8}
 use Rattle.std.specs.Char.{IsScalar}
+use Rattle.std.specs.Str.{IsUtf8}
 use Rattle.std.specs.String.{string_bytes}
 use Rattle.rl_session.specs.declared.grammar.ScriptLine.{ScriptLine}
 use Rattle.rl_session.specs.declared.grammar.ScriptLine.TheVariants as made
-use Rattle.rl_session.specs.Grammar.{Meaning, NewText, Set, Do, Escapes, Spells, SpellsChar, Numbered, NumberedText, CountWord, CountAtWord, CountSearch, Names, NamesMovement, AmountMovement, Says}
+use Rattle.rl_session.specs.Grammar.{Meaning, NewText, Set, Do, Escapes, Spells, SpellsChar, word, rest, Numbered, NumberedText, RangeText, CountWord, CountAtWord, CountSearch, Names, NamesMovement, AmountMovement, Says}
 use Rattle.rl_session.specs.declared.settings.Setting.{Setting}
 use Rattle.rl_base.specs.declared.motion.At.{At}
 use Rattle.rl_base.specs.declared.motion.CharSearch.{CharSearch}
@@ -33,6 +34,14 @@ BeginsNoEscape bytes = (c : ℕ) (others : List ℕ) → BeginsEscape bytes c ot
 abbrev pub SpellsNothing : List ℕ → Type 0
 SpellsNothing bytes = (text : List ℕ) → Spells bytes text → ⊥
 
+-- the bytes stand for a text
+abbrev pub SpellsSome : List ℕ → Type 0
+SpellsSome bytes = (text : List ℕ) × Spells bytes text
+
+-- the bytes stand for a text that is not empty
+abbrev pub SpellsSomeText : List ℕ → Type 0
+SpellsSomeText bytes = (text : List ℕ) × Spells bytes text × (0 < length text)
+
 -- the bytes begin with what stands for the text, and the others stand for what follows it
 pub record Begins (bytes text others : List ℕ) : Type 0 where
   pub on : (more : List ℕ) → Spells others more → Spells bytes (text ++ more)
@@ -53,6 +62,10 @@ HasNoNumber greatest given = (n : ℕ) (behind : List ℕ) → Numbered greatest
 -- the bytes begin with no number up to the greatest, or no text follows it
 abbrev pub HasNoText : ℕ → List ℕ → Type 0
 HasNoText greatest given = (n : ℕ) (text : List ℕ) → NumberedText greatest given n text → ⊥
+
+-- the bytes begin with a number up to the greatest, and a text that is not empty follows it
+abbrev pub HasSomeText : ℕ → List ℕ → Type 0
+HasSomeText greatest given = (n : ℕ) × (text : List ℕ) × NumberedText greatest given n text × (0 < length text)
 
 -- the bytes are no count and kind of word
 abbrev pub HasNoWord : List ℕ → Type 0
@@ -81,6 +94,22 @@ NamesNoMovement bytes = (movement : Movement) → NamesMovement bytes movement �
 -- the word says nothing with what stands behind it
 abbrev pub SaysNothing : List ℕ → Option (List ℕ) → Type 0
 SaysNothing word given = (meaning : Meaning) → Says word given meaning → ⊥
+
+-- the word says a new text, or a command that holds a text, with what stands after its space, and this is the text
+pub data SaysText : List ℕ → List ℕ → List ℕ → Type 0 where
+  new_text : {bytes text : List ℕ} → Spells bytes text → SaysText (codes "text") bytes text
+  pasted : {given text : List ℕ} {n : ℕ} → NumberedText 65535 given n text → SaysText (codes "paste") given text
+  updated : {given text : List ℕ} {place : ℕ} → NumberedText (2 ^ 64 - 1) given place text → SaysText (codes "update") given text
+  put_in : {given text : List ℕ} {place : ℕ} → NumberedText (2 ^ 64 - 1) given place text → SaysText (codes "str") given text
+  replaced : {given text : List ℕ} {a b : ℕ} → RangeText given a b text → SaysText (codes "rep") given text
+
+-- the same of a text that is not empty: only this takes memory
+abbrev pub HoldsText : List ℕ → List ℕ → Type 0
+HoldsText word given = (text : List ℕ) × SaysText word given text × (0 < length text)
+
+-- so does a line
+abbrev pub LineHoldsText : List ℕ → Type 0
+LineHoldsText line = IsUtf8 line × (given : List ℕ) × (rest line ≡ Some given) × HoldsText (word line) given
 
 -- whether a command holds a text
 abbrev pub holds_text : Command → Bool

@@ -1,13 +1,15 @@
 -- What a script does, and what is printed for it.
-use Rattle.std.specs.Prelude.{◌≡◌, ◌⊎◌, ℕ, List, [], ◌∷◌, ◌++◌, length, take, Option, IfSome}
+use Rattle.std.specs.Prelude.{◌≡◌, ◌⊎◌, ℕ, ◌<◌, ◌≤◌, List, [], ◌∷◌, ◌++◌, length, take, Option, IfSome}
 use Rattle.std.specs.Io.KnownBytes.{Consumes, IsAtEnd, Appends}
 use Rattle.rl_session.specs.State.{State, fresh}
 use Rattle.rl_session.specs.Commands.{Step}
 use Rattle.rl_session.specs.Grammar.{Meaning, NewText, Set, Do, Means, MeansNothing}
-use Rattle.rl_session.specs.Lines.{lines_of}
+use Rattle.rl_session.specs.Lines.{lines_of, whole_lines}
 use Rattle.rl_session.specs.Print.{printed, bad_line}
 use Rattle.rl_session.specs.Settings.{usual, with_setting}
 use Rattle.rl_session.specs.declared.script.Interpreter.{Interpreter}
+use Rattle.rl_session.specs.declared.script.ScriptFault.{ScriptFault}
+use Rattle.rl_session.specs.declared.script.ScriptFault.TheVariants as why
 use Rattle.rl_session.specs.declared.session.Fault.TheVariants.{NoMemory}
 use Rattle.rl_session.specs.declared.session.Reply.{Reply}
 use Rattle.rl_session.specs.declared.session.Reply.TheVariants.{Done, Refused}
@@ -64,3 +66,40 @@ pub record Stopped (left held holds : Option (List ℕ)) : Type 0 where
   pub front : IfSome left (λ input. (others : List (List ℕ)) × (lines_of input ≡ lines ++ others))
   pub written : Appends held holds out
   pub outputs : CutOutputs started lines out
+
+-- the script has this line after those
+abbrev pub HasNext : Option (List ℕ) → List (List ℕ) → List ℕ → Type 0
+HasNext script lines line = IfSome script (λ bytes. (others : List (List ℕ)) × (lines_of bytes ≡ lines ++ line ∷ others))
+
+-- the line was run, and of its output this front was written, which is not all of it
+pub record IsCut (old : Interpreter) (line written : List ℕ) : Type 0 where
+  pub whole : List ℕ
+  pub new : Interpreter
+  pub k : ℕ
+  pub output : LineOut old line whole new
+  pub part : k < length whole
+  pub is : written ≡ take k whole
+
+-- What each fault leaves, where this was read of a script, these lines of it were run and printed, and then `cut` was written. A failed
+-- read: each line that was read whole was run. A failed write: the next line was run, and its output was cut. No memory: there was a next
+-- line, or nothing was read yet.
+abbrev pub Leaves : ScriptFault → Option (List ℕ) → List ℕ → List (List ℕ) → Interpreter → List ℕ → Type 0
+Leaves why.Read script read lines now cut = (lines ≡ whole_lines read) × (cut ≡ [])
+Leaves why.Write script read lines now cut = (line : List ℕ) × HasNext script lines line × IsCut now line cut
+Leaves why.NoMemory script read lines now cut = (((line : List ℕ) × HasNext script lines line) ⊎ ((read ≡ []) × (lines ≡ []))) × (cut ≡ [])
+
+-- A fault stopped the script after these lines, whose output was written whole. Each line that was read whole before the last block, of
+-- 4096 bytes at most, is among them.
+pub record StoppedBy (fault : ScriptFault) (left leaves held holds : Option (List ℕ)) : Type 0 where
+  pub before : List ℕ
+  pub block : List ℕ
+  pub lines : List (List ℕ)
+  pub out : List ℕ
+  pub now : Interpreter
+  pub cut : List ℕ
+  pub read : Consumes left leaves (before ++ block)
+  pub small : length block ≤ 4096
+  pub in_time : (more : List (List ℕ)) × (lines ≡ whole_lines before ++ more)
+  pub outputs : Outputs started lines out now
+  pub written : Appends held holds (out ++ cut)
+  pub at_fault : Leaves fault left (before ++ block) lines now cut

@@ -1,5 +1,5 @@
 -- What a session holds.
-use Rattle.std.specs.Prelude.{◌≡◌, ℕ, ◌≤◌, max, false, IsSome, List, [], length, Option, Some, Result, Ok, Err}
+use Rattle.std.specs.Prelude.{◌≡◌, ℕ, ◌<◌, ◌≤◌, max, false, IsSome, List, [], length, Option, Some, Result, Ok, Err}
 use Rattle.std.specs.Str.{IsCharBoundary, IsUtf8}
 use Rattle.rl_base.specs.KillRing.{Ring, IsRing, new_ring}
 use Rattle.rl_base.specs.declared.layout.GraphemeClusterMode.{GraphemeClusterMode}
@@ -48,10 +48,11 @@ fresh text pos limit ring_size mode = record {
   mode = mode;
 }
 
--- what may come of making a session: one with these five values, unless the place is none for a cursor
+-- what may come of making a session: one with these five values, unless the place is none for a cursor. Memory may be out where the
+-- line's limit is above 0.
 abbrev pub Opens : List ℕ → ℕ → ℕ → ℕ → GraphemeClusterMode → Result State Fault → Type 0
 Opens text pos limit ring_size mode (Ok session) = IsCharBoundary text pos × (session ≡ fresh text pos limit ring_size mode)
-Opens text pos limit ring_size mode (Err NoMemory) = IsCharBoundary text pos
+Opens text pos limit ring_size mode (Err NoMemory) = IsCharBoundary text pos × (0 < max limit (length text))
 Opens text pos limit ring_size mode (Err BadPlace) = ¬ (IsCharBoundary text pos)
 Opens text pos limit ring_size mode (Err _) = ⊥
 

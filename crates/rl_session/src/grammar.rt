@@ -1,9 +1,9 @@
 //! Reads a line of a script.
-ghost use Rattle.std.specs.Prelude.{◌≡◌, ◌<◌, ◌≤◌, ℕ, Some, None, IfSome, IfOk, MatchOption, codes, ◌∷◌};
+ghost use Rattle.std.specs.Prelude.{◌≡◌, ◌<◌, ◌≤◌, ℕ, Some, None, IfSome, IfOk, OnErr, MatchBool, MatchOption, codes, ◌∷◌, length};
 ghost use Rattle.std.specs.Str.{IsUtf8};
 ghost use Rattle.std.specs.String.{string_bytes};
 ghost use Rattle.rl_session.specs.Grammar.{Set, Do, number_of, letter_of, hex_digit, NamesChar, Spells, SpellsChar, word, rest, Numbered, NumberedText, NamesWord, NamesAt, NamesSearch, NamesAction, NamesMode, CountWord, CountAtWord, CountSearch, Names, NamesMovement, AmountMovement, Says, Means, MeansNothing};
-ghost use Rattle.rl_session.specs.Reads.{BeginsEscape, BeginsNoEscape, BeginsChar, SpellsNothing, SpellsNoChar, HasNoNumber, HasNoText, HasNoWord, HasNoAt, HasNoSearch, HasNoMovement, NamesNothing, NamesNoMovement, SaysNothing, SaysNoTextCommand, SaysNoDeletion, SaysNoCommand, SaysNoSetting, SaysNoneWithoutText, SaysNoLoneCommand, meaning_of};
+ghost use Rattle.rl_session.specs.Reads.{BeginsEscape, BeginsNoEscape, BeginsChar, SpellsNothing, SpellsSome, SpellsSomeText, SpellsNoChar, HasNoNumber, HasNoText, HasSomeText, HoldsText, LineHoldsText, HasNoWord, HasNoAt, HasNoSearch, HasNoMovement, NamesNothing, NamesNoMovement, SaysNothing, SaysNoTextCommand, SaysNoDeletion, SaysNoCommand, SaysNoSetting, SaysNoneWithoutText, SaysNoLoneCommand, meaning_of};
 ghost use Rattle.rl_base.specs.declared.layout.GraphemeClusterMode.{GraphemeClusterMode};
 ghost use Rattle.rl_base.specs.declared.motion.At.{At};
 ghost use Rattle.rl_base.specs.declared.motion.CharSearch.{CharSearch};
@@ -120,10 +120,25 @@ fn escape(behind: &str) -> Option<(char, &str)>
     Some((letter_of(letter)?, rest.as_str()))
 }
 
-// The text that the bytes stand for.
-fn unescape(alloc: Global, escaped: &str) -> Result<Option<String>, AllocError>
-    ensures { IfOk result (λ found. MatchOption found (SpellsNothing escaped.now)
+// Whether the bytes stand for a text.
+fn is_well_formed(escaped: &str) -> bool
+    ensures { MatchBool result (SpellsSome escaped.now) (SpellsNothing escaped.now) }
+{
+    let mut rest = escaped;
+    while let Some((_, behind)) = rest.split_once('\\') {
+        match escape(behind) {
+            Some((_, behind)) => rest = behind,
+            None => return false,
+        }
+    }
+    true
+}
+
+// The text that the bytes stand for, made as they are read.
+fn read_text(alloc: Global, escaped: &str) -> Result<Option<String>, AllocError>
+    ensures ok { IfOk result (λ found. MatchOption found (SpellsNothing escaped.now)
         (λ text. Spells escaped.now (string_bytes text))) }
+    ensures err { OnErr result (0 < length escaped.now) }
 {
     let mut text = String::new(alloc);
     let mut rest = escaped;
@@ -139,6 +154,25 @@ fn unescape(alloc: Global, escaped: &str) -> Result<Option<String>, AllocError>
     }
     text.push_str(rest)?;
     Ok(Some(text))
+}
+
+// The text that the bytes stand for. Out of memory is only what stands for one that is not empty: what stands for none is
+// told so also where there was no memory for its front.
+fn unescape(alloc: Global, escaped: &str) -> Result<Option<String>, AllocError>
+    ensures ok { IfOk result (λ found. MatchOption found (SpellsNothing escaped.now)
+        (λ text. Spells escaped.now (string_bytes text))) }
+    ensures err { OnErr result (SpellsSomeText escaped.now) }
+{
+    match read_text(alloc, escaped) {
+        Ok(found) => Ok(found),
+        Err(refused) => {
+            if is_well_formed(escaped) {
+                Err(refused)
+            } else {
+                Ok(None)
+            }
+        }
+    }
 }
 
 // The first character that the bytes stand for, and what follows.
@@ -205,6 +239,7 @@ fn numbered_text(
 ) -> Result<Option<(usize, String)>, AllocError>
     ensures cases { IfOk result (λ found. MatchOption found (HasNoText greatest given.now)
         (λ p. NumberedText greatest given.now p.0 (string_bytes p.1))) }
+    ensures err { OnErr result (HasSomeText greatest given.now) }
     ensures bound { IfOk result (λ found. IfSome found (λ p. p.0 ≤ greatest)) }
 {
     let (digits, behind) = first_word(given);
@@ -443,8 +478,9 @@ fn command(word: &str, given: &str) -> Option<Command>
 
 // The replacement of what stands between two places by a text.
 fn replacement(alloc: Global, given: &str) -> Result<Option<Command>, AllocError>
-    ensures { IfOk result (λ found. MatchOption found (SaysNoTextCommand (codes "rep") given.now)
+    ensures ok { IfOk result (λ found. MatchOption found (SaysNoTextCommand (codes "rep") given.now)
         (λ command. Says (codes "rep") (Some given.now) (Do command))) }
+    ensures err { OnErr result (HoldsText (codes "rep") given.now) }
 {
     let (start, behind) = match numbered(given, usize::MAX) {
         Some(found) => found,
@@ -458,8 +494,9 @@ fn replacement(alloc: Global, given: &str) -> Result<Option<Command>, AllocError
 
 // The command of a word and a text.
 fn text_command(alloc: Global, word: &str, given: &str) -> Result<Option<Command>, AllocError>
-    ensures { IfOk result (λ found. MatchOption found (SaysNoTextCommand word.now given.now)
+    ensures ok { IfOk result (λ found. MatchOption found (SaysNoTextCommand word.now given.now)
         (λ command. Says word.now (Some given.now) (Do command))) }
+    ensures err { OnErr result (HoldsText word.now given.now) }
 {
     match word {
         "paste" => match numbered_text(alloc, given, 65535)? {
@@ -505,8 +542,9 @@ fn without_text(word: &str, given: &str) -> Option<ScriptLine>
 
 // What a word says with what stands behind its space.
 fn with_given(alloc: Global, word: &str, given: &str) -> Result<Option<ScriptLine>, AllocError>
-    ensures { IfOk result (λ found. MatchOption found (SaysNothing word.now (Some given.now))
+    ensures ok { IfOk result (λ found. MatchOption found (SaysNothing word.now (Some given.now))
         (λ said. Says word.now (Some given.now) (meaning_of said))) }
+    ensures err { OnErr result (HoldsText word.now given.now) }
 {
     match word {
         "text" => match unescape(alloc, given)? {
@@ -552,8 +590,9 @@ fn alone(alloc: Global, word: &str) -> Option<ScriptLine>
 
 /// What a line says, if anything.
 pub(crate) fn parse(alloc: Global, line: &[u8]) -> Result<Option<ScriptLine>, AllocError>
-    ensures { IfOk result (λ found. MatchOption found (MeansNothing line.now)
+    ensures ok { IfOk result (λ found. MatchOption found (MeansNothing line.now)
         (λ said. Means line.now (meaning_of said))) }
+    ensures err { OnErr result (LineHoldsText line.now) }
 {
     let line = match str::from_utf8(line) {
         Ok(line) => line,

@@ -1,9 +1,9 @@
 //! Scripts: lines of commands from a reader, and one line to a writer for each.
-ghost use Rattle.std.specs.Prelude.{◌≡◌, ℕ, [], ◌∷◌, take, OnOk, OnErr, IfOk, IfErr};
+ghost use Rattle.std.specs.Prelude.{◌≡◌, ℕ, ◌<◌, [], ◌∷◌, length, take, OnOk, OnErr, IfOk, IfErr};
 ghost use Rattle.std.specs.Io.KnownBytes.{Appends};
 ghost use Rattle.rl_session.specs.Grammar.{NewText, Set, Do};
 ghost use Rattle.rl_session.specs.Print.{printed};
-ghost use Rattle.rl_session.specs.Script.{begun, started, MeaningOut, LineOut, Ran, Stopped};
+ghost use Rattle.rl_session.specs.Script.{begun, started, MeaningOut, LineOut, Ran, Stopped, StoppedBy};
 ghost use Rattle.rl_session.specs.Progress.{HasNoNewline, Runs, Took, Halts};
 
 use crate::grammar::{ScriptLine, parse};
@@ -146,7 +146,7 @@ impl Interpreter {
 fn put_line<W: Write>(writer: &mut W, line: &[u8]) -> Result<(), ScriptFault>
     ensures ok { OnOk result (Appends (W.contents writer.old) (W.contents writer.new) line.now) }
     ensures err { IfErr result (λ f. f ≡ ScriptFault.Write) }
-    ensures part { OnErr result ((k : ℕ) × Appends (W.contents writer.old) (W.contents writer.new) (take k line.now)) }
+    ensures part { OnErr result ((k : ℕ) × (k < length line.now) × Appends (W.contents writer.old) (W.contents writer.new) (take k line.now)) }
 {
     let mut done = 0;
     while done < line.len() {
@@ -169,7 +169,7 @@ fn run_and_put<W: Write>(
 ) -> Result<(), ScriptFault>
     requires { HasNoNewline line.now }
     ensures took { OnOk result (Took interpreter.old line.now (10 ∷ []) (W.contents writer.old) (W.contents writer.new) interpreter.new []) }
-    ensures halts { OnErr result (Halts interpreter.old line.now (10 ∷ []) (W.contents writer.old) (W.contents writer.new)) }
+    ensures halts { IfErr result (λ fault. Halts fault interpreter.old line.now (10 ∷ []) (W.contents writer.old) (W.contents writer.new)) }
 {
     interpreter.run_line(alloc, line, out)?;
     put_line(writer, out.as_slice())
@@ -187,7 +187,7 @@ fn take_block<W: Write>(
     requires { HasNoNewline part.old.items }
     ensures took { OnOk result (Took interpreter.old part.old.items block.now (W.contents writer.old) (W.contents writer.new) interpreter.new part.new.items) }
     ensures clean { OnOk result (HasNoNewline part.new.items) }
-    ensures halts { OnErr result (Halts interpreter.old part.old.items block.now (W.contents writer.old) (W.contents writer.new)) }
+    ensures halts { IfErr result (λ fault. Halts fault interpreter.old part.old.items block.now (W.contents writer.old) (W.contents writer.new)) }
 {
     for b in block {
         if *b == b'\n' {
@@ -202,8 +202,9 @@ fn take_block<W: Write>(
 
 /// Runs a script: reads it to its end, one command a line, and writes one line for each, whole before the
 /// next is run. It begins with the usual settings and the session of the empty text. On a fault the lines
-/// before it were run, one that was not read whole was not, and of the last output line perhaps only a part
-/// was written.
+/// before it were run and their output was written whole, and a line that was not read whole was not run.
+/// Where a write failed, a part of the next line's output may be written. No more is read ahead than a block
+/// of 4096 bytes.
 pub fn run_script<R: Read, W: Write>(
     alloc: Global,
     reader: &mut R,
@@ -211,6 +212,7 @@ pub fn run_script<R: Read, W: Write>(
 ) -> Result<(), ScriptFault>
     ensures ok { OnOk result (Ran (R.remaining reader.old) (R.remaining reader.new) (W.contents writer.old) (W.contents writer.new)) }
     ensures err { OnErr result (Stopped (R.remaining reader.old) (W.contents writer.old) (W.contents writer.new)) }
+    ensures fault { IfErr result (λ fault. StoppedBy fault (R.remaining reader.old) (R.remaining reader.new) (W.contents writer.old) (W.contents writer.new)) }
 {
     let mut interpreter = Interpreter::start(alloc)?;
     let mut part = Vec::new(alloc);
@@ -231,6 +233,7 @@ fn run_blocks<R: Read, W: Write>(
     requires clean { HasNoNewline part.old.items }
     ensures ok { OnOk result (Ran (R.remaining reader.old) (R.remaining reader.new) (W.contents writer.old) (W.contents writer.new)) }
     ensures err { OnErr result (Stopped (R.remaining reader.old) (W.contents writer.old) (W.contents writer.new)) }
+    ensures fault { IfErr result (λ fault. StoppedBy fault (R.remaining reader.old) (R.remaining reader.new) (W.contents writer.old) (W.contents writer.new)) }
 {
     let mut block = [0u8; BLOCK];
     for _ in 0..u64::MAX {

@@ -1,5 +1,5 @@
 //! A session: a line with its kill ring and the record of its changes, which takes commands one after another.
-ghost use Rattle.std.specs.Prelude.{◌≡◌, ◌++◌, ◌∷◌, [], List, ℕ, max, length, false, IsSome, IfOk, IfErr};
+ghost use Rattle.std.specs.Prelude.{◌≡◌, ◌<◌, ◌++◌, ◌∷◌, [], List, ℕ, max, length, false, IsSome, IfOk, IfErr, OnErr};
 ghost use Rattle.std.specs.Str.{IsCharBoundary};
 ghost use Rattle.rl_line.specs.Line.{Line};
 ghost use Rattle.rl_line.specs.Record.{Record, replay_entries, unwind};
@@ -164,7 +164,7 @@ impl Model for Session {
 fn line_of(alloc: Global, text: &str, pos: usize, limit: usize) -> Result<LineBuffer, Fault>
     requires { IsCharBoundary text.now pos }
     ensures ok { IfOk result (λ line. line ≡ record { text = text.now; cursor = pos; limit = max limit (length text.now); grow = false }) }
-    ensures err { IfErr result (λ f. f ≡ Fault.NoMemory) }
+    ensures err { IfErr result (λ f. (f ≡ Fault.NoMemory) × (0 < max limit (length text.now))) }
 {
     let mut line = match LineBuffer::with_capacity(alloc, limit) {
         Ok(line) => line,
@@ -183,7 +183,7 @@ impl Session {
     /// A session on a text, with the cursor at the byte place `pos`. Its line has the limit `limit`, in bytes,
     /// or the text's length where that is greater, and may not grow; its ring has room for `ring_size` texts;
     /// `mode` says how columns are counted. `BadPlace` comes exactly where `pos` is no boundary: a place between
-    /// two characters, or an end of the text.
+    /// two characters, or an end of the text. `NoMemory` comes only where the limit or the text's length is above 0.
     pub fn new(
         alloc: Global,
         text: &str,
@@ -306,7 +306,8 @@ impl Session {
     }
 
     /// Does the commands in order, and answers one reply for each. It finds room for the replies first:
-    /// refused, it did none. In either case the record leads back to the text from which it came before.
+    /// refused, it did none, and there was one to do. In either case the record leads back to the text from which it
+    /// came before.
     pub fn run(&mut self, commands: &[Command]) -> Result<Vec<Reply>, Fault>
         ensures run { IfOk result (λ replies. Run self.old commands.now replies.items self.new) }
         ensures stands { Stands self.new }
@@ -314,6 +315,7 @@ impl Session {
         ensures replays { (start : List ℕ) → Replays start self.old → Replays start self.new }
         ensures origin { origin self.new ≡ origin self.old }
         ensures err { IfErr result (λ f. (f ≡ Fault.NoMemory) × (self.new ≡ self.old)) }
+        ensures some { OnErr result (0 < length commands.now) }
     {
         let mut replies = match Vec::with_capacity(self.alloc, commands.len()) {
             Ok(replies) => replies,

@@ -1,10 +1,18 @@
 use Rattle.rl_session.specs.Grammar.{rep}
+use Rattle.std.proofs.lemmas.Result.{err_from_is_err_and}
+use Rattle.rl_session.specs.Reads.{replaced}
 use Rattle.rl_session.proofs.grammar.replacement.Goals as goal
 
-pub returns-in-Some-2 : goal.returns-in-Some-2
-returns-in-Some-2 c =
+pub returns-in-Some-2-clause-ok : goal.returns-in-Some-2-clause-ok
+returns-in-Some-2-clause-ok c =
     rep record {
       behind = c.in-Some.found.1.now;
       starts = c.in-Some.ensures.cases;
       ends = rw c.in-Some-2.is at c.in_ok-end.ensures.cases;
     }
+
+pub returns-in_err-end-clause-err : goal.returns-in_err-end-clause-err
+returns-in_err-end-clause-err c =
+    let p = err_from_is_err_and c.from_residual.result c.from_residual.ensures.1 in
+    let text = c.in_err-end.ensures.err in
+    rw p.1 (text.1, replaced record { behind = c.in-Some.found.1.now; starts = c.in-Some.ensures.cases; ends = text.2 }, text.3)

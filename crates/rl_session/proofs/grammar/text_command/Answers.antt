@@ -1,11 +1,31 @@
 use Rattle.rl_session.specs.Grammar.{paste, update, str}
+use Rattle.std.proofs.lemmas.Result.{err_from_is_err_and}
+use Rattle.rl_session.specs.Reads.{pasted, updated, put_in}
 use Rattle.rl_session.proofs.grammar.text_command.Goals as goal
 
-pub returns-in-Some : goal.returns-in-Some
-returns-in-Some c = rw c.in-paste.is (paste (rw c.in-Some.is at c.in_ok-n-in-paste.ensures.cases))
+pub returns-in-Some-clause-ok : goal.returns-in-Some-clause-ok
+returns-in-Some-clause-ok c = rw c.in-paste.is (paste (rw c.in-Some.is at c.in_ok-n-in-paste.ensures.cases))
 
-pub returns-in-Some-2 : goal.returns-in-Some-2
-returns-in-Some-2 c = rw c.in-update.is (update (rw c.in-Some-2.is at c.in_ok-pos-in-update.ensures.cases))
+pub returns-in-Some-2-clause-ok : goal.returns-in-Some-2-clause-ok
+returns-in-Some-2-clause-ok c = rw c.in-update.is (update (rw c.in-Some-2.is at c.in_ok-pos-in-update.ensures.cases))
 
-pub returns-in-Some-3 : goal.returns-in-Some-3
-returns-in-Some-3 c = rw c.in-str.is (str (rw c.in-Some-3.is at c.in_ok-pos-in-str.ensures.cases))
+pub returns-in-Some-3-clause-ok : goal.returns-in-Some-3-clause-ok
+returns-in-Some-3-clause-ok c = rw c.in-str.is (str (rw c.in-Some-3.is at c.in_ok-pos-in-str.ensures.cases))
+
+pub returns-in_err-n-in-paste-clause-err : goal.returns-in_err-n-in-paste-clause-err
+returns-in_err-n-in-paste-clause-err c =
+    let p = err_from_is_err_and c.from_residual.result c.from_residual.ensures.1 in
+    let text = c.in_err-n-in-paste.ensures.err in
+    rw (p.1, c.in-paste.is) (text.1, pasted text.2, text.3)
+
+pub returns-in_err-pos-in-update-clause-err : goal.returns-in_err-pos-in-update-clause-err
+returns-in_err-pos-in-update-clause-err c =
+    let p = err_from_is_err_and c.from_residual-in_err-pos-in-update.result c.from_residual-in_err-pos-in-update.ensures.1 in
+    let text = c.in_err-pos-in-update.ensures.err in
+    rw (p.1, c.in-update.is) (text.1, updated text.2, text.3)
+
+pub returns-in_err-pos-in-str-clause-err : goal.returns-in_err-pos-in-str-clause-err
+returns-in_err-pos-in-str-clause-err c =
+    let p = err_from_is_err_and c.from_residual-in_err-pos-in-str.result c.from_residual-in_err-pos-in-str.ensures.1 in
+    let text = c.in_err-pos-in-str.ensures.err in
+    rw (p.1, c.in-str.is) (text.1, put_in text.2, text.3)

@@ -1,5 +1,8 @@
-use Rattle.rl_session.proofs.FaultLemmas.{Stopped-first, on_err}
+use Rattle.std.proofs.lemmas.Result.{err_from_is_err_and}
+use Rattle.rl_session.proofs.FaultLemmas.{StoppedBy-first, Stopped-by}
 use Rattle.rl_session.proofs.script.run_script.Goals as goal
 
-pub returns-in_err-interpreter-clause-err : goal.returns-in_err-interpreter-clause-err
-returns-in_err-interpreter-clause-err g c = on_err c.from_residual.result (Stopped-first _ _)
+pub returns-in_err-interpreter : goal.returns-in_err-interpreter
+returns-in_err-interpreter g c =
+    let p = err_from_is_err_and c.from_residual.result c.from_residual.ensures.1 in
+    rw (p.1, p.2, c.in_err-interpreter.ensures.err) (record { ok = tt; err = Stopped-by _ _ _ _ _ (StoppedBy-first _ _); fault = StoppedBy-first _ _ })

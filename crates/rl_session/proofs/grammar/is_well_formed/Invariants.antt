@@ -1,0 +1,13 @@
+use Rattle.std.proofs.Common.{List, ℕ, length}
+use Rattle.std.specs.Str.{IsUtf8}
+use Rattle.rl_session.specs.Reads.{Begins}
+use Rattle.rl_session.proofs.grammar.is_well_formed.Given as goal
+
+abbrev pub invariant-loop-behind : goal.invariant-loop-behind
+invariant-loop-behind l = record {
+  read : (text : List ℕ) × Begins l.escaped text l.rest;
+  utf8 : IsUtf8 l.rest;
+}
+
+abbrev pub decreases-loop-behind : goal.decreases-loop-behind
+decreases-loop-behind l = length l.rest
