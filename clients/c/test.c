@@ -578,6 +578,29 @@ static void a_yank_is_kept_where_a_buffer_is_too_small(void) {
     see("a yank was still done last", lodvarn_last_was_yank(&s) == LODVARN_TRUE);
 }
 
+static void a_pop_of_an_empty_text_takes_out_what_was_yanked(void) {
+    lodvarn_close(&s);
+    s = opened("ab", 2, 64);
+    see("an empty text is killed", lodvarn_kill(&s, LODVARN_SEARCH_BACKWARD_AFTER, 1, 'b') == LODVARN_TRUE);
+    lodvarn_set_pos(&s, 2);
+    see("and one that is not", lodvarn_kill(&s, LODVARN_BEGINNING_OF_BUFFER, 1, 0) == LODVARN_TRUE);
+    see("which is yanked", lodvarn_yank(&s, 1) == LODVARN_TRUE && stands(&s, "ab", 2));
+    see("and popped for the empty one", lodvarn_yank_pop(&s) == LODVARN_NONE && stands(&s, "", 0));
+    see("as a change of the record", lodvarn_entries(&s) == 3 && lodvarn_undo(&s, 1) == LODVARN_TRUE);
+    LEAVES(LODVARN_NONE, lodvarn_yank_pop(&s));
+    see("no yank was done last", lodvarn_last_was_yank(&s) == LODVARN_FALSE && stands(&s, "ab", 2));
+}
+
+static void a_yank_of_no_times_is_one(void) {
+    lodvarn_close(&s);
+    s = opened("ab", 2, 64);
+    lodvarn_kill(&s, LODVARN_BEGINNING_OF_BUFFER, 1, 0);
+    LEAVES(LODVARN_TRUE, lodvarn_yank(&s, 0));
+    see("a yank of no times was done last", lodvarn_last_was_yank(&s) == LODVARN_TRUE);
+    LEAVES(LODVARN_BAD_YANK_SIZE, lodvarn_yank_pop(&s));
+    see("a pop that is refused ends that", lodvarn_last_was_yank(&s) == LODVARN_FALSE);
+}
+
 static void memory_that_is_not_there(void) {
     begin_bad_input();
     LEAVES(LODVARN_NO_MEMORY, lodvarn_open(&s, "a", 1, 0, SIZE_MAX, 60, LODVARN_UNICODE));
@@ -601,6 +624,8 @@ int main(void) {
     numbers_that_name_nothing();
     buffers_that_are_too_small();
     a_yank_is_kept_where_a_buffer_is_too_small();
+    a_pop_of_an_empty_text_takes_out_what_was_yanked();
+    a_yank_of_no_times_is_one();
     memory_that_is_not_there();
     lodvarn_close(&s);
     printf("%d passed, %d failed\n", passed, failed);
