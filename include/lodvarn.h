@@ -26,7 +26,8 @@
  * Errors from LODVARN_BAD_PLACE on leave text, cursor, record and limit as they were; the errors from LODVARN_CLOSED
  * on leave all of the session. LODVARN_NO_MEMORY leaves an edit of several steps after the steps that it took, with
  * the record beside it, and any other call's text and record as they were. A number that is handed out by a pointer is
- * written only where the answer has it, but for LODVARN_TOO_SMALL, which writes the length that is needed. */
+ * written only where the answer has it, but for LODVARN_TOO_SMALL, which writes the length that is needed, and for
+ * lodvarn_script, which always writes it. */
 #ifndef LODVARN_H
 #define LODVARN_H
 
@@ -45,7 +46,8 @@ enum lodvarn_answer {
     LODVARN_DONE = 0,           /* it is done */
     LODVARN_TRUE = 1,           /* yes: there was something to do; of an insertion, the cursor was at the end */
     LODVARN_FALSE = 2,          /* no: there was nothing to do; of an insertion, the cursor was not at the end */
-    LODVARN_NONE = 3,           /* there is no text, no line, or no room for the insertion; nothing changed */
+    LODVARN_NONE = 3,           /* there is no text, no line, or no room for the insertion; no text changed, but for
+                                   lodvarn_yank_pop, which may have taken out what was yanked */
     LODVARN_TEXT = 4,           /* a text is handed out */
     LODVARN_MARK = 5,           /* a number of entries is handed out */
     LODVARN_AT = 6,             /* a line and a column are handed out */
@@ -162,8 +164,10 @@ uint32_t lodvarn_paste(lodvarn **s, const char *text, size_t len, uint16_t n);
 uint32_t lodvarn_yank(lodvarn **s, uint16_t n);
 
 /* Puts the ring's text before into the place of the one that was yanked by the call before. TRUE or FALSE whether the
- * cursor was at the end, NONE where no yank was done last or there is no room. BAD_YANK_SIZE where no text of the
- * yanked length stands before the cursor, as it may be after a yank of no times. NO_MEMORY. */
+ * cursor was at the end. NONE where no yank was done last, and then no text changed; NONE also where the text before is
+ * empty or there is no room for it, and then what was yanked is out of the text, as an entry of the record.
+ * BAD_YANK_SIZE where no text of the yanked length stands before the cursor, as it may be after a yank of no times.
+ * NO_MEMORY. */
 uint32_t lodvarn_yank_pop(lodvarn **s);
 
 /* Puts a text into the place of the whole text, cut to the limit, with the cursor at the place pos of it, or at its
@@ -290,14 +294,16 @@ size_t lodvarn_limit(lodvarn **s);
 /* How many entries the record has, those of groups included, 0 where the session is closed. */
 size_t lodvarn_entries(lodvarn **s);
 
-/* Whether a yank that put something in was done last, so that lodvarn_yank_pop has something to do. TRUE or FALSE. */
+/* Whether lodvarn_yank or lodvarn_yank_pop was done last, and answered TRUE or FALSE: a yank of no times too. Then
+ * lodvarn_yank_pop looks for what was yanked before the cursor; else it answers NONE. TRUE or FALSE. */
 uint32_t lodvarn_last_was_yank(lodvarn **s);
 
 /* Calls without a session. */
 
 /* Runs a script, as docs/RULES.md describes them, in a session of its own, and copies what it prints to out, as many
  * bytes as there is room for by cap. DONE, with the number of bytes that it printed in *out_len, which may be more
- * than cap. NO_MEMORY. */
+ * than cap. NO_MEMORY where memory ended: out and *out_len have what was printed until then, which is what its first
+ * lines print, the last one perhaps cut. */
 uint32_t lodvarn_script(const char *script, size_t len, char *out, size_t cap, size_t *out_len);
 
 /* The columns that a text takes, at most 65535, by an enum lodvarn_mode, in *columns. DONE. NOT_UTF8,

@@ -98,6 +98,21 @@ static int refused_at(size_t request, int *holds) {
     return refused;
 }
 
+/* A script that ends where that request finds no memory still tells how much it printed: whole lines, or none. */
+static int script_tells_its_length(size_t request) {
+    static const char script[] = "text a\ntext b\n", whole[] = "ok 1 a\nok 1 b\n";
+    char out[64];
+    size_t len = sizeof out + 1;
+    was_refused = 0;
+    left = request;
+    uint32_t answer = lodvarn_script(script, sizeof script - 1, out, sizeof out, &len);
+    left = SIZE_MAX;
+    if (len > sizeof out) return 0;
+    if (answer == LODVARN_NO_MEMORY) return was_refused && len < sizeof whole - 1 && !memcmp(out, whole, len);
+    int same = len == sizeof whole - 1 && !memcmp(out, whole, len);
+    return answer == LODVARN_DONE && same != was_refused;
+}
+
 int main(void) {
     int passed = 0, failed = 0;
     size_t request = 0;
@@ -108,6 +123,15 @@ int main(void) {
         else {
             failed++;
             printf("FAILED: request %zu, said by %d calls\n", request, refused);
+        }
+        request++;
+    } while (was_refused);
+    request = 0;
+    do {
+        if (script_tells_its_length(request)) passed++;
+        else {
+            failed++;
+            printf("FAILED: request %zu of a script\n", request);
         }
         request++;
     } while (was_refused);

@@ -578,6 +578,55 @@ static void a_yank_is_kept_where_a_buffer_is_too_small(void) {
     see("a yank was still done last", lodvarn_last_was_yank(&s) == LODVARN_TRUE);
 }
 
+static void a_pop_of_an_empty_text_takes_out_what_was_yanked(void) {
+    lodvarn_close(&s);
+    s = opened("ab", 2, 64);
+    see("an empty text is killed", lodvarn_kill(&s, LODVARN_SEARCH_BACKWARD_AFTER, 1, 'b') == LODVARN_TRUE);
+    lodvarn_set_pos(&s, 2);
+    see("and one that is not", lodvarn_kill(&s, LODVARN_BEGINNING_OF_BUFFER, 1, 0) == LODVARN_TRUE);
+    see("which is yanked", lodvarn_yank(&s, 1) == LODVARN_TRUE && stands(&s, "ab", 2));
+    see("and popped for the empty one", lodvarn_yank_pop(&s) == LODVARN_NONE && stands(&s, "", 0));
+    see("as a change of the record", lodvarn_entries(&s) == 3 && lodvarn_undo(&s, 1) == LODVARN_TRUE);
+    LEAVES(LODVARN_NONE, lodvarn_yank_pop(&s));
+    see("no yank was done last", lodvarn_last_was_yank(&s) == LODVARN_FALSE && stands(&s, "ab", 2));
+}
+
+static void a_yank_of_no_times_is_one(void) {
+    lodvarn_close(&s);
+    s = opened("ab", 2, 64);
+    lodvarn_kill(&s, LODVARN_BEGINNING_OF_BUFFER, 1, 0);
+    LEAVES(LODVARN_TRUE, lodvarn_yank(&s, 0));
+    see("a yank of no times was done last", lodvarn_last_was_yank(&s) == LODVARN_TRUE);
+    LEAVES(LODVARN_BAD_YANK_SIZE, lodvarn_yank_pop(&s));
+    see("a pop that is refused ends that", lodvarn_last_was_yank(&s) == LODVARN_FALSE);
+}
+
+/* With ample memory no call says that it is out, whatever is great: the ring, the texts, what is copied, a script. */
+static void great_input_is_met(void) {
+    enum { GREAT = 100001, PAIRS = 15000, PAIR = 15, ANSWERS = 17 };
+    static char great[GREAT], got[PAIRS * ANSWERS], script[PAIRS * PAIR];
+    size_t len = 0;
+    memset(great, 'a', GREAT);
+    lodvarn_close(&s);
+    see("a ring of 2,000 texts and a text of 100,001 bytes",
+        lodvarn_open(&s, great, GREAT, GREAT, 4 * GREAT, 2000, LODVARN_UNICODE) == LODVARN_DONE);
+    see("its copy", lodvarn_copy(&s, LODVARN_WHOLE_BUFFER, 1, 0, got, sizeof got, &len) == LODVARN_TEXT);
+    see("is whole", len == GREAT && !memcmp(got, great, GREAT));
+    see("its kill", lodvarn_kill(&s, LODVARN_BEGINNING_OF_BUFFER, 1, 0) == LODVARN_TRUE && !lodvarn_pos(&s));
+    see("its yank", lodvarn_yank(&s, 1) == LODVARN_TRUE && lodvarn_pos(&s) == GREAT);
+    see("its deletion", !lodvarn_set_pos(&s, 0) && lodvarn_delete(&s, 65535, got, sizeof got, &len) == LODVARN_TEXT);
+    see("as far as a count goes", len == 65535 && !memcmp(got, great, len));
+    see("the same pasted", lodvarn_paste(&s, great, GREAT, 1) == LODVARN_FALSE && lodvarn_pos(&s) == GREAT);
+    see("put in", lodvarn_insert_str(&s, 0, great, GREAT) == LODVARN_FALSE);
+    see("put in the place of another", lodvarn_replace(&s, 1, 2, great, GREAT) == LODVARN_DONE);
+    see("and of all", lodvarn_update(&s, great, GREAT, GREAT) == LODVARN_DONE && lodvarn_pos(&s) == GREAT);
+    for (size_t i = 0; i < PAIRS; i++) memcpy(script + PAIR * i, "ins 1 a\nback 1\n", PAIR);
+    see("a script of 225,000 bytes", lodvarn_script(script, sizeof script, got, sizeof got, &len) == LODVARN_DONE);
+    int same = len == sizeof got;
+    for (size_t i = 0; same && i < PAIRS; i++) same = !memcmp(got + ANSWERS * i, "true 1 a\ntrue 0 \n", ANSWERS);
+    see("prints all that it should", same);
+}
+
 static void memory_that_is_not_there(void) {
     begin_bad_input();
     LEAVES(LODVARN_NO_MEMORY, lodvarn_open(&s, "a", 1, 0, SIZE_MAX, 60, LODVARN_UNICODE));
@@ -601,6 +650,9 @@ int main(void) {
     numbers_that_name_nothing();
     buffers_that_are_too_small();
     a_yank_is_kept_where_a_buffer_is_too_small();
+    a_pop_of_an_empty_text_takes_out_what_was_yanked();
+    a_yank_of_no_times_is_one();
+    great_input_is_met();
     memory_that_is_not_there();
     lodvarn_close(&s);
     printf("%d passed, %d failed\n", passed, failed);

@@ -341,7 +341,8 @@ class Session:
     def yank_pop(self) -> Optional[bool]:
         """Puts the ring's text before in the place of the one that was just yanked.
 
-        Whether the cursor was at the end, or None where no yank was done last. Raises BadYankSize.
+        Whether the cursor was at the end, or None where no yank was done last. None also where the text before is
+        empty or has no room: then what was yanked is out of the text. Raises BadYankSize.
         """
         return _yes(_call("yank_pop", self._at))
 
@@ -498,7 +499,7 @@ class Session:
 
     @property
     def last_was_yank(self) -> bool:
-        """Whether a yank that put something in was done last."""
+        """Whether a yank or yank_pop was done last, and answered with no None: a yank of no times too."""
         return _call("last_was_yank", self._at) == Answer.TRUE
 
 

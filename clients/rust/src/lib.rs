@@ -151,7 +151,8 @@ impl Session {
     }
 
     /// Puts the ring's text before in the place of the one that was just yanked. Whether the cursor was at the end, or
-    /// `None` where no yank was done last or there is no room. `BadYankSize`, `NoMemory`.
+    /// `None` where no yank was done last. `None` also where the text before is empty or has no room: then what was
+    /// yanked is out of the text. `BadYankSize`, `NoMemory`.
     pub fn yank_pop(&mut self) -> Result<Option<bool>, Fault> {
         inserted(unsafe { ffi::lodvarn_yank_pop(self.at.get()) })
     }
@@ -350,7 +351,7 @@ impl Session {
         unsafe { ffi::lodvarn_entries(self.at.get()) }
     }
 
-    /// Whether a yank that put something in was done last.
+    /// Whether a `yank` or `yank_pop` was done last, and answered `Some`: a yank of no times too.
     pub fn last_was_yank(&self) -> bool {
         unsafe { ffi::lodvarn_last_was_yank(self.at.get()) == ffi::TRUE }
     }

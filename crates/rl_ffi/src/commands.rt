@@ -189,7 +189,9 @@ pub extern "C" fn lodvarn_yank(alloc: Global, s: &mut Handle, n: u16) -> u32
 }
 
 /// Puts the ring's text before in the place of the one that was just yanked, and answers as `lodvarn_insert` does.
-/// BAD_YANK_SIZE and CLOSED change nothing; NO_MEMORY leaves what the steps before it did.
+/// NONE where no yank was done last, which changes no text, and where the text before is empty or there is no room for
+/// it, when what was yanked is out. BAD_YANK_SIZE and CLOSED change nothing; NO_MEMORY leaves what the steps before it
+/// did.
 #[unsafe(no_mangle)]
 pub extern "C" fn lodvarn_yank_pop(alloc: Global, s: &mut Handle) -> u32
     ensures { Called (Ok Command.YankPop) s.old.value result s.new.value }

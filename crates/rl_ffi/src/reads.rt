@@ -111,7 +111,7 @@ pub extern "C" fn lodvarn_entries(alloc: Global, s: &mut Handle) -> usize
     }
 }
 
-/// Whether the last action of the ring was a yank: TRUE or FALSE, or CLOSED.
+/// Whether the last action of the ring was a yank or a pop, also one of no times: TRUE or FALSE, or CLOSED.
 #[unsafe(no_mangle)]
 pub extern "C" fn lodvarn_last_was_yank(alloc: Global, s: &mut Handle) -> u32
     ensures value { result ≡ last_was_yank_of s.old.value }

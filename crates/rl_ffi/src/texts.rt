@@ -13,7 +13,8 @@ use std::alloc::Global;
 use unicode_segmentation::UnicodeSegmentation;
 
 /// Runs a whole script in a session of its own, and copies what it prints, in bytes as much of it as there is room
-/// for; `len` is how long the whole is. Answers DONE, or NO_MEMORY, where that is what its first lines print.
+/// for; `len` is how long the whole is. Answers DONE, or NO_MEMORY where memory ended: then both are of what its first
+/// lines print, the last one perhaps cut.
 #[unsafe(no_mangle)]
 pub extern "C" fn lodvarn_script(
     alloc: Global,

@@ -9,17 +9,19 @@ mod sessions;
 mod watched;
 
 use crate::checks::Failed;
-use crate::sessions::{all_at_once, one_by_one, word_in_capitals};
+use crate::sessions::{all_at_once, one_by_one, word_in_capitals, wrong_record};
 use std::alloc::Global;
 use std::process::ExitCode;
 
-// Runs all sessions. That answers how much was refused.
+// Runs all sessions, with a check that must fail before them. That answers how much was refused.
 fn run_all(rt: &impl Print, alloc: Global) -> Result<usize, Failed> {
+    let wrong_record = wrong_record(rt, alloc)?;
     let one_by_one = one_by_one(rt, alloc)?;
     let word_in_capitals = word_in_capitals(rt, alloc)?;
     let all_at_once = all_at_once(rt, alloc)?;
     Ok(
-        one_by_one
+        wrong_record
+            .saturating_add(one_by_one)
             .saturating_add(word_in_capitals)
             .saturating_add(all_at_once),
     )

@@ -1,7 +1,8 @@
 //! The sessions that are run. Each answers how much of it was refused.
 use crate::checks::{Failed, holds};
-use crate::watched::Watched;
+use crate::watched::{Watched, stands};
 use rl_base::{Movement, Word, WordAction};
+use rl_line::{Changeset, LineBuffer};
 use rl_session::{Command, Fault, Reply};
 use std::alloc::{AllocError, Global};
 
@@ -27,6 +28,30 @@ fn commands(alloc: Global) -> Result<[Command; 16], AllocError> {
         Command::Redo,
         Command::Copy(Movement::WholeBuffer),
     ])
+}
+
+/// A line and a record that do not belong together, which the check after every command must tell.
+pub(crate) fn wrong_record(rt: &impl Print, alloc: Global) -> Result<usize, Failed> {
+    let _ = println!(rt; "A wrong record");
+    let Ok(line) = LineBuffer::with_capacity(alloc, 2) else {
+        let _ = println!(rt; "no line");
+        return Ok(1);
+    };
+    let mut record = Changeset::new(alloc);
+    if record.delete(5, "x").is_err() {
+        let _ = println!(rt; "no record");
+        return Ok(1);
+    }
+    match stands(rt, &line, &record) {
+        Ok(refused) => {
+            holds(refused > 0, "a wrong record that is told")?;
+            Ok(refused)
+        }
+        Err(failed) => {
+            let _ = println!(rt; "it is told: {failed}");
+            Ok(0)
+        }
+    }
 }
 
 /// Commands of many kinds, one by one.

@@ -1,12 +1,53 @@
 //! A session that is watched: what each command leaves is printed and checked.
 use crate::checks::{Failed, holds};
 use rl_base::{GraphemeClusterMode, Refusal};
+use rl_line::{Changeset, LineBuffer};
 use rl_session::{Command, Fault, Reply, Session};
 use std::alloc::Global;
 
 // How often an undo of everything is asked for: once to undo, once to hear that nothing is left, and again after each
 // refusal.
 const TRIES: u8 = 8;
+
+// The question is answered with yes, or refused. That answers how often it was refused.
+fn expect_yes(
+    rt: &impl Print,
+    answer: Result<bool, Refusal>,
+    question: &'static str,
+) -> Result<usize, Failed> {
+    match answer {
+        Ok(yes) => {
+            holds(yes, question)?;
+            Ok(0)
+        }
+        Err(refusal) => {
+            let _ = println!(rt; "{question}: {refusal}");
+            holds(refusal == Refusal::NoMemory, question)?;
+            Ok(1)
+        }
+    }
+}
+
+/// What holds after every command: the cursor stands between two characters, and the record can be undone and redone,
+/// and replays. That answers how many of the three questions were refused.
+pub(crate) fn stands(
+    rt: &impl Print,
+    line: &LineBuffer,
+    record: &Changeset,
+) -> Result<usize, Failed> {
+    holds(line.as_str().is_char_boundary(line.pos()), "the cursor")?;
+    let can_undo = record.can_undo(line);
+    let can_redo = record.can_redo(line);
+    let replays = record.replays_to(record.len(), line);
+    let undo_refused = expect_yes(rt, can_undo, "can_undo")?;
+    let redo_refused = expect_yes(rt, can_redo, "can_redo")?;
+    let replays_refused = expect_yes(rt, replays, "replays_to")?;
+    Ok(
+        undo_refused
+            .saturating_add(redo_refused)
+            .saturating_add(replays_refused),
+    )
+}
 
 /// A session, with the text that it began with.
 #[derive(Drop)]
@@ -90,35 +131,11 @@ impl Watched {
         Ok(())
     }
 
-    // The question is answered with yes, or refused.
-    fn expect_yes(
-        &mut self,
-        rt: &impl Print,
-        answer: Result<bool, Refusal>,
-        question: &'static str,
-    ) -> Result<(), Failed> {
-        match answer {
-            Ok(yes) => holds(yes, question),
-            Err(refusal) => {
-                let _ = println!(rt; "{question}: {refusal}");
-                self.questions_refused = self.questions_refused.saturating_add(1);
-                holds(refusal == Refusal::NoMemory, question)
-            }
-        }
-    }
-
-    // What holds after every command: the cursor stands between two characters, and the record can be undone and
-    // redone, and replays.
-    fn stands(&mut self, rt: &impl Print) -> Result<(), Failed> {
-        let line = self.session.line();
-        holds(line.as_str().is_char_boundary(line.pos()), "the cursor")?;
-        let record = self.session.record();
-        let can_undo = record.can_undo(line);
-        let can_redo = record.can_redo(line);
-        let replays = record.replays_to(record.len(), line);
-        self.expect_yes(rt, can_undo, "can_undo")?;
-        self.expect_yes(rt, can_redo, "can_redo")?;
-        self.expect_yes(rt, replays, "replays_to")
+    // Asks what holds after every command.
+    fn check(&mut self, rt: &impl Print) -> Result<(), Failed> {
+        let refused = stands(rt, self.session.line(), self.session.record())?;
+        self.questions_refused = self.questions_refused.saturating_add(refused);
+        Ok(())
     }
 
     // Prints what is there now, behind what was done.
@@ -135,7 +152,7 @@ impl Watched {
         let _ = print!(rt; "{command:?}: {reply:?}, ");
         self.print_left(rt);
         self.hear(&reply)?;
-        self.stands(rt)?;
+        self.check(rt)?;
         Ok(reply)
     }
 
@@ -147,7 +164,7 @@ impl Watched {
                 let _ = println!(rt; "the run was refused: {fault}");
                 holds(fault == Fault::NoMemory, "why the run was refused")?;
                 self.count_refused_command();
-                self.stands(rt)?;
+                self.check(rt)?;
                 return Ok(false);
             }
         };
@@ -160,7 +177,7 @@ impl Watched {
             self.hear(reply)?;
         }
         self.print_left(rt);
-        self.stands(rt)?;
+        self.check(rt)?;
         Ok(true)
     }
 

@@ -1,11 +1,14 @@
 //! Runs a script of line edits from standard input, and prints one line for each of its lines.
 #![tactic(auto)]
 
-ghost use Rattle.std.specs.Prelude.{◌≡◌, OnOk, OnErr};
+ghost use Rattle.std.specs.Prelude.{◌≡◌, ◌⊎◌, OnOk, OnErr};
 ghost use Rattle.std.specs.Process.{exit_status};
+ghost use Rattle.rl_session.specs.Script.{Ran, Stopped};
 
 use rl_session::{ScriptFault, run_script};
+use std::alloc::Global;
 use std::io;
+use std::io::{Read, Write};
 use std::process::ExitCode;
 
 // The status at the end: 0 exactly where the script ran to its end, else 1.
@@ -19,12 +22,25 @@ fn status(outcome: Result<(), ScriptFault>) -> ExitCode
     }
 }
 
-fn main(rt: HostRuntime) -> ExitCode {
-    let mut reader = rt.reader();
-    let mut writer = io::writer(&rt);
-    let outcome = run_script(rt.alloc(), &mut reader, &mut writer);
+// Runs the script, and prints why it stopped before its end, if it did. Status 0 says that all was read and answered, and
+// 1 that what was written is what some lines from the front print.
+fn run<R: Read, W: Write>(
+    rt: &impl Eprint,
+    alloc: Global,
+    reader: &mut R,
+    writer: &mut W,
+) -> ExitCode
+    ensures status { (exit_status result ≡ 0) ⊎ (exit_status result ≡ 1) }
+    ensures ran { exit_status result ≡ 0 → Ran (R.remaining reader.old) (R.remaining reader.new) (W.contents writer.old) (W.contents writer.new) }
+    ensures stopped { exit_status result ≡ 1 → Stopped (R.remaining reader.old) (W.contents writer.old) (W.contents writer.new) }
+{
+    let outcome = run_script(alloc, reader, writer);
     if let Err(fault) = outcome {
         let _ = eprintln!(rt; "{fault}");
     }
     status(outcome)
+}
+
+fn main(rt: HostRuntime) -> ExitCode {
+    run(&rt, rt.alloc(), &mut rt.reader(), &mut io::writer(&rt))
 }

@@ -53,7 +53,16 @@ fn cursors_leave_what_was_undone(rt: HostRuntime) -> Result<(), Fail> {
         (Call::Told(Event::Cursors(0, 0)), 1, "", 0, 0, 0),
         (Call::Redo, 1, "a", 1, 1, 0),
     ];
-    goes(&rt, rt.alloc(), "a", STEPS)
+    goes(&rt, rt.alloc(), "a", STEPS)?;
+    // nor take the place of those that it has
+    const TOLD_BEFORE: &[Step] = &[
+        (Call::Told(Event::Char(0, 'a')), 1, "ab", 2, 1, 0),
+        (Call::Told(Event::Cursors(0, 1)), 1, "ab", 2, 1, 0),
+        (Call::Undo(1), 1, "b", 0, 0, 0),
+        (Call::Told(Event::Cursors(1, 2)), 1, "b", 0, 0, 0),
+        (Call::Redo, 1, "ab", 1, 1, 0),
+    ];
+    goes(&rt, rt.alloc(), "ab", TOLD_BEFORE)
 }
 
 #[test]

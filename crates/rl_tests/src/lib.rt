@@ -1,7 +1,8 @@
 //! What places, widths, the ring, lines, records, sessions and scripts do, as any caller sees it. Each file is named
 //! for the module that it is of; `broken` is of scripts whose reader or writer fails, `cursors` of the cursors that undo
-//! and redo give back, `halts` of edits that are refused halfway, `told` reads what their listener heard, and `joins` is
-//! of changes that join in the record. Tests stand alone, so that no other crate is proved again for them.
+//! and redo give back, `halts` of edits that are refused halfway, `told` reads what their listener heard, `joins` is of
+//! changes that join in the record, and `quotas` of great and rare input. Tests stand alone, so that no other crate is
+//! proved again for them.
 #![tactic(auto)]
 
 #[cfg(test)]
@@ -38,6 +39,8 @@ mod motions;
 mod pair;
 #[cfg(test)]
 mod places;
+#[cfg(test)]
+mod quotas;
 #[cfg(test)]
 mod script;
 #[cfg(test)]

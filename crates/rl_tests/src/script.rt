@@ -5,7 +5,7 @@ use std::process::Abort;
 use std::test::Fail;
 
 // What a script prints.
-fn printed_by(alloc: Global, script: &[u8]) -> Result<Vec<u8>, ScriptFault> {
+pub(crate) fn printed_by(alloc: Global, script: &[u8]) -> Result<Vec<u8>, ScriptFault> {
     let mut reader = script;
     let mut printed = Vec::new(alloc);
     run_script(alloc, &mut reader, &mut printed)?;
@@ -149,6 +149,11 @@ fn kills_come_back(rt: HostRuntime) -> Result<(), Fail> {
             "a kill of an empty text is one, and the yank of it none",
             b"text ab\nkill find 1 T b\nyank 1\nyankpop\n",
             b"ok 2 ab\ntrue 2 ab\nnone 2 ab\nnone 2 ab\n",
+        ),
+        (
+            "a pop to an empty text takes out what was yanked, and is undone",
+            b"text ab\nkill find 1 T b\npos 2\nkill bob\nyank 1\nyankpop\nundo 1\n",
+            b"ok 2 ab\ntrue 2 ab\nok 2 ab\ntrue 0 \ntrue 2 ab\nnone 0 \ntrue 2 ab\n",
         ),
         (
             "a kill of nothing leaves what the ring did last",

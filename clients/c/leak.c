@@ -1,0 +1,11 @@
+/* Opens sessions and never closes them: where leaks are told, this program does not end with status 0. There are a
+ * hundred, since a word that is left on the stack may still point to one of them. */
+#include "lodvarn.h"
+
+int main(void) {
+    for (int i = 0; i < 100; i++) {
+        lodvarn *s = NULL;
+        if (lodvarn_open(&s, "ab\n", 3, 3, 64, 2, LODVARN_UNICODE) != LODVARN_DONE) return 0;
+    }
+    return 0;
+}

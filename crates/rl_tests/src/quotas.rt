@@ -1,0 +1,338 @@
+//! Great and rare input, with ample memory. A call that answers that memory is out may meet its contract wherever it
+//! asks for some, so each kind of input that could be told apart from common input is met here.
+use crate::script::{is_so, printed_by};
+use rl_base::laws::RefuseAt;
+use rl_base::{DeleteListener, Direction, GraphemeClusterMode, Refusal};
+use rl_session::{Command, Reply, Session};
+use std::alloc::Global;
+use std::process::Abort;
+use std::test::Fail;
+
+// A script or what it prints: parts, each so often.
+type Parts = &'static [(&'static str, usize)];
+
+// What the script is about, the script, and what it prints.
+type Row = (&'static str, Parts, Parts);
+
+// The parts, one after the other.
+fn joined(alloc: Global, parts: Parts) -> Result<String, Fail> {
+    let mut whole = String::new(alloc);
+    for (part, times) in parts {
+        whole.push_str(part.repeat(alloc, *times)?.as_str())?;
+    }
+    Ok(whole)
+}
+
+// The script prints that.
+fn prints(
+    rt: &impl Abort,
+    alloc: Global,
+    what: &str,
+    script: Parts,
+    wanted: Parts,
+) -> Result<(), Fail> {
+    let script = joined(alloc, script)?;
+    let wanted = joined(alloc, wanted)?;
+    let printed = printed_by(alloc, script.as_bytes())?;
+    is_so(rt, printed.as_slice() == wanted.as_bytes(), what);
+    Ok(())
+}
+
+#[test]
+fn great_and_rare_input_is_met(rt: HostRuntime) -> Result<(), Fail> {
+    const ROWS: &[Row] = &[
+        (
+            "a ring of six texts",
+            &[
+                ("text a b c d e f\n", 1),
+                ("kill bword 1 big\nwhere\n", 6),
+                ("yank 1\n", 1),
+                ("yankpop\n", 6),
+            ],
+            &[
+                (
+                    "ok 11 a b c d e f\ntrue 10 a b c d e \nat:0:10 10 a b c d e \ntrue 8 a b c d \nat:0:8 8 a b c d \n",
+                    1,
+                ),
+                (
+                    "true 6 a b c \nat:0:6 6 a b c \ntrue 4 a b \nat:0:4 4 a b \ntrue 2 a \nat:0:2 2 a \ntrue 0 \nat:0:0 0 \n",
+                    1,
+                ),
+                (
+                    "true 2 a \ntrue 2 b \ntrue 2 c \ntrue 2 d \ntrue 2 e \ntrue 1 f\ntrue 2 a \n",
+                    1,
+                ),
+            ],
+        ),
+        (
+            "a text of 100,001 bytes, its copy, its kill and its yank",
+            &[
+                ("text ", 1),
+                ("a", 100_001),
+                ("\ncopy buf\nkill bob\nyank 1\nundo 2\n", 1),
+            ],
+            &[
+                ("ok 100001 ", 1),
+                ("a", 100_001),
+                ("\ntext:", 1),
+                ("a", 100_001),
+                (" 100001 ", 1),
+                ("a", 100_001),
+                ("\ntrue 0 \ntrue 100001 ", 1),
+                ("a", 100_001),
+                ("\ntrue 100001 ", 1),
+                ("a", 100_001),
+                ("\n", 1),
+            ],
+        ),
+        (
+            "3,000 entries, kept, undone at once, and redone one by one",
+            &[
+                ("ins 1 a\nback 1\n", 1500),
+                ("trunc 3000\nundo 65535\n", 1),
+                ("redo\n", 3000),
+                ("begin\nend\nundo 2\n", 1),
+            ],
+            &[
+                ("true 1 a\ntrue 0 \n", 1500),
+                ("ok 0 \ntrue 0 \n", 1),
+                ("true 1 a\ntrue 0 \n", 1500),
+                ("mark:3000 0 \nfalse 0 \ntrue 0 \n", 1),
+            ],
+        ),
+        (
+            "1,500 newlines, and an indent and a dedent of as many lines",
+            &[(
+                "paste 1500 \\n\nindent 1 buf\ndedent 1 buf\nundo 65535\n",
+                1,
+            )],
+            &[
+                ("true 1500 ", 1),
+                ("\\n", 1500),
+                ("\ntrue 3000 ", 1),
+                (" \\n", 1500),
+                ("\ntrue 1500 ", 1),
+                ("\\n", 1500),
+                ("\ntrue 0 \n", 1),
+            ],
+        ),
+        (
+            "the greatest counts",
+            &[
+                ("limit 65535\ntext x\nkill bob\nyank 65535\nback 65535\n", 1),
+                (
+                    "ins 65535 y\nmove bchar 65535\ndel 65535\npaste 65535 z\nundo 65535\n",
+                    1,
+                ),
+            ],
+            &[
+                ("ok 0 \nok 1 x\ntrue 0 \ntrue 65535 ", 1),
+                ("x", 65_535),
+                ("\ntrue 0 \ntrue 65535 ", 1),
+                ("y", 65_535),
+                ("\ntrue 0 ", 1),
+                ("y", 65_535),
+                ("\ntext:", 1),
+                ("y", 65_535),
+                (" 0 \ntrue 65535 ", 1),
+                ("z", 65_535),
+                ("\ntrue 1 x\n", 1),
+            ],
+        ),
+        (
+            "as much as the first session has room for, and no more",
+            &[("ins 4096 a\nins 1 a\n", 1)],
+            &[
+                ("true 4096 ", 1),
+                ("a", 4096),
+                ("\nnone 4096 ", 1),
+                ("a", 4096),
+                ("\n", 1),
+            ],
+        ),
+        (
+            "a text and a character in front of a text, and a character past the place 10,000",
+            &[
+                ("limit 20000\ntext b\npos 0\npaste 1 ", 1),
+                ("a", 10_000),
+                ("\nmove eob\nins 1 -\npos 0\nins 1 -\nundo 3\n", 1),
+            ],
+            &[
+                ("ok 0 \nok 1 b\nok 0 b\nfalse 10000 ", 1),
+                ("a", 10_000),
+                ("b\ntrue 10001 ", 1),
+                ("a", 10_000),
+                ("b\ntrue 10002 ", 1),
+                ("a", 10_000),
+                ("b-\nok 0 ", 1),
+                ("a", 10_000),
+                ("b-\nfalse 1 -", 1),
+                ("a", 10_000),
+                ("b-\ntrue 0 b\n", 1),
+            ],
+        ),
+        (
+            "words of 100 bytes are exchanged after another, and then the last clusters",
+            &[
+                ("text ", 1),
+                ("c", 100),
+                (" ", 1),
+                ("a", 100),
+                (" ", 1),
+                ("b", 100),
+                ("\ntwords 1\ntchars\nupdate 0\n", 1),
+            ],
+            &[
+                ("ok 302 ", 1),
+                ("c", 100),
+                (" ", 1),
+                ("a", 100),
+                (" ", 1),
+                ("b", 100),
+                ("\ntrue 302 ", 1),
+                ("c", 100),
+                (" ", 1),
+                ("b", 100),
+                (" ", 1),
+                ("a", 100),
+                ("\ntrue 302 ", 1),
+                ("c", 100),
+                (" ", 1),
+                ("b", 100),
+                (" ", 1),
+                ("a", 100),
+                ("\nok 0 \n", 1),
+            ],
+        ),
+        (
+            "a zero width joiner, a word past ASCII, and a cluster in front that is exchanged",
+            &[(
+                "ins 1 \\u{200d}\ntext \u{e9}t\u{e9}\npos 0\ncase up\npos 2\ntchars\n",
+                1,
+            )],
+            &[(
+                "true 3 \u{200d}\nok 5 \u{e9}t\u{e9}\nok 0 \u{e9}t\u{e9}\ntrue 5 \u{c9}T\u{c9}\nok 2 \u{c9}T\u{c9}\ntrue 3 T\u{c9}\u{c9}\n",
+                1,
+            )],
+        ),
+        (
+            "groups in groups, with and without a change, and open ones that are undone and redone",
+            &[
+                ("begin\nbegin\nbegin\nend\n", 1),
+                (
+                    "begin\nins 1 a\nbegin\nins 1 b\nbegin\nins 1 c\nend\nundo 1\nredo\n",
+                    1,
+                ),
+                (
+                    "begin\nbegin\nundo 1\nredo\nins 1 d\nundo 2\nredo\nundo 3\nbegin\n",
+                    1,
+                ),
+            ],
+            &[
+                ("mark:0 0 \nmark:1 0 \nmark:2 0 \nfalse 0 \n", 1),
+                (
+                    "mark:0 0 \ntrue 1 a\nmark:2 1 a\ntrue 2 ab\nmark:4 2 ab\ntrue 3 abc\ntrue 3 abc\ntrue 0 \ntrue 3 abc\n",
+                    1,
+                ),
+                (
+                    "mark:9 3 abc\nmark:10 3 abc\nfalse 3 abc\nfalse 3 abc\ntrue 4 abcd\ntrue 3 abc\ntrue 4 abcd\ntrue 3 abc\nmark:9 3 abc\n",
+                    1,
+                ),
+            ],
+        ),
+        (
+            "nothing is put in, replaced, copied, killed, yanked, kept and opened",
+            &[
+                (
+                    "text ab\nins 0 x\nrep 1 1\nundo 1\ntrunc 0\nrep 1 2\ntrunc 1\n",
+                    1,
+                ),
+                ("text \\n\ncopy up 0\nkill up 0\nyank 1\n", 1),
+                ("limit 0\ntext\nins 1 x\n", 1),
+            ],
+            &[
+                (
+                    "ok 2 ab\ntrue 2 ab\nok 1 ab\ntrue 2 ab\nok 2 ab\nok 1 a\nok 1 a\n",
+                    1,
+                ),
+                ("ok 1 \\n\ntext: 1 \\n\ntrue 1 \\n\nnone 1 \\n\n", 1),
+                ("ok 1 \\n\nok 0 \nnone 0 \n", 1),
+            ],
+        ),
+        (
+            "kills to the left, which join in front",
+            &[
+                ("text a b c d e f\n", 1),
+                ("kill bword 1 big\n", 6),
+                ("yank 1\n", 1),
+            ],
+            &[
+                (
+                    "ok 11 a b c d e f\ntrue 10 a b c d e \ntrue 8 a b c d \ntrue 6 a b c \ntrue 4 a b \ntrue 2 a \ntrue 0 \n",
+                    1,
+                ),
+                ("true 11 a b c d e f\n", 1),
+            ],
+        ),
+    ];
+    for (what, script, wanted) in ROWS {
+        prints(&rt, rt.alloc(), what, script, wanted)?;
+    }
+    Ok(())
+}
+
+// The record of 1,500 entries leads back, also the first so many of them, and its last change put that in.
+fn is_asked(rt: &impl Abort, session: &Session) -> Result<(), Fail> {
+    let record = session.record();
+    is_so(rt, record.len() == 1500, "1,500 entries");
+    is_so(rt, record.can_undo(session.line())?, "they lead back");
+    let kept = record.replays_to(1500, session.line())?;
+    let none = record.replays_to(0, session.line())?;
+    is_so(rt, kept && !none, "all lead to the text, and none do not");
+    let put_in = record.last_insert()?;
+    is_so(rt, put_in.is_some(), "the last change put a text in");
+    Ok(())
+}
+
+#[test]
+fn runs_of_no_and_many_commands_are_done(rt: HostRuntime) -> Result<(), Fail> {
+    let alloc = rt.alloc();
+    let mut session = Session::new(alloc, "", 0, 1500, 6, GraphemeClusterMode::Unicode)?;
+    let none = session.run(&[])?;
+    is_so(&rt, none.is_empty(), "no command has no reply");
+    let back = session.record().can_undo(session.line())?;
+    let ahead = session.record().can_redo(session.line())?;
+    is_so(&rt, back && ahead, "an empty record leads back and ahead");
+    let mut commands = Vec::new(alloc);
+    for _ in 0..1500 {
+        commands.push(Command::Insert('-', 1))?;
+    }
+    let replies = session.run(commands.as_slice())?;
+    is_so(
+        &rt,
+        replies.len() == 1500,
+        "1,500 commands have a reply each",
+    );
+    is_asked(&rt, &session)?;
+    let undone = session.apply(&Command::Undo(65535));
+    is_so(&rt, undone == Reply::Answer(true), "all are undone");
+    let ahead = session.record().can_redo(session.line())?;
+    is_so(&rt, ahead, "1,500 undone entries lead ahead");
+    Ok(())
+}
+
+#[test]
+fn a_listener_hears_twenty_changes(rt: HostRuntime) -> Result<(), Fail> {
+    let mut heard = RefuseAt::new(rt.alloc(), 20);
+    for _ in 0..20 {
+        heard.delete(0, "a", Direction::Forward)?;
+    }
+    let refused = heard.delete(0, "a", Direction::Forward);
+    is_so(
+        &rt,
+        refused == Err(Refusal::Listener),
+        "the next is refused",
+    );
+    is_so(&rt, heard.seen.len() == 20, "twenty are listed");
+    Ok(())
+}
