@@ -1,8 +1,9 @@
 -- What a call that asks for a command does.
-use Rattle.std.specs.Prelude.{◌≡◌, ◌⊎◌, ℕ, ◌<◌, ◌≤◌, length, List, Option, Some, None, IsSome, Result, Ok, Err, String}
+use Rattle.std.specs.Prelude.{◌≡◌, ◌⊎◌, ℕ, ◌<◌, ◌≤◌, length, List, Option, Some, None, Result, Ok, Err, String}
 use Rattle.std.specs.Str.{IsCharBoundary, IsUtf8}
 use Rattle.std.specs.String.{string_bytes}
 use Rattle.std.specs.declared.alloc.Global.{Global}
+use Rattle.rl_base.specs.Text.{HasText}
 use Rattle.rl_base.specs.declared.layout.GraphemeClusterMode.{GraphemeClusterMode}
 use Rattle.rl_base.specs.declared.motion.Movement.{Movement}
 use Rattle.rl_base.specs.declared.motion.Movement.TheVariants.{ForwardChar}
@@ -106,7 +107,7 @@ abbrev pub Copies : Movement → State → ℕ → State → List ℕ × ℕ →
 Copies m s n t outs outs' =
     let text = copied s.line m in
     (HasRoom text outs.0 × HandsOut s (Copy m) n t outs outs') ⊎ LacksRoom text s n t outs outs'
-    ⊎ (IsSome text × (n ≡ no_memory) × (t ≡ s) × (outs' ≡ outs))
+    ⊎ (HasText text × (n ≡ no_memory) × (t ≡ s) × (outs' ≡ outs))
 
 -- the same through a handle
 abbrev pub DeleteCalled : ℕ → Option State → ℕ → Option State → List ℕ × ℕ → List ℕ × ℕ → Type 0
