@@ -1,14 +1,16 @@
 -- The plans of the edits, by their cases. The lemmas name each number of the code by a variable and an
 -- equation, so that they fit what the code computed.
-use Rattle.std.proofs.Common.{◌≡◌, ◌≢◌, ◌⊎◌, inl, inr, ℕ, ◌+◌, ◌-◌, ◌*◌, ◌<◌, Bool, true, false, List, zero, suc, length, length-append, take, slice_range, Some, None, refl, arith, lt-ltb}
+use Rattle.std.proofs.Common.{◌≡◌, ◌≢◌, ◌⊎◌, inl, inr, ℕ, ◌+◌, ◌-◌, ◌*◌, ◌<◌, Bool, true, false, List, zero, suc, count_by, length, length-append, min, take, slice_range, Some, None, refl, arith, lt-ltb}
+use Rattle.std.proofs.lemmas.List.Sums.{count_by-le-length}
 use Rattle.std.specs.List.{repeat, remove_range}
 use Rattle.std.specs.Prelude.{encode_utf8, ◌==◌, ◌||◌}
 use Rattle.rl_base.specs.Event.{InsertStr, Delete}
 use Rattle.rl_base.specs.declared.listeners.Direction.TheVariants.{Forward}
+use Rattle.rl_base.specs.Lines.{is_newline}
 use Rattle.rl_base.specs.Text.{greatest_boundary}
 use Rattle.rl_line.specs.Line.{Line, stepped}
 use Rattle.rl_line.specs.Plan.{nothing, single, followed_by}
-use Rattle.rl_line.specs.Edits.{too_long, cut_to_limit, insert_event, insert_plan, yank_plan, yank_pop_plan}
+use Rattle.rl_line.specs.Edits.{too_long, cut_to_limit, insert_event, insert_plan, update_plan, yank_plan, yank_pop_plan}
 
 pub too_long-past : (line : Line) (n : ℕ) → line.grow ≡ false → line.limit < n → too_long line n ≡ true
 too_long-past line n e h = rw (e, lt-ltb line.limit n h) refl
@@ -37,6 +39,10 @@ pub yank_pop_plan-is : (line mid : Line) (z p from : ℕ) (s : List ℕ) → p �
     → yank_pop_plan line z s ≡ followed_by (Delete from (slice_range line.text from p) Forward) from (yank_plan mid s 1)
 yank_pop_plan-is line mid z p from s at to e = rw (e, to, at) refl
 
+pub update_plan-is : (line : Line) (s cut : List ℕ) (q n p : ℕ) → cut ≡ cut_to_limit line s → n ≡ length line.text → p ≡ min q (length cut)
+    → update_plan line s q ≡ followed_by (Delete 0 (slice_range line.text 0 n) Forward) 0 (single (InsertStr 0 cut) p tt)
+update_plan-is line s cut q n p is all at = rw (at, is, all) refl
+
 pub length-repeat : (n : ℕ) (s : List ℕ) → length (repeat n s) ≡ length s * n
 length-repeat zero s = omega arith
 length-repeat (suc n) s = omega (arith, length-append s (repeat n s), length-repeat n s)
@@ -45,6 +51,11 @@ length-repeat (suc n) s = omega (arith, length-append s (repeat n s), length-rep
 pub longer_or_more : (more a b c d : ℕ) → more ≡ a - b → 0 < more + (c - d) → (b < a) ⊎ (d < c)
 longer_or_more zero a b c d e h = inr (omega (arith, e, h))
 longer_or_more (suc n) a b c d e h = inl (omega (arith, e))
+
+-- and is not empty
+pub some_part : (s t : List ℕ) → (length s < length t) ⊎ (count_by is_newline s < count_by is_newline t) → 0 < length t
+some_part s t (inl longer) = omega (arith, longer)
+some_part s t (inr more) = omega (arith, more, count_by-le-length is_newline t)
 
 -- some copies of a text that is not empty
 pub some_copies : (n : ℕ) (s : List ℕ) → 0 < length s → n ≢ 0 → 0 < length (repeat n s)

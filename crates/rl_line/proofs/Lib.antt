@@ -11,6 +11,7 @@ pub mod MoveLemmas
 pub mod OriginLemmas
 pub mod PlanLemmas
 pub mod RecordLemmas
+mod StepLemmas
 pub mod SideLemmas
 pub mod Counts
 pub mod UnitLemmas

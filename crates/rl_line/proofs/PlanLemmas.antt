@@ -1,5 +1,5 @@
 -- How the steps of a plan are put together.
-use Rattle.std.proofs.Common.{◌≡◌, ℕ, List, [], ◌∷◌, ◌++◌, Some, refl, sym, ap, subst, append_assoc, ◌∙◌}
+use Rattle.std.proofs.Common.{◌≡◌, ◌<◌, ◌⊎◌, inl, inr, ℕ, List, [], ◌∷◌, ◌++◌, Some, refl, sym, ap, subst, append_assoc, append-nil, ◌∙◌}
 use Rattle.std.specs.Prelude.{option_and_then}
 use Rattle.rl_base.specs.Event.{Event, apply, replay}
 use Rattle.rl_base.specs.declared.listeners.Refusal.{Refusal}
@@ -7,7 +7,7 @@ use Rattle.std.specs.Str.{IsCharBoundary}
 use Rattle.rl_base.specs.Text.{is_boundary}
 use Rattle.rl_base.proofs.TextLemmas.{is_boundary-true, is_boundary-means}
 use Rattle.rl_line.specs.Line.{Line, stepped, if_standing, after_step}
-use Rattle.rl_line.specs.Plan.{Step, Plan, nothing, single, followed_by, after, events_of, heard, heard_step, Taken, Completed, Done, Halted}
+use Rattle.rl_line.specs.Plan.{Step, Plan, nothing, single, followed_by, after, events_of, heard, heard_step, bytes_of, Taken, Completed, Done, Halted, Uncopied}
 use Rattle.rl_line.proofs.RecordLemmas.{if_some, through}
 
 -- a line that stands is what the test lets through
@@ -213,6 +213,12 @@ module _ {L : Type 0} (step : L → Event → L) where
       taken = Taken-append first h.first old mid new b m h.middle t h.taken;
       cause = h.cause;
     }
+
+  -- an edit that was halted, or not begun, as another with the same steps
+  pub Stopped-as : {A B : Type 0} (refused : L → Event → Refusal → L → Type 0) (plan : Plan A) (other : Plan B) (old new : Line) (b n : L) (r : Refusal) → plan.steps ≡ other.steps
+      → Halted step refused other old new b n r ⊎ Uncopied other old new b n r → Halted step refused plan old new b n r ⊎ Uncopied plan old new b n r
+  Stopped-as refused plan other old new b n r e (inl h) = inl (Halted-front refused plan other [] old new b n r h (e ∙ sym (append-nil other.steps)))
+  Stopped-as refused plan other old new b n r e (inr u) = inr (u.0, u.1, u.2, subst (λ ss. 0 < bytes_of ss) (sym e) u.3)
 
   -- the same halt, with another cause
   pub Halted-caused : {A : Type 0} (refused refused' : L → Event → Refusal → L → Type 0) (plan : Plan A) (old new : Line) (b n : L) (r r' : Refusal)

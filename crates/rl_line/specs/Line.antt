@@ -20,6 +20,10 @@ pub record IsLine (text starts : List ℕ) (cursor limit : ℕ) : Type 0 where
   pub at_boundary : IsCharBoundary text cursor
   pub within : length text ≤ limit
 
+-- the line of a text, a cursor, a limit, and a leave to grow
+abbrev pub line_of : List ℕ → ℕ → ℕ → Bool → Line
+line_of text cursor limit grow = record { text = text; cursor = cursor; limit = limit; grow = grow }
+
 -- the line after a step that made `text` and left the cursor at `cursor`: the limit rises where it has to
 abbrev pub stepped : Line → List ℕ → ℕ → Line
 stepped line text cursor = record line { text = text; cursor = cursor; limit = max line.limit (length text) }

@@ -67,7 +67,7 @@ abbrev pub bytes_of : List Step → ℕ
 bytes_of [] = 0
 bytes_of (s ∷ ss) = bytes_told s.0 + bytes_of ss
 
--- the plan was not begun for want of memory: what its steps move is copied first, and that is not empty
+-- the plan was not begun, since memory was out: what its steps move is copied first, and their room found, and they tell a byte
 abbrev pub Uncopied : {L A : Type 0} → Plan A → Line → Line → L → L → Refusal → Type 0
 Uncopied plan old new before now r = (r ≡ NoMemory) × (new ≡ old) × (now ≡ before) × (0 < bytes_of plan.steps)
 

@@ -5,6 +5,7 @@ mod change;
 mod entries;
 pub mod line_buffer;
 mod line_starts;
+mod steps;
 mod swap;
 pub mod undo;
 

@@ -22,7 +22,8 @@ mod transpositions;
 
 use crate::change::{Change, Way, find_room_over, go_over, nth_on};
 use crate::line_starts::{newlines, newlines_of};
-use crate::swap::{find_room, swap_in, swap_in_char};
+use crate::steps::{deletion_step, insertion_step};
+use crate::swap::{find_room, find_room_instead, swap_in, swap_in_char};
 pub use kills::kill_agrees_with_copy;
 use rl_base::{ChangeListener, DeleteListener, Direction, Refusal};
 use std::alloc::Global;
@@ -172,7 +173,7 @@ impl LineBuffer {
         self.pos = pos;
     }
 
-    // One step: finds room, reports, and then puts a text in, which can't fail any more.
+    // One step: finds room, and then puts a text in.
     #[tactic(auto, using(rl_base::proofs::EventLemmas::fitting))]
     fn put_str<L: ChangeListener>(
         &mut self,
@@ -189,15 +190,19 @@ impl LineBuffer {
         ensures cause { IfErr result (λ r. or_no_memory L.refused listener.old (InsertStr idx text.now) r listener.new) }
     {
         find_room(&mut self.buf, &mut self.starts, text.len(), newlines(text))?;
-        listener.insert_str(idx, text)?;
-        listener.cursors(self.pos, cursor);
-        swap_in(&mut self.buf, &mut self.starts, idx, idx, text);
-        self.pos = cursor;
-        self.limit = self.limit.max(self.buf.len());
-        Ok(())
+        insertion_step(
+            &mut self.buf,
+            &mut self.starts,
+            &mut self.pos,
+            &mut self.limit,
+            idx,
+            text,
+            cursor,
+            listener,
+        )
     }
 
-    // The same step with one character.
+    // The same step with one character: finds room, reports, and then puts it in, which can't fail any more.
     #[tactic(auto, using(rl_base::proofs::EventLemmas::fitting))]
     fn put_char<L: ChangeListener>(
         &mut self,
@@ -240,9 +245,7 @@ impl LineBuffer {
         ensures cause { IfErr result (λ r. or_no_memory L.refused listener.old (Replace range.start (slice_range self.old.text range.start range.end) text.now) r listener.new) }
     {
         let (from, to) = (range.start, range.end);
-        let bytes = text.len().saturating_sub(to - from);
-        let lines = newlines(text).saturating_sub(newlines(&self.buf.as_str()[from..to]));
-        find_room(&mut self.buf, &mut self.starts, bytes, lines)?;
+        find_room_instead(&mut self.buf, &mut self.starts, from, to, text)?;
         listener.replace(from, &self.buf.as_str()[from..to], text)?;
         listener.cursors(self.pos, from + text.len());
         self.pos = swap_in(&mut self.buf, &mut self.starts, from, to, text);
@@ -287,11 +290,15 @@ impl LineBuffer {
         ensures kept { OnErr result (self.new ≡ self.old) }
         ensures cause { IfErr result (λ r. L.refused listener.old (Delete range.start (slice_range self.old.text range.start range.end) dir) r listener.new) }
     {
-        let (from, to) = (range.start, range.end);
-        listener.delete(from, &self.buf.as_str()[from..to], dir)?;
-        listener.cursors(self.pos, cursor);
-        swap_in(&mut self.buf, &mut self.starts, from, to, "");
-        self.pos = cursor;
+        deletion_step(
+            &mut self.buf,
+            &mut self.starts,
+            &mut self.pos,
+            range,
+            dir,
+            cursor,
+            listener,
+        )?;
         Ok(())
     }
 

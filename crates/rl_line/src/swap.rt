@@ -5,9 +5,11 @@ ghost use Rattle.std.specs.List.{insert_slice, remove_range, replace_range};
 ghost use Rattle.std.specs.Str.{IsCharBoundary, chars};
 ghost use Rattle.rl_base.specs.Lines.{is_newline};
 ghost use Rattle.rl_base.specs.declared.listeners.Refusal.TheVariants.{NoMemory};
+ghost use Rattle.rl_base.specs.Event.{Replace};
 ghost use Rattle.rl_line.specs.LineStarts.{line_starts};
+ghost use Rattle.rl_line.specs.Plan.{Grows};
 
-use crate::line_starts::{newlines_of, stays, swap_starts};
+use crate::line_starts::{newlines, newlines_of, stays, swap_starts};
 use rl_base::Refusal;
 
 /// Finds room in a text and in its table for so many bytes and newlines more.
@@ -32,6 +34,31 @@ pub(crate) fn find_room(
         return Err(Refusal::NoMemory);
     }
     Ok(())
+}
+
+/// Finds room in a line's text and in its table for a part in the place of a range.
+pub(crate) fn find_room_instead(
+    text: &mut String,
+    starts: &mut Vec<usize>,
+    from: usize,
+    to: usize,
+    part: &str,
+) -> Result<(), Refusal>
+    requires order { from ≤ to }
+    requires start { IsCharBoundary (string_bytes text.old) from }
+    requires end { IsCharBoundary (string_bytes text.old) to }
+    requires table { starts.old.items ≡ line_starts (string_bytes text.old) }
+    ensures text { string_bytes text.new ≡ string_bytes text.old }
+    ensures len { string_len text.new ≡ string_len text.old }
+    ensures starts { starts.new.items ≡ starts.old.items }
+    ensures count { vec_len starts.new ≡ vec_len starts.old }
+    ensures room { OnOk result ((string_len text.old - (to - from)) + length part.now ≤ string_capacity text.new) }
+    ensures table { OnOk result ((vec_len starts.old - count_by is_newline (slice_range (string_bytes text.old) from to)) + count_by is_newline part.now ≤ vec_capacity starts.new) }
+    ensures err { IfErr result (λ r. (r ≡ NoMemory) × Grows (Replace from (slice_range (string_bytes text.old) from to) part.now)) }
+{
+    let bytes = part.len().saturating_sub(to - from);
+    let lines = newlines(part).saturating_sub(newlines(&text.as_str()[from..to]));
+    find_room(text, starts, bytes, lines)
 }
 
 /// Puts a part in the place of a range, in a line's text and in its table, which have room for what this makes of them: an

@@ -40,7 +40,7 @@ cause-changes p q e w h = elim h [ inl c ↦ ap (λ (k : Pair). k.changes) c.1 |
 pub own : (takes : Takes) (p q : Pair) (e : Event) (w : Refusal) → refusal_of takes p e w q → or_no_memory pair_refused p e w q
 own nothing_more p q e w h = inr h
 own room_by_step p q e w h = h
-own a_copy p q e w h = h
+own a_copy p q e w h = inr h
 
 pub Halted-own : {A : Type 0} (takes : Takes) (plan : Plan A) (old new : Line) (p q : Pair) (w : Refusal) → Halted pair_step (refusal_of takes) plan old new p q w
     → Halted pair_step (or_no_memory pair_refused) plan old new p q w
@@ -66,7 +66,7 @@ pair_memory p q e w h = (refl, h.1, h.2)
 cause-memory : (takes : Takes) (p q : Pair) (e : Event) (w : Refusal) → refusal_of takes p e w q → refusal_of takes p e why.NoMemory q
 cause-memory nothing_more p q e w h = pair_memory p q e w h
 cause-memory room_by_step p q e w h = elim h [ inl c ↦ inl (refl, c.1, c.2) | inr c ↦ inr (pair_memory p q e w c) ]
-cause-memory a_copy p q e w h = elim h [ inl c ↦ inl (refl, c.1, c.2) | inr c ↦ inr (pair_memory p q e w c) ]
+cause-memory a_copy p q e w h = pair_memory p q e w h
 
 pub Halted-pair : {A : Type 0} (takes : Takes) (plan : Plan A) (old new : Line) (p q : Pair) (w : Refusal) → Halted pair_step (refusal_of takes) plan old new p q w
     → Halted pair_step (refusal_of takes) plan old new p q why.NoMemory

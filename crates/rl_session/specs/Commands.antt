@@ -77,7 +77,7 @@ pub data Takes : Type 0 where
 abbrev pub refusal_of : Takes → Pair → Event → Refusal → Pair → Type 0
 refusal_of nothing_more = pair_refused
 refusal_of room_by_step = or_no_memory pair_refused
-refusal_of a_copy = or_no_memory pair_refused
+refusal_of a_copy = pair_refused
 
 -- an edit was refused, since memory is out, after its first steps
 pub record CutShort {A : Type 0} (takes : Takes) (plan : Plan A) (old new : State) : Type 0 where

@@ -1,13 +1,15 @@
 //! The edits that put a text in, or take a given range out, each generic over the listener that it tells.
-ghost use Rattle.std.specs.Prelude.{◌≡◌, ◌+◌, ◌*◌, ◌-◌, ◌<◌, ◌≤◌, ◌∷◌, [], length, encode_utf8, IfOk, IfErr, OnOk, OnErr};
+ghost use Rattle.std.specs.Prelude.{◌⊎◌, ◌≡◌, ◌+◌, ◌*◌, ◌-◌, ◌<◌, ◌≤◌, ◌∷◌, [], length, encode_utf8, IfOk, IfErr, OnOk, OnErr};
 ghost use Rattle.std.specs.Str.{IsCharBoundary};
 ghost use Rattle.std.specs.List.{insert_slice, remove_range, replace_range, repeat};
 ghost use Rattle.rl_base.specs.Event.{InsertStr};
 ghost use Rattle.rl_line.specs.Line.{stepped};
-ghost use Rattle.rl_line.specs.Plan.{Taken, Done, Halted, or_no_memory};
+ghost use Rattle.rl_line.specs.Plan.{Taken, Done, Halted, Uncopied, or_no_memory};
 ghost use Rattle.rl_line.specs.Edits.{too_long, insert_event, insert_plan, insert_str_plan, yank_plan, yank_pop_plan, exchange_plan, cut_to_limit, update_plan, replace_plan, delete_range_plan};
 
 use crate::line_buffer::LineBuffer;
+use crate::steps::exchange_steps;
+use crate::swap::find_room_instead;
 use rl_base::{ChangeListener, DeleteListener, Direction, Refusal, RepeatCount};
 use std::ops::Range;
 
@@ -132,7 +134,8 @@ impl LineBuffer {
         self.yank(text, 1, listener)
     }
 
-    // Two steps: a range is taken out, which leaves the cursor at `between`, and then a text is put in at its place.
+    // Two steps: a range is taken out, which leaves the cursor at `between`, and then a text is put in at its place. Room for it
+    // comes first.
     pub(super) fn exchange<L: ChangeListener>(
         &mut self,
         range: Range<usize>,
@@ -147,12 +150,29 @@ impl LineBuffer {
         requires between { IsCharBoundary (remove_range self.old.text range.start range.end) between }
         requires boundary { IsCharBoundary (replace_range self.old.text range.start range.end text.now) cursor }
         ensures taken { OnOk result (Taken L.step (exchange_plan self.old range between text.now cursor).steps self.old self.new listener.old listener.new) }
-        ensures line { OnOk result (self.new ≡ stepped (stepped self.old (remove_range self.old.text range.start range.end) between) (replace_range self.old.text range.start range.end text.now) cursor) }
-        ensures halted { IfErr result (λ r. Halted L.step (or_no_memory L.refused) (exchange_plan self.old range between text.now cursor) self.old self.new listener.old listener.new r) }
+        ensures text { OnOk result (self.new.text ≡ replace_range self.old.text range.start range.end text.now) }
+        ensures cursor { OnOk result (self.new.cursor ≡ cursor) }
+        ensures halted { IfErr result (λ r. Halted L.step L.refused (exchange_plan self.old range between text.now cursor) self.old self.new listener.old listener.new r ⊎ Uncopied (exchange_plan self.old range between text.now cursor) self.old self.new listener.old listener.new r) }
     {
-        let idx = range.start;
-        self.take_out_before(range, Direction::Forward, between, listener)?;
-        self.put_str(idx, text, cursor, listener)
+        find_room_instead(
+            &mut self.buf,
+            &mut self.starts,
+            range.start,
+            range.end,
+            text,
+        )?;
+        exchange_steps(
+            &mut self.buf,
+            &mut self.starts,
+            &mut self.pos,
+            &mut self.limit,
+            range,
+            between,
+            text,
+            cursor,
+            listener,
+        )?;
+        Ok(())
     }
 
     /// Puts a text in the place of the line's, with the cursor at a byte place of it. Where the line may not
@@ -170,7 +190,9 @@ impl LineBuffer {
     {
         let cut = self.cut_to_limit(text);
         let all = 0..self.as_str().len();
-        self.exchange(all, 0, cut, pos.min(cut.len()), listener)
+        self.take_out(all, Direction::Forward, listener)?;
+        self.put_str(0, cut, pos.min(cut.len()), listener)?;
+        Ok(())
     }
 
     // As much of a text as the line may hold.

@@ -52,7 +52,7 @@ impl LineBuffer {
         listener: &mut L,
     ) -> Result<Option<String>, Refusal>
         ensures done { IfOk result (λ answer. Done L.step (delete_plan self.old n) self.old self.new listener.old listener.new (option_map string_bytes answer)) }
-        ensures halted { IfErr result (λ r. Halted L.step (or_no_memory L.refused) (delete_plan self.old n) self.old self.new listener.old listener.new r ⊎ Uncopied (delete_plan self.old n) self.old self.new listener.old listener.new r) }
+        ensures halted { IfErr result (λ r. Halted L.step L.refused (delete_plan self.old n) self.old self.new listener.old listener.new r ⊎ Uncopied (delete_plan self.old n) self.old self.new listener.old listener.new r) }
     {
         match self.covered(&Movement::ForwardChar(n)) {
             Some(range) => {

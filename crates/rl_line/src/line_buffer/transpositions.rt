@@ -1,10 +1,12 @@
 //! Exchanging two clusters, and two words.
 ghost use Rattle.std.specs.Prelude.{◌⊎◌, ◌≡◌, ◌≤◌, true, option_and_then, IfSome, IfOk, IfErr, OnOk};
 ghost use Rattle.std.specs.Str.{IsCharBoundary};
-ghost use Rattle.rl_line.specs.Plan.{Done, Halted, Uncopied, or_no_memory};
+ghost use Rattle.rl_line.specs.Plan.{Done, Halted, Uncopied};
 ghost use Rattle.rl_line.specs.Transpositions.{are_two, clusters_around, end_of_cluster, exchanged_text, first_word, meeting_place, pull_back_plan, SwapsClusters, second_word, swap_plan, transpose_chars_plan, transpose_words_plan, word_end, word_start};
 
 use crate::line_buffer::LineBuffer;
+use crate::steps::{deletion_step, exchange_steps, insertion_step};
+use crate::swap::find_room_instead;
 use rl_base::places::{next_pos, next_word, prev_pos, prev_word};
 use rl_base::{At, ChangeListener, Direction, Refusal, RepeatCount, Word};
 use std::ops::Range;
@@ -12,11 +14,12 @@ use unicode_segmentation::UnicodeSegmentation;
 
 impl LineBuffer {
     /// Exchanges the grapheme clusters before and behind the cursor, or the last two at the end of the text
-    /// (GNU readline: transpose-chars), and moves the cursor behind both. Answers whether there are two.
-    /// Refused, it leaves the line as it was, or without the cluster behind.
+    /// (GNU readline: transpose-chars), and moves the cursor behind both. Answers whether there are two. Where
+    /// it finds no memory, it leaves the line as it was; where its listener refuses, as it was or without the
+    /// cluster behind.
     pub fn transpose_chars<L: ChangeListener>(&mut self, listener: &mut L) -> Result<bool, Refusal>
         ensures done { IfOk result (λ answer. Done L.step (transpose_chars_plan self.old) self.old self.new listener.old listener.new answer) }
-        ensures halted { IfErr result (λ r. Halted L.step (or_no_memory L.refused) (transpose_chars_plan self.old) self.old self.new listener.old listener.new r ⊎ Uncopied (transpose_chars_plan self.old) self.old self.new listener.old listener.new r) }
+        ensures halted { IfErr result (λ r. Halted L.step L.refused (transpose_chars_plan self.old) self.old self.new listener.old listener.new r ⊎ Uncopied (transpose_chars_plan self.old) self.old self.new listener.old listener.new r) }
         ensures swaps { IfOk result (λ answer. answer ≡ true → SwapsClusters self.old self.new) }
     {
         match self.meeting_clusters() {
@@ -28,7 +31,8 @@ impl LineBuffer {
         }
     }
 
-    // Two steps: a cluster is taken out, and put in at a place in front of it. The cursor goes behind the cluster that follows it there.
+    // Two steps: a cluster is taken out, and put in at a place in front of it, in the room that it left. The cursor goes behind the
+    // cluster that follows it there.
     fn pull_back<L: ChangeListener>(
         &mut self,
         front: usize,
@@ -40,13 +44,31 @@ impl LineBuffer {
         requires start { IsCharBoundary self.old.text behind.start }
         requires end { IsCharBoundary self.old.text behind.end }
         ensures done { IfOk result (λ answer. Done L.step (pull_back_plan self.old front behind) self.old self.new listener.old listener.new answer) }
-        ensures halted { IfErr result (λ r. Halted L.step (or_no_memory L.refused) (pull_back_plan self.old front behind) self.old self.new listener.old listener.new r ⊎ Uncopied (pull_back_plan self.old front behind) self.old self.new listener.old listener.new r) }
+        ensures halted { IfErr result (λ r. Halted L.step L.refused (pull_back_plan self.old front behind) self.old self.new listener.old listener.new r ⊎ Uncopied (pull_back_plan self.old front behind) self.old self.new listener.old listener.new r) }
         ensures text { OnOk result (self.new.text ≡ exchanged_text self.old front behind) }
     {
         let moved = self.text_of(&behind)?;
-        self.take_out(behind, Direction::Forward, listener)?;
-        let next = end_of_cluster(self.as_str(), front);
-        self.put_str(front, moved.as_str(), moved.len() + next, listener)?;
+        let start = behind.start;
+        deletion_step(
+            &mut self.buf,
+            &mut self.starts,
+            &mut self.pos,
+            behind,
+            Direction::Forward,
+            start,
+            listener,
+        )?;
+        let next = end_of_cluster(self.buf.as_str(), front);
+        insertion_step(
+            &mut self.buf,
+            &mut self.starts,
+            &mut self.pos,
+            &mut self.limit,
+            front,
+            moved.as_str(),
+            moved.len() + next,
+            listener,
+        )?;
         Ok(())
     }
 
@@ -79,15 +101,15 @@ impl LineBuffer {
 
     /// Exchanges the Emacs word before the `n`-th word's end ahead with the word `n` words before it (GNU
     /// readline: transpose-words), and moves the cursor behind both. Answers false where these are not two
-    /// words, and then leaves the cursor at the first word's end. Refused, it leaves the line after the steps
-    /// that it took.
+    /// words, and then leaves the cursor at the first word's end. Where it finds no memory, it leaves the line
+    /// as it was; where its listener refuses, after the steps that it took.
     pub fn transpose_words<L: ChangeListener>(
         &mut self,
         n: RepeatCount,
         listener: &mut L,
     ) -> Result<bool, Refusal>
         ensures done { IfOk result (λ answer. Done L.step (transpose_words_plan self.old n) self.old self.new listener.old listener.new answer) }
-        ensures halted { IfErr result (λ r. Halted L.step (or_no_memory L.refused) (transpose_words_plan self.old n) self.old self.new listener.old listener.new r ⊎ Uncopied (transpose_words_plan self.old n) self.old self.new listener.old listener.new r) }
+        ensures halted { IfErr result (λ r. Halted L.step L.refused (transpose_words_plan self.old n) self.old self.new listener.old listener.new r ⊎ Uncopied (transpose_words_plan self.old n) self.old self.new listener.old listener.new r) }
     {
         let second = self.second_word(n);
         let first = self.first_word(second.start, n);
@@ -99,7 +121,8 @@ impl LineBuffer {
         Ok(true)
     }
 
-    // Four steps: the second of two ranges gives way to the first's text, and then the first to the second's.
+    // Four steps: the second of two ranges gives way to the first's text, and then the first to the second's. In the end the text is
+    // as long as before, so room is missing at most where it is longest, between the two.
     fn swap<L: ChangeListener>(
         &mut self,
         first: Range<usize>,
@@ -114,15 +137,42 @@ impl LineBuffer {
         requires second_start { IsCharBoundary self.old.text second.start }
         requires second_end { IsCharBoundary self.old.text second.end }
         ensures done { IfOk result (λ answer. Done L.step (swap_plan self.old first second) self.old self.new listener.old listener.new answer) }
-        ensures halted { IfErr result (λ r. Halted L.step (or_no_memory L.refused) (swap_plan self.old first second) self.old self.new listener.old listener.new r ⊎ Uncopied (swap_plan self.old first second) self.old self.new listener.old listener.new r) }
+        ensures halted { IfErr result (λ r. Halted L.step L.refused (swap_plan self.old first second) self.old self.new listener.old listener.new r ⊎ Uncopied (swap_plan self.old first second) self.old self.new listener.old listener.new r) }
     {
         // So the proof knows that this is UTF-8.
         let _text = self.as_str();
         let first_text = self.text_of(&first)?;
         let second_text = self.text_of(&second)?;
         let (start, between, end) = (first.start, first.end, second.end);
-        self.exchange(second, between, first_text.as_str(), between, listener)?;
-        self.exchange(first, start, second_text.as_str(), end, listener)?;
+        find_room_instead(
+            &mut self.buf,
+            &mut self.starts,
+            second.start,
+            second.end,
+            first_text.as_str(),
+        )?;
+        exchange_steps(
+            &mut self.buf,
+            &mut self.starts,
+            &mut self.pos,
+            &mut self.limit,
+            second,
+            between,
+            first_text.as_str(),
+            between,
+            listener,
+        )?;
+        exchange_steps(
+            &mut self.buf,
+            &mut self.starts,
+            &mut self.pos,
+            &mut self.limit,
+            first,
+            start,
+            second_text.as_str(),
+            end,
+            listener,
+        )?;
         Ok(())
     }
 

@@ -17,7 +17,7 @@ returns-in_err-gone-in-Some-clause-halted g c =
 pub returns-in_err-take_out-in-Some-clause-halted : goal.returns-in_err-take_out-in-Some-clause-halted
 returns-in_err-take_out-in-Some-clause-halted g c =
     let p = err_from_is_err_and c.from_residual-in_err-take_out-in-Some.result c.from_residual-in_err-take_out-in-Some.ensures.1 in
-    rw (p.1, p.2) (inl (Halted-single _ _ _ _ _ _ _ _ _ _ _ (inr c.in_err-take_out-in-Some.ensures.cause) c.in_err-take_out-in-Some.ensures.kept
+    rw (p.1, p.2) (inl (Halted-single _ _ _ _ _ _ _ _ _ _ _ c.in_err-take_out-in-Some.ensures.cause c.in_err-take_out-in-Some.ensures.kept
     (delete_plan-some c.args.self.now c.args.n c.in-Some.range _ c.in-Some.ensures.value refl)))
 
 pub returns-in_ok-take_out-in-Some-clause-done : goal.returns-in_ok-take_out-in-Some-clause-done

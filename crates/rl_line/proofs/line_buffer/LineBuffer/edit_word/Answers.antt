@@ -1,4 +1,4 @@
-use Rattle.std.proofs.Common.{arith, rules, ◌+◌, ◌<◌, length, sym, inr, [], ℕ, ◌≡◌, true, slice_range, refl, inl, ap, subst, ◌∙◌}
+use Rattle.std.proofs.Common.{arith, rules, ◌+◌, ◌<◌, length, sym, inr, [], ℕ, ◌≡◌, true, slice_range, refl, ap, subst, ◌∙◌}
 use Rattle.std.proofs.lemmas.Option.{same_Some}
 use Rattle.std.proofs.lemmas.Str.{IsUtf8-nil}
 use Rattle.std.specs.List.{replace_range}
@@ -9,11 +9,10 @@ use Rattle.std.proofs.lemmas.Result.{err_from_is_err_and}
 use Rattle.rl_base.proofs.TextLemmas.{IsCharBoundary-before_removal, IsCharBoundary-past_replacement}
 use Rattle.rl_line.specs.Edits.{exchange_plan}
 use Rattle.rl_line.specs.LetterCase.{edit_word_plan, mapped}
-use Rattle.rl_line.specs.Line.{Line}
 use Rattle.rl_line.specs.Plan.{Plan, answering, bytes_of}
 use Rattle.rl_line.specs.Ranges.{text_in}
 use Rattle.rl_line.proofs.LetterCaseLemmas.{edit_word_plan-nothing, edit_word_plan-some, made_for, recased-ascii}
-use Rattle.rl_line.proofs.PlanLemmas.{Done-as, Done-nothing, Done-steps, Halted-as, Halted-front}
+use Rattle.rl_line.proofs.PlanLemmas.{Done-as, Done-nothing, Done-steps, Stopped-as}
 use Rattle.rl_line.proofs.line_buffer.LineBuffer.edit_word.Goals as goal
 
 pub returns-in_default-clause-done : goal.returns-in_default-clause-done
@@ -50,8 +49,9 @@ returns-in_err-exchange-clause-halted g c =
       utf8 = c.as_str-2.utf8;
       ascii = recased-ascii line c.args.action c.in-Some.word c.range-text.result.now made c.in-Some.ensures.value
           (c.range-text.ensures.value ∙ ap (λ t. slice_range t c.in-Some.word.start c.in-Some.word.end) c.as_str.ensures) (λ a. c.as_str-2.ensures.value ∙ c.in-Ok.ensures.ascii a);
-      holds = inl (Halted-as _ _ (edit_word_plan line made) (answering true plan) _ _ _ _ _ (Halted-front _ _ (answering true plan) plan [] _ _ _ _ _ c.in_err-exchange.ensures.halted refl)
-          (edit_word_plan-some line c.in-Some.word made c.pos-at.result (c.in-Some.word.start + c.len.result) c.in-Some.ensures.value c.pos-at.ensures.place (ap (λ n. c.in-Some.word.start + n) (search rules))));
+      holds = Stopped-as _ _ (edit_word_plan line made) plan _ _ _ _ _
+          (ap (λ (q : Plan _). q.steps) (edit_word_plan-some line c.in-Some.word made c.pos-at.result (c.in-Some.word.start + c.len.result) c.in-Some.ensures.value c.pos-at.ensures.place (ap (λ n. c.in-Some.word.start + n) (search rules))))
+          c.in_err-exchange.ensures.halted;
     }
 
 pub returns-clause-done : goal.returns-clause-done
@@ -64,7 +64,7 @@ returns-clause-done g c =
       utf8 = c.as_str-2.utf8;
       ascii = recased-ascii line c.args.action c.in-Some.word c.range-text.result.now made c.in-Some.ensures.value
           (c.range-text.ensures.value ∙ ap (λ t. slice_range t c.in-Some.word.start c.in-Some.word.end) c.as_str.ensures) (λ a. c.as_str-2.ensures.value ∙ c.in-Ok.ensures.ascii a);
-      holds = Done-as _ (edit_word_plan line made) (answering true plan) _ _ _ _ _ (Done-steps _ (answering true plan) _ _ _ _ _ c.in_ok-exchange.ensures.taken refl (ap (λ (l : Line). l.cursor) c.in_ok-exchange.ensures.line))
+      holds = Done-as _ (edit_word_plan line made) (answering true plan) _ _ _ _ _ (Done-steps _ (answering true plan) _ _ _ _ _ c.in_ok-exchange.ensures.taken refl c.in_ok-exchange.ensures.cursor)
           (edit_word_plan-some line c.in-Some.word made c.pos-at.result (c.in-Some.word.start + c.len.result) c.in-Some.ensures.value c.pos-at.ensures.place (ap (λ n. c.in-Some.word.start + n) (search rules)));
     }
 
@@ -80,7 +80,7 @@ returns-clause-mapped g c = λ word e n.
     c.range-text.ensures.value ∙ ap (λ t. slice_range t c.in-Some.word.start c.in-Some.word.end) c.as_str.ensures ∙ ap (text_in line) same in
     let made : c.as_str-2.result.now ≡ mapped c.args.action (text_in line word) =
     c.as_str-2.ensures.value ∙ c.in-Ok.ensures.others (λ a. n (subst IsAscii text a)) ∙ ap (mapped c.args.action) text in
-    ap (λ (l : Line). l.text) c.in_ok-exchange.ensures.line
+    c.in_ok-exchange.ensures.text
     ∙ ap (λ (w : Range ℕ). replace_range line.text w.start w.end c.as_str-2.result.now) same
     ∙ ap (replace_range line.text word.start word.end) made
 

@@ -1,8 +1,7 @@
-use Rattle.std.proofs.Common.{rules, arith, refl, inl}
+use Rattle.std.proofs.Common.{arith, refl, inl}
 use Rattle.std.proofs.lemmas.List.Sums.{count_by-le-length}
 use Rattle.std.proofs.lemmas.Result.{err_from_is_err_and}
 use Rattle.rl_base.specs.Lines.{is_newline}
-use Rattle.rl_base.proofs.EventLemmas.{fitting}
 use Rattle.rl_line.proofs.line_buffer.LineBuffer.put_str.Goals as goal
 
 pub returns-in_err-find_room-clause-cause : goal.returns-in_err-find_room-clause-cause
@@ -10,12 +9,3 @@ returns-in_err-find_room-clause-cause g c =
     let p = err_from_is_err_and c.from_residual.result c.from_residual.ensures.1 in
     let e = c.in_err-find_room.ensures.err in
     rw (p.1, p.2) (inl (e.0, refl, omega (arith, e.1, c.newlines.ensures, count_by-le-length is_newline c.args.text.now)))
-
-pub returns-in_err-insert_str-clause-cause : goal.returns-in_err-insert_str-clause-cause
-returns-in_err-insert_str-clause-cause g c = search rules
-
-pub returns-clause-taken : goal.returns-clause-taken
-returns-clause-taken g c = grind (arith, fitting)
-
-pub returns-clause-line : goal.returns-clause-line
-returns-clause-line g c = search rules

@@ -1,5 +1,27 @@
+use Rattle.std.proofs.Common.{rules, refl, inr, ap, length}
+use Rattle.std.proofs.lemmas.Result.{err_from_is_err_and}
 use Rattle.std.proofs.lemmas.Str.{IsCharBoundary-start}
+use Rattle.rl_line.specs.Line.{Line}
+use Rattle.rl_line.proofs.EditLemmas.{update_plan-is}
+use Rattle.rl_line.proofs.PlanLemmas.{Done-followed, Done-single, Halted-before, Halted-followed, Halted-single}
 use Rattle.rl_line.proofs.line_buffer.LineBuffer.update.Goals as goal
 
-pub exchange-requires-clause-start : goal.exchange-requires-clause-start
-exchange-requires-clause-start g c = rw (← c.as_str.ensures) (IsCharBoundary-start _ c.as_str.utf8)
+pub take_out-requires-clause-start : goal.take_out-requires-clause-start
+take_out-requires-clause-start g c = rw (← c.as_str.ensures) (IsCharBoundary-start _ c.as_str.utf8)
+
+pub returns-in_err-take_out-clause-halted : goal.returns-in_err-take_out-clause-halted
+returns-in_err-take_out-clause-halted g c =
+    let p = err_from_is_err_and c.from_residual.result c.from_residual.ensures.1 in
+    rw (p.1, p.2) (Halted-before _ _ _ _ _ _ _ _ _ _ _ (inr c.in_err-take_out.ensures.cause) c.in_err-take_out.ensures.kept
+    (update_plan-is c.args.self.now c.args.text.now _ c.args.pos _ _ refl (ap length c.as_str.ensures) refl))
+
+pub returns-in_err-put_str-clause-halted : goal.returns-in_err-put_str-clause-halted
+returns-in_err-put_str-clause-halted g c =
+    let p = err_from_is_err_and c.from_residual-in_err-put_str.result c.from_residual-in_err-put_str.ensures.1 in
+    rw (p.1, p.2) (Halted-followed _ _ _ _ _ _ _ _ _ _ _ _ _ c.in_ok-take_out.ensures.taken (Halted-single _ _ _ _ _ _ _ _ _ _ _ c.in_err-put_str.ensures.cause c.in_err-put_str.ensures.kept refl)
+    (update_plan-is c.args.self.now c.args.text.now c.cut_to_limit-cut.result.now c.args.pos _ c.min.result c.cut_to_limit-cut.ensures (ap length c.as_str.ensures) (search rules)))
+
+pub returns-clause-done : goal.returns-clause-done
+returns-clause-done g c =
+    Done-followed _ _ _ _ _ _ _ _ _ _ _ _ c.in_ok-take_out.ensures.taken (Done-single _ _ _ _ _ _ _ _ _ c.in_ok-put_str.ensures.taken (ap (λ (l : Line). l.cursor) c.in_ok-put_str.ensures.line) refl)
+    (update_plan-is c.args.self.now c.args.text.now c.cut_to_limit-cut.result.now c.args.pos _ c.min.result c.cut_to_limit-cut.ensures (ap length c.as_str.ensures) (search rules))
