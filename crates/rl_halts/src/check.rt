@@ -153,6 +153,27 @@ fn broken_rule(
     stands(alloc, case, left)
 }
 
+/// Makes an edit with all its changes allowed, and compares it with the rules of another. That must be told to break the
+/// rule that is wanted.
+pub(crate) fn check_wrong(
+    alloc: Global,
+    made: &Case,
+    judged: &Case,
+    wanted: &str,
+) -> Result<(), Fault> {
+    let told = match make_edit(alloc, made, usize::MAX)? {
+        Some(left) => {
+            let all = left.heard.seen.as_slice();
+            broken_rule(alloc, judged, all, &left, usize::MAX)?
+        }
+        None => None,
+    };
+    if told == Some(wanted) {
+        return Ok(());
+    }
+    Err(Fault::Wrong(format!(in alloc; "{told:?} is told, not {wanted}: {made:?} as {judged:?}")?))
+}
+
 // Compares the edit with the rules, and counts it.
 fn check(
     alloc: Global,
@@ -173,6 +194,15 @@ fn check(
     Ok(())
 }
 
+// The text comes out of the line as it stood there. So a leak of the rest of the line shows in this program too.
+fn comes_out(alloc: Global, case: &Case, line: LineBuffer) -> Result<(), Fault> {
+    let held = String::from_str(alloc, line.as_str())?;
+    if line.into_string().as_str() == held.as_str() {
+        return Ok(());
+    }
+    Err(Fault::Wrong(format!(in alloc; "the text by itself: {case:?}")?))
+}
+
 /// Makes the edit with all its changes allowed, and then with none, one, two .. of them, until it is not refused.
 pub(crate) fn check_case(alloc: Global, case: &Case, tally: &mut Tally) -> Result<(), Fault> {
     let Some(whole) = make_edit(alloc, case, usize::MAX)? else {
@@ -185,5 +215,5 @@ pub(crate) fn check_case(alloc: Global, case: &Case, tally: &mut Tally) -> Resul
             check(alloc, case, all, &cut, allowed, tally)?;
         }
     }
-    Ok(())
+    comes_out(alloc, case, whole.line)
 }

@@ -1,5 +1,6 @@
 //! Makes every edit in a few awkward texts, at each of their places, with none, one, two .. of its changes allowed,
-//! and ends with status 1 at the first that leaves anything but what the rules say.
+//! and ends with status 1 at the first that leaves anything but what the rules say. Before that it shows that edits which
+//! leave something else are told.
 #![tactic(auto)]
 
 mod calls;
@@ -8,6 +9,7 @@ mod check;
 mod extents;
 mod replay;
 mod rules;
+mod wrong;
 
 ghost use Rattle.std.specs.Prelude.{◌≡◌, OnOk, OnErr};
 ghost use Rattle.std.specs.Process.{exit_status};
@@ -20,6 +22,7 @@ use check::{Fault, Tally, check_case};
 use rl_base::RepeatCount;
 use std::alloc::Global;
 use std::process::ExitCode;
+use wrong::check_all_wrong;
 
 // Checks the edit with each of the counts, with the cursor at each place of each text, which may grow or not.
 fn check_everywhere(
@@ -136,6 +139,8 @@ fn report(rt: &impl Print, name: &str, tally: Tally) -> Result<(), Fault> {
 }
 
 fn check_all(rt: &impl Print, alloc: Global) -> Result<(), Fault> {
+    let told = check_all_wrong(alloc)?;
+    println!(rt; "wrong edits, to show that they are told: {told}")?;
     report(rt, "edits", check_edits(alloc)?)?;
     report(rt, "edits at places", check_ranges(alloc)?)?;
     report(rt, "kills by a movement", check_kills(alloc)?)?;
