@@ -4,7 +4,7 @@ use Rattle.std.proofs.lemmas.Bool.Decides.{nat_tests}
 use Rattle.std.proofs.Math.ListN.{get_or-append}
 use Rattle.std.proofs.lemmas.List.{drop-map, map-append, reverse-append}
 use Rattle.std.proofs.lemmas.List.Quantifiers.{Any-push}
-use Rattle.std.specs.Prelude.{Any, IsSome, get_or, nat_lt, option_and_then, slice_index_or}
+use Rattle.std.specs.Prelude.{Any, IsSome, get_or, nat_lt, option_and_then}
 use Rattle.std.specs.Str.{IsUtf8}
 use Rattle.rl_base.proofs.SwapLemmas.{Swaps, Swaps-Delete, Swaps-InsertStr, Swaps-Replace}
 use Rattle.rl_base.specs.Event.{Event, apply, replay}
@@ -14,7 +14,7 @@ use Rattle.rl_line.specs.declared.change.Change.{Change}
 use Rattle.rl_line.specs.declared.change.Measure.{Measure}
 use Rattle.rl_line.specs.declared.change.Measure.TheVariants.{Bytes, Newlines}
 use Rattle.rl_line.specs.declared.change.Way.{Way}
-use Rattle.rl_line.specs.Change.{faced, greatest_back_over, order, size_back, size_back_over, size_of}
+use Rattle.rl_line.specs.Change.{faced, greatest_back_over, size_back, size_back_over, size_of}
 use Rattle.rl_line.specs.Line.{Line, NeedsRoom}
 use Rattle.rl_line.specs.Record.{Entry, Begin, End, Inserted, Deleted, Replaced, bytes_ahead, bytes_back, event_of, inverse, old_text, unwind}
 use Rattle.rl_line.specs.Undo.{line_back, texts_after, texts_ahead, texts_back}

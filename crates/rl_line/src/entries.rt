@@ -291,11 +291,7 @@ pub(crate) fn adds_end(entries: &[Change], count: usize) -> bool
 }
 
 /// Finds room for so many Ends, where one is to be added.
-pub(crate) fn find_ends(
-    entries: &mut Vec<Change>,
-    adds: bool,
-    count: usize,
-) -> Result<(), Refusal>
+pub(crate) fn find_ends(entries: &mut Vec<Change>, adds: bool, count: usize) -> Result<(), Refusal>
     ensures items { entries.new.items ≡ entries.old.items }
     ensures room { OnOk result (adds ≡ true → vec_len entries.new + count ≤ vec_capacity entries.new) }
     ensures err { IfErr result (λ r. (r ≡ NoMemory) × (adds ≡ true)) }

@@ -203,4 +203,3 @@ nothing_lent n old slot e left l = subst (λ s. Edited (lent_plan old.line s n) 
 
 pub nothing_popped : (old : State) (slot : Option (ℕ × List ℕ)) → slot ≡ None → (left : State) → left ≡ popped old → Edited (popped_plan old.line slot) (popped old) left None
 nothing_popped old slot e left l = subst (λ s. Edited (popped_plan old.line s) (popped old) left None) (sym e) (subst (λ s. Edited (popped_plan old.line None) (popped old) s None) (sym l) (Edited-nothing None (popped old)))
-

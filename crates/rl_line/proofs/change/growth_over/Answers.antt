@@ -21,14 +21,18 @@ pub returns-in-None-clause-err : goal.returns-in-None-clause-err
 returns-in-None-clause-err c =
     let d = (goal.at.returns-in-None-clause-err c).After-texts in
     let past : 2 ^ 64 ≤ size_back Bytes (faced c.args.way c.nth_on.result.now) c.loop-left.long =
-    omega (arith, c.in-None.ensures.none, ap (size_of Bytes) c.texts.ensures.going, ap (size_of Bytes) c.texts.ensures.coming) in
-    (refl, inl (past_a_usize Bytes c.args.way (order c.args.way c.args.changes.now) (c.loop-left.left - 1) c.args.bytes c.loop-left.long _ (inside d) c.nth_on.ensures
-    (so_far Bytes c.loop-left.long c.args.bytes d c.loop-left.invariant.long) (omega (arith, c.ranges.bytes.fits)) past))
+    omega (arith, c.in-None.ensures.none, ap (size_of Bytes) c.texts.ensures.going, ap (size_of Bytes) c.texts.ensures.coming) in (
+      refl,
+      inl (past_a_usize Bytes c.args.way (order c.args.way c.args.changes.now) (c.loop-left.left - 1) c.args.bytes c.loop-left.long _ (inside d) c.nth_on.ensures
+          (so_far Bytes c.loop-left.long c.args.bytes d c.loop-left.invariant.long) (omega (arith, c.ranges.bytes.fits)) past),
+    )
 
 pub returns-in-None-size_over-clause-err : goal.returns-in-None-size_over-clause-err
 returns-in-None-size_over-clause-err c =
     let d = (goal.at.returns-in-None-size_over-clause-err c).After-texts in
     let past : 2 ^ 64 ≤ size_back Newlines (faced c.args.way c.nth_on.result.now) c.loop-left.high =
-    omega (arith, c.in-None-size_over.ensures.none, ap (size_of Newlines) c.texts.ensures.going, ap (size_of Newlines) c.texts.ensures.coming) in
-    (refl, inr (past_a_usize Newlines c.args.way (order c.args.way c.args.changes.now) (c.loop-left.left - 1) c.args.newlines c.loop-left.high _ (inside d) c.nth_on.ensures
-    (so_far Newlines c.loop-left.high c.args.newlines d c.loop-left.invariant.high) (omega (arith, c.ranges.newlines.fits)) past))
+    omega (arith, c.in-None-size_over.ensures.none, ap (size_of Newlines) c.texts.ensures.going, ap (size_of Newlines) c.texts.ensures.coming) in (
+      refl,
+      inr (past_a_usize Newlines c.args.way (order c.args.way c.args.changes.now) (c.loop-left.left - 1) c.args.newlines c.loop-left.high _ (inside d) c.nth_on.ensures
+          (so_far Newlines c.loop-left.high c.args.newlines d c.loop-left.invariant.high) (omega (arith, c.ranges.newlines.fits)) past),
+    )
