@@ -1,0 +1,9 @@
+use Rattle.std.proofs.Common.{rules, arith}
+use Rattle.rl_base.proofs.EventLemmas.{fitting}
+use Rattle.rl_line.proofs.line_buffer.LineBuffer.put_instead.Goals as goal
+
+pub returns-clause-taken : goal.returns-clause-taken
+returns-clause-taken g c = grind (arith, fitting)
+
+pub returns-clause-line : goal.returns-clause-line
+returns-clause-line g c = search rules
