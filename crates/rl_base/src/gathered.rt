@@ -1,6 +1,5 @@
 //! A text that grows at both ends.
 ghost use Rattle.std.specs.Prelude.{◌≡◌, ◌+◌, ◌<◌, ◌≤◌, ◌++◌, drop, length, IfErr, IfOk, OnOk};
-ghost use Rattle.std.specs.List.{replace_range};
 ghost use Rattle.std.specs.String.{string_bytes};
 ghost use Rattle.rl_base.specs.declared.listeners.Refusal.TheVariants.{NoMemory};
 ghost use Rattle.rl_base.specs.Gathered.{BeginsBlank};
@@ -85,8 +84,7 @@ impl Gathered {
         ensures err { IfErr result (λ r. (r ≡ NoMemory) × (self.new.text ≡ self.old.text) × (self.old.blanks < length part.now)) }
     {
         let blanks = find_blanks(&mut self.buf, self.blanks, part.len())?;
-        self.blanks = blanks - part.len();
-        put_over_blanks(&mut self.buf, self.blanks, blanks, part);
+        self.blanks = put_over_blanks(&mut self.buf, blanks, part);
         Ok(())
     }
 
@@ -132,23 +130,26 @@ fn find_blanks(buf: &mut String, blanks: usize, bytes: usize) -> Result<usize, R
     }
 }
 
-// Puts a part in the place of as many blanks, the last of those before a text. It takes no memory.
-fn put_over_blanks(buf: &mut String, from: usize, blanks: usize, part: &str)
+// Puts a part in the place of the last blanks before a text, and answers how many are left. It takes no memory.
+fn put_over_blanks(buf: &mut String, blanks: usize, part: &str) -> usize
     requires begins { BeginsBlank blanks (string_bytes buf.old) }
-    requires room { from + length part.now ≡ blanks }
-    ensures { string_bytes buf.new ≡ replace_range (string_bytes buf.old) from blanks part.now }
+    requires room { length part.now ≤ blanks }
+    ensures blanks { BeginsBlank result (string_bytes buf.new) }
+    ensures text { drop result (string_bytes buf.new) ≡ part.now ++ drop blanks (string_bytes buf.old) }
 {
+    let from = blanks - part.len();
     let Err(_) = buf.replace_range(from..blanks, part) else {
-        return;
+        return from;
     };
     // The standard library doesn't promise that a text of the same length needs no more room. It does promise it of a
-    // deletion, and of an insertion where there is room.
-    match buf.replace_range(from..blanks, "") {
+    // deletion, and of an insertion where there is room: so all blanks give way. That is one more kind of range, so that the
+    // call above stays the only one of its kind, and is inlined.
+    match buf.replace_range(..blanks, "") {
         Ok(()) => {}
         Err(_) => unreachable!(),
     }
-    match buf.insert_str(from, part) {
-        Ok(()) => {}
+    match buf.insert_str(0, part) {
+        Ok(()) => 0,
         Err(_) => unreachable!(),
     }
 }

@@ -272,7 +272,8 @@ impl LineBuffer {
         self.take_out_before(range, dir, start, listener)
     }
 
-    // The same step, which leaves the cursor at a place.
+    // The same step, which leaves the cursor at a place. Inlined as well.
+    #[inline(always)]
     #[tactic(auto, using(rl_base::proofs::EventLemmas::fitting))]
     fn take_out_before<L: DeleteListener>(
         &mut self,

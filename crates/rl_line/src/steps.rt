@@ -55,7 +55,7 @@ pub(crate) fn insertion_step<L: ChangeListener>(
 }
 
 /// One step: takes a range out, and leaves the cursor at a place. It needs no room.
-#[inline(always)]
+#[inline(never)]
 pub(crate) fn deletion_step<L: DeleteListener>(
     text: &mut String,
     starts: &mut Vec<usize>,
