@@ -27,3 +27,4 @@ pub mod RoomLemmas
 pub mod ToldLemmas
 pub mod WalkLemmas
 pub mod WayLemmas
+pub mod TailLemmas

@@ -7,6 +7,7 @@ pub mod line_buffer;
 mod line_starts;
 mod steps;
 mod swap;
+mod tails;
 pub mod undo;
 
 pub use line_buffer::{LineBuffer, MAX_LINE};

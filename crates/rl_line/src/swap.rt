@@ -1,8 +1,8 @@
 //! The one way in which a text changes, and the table of a line's text with it: a range gives way to a part.
-ghost use Rattle.std.specs.Prelude.{◌≡◌, ◌≢◌, ◌+◌, ◌-◌, ◌<◌, ◌≤◌, encode_utf8, count_by, length, slice_range, vec_len, vec_capacity, IfErr, IfNone, IfSome, OnOk};
+ghost use Rattle.std.specs.Prelude.{◌≡◌, ◌+◌, ◌-◌, ◌<◌, ◌≤◌, ◌++◌, encode_utf8, count_by, length, slice_range, take, vec_len, vec_capacity, IfErr, OnOk};
 ghost use Rattle.std.specs.String.{string_bytes, string_len, string_capacity};
-ghost use Rattle.std.specs.List.{insert_slice, remove_range, replace_range};
-ghost use Rattle.std.specs.Str.{IsCharBoundary, chars};
+ghost use Rattle.std.specs.List.{insert_slice, replace_range};
+ghost use Rattle.std.specs.Str.{IsCharBoundary};
 ghost use Rattle.rl_base.specs.Lines.{is_newline};
 ghost use Rattle.rl_base.specs.declared.listeners.Refusal.TheVariants.{NoMemory};
 ghost use Rattle.rl_base.specs.Event.{Replace};
@@ -10,7 +10,10 @@ ghost use Rattle.rl_line.specs.LineStarts.{line_starts};
 ghost use Rattle.rl_line.specs.Plan.{Grows};
 
 use crate::line_starts::{newlines, newlines_of, stays, swap_starts};
+use crate::tails::swap_bytes;
 use rl_base::Refusal;
+use std::alloc::Global;
+use std::mem;
 
 /// Finds room in a text and in its table for so many bytes and newlines more.
 pub(crate) fn find_room(
@@ -121,50 +124,57 @@ pub(crate) fn swap_text(text: &mut String, from: usize, to: usize, part: &str)
     ensures capacity { string_capacity text.old ≤ string_capacity text.new }
     ensures len { string_len text.new ≡ (string_len text.old - (to - from)) + length part.now }
 {
-    cut_out(text, from, to);
-    put_in(text, from, part);
-}
-
-// Takes a range out. Where nothing stands behind it, nothing has to move.
-fn cut_out(text: &mut String, from: usize, to: usize)
-    requires order { from ≤ to }
-    requires start { IsCharBoundary (string_bytes text.old) from }
-    requires end { IsCharBoundary (string_bytes text.old) to }
-    ensures text { string_bytes text.new ≡ remove_range (string_bytes text.old) from to }
-    ensures capacity { string_capacity text.old ≤ string_capacity text.new }
-    ensures len { string_len text.new ≡ string_len text.old - (to - from) }
-{
-    if from == to {
-        return;
-    }
     if to == text.len() {
-        text.truncate(from);
+        cut_off(text, from);
+        append(text, part);
         return;
     }
-    match text.replace_range(from..to, "") {
-        Ok(()) => {}
-        Err(_) => unreachable!(),
-    }
+    swap_within(text, from, to, part);
 }
 
-// Puts a part in at a place. A lone character goes in by the call that moves what stands behind it at once.
-fn put_in(text: &mut String, at: usize, part: &str)
+// Cuts a text off at a place, which may be its end.
+fn cut_off(text: &mut String, at: usize)
     requires place { IsCharBoundary (string_bytes text.old) at }
+    ensures text { string_bytes text.new ≡ take at (string_bytes text.old) }
+    ensures capacity { string_capacity text.old ≤ string_capacity text.new }
+    ensures len { string_len text.new ≡ at }
+{
+    if at == text.len() {
+        return;
+    }
+    text.truncate(at);
+}
+
+// Puts a part after a text.
+fn append(text: &mut String, part: &str)
     requires room { string_len text.old + length part.now ≤ string_capacity text.old }
-    ensures text { string_bytes text.new ≡ insert_slice (string_bytes text.old) at part.now }
+    ensures text { string_bytes text.new ≡ string_bytes text.old ++ part.now }
     ensures capacity { string_capacity text.old ≤ string_capacity text.new }
     ensures len { string_len text.new ≡ string_len text.old + length part.now }
 {
     if part.is_empty() {
         return;
     }
-    match lone_char(part) {
-        Some(c) => put_char_in(text, at, c),
-        None => match text.insert_str(at, part) {
-            Ok(()) => {}
-            Err(_) => unreachable!(),
-        },
+    match text.push_str(part) {
+        Ok(()) => {}
+        Err(_) => unreachable!(),
     }
+}
+
+// As `swap_text` does, where something stands after the range: what does moves once, as bytes.
+fn swap_within(text: &mut String, from: usize, to: usize, part: &str)
+    requires order { from ≤ to }
+    requires start { IsCharBoundary (string_bytes text.old) from }
+    requires end { IsCharBoundary (string_bytes text.old) to }
+    requires room { (string_len text.old - (to - from)) + length part.now ≤ string_capacity text.old }
+    ensures text { string_bytes text.new ≡ replace_range (string_bytes text.old) from to part.now }
+    ensures capacity { string_capacity text.old ≤ string_capacity text.new }
+    ensures len { string_len text.new ≡ (string_len text.old - (to - from)) + length part.now }
+{
+    let alloc: Global = *text.allocator();
+    let mut bytes = mem::replace(text, String::new(alloc)).into_bytes();
+    swap_bytes(&mut bytes, from, to, part.as_bytes());
+    *text = unsafe { String::from_utf8_unchecked(bytes) };
 }
 
 // Puts a character in at a place.
@@ -178,18 +188,5 @@ fn put_char_in(text: &mut String, at: usize, c: char)
     match text.insert(at, c) {
         Ok(()) => {}
         Err(_) => unreachable!(),
-    }
-}
-
-// The character that a part consists of, where it is but one.
-fn lone_char(part: &str) -> Option<char>
-    ensures some { IfSome result (λ c. part.now ≡ encode_utf8 c) }
-    ensures none { IfNone result (length (chars part.now) ≢ 1) }
-{
-    let mut chars = part.chars();
-    let c = chars.next()?;
-    match chars.next() {
-        Some(_) => None,
-        None => Some(c),
     }
 }
