@@ -177,7 +177,7 @@ fn swap_within(text: &mut String, from: usize, to: usize, part: &str)
     *text = unsafe { String::from_utf8_unchecked(bytes) };
 }
 
-// Puts a character in at a place.
+// Puts a character in at a place. `insert` moves what stands after it by `memmove` for one of a single byte alone.
 fn put_char_in(text: &mut String, at: usize, c: char)
     requires place { IsCharBoundary (string_bytes text.old) at }
     requires room { string_len text.old + length (encode_utf8 c) ≤ string_capacity text.old }
@@ -185,6 +185,11 @@ fn put_char_in(text: &mut String, at: usize, c: char)
     ensures capacity { string_capacity text.old ≤ string_capacity text.new }
     ensures len { string_len text.new ≡ string_len text.old + length (encode_utf8 c) }
 {
+    if !c.is_ascii() {
+        let mut bytes = [0; 4];
+        swap_text(text, at, at, c.encode_utf8(&mut bytes));
+        return;
+    }
     match text.insert(at, c) {
         Ok(()) => {}
         Err(_) => unreachable!(),

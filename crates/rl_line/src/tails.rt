@@ -1,4 +1,4 @@
-//! The one move that a change in the midst of a text makes: what stands after it goes up or down by the bytes that it adds
+//! The one move that a change in the middle of a text makes: what stands after it goes up or down by the bytes that it adds
 //! or takes.
 ghost use Rattle.std.specs.Prelude.{◌≡◌, ◌+◌, ◌-◌, ◌≤◌, length, take, vec_len, vec_capacity};
 ghost use Rattle.std.specs.List.{copy_within, replace_range};
