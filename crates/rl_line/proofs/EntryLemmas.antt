@@ -6,11 +6,13 @@ use Rattle.std.specs.Prelude.{zero, max, slice_get, cond, IsSome, Bool, true, fa
 use Rattle.std.specs.Option.{option_to_list}
 use Rattle.rl_line.specs.declared.change.Change.{Change}
 use Rattle.rl_line.specs.Record.{Entry, Begin, End, Inserted, Deleted, Replaced, entry_of}
-use Rattle.rl_line.specs.Units.{last_of, redo_of, adds_end, end_one, end_times, ends_in_begin, is_begin, IsMatched}
+use Rattle.rl_line.specs.Units.{last_of, redo_of, adds_end, end_one, end_times, ends_in_begin, is_begin, is_change, IsMatched}
 use Rattle.rl_line.specs.Entries.{deep}
 use Rattle.rl_line.proofs.Counts.{ahead_len, back_len}
 use Rattle.rl_line.proofs.CountLemmas.{last-counted, redo-counted}
 use Rattle.rl_line.proofs.RecordLemmas.{value_of}
+use Rattle.rl_line.proofs.UnitLemmas.{last_of-change, redo_of-change}
+use Rattle.std.proofs.lemmas.Option.{same_Some}
 
 -- the entries before a place, the last first, with one entry more
 back-read : (xs : List Change) (m : ℕ) (z x : Change) → m < length xs → get_or xs m z ≡ x
@@ -232,3 +234,25 @@ pub adds-before : (xs : List Change) (m n : ℕ) (x : Change) → m < length xs 
     → adds_end n (map entry_of (take (m + 1) xs)) ≡ true
 adds-before xs m n x lt e some h =
     adds-here n _ some (ap ends_in_begin (take-last xs m x lt e) ∙ ends_in-last (map entry_of (take m xs)) (entry_of x) ∙ h)
+
+-- ---- one change alone
+-- the last entry of the list
+last-split : (xs : List Change) (x : Change) → Some x ≡ slice_get xs (length xs - 1) → (front : List Change) × (xs ≡ front ++ x ∷ [])
+last-split [] x e = cc
+last-split (y ∷ []) x e = ([], ap (λ z. z ∷ []) (same_Some y x (sym e)))
+last-split (y ∷ (z ∷ zs)) x e =
+    let p = last-split (z ∷ zs) x (e ∙ ap (slice_get (y ∷ (z ∷ zs))) (two (length zs))) in (y ∷ p.0, ap (λ l. y ∷ l) p.1)
+  where
+    two : (n : ℕ) → suc (suc n) - 1 ≡ suc (suc n - 1)
+    two n = omega arith
+
+pub last-alone : (n : ℕ) (xs : List Change) (x : Change) → n ≤ 1 → Some x ≡ slice_get xs (length xs - 1) → is_change (entry_of x) ≡ true → last_of n (map entry_of xs) ≡ entry_of x ∷ []
+last-alone n xs x few e is =
+    let p = last-split xs x e in
+    ap (λ ys. last_of n (map entry_of ys)) p.1 ∙ ap (last_of n) (map-append entry_of p.0 (x ∷ [])) ∙ last_of-change n (entry_of x) (map entry_of p.0) few is
+
+pub next-alone : (xs : List Change) (x : Change) → Some x ≡ slice_get xs 0 → is_change (entry_of x) ≡ true → IsMatched (map entry_of xs) → redo_of (map entry_of xs) ≡ entry_of x ∷ []
+next-alone [] x e is m = cc
+next-alone (y ∷ ys) x e is m =
+    let same : x ≡ y = same_Some x y e in
+    redo_of-change (entry_of y) (map entry_of ys) (ap (λ z. is_change (entry_of z)) (sym same) ∙ is) m ∙ ap (λ z. entry_of z ∷ []) (sym same)

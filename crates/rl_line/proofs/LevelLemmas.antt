@@ -184,7 +184,7 @@ LevelAt-end xs len at n z x m lt e b l =
       level = omega (arith, l.level, ap level is, one);
     }
 
-level-change : (es : List Entry) (e : Entry) → is_change e ≡ true → level (es ++ e ∷ []) ≡ level es
+pub level-change : (es : List Entry) (e : Entry) → is_change e ≡ true → level (es ++ e ∷ []) ≡ level es
 level-change es Begin h = cc
 level-change es End h = cc
 level-change es (Inserted i s ps) h = ap opens (cut_more-append [] es (Inserted i s ps ∷ []))

@@ -16,7 +16,7 @@ use Rattle.rl_line.specs.declared.change.Measure.TheVariants.{Bytes, Newlines}
 use Rattle.rl_line.specs.declared.change.Way.{Way}
 use Rattle.rl_line.specs.Change.{faced, greatest_back_over, size_back, size_back_over, size_of}
 use Rattle.rl_line.specs.Line.{Line, NeedsRoom}
-use Rattle.rl_line.specs.Record.{Entry, Begin, End, Inserted, Deleted, Replaced, bytes_ahead, bytes_back, event_of, inverse, old_text, unwind}
+use Rattle.rl_line.specs.Record.{Entry, Begin, End, Inserted, Deleted, Replaced, bytes_ahead, bytes_back, event_of, inverse, new_text, old_text, unwind}
 use Rattle.rl_line.specs.Undo.{line_back, texts_after, texts_ahead, texts_back}
 use Rattle.rl_line.proofs.LineStartLemmas.{newlines-append}
 use Rattle.rl_line.proofs.RecordLemmas.{inverse-inverse, through, unwind-IsUtf8, value_of}
@@ -118,6 +118,15 @@ pub NeedsRoom-line : (es : List Entry) (line : Line) → IsUtf8 line.text → Is
     → Any (NeedsRoom line.text) (texts_back es line.text)
 NeedsRoom-line es line u h (inl more) = let p = value_of (line_back es line) h in NeedsRoom-back Bytes es line.text p.0.text u (line_back-unwind es line p.0 p.1) more
 NeedsRoom-line es line u h (inr more) = let p = value_of (line_back es line) h in NeedsRoom-back Newlines es line.text p.0.text u (line_back-unwind es line p.0 p.1) more
+
+-- one entry needs room where the text that comes needs more than the one that goes
+pub NeedsRoom-one : (e : Entry) (text now : List ℕ) → IsUtf8 text → apply (taking_back e) text ≡ Some now → NeedsRoom (new_text e) (old_text e) → Any (NeedsRoom text) (texts_back (e ∷ []) text)
+NeedsRoom-one e text now u makes more =
+    subst (Any (NeedsRoom text)) (sym (texts_back-more e [] text text now refl makes)) (Any-push (NeedsRoom text) [] now (needs more))
+  where
+    needs : NeedsRoom (new_text e) (old_text e) → NeedsRoom text now
+    needs (inl long) = inl (omega (arith, size_back-is Bytes e text now u makes, long))
+    needs (inr high) = inr (omega (arith, size_back-is Newlines e text now u makes, high))
 
 -- a size past what a usize holds is more than the first
 pub past_a_usize : (k : Measure) (way : Way) (xs : List Change) (m n size : ℕ) (x : Change) → m < length xs → x ≡ get_or xs m x → size ≡ size_back_over k (map (faced way) (drop (m + 1) xs)) n

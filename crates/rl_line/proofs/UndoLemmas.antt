@@ -58,6 +58,23 @@ cursor_after-stands e text now cursor u at h = let m = text_after-means e text n
     told makes None b = place_after-stands e text now cursor u at makes
     told makes (Some k) b = is_boundary-means now k b
 
+-- a line that goes back over one entry: the entry fits its text
+pub one-fits : (e : Entry) (line : Line) → IsSome (line_back (e ∷ []) line) → IsSome (apply (event_of (inverse e)) line.text)
+one-fits e line h = IsSome-through (λ text. if_standing (stepped line text (cursor_after line.cursor (inverse e)))) (apply (event_of (inverse e)) line.text) h
+
+-- its cursor stands in the text that it makes
+pub one-stands : (e : Entry) (line : Line) → IsSome (line_back (e ∷ []) line)
+    → (text : List ℕ) → apply (event_of (inverse e)) line.text ≡ Some text → IsCharBoundary text (cursor_after line.cursor (inverse e))
+one-stands e line h text fits =
+    let o = value_of (back_one e line) h in
+    let f = Fits-from (event_of (inverse e)) (cursor_after line.cursor (inverse e)) line o.0 o.1 in
+    subst (λ t. IsCharBoundary t (cursor_after line.cursor (inverse e))) (same_Some _ _ (sym f.makes ∙ fits)) f.stands
+
+-- and that is the line's then
+pub one-back : (e : Entry) (line next : Line) (text : List ℕ) → apply (event_of (inverse e)) line.text ≡ Some text → next ≡ stepped line text (cursor_after line.cursor (inverse e))
+    → IsCharBoundary text (cursor_after line.cursor (inverse e)) → line_back (e ∷ []) line ≡ Some next
+one-back e line next text makes is at = after_step-is (event_of (inverse e)) (cursor_after line.cursor (inverse e)) line text makes at ∙ ap Some (sym is)
+
 pub line_back-append : (xs ys : List Entry) (line : Line) → line_back (xs ++ ys) line ≡ option_and_then (line_back xs) (line_back ys line)
 line_back-append [] ys line = some_again (line_back ys line)
   where
@@ -100,26 +117,15 @@ IsBack-none way xs start h =
     }
 
 pub IsBack-fits : (way : Way) (xs : List Change) (m : ℕ) (x : Change) (start now : Line) → m < length xs → x ≡ get_or xs m x → IsBack way xs (m + 1) start now
-    → IsSome (apply (event_of (inverse (faced way x))) now.text)
+    → IsSome (line_back (faced way x ∷ []) now)
 IsBack-fits way xs m x start now lt e b =
-    IsSome-through (λ text. if_standing (stepped now text (cursor_after now.cursor (inverse (faced way x))))) (apply (event_of (inverse (faced way x))) now.text)
-    (IsSome-through (line_back (map (faced way) (take m xs))) (back_one (faced way x) now) (subst IsSome (rest_split way xs m x now lt e) b.rest))
-
--- and its cursor stands there
-pub IsBack-stands : (way : Way) (xs : List Change) (m : ℕ) (x : Change) (start now : Line) → m < length xs → x ≡ get_or xs m x → IsBack way xs (m + 1) start now
-    → (text : List ℕ) → apply (event_of (inverse (faced way x))) now.text ≡ Some text → IsCharBoundary text (cursor_after now.cursor (inverse (faced way x)))
-IsBack-stands way xs m x start now lt e b text fits =
-    let o = value_of (back_one (faced way x) now) (IsSome-through (line_back (map (faced way) (take m xs))) (back_one (faced way x) now) (subst IsSome (rest_split way xs m x now lt e) b.rest)) in
-    let f = Fits-from (event_of (inverse (faced way x))) (cursor_after now.cursor (inverse (faced way x))) now o.0 o.1 in
-    subst (λ t. IsCharBoundary t (cursor_after now.cursor (inverse (faced way x)))) (same_Some _ _ (sym f.makes ∙ fits)) f.stands
+    IsSome-through (line_back (map (faced way) (take m xs))) (back_one (faced way x) now) (subst IsSome (rest_split way xs m x now lt e) b.rest)
 
 pub IsBack-next : (way : Way) (xs : List Change) (m : ℕ) (x : Change) (start now next : Line) (text : List ℕ) → m < length xs → x ≡ get_or xs m x → IsBack way xs (m + 1) start now
     → apply (event_of (inverse (faced way x))) now.text ≡ Some text → next ≡ stepped now text (cursor_after now.cursor (inverse (faced way x)))
     → IsCharBoundary text (cursor_after now.cursor (inverse (faced way x))) → IsBack way xs m start next
 IsBack-next way xs m x start now next text lt e b fits is at =
-    let one : back_one (faced way x) now ≡ Some next =
-    ap (option_and_then (λ t. if_standing (stepped now t (cursor_after now.cursor (inverse (faced way x)))))) fits
-    ∙ standing (stepped now text (cursor_after now.cursor (inverse (faced way x)))) at ∙ ap Some (sym is) in
+    let one = one-back (faced way x) now next text fits is at in
     record {
       so_far = ap (λ es. line_back es start) (entries_from way xs m x lt e) ∙ ap (option_and_then (back_one (faced way x))) b.so_far ∙ one;
       rest = subst IsSome (rest_split way xs m x now lt e ∙ ap (option_and_then (line_back (map (faced way) (take m xs)))) one) b.rest;

@@ -1,9 +1,9 @@
 -- Units: they make up the list, each by itself is one unit, and lists with matched marks cut apart.
-use Rattle.std.proofs.Common.{◌≡◌, ℕ, ◌+◌, suc, zero-add, add-zero, length-append, reverse, Bool, true, false, cond, List, [], ◌∷◌, ◌++◌, length, take, drop, Option, Some, None, refl, sym, ap, subst, ◌∙◌, arith, append_assoc, append-nil}
+use Rattle.std.proofs.Common.{◌≡◌, ℕ, ◌+◌, ◌≤◌, suc, zero-add, add-zero, length-append, reverse, Bool, true, false, cond, List, [], ◌∷◌, ◌++◌, length, take, drop, Option, Some, None, refl, sym, ap, subst, ◌∙◌, arith, append_assoc, append-nil}
 use Rattle.std.proofs.lemmas.List.{take-append-drop, reverse-append}
 use Rattle.std.specs.Prelude.{option_and_then, IsSome, ◌||◌, max}
 use Rattle.rl_line.specs.Record.{Entry, Begin, End, Inserted, Deleted, Replaced}
-use Rattle.rl_line.specs.Units.{UndoUnit, Open, Whole, entries, close, add_entry, cut_more, units, together, opens, last_of, kept_of, touched, mark, marks, IsMatched}
+use Rattle.rl_line.specs.Units.{UndoUnit, Open, Whole, entries, close, add_entry, cut_more, units, together, opens, last_of, kept_of, redo_from, redo_of, is_change, touched, mark, marks, IsMatched}
 use Rattle.rl_line.proofs.Counts.{back_len, ahead_len}
 use Rattle.rl_line.proofs.RecordLemmas.{value_of, IsSome-through}
 
@@ -304,3 +304,28 @@ together-reverse (v ∷ vs) =
 pub AllGood-reverse : (us : List UndoUnit) → AllGood us → AllGood (reverse us)
 AllGood-reverse [] g = tt
 AllGood-reverse (u ∷ us) g = subst AllGood (sym (reverse-append (u ∷ []) us)) (AllGood-append (reverse us) (u ∷ []) (AllGood-reverse us g.1) (g.0, tt))
+
+-- a change at the end is the last unit, and one in front is the unit that is redone next
+newest : (n : ℕ) (e : Entry) (es : List Entry) → n ≤ 1 → add_entry e (units es) ≡ Whole (e ∷ []) ∷ units es → last_of n (es ++ e ∷ []) ≡ e ∷ []
+newest n e es few one =
+    let single : max n 1 ≡ 1 = omega (arith, few) in
+    ap (λ us. together (take (max n 1) us)) (cut_more-append [] es (e ∷ []) ∙ one) ∙ ap (λ k. together (take k (Whole (e ∷ []) ∷ units es))) single
+
+pub last_of-change : (n : ℕ) (e : Entry) (es : List Entry) → n ≤ 1 → is_change e ≡ true → last_of n (es ++ e ∷ []) ≡ e ∷ []
+last_of-change n Begin es few is = cc
+last_of-change n End es few is = cc
+last_of-change n (Inserted i s ps) es few is = newest n (Inserted i s ps) es few refl
+last_of-change n (Deleted i s ps) es few is = newest n (Deleted i s ps) es few refl
+last_of-change n (Replaced i s t ps) es few is = newest n (Replaced i s t ps) es few refl
+
+oldest : (e : Entry) (es : List Entry) → units (e ∷ []) ≡ Whole (e ∷ []) ∷ [] → IsMatched es → redo_of (e ∷ es) ≡ e ∷ []
+oldest e es one m =
+    ap (λ us. redo_from (e ∷ es) (reverse us)) (units-append (e ∷ []) es m ∙ ap (λ us. units es ++ us) one)
+    ∙ ap (redo_from (e ∷ es)) (reverse-append (units es) (Whole (e ∷ []) ∷ []))
+
+pub redo_of-change : (e : Entry) (es : List Entry) → is_change e ≡ true → IsMatched (e ∷ es) → redo_of (e ∷ es) ≡ e ∷ []
+redo_of-change Begin es is m = cc
+redo_of-change End es is m = cc
+redo_of-change (Inserted i s ps) es is m = oldest (Inserted i s ps) es refl m
+redo_of-change (Deleted i s ps) es is m = oldest (Deleted i s ps) es refl m
+redo_of-change (Replaced i s t ps) es is m = oldest (Replaced i s t ps) es refl m

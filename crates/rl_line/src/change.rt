@@ -133,8 +133,8 @@ impl Change {
         }
     }
 
-    // The byte place of a change.
-    fn place(&self) -> Option<usize>
+    /// The byte place of a change.
+    pub(crate) fn place(&self) -> Option<usize>
         ensures { result ≡ place (entry_of self.now) }
     {
         match self {
@@ -145,9 +145,9 @@ impl Change {
         }
     }
 
-    // The text at the place that goes on this way, and the one that comes. Inlined, so that the way is known when it is compiled.
+    /// The text at the place that goes on this way, and the one that comes. Inlined, so that the way is known when it is compiled.
     #[inline(always)]
-    fn texts(&self, way: Way) -> (&str, &str)
+    pub(crate) fn texts(&self, way: Way) -> (&str, &str)
         ensures going { result.0.now ≡ new_text (faced way self.now) }
         ensures coming { result.1.now ≡ old_text (faced way self.now) }
         ensures utf8 { IsUtf8 result.1.now }
@@ -164,8 +164,8 @@ impl Change {
         }
     }
 
-    // Where the cursor goes this way, if it was told.
-    fn cursor_over(&self, way: Way) -> Option<usize>
+    /// Where the cursor goes this way, if it was told.
+    pub(crate) fn cursor_over(&self, way: Way) -> Option<usize>
         ensures { result ≡ cursor_told (inverse (faced way self.now)) }
     {
         let (before, after) = self.cursors()?;

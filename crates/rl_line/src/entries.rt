@@ -1,6 +1,6 @@
 //! A list of entries, of which the first are recorded, and those behind them were undone: what an event makes of it, and which
 //! of them an undo or a redo goes over. A function that records drops what was undone, and refused it leaves every entry.
-ghost use Rattle.std.specs.Prelude.{◌≡◌, ◌+◌, ◌^◌, ◌≤◌, ◌<◌, [], ◌∷◌, ◌++◌, length, map, take, drop, true, false, IfOk, IfErr, OnOk, OnErr};
+ghost use Rattle.std.specs.Prelude.{◌≡◌, ◌+◌, ◌^◌, ◌≤◌, ◌<◌, [], ◌∷◌, ◌++◌, length, map, take, drop, true, false, IfOk, IfErr, IfSome, OnOk, OnErr};
 ghost use Rattle.std.specs.Option.{option_map};
 ghost use Rattle.std.specs.String.{string_bytes};
 ghost use Rattle.std.specs.Vec.{vec_len, vec_capacity};
@@ -9,7 +9,7 @@ ghost use Rattle.rl_base.specs.Text.{HasText};
 ghost use Rattle.rl_base.specs.declared.listeners.Direction.TheVariants.{Forward};
 ghost use Rattle.rl_base.specs.declared.listeners.Refusal.TheVariants.{NoMemory};
 ghost use Rattle.rl_line.specs.Record.{entries_after, entries_told, entry_of, freshness_of, last_insert};
-ghost use Rattle.rl_line.specs.Units.{IsMatched, adds_end, end_one, end_times, ends_in_begin, has_change, last_of, level, redo_of};
+ghost use Rattle.rl_line.specs.Units.{IsMatched, adds_end, end_one, end_times, ends_in_begin, has_change, is_change, last_of, level, redo_of};
 ghost use Rattle.rl_line.specs.Entries.{JoinsLast, deep};
 
 use crate::change::{Change, Freshness, Texts, copied};
@@ -340,6 +340,28 @@ fn ends_in_begin(entries: &[Change]) -> bool
         Some(last) => last.is_begin(),
         None => false,
     }
+}
+
+/// The change that the last `n` units are, or the last one where `n` is 0, if they are one change alone.
+#[inline(always)]
+pub(crate) fn last_alone(entries: &[Change], n: RepeatCount) -> Option<&Change>
+    ensures { IfSome result (λ change. (is_change (entry_of change.now) ≡ true) × (last_of n (map entry_of entries.now) ≡ entry_of change.now ∷ [])) }
+{
+    if n > 1 {
+        return None;
+    }
+    let last = entries.last()?;
+    if last.is_change() { Some(last) } else { None }
+}
+
+/// The change that the unit is which is redone next, of undone entries, if it is one change alone.
+#[inline(always)]
+pub(crate) fn next_alone(entries: &[Change]) -> Option<&Change>
+    requires { IsMatched (map entry_of entries.now) }
+    ensures { IfSome result (λ change. (is_change (entry_of change.now) ≡ true) × (redo_of (map entry_of entries.now) ≡ entry_of change.now ∷ [])) }
+{
+    let next = entries.first()?;
+    if next.is_change() { Some(next) } else { None }
 }
 
 /// How many entries the last `n` units have, or the last one where `n` is 0.

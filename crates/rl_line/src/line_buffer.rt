@@ -1,5 +1,5 @@
 //! The line: its text, its cursor, and the few steps through which every change of its text goes.
-ghost use Rattle.std.specs.Prelude.{◌≡◌, ℕ, List, [], ◌∷◌, ◌+◌, ◌^◌, ◌<◌, ◌≤◌, ◌↔◌, false, map, length, slice_range, encode_utf8, Any, IsTrue, IsSome, Some, IfOk, IfErr, OnOk, OnErr};
+ghost use Rattle.std.specs.Prelude.{◌≡◌, ℕ, List, [], ◌∷◌, ◌+◌, ◌^◌, ◌<◌, ◌≤◌, ◌↔◌, true, false, map, length, slice_range, encode_utf8, Any, IsTrue, IsSome, Some, IfOk, IfErr, OnOk, OnErr};
 ghost use Rattle.std.specs.Str.{IsCharBoundary, IsUtf8};
 ghost use Rattle.std.specs.String.{string_bytes};
 ghost use Rattle.std.specs.List.{insert_slice, remove_range, replace_range};
@@ -9,6 +9,8 @@ ghost use Rattle.rl_line.specs.Line.{Line, NeedsRoom, stepped};
 ghost use Rattle.rl_line.specs.Plan.{Step, Taken, after, events_of, or_no_memory};
 ghost use Rattle.rl_line.specs.Undo.{line_back, texts_back};
 ghost use Rattle.rl_line.specs.Change.{faced, order};
+ghost use Rattle.rl_line.specs.Record.{entry_of};
+ghost use Rattle.rl_line.specs.Units.{is_change};
 
 mod edits;
 mod indents;
@@ -300,6 +302,29 @@ impl LineBuffer {
             cursor,
             listener,
         )?;
+        Ok(())
+    }
+
+    // Goes over one change alone, as `go_over_all` does over several. Inlined, so that undo and redo each know their way when they
+    // are compiled.
+    #[inline(always)]
+    pub(crate) fn go_over_one(&mut self, change: &Change, way: Way) -> Result<(), Refusal>
+        requires change { is_change (entry_of change.now) ≡ true }
+        requires fits { IsSome (line_back (faced way change.now ∷ []) self.old) }
+        ensures ok { OnOk result (line_back (faced way change.now ∷ []) self.old ≡ Some self.new) }
+        ensures err { IfErr result (λ r. (r ≡ NoMemory) × (self.new ≡ self.old) × Any (NeedsRoom self.old.text) (texts_back (faced way change.now ∷ []) self.old.text)) }
+    {
+        // So the proof knows that this is UTF-8.
+        let _text = self.buf.as_str();
+        let Some(at) = change.place() else {
+            unreachable!();
+        };
+        let (going, coming) = change.texts(way);
+        let to = at + going.len();
+        find_room_instead(&mut self.buf, &mut self.starts, at, to, coming)?;
+        let behind = swap_in(&mut self.buf, &mut self.starts, at, to, coming);
+        self.pos = change.cursor_over(way).unwrap_or(behind);
+        self.limit = self.limit.max(self.buf.len());
         Ok(())
     }
 

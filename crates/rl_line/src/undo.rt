@@ -167,6 +167,23 @@ impl Changeset {
         ensures unmoved { IfOk result (λ answer. answer ≡ false → (line.new.text ≡ line.old.text) × (line.new.cursor ≡ line.old.cursor)) }
         ensures err { IfErr result (λ r. (r ≡ NoMemory) × (self.new ≡ self.old) × (line.new ≡ line.old) × Any (NeedsRoom line.old.text) (texts_back (last_of n self.old.recorded) line.old.text)) }
     {
+        if let Some(change) = entries::last_alone(&self.entries[..self.recorded], n) {
+            line.go_over_one(change, Way::Back)?;
+            self.recorded -= 1;
+            self.fresh = Freshness::Stale;
+            return Ok(true);
+        }
+        self.undo_units(line, n)
+    }
+
+    // The same of any units.
+    #[inline(never)]
+    fn undo_units(&mut self, line: &mut LineBuffer, n: RepeatCount) -> Result<bool, Refusal>
+        requires { IsSome (line_back self.old.recorded line.old) }
+        ensures done { IfOk result (λ answer. Undone n self.old self.new line.old line.new answer) }
+        ensures unmoved { IfOk result (λ answer. answer ≡ false → (line.new.text ≡ line.old.text) × (line.new.cursor ≡ line.old.cursor)) }
+        ensures err { IfErr result (λ r. (r ≡ NoMemory) × (self.new ≡ self.old) × (line.new ≡ line.old) × Any (NeedsRoom line.old.text) (texts_back (last_of n self.old.recorded) line.old.text)) }
+    {
         let count = entries::last_len(&self.entries[..self.recorded], n);
         let first = self.recorded - count;
         let unit = &self.entries[first..self.recorded];
@@ -185,6 +202,23 @@ impl Changeset {
     /// `can_redo` tells whether the undone changes fit the line. It finds all room first, so refused it changes
     /// nothing.
     pub fn redo(&mut self, line: &mut LineBuffer) -> Result<bool, Refusal>
+        requires { IsSome (line_ahead self.old.pending line.old) }
+        ensures done { IfOk result (λ answer. Redone self.old self.new line.old line.new answer) }
+        ensures unmoved { IfOk result (λ answer. answer ≡ false → (line.new.text ≡ line.old.text) × (line.new.cursor ≡ line.old.cursor)) }
+        ensures err { IfErr result (λ r. (r ≡ NoMemory) × (self.new ≡ self.old) × (line.new ≡ line.old) × Any (NeedsRoom line.old.text) (texts_ahead (redo_of self.old.pending) line.old.text)) }
+    {
+        if let Some(change) = entries::next_alone(&self.entries[self.recorded..]) {
+            line.go_over_one(change, Way::Ahead)?;
+            self.recorded += 1;
+            self.fresh = Freshness::Stale;
+            return Ok(true);
+        }
+        self.redo_unit(line)
+    }
+
+    // The same of any unit.
+    #[inline(never)]
+    fn redo_unit(&mut self, line: &mut LineBuffer) -> Result<bool, Refusal>
         requires { IsSome (line_ahead self.old.pending line.old) }
         ensures done { IfOk result (λ answer. Redone self.old self.new line.old line.new answer) }
         ensures unmoved { IfOk result (λ answer. answer ≡ false → (line.new.text ≡ line.old.text) × (line.new.cursor ≡ line.old.cursor)) }

@@ -1,16 +1,18 @@
-use Rattle.std.proofs.Common.{arith, rules, ◌⊎◌, ◌≡◌, ◌+◌, ◌-◌, ◌<◌, ◌≤◌, ℕ, List, [], length, map, drop, count_by, vec_len, vec_capacity, refl, sym, ap, subst, ◌∙◌}
+use Rattle.std.proofs.Common.{arith, rules, ◌⊎◌, ◌≡◌, ◌+◌, ◌-◌, ◌<◌, ◌≤◌, ℕ, List, [], ◌∷◌, length, map, drop, count_by, vec_len, vec_capacity, refl, sym, ap, subst, ◌∙◌}
 use Rattle.std.specs.Str.{IsCharBoundary, IsUtf8}
 use Rattle.std.specs.String.{string_bytes, string_len}
 use Rattle.rl_base.specs.Lines.{is_newline}
 use Rattle.rl_line.specs.LineStarts.{line_starts}
 use Rattle.rl_line.specs.Line.{Line}
+use Rattle.rl_line.specs.Undo.{line_back}
+use Rattle.std.specs.Prelude.{IsSome}
 use Rattle.rl_line.specs.declared.change.Measure.{Measure}
 use Rattle.rl_line.specs.declared.change.Measure.TheVariants.{Bytes, Newlines}
 use Rattle.rl_line.specs.Change.{faced, size_back, size_back_over, greatest_back_over, order}
 use Rattle.std.proofs.lemmas.List.{drop-map, drop_all}
 use Rattle.rl_line.proofs.ChangeLemmas.{length-order}
 use Rattle.rl_line.proofs.LineStartLemmas.{length-line_starts}
-use Rattle.rl_line.proofs.UndoLemmas.{IsBack, IsBack-none, IsBack-fits, IsBack-next, IsBack-stands, entries_from, size_back_over-within}
+use Rattle.rl_line.proofs.UndoLemmas.{IsBack, IsBack-none, IsBack-fits, IsBack-next, entries_from, one-fits, one-stands, size_back_over-within}
 use Rattle.std.proofs.lemmas.Result.{err_from_is_err_and}
 use Rattle.rl_line.proofs.RoomLemmas.{NeedsRoom-line}
 use Rattle.rl_line.proofs.line_buffer.LineBuffer.go_over_all.Goals as goal
@@ -48,15 +50,16 @@ fits k n now room c e h =
     let same = ap (λ es. size_back_over k es n) (drop-map (faced c.args.way) m (order c.args.way c.args.changes.now)) in
     omega (arith, size k n now c e, within, same, h)
 
+follows : (c : After-nth_on) → IsSome (line_back (faced c.args.way c.nth_on.result.now ∷ []) (now c))
+follows c = IsBack-fits c.args.way (order c.args.way c.args.changes.now) (c.loop-left.left - 1) c.nth_on.result.now c.args.self.now (now c) (inside c) c.nth_on.ensures (back c)
+
 pub go_over-self-inside-requires-clause-fits : goal.go_over-self-inside-requires-clause-fits
 go_over-self-inside-requires-clause-fits c =
-    let d = (goal.at.go_over-self-inside-requires-clause-fits c).After-nth_on in
-    IsBack-fits c.args.way (order c.args.way c.args.changes.now) (c.loop-left.left - 1) c.nth_on.result.now c.args.self.now (now d) (inside d) c.nth_on.ensures (back d)
+    let d = (goal.at.go_over-self-inside-requires-clause-fits c).After-nth_on in one-fits (faced c.args.way c.nth_on.result.now) (now d) (follows d)
 
 pub go_over-self-inside-requires-clause-stands : goal.go_over-self-inside-requires-clause-stands
 go_over-self-inside-requires-clause-stands c =
-    let d = (goal.at.go_over-self-inside-requires-clause-stands c).After-nth_on in
-    IsBack-stands c.args.way (order c.args.way c.args.changes.now) (c.loop-left.left - 1) c.nth_on.result.now c.args.self.now (now d) (inside d) c.nth_on.ensures (back d)
+    let d = (goal.at.go_over-self-inside-requires-clause-stands c).After-nth_on in one-stands (faced c.args.way c.nth_on.result.now) (now d) (follows d)
 
 pub go_over-self-inside-requires-clause-room : goal.go_over-self-inside-requires-clause-room
 go_over-self-inside-requires-clause-room c =
