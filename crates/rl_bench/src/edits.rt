@@ -1,6 +1,6 @@
 //! Edits that a ring and a record hear, timed.
 use crate::stop::Stop;
-use crate::texts::{number_of, text_of};
+use crate::texts::{LINE, number_of};
 use crate::workloads::Edit;
 use rl_base::{At, KillRing, Movement, NoListener, Refusal, Word};
 use rl_line::{Changeset, LineBuffer};
@@ -11,6 +11,11 @@ use std::time::{Duration, Instant};
 // As many texts as a session's ring has.
 const RING_SIZE: usize = 60;
 
+fn kill_ahead(line: &mut LineBuffer, pair: &mut Pair) -> Result<(), Refusal> {
+    let _ = line.kill(&Movement::ForwardWord(1, At::AfterEnd, Word::Emacs), pair)?;
+    Ok(())
+}
+
 // Edits, for the `i`-th time.
 fn edits(line: &mut LineBuffer, pair: &mut Pair, edit: Edit, i: usize) -> Result<(), Refusal> {
     match edit {
@@ -20,12 +25,18 @@ fn edits(line: &mut LineBuffer, pair: &mut Pair, edit: Edit, i: usize) -> Result
         Edit::Dot => {
             let _ = line.insert('.', 1, pair)?;
         }
+        Edit::Prose => {
+            let c = char::from(LINE.as_bytes()[i % LINE.len()]);
+            let _ = line.insert(c, 1, pair)?;
+        }
         Edit::Backspace => {
             let _ = line.backspace(1, pair)?;
         }
-        Edit::KillBoth if i % 2 == 0 => {
-            let _ = line.kill(&Movement::ForwardWord(1, At::AfterEnd, Word::Emacs), pair)?;
+        Edit::KillAhead => {
+            pair.ring.reset();
+            kill_ahead(line, pair)?;
         }
+        Edit::KillBoth if i % 2 == 0 => kill_ahead(line, pair)?,
         Edit::KillBack | Edit::KillBoth => {
             let _ = line.kill(&Movement::BackwardWord(1, Word::Emacs), pair)?;
         }
@@ -45,18 +56,17 @@ fn edits_often(
     Ok(())
 }
 
-// A line with a text of `size` bytes, the cursor in its middle or at its end, and there what the edits are to take.
+// A line that holds a text, the cursor in its middle or at its end, and there what the edits are to take.
 fn line_for(
     alloc: Global,
     edit: Edit,
+    text: &str,
     in_middle: bool,
     count: usize,
-    size: usize,
 ) -> Result<LineBuffer, Stop> {
-    let text = text_of(alloc, size)?;
-    let mut line = LineBuffer::with_capacity(alloc, size)?.can_growth(true);
-    let _ = line.yank(text.as_str(), 1, &mut NoListener)?;
-    let middle = size / 2;
+    let mut line = LineBuffer::with_capacity(alloc, text.len())?.can_growth(true);
+    let _ = line.yank(text, 1, &mut NoListener)?;
+    let middle = text.len() / 2;
     if in_middle && line.as_str().is_char_boundary(middle) {
         line.set_pos(middle);
     }
@@ -68,15 +78,15 @@ fn line_for(
     Ok(line)
 }
 
-/// Times the edit in a text of `size` bytes, and tells the state at the end: the text's, the cursor's and the ring's.
+/// Times the edit at the end or in the middle of a text, and tells the state at the end: the text's, the cursor's and the ring's.
 pub fn time_edit(
     rt: &HostRuntime,
     edit: Edit,
+    text: &str,
     in_middle: bool,
     count: usize,
-    size: usize,
 ) -> Result<(Duration, u64), Stop> {
-    let mut line = line_for(rt.alloc(), edit, in_middle, count, size)?;
+    let mut line = line_for(rt.alloc(), edit, text, in_middle, count)?;
     let mut pair = Pair {
         ring: KillRing::new(rt.alloc(), RING_SIZE),
         changes: Changeset::new(rt.alloc()),

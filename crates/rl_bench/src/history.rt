@@ -1,21 +1,14 @@
 //! Undos and redos of a session, timed.
+use crate::sessions::{applies_often, session_of};
 use crate::stop::Stop;
-use crate::texts::{number_of, text_of};
-use rl_base::{GraphemeClusterMode, Movement, Word};
+use crate::texts::number_of;
+use crate::workloads::Edits;
+use rl_base::{Movement, Word};
 use rl_session::{Command, Session};
 use std::time::{Duration, Instant};
 
-// As many texts as a session's ring has.
-const RING_SIZE: usize = 60;
-
 // Far enough from one place to the next that changes there do not join.
 const STRIDE: usize = 7919;
-
-fn applies_often(session: &mut Session, command: &Command, count: usize) {
-    for _ in 0..count {
-        let _ = session.apply(command);
-    }
-}
 
 // Changes the text here and there, by turns with a character, a deletion, a kill of a word and a yank of that, so that it
 // stays about as long as it is.
@@ -37,20 +30,22 @@ fn changes_here_and_there(session: &mut Session, count: usize) {
 /// Times undos of so many changes, or redos of them, in a text of `size` bytes, and tells the state at the end.
 pub fn time_history(
     rt: &HostRuntime,
-    is_mixed: bool,
+    edits: Edits,
     is_redo: bool,
     count: usize,
     size: usize,
 ) -> Result<(Duration, u64), Stop> {
-    let text = text_of(rt.alloc(), size)?;
-    let limit = size.saturating_add(count);
-    let text = text.as_str();
-    let mode = GraphemeClusterMode::Unicode;
-    let mut session = Session::new(rt.alloc(), text, text.len(), limit, RING_SIZE, mode)?;
-    if is_mixed {
-        changes_here_and_there(&mut session, count);
-    } else {
-        applies_often(&mut session, &Command::Insert('.', 1), count);
+    let mut session = session_of(rt, size, count.saturating_mul(2))?;
+    match edits {
+        Edits::AtEnd => applies_often(&mut session, &Command::Insert('.', 1), count),
+        Edits::InMiddle => {
+            let _ = session.apply(&Command::SetPos(size / 2));
+            for _ in 0..count {
+                let _ = session.apply(&Command::Insert(' ', 1));
+                let _ = session.apply(&Command::Insert('a', 1));
+            }
+        }
+        Edits::Mixed => changes_here_and_there(&mut session, count),
     }
     if is_redo {
         applies_often(&mut session, &Command::Undo(1), count);

@@ -6,6 +6,7 @@
 mod edits;
 mod history;
 mod motions;
+mod sessions;
 mod stop;
 mod texts;
 mod widths;
@@ -17,10 +18,12 @@ ghost use Rattle.std.specs.Process.{exit_status};
 use edits::time_edit;
 use history::time_history;
 use motions::time_motion;
+use sessions::{time_letters, time_yanks};
 use std::env;
 use std::process::ExitCode;
 use std::time::Duration;
 use stop::Stop;
+use texts::{LINE, SHORT_LINE, text_of};
 use widths::time_width;
 use workloads::{WORKLOADS, Workload, workload_of};
 
@@ -32,12 +35,22 @@ fn time(
 ) -> Result<(Duration, u64), Stop> {
     match workload {
         Workload::Motion(motion) => time_motion(rt, motion, count, size),
-        Workload::AtEnd(edit) => time_edit(rt, edit, false, count, size),
-        Workload::InMiddle(edit) => time_edit(rt, edit, true, count, size),
-        Workload::UndoAtEnd => time_history(rt, false, false, count, size),
-        Workload::UndoMixed => time_history(rt, true, false, count, size),
-        Workload::RedoAtEnd => time_history(rt, false, true, count, size),
-        Workload::RedoMixed => time_history(rt, true, true, count, size),
+        Workload::AtEnd(edit) => {
+            let text = text_of(rt.alloc(), LINE, size)?;
+            time_edit(rt, edit, text.as_str(), false, count)
+        }
+        Workload::InMiddle(edit) => {
+            let text = text_of(rt.alloc(), LINE, size)?;
+            time_edit(rt, edit, text.as_str(), true, count)
+        }
+        Workload::InShortLines(edit) => {
+            let text = text_of(rt.alloc(), SHORT_LINE, size)?;
+            time_edit(rt, edit, text.as_str(), true, count)
+        }
+        Workload::BySession => time_letters(rt, count, size),
+        Workload::Yank => time_yanks(rt, count, size),
+        Workload::Undo(place) => time_history(rt, place, false, count, size),
+        Workload::Redo(place) => time_history(rt, place, true, count, size),
         Workload::Width => time_width(rt, count, size),
     }
 }

@@ -1,6 +1,6 @@
 //! Motions, timed.
 use crate::stop::Stop;
-use crate::texts::{number_of, text_of};
+use crate::texts::{LINE, number_of, text_of};
 use crate::workloads::Motion;
 use rl_base::{At, GraphemeClusterMode, Layout, NoListener};
 use rl_line::LineBuffer;
@@ -53,7 +53,7 @@ pub fn time_motion(
     count: usize,
     size: usize,
 ) -> Result<(Duration, u64), Stop> {
-    let text = text_of(rt.alloc(), size)?;
+    let text = text_of(rt.alloc(), LINE, size)?;
     let mut line = LineBuffer::with_capacity(rt.alloc(), size)?;
     let _ = line.yank(text.as_str(), 1, &mut NoListener)?;
     let layout = Layout::new(GraphemeClusterMode::Unicode);

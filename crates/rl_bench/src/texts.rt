@@ -2,12 +2,15 @@
 use crate::stop::Stop;
 use std::alloc::Global;
 
-// A line of 64 bytes with words of each sense.
-const LINE: &str = "the quick_brown fox, jumps over 13 lazy dogs; and again -- over\n";
+/// A line of 64 bytes with words of each sense.
+pub const LINE: &str = "the quick_brown fox, jumps over 13 lazy dogs; and again -- over\n";
+
+/// A line of 10 bytes.
+pub const SHORT_LINE: &str = "abcdefghi\n";
 
 /// A text of `size` bytes: the same line over and over, the last one cut.
-pub fn text_of(alloc: Global, size: usize) -> Result<String, Stop> {
-    let mut text = LINE.repeat(alloc, size / LINE.len() + 1)?;
+pub fn text_of(alloc: Global, line: &str, size: usize) -> Result<String, Stop> {
+    let mut text = line.repeat(alloc, size / line.len().max(1) + 1)?;
     if text.is_char_boundary(size) {
         text.truncate(size);
     }

@@ -24,11 +24,24 @@ pub enum Edit {
     Letter,
     /// A character that has an entry of its own.
     Dot,
+    /// The characters of a line in order, over and over: words, blanks and signs.
+    Prose,
     /// A cluster before the cursor.
     Backspace,
-    /// The word before the cursor, and the one before the cursor and the one ahead by turns.
+    /// The word before the cursor, the one ahead, and both by turns.
     KillBack,
+    KillAhead,
     KillBoth,
+}
+
+/// Where the edits are made that are undone.
+#[derive(Clone, Copy)]
+pub enum Edits {
+    /// Characters at the end of the text, or blanks with a letter each in its middle.
+    AtEnd,
+    InMiddle,
+    /// Edits of several kinds all over the text.
+    Mixed,
 }
 
 /// A workload: which calls are made, and from where.
@@ -36,14 +49,17 @@ pub enum Edit {
 pub enum Workload {
     /// Motions, which begin again at the other end where there is nowhere to go.
     Motion(Motion),
-    /// Edits at the end of the text, or in its middle.
+    /// Edits at the end of the text, in its middle, or in the middle of a text of short lines.
     AtEnd(Edit),
     InMiddle(Edit),
-    /// Undos of as many edits, each with an entry of its own, at the end of the text or all over it; redos of them.
-    UndoAtEnd,
-    UndoMixed,
-    RedoAtEnd,
-    RedoMixed,
+    InShortLines(Edit),
+    /// A letter at the end, by a session.
+    BySession,
+    /// Yanks of a text as long as the line, by a session.
+    Yank,
+    /// Undos of as many edits, each with an entry of its own; redos of them.
+    Undo(Edits),
+    Redo(Edits),
     /// The width of the text.
     Width,
 }
@@ -52,12 +68,17 @@ pub enum Workload {
 pub const WORKLOADS: &[(&str, Workload)] = &[
     ("type_end", Workload::AtEnd(Edit::Letter)),
     ("type_middle", Workload::InMiddle(Edit::Letter)),
+    ("type_short_lines", Workload::InShortLines(Edit::Letter)),
+    ("type_session", Workload::BySession),
+    ("prose_end", Workload::AtEnd(Edit::Prose)),
     ("entry_end", Workload::AtEnd(Edit::Dot)),
     ("entry_middle", Workload::InMiddle(Edit::Dot)),
     ("backspace_end", Workload::AtEnd(Edit::Backspace)),
     ("backspace_middle", Workload::InMiddle(Edit::Backspace)),
     ("kill_back", Workload::AtEnd(Edit::KillBack)),
+    ("kill_ahead", Workload::InMiddle(Edit::KillAhead)),
     ("kill_both", Workload::InMiddle(Edit::KillBoth)),
+    ("yank", Workload::Yank),
     (
         "word_ahead_big",
         Workload::Motion(Motion::WordAhead(Word::Big)),
@@ -86,10 +107,11 @@ pub const WORKLOADS: &[(&str, Workload)] = &[
     ("up_100", Workload::Motion(Motion::Up(100))),
     ("down_1", Workload::Motion(Motion::Down(1))),
     ("down_100", Workload::Motion(Motion::Down(100))),
-    ("undo_end", Workload::UndoAtEnd),
-    ("redo_end", Workload::RedoAtEnd),
-    ("undo_mixed", Workload::UndoMixed),
-    ("redo_mixed", Workload::RedoMixed),
+    ("undo_end", Workload::Undo(Edits::AtEnd)),
+    ("redo_end", Workload::Redo(Edits::AtEnd)),
+    ("undo_middle", Workload::Undo(Edits::InMiddle)),
+    ("undo_mixed", Workload::Undo(Edits::Mixed)),
+    ("redo_mixed", Workload::Redo(Edits::Mixed)),
     ("width", Workload::Width),
 ];
 

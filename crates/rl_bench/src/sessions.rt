@@ -1,0 +1,56 @@
+//! A session's letters and yanks, timed.
+use crate::stop::Stop;
+use crate::texts::{LINE, number_of, text_of};
+use rl_base::{GraphemeClusterMode, Movement};
+use rl_session::{Command, Session};
+use std::time::{Duration, Instant};
+
+// As many texts as a session's ring has.
+const RING_SIZE: usize = 60;
+
+/// A session on a text of `size` bytes, with the cursor at its end, and room for `more` bytes.
+pub fn session_of(rt: &HostRuntime, size: usize, more: usize) -> Result<Session, Stop> {
+    let text = text_of(rt.alloc(), LINE, size)?;
+    let text = text.as_str();
+    Ok(Session::new(
+        rt.alloc(),
+        text,
+        text.len(),
+        size.saturating_add(more),
+        RING_SIZE,
+        GraphemeClusterMode::Unicode,
+    )?)
+}
+
+/// Applies the command so many times.
+pub fn applies_often(session: &mut Session, command: &Command, count: usize) {
+    for _ in 0..count {
+        let _ = session.apply(command);
+    }
+}
+
+/// Times letters typed at the end of a text of `size` bytes, and tells the state at the end.
+pub fn time_letters(rt: &HostRuntime, count: usize, size: usize) -> Result<(Duration, u64), Stop> {
+    let mut session = session_of(rt, size, count)?;
+    let start = Instant::now(rt)?;
+    applies_often(&mut session, &Command::Insert('a', 1), count);
+    let time = start.elapsed(rt)?;
+    let line = session.line();
+    Ok((time, number_of(line.as_str(), line.pos())))
+}
+
+/// Times yanks of a text of `size` bytes after that text itself, which are each undone, and tells the state at the end.
+pub fn time_yanks(rt: &HostRuntime, count: usize, size: usize) -> Result<(Duration, u64), Stop> {
+    let mut session = session_of(rt, size, size)?;
+    let _ = session.apply(&Command::Kill(Movement::WholeBuffer));
+    applies_often(&mut session, &Command::Yank(1), 2);
+    let mut time = Duration::ZERO;
+    for _ in 0..count {
+        let _ = session.apply(&Command::Undo(1));
+        let start = Instant::now(rt)?;
+        let _ = session.apply(&Command::Yank(1));
+        time += start.elapsed(rt)?;
+    }
+    let line = session.line();
+    Ok((time, number_of(line.as_str(), line.pos())))
+}
