@@ -49,7 +49,7 @@ pub fn time_yanks(rt: &HostRuntime, count: usize, size: usize) -> Result<(Durati
         let _ = session.apply(&Command::Undo(1));
         let start = Instant::now(rt)?;
         let _ = session.apply(&Command::Yank(1));
-        time += start.elapsed(rt)?;
+        time = time.saturating_add(start.elapsed(rt)?);
     }
     let line = session.line();
     Ok((time, number_of(line.as_str(), line.pos())))

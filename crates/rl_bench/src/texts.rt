@@ -10,7 +10,8 @@ pub const SHORT_LINE: &str = "abcdefghi\n";
 
 /// A text of `size` bytes: the same line over and over, the last one cut.
 pub fn text_of(alloc: Global, line: &str, size: usize) -> Result<String, Stop> {
-    let mut text = line.repeat(alloc, size / line.len().max(1) + 1)?;
+    let lines = (size / line.len().max(1)).saturating_add(1);
+    let mut text = line.repeat(alloc, lines)?;
     if text.is_char_boundary(size) {
         text.truncate(size);
     }
