@@ -176,7 +176,7 @@ impl Changeset {
         self.undo_units(line, n)
     }
 
-    // The same of any units.
+    // Undoes any units. It stands apart, since mostly one change alone is undone.
     #[inline(never)]
     fn undo_units(&mut self, line: &mut LineBuffer, n: RepeatCount) -> Result<bool, Refusal>
         requires { IsSome (line_back self.old.recorded line.old) }
@@ -216,7 +216,7 @@ impl Changeset {
         self.redo_unit(line)
     }
 
-    // The same of any unit.
+    // Redoes any unit, apart as well.
     #[inline(never)]
     fn redo_unit(&mut self, line: &mut LineBuffer) -> Result<bool, Refusal>
         requires { IsSome (line_ahead self.old.pending line.old) }
