@@ -1,7 +1,8 @@
 -- What the table of line starts says of the lines of its text.
-use Rattle.std.proofs.Common.{◌≡◌, ℕ, zero, suc, ◌+◌, ◌-◌, ◌<◌, ◌≤◌, Bool, true, false, cond, List, [], ◌∷◌, ◌++◌, length, get_or, take, drop, min, All, refl, sym, ap, subst, ◌∙◌, arith, count_by, eqb, eqb-true, ne_eqb, leb, leb-true, leb-false, le-leb, le_refl, length-append, ⊎_elim, Some, None, ap₂}
-use Rattle.std.proofs.lemmas.Bool.{cases_lt}
-use Rattle.std.proofs.lemmas.List.{length-take-le, get_or_append_left, get_or-append_right}
+use Rattle.std.proofs.Common.{◌≡◌, ℕ, zero, suc, ◌+◌, ◌-◌, ◌<◌, ◌≤◌, Bool, true, false, cond, List, [], ◌∷◌, ◌++◌, length, get_or, take, drop, min, All, refl, sym, ap, subst, ◌∙◌, arith, count_by, eqb, eqb-true, ne_eqb, leb, ltb, le_refl, length-append, slice_range, ⊎_elim, Some, None, ap₂}
+use Rattle.std.proofs.lemmas.Bool.{both_ways, cases_lt, le-leb, lt-leb, le-ltb, lt-ltb}
+use Rattle.std.proofs.lemmas.List.{length-take-le, get_or_append_left, get_or-append_right, get_or-take, get_or_default}
+use Rattle.std.proofs.lemmas.List.Edits.{length-between, get_or-between}
 use Rattle.std.proofs.lemmas.List.Elements.{All-nil, All-cons, All-get_or, All-weaker}
 use Rattle.std.proofs.lemmas.Str.{IsCharBoundary-before_ascii, IsCharBoundary-after_ascii}
 use Rattle.std.proofs.lemmas.Option.{same_Some, slice_get_past, slice_get-get_or}
@@ -14,8 +15,8 @@ use Rattle.rl_base.specs.Lines.{is_newline, lines, bytes_of, last_line, line_num
 use Rattle.rl_base.proofs.LineLemmas.{count-parts, lines_some, count_of_lines, start-before, start-next, end-last}
 use Rattle.rl_line.specs.Line.{between}
 use Rattle.rl_line.specs.LineRanges.{range_of_line}
-use Rattle.rl_line.specs.LineStarts.{behind_newlines, line_starts}
-use Rattle.rl_line.proofs.LineStartLemmas.{behind_newlines-cons, behind_newlines-within, length-line_starts, parts}
+use Rattle.rl_line.specs.LineStarts.{behind_newlines, line_starts, from_end, IsTable}
+use Rattle.rl_line.proofs.LineStartLemmas.{behind_newlines-cons, behind_newlines-within, length-line_starts, length-table, newlines-take, parts, read-before, read-from, read-within}
 
 -- ---- the places where lines begin: the table, with the start of the text before it
 -- where lines begin, the first of which begins at `from`
@@ -67,11 +68,9 @@ pub record EndsAt (text : List ℕ) (k next : ℕ) : Type 0 where
   pub within : next ≤ length text
   pub newline : get_or text (next - 1) 0 ≡ 10
 
-pub ends_at : (starts text : List ℕ) (k next : ℕ) → starts ≡ line_starts text → k < length starts → next ≡ get_or starts k 0 → EndsAt text k next
-ends_at starts text k next e l read =
-    let is : next ≡ get_or (line_starts text) k 0 = read ∙ ap (λ t. get_or t k 0) e in
-    let some : k < length (line_starts text) = omega (arith, ap length e) in
-    let small : k < last_line text = omega (arith, length-line_starts starts text e) in
+pub ends_at : (text : List ℕ) (k next : ℕ) → k < last_line text → next ≡ get_or (line_starts text) k 0 → EndsAt text k next
+ends_at text k next small is =
+    let some : k < length (line_starts text) = omega (arith, length-line_starts text) in
     let one : suc k ≡ k + 1 = omega arith in
     let start : next ≡ start_of_line text (k + 1) = is ∙ start-from_table text (suc k) (omega (arith, count_of_lines text)) ∙ ap (start_of_line text) one in
     let here : (1 ≤ next) × (next < 1 + length text) =
@@ -83,14 +82,9 @@ ends_at starts text k next e l read =
       newline = (subst (λ s. (1 ≤ s) × (get_or text (s - 1) 0 ≡ 10)) (sym is) (All-get_or (λ s. (1 ≤ s) × (get_or text (s - 1) 0 ≡ 10)) (line_starts text) k 0 some (newline-before 1 text))).1;
     }
 
--- a line but the first begins at a place of the table, and only the last ends at none
-pub in_table : (starts text : List ℕ) (k : ℕ) → starts ≡ line_starts text → k ≤ last_line text → (k ≡ 0 → ⊥) → k - 1 < length starts
-in_table starts text k e within some = omega (arith, length-line_starts starts text e)
-
-pub last-in_table : (starts text : List ℕ) (k : ℕ) → starts ≡ line_starts text → k ≤ last_line text → length starts ≤ k → end_of_line text k ≡ length text
-last-in_table starts text k e within past =
-    let last : k ≡ last_line text = omega (arith, length-line_starts starts text e) in
-    ap (end_of_line text) last ∙ end-last text
+-- only the last line ends at none
+pub last-ends : (text : List ℕ) (k : ℕ) → k ≡ last_line text → end_of_line text k ≡ length text
+last-ends text k last = ap (end_of_line text) last ∙ end-last text
 
 module _ (text : List ℕ) (k next : ℕ) (h : EndsAt text k next) where
   pub EndsAt-stop : IsCharBoundary text (next - 1)
@@ -103,45 +97,122 @@ module _ (text : List ℕ) (k next : ℕ) (h : EndsAt text k next) where
   pub EndsAt-behind : next ≡ min (end_of_line text k + 1) (length text)
   EndsAt-behind = omega (arith, h.stop, h.within)
 
--- ---- the line that a place lies in: where the table passes the place
-module _ (starts text : List ℕ) (pos : ℕ) (e : starts ≡ line_starts text) (within : pos ≤ length text) where
+-- ---- the line that a place lies in: where the starts pass the place
+module _ (text : List ℕ) (pos : ℕ) (within : pos ≤ length text) where
   abbrev front : List ℕ
   front = line_starts (take pos text)
 
   abbrev back : List ℕ
   back = behind_newlines (pos + 1) (drop pos text)
 
-  all : starts ≡ front ++ back
-  all = parts starts text pos (line_number text pos) e within refl
-
   count : length front ≡ line_number text pos
-  count = length-line_starts front (take pos text) refl
+  count = length-line_starts (take pos text)
 
-  in_front : (i d : ℕ) → i < length front → get_or starts i d ≤ pos
-  in_front i d l =
-      let at : get_or starts i d ≡ get_or front i d = ap (λ t. get_or t i d) all ∙ get_or_append_left front back d i l in
-      omega (arith, at, length-take-le pos text within, All-get_or (λ s. (1 ≤ s) × (s < 1 + length (take pos text))) front i d l (behind_newlines-within 1 (take pos text)))
+  total : length (line_starts text) ≡ length front + length back
+  total = ap length (parts text pos within) ∙ length-append front back
 
-  in_back : (i d : ℕ) → length front ≤ i → i < length starts → pos < get_or starts i d
-  in_back i d past l =
+  pub started : (k : ℕ) → k < line_number text pos → get_or (line_starts text) k 0 ≤ pos
+  started k less =
+      let early : k < length front = omega (arith, count) in
+      let at : get_or (line_starts text) k 0 ≡ get_or front k 0 = ap (λ t. get_or t k 0) (parts text pos within) ∙ get_or_append_left front back 0 k early in
+      omega (arith, at, length-take-le pos text within, All-get_or (λ s. (1 ≤ s) × (s < 1 + length (take pos text))) front k 0 early (behind_newlines-within 1 (take pos text)))
+
+  pub not_started : (k : ℕ) → line_number text pos ≤ k → k < length (line_starts text) → pos < get_or (line_starts text) k 0
+  not_started k past some =
       let P : ℕ → Type 0 = λ s. (pos + 1 ≤ s) × (s < pos + 1 + length (drop pos text)) in
-      let at : get_or starts i d ≡ get_or back (i - length front) d = ap (λ t. get_or t i d) all ∙ get_or-append_right front back (length front) i d refl past in
-      omega (arith, at, All-get_or P back (i - length front) d (omega (arith, ap length all, length-append front back)) (behind_newlines-within (pos + 1) (drop pos text)))
+      let late : length front ≤ k = omega (arith, count) in
+      let at : get_or (line_starts text) k 0 ≡ get_or back (k - length front) 0 = ap (λ t. get_or t k 0) (parts text pos within) ∙ get_or-append_right front back (length front) k 0 refl late in
+      omega (arith, at, All-get_or P back (k - length front) 0 (omega (arith, total, late)) (behind_newlines-within (pos + 1) (drop pos text)))
 
-  pub IsPartitionedBy-starts : IsPartitionedBy (λ s. leb s pos) starts
-  IsPartitionedBy-starts i j d le l passes =
-      let low : get_or starts j d ≤ pos = leb-true _ pos passes in
-      let early : j < length front = ⊎_elim (λ less. less) (λ past. absurd (omega (arith, in_back j d past l))) (cases_lt j (length front)) in
-      le-leb _ pos (in_front i d (omega arith))
+  -- a start is at the place or before it where its number is less than that of the place's line
+  pub leb-started : (k : ℕ) → k < length (line_starts text) → leb (get_or (line_starts text) k 0) pos ≡ leb (k + 1) (line_number text pos)
+  leb-started k some =
+      ⊎_elim (λ less. le-leb _ pos (started k less) ∙ sym (le-leb (k + 1) _ (omega (arith, less))))
+      (λ past. lt-leb _ pos (not_started k past some) ∙ sym (lt-leb (k + 1) _ (omega (arith, past)))) (cases_lt k (line_number text pos))
 
-  pub number-from_table : (k : ℕ) → k ≤ length starts → IsPartitionPoint (λ s. leb s pos ≡ true) (λ s. leb s pos ≡ false) starts k → k ≡ line_number text pos
-  number-from_table k small at =
-      let sum : length starts ≡ length front + length back = ap length all ∙ length-append front back in
-      let not_less : k < length front → k ≡ length front =
-      λ less. absurd (omega (arith, in_front k 0 less, leb-false _ pos (at.1 k 0 (le_refl k) (omega arith)))) in
-      let not_more : length front < k → k ≡ length front =
-      λ more. absurd (omega (arith, in_back (length front) 0 (le_refl _) (omega arith), leb-true _ pos (at.0 (length front) 0 (omega arith) more))) in
-      ⊎_elim not_less (λ a. ⊎_elim not_more (λ b. omega arith) (cases_lt (length front) k)) (cases_lt k (length front)) ∙ count
+  pub ltb-not_started : (k : ℕ) → k < length (line_starts text) → ltb pos (get_or (line_starts text) k 0) ≡ leb (line_number text pos) k
+  ltb-not_started k some =
+      ⊎_elim (λ less. le-ltb pos _ (started k less) ∙ sym (lt-leb _ k less)) (λ past. lt-ltb pos _ (not_started k past some) ∙ sym (le-leb _ k past)) (cases_lt k (line_number text pos))
+
+-- ---- a list whose elements pass a test up to number m
+module _ (test : ℕ → Bool) (xs : List ℕ) (m : ℕ) (some : m ≤ length xs) (low : (i : ℕ) → i < m → test (get_or xs i 0) ≡ true)
+    (high : (i : ℕ) → m ≤ i → i < length xs → test (get_or xs i 0) ≡ false) where
+  pub IsPartitionedBy-at : IsPartitionedBy test xs
+  IsPartitionedBy-at i j d le l passes =
+      let at : (k : ℕ) → k < length xs → test (get_or xs k d) ≡ test (get_or xs k 0) = λ k less. ap test (get_or_default xs k d 0 less) in
+      ⊎_elim (λ less. at i (omega arith) ∙ low i (omega arith)) (λ past. absurd (both_ways _ (high j past l) (sym (at j l) ∙ passes))) (cases_lt j m)
+
+  pub partition_point-is : (k : ℕ) → k ≤ length xs → IsPartitionPoint (λ s. test s ≡ true) (λ s. test s ≡ false) xs k → k ≡ m
+  partition_point-is k small at =
+      let not_less : k < m → k ≡ m = λ less. absurd (both_ways _ (at.1 k 0 (le_refl k) (omega arith)) (low k less)) in
+      let not_more : m < k → k ≡ m = λ more. absurd (both_ways _ (high m (le_refl m) (omega arith)) (at.0 m 0 (omega arith) more)) in
+      ⊎_elim not_less (λ a. ⊎_elim not_more (λ b. omega arith) (cases_lt m k)) (cases_lt k m)
+
+-- ---- the two parts of a table, in which the line of a place is looked up
+module _ (places text : List ℕ) (border pos : ℕ) (h : IsTable places border text) (within : pos ≤ length text) where
+  many : length (line_starts text) ≡ length places
+  many = length-line_starts text ∙ sym (length-table places border text h)
+
+  -- before the border
+  module _ (early : line_number text pos < border) where
+    abbrev start : List ℕ
+    start = take border places
+
+    start-size : length start ≡ border
+    start-size = length-take-le border places h.within
+
+    read : (i : ℕ) → i < border → get_or start i 0 ≡ get_or (line_starts text) i 0
+    read i less = get_or-take border places i 0 less ∙ read-before places text border i h (omega (arith, h.within)) less
+
+    low : (i : ℕ) → i < line_number text pos → leb (get_or start i 0) pos ≡ true
+    low i less = le-leb _ pos (omega (arith, read i (omega arith), started text pos within i less))
+
+    high : (i : ℕ) → line_number text pos ≤ i → i < length start → leb (get_or start i 0) pos ≡ false
+    high i past some =
+        let less : i < border = omega (arith, start-size) in
+        lt-leb _ pos (omega (arith, read i less, not_started text pos within i past (omega (arith, many, h.within))))
+
+    pub IsPartitionedBy-before : IsPartitionedBy (λ s. leb s pos) (take border places)
+    IsPartitionedBy-before = IsPartitionedBy-at (λ s. leb s pos) start (line_number text pos) (omega (arith, start-size)) low high
+
+    pub number-before : (k : ℕ) → k ≤ length (take border places) → IsPartitionPoint (λ s. leb s pos ≡ true) (λ s. leb s pos ≡ false) (take border places) k → k ≡ line_number text pos
+    number-before = partition_point-is (λ s. leb s pos) start (line_number text pos) (omega (arith, start-size)) low high
+
+  -- from it on
+  module _ (late : border ≤ line_number text pos) where
+    abbrev rest : List ℕ
+    rest = slice_range places border (length places)
+
+    rest-size : length rest ≡ length places - border
+    rest-size = length-between places border (length places) (le_refl (length places))
+
+    abbrev left : ℕ
+    left = length text - pos
+
+    abbrev here : ℕ
+    here = line_number text pos - border
+
+    fits : line_number text pos ≤ length places
+    fits = omega (arith, many, length-line_starts text, newlines-take text pos)
+
+    read_rest : (i : ℕ) → i < length rest → get_or rest i 0 ≡ from_end (length text) (get_or (line_starts text) (border + i) 0)
+    read_rest i some =
+        get_or-between places border (length places) i 0 (omega (arith, rest-size)) ∙ read-from places text border (border + i) h (omega (arith, rest-size)) (omega arith)
+
+    low_rest : (i : ℕ) → i < here → leb left (get_or rest i 0) ≡ true
+    low_rest i less = le-leb left _ (omega (arith, read_rest i (omega (arith, rest-size, fits)), started text pos within (border + i) (omega arith)))
+
+    high_rest : (i : ℕ) → here ≤ i → i < length rest → leb left (get_or rest i 0) ≡ false
+    high_rest i past some =
+        let inside : border + i < length places = omega (arith, rest-size) in
+        lt-leb left _ (omega (arith, read_rest i some, not_started text pos within (border + i) (omega arith) (omega (arith, many)), read-within places text border (border + i) h inside))
+
+    pub IsPartitionedBy-from : IsPartitionedBy (λ s. leb (length text - pos) s) (slice_range places border (length places))
+    IsPartitionedBy-from = IsPartitionedBy-at (λ s. leb left s) rest here (omega (arith, rest-size, fits)) low_rest high_rest
+
+    pub number-from : (k : ℕ) → k ≤ length (slice_range places border (length places))
+        → IsPartitionPoint (λ s. leb (length text - pos) s ≡ true) (λ s. leb (length text - pos) s ≡ false) (slice_range places border (length places)) k → border + k ≡ line_number text pos
+    number-from k small at = omega (arith, partition_point-is (λ s. leb left s) rest here (omega (arith, rest-size, fits)) low_rest high_rest k small at)
 
 -- ---- whether a line follows that of a place
 pub none_below : (text : List ℕ) (pos : ℕ) → line_number text pos ≡ last_line text → eqb (count_by is_newline (drop pos text)) 0 ≡ true

@@ -1,16 +1,18 @@
 -- The places right behind the newlines of a text: of two joined, of one moved, how many there are, and where they lie.
 use borrow.Rule.Slice.PartMut.{put_mid, post_of}
-use Rattle.std.proofs.Common.{◌≡◌, ℕ, suc, ◌+◌, ◌-◌, ◌^◌, ◌<◌, ◌≤◌, ◌&&◌, ◌==◌, nat_le, Bool, true, false, cond, List, [], ◌∷◌, ◌++◌, map, filter, length, get_or, set, take, drop, take-add, append_assoc, append-nil, length-append, length-drop, slice_range, All, count_by, refl, sym, ap, ap₂, subst, ◌∙◌, arith, eq-eqb, ne_eqb, ⊎_elim}
-use Rattle.std.proofs.lemmas.Bool.{cases_lt, and_parts, eqb-true, leb-true}
-use Rattle.std.proofs.lemmas.List.{nil_from_length, take-append-drop, length-take-le, get_or-take, get_or-drop, take-take, take-append-le, take_at, take_all, take_more, take_more_set, take-set, drop-drop, drop_at, drop_more, drop-set, drop-set-lt, set_at, map_more}
-use Rattle.std.proofs.lemmas.List.Sums.{sum_by-cons, sum_by-append, count_by_more_yes, count_by_more_no}
-use Rattle.std.proofs.lemmas.List.Elements.{All-nil, All-cons, All-get_or, All-weaker}
+use Rattle.std.proofs.Common.{◌≡◌, ℕ, zero, suc, ◌+◌, ◌-◌, ◌<◌, ◌≤◌, ◌&&◌, ◌==◌, nat_le, Bool, true, false, cond, List, [], ◌∷◌, ◌++◌, map, filter, length, get_or, set, take, drop, take-add, append_assoc, append-nil, length-append, length-drop, slice_range, All, count_by, refl, sym, ap, ap₂, subst, ◌∙◌, arith, eq-eqb, ne_eqb, ⊎_elim}
+use Rattle.std.proofs.lemmas.Bool.{and_parts, eqb-true, leb-true}
+use Rattle.std.proofs.lemmas.List.{nil_from_length, take-append-drop, length-take, length-take-le, length-map, map-append, map_push, get_or-take, get_or-drop, get_or-map, get_or_append_left, get_or_at, get_or-append_right, take-take, take-append-le, take-map, take_at, take_all, drop-drop, drop-map, drop-append-le, drop_at, drop_all, drop_more, set_at}
+use Rattle.std.proofs.lemmas.List.Sums.{sum_by-cons, sum_by-append}
+use Rattle.std.proofs.lemmas.List.Edits.{length-between, take-paste}
+use Rattle.std.proofs.lemmas.List.Elements.{All-nil, All-cons, All-head, All-tail, All-get_or, All-weaker, All-append, All-map, All-take, All-drop}
 use Rattle.std.proofs.lemmas.Slice.{take-put_mid}
 use Rattle.std.proofs.lemmas.Str.{encode_ascii, inside_one}
-use Rattle.std.specs.List.{enumerate_from, replace_range}
+use Rattle.std.specs.List.{enumerate_from, replace_range, copy_within, insert, remove}
 use Rattle.std.specs.Prelude.{encode_utf8}
+use Rattle.memchr.specs.Find.{is_byte, places, places_from}
 use Rattle.rl_base.specs.Lines.{is_newline, line_number}
-use Rattle.rl_line.specs.LineStarts.{behind_newlines, line_starts, shifted, CanShift}
+use Rattle.rl_line.specs.LineStarts.{behind_newlines, line_starts, from_end, starts_from_end, kept_starts, IsTable}
 
 pub behind_newlines-cons : (n b : ℕ) (bs : List ℕ) → behind_newlines n (b ∷ bs) ≡ cond (is_newline b) (n ∷ behind_newlines (n + 1) bs) (behind_newlines (n + 1) bs)
 behind_newlines-cons n b bs = from (is_newline b)
@@ -33,22 +35,22 @@ behind_newlines-append n (b ∷ xs) ys =
     onto true l r = refl
     onto false l r = refl
 
--- a text that moves takes its places along
-pub behind_newlines-shifted : (old new k : ℕ) (xs : List ℕ) → map (shifted old new) (behind_newlines (old + k) xs) ≡ behind_newlines (new + k) xs
-behind_newlines-shifted old new k [] = refl
-behind_newlines-shifted old new k (b ∷ xs) =
-    let here : shifted old new (old + k) ≡ new + k = omega arith in
-    let more : old + k + 1 ≡ old + (k + 1) = omega arith in
-    let there : new + (k + 1) ≡ new + k + 1 = omega arith in
-    let rest = ap (λ n. map (shifted old new) (behind_newlines n xs)) more ∙ behind_newlines-shifted old new (k + 1) xs ∙ ap (λ n. behind_newlines n xs) there in
-    ap (map (shifted old new)) (behind_newlines-cons (old + k) b xs)
-    ∙ onto (is_newline b) (behind_newlines (old + k + 1) xs)
+-- the same places, counted from the end of a text that is longer by as much as they are further on
+from_end-moved : (len c k : ℕ) (xs : List ℕ) → map (from_end (len + c)) (behind_newlines (k + c) xs) ≡ map (from_end len) (behind_newlines k xs)
+from_end-moved len c k [] = refl
+from_end-moved len c k (b ∷ xs) =
+    let here : from_end (len + c) (k + c) ≡ from_end len k = omega arith in
+    let more : k + c + 1 ≡ k + 1 + c = omega arith in
+    let rest = ap (λ n. map (from_end (len + c)) (behind_newlines n xs)) more ∙ from_end-moved len c (k + 1) xs in
+    ap (map (from_end (len + c))) (behind_newlines-cons (k + c) b xs)
+    ∙ map-cond (from_end (len + c)) (is_newline b) (k + c) (behind_newlines (k + c + 1) xs)
     ∙ ap₂ (λ n l. cond (is_newline b) (n ∷ l) l) here rest
-    ∙ sym (behind_newlines-cons (new + k) b xs)
+    ∙ sym (map-cond (from_end len) (is_newline b) k (behind_newlines (k + 1) xs))
+    ∙ sym (ap (map (from_end len)) (behind_newlines-cons k b xs))
   where
-    onto : (is : Bool) (l : List ℕ) → map (shifted old new) (cond is ((old + k) ∷ l) l) ≡ cond is (shifted old new (old + k) ∷ map (shifted old new) l) (map (shifted old new) l)
-    onto true l = refl
-    onto false l = refl
+    map-cond : (f : ℕ → ℕ) (is : Bool) (n : ℕ) (l : List ℕ) → map f (cond is (n ∷ l) l) ≡ cond is (f n ∷ map f l) (map f l)
+    map-cond f true n l = refl
+    map-cond f false n l = refl
 
 pub length-behind_newlines : (n : ℕ) (xs : List ℕ) → length (behind_newlines n xs) ≡ count_by is_newline xs
 length-behind_newlines n [] = refl
@@ -72,8 +74,25 @@ behind_newlines-within n (b ∷ xs) =
     one false l h = h
 
 -- a table has as many places as the text has newlines, and a part of the text has no more
-pub length-line_starts : (starts text : List ℕ) → starts ≡ line_starts text → length starts ≡ count_by is_newline text
-length-line_starts starts text e = ap length e ∙ length-behind_newlines 1 text
+pub length-line_starts : (text : List ℕ) → length (line_starts text) ≡ count_by is_newline text
+length-line_starts text = length-behind_newlines 1 text
+
+pub length-starts_from_end : (text : List ℕ) → length (starts_from_end text) ≡ count_by is_newline text
+length-starts_from_end text = length-map (line_starts text) (from_end (length text)) ∙ length-line_starts text
+
+pub length-kept : (border : ℕ) (text : List ℕ) → length (kept_starts border text) ≡ count_by is_newline text
+length-kept border text =
+    omega (
+      arith,
+      length-append (take border (line_starts text)) (drop border (starts_from_end text)),
+      length-take border (line_starts text),
+      length-drop border (starts_from_end text),
+      length-line_starts text,
+      length-starts_from_end text,
+    )
+
+pub length-table : (places : List ℕ) (border : ℕ) (text : List ℕ) → IsTable places border text → length places ≡ count_by is_newline text
+length-table places border text h = ap length h.kept ∙ length-kept border text
 
 pub newlines-append : (xs ys : List ℕ) → count_by is_newline (xs ++ ys) ≡ count_by is_newline xs + count_by is_newline ys
 newlines-append xs ys = sum_by-append (λ b. cond (is_newline b) 1 0) xs ys
@@ -125,62 +144,161 @@ pub newlines-other : (c : ℕ) → (c ≡ 10 → ⊥) → count_by is_newline (e
 newlines-other c isnt =
     newlines-none (encode_utf8 c) (λ k within is. isnt (inside_one c [] (encode_utf8 c) k (sym (append-nil (encode_utf8 c))) within (omega (arith, is)) ∙ is))
 
--- the table up to a place, and behind it
-module _ (starts text : List ℕ) (pos k : ℕ) (e : starts ≡ line_starts text) (within : pos ≤ length text) (number : k ≡ count_by is_newline (take pos text)) where
-  pub parts : starts ≡ line_starts (take pos text) ++ behind_newlines (pos + 1) (drop pos text)
-  parts =
-      let place : 1 + length (take pos text) ≡ pos + 1 = omega (arith, length-take-le pos text within) in
-      e ∙ ap line_starts (sym (take-append-drop pos text)) ∙ behind_newlines-append 1 (take pos text) (drop pos text)
-      ∙ ap (λ n. line_starts (take pos text) ++ behind_newlines n (drop pos text)) place
+-- the starts up to a place, and behind it
+pub parts : (text : List ℕ) (pos : ℕ) → pos ≤ length text → line_starts text ≡ line_starts (take pos text) ++ behind_newlines (pos + 1) (drop pos text)
+parts text pos within =
+    let place : 1 + length (take pos text) ≡ pos + 1 = omega (arith, length-take-le pos text within) in
+    ap line_starts (sym (take-append-drop pos text)) ∙ behind_newlines-append 1 (take pos text) (drop pos text)
+    ∙ ap (λ n. line_starts (take pos text) ++ behind_newlines n (drop pos text)) place
 
-  front : length (line_starts (take pos text)) ≡ k
-  front = length-behind_newlines 1 (take pos text) ∙ sym number
+-- ---- a table whose border lies between two parts of its text
+drop-from_end : (xs ys : List ℕ) → drop (count_by is_newline xs) (starts_from_end (xs ++ ys)) ≡ starts_from_end ys
+drop-from_end xs ys =
+    let f = from_end (length (xs ++ ys)) in
+    let sum : length (xs ++ ys) ≡ length ys + length xs = omega (arith, length-append xs ys) in
+    ap (λ l. drop (count_by is_newline xs) (map f l)) (behind_newlines-append 1 xs ys)
+    ∙ ap (drop (count_by is_newline xs)) (map-append f (line_starts xs) (behind_newlines (1 + length xs) ys))
+    ∙ drop_at (map f (line_starts xs)) _ (count_by is_newline xs) (length-map (line_starts xs) f ∙ length-line_starts xs)
+    ∙ ap (λ n. map (from_end n) (behind_newlines (1 + length xs) ys)) sum ∙ from_end-moved (length ys) (length xs) 1 ys
 
-  pub take-line_starts : take k starts ≡ line_starts (take pos text)
-  take-line_starts = ap (take k) parts ∙ take_at (line_starts (take pos text)) _ k front
+kept-between : (xs ys : List ℕ) → kept_starts (count_by is_newline xs) (xs ++ ys) ≡ line_starts xs ++ starts_from_end ys
+kept-between xs ys =
+    let k = count_by is_newline xs in
+    ap₂ (λ l r. l ++ r) (ap (take k) (behind_newlines-append 1 xs ys) ∙ take_at (line_starts xs) _ k (length-line_starts xs)) (drop-from_end xs ys)
 
-  pub drop-line_starts : drop k starts ≡ behind_newlines (pos + 1) (drop pos text)
-  drop-line_starts = ap (drop k) parts ∙ drop_at (line_starts (take pos text)) _ k front
+IsTable-between : (xs ys : List ℕ) → IsTable (line_starts xs ++ starts_from_end ys) (count_by is_newline xs) (xs ++ ys)
+IsTable-between xs ys =
+    record {
+      kept = sym (kept-between xs ys);
+      within = omega (arith, length-append (line_starts xs) (starts_from_end ys), length-line_starts xs);
+    }
 
--- the places before a range, those behind it, and what they become where the range gives way to a part
-module _ (starts text : List ℕ) (from to first gone : ℕ) (e : starts ≡ line_starts text) (order : from ≤ to) (within : to ≤ length text)
+-- ---- a range of a text gives way to a part where the border is
+module _ (places text part : List ℕ) (from to first gone : ℕ) (h : IsTable places first text) (order : from ≤ to) (within : to ≤ length text)
     (number : first ≡ line_number text from) (cut : gone ≡ count_by is_newline (slice_range text from to)) where
-  behind : first + gone ≡ line_number text to
-  behind = ap₂ (λ m n. m + n) number cut ∙ sym (newlines-front text from to order)
+  abbrev front : List ℕ
+  front = take from text
 
-  pub behind-within : first + gone ≤ length starts
-  behind-within = omega (arith, behind, newlines-take text to, length-line_starts starts text e)
+  at_border : places ≡ line_starts front ++ starts_from_end (drop from text)
+  at_border = h.kept ∙ ap₂ kept_starts number (sym (take-append-drop from text)) ∙ kept-between front (drop from text)
 
-  pub behind-can : (new : ℕ) → new + (length text - to) < 2 ^ 64 → All (CanShift to new) (drop (first + gone) starts)
-  behind-can new fits =
-      subst (All (CanShift to new)) (sym (drop-line_starts starts text to (first + gone) e within behind))
-      (All-weaker (λ s. (to + 1 ≤ s) × (s < to + 1 + length (drop to text))) (CanShift to new) (λ s h. (omega arith, omega (arith, length-drop to text))) _ (behind_newlines-within (to + 1) (drop to text)))
+  count : length (line_starts front) ≡ first
+  count = length-line_starts front ∙ sym number
 
-  -- those before stay, those of the part come in, and those behind move with the text
-  pub line_starts-replaced : (part : List ℕ) → line_starts (replace_range text from to part)
-      ≡ take first starts ++ (behind_newlines (from + 1) part ++ map (shifted to (from + length part)) (drop (first + gone) starts))
-  line_starts-replaced part =
-      let head = take from text in
-      let back = drop to text in
-      let new = from + length part in
-      let len = length-take-le from text (omega arith) in
-      let place : 1 + length head ≡ from + 1 = omega (arith, len) in
-      let until : 1 + length (head ++ part) ≡ new + 1 = omega (arith, length-append head part, len) in
-      behind_newlines-append 1 (head ++ part) back
-      ∙ ap₂ (λ l n. l ++ behind_newlines n back) (behind_newlines-append 1 head part ∙ ap (λ n. line_starts head ++ behind_newlines n part) place) until
-      ∙ append_assoc (line_starts head) (behind_newlines (from + 1) part) _
-      ∙ sym (ap₂ (λ l m. l ++ (behind_newlines (from + 1) part ++ m)) (take-line_starts starts text from first e (omega arith) number)
-      (ap (map (shifted to new)) (drop-line_starts starts text to (first + gone) e within behind) ∙ behind_newlines-shifted to new 1 back))
+  before : take first places ≡ line_starts front
+  before = ap (take first) at_border ∙ take_at (line_starts front) _ first count
 
-  -- the same from a table in which those behind were moved, and whose places between are open
-  pub line_starts-put : (part moved : List ℕ) → take first moved ≡ take first starts
-      → drop (first + count_by is_newline part) moved ≡ map (shifted to (from + length part)) (drop (first + gone) starts)
-      → take first moved ++ (behind_newlines (from + 1) part ++ drop (count_by is_newline part) (drop first moved)) ≡ line_starts (replace_range text from to part)
-  line_starts-put part moved before after =
-      ap₂ (λ l r. l ++ (behind_newlines (from + 1) part ++ r)) before (drop-drop (count_by is_newline part) first moved ∙ after) ∙ sym (line_starts-replaced part)
+  after : drop (first + gone) places ≡ starts_from_end (drop to text)
+  after =
+      let rest = drop from text in
+      let gap = slice_range text from to in
+      let until : from + (to - from) ≡ to = omega arith in
+      let halves : rest ≡ gap ++ drop to text =
+      sym (take-append-drop (to - from) rest) ∙ ap (λ l. gap ++ l) (drop-drop (to - from) from text ∙ ap (λ n. drop n text) until) in
+      sym (drop-drop gone first places) ∙ ap (λ l. drop gone (drop first l)) at_border ∙ ap (drop gone) (drop_at (line_starts front) _ first count)
+      ∙ ap₂ (λ n l. drop n (starts_from_end l)) cut halves ∙ drop-from_end gap (drop to text)
 
--- a table of n places whose end, from number k on, was written over
-pub written-behind : (k n : ℕ) (old new more : List ℕ) → length old ≡ n → k ≤ n → length new ≡ n - k
+  pub IsTable-replaced : IsTable (take first places ++ (behind_newlines (from + 1) part ++ drop (first + gone) places)) (first + count_by is_newline part) (replace_range text from to part)
+  IsTable-replaced =
+      let place : 1 + length front ≡ from + 1 = omega (arith, length-take-le from text (omega arith)) in
+      let starts : line_starts (front ++ part) ≡ line_starts front ++ behind_newlines (from + 1) part =
+      behind_newlines-append 1 front part ∙ ap (λ n. line_starts front ++ behind_newlines n part) place in
+      let all : line_starts (front ++ part) ++ starts_from_end (drop to text) ≡ take first places ++ (behind_newlines (from + 1) part ++ drop (first + gone) places) =
+      ap (λ l. l ++ starts_from_end (drop to text)) starts ∙ append_assoc (line_starts front) (behind_newlines (from + 1) part) _
+      ∙ sym (ap₂ (λ l r. l ++ (behind_newlines (from + 1) part ++ r)) before after) in
+      let border : count_by is_newline (front ++ part) ≡ first + count_by is_newline part = newlines-append front part ∙ ap (λ n. n + count_by is_newline part) (sym number) in
+      subst (λ l. IsTable l (first + count_by is_newline part) (replace_range text from to part)) all
+      (subst (λ n. IsTable (line_starts (front ++ part) ++ starts_from_end (drop to text)) n (replace_range text from to part)) border (IsTable-between (front ++ part) (drop to text)))
+
+-- where no newline comes or goes at the border, the table stays
+pub IsTable-stays : (places text part : List ℕ) (from to come border : ℕ) → IsTable places border text → from ≤ to → to ≤ length text → come ≡ count_by is_newline part
+    → (come == 0 && (nat_le border (line_number text from) && nat_le (line_number text to) border)) ≡ true → IsTable places border (replace_range text from to part)
+IsTable-stays places text part from to come border h order within count stay =
+    let both = and_parts (come == 0) _ stay in
+    let ends = and_parts (nat_le border (line_number text from)) _ both.1 in
+    let clean : count_by is_newline part ≡ 0 = sym count ∙ eqb-true come 0 both.0 in
+    let low = leb-true _ _ ends.0 in
+    let high = leb-true _ _ ends.1 in
+    let number : border ≡ line_number text from = omega (arith, low, high, newlines-front text from to order) in
+    let gone : 0 ≡ count_by is_newline (slice_range text from to) = omega (arith, low, high, newlines-front text from to order) in
+    let new : behind_newlines (from + 1) part ≡ [] = nil_from_length _ (length-behind_newlines (from + 1) part ∙ clean) in
+    let same : border + count_by is_newline part ≡ border = omega (arith, clean) in
+    let none : border + 0 ≡ border = omega arith in
+    let all : take border places ++ (behind_newlines (from + 1) part ++ drop (border + 0) places) ≡ places =
+    ap₂ (λ l n. take border places ++ (l ++ drop n places)) new none ∙ take-append-drop border places in
+    subst (λ n. IsTable places n (replace_range text from to part)) same
+    (subst (λ l. IsTable l (border + count_by is_newline part) (replace_range text from to part)) all (IsTable-replaced places text part from to border 0 h order within number gone))
+
+-- ---- the border moves, and the starts that it passes are counted from the other end
+starts-within : (text : List ℕ) → All (λ s. s ≤ length text) (line_starts text)
+starts-within text = All-weaker (λ s. (1 ≤ s) × (s < 1 + length text)) (λ s. s ≤ length text) (λ s h. omega (arith, h.1)) _ (behind_newlines-within 1 text)
+
+twice : (len : ℕ) (xs : List ℕ) → All (λ s. s ≤ len) xs → map (from_end len) (map (from_end len) xs) ≡ xs
+twice len [] h = refl
+twice len (x ∷ xs) h =
+    let P : ℕ → Type 0 = λ s. s ≤ len in
+    let here : from_end len (from_end len x) ≡ x = omega (arith, All-head P x xs h) in
+    ap₂ (λ y l. y ∷ l) here (twice len xs (All-tail P x xs h))
+
+-- the part of a list between two places is turned
+turned : (f : ℕ → ℕ) (xs ys more : List ℕ) (a b : ℕ) → length xs ≡ a → length ys ≡ b - a
+    → put_mid a (b - a) (xs ++ (ys ++ more)) (map f (slice_range (xs ++ (ys ++ more)) a b)) ≡ xs ++ (map f ys ++ more)
+turned f xs ys more a b len size =
+    let rest : drop a (xs ++ (ys ++ more)) ≡ ys ++ more = drop_at xs _ a len in
+    ap₂ (λ l r. l ++ r) (take_at xs _ a len)
+    (ap₂ (λ l r. map f l ++ r) (ap (take (b - a)) rest ∙ take_at ys more (b - a) size) (ap (drop (b - a)) rest ∙ drop_at ys more (b - a) size))
+
+module _ (text : List ℕ) (low high : ℕ) (order : low ≤ high) (within : high ≤ length (line_starts text)) where
+  abbrev len : ℕ
+  len = length text
+
+  abbrev start : List ℕ
+  start = take low (line_starts text)
+
+  abbrev passed : List ℕ
+  passed = slice_range (line_starts text) low high
+
+  abbrev rest : List ℕ
+  rest = drop high (starts_from_end text)
+
+  kept-high : kept_starts high text ≡ start ++ (passed ++ rest)
+  kept-high =
+      let until : high ≡ low + (high - low) = omega arith in
+      ap (λ l. l ++ rest) (ap (λ n. take n (line_starts text)) until ∙ take-add low (high - low) (line_starts text)) ∙ append_assoc start passed rest
+
+  kept-low : kept_starts low text ≡ start ++ (map (from_end len) passed ++ rest)
+  kept-low =
+      let ends = starts_from_end text in
+      let until : low + (high - low) ≡ high = omega arith in
+      let first : take (high - low) (drop low ends) ≡ map (from_end len) passed =
+      ap (take (high - low)) (drop-map (from_end len) low (line_starts text)) ∙ take-map (from_end len) (high - low) (drop low (line_starts text)) in
+      ap (λ l. start ++ l) (sym (take-append-drop (high - low) (drop low ends)) ∙ ap₂ (λ l r. l ++ r) first (drop-drop (high - low) low ends ∙ ap (λ n. drop n ends) until))
+
+  size : length passed ≡ high - low
+  size = length-between (line_starts text) low high within
+
+  pub border-down : put_mid low (high - low) (kept_starts high text) (map (from_end len) (slice_range (kept_starts high text) low high)) ≡ kept_starts low text
+  border-down =
+      ap (λ l. put_mid low (high - low) l (map (from_end len) (slice_range l low high))) kept-high
+      ∙ turned (from_end len) start passed rest low high (length-take-le low (line_starts text) (omega arith)) size ∙ sym kept-low
+
+  pub border-up : put_mid low (high - low) (kept_starts low text) (map (from_end len) (slice_range (kept_starts low text) low high)) ≡ kept_starts high text
+  border-up =
+      let there : All (λ s. s ≤ len) passed = All-take (λ s. s ≤ len) (high - low) _ (All-drop (λ s. s ≤ len) low _ (starts-within text)) in
+      ap (λ l. put_mid low (high - low) l (map (from_end len) (slice_range l low high))) kept-low
+      ∙ turned (from_end len) start (map (from_end len) passed) rest low high (length-take-le low (line_starts text) (omega arith)) (length-map passed (from_end len) ∙ size)
+      ∙ ap (λ l. start ++ (l ++ rest)) (twice len passed there) ∙ sym kept-high
+
+-- a table of n places, of which those from number k on, up to m, were written over
+written : (k m n : ℕ) (old new more : List ℕ) → length old ≡ n → k ≤ m → m ≤ n → length new ≡ m - k → take n (put_mid k (m - k) old new ++ more) ≡ put_mid k (m - k) old new
+written k m n old new more len le within size =
+    let front = length-take-le k old (omega arith) in
+    let back : length (drop (m - k) (drop k old)) ≡ n - m = omega (arith, length-drop (m - k) (drop k old), length-drop k old) in
+    let whole = length-append (take k old) (new ++ post_of k (m - k) old) in
+    let all : length (put_mid k (m - k) old new) ≡ n = omega (arith, front, whole, length-append new (post_of k (m - k) old), back) in
+    take_at (put_mid k (m - k) old new) more n all
+
+written-behind : (k n : ℕ) (old new more : List ℕ) → length old ≡ n → k ≤ n → length new ≡ n - k
     → take n (put_mid k (length old - k) old new ++ more) ≡ take k old ++ new
 written-behind k n old new more len le size =
     let front = length-take-le k old (omega arith) in
@@ -188,120 +306,172 @@ written-behind k n old new more len le size =
     let enough : n ≤ length (put_mid k (length old - k) old new) = omega (arith, front, whole, length-append new (post_of k (length old - k) old)) in
     take-append-le n (put_mid k (length old - k) old new) more enough ∙ take-put_mid k (length old - k) old new n (omega arith) (omega arith)
 
--- ---- the loops over a table
--- down: what stands from number i on is as it was, and goes n numbers down
-module _ (n behind i : ℕ) (old now : List ℕ) (order : n ≤ behind) (from : behind ≤ i) (within : i < length old) (same : length now ≡ length old) (left : drop i now ≡ drop i old) where
-  next : get_or now i 0 ≡ get_or (drop behind old) (i - behind) 0
-  next =
-      let here : i ≡ i + 0 = omega arith in
-      let there : behind + (i - behind) ≡ i = omega arith in
-      ap (get_or_of now) here ∙ sym (get_or-drop i now 0 0) ∙ ap (λ l. get_or l 0 0) left ∙ get_or-drop i old 0 0 ∙ ap (get_or_of old) (sym here)
-      ∙ sym (get_or-drop behind old (i - behind) 0 ∙ ap (get_or_of old) there)
-    where
-      get_or_of : List ℕ → ℕ → ℕ
-      get_or_of l k = get_or l k 0
+IsTable-from : (places : List ℕ) (border : ℕ) (text : List ℕ) → places ≡ kept_starts border text → border ≤ count_by is_newline text → IsTable places border text
+IsTable-from places border text is within = record { kept = is; within = omega (arith, ap length is, length-kept border text) }
 
-  pub down-can : (P : ℕ → Type 0) → All P (drop behind old) → P (get_or now i 0)
-  down-can P all = subst P (sym next) (All-get_or P (drop behind old) (i - behind) 0 (omega (arith, length-drop behind old)) all)
+module _ (places now more text : List ℕ) (old border n : ℕ) (h : IsTable places old text) (len : length places ≡ n) where
+  all : n ≡ count_by is_newline text
+  all = sym len ∙ length-table places old text h
 
-  pub down-done : (f : ℕ → ℕ) → take (i - n) now ≡ take (behind - n) old ++ map f (take (i - behind) (drop behind old))
-      → take (i + 1 - n) (set now (i - n) (f (get_or now i 0))) ≡ take (behind - n) old ++ map f (take (i + 1 - behind) (drop behind old))
-  down-done f done =
-      let to : i + 1 - n ≡ i - n + 1 = omega arith in
-      let upto : i - behind + 1 ≡ i + 1 - behind = omega arith in
-      let y = f (get_or now i 0) in
-      ap (λ k. take k (set now (i - n) y)) to ∙ take_more_set now (i - n) y (omega arith)
-      ∙ ap₂ (λ l x. l ++ f x ∷ []) done next ∙ append_assoc (take (behind - n) old) _ _
-      ∙ ap (λ l. take (behind - n) old ++ l) (sym (map_more f (drop behind old) (i - behind) 0 (omega (arith, length-drop behind old))) ∙ ap (λ k. map f (take k (drop behind old))) upto)
+  pub moved-down : border ≤ old → now ≡ map (from_end (length text)) (slice_range places border old) → IsTable (take n (put_mid border (old - border) places now ++ more)) border text
+  moved-down le is =
+      let f = from_end (length text) in
+      let size : length now ≡ old - border = ap length is ∙ length-map (slice_range places border old) f ∙ length-between places border old h.within in
+      IsTable-from _ border text
+      (written border old n places now more len le (omega (arith, len, h.within)) size ∙ ap (put_mid border (old - border) places) is
+      ∙ ap (λ l. put_mid border (old - border) l (map f (slice_range l border old))) h.kept ∙ border-down text border old le (omega (arith, len, h.within, all, length-line_starts text)))
+      (omega (arith, len, h.within, all))
 
-  pub down-left : (y : ℕ) → drop (i + 1) (set now (i - n) y) ≡ drop (i + 1) old
-  down-left y = drop-set-lt (i + 1) now (i - n) y (omega arith) ∙ sym (drop-drop 1 i now) ∙ ap (drop 1) left ∙ drop-drop 1 i old
+  pub moved-up : old ≤ border → border ≤ n → now ≡ map (from_end (length text)) (slice_range places old border) → IsTable (take n (put_mid old (border - old) places now ++ more)) border text
+  moved-up le within is =
+      let f = from_end (length text) in
+      let size : length now ≡ border - old = ap length is ∙ length-map (slice_range places old border) f ∙ length-between places old border (omega (arith, len)) in
+      IsTable-from _ border text
+      (written old border n places now more len le within size ∙ ap (put_mid old (border - old) places) is
+      ∙ ap (λ l. put_mid old (border - old) l (map f (slice_range l old border))) h.kept ∙ border-up text old border le (omega (arith, all, length-line_starts text)))
+      (omega (arith, all))
 
--- up: what stands before number j + n is as it was, and what stands at i, right before j, goes n numbers up
-module _ (n i j : ℕ) (old now : List ℕ) (one : j ≡ i + 1) (within : j + n ≤ length old) (same : length now ≡ length old) (left : take (j + n) now ≡ take (j + n) old) where
-  last : get_or now i 0 ≡ get_or old i 0
-  last = sym (get_or-take (j + n) now i 0 (omega arith)) ∙ ap (λ l. get_or l i 0) left ∙ get_or-take (j + n) old i 0 (omega arith)
+-- what a table keeps can be counted from the other end
+kept-within : (border : ℕ) (text : List ℕ) → All (λ place. place ≤ length text) (kept_starts border text)
+kept-within border text =
+    let P : ℕ → Type 0 = λ place. place ≤ length text in
+    let ends : All P (starts_from_end text) = All-map P (from_end (length text)) (line_starts text) (All-weaker P (λ s. from_end (length text) s ≤ length text) (λ s h. omega arith) _ (starts-within text)) in
+    All-append P (take border (line_starts text)) (drop border (starts_from_end text)) (All-take P border _ (starts-within text)) (All-drop P border _ ends)
 
-  pub up-can : (P : ℕ → Type 0) (behind : ℕ) → behind ≤ i → All P (slice_range old behind (length old - n)) → P (get_or now i 0)
-  up-can P behind from all =
-      let len : length (drop behind old) ≡ length old - behind = length-drop behind old in
-      let there : behind + (i - behind) ≡ i = omega arith in
-      let at : get_or (slice_range old behind (length old - n)) (i - behind) 0 ≡ get_or now i 0 =
-      get_or-take _ (drop behind old) (i - behind) 0 (omega arith) ∙ get_or-drop behind old (i - behind) 0 ∙ ap (λ k. get_or old k 0) there ∙ sym last in
-      subst P at (All-get_or P (slice_range old behind (length old - n)) (i - behind) 0 (omega (arith, length-take-le (length old - n - behind) (drop behind old) (omega (arith, len)))) all)
+pub table-within : (places : List ℕ) (border : ℕ) (text : List ℕ) → IsTable places border text → All (λ place. place ≤ length text) places
+table-within places border text h = subst (All (λ place. place ≤ length text)) (sym h.kept) (kept-within border text)
 
-  pub up-left : (y : ℕ) → take (i + n) (set now (i + n) y) ≡ take (i + n) old
-  up-left y = take-set now (i + n) y ∙ sym (take-take (i + n) (j + n) now (omega arith)) ∙ ap (take (i + n)) left ∙ take-take (i + n) (j + n) old (omega arith)
+pub slice-within : (places : List ℕ) (border low high : ℕ) (text : List ℕ) → IsTable places border text → All (λ place. place ≤ length text) (slice_range places low high)
+slice-within places border low high text h =
+    All-take (λ place. place ≤ length text) (high - low) _ (All-drop (λ place. place ≤ length text) low places (table-within places border text h))
 
-  pub up-done : (f : ℕ → ℕ) → drop (j + n) now ≡ map f (slice_range old j (length old - n))
-      → drop (i + n) (set now (i + n) (f (get_or now i 0))) ≡ map f (slice_range old i (length old - n))
-  up-done f done =
-      let more : i + n + 1 ≡ j + n = omega arith in
-      let size : length old - n - i ≡ suc (length old - n - j) = omega arith in
-      let rest = drop_more old i 0 (omega arith) ∙ ap (λ k. get_or old i 0 ∷ drop k old) (sym one) in
-      drop-set now (i + n) (f (get_or now i 0)) (omega arith) ∙ ap₂ (λ x l. f x ∷ l) last (ap (λ k. drop k now) more ∙ done)
-      ∙ sym (ap (map f) (ap₂ take size rest))
+-- the table that is left where those from number `first` on were written over
+pub IsTable-written : (first n border : ℕ) (old new more all text : List ℕ) → length old ≡ n → first ≤ n → length new ≡ n - first → take first old ++ new ≡ all → IsTable all border text
+    → IsTable (take n (put_mid first (length old - first) old new ++ more)) border text
+IsTable-written first n border old new more all text len le size is h = subst (λ l. IsTable l border text) (sym (written-behind first n old new more len le size ∙ is)) h
 
--- one byte more of a part was looked at
-pub behind_newlines-more : (n i : ℕ) (text : List ℕ) → i < length text
-    → behind_newlines n (take (i + 1) text) ≡ behind_newlines n (take i text) ++ cond (is_newline (get_or text i 0)) ((n + i) ∷ []) []
-behind_newlines-more n i text within =
+pub IsTable-same : (places more : List ℕ) (border next : ℕ) (text now : List ℕ) → more ≡ places → next ≡ border → now ≡ text → IsTable places border text → IsTable more next now
+IsTable-same places more border next text now p b t h = subst (IsTable more next) (sym t) (subst (λ n. IsTable more n text) (sym b) (subst (λ l. IsTable l border text) (sym p) h))
+
+-- ---- a start is read
+module _ (places text : List ℕ) (border k : ℕ) (h : IsTable places border text) (some : k < length places) where
+  many : border ≤ length (line_starts text)
+  many = omega (arith, h.within, length-table places border text h, length-line_starts text)
+
+  pub read-before : k < border → get_or places k 0 ≡ get_or (line_starts text) k 0
+  read-before less =
+      ap (λ l. get_or l k 0) h.kept
+      ∙ get_or_append_left (take border (line_starts text)) (drop border (starts_from_end text)) 0 k (omega (arith, length-take-le border (line_starts text) many))
+      ∙ get_or-take border (line_starts text) k 0 less
+
+  pub read-from : border ≤ k → get_or places k 0 ≡ from_end (length text) (get_or (line_starts text) k 0)
+  read-from past =
+      let there : border + (k - border) ≡ k = omega arith in
+      ap (λ l. get_or l k 0) h.kept
+      ∙ get_or-append_right (take border (line_starts text)) (drop border (starts_from_end text)) border k 0 (length-take-le border (line_starts text) many) past
+      ∙ get_or-drop border (starts_from_end text) (k - border) 0 ∙ ap (λ n. get_or (starts_from_end text) n 0) there
+      ∙ get_or-map (from_end (length text)) (line_starts text) k 0 0 (omega (arith, length-table places border text h, length-line_starts text))
+
+  pub read-within : get_or (line_starts text) k 0 ≤ length text
+  read-within = All-get_or (λ s. s ≤ length text) (line_starts text) k 0 (omega (arith, length-table places border text h, length-line_starts text)) (starts-within text)
+
+-- ---- the newlines that a search finds
+found-from : (n m i : ℕ) (text : List ℕ) → m ≡ length text - i → i ≤ length text
+    → map (λ p. n + p) (places_from (is_byte 10) text i m) ≡ behind_newlines (n + i) (drop i text)
+unfolding places_from
+found-from n zero i text left within = ap (behind_newlines (n + i)) (sym (drop_all i text (omega (arith, left))))
+found-from n (suc m) i text left within =
     let b = get_or text i 0 in
-    let place : n + length (take i text) ≡ n + i = omega (arith, length-take-le i text (omega arith)) in
-    ap (behind_newlines n) (take_more text i 0 within) ∙ behind_newlines-append n (take i text) (b ∷ [])
-    ∙ ap (λ l. behind_newlines n (take i text) ++ l) (behind_newlines-cons _ b [] ∙ ap (λ k. cond (is_newline b) (k ∷ []) []) place)
-
--- what stands in the table then: a place for each newline so far, and what stood behind these
-abbrev pub Puts : ℕ → List ℕ → List ℕ → ℕ → ℕ → List ℕ → Type 0
-Puts n part old i k now = (k ≡ count_by is_newline (take i part)) × (now ≡ behind_newlines n (take i part) ++ drop k old)
-
-module _ (n i k : ℕ) (part old now : List ℕ) (within : i < length part) (h : Puts n part old i k now) where
-  pub Puts-room : get_or part i 0 ≡ 10 → count_by is_newline part ≤ length old → k < length old
-  Puts-room is room = omega (arith, h.0, count_by_more_yes is_newline part i 0 within (eq-eqb _ 10 is), newlines-take part (i + 1))
-
-  pub Puts-newline : (place : ℕ) → place ≡ n + i → get_or part i 0 ≡ 10 → count_by is_newline part ≤ length old → Puts n part old (i + 1) (k + 1) (set now k place)
-  Puts-newline place at is room =
-      let passes : is_newline (get_or part i 0) ≡ true = eq-eqb _ 10 is in
-      let before = behind_newlines n (take i part) in
-      let more = behind_newlines-more n i part within ∙ ap (λ b. before ++ cond b ((n + i) ∷ []) []) passes in (
-        ap (λ m. m + 1) h.0 ∙ sym (count_by_more_yes is_newline part i 0 within passes),
-        ap₂ (λ l p. set l k p) (h.1 ∙ ap (λ l. before ++ l) (drop_more old k 0 (Puts-room is room))) at
-            ∙ set_at before (get_or old k 0) (drop (k + 1) old) (n + i) k (length-behind_newlines n (take i part) ∙ sym h.0)
-            ∙ sym (append_assoc before ((n + i) ∷ []) (drop (k + 1) old)) ∙ ap (λ l. l ++ drop (k + 1) old) (sym more),
-      )
-
-  pub Puts-other : (get_or part i 0 ≡ 10 → ⊥) → Puts n part old (i + 1) k now
-  Puts-other isnt =
-      let fails : is_newline (get_or part i 0) ≡ false = ne_eqb _ 10 isnt in
-      let more = behind_newlines-more n i part within ∙ ap (λ b. behind_newlines n (take i part) ++ cond b ((n + i) ∷ []) []) fails ∙ append-nil _ in
-      (h.0 ∙ sym (count_by_more_no is_newline part i 0 within fails), h.1 ∙ ap (λ l. l ++ drop k old) (sym more))
-
-pub Puts-all : (n i k : ℕ) (part old now : List ℕ) → length part ≤ i → Puts n part old i k now → now ≡ behind_newlines n part ++ drop (count_by is_newline part) old
-Puts-all n i k part old now past h =
-    let all = take_all i part past in
-    h.1 ∙ ap₂ (λ l m. behind_newlines n l ++ drop m old) all (h.0 ∙ ap (count_by is_newline) all)
-
--- where no start lies behind a place and no newline comes, what changes from there on leaves the table
-pub line_starts-stay : (starts text part : List ℕ) (from to come : ℕ) → starts ≡ line_starts text → from ≤ to → to ≤ length text → come ≡ count_by is_newline part
-    → (come == 0 && nat_le (get_or starts (length starts - 1) 0) from) ≡ true → starts ≡ line_starts (replace_range text from to part)
-line_starts-stay starts text part from to come e order within count stay =
-    let both = and_parts (come == 0) (nat_le (get_or starts (length starts - 1) 0) from) stay in
-    let last = leb-true _ _ both.1 in
-    let clean : count_by is_newline part ≡ 0 = sym count ∙ eqb-true come 0 both.0 in
-    let first = line_number text from in
-    let gone = count_by is_newline (slice_range text from to) in
-    let all : length starts ≤ first = ⊎_elim (λ less. absurd (omega (arith, last, behind less))) (λ le. le) (cases_lt first (length starts)) in
-    let none : drop (first + gone) starts ≡ [] = nil_from_length _ (omega (arith, length-drop (first + gone) starts)) in
-    let new : behind_newlines (from + 1) part ≡ [] = nil_from_length _ (length-behind_newlines (from + 1) part ∙ clean) in
-    sym (append-nil starts)
-    ∙ ap₂ (λ l r. l ++ r) (sym (take_all first starts all)) (sym (ap₂ (λ l r. l ++ map (shifted to (from + length part)) r) new none))
-    ∙ sym (line_starts-replaced starts text from to first gone e order within refl refl part)
+    let next : n + (i + 1) ≡ n + i + 1 = omega arith in
+    let rest : map (λ p. n + p) (places_from (is_byte 10) text (i + 1) m) ≡ behind_newlines (n + i + 1) (drop (i + 1) text) =
+    found-from n m (i + 1) text (omega (arith, left)) (omega (arith, left)) ∙ ap (λ k. behind_newlines k (drop (i + 1) text)) next in
+    one (is_newline b) (places_from (is_byte 10) text (i + 1) m)
+    ∙ ap (λ l. cond (is_newline b) ((n + i) ∷ l) l) rest
+    ∙ sym (ap (behind_newlines (n + i)) (drop_more text i 0 (omega (arith, left))) ∙ behind_newlines-cons (n + i) b (drop (i + 1) text))
   where
-    behind : line_number text from < length starts → from + 1 ≤ get_or starts (length starts - 1) 0
-    behind less =
-        let first = line_number text from in
-        let i = length starts - 1 - first in
-        let rest = drop-line_starts starts text from first e (omega arith) refl in
-        let place : first + i ≡ length starts - 1 = omega arith in
-        let lies = All-get_or (λ s. (from + 1 ≤ s) × (s < from + 1 + length (drop from text))) (behind_newlines (from + 1) (drop from text)) i 0 (omega (arith, ap length rest, length-drop first starts)) (behind_newlines-within (from + 1) (drop from text)) in
-        subst (λ k. from + 1 ≤ k) (ap (λ l. get_or l i 0) (sym rest) ∙ get_or-drop first starts i 0 ∙ ap (λ k. get_or starts k 0) place) lies.0
+    one : (is : Bool) (l : List ℕ) → map (λ p. n + p) (cond is (i ∷ l) l) ≡ cond is ((n + i) ∷ map (λ p. n + p) l) (map (λ p. n + p) l)
+    one true l = refl
+    one false l = refl
+
+pub found : (n : ℕ) (text : List ℕ) → map (λ p. n + p) (places (is_byte 10) text) ≡ behind_newlines n text
+found n text =
+    let here : n + 0 ≡ n = omega arith in
+    found-from n (length text - 0) 0 text refl (omega arith) ∙ ap (λ k. behind_newlines k text) here
+
+pub length-found : (text : List ℕ) → length (places (is_byte 10) text) ≡ count_by is_newline text
+length-found text = sym (length-map (places (is_byte 10) text) (λ p. 0 + p)) ∙ ap length (found 0 text) ∙ length-behind_newlines 0 text
+
+pub found-within : (text done more : List ℕ) (x : ℕ) → done ++ x ∷ more ≡ places (is_byte 10) text → x < length text
+found-within text done more x split =
+    let P : ℕ → Type 0 = λ s. (0 ≤ s) × (s < 0 + length text) in
+    let all : All P (map (λ p. 0 + p) (places (is_byte 10) text)) = subst (All P) (sym (found 0 text)) (behind_newlines-within 0 text) in
+    let some : length done < length (places (is_byte 10) text) = omega (arith, ap length split, length-append done (x ∷ more)) in
+    let at : get_or (map (λ p. 0 + p) (places (is_byte 10) text)) (length done) 0 ≡ 0 + x =
+    get_or-map (λ p. 0 + p) (places (is_byte 10) text) (length done) 0 0 some ∙ ap (λ k. 0 + k) (ap (λ l. get_or l (length done) 0) (sym split) ∙ get_or_at done x more 0 (length done) refl) in
+    let here : P (get_or (map (λ p. 0 + p) (places (is_byte 10) text)) (length done) 0) =
+    All-get_or P (map (λ p. 0 + p) (places (is_byte 10) text)) (length done) 0 (omega (arith, length-map (places (is_byte 10) text) (λ (p : ℕ). 0 + p))) all in
+    omega (arith, at, here.1)
+
+-- a turn of the loop that puts them: one more stands in the table
+pub put_more : (n i place x : ℕ) (done old now : List ℕ) → i ≡ length done → i < length old → now ≡ map (λ p. n + p) done ++ drop i old → place ≡ n + x
+    → set now i place ≡ map (λ p. n + p) (done ++ x ∷ []) ++ drop (i + 1) old
+put_more n i place x done old now size room is at =
+    let start = map (λ p. n + p) done in
+    let count : length start ≡ i = length-map done (λ p. n + p) ∙ sym size in
+    ap₂ (λ l p. set l i p) (is ∙ ap (λ l. start ++ l) (drop_more old i 0 room)) at
+    ∙ set_at start (get_or old i 0) (drop (i + 1) old) (n + x) i count
+    ∙ sym (append_assoc start ((n + x) ∷ []) (drop (i + 1) old))
+    ∙ ap (λ l. l ++ drop (i + 1) old) (sym (map_push (λ p. n + p) done x))
+
+-- ---- a gap of `come` in the stead of `gone`: the list of what stands before it, with what stands behind it
+gap-parts : (at p : ℕ) (xs front rest : List ℕ) → at ≤ p → length front ≡ p → take at front ≡ take at xs → (take at (front ++ rest) ≡ take at xs) × (drop p (front ++ rest) ≡ rest)
+gap-parts at p xs front rest le len before = (take-append-le at front rest (omega (arith, len)) ∙ before, drop_at front rest p len)
+
+pub gap-more : (at gone come : ℕ) (xs : List ℕ) → at ≤ length xs → come ≡ gone + 1 → (take at (insert xs at 0) ≡ take at xs) × (drop (at + come) (insert xs at 0) ≡ drop (at + gone) xs)
+gap-more at gone come xs le one =
+    let next : come ≡ suc gone = omega arith in
+    let size = length-take-le at xs le in
+    let rest = drop at xs in (
+      take_at (take at xs) (0 ∷ rest) at size,
+      sym (drop-drop come at (insert xs at 0)) ∙ ap (drop come) (drop_at (take at xs) (0 ∷ rest) at size) ∙ ap (λ k. drop k (0 ∷ rest)) next ∙ drop-drop gone at xs,
+    )
+
+pub gap-less : (at gone come : ℕ) (xs : List ℕ) → at ≤ length xs → gone ≡ come + 1 → (take at (remove xs at) ≡ take at xs) × (drop (at + come) (remove xs at) ≡ drop (at + gone) xs)
+gap-less at gone come xs le one =
+    let size = length-take-le at xs le in
+    let rest = drop (suc at) xs in
+    let place : suc at + come ≡ at + gone = omega arith in (
+      take_at (take at xs) rest at size,
+      sym (drop-drop come at (remove xs at)) ∙ ap (drop come) (drop_at (take at xs) rest at size) ∙ drop-drop come (suc at) xs ∙ ap (λ k. drop k xs) place,
+    )
+
+module _ (at gone come len : ℕ) (xs : List ℕ) (size : length xs ≡ len) (within : at + gone ≤ len) where
+  abbrev n : ℕ
+  n = len - (at + gone)
+
+  pub gap-down : come < gone
+      → let now = take (len - (gone - come)) (copy_within xs (at + gone) len (at + come)) in (take at now ≡ take at xs) × (drop (at + come) now ≡ drop (at + gone) xs)
+  gap-down less =
+      let p = at + come in
+      let rest = drop (at + gone) xs in
+      let until : len - (gone - come) ≡ p + n = omega arith in
+      let is : take (len - (gone - come)) (copy_within xs (at + gone) len p) ≡ take p xs ++ rest =
+      ap (λ k. take k (copy_within xs (at + gone) len p)) until
+      ∙ take-paste xs p rest n (omega arith) (omega (arith, length-drop (at + gone) xs)) ∙ ap (λ l. take p xs ++ l) (take_all n rest (omega (arith, length-drop (at + gone) xs))) in
+      let both = gap-parts at p xs (take p xs) rest (omega arith) (length-take-le p xs (omega arith)) (take-take at p xs (omega arith)) in
+      (ap (take at) is ∙ both.0, ap (drop p) is ∙ both.1)
+
+  pub gap-up : (more : List ℕ) → gone < come → length more ≡ come - gone
+      → let now = copy_within (xs ++ more) (at + gone) len (at + come) in (take at now ≡ take at xs) × (drop (at + come) now ≡ drop (at + gone) xs)
+  gap-up more less count =
+      let p = at + come in
+      let ys = xs ++ more in
+      let rest = drop (at + gone) xs in
+      let all = length-append xs more in
+      let moved : take n (drop (at + gone) ys) ≡ rest =
+      ap (take n) (drop-append-le (at + gone) xs more (omega arith)) ∙ take_at rest more n (length-drop (at + gone) xs ∙ ap (λ k. k - (at + gone)) size) in
+      let none : drop (p + n) ys ≡ [] = drop_all (p + n) ys (omega (arith, all)) in
+      let is : copy_within ys (at + gone) len p ≡ take p ys ++ rest =
+      ap₂ (λ l r. take p ys ++ l ++ r) moved none ∙ append-nil (take p ys ++ rest) in
+      let both = gap-parts at p xs (take p ys) rest (omega arith) (length-take-le p ys (omega (arith, all))) (take-take at p ys (omega arith) ∙ take-append-le at xs more (omega arith)) in
+      (ap (take at) is ∙ both.0, ap (drop p) is ∙ both.1)

@@ -5,7 +5,7 @@ use Rattle.std.specs.declared.ops.Range.{Range}
 use Rattle.rl_base.specs.Event.{Event, apply}
 use Rattle.rl_base.specs.Lines.{is_newline}
 use Rattle.rl_base.specs.Text.{is_boundary}
-use Rattle.rl_line.specs.LineStarts.{line_starts}
+use Rattle.rl_line.specs.LineStarts.{IsTable}
 
 -- the text, the place of the cursor, the limit on the text's length, and whether the line may grow past it
 pub record Line : Type 0 where
@@ -15,8 +15,8 @@ pub record Line : Type 0 where
   pub grow : Bool
 
 -- the table is that of the text, the cursor stands between two characters, and the text keeps to the limit
-pub record IsLine (text starts : List ℕ) (cursor limit : ℕ) : Type 0 where
-  pub table : starts ≡ line_starts text
+pub record IsLine (text starts : List ℕ) (border cursor limit : ℕ) : Type 0 where
+  pub table : IsTable starts border text
   pub at_boundary : IsCharBoundary text cursor
   pub within : length text ≤ limit
 

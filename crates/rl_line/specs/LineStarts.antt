@@ -1,5 +1,5 @@
 -- The table of a line's text: where its lines begin, but for the first.
-use Rattle.std.specs.Prelude.{ℕ, ◌+◌, ◌-◌, ◌^◌, ◌<◌, ◌≤◌, List, map, filter}
+use Rattle.std.specs.Prelude.{◌≡◌, ℕ, ◌-◌, ◌≤◌, List, ◌++◌, map, filter, take, drop, length}
 use Rattle.std.specs.List.{enumerate_from}
 use Rattle.rl_base.specs.Lines.{is_newline}
 
@@ -11,10 +11,19 @@ behind_newlines n text = map (λ b. b.0) (filter (λ b. is_newline b.1) (enumera
 abbrev pub line_starts : List ℕ → List ℕ
 line_starts text = behind_newlines 1 text
 
--- a place behind a range that ended at `old`, once the part in its stead ends at `new`
-abbrev pub shifted : ℕ → ℕ → ℕ → ℕ
-shifted old new place = new + (place - old)
+-- a place of a text of length len, counted from its end
+abbrev pub from_end : ℕ → ℕ → ℕ
+from_end len place = len - place
 
--- a place behind the old end, whose new place is a number of the code
-abbrev pub CanShift : ℕ → ℕ → ℕ → Type 0
-CanShift old new place = (old ≤ place) × (shifted old new place < 2 ^ 64)
+-- the starts of a text, counted from its end
+abbrev pub starts_from_end : List ℕ → List ℕ
+starts_from_end text = map (from_end (length text)) (line_starts text)
+
+-- what a table keeps: the starts before the border as they are, those from it on counted from the text's end
+abbrev pub kept_starts : ℕ → List ℕ → List ℕ
+kept_starts border text = take border (line_starts text) ++ drop border (starts_from_end text)
+
+-- the table of a text, with its border
+pub record IsTable (places : List ℕ) (border : ℕ) (text : List ℕ) : Type 0 where
+  pub kept : places ≡ kept_starts border text
+  pub within : border ≤ length places

@@ -12,9 +12,9 @@ ghost use Rattle.rl_line.specs.Undo.{cursor_after, cursor_told};
 ghost use Rattle.rl_line.specs.Units.{is_begin, is_change};
 ghost use Rattle.rl_line.specs.Change.{TakesIn, cursor_stands, text_back, place, faced, greatest_back_over, order, size_back, size_of};
 ghost use Rattle.rl_line.specs.declared.change.Measure.TheVariants.{Bytes, Newlines};
-ghost use Rattle.rl_line.specs.LineStarts.{line_starts};
+ghost use Rattle.rl_line.specs.LineStarts.{IsTable};
 
-use crate::line_starts::newlines;
+use crate::line_starts::{LineStarts, newlines};
 use crate::swap::{find_room, swap_in, swap_text};
 use rl_base::places::{is_alphanumeric, is_word_cluster};
 use rl_base::{Gathered, Refusal};
@@ -228,30 +228,30 @@ impl Change {
 /// goes, which was at `cursor`.
 pub(crate) fn go_over(
     text: &mut String,
-    starts: &mut Vec<usize>,
+    starts: &mut LineStarts,
     change: &Change,
     way: Way,
     cursor: usize,
 ) -> usize
     requires fits { IsSome (apply (event_of (inverse (faced way change.now))) (string_bytes text.old)) }
-    requires table { starts.old.items ≡ line_starts (string_bytes text.old) }
+    requires table { IsTable starts.old.places.items starts.old.border (string_bytes text.old) }
     requires room { size_back Bytes (faced way change.now) (string_len text.old) ≤ string_capacity text.old }
-    requires table_room { size_back Newlines (faced way change.now) (vec_len starts.old) ≤ vec_capacity starts.old }
+    requires table_room { size_back Newlines (faced way change.now) (vec_len starts.old.places) ≤ vec_capacity starts.old.places }
     requires boundary { IsCharBoundary (string_bytes text.old) cursor }
     requires stands { (now : List ℕ) → apply (event_of (inverse (faced way change.now))) (string_bytes text.old) ≡ Some now → IsCharBoundary now (cursor_after cursor (inverse (faced way change.now))) }
     ensures text { apply (event_of (inverse (faced way change.now))) (string_bytes text.old) ≡ Some (string_bytes text.new) }
-    ensures table { starts.new.items ≡ line_starts (string_bytes text.new) }
+    ensures table { IsTable starts.new.places.items starts.new.border (string_bytes text.new) }
     ensures cursor { result ≡ cursor_after cursor (inverse (faced way change.now)) }
     ensures boundary { IsCharBoundary (string_bytes text.new) result }
     ensures capacity { string_capacity text.old ≤ string_capacity text.new }
-    ensures table_capacity { vec_capacity starts.old ≤ vec_capacity starts.new }
+    ensures table_capacity { vec_capacity starts.old.places ≤ vec_capacity starts.new.places }
     ensures len { string_len text.new ≡ size_back Bytes (faced way change.now) (string_len text.old) }
-    ensures count { vec_len starts.new ≡ size_back Newlines (faced way change.now) (vec_len starts.old) }
+    ensures count { vec_len starts.new.places ≡ size_back Newlines (faced way change.now) (vec_len starts.old.places) }
 {
     match change.place() {
         Some(at) => {
             let (going, coming) = change.texts(way);
-            let behind = swap_in(text, starts, at, at + going.len(), coming);
+            let behind = swap_in(text, starts, at, at + going.len(), coming, newlines(coming));
             change.cursor_over(way).unwrap_or(behind)
         }
         None => cursor,
@@ -306,19 +306,20 @@ pub(crate) fn nth_on(way: Way, changes: &[Change], left: usize) -> &Change
 #[inline(always)]
 pub(crate) fn find_room_over(
     text: &mut String,
-    starts: &mut Vec<usize>,
+    starts: &mut LineStarts,
     changes: &[Change],
     way: Way,
 ) -> Result<(), Refusal>
     ensures text { string_bytes text.new ≡ string_bytes text.old }
     ensures len { string_len text.new ≡ string_len text.old }
-    ensures starts { starts.new.items ≡ starts.old.items }
-    ensures count { vec_len starts.new ≡ vec_len starts.old }
+    ensures starts { starts.new.places.items ≡ starts.old.places.items }
+    ensures border { starts.new.border ≡ starts.old.border }
+    ensures count { vec_len starts.new.places ≡ vec_len starts.old.places }
     ensures room { OnOk result (greatest_back_over Bytes (map (faced way) (order way changes.now)) (string_len text.old) ≤ string_capacity text.new) }
-    ensures table { OnOk result (greatest_back_over Newlines (map (faced way) (order way changes.now)) (vec_len starts.old) ≤ vec_capacity starts.new) }
-    ensures err { IfErr result (λ r. (r ≡ NoMemory) × ((string_len text.old < greatest_back_over Bytes (map (faced way) (order way changes.now)) (string_len text.old)) ⊎ (vec_len starts.old < greatest_back_over Newlines (map (faced way) (order way changes.now)) (vec_len starts.old)))) }
+    ensures table { OnOk result (greatest_back_over Newlines (map (faced way) (order way changes.now)) (vec_len starts.old.places) ≤ vec_capacity starts.new.places) }
+    ensures err { IfErr result (λ r. (r ≡ NoMemory) × ((string_len text.old < greatest_back_over Bytes (map (faced way) (order way changes.now)) (string_len text.old)) ⊎ (vec_len starts.old.places < greatest_back_over Newlines (map (faced way) (order way changes.now)) (vec_len starts.old.places)))) }
 {
-    let growth = growth_over(changes, way, text.len(), starts.len())?;
+    let growth = growth_over(changes, way, text.len(), starts.places.len())?;
     find_room(text, starts, growth.bytes, growth.newlines)
 }
 

@@ -23,7 +23,7 @@ mod ranges;
 mod transpositions;
 
 use crate::change::{Change, Way, find_room_over, go_over, nth_on};
-use crate::line_starts::{newlines, newlines_of};
+use crate::line_starts::{LineStarts, newlines, newlines_of};
 use crate::steps::{deletion_step, insertion_step};
 use crate::swap::{find_room, find_room_instead, swap_in, swap_in_char};
 pub use kills::kill_agrees_with_copy;
@@ -53,8 +53,8 @@ const _: () = prove!(MAX_LINE == 4096);
 #[derive(Drop)]
 pub struct LineBuffer {
     buf: String,
-    // The places right behind the newlines of the text, in order: where its lines begin, but the first.
-    starts: Vec<usize>,
+    // Where the lines of the text begin, but for the first.
+    starts: LineStarts,
     pos: usize,
     limit: usize,
     can_growth: bool,
@@ -68,7 +68,7 @@ impl Model for LineBuffer {
 
     ghost view = { λ b. record { text = string_bytes b.buf; cursor = b.pos; limit = b.limit; grow = b.can_growth } };
 
-    ghost invariant = { λ b. IsLine (string_bytes b.buf) b.starts.items b.pos b.limit };
+    ghost invariant = { λ b. IsLine (string_bytes b.buf) b.starts.places.items b.starts.border b.pos b.limit };
 }
 
 impl fmt::Debug for LineBuffer {
@@ -88,7 +88,7 @@ impl LineBuffer {
         match String::with_capacity(alloc, capacity) {
             Ok(buf) => Ok(LineBuffer {
                 buf,
-                starts: Vec::new(alloc),
+                starts: LineStarts::new(alloc),
                 pos: 0,
                 limit: capacity,
                 can_growth: false,
@@ -191,7 +191,8 @@ impl LineBuffer {
         ensures kept { OnErr result (self.new ≡ self.old) }
         ensures cause { IfErr result (λ r. or_no_memory L.refused listener.old (InsertStr idx text.now) r listener.new) }
     {
-        find_room(&mut self.buf, &mut self.starts, text.len(), newlines(text))?;
+        let come = newlines(text);
+        find_room(&mut self.buf, &mut self.starts, text.len(), come)?;
         insertion_step(
             &mut self.buf,
             &mut self.starts,
@@ -199,6 +200,7 @@ impl LineBuffer {
             &mut self.limit,
             idx,
             text,
+            come,
             cursor,
             listener,
         )
@@ -247,10 +249,10 @@ impl LineBuffer {
         ensures cause { IfErr result (λ r. or_no_memory L.refused listener.old (Replace range.start (slice_range self.old.text range.start range.end) text.now) r listener.new) }
     {
         let (from, to) = (range.start, range.end);
-        find_room_instead(&mut self.buf, &mut self.starts, from, to, text)?;
+        let come = find_room_instead(&mut self.buf, &mut self.starts, from, to, text)?;
         listener.replace(from, &self.buf.as_str()[from..to], text)?;
         listener.cursors(self.pos, from + text.len());
-        self.pos = swap_in(&mut self.buf, &mut self.starts, from, to, text);
+        self.pos = swap_in(&mut self.buf, &mut self.starts, from, to, text, come);
         self.limit = self.limit.max(self.buf.len());
         Ok(())
     }
@@ -321,8 +323,8 @@ impl LineBuffer {
         };
         let (going, coming) = change.texts(way);
         let to = at + going.len();
-        find_room_instead(&mut self.buf, &mut self.starts, at, to, coming)?;
-        let behind = swap_in(&mut self.buf, &mut self.starts, at, to, coming);
+        let come = find_room_instead(&mut self.buf, &mut self.starts, at, to, coming)?;
+        let behind = swap_in(&mut self.buf, &mut self.starts, at, to, coming, come);
         self.pos = change.cursor_over(way).unwrap_or(behind);
         self.limit = self.limit.max(self.buf.len());
         Ok(())

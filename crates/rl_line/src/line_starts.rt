@@ -1,15 +1,49 @@
-//! The table of a line's text: the places right behind its newlines, in order, where its lines begin but for the first.
-ghost use Rattle.std.specs.Prelude.{◌≡◌, ℕ, ◌+◌, ◌-◌, ◌^◌, ◌<◌, ◌≤◌, ◌++◌, ◌==◌, ◌&&◌, nat_le, All, List, map, take, drop, get_or, length, count_by, encode_utf8, slice_range, vec_len, vec_capacity};
+//! The table of a line's text: the places right after its newlines, in order, where its lines begin but for the first.
+ghost use Rattle.std.specs.Prelude.{◌≡◌, ℕ, [], ◌+◌, ◌-◌, ◌^◌, ◌<◌, ◌≤◌, ◌++◌, ◌==◌, ◌&&◌, nat_le, All, map, take, drop, get_or, length, count_by, encode_utf8, slice_range, vec_len, vec_capacity};
 ghost use Rattle.std.specs.List.{replace_range};
 ghost use Rattle.std.specs.Str.{IsCharBoundary};
 ghost use Rattle.rl_base.specs.Lines.{is_newline, line_number};
-ghost use Rattle.rl_line.specs.LineStarts.{behind_newlines, line_starts, shifted, CanShift};
+ghost use Rattle.rl_line.specs.LineStarts.{behind_newlines, line_starts, from_end, IsTable};
 
-/// How many newlines a text has.
+use memchr::memchr_iter;
+use std::alloc::Global;
+
+/// Where the lines of a text begin, but for the first. The starts before the border count from the start of the text, those
+/// from it on from its end: so a change at the border leaves all of them as they are.
+#[derive(Drop)]
+pub(crate) struct LineStarts {
+    pub(crate) places: Vec<usize>,
+    pub(crate) border: usize,
+}
+
+/// How many newlines a text has. They are counted in stretches so short that a byte holds each count, which the compiler makes
+/// vectors of bytes of.
 pub(crate) fn newlines(text: &str) -> usize
     ensures { result ≡ count_by is_newline text.now }
 {
-    text.bytes().filter(|b| *b == b'\n').count()
+    let bytes = text.as_bytes();
+    let mut n = 0;
+    let mut at = 0;
+    while bytes.len() - at > 240 {
+        n += usize::from(few_newlines(&bytes[at..at + 240]));
+        at += 240;
+    }
+    n + usize::from(few_newlines(&bytes[at..]))
+}
+
+// How many newlines a stretch of a text has.
+#[inline(always)]
+fn few_newlines(bytes: &[u8]) -> u8
+    requires { length bytes.now < 256 }
+    ensures { result ≡ count_by is_newline bytes.now }
+{
+    let mut n = 0u8;
+    for b in bytes {
+        if *b == b'\n' {
+            n += 1;
+        }
+    }
+    n
 }
 
 /// How many newlines a character is.
@@ -19,113 +53,217 @@ pub(crate) fn newlines_of(c: char) -> usize
     usize::from(c == '\n')
 }
 
-/// The number of the line that a place lies in, from 0, by binary search in the table of the text.
-pub(crate) fn line_number(starts: &[usize], pos: usize) -> usize
-    ensures value { (text : List ℕ) → starts.now ≡ line_starts text → pos ≤ length text → result ≡ line_number text pos }
-    ensures within { result ≤ length starts.now }
-{
-    starts.partition_point(|start| *start <= pos)
+impl LineStarts {
+    /// The table of an empty text.
+    pub(crate) fn new(alloc: Global) -> Self
+        ensures { IsTable result.places.items result.border [] }
+    {
+        LineStarts {
+            places: Vec::new(alloc),
+            border: 0,
+        }
+    }
+
+    /// The start with a number, from 0, in the table of a text.
+    #[inline(always)]
+    pub(crate) fn start(&self, text: &str, k: usize) -> usize
+        requires table { IsTable self.now.places.items self.now.border text.now }
+        requires within { k < vec_len self.now.places }
+        ensures { result ≡ get_or (line_starts text.now) k 0 }
+    {
+        if k < self.border {
+            return self.places[k];
+        }
+        text.len() - self.places[k]
+    }
+
+    /// The number of the line that a place lies in, from 0, by binary search in the part of the table that has it.
+    pub(crate) fn line_number(&self, text: &str, pos: usize) -> usize
+        requires table { IsTable self.now.places.items self.now.border text.now }
+        requires place { pos ≤ length text.now }
+        ensures { result ≡ line_number text.now pos }
+    {
+        let border = self.border;
+        if self.border_by(text, pos) {
+            let left = text.len() - pos;
+            return border + self.places[border..].partition_point(|start| left <= *start);
+        }
+        self.places[..border].partition_point(|start| *start <= pos)
+    }
+
+    /// How many newlines more than a range of the text a part has that has so many.
+    pub(crate) fn more_than(&self, text: &str, from: usize, to: usize, come: usize) -> usize
+        requires table { IsTable self.now.places.items self.now.border text.now }
+        requires order { from ≤ to }
+        requires end { to ≤ length text.now }
+        ensures { result ≡ come - count_by is_newline (slice_range text.now from to) }
+    {
+        if come == 0 {
+            return 0;
+        }
+        let gone = self.line_number(text, to) - self.line_number(text, from);
+        come.saturating_sub(gone)
+    }
+
+    /// Whether the table stays as it is where a range gives way to a part that has so many newlines: none comes, none goes, and
+    /// the border is there.
+    #[inline(always)]
+    pub(crate) fn stays(&self, text: &str, from: usize, to: usize, come: usize) -> bool
+        requires table { IsTable self.now.places.items self.now.border text.now }
+        requires order { from ≤ to }
+        requires end { to ≤ length text.now }
+        ensures { result ≡ (come == 0 && (nat_le self.now.border (line_number text.now from) && nat_le (line_number text.now to) self.now.border)) }
+    {
+        come == 0 && (self.border_by(text, from) && self.border_after(text, to))
+    }
+
+    // Whether all starts before the border lie at a place or before it.
+    #[inline(always)]
+    fn border_by(&self, text: &str, pos: usize) -> bool
+        requires table { IsTable self.now.places.items self.now.border text.now }
+        requires place { pos ≤ length text.now }
+        ensures { result ≡ nat_le self.now.border (line_number text.now pos) }
+    {
+        if self.border == 0 {
+            return true;
+        }
+        self.start(text, self.border - 1) <= pos
+    }
+
+    // Whether all starts from the border on lie after a place.
+    #[inline(always)]
+    fn border_after(&self, text: &str, pos: usize) -> bool
+        requires table { IsTable self.now.places.items self.now.border text.now }
+        requires place { pos ≤ length text.now }
+        ensures { result ≡ nat_le (line_number text.now pos) self.now.border }
+    {
+        if self.border == self.places.len() {
+            return true;
+        }
+        pos < self.start(text, self.border)
+    }
+
+    // Moves the border. The starts that it passes are counted from the other end then.
+    fn move_border(&mut self, text: &str, border: usize)
+        requires table { IsTable self.old.places.items self.old.border text.now }
+        requires within { border ≤ vec_len self.old.places }
+        ensures table { IsTable self.new.places.items border text.now }
+        ensures border { self.new.border ≡ border }
+        ensures count { vec_len self.new.places ≡ vec_len self.old.places }
+        ensures capacity { vec_capacity self.old.places ≤ vec_capacity self.new.places }
+    {
+        let old = self.border;
+        self.border = border;
+        if border < old {
+            turn(&mut self.places[border..old], text.len());
+        } else {
+            turn(&mut self.places[old..border], text.len());
+        }
+    }
 }
 
-/// Keeps the table of a text while a range of it gives way to a part. It has room for what this makes of it.
-pub(crate) fn swap_starts(starts: &mut Vec<usize>, text: &str, from: usize, to: usize, part: &str)
+// Counts places of a text of a length from its other end.
+fn turn(places: &mut [usize], len: usize)
+    requires { All (λ place. place ≤ len) places.old }
+    ensures { places.new ≡ map (from_end len) places.old }
+{
+    for place in places.iter_mut() {
+        *place = len - *place;
+    }
+}
+
+/// Keeps the table of a text while a range of it gives way to a part that has so many newlines. It has room for what this makes of
+/// it.
+#[inline(always)]
+pub(crate) fn swap_starts(
+    starts: &mut LineStarts,
+    text: &str,
+    from: usize,
+    to: usize,
+    part: &str,
+    come: usize,
+)
     requires order { from ≤ to }
     requires start { IsCharBoundary text.now from }
     requires end { IsCharBoundary text.now to }
-    requires table { starts.old.items ≡ line_starts text.now }
-    requires room { (vec_len starts.old - count_by is_newline (slice_range text.now from to)) + count_by is_newline part.now ≤ vec_capacity starts.old }
-    ensures table { starts.new.items ≡ line_starts (replace_range text.now from to part.now) }
-    ensures capacity { vec_capacity starts.old ≤ vec_capacity starts.new }
-    ensures count { vec_len starts.new ≡ (vec_len starts.old - count_by is_newline (slice_range text.now from to)) + count_by is_newline part.now }
+    requires table { IsTable starts.old.places.items starts.old.border text.now }
+    requires come { come ≡ count_by is_newline part.now }
+    requires room { (vec_len starts.old.places - count_by is_newline (slice_range text.now from to)) + count_by is_newline part.now ≤ vec_capacity starts.old.places }
+    ensures table { IsTable starts.new.places.items starts.new.border (replace_range text.now from to part.now) }
+    ensures capacity { vec_capacity starts.old.places ≤ vec_capacity starts.new.places }
+    ensures count { vec_len starts.new.places ≡ (vec_len starts.old.places - count_by is_newline (slice_range text.now from to)) + count_by is_newline part.now }
 {
-    let come = newlines(part);
-    if stays(starts, from, come) {
+    if starts.stays(text, from, to, come) {
         return;
     }
-    let first = line_number(starts, from);
-    let behind = first + newlines(&text[from..to]);
-    let next = first + come;
-    move_behind(starts, behind, next, to, from + part.len());
-    put_behind_newlines(&mut starts[first..], from, part);
+    exchange_starts(starts, text, from, to, part, come);
 }
 
-/// Whether a table stays as it is where a change begins at a place and brings so many newlines: it brings none, and no start
-/// lies behind the place. A change in the last line of a text asks no more than this.
-pub(crate) fn stays(starts: &[usize], from: usize, come: usize) -> bool
-    ensures { result ≡ (come == 0 && nat_le (get_or starts.now (length starts.now - 1) 0) from) }
-{
-    match starts.last() {
-        Some(last) => come == 0 && *last <= from,
-        None => come == 0,
-    }
-}
-
-// The starts from number `behind` on get the numbers from `next` on, and move with what stands behind a range that ended at
-// `old`, and in whose stead a part ends at `new`. What is left between those and the starts before them is open. Its loops
-// stay out of the steps that call this, or typing in a line without newlines would be slower for them.
+// The same where the border is elsewhere, or newlines come or go. The starts after the range keep their distances from the end.
 #[inline(never)]
-fn move_behind(starts: &mut Vec<usize>, behind: usize, next: usize, old: usize, new: usize)
-    requires within { behind ≤ vec_len starts.old }
-    requires room { next + (vec_len starts.old - behind) ≤ vec_capacity starts.old }
-    requires fits { All (CanShift old new) (drop behind starts.old.items) }
-    ensures before { (n : ℕ) → n ≤ behind → n ≤ next → take n starts.new.items ≡ take n starts.old.items }
-    ensures moved { drop next starts.new.items ≡ map (shifted old new) (drop behind starts.old.items) }
-    ensures capacity { vec_capacity starts.old ≤ vec_capacity starts.new }
-    ensures count { vec_len starts.new ≡ next + (vec_len starts.old - behind) }
+fn exchange_starts(
+    starts: &mut LineStarts,
+    text: &str,
+    from: usize,
+    to: usize,
+    part: &str,
+    come: usize,
+)
+    requires order { from ≤ to }
+    requires start { IsCharBoundary text.now from }
+    requires end { IsCharBoundary text.now to }
+    requires table { IsTable starts.old.places.items starts.old.border text.now }
+    requires come { come ≡ count_by is_newline part.now }
+    requires room { (vec_len starts.old.places - count_by is_newline (slice_range text.now from to)) + count_by is_newline part.now ≤ vec_capacity starts.old.places }
+    ensures table { IsTable starts.new.places.items starts.new.border (replace_range text.now from to part.now) }
+    ensures capacity { vec_capacity starts.old.places ≤ vec_capacity starts.new.places }
+    ensures count { vec_len starts.new.places ≡ (vec_len starts.old.places - count_by is_newline (slice_range text.now from to)) + count_by is_newline part.now }
 {
-    if next == behind {
-        shift(&mut starts[behind..], old, new);
+    let first = starts.line_number(text, from);
+    let gone = starts.line_number(text, to) - first;
+    starts.move_border(text, first);
+    open_gap(&mut starts.places, first, gone, come);
+    put_behind_newlines(&mut starts.places[first..], from, part);
+    starts.border = first + come;
+}
+
+// Makes room for `come` places in the stead of `gone` from a number on. What is left between is open. One more or less, as for a
+// newline that is typed or taken out, goes by the calls that move memory.
+fn open_gap(places: &mut Vec<usize>, at: usize, gone: usize, come: usize)
+    requires within { at + gone ≤ vec_len places.old }
+    requires room { (vec_len places.old - gone) + come ≤ vec_capacity places.old }
+    ensures before { take at places.new.items ≡ take at places.old.items }
+    ensures after { drop (at + come) places.new.items ≡ drop (at + gone) places.old.items }
+    ensures capacity { vec_capacity places.old ≤ vec_capacity places.new }
+    ensures count { vec_len places.new ≡ (vec_len places.old - gone) + come }
+{
+    if come == gone {
         return;
     }
-    let len = starts.len();
-    if next < behind {
-        shift_down(starts.as_mut_slice(), behind, behind - next, old, new);
-        starts.truncate(len - (behind - next));
+    let len = places.len();
+    if come < gone {
+        if gone - come == 1 {
+            places.remove(at);
+            return;
+        }
+        places.copy_within(at + gone..len, at + come);
+        places.truncate(len - (gone - come));
         return;
     }
-    match starts.resize(len + (next - behind), 0) {
+    if come - gone == 1 {
+        match places.insert(at, 0) {
+            Ok(()) => return,
+            Err(_) => unreachable!(),
+        }
+    }
+    match places.resize(len + (come - gone), 0) {
         Ok(()) => {}
         Err(_) => unreachable!(),
     }
-    shift_up(starts.as_mut_slice(), behind, next - behind, old, new);
+    places.copy_within(at + gone..len, at + come);
 }
 
-// Shifts each place.
-fn shift(places: &mut [usize], old: usize, new: usize)
-    requires { All (CanShift old new) places.old }
-    ensures { places.new ≡ map (shifted old new) places.old }
-{
-    for place in places.iter_mut() {
-        *place = new + (*place - old);
-    }
-}
-
-// Shifts the places from number `behind` on, each to a number that is less by `n`, the first first. The last `n` are open.
-fn shift_down(places: &mut [usize], behind: usize, n: usize, old: usize, new: usize)
-    requires order { n ≤ behind }
-    requires within { behind ≤ length places.old }
-    requires fits { All (CanShift old new) (drop behind places.old) }
-    ensures { take (length places.old - n) places.new ≡ take (behind - n) places.old ++ map (shifted old new) (drop behind places.old) }
-{
-    for i in behind..places.len() {
-        places[i - n] = new + (places[i] - old);
-    }
-}
-
-// Shifts the places from number `behind` on but the last `n`, each to a number that is greater by `n`, the last first.
-fn shift_up(places: &mut [usize], behind: usize, n: usize, old: usize, new: usize)
-    requires within { behind + n ≤ length places.old }
-    requires fits { All (CanShift old new) (slice_range places.old behind (length places.old - n)) }
-    ensures { places.new ≡ take (behind + n) places.old ++ map (shifted old new) (slice_range places.old behind (length places.old - n)) }
-{
-    let mut i = places.len() - n;
-    while i > behind {
-        i -= 1;
-        places[i + n] = new + (places[i] - old);
-    }
-}
-
-// Puts the places behind the newlines of a part that begins at `at` before those that stay.
+// Puts the places after the newlines of a part that begins at `at` before those that stay.
 #[inline(never)]
 fn put_behind_newlines(places: &mut [usize], at: usize, part: &str)
     requires within { count_by is_newline part.now ≤ length places.old }
@@ -133,12 +271,8 @@ fn put_behind_newlines(places: &mut [usize], at: usize, part: &str)
     ensures { places.new ≡ behind_newlines (at + 1) part.now ++ drop (count_by is_newline part.now) places.old }
 {
     let mut n = 0;
-    let mut end = at;
-    for b in part.as_bytes() {
-        end += 1;
-        if *b == b'\n' {
-            places[n] = end;
-            n += 1;
-        }
+    for newline in memchr_iter(b'\n', part.as_bytes()) {
+        places[n] = at + newline + 1;
+        n += 1;
     }
 }

@@ -1,15 +1,15 @@
 //! The one way in which a text changes, and the table of a line's text with it: a range gives way to a part.
-ghost use Rattle.std.specs.Prelude.{◌≡◌, ◌+◌, ◌-◌, ◌<◌, ◌≤◌, ◌++◌, encode_utf8, count_by, length, slice_range, take, vec_len, vec_capacity, IfErr, OnOk};
+ghost use Rattle.std.specs.Prelude.{◌≡◌, ◌+◌, ◌-◌, ◌<◌, ◌≤◌, ◌++◌, encode_utf8, count_by, length, slice_range, take, vec_len, vec_capacity, IfErr, IfOk, OnOk};
 ghost use Rattle.std.specs.String.{string_bytes, string_len, string_capacity};
 ghost use Rattle.std.specs.List.{insert_slice, replace_range};
 ghost use Rattle.std.specs.Str.{IsCharBoundary};
 ghost use Rattle.rl_base.specs.Lines.{is_newline};
 ghost use Rattle.rl_base.specs.declared.listeners.Refusal.TheVariants.{NoMemory};
 ghost use Rattle.rl_base.specs.Event.{Replace};
-ghost use Rattle.rl_line.specs.LineStarts.{line_starts};
+ghost use Rattle.rl_line.specs.LineStarts.{IsTable};
 ghost use Rattle.rl_line.specs.Plan.{Grows};
 
-use crate::line_starts::{newlines, newlines_of, stays, swap_starts};
+use crate::line_starts::{LineStarts, newlines, newlines_of, swap_starts};
 use crate::tails::swap_bytes;
 use rl_base::Refusal;
 use std::alloc::Global;
@@ -18,98 +18,113 @@ use std::mem;
 /// Finds room in a text and in its table for so many bytes and newlines more.
 pub(crate) fn find_room(
     text: &mut String,
-    starts: &mut Vec<usize>,
+    starts: &mut LineStarts,
     bytes: usize,
     newlines: usize,
 ) -> Result<(), Refusal>
     ensures text { string_bytes text.new ≡ string_bytes text.old }
     ensures len { string_len text.new ≡ string_len text.old }
-    ensures starts { starts.new.items ≡ starts.old.items }
-    ensures count { vec_len starts.new ≡ vec_len starts.old }
+    ensures starts { starts.new.places.items ≡ starts.old.places.items }
+    ensures border { starts.new.border ≡ starts.old.border }
+    ensures count { vec_len starts.new.places ≡ vec_len starts.old.places }
     ensures room { OnOk result (string_len text.old + bytes ≤ string_capacity text.new) }
-    ensures table { OnOk result (vec_len starts.old + newlines ≤ vec_capacity starts.new) }
+    ensures table { OnOk result (vec_len starts.old.places + newlines ≤ vec_capacity starts.new.places) }
     ensures err { IfErr result (λ r. (r ≡ NoMemory) × (0 < bytes + newlines)) }
 {
     if text.reserve(bytes).is_err() {
         return Err(Refusal::NoMemory);
     }
-    if starts.reserve(newlines).is_err() {
+    if starts.places.reserve(newlines).is_err() {
         return Err(Refusal::NoMemory);
     }
     Ok(())
 }
 
-/// Finds room in a line's text and in its table for a part in the place of a range.
+/// Finds room in a line's text and in its table for a part in the place of a range. Answers how many newlines the part has.
 pub(crate) fn find_room_instead(
     text: &mut String,
-    starts: &mut Vec<usize>,
+    starts: &mut LineStarts,
     from: usize,
     to: usize,
     part: &str,
-) -> Result<(), Refusal>
+) -> Result<usize, Refusal>
     requires order { from ≤ to }
     requires start { IsCharBoundary (string_bytes text.old) from }
     requires end { IsCharBoundary (string_bytes text.old) to }
-    requires table { starts.old.items ≡ line_starts (string_bytes text.old) }
+    requires table { IsTable starts.old.places.items starts.old.border (string_bytes text.old) }
     ensures text { string_bytes text.new ≡ string_bytes text.old }
     ensures len { string_len text.new ≡ string_len text.old }
-    ensures starts { starts.new.items ≡ starts.old.items }
-    ensures count { vec_len starts.new ≡ vec_len starts.old }
+    ensures starts { starts.new.places.items ≡ starts.old.places.items }
+    ensures border { starts.new.border ≡ starts.old.border }
+    ensures count { vec_len starts.new.places ≡ vec_len starts.old.places }
+    ensures newlines { IfOk result (λ come. come ≡ count_by is_newline part.now) }
     ensures room { OnOk result ((string_len text.old - (to - from)) + length part.now ≤ string_capacity text.new) }
-    ensures table { OnOk result ((vec_len starts.old - count_by is_newline (slice_range (string_bytes text.old) from to)) + count_by is_newline part.now ≤ vec_capacity starts.new) }
+    ensures table { OnOk result ((vec_len starts.old.places - count_by is_newline (slice_range (string_bytes text.old) from to)) + count_by is_newline part.now ≤ vec_capacity starts.new.places) }
     ensures err { IfErr result (λ r. (r ≡ NoMemory) × Grows (Replace from (slice_range (string_bytes text.old) from to) part.now)) }
 {
     let bytes = part.len().saturating_sub(to - from);
-    let lines = newlines(part).saturating_sub(newlines(&text.as_str()[from..to]));
-    find_room(text, starts, bytes, lines)
+    let come = newlines(part);
+    let lines = starts.more_than(text.as_str(), from, to, come);
+    find_room(text, starts, bytes, lines)?;
+    Ok(come)
 }
 
-/// Puts a part in the place of a range, in a line's text and in its table, which have room for what this makes of them: an
-/// insertion where the range is empty, a deletion where the part is. Answers the part's end.
+/// Puts a part that has so many newlines in the place of a range, in a line's text and in its table, which have room for what
+/// this makes of them: an insertion where the range is empty, a deletion where the part is. Answers the part's end.
 pub(crate) fn swap_in(
     text: &mut String,
-    starts: &mut Vec<usize>,
+    starts: &mut LineStarts,
     from: usize,
     to: usize,
     part: &str,
+    come: usize,
 ) -> usize
     requires order { from ≤ to }
     requires start { IsCharBoundary (string_bytes text.old) from }
     requires end { IsCharBoundary (string_bytes text.old) to }
-    requires table { starts.old.items ≡ line_starts (string_bytes text.old) }
+    requires table { IsTable starts.old.places.items starts.old.border (string_bytes text.old) }
+    requires come { come ≡ count_by is_newline part.now }
     requires room { (string_len text.old - (to - from)) + length part.now ≤ string_capacity text.old }
-    requires table_room { (vec_len starts.old - count_by is_newline (slice_range (string_bytes text.old) from to)) + count_by is_newline part.now ≤ vec_capacity starts.old }
+    requires table_room { (vec_len starts.old.places - count_by is_newline (slice_range (string_bytes text.old) from to)) + count_by is_newline part.now ≤ vec_capacity starts.old.places }
     ensures text { string_bytes text.new ≡ replace_range (string_bytes text.old) from to part.now }
-    ensures table { starts.new.items ≡ line_starts (string_bytes text.new) }
+    ensures table { IsTable starts.new.places.items starts.new.border (string_bytes text.new) }
     ensures end { result ≡ from + length part.now }
     ensures boundary { IsCharBoundary (string_bytes text.new) result }
     ensures capacity { string_capacity text.old ≤ string_capacity text.new }
-    ensures table_capacity { vec_capacity starts.old ≤ vec_capacity starts.new }
+    ensures table_capacity { vec_capacity starts.old.places ≤ vec_capacity starts.new.places }
     ensures len { string_len text.new ≡ (string_len text.old - (to - from)) + length part.now }
-    ensures count { vec_len starts.new ≡ (vec_len starts.old - count_by is_newline (slice_range (string_bytes text.old) from to)) + count_by is_newline part.now }
+    ensures count { vec_len starts.new.places ≡ (vec_len starts.old.places - count_by is_newline (slice_range (string_bytes text.old) from to)) + count_by is_newline part.now }
 {
-    swap_starts(starts, text.as_str(), from, to, part);
+    swap_starts(starts, text.as_str(), from, to, part, come);
     swap_text(text, from, to, part);
     from + part.len()
 }
 
-/// Puts a character in at a place, as `swap_in` does. In the last line of a text any but a newline is neither
-/// encoded nor counted.
-pub(crate) fn swap_in_char(text: &mut String, starts: &mut Vec<usize>, at: usize, c: char)
+/// Puts a character in at a place, as `swap_in` does. Where the table's border is there, any but a newline is neither encoded
+/// nor counted.
+pub(crate) fn swap_in_char(text: &mut String, starts: &mut LineStarts, at: usize, c: char)
     requires place { IsCharBoundary (string_bytes text.old) at }
-    requires table { starts.old.items ≡ line_starts (string_bytes text.old) }
+    requires table { IsTable starts.old.places.items starts.old.border (string_bytes text.old) }
     requires room { string_len text.old + length (encode_utf8 c) ≤ string_capacity text.old }
-    requires table_room { vec_len starts.old + count_by is_newline (encode_utf8 c) ≤ vec_capacity starts.old }
+    requires table_room { vec_len starts.old.places + count_by is_newline (encode_utf8 c) ≤ vec_capacity starts.old.places }
     ensures text { string_bytes text.new ≡ insert_slice (string_bytes text.old) at (encode_utf8 c) }
-    ensures table { starts.new.items ≡ line_starts (string_bytes text.new) }
+    ensures table { IsTable starts.new.places.items starts.new.border (string_bytes text.new) }
     ensures len { string_len text.new ≡ string_len text.old + length (encode_utf8 c) }
 {
-    if stays(starts, at, newlines_of(c)) {
+    let come = newlines_of(c);
+    if starts.stays(text.as_str(), at, at, come) {
         put_char_in(text, at, c);
         return;
     }
     let mut bytes = [0; 4];
-    swap_starts(starts, text.as_str(), at, at, c.encode_utf8(&mut bytes));
+    swap_starts(
+        starts,
+        text.as_str(),
+        at,
+        at,
+        c.encode_utf8(&mut bytes),
+        come,
+    );
     put_char_in(text, at, c);
 }
 

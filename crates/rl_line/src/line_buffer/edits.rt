@@ -154,7 +154,7 @@ impl LineBuffer {
         ensures cursor { OnOk result (self.new.cursor ≡ cursor) }
         ensures halted { IfErr result (λ r. Halted L.step L.refused (exchange_plan self.old range between text.now cursor) self.old self.new listener.old listener.new r ⊎ Uncopied (exchange_plan self.old range between text.now cursor) self.old self.new listener.old listener.new r) }
     {
-        find_room_instead(
+        let come = find_room_instead(
             &mut self.buf,
             &mut self.starts,
             range.start,
@@ -169,6 +169,7 @@ impl LineBuffer {
             range,
             between,
             text,
+            come,
             cursor,
             listener,
         )?;

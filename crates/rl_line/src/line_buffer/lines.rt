@@ -1,5 +1,5 @@
 //! The lines of a text by their numbers, from 0: where each begins and ends, read from the table of line starts.
-ghost use Rattle.std.specs.Prelude.{◌≡◌, ◌≢◌, ◌-◌, ◌<◌, ◌≤◌, length, slice_range, IfSome};
+ghost use Rattle.std.specs.Prelude.{◌≡◌, ◌≢◌, ◌-◌, ◌<◌, ◌≤◌, get_or, length, slice_range, IfSome};
 ghost use Rattle.std.specs.Str.{IsCharBoundary, IsUtf8};
 ghost use Rattle.rl_base.specs.Lines.{last_line, line_number, lines, start_of_line, end_of_line, text_of_line};
 ghost use Rattle.rl_line.specs.LineMotions.{home, line_end, line_above, line_below};
@@ -8,7 +8,6 @@ ghost use Rattle.rl_line.specs.Ranges.{behind_line};
 ghost use Rattle.rl_line.specs.LineRanges.{range_of_line};
 
 use crate::line_buffer::LineBuffer;
-use crate::line_starts::line_number;
 use rl_base::RepeatCount;
 use std::ops::Range;
 
@@ -26,7 +25,7 @@ impl LineBuffer {
         ensures count { result ≡ length (lines self.now.text) }
         ensures some { 0 < result }
     {
-        self.starts().len() + 1
+        self.starts.places.len() + 1
     }
 
     /// Where the text of line `i` stands, from 0, in bytes: without its newline. None where there are not so many lines.
@@ -42,12 +41,13 @@ impl LineBuffer {
         Some(self.start_of_line(i)..self.end_of_line(i))
     }
 
-    // The table: where the lines begin, but for the first.
-    fn starts(&self) -> &[usize]
-        ensures table { result.now ≡ line_starts self.now.text }
+    // The start with a number, from 0, in the table.
+    fn start(&self, k: usize) -> usize
+        requires { k < last_line self.now.text }
+        ensures start { result ≡ get_or (line_starts self.now.text) k 0 }
         ensures utf8 { IsUtf8 self.now.text }
     {
-        self.starts.as_slice()
+        self.starts.start(self.buf.as_str(), k)
     }
 
     // The number of the line that a place lies in.
@@ -56,14 +56,14 @@ impl LineBuffer {
         ensures value { result ≡ line_number self.now.text pos }
         ensures within { result ≤ last_line self.now.text }
     {
-        line_number(self.starts(), pos)
+        self.starts.line_number(self.buf.as_str(), pos)
     }
 
     // The number of the last line.
     pub(super) fn last_line(&self) -> usize
         ensures { result ≡ last_line self.now.text }
     {
-        self.starts().len()
+        self.starts.places.len()
     }
 
     // The place where a line begins.
@@ -73,11 +73,12 @@ impl LineBuffer {
         ensures boundary { IsCharBoundary self.now.text result }
         ensures above { result ≢ 0 → IsCharBoundary self.now.text (result - 1) }
     {
-        let starts = self.starts();
+        // So the proof knows that the text is UTF-8.
+        let _cursor = self.pos();
         if k == 0 {
             return 0;
         }
-        starts[k - 1]
+        self.start(k - 1)
     }
 
     // The place where the text of a line ends, before its newline.
@@ -86,10 +87,10 @@ impl LineBuffer {
         ensures value { result ≡ end_of_line self.now.text k }
         ensures boundary { IsCharBoundary self.now.text result }
     {
-        match self.starts().get(k) {
-            Some(next) => *next - 1,
-            None => self.len(),
+        if k == self.last_line() {
+            return self.len();
         }
+        self.start(k) - 1
     }
 
     // The place behind the newline of a line, or the end of the text for the last, which has none.
@@ -98,10 +99,10 @@ impl LineBuffer {
         ensures value { result ≡ behind_line self.now.text k }
         ensures boundary { IsCharBoundary self.now.text result }
     {
-        match self.starts().get(k) {
-            Some(next) => *next,
-            None => self.len(),
+        if k == self.last_line() {
+            return self.len();
         }
+        self.start(k)
     }
 
     // The start of the cursor's line.

@@ -5,6 +5,7 @@ ghost use Rattle.rl_line.specs.Plan.{Done, Halted, Uncopied};
 ghost use Rattle.rl_line.specs.Transpositions.{are_two, clusters_around, end_of_cluster, exchanged_text, first_word, meeting_place, pull_back_plan, SwapsClusters, second_word, swap_plan, transpose_chars_plan, transpose_words_plan, word_end, word_start};
 
 use crate::line_buffer::LineBuffer;
+use crate::line_starts::newlines;
 use crate::steps::{deletion_step, exchange_steps, insertion_step};
 use crate::swap::find_room_instead;
 use rl_base::places::{next_pos, next_word, prev_pos, prev_word};
@@ -66,6 +67,7 @@ impl LineBuffer {
             &mut self.limit,
             front,
             moved.as_str(),
+            newlines(moved.as_str()),
             moved.len() + next,
             listener,
         )?;
@@ -144,7 +146,7 @@ impl LineBuffer {
         let first_text = self.text_of(&first)?;
         let second_text = self.text_of(&second)?;
         let (start, between, end) = (first.start, first.end, second.end);
-        find_room_instead(
+        let come = find_room_instead(
             &mut self.buf,
             &mut self.starts,
             second.start,
@@ -159,6 +161,7 @@ impl LineBuffer {
             second,
             between,
             first_text.as_str(),
+            come,
             between,
             listener,
         )?;
@@ -170,6 +173,7 @@ impl LineBuffer {
             first,
             start,
             second_text.as_str(),
+            newlines(second_text.as_str()),
             end,
             listener,
         )?;

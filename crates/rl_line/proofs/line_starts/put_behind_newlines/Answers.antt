@@ -1,39 +1,55 @@
-use Rattle.std.proofs.Common.{◌<◌, ◌+◌, length, get_or, ap, sym, ◌∙◌, arith}
-use Rattle.rl_line.proofs.LineStartLemmas.{Puts-room, Puts-newline, Puts-other, Puts-all}
+use Rattle.std.proofs.Common.{◌≡◌, ◌<◌, ◌+◌, ◌++◌, ◌∷◌, [], map, drop, length, length-append, ap, ap₂, sym, ◌∙◌, arith}
+use Rattle.std.proofs.lemmas.List.{append_assoc, append-nil, length_push}
+use Rattle.memchr.specs.Find.{is_byte, places}
+use Rattle.rl_line.proofs.LineStartLemmas.{found, found-within, length-found, put_more}
 use Rattle.rl_line.proofs.line_starts.put_behind_newlines.Goals as goal
-use Rattle.rl_line.proofs.line_starts.put_behind_newlines.Goals.{Then-b-eq10, then-b-eq10, else-b-eq10}
+use Rattle.rl_line.proofs.line_starts.put_behind_newlines.Goals.{In-Some}
 
--- where a newline stands there is room for one place more
-room : (c : Then-b-eq10) → c.loop-b.n < length c.args.places.now
+-- the newline that comes, between those that were put and those to come
+split : (c : In-Some) → c.loop-newline.yielded ++ c.in-Some.newline ∷ c.next.new.self ≡ places (is_byte 10) c.args.part.now
+split c = ap (λ l. c.loop-newline.yielded ++ l) (sym c.in-Some.ensures.steps) ∙ c.loop-newline.invariant.all
+
+room : (c : In-Some) → c.loop-newline.n < length c.args.places.now
 room c =
-    let i = c.loop-b.b-index in
-    let within : i < length c.args.part.now = rw c.as_bytes-b-items.ensures.value at c.loop-b-test.true in
-    let newline = ap (λ l. get_or l i 0) (sym c.as_bytes-b-items.ensures.value) ∙ c.if-b-eq10.true in
-    Puts-room _ i _ c.args.part.now c.args.places.now c.loop-b.places within c.loop-b.invariant.puts newline c.requires.within
+    omega (
+      arith,
+      c.loop-newline.invariant.count,
+      c.requires.within,
+      length-found c.args.part.now,
+      ap length (split c),
+      length-append c.loop-newline.yielded (c.in-Some.newline ∷ c.next.new.self),
+    )
+
+pub overflow_add-places : goal.overflow_add-places
+overflow_add-places c = omega (arith, found-within c.args.part.now c.loop-newline.yielded c.next.new.self c.in-Some.newline (split (goal.at.overflow_add-places c).In-Some), c.requires.fits)
+
+pub overflow_add-places-in-loop-newline : goal.overflow_add-places-in-loop-newline
+overflow_add-places-in-loop-newline c = omega (arith, found-within c.args.part.now c.loop-newline.yielded c.next.new.self c.in-Some.newline (split (goal.at.overflow_add-places-in-loop-newline c).In-Some), c.requires.fits)
 
 pub bounds-places-n : goal.bounds-places-n
-bounds-places-n c = omega (arith, room c, c.loop-b.auto.places)
+bounds-places-n c = omega (arith, room (goal.at.bounds-places-n c).In-Some, c.loop-newline.auto.places)
 
 pub offset_bounds-places-n : goal.offset_bounds-places-n
-offset_bounds-places-n c = omega (arith, room c)
+offset_bounds-places-n c = omega (arith, room (goal.at.offset_bounds-places-n c).In-Some)
 
 pub overflow_add-n : goal.overflow_add-n
-overflow_add-n c = omega (arith, room c)
+overflow_add-n c = omega (arith, room (goal.at.overflow_add-n c).In-Some)
 
-pub loop-b-preserved : goal.loop-b-preserved
-loop-b-preserved c =
-    let part = c.args.part.now in
-    let i = c.loop-b.b-index in
-    let n = c.args.at + 1 in
-    let within : i < length part = rw c.as_bytes-b-items.ensures.value at c.loop-b-test.true in
-    let byte = ap (λ l. get_or l i 0) (sym c.as_bytes-b-items.ensures.value) in
+pub loop-newline-preserved : goal.loop-newline-preserved
+loop-newline-preserved c =
+    let d = (goal.at.loop-newline-preserved c).In-Some in
+    let done = c.loop-newline.yielded in
+    let at : c.args.at + c.in-Some.newline + 1 ≡ (c.args.at + 1) + c.in-Some.newline = omega arith in
     record {
-      place = omega (arith, c.loop-b.invariant.place);
-      puts = elim c.if-b-eq10.branch [
-        | then-b-eq10 w ↦ rw (w.n-is, w.places-is) (Puts-newline n i c.loop-b.n part c.args.places.now c.loop-b.places within c.loop-b.invariant.puts _ (omega (arith, c.loop-b.invariant.place)) (byte ∙ w.if-b-eq10.true) c.requires.within)
-        | else-b-eq10 w ↦ rw (w.n-is, w.places-is) (Puts-other n i c.loop-b.n part c.args.places.now c.loop-b.places within c.loop-b.invariant.puts (λ is. w.if-b-eq10.false (sym byte ∙ is)))
-      ];
+      all = append_assoc done (c.in-Some.newline ∷ []) c.next.new.self ∙ split d;
+      count = ap (λ k. k + 1) c.loop-newline.invariant.count ∙ sym (length_push done c.in-Some.newline);
+      puts = put_more (c.args.at + 1) c.loop-newline.n _ c.in-Some.newline done c.args.places.now c.loop-newline.places c.loop-newline.invariant.count (room d) c.loop-newline.invariant.puts at;
     }
 
 pub returns : goal.returns
-returns c = Puts-all _ c.loop-b.b-index _ c.args.part.now c.args.places.now _ (omega (arith, c.loop-b-test.false, ap length c.as_bytes-b-items.ensures.value)) c.loop-b.invariant.puts
+returns c =
+    let part = c.args.part.now in
+    let done = c.loop-newline.yielded in
+    let all : done ≡ places (is_byte 10) part = sym (append-nil done) ∙ ap (λ l. done ++ l) (sym c.in-None.ensures.steps.0) ∙ c.loop-newline.invariant.all in
+    c.loop-newline.invariant.puts
+    ∙ ap₂ (λ l n. l ++ drop n c.args.places.now) (ap (map (λ p. (c.args.at + 1) + p)) all ∙ found (c.args.at + 1) part) (c.loop-newline.invariant.count ∙ ap length all ∙ length-found part)

@@ -1,10 +1,11 @@
-use Rattle.std.proofs.Common.{◌≡◌, ◌+◌}
-use Rattle.rl_line.proofs.LineStartLemmas.{Puts}
+use Rattle.std.proofs.Common.{◌≡◌, ◌+◌, ◌++◌, map, drop, length}
+use Rattle.memchr.specs.Find.{is_byte, places}
 use Rattle.rl_line.proofs.line_starts.put_behind_newlines.Given as goal
 
-abbrev pub invariant-loop-b : goal.invariant-loop-b
-invariant-loop-b l =
+abbrev pub invariant-loop-newline : goal.invariant-loop-newline
+invariant-loop-newline l =
     record {
-      place : l.end ≡ l.at + l.b-index;
-      puts : Puts (l.at + 1) l.fn.part l.fn.places l.b-index l.n l.places;
+      all : l.yielded ++ l.newline-iterator ≡ places (is_byte 10) l.fn.part;
+      count : l.n ≡ length l.yielded;
+      puts : l.places ≡ map (λ p. (l.fn.at + 1) + p) l.yielded ++ drop l.n l.fn.places;
     }

@@ -1,36 +1,34 @@
-use Rattle.std.proofs.Common.{arith, ◌≡◌, count_by, slice_range, ap, sym, ◌∙◌}
+use Rattle.std.proofs.Common.{arith, count_by, slice_range, ap}
 use Rattle.std.proofs.lemmas.List.Edits.{length-between}
-use Rattle.std.proofs.lemmas.Result.{IfErr-weaker, on_ok_weaker}
+use Rattle.std.proofs.lemmas.Result.{err_from_is_err_and}
 use Rattle.std.specs.String.{string_bytes}
 use Rattle.rl_base.specs.Lines.{is_newline}
 use Rattle.rl_line.proofs.EditLemmas.{longer_or_more}
-use Rattle.rl_line.proofs.LineStartLemmas.{length-line_starts, newlines-slice}
+use Rattle.rl_line.proofs.LineStartLemmas.{length-table, newlines-slice}
 use Rattle.rl_line.proofs.swap.find_room_instead.Goals as goal
 
 pub returns-clause-table : goal.returns-clause-table
 returns-clause-table c =
     let text = string_bytes c.args.text.now in
-    let gone : count_by is_newline (slice_range text c.args.from c.args.to) ≡ c.newlines-2.result =
-    ap (λ t. count_by is_newline (slice_range t c.args.from c.args.to)) (sym c.as_str.ensures.value) ∙ ap (count_by is_newline) (sym c.range.ensures.value) ∙ sym c.newlines-2.ensures in
-    on_ok_weaker c.find_room.result (λ room. omega (
+    omega (
       arith,
-      room,
-      gone,
+      c.in_ok-find_room.ensures.table,
+      c.more_than-lines.ensures,
+      ap (λ t. count_by is_newline (slice_range t c.args.from c.args.to)) c.as_str.ensures.value,
       newlines-slice text c.args.from c.args.to,
-      length-line_starts c.args.starts.now.items text c.requires.table,
-      c.args.starts.now.ok.0,
-      c.newlines.ensures,
-      c.saturating_sub-lines.ensures,
-    )) c.find_room.ensures.table
+      length-table _ _ text c.requires.table,
+      c.args.starts.now.places.ok.0,
+      c.newlines-come.ensures,
+    )
 
-pub returns-clause-err : goal.returns-clause-err
-returns-clause-err c =
+pub returns-in_err-find_room-clause-err : goal.returns-in_err-find_room-clause-err
+returns-in_err-find_room-clause-err c =
+    let p = err_from_is_err_and c.from_residual.result c.from_residual.ensures.1 in
     let text = string_bytes c.args.text.now in
-    let gone : c.range.result.now ≡ slice_range text c.args.from c.args.to =
-    c.range.ensures.value ∙ ap (λ t. slice_range t c.args.from c.args.to) c.as_str.ensures.value in
-    IfErr-weaker c.find_room.result _ _ (λ r e. (
+    let e = c.in_err-find_room.ensures.err in
+    rw (p.1, p.2) (
       e.0,
       longer_or_more c.saturating_sub-bytes.result _ _ _ _
           (omega (arith, c.saturating_sub-bytes.ensures, length-between text c.args.from c.args.to c.requires.end.0))
-          (omega (arith, e.1, c.saturating_sub-lines.ensures, c.newlines.ensures, c.newlines-2.ensures, ap (count_by is_newline) gone)),
-    )) c.find_room.ensures.err
+          (omega (arith, e.1, c.more_than-lines.ensures, ap (λ t. count_by is_newline (slice_range t c.args.from c.args.to)) c.as_str.ensures.value, c.newlines-come.ensures)),
+    )

@@ -1,12 +1,17 @@
-use Rattle.std.proofs.Common.{◌∙◌, ap, sym, arith}
+use Rattle.std.proofs.Common.{◌∙◌, ap, subst, sym, arith}
+use Rattle.std.specs.List.{insert_slice}
 use Rattle.std.specs.Prelude.{encode_utf8}
-use Rattle.rl_line.specs.LineStarts.{line_starts}
-use Rattle.rl_line.proofs.LineStartLemmas.{line_starts-stay}
+use Rattle.std.specs.Str.{IsCharBoundary}
+use Rattle.rl_line.specs.LineStarts.{IsTable}
+use Rattle.rl_line.proofs.LineStartLemmas.{IsTable-stays}
 use Rattle.rl_line.proofs.swap.swap_in_char.Goals as goal
 
 pub returns-then-stays-clause-table : goal.returns-then-stays-clause-table
 returns-then-stays-clause-table c =
-    let table = c.deref.ensures.value in
-    sym table
-    ∙ line_starts-stay c.deref.result.now _ (encode_utf8 c.args.c) c.args.at c.args.at _ (table ∙ c.requires.table) (omega arith) c.requires.place.0 c.newlines_of.ensures (sym c.stays.ensures ∙ c.if-stays.true)
-    ∙ ap line_starts (sym c.put_char_in.ensures.text)
+    let starts = c.args.starts.now in
+    let text = c.as_str.result.now in
+    let bytes = encode_utf8 c.args.c in
+    let table = subst (IsTable starts.places.items starts.border) (sym c.as_str.ensures.value) c.requires.table in
+    let place = subst (λ t. IsCharBoundary t c.args.at) (sym c.as_str.ensures.value) c.requires.place in
+    subst (IsTable starts.places.items starts.border) (ap (λ t. insert_slice t c.args.at bytes) c.as_str.ensures.value ∙ sym c.put_char_in.ensures.text)
+    (IsTable-stays _ text bytes c.args.at c.args.at _ _ table (omega arith) place.0 c.newlines_of-come.ensures (sym c.stays.ensures ∙ c.if-stays.true))

@@ -1,18 +1,21 @@
-use Rattle.std.proofs.Common.{arith}
-use Rattle.rl_line.proofs.LineReadLemmas.{ends_at, last-in_table, EndsAt-start, EndsAt-behind}
+use Rattle.std.proofs.Common.{◌≡◌, arith}
+use Rattle.rl_base.specs.Lines.{last_line}
+use Rattle.rl_line.proofs.LineReadLemmas.{EndsAt, ends_at, last-ends, EndsAt-start, EndsAt-behind}
 use Rattle.rl_line.proofs.line_buffer.LineBuffer.behind_line.Goals as goal
+use Rattle.rl_line.proofs.line_buffer.LineBuffer.behind_line.Goals.{After-start}
 
-pub returns-in-Some-clause-value : goal.returns-in-Some-clause-value
-returns-in-Some-clause-value c =
-    let read = c.in-Some.ensures.lookup.3 in
-    EndsAt-behind c.args.self.now.text c.args.k _ (ends_at _ c.args.self.now.text c.args.k _ c.starts.ensures.table read.0 (read.1 0))
+-- the newline at its end
+next : (c : After-start) → EndsAt c.args.self.now.text c.args.k c.start.result
+next c = ends_at c.args.self.now.text c.args.k c.start.result (omega (arith, c.requires, c.if-k-last_line.false, c.last_line.ensures)) c.start.ensures.start
 
-pub returns-in-Some-clause-boundary : goal.returns-in-Some-clause-boundary
-returns-in-Some-clause-boundary c =
-    let read = c.in-Some.ensures.lookup.3 in
-    EndsAt-start c.args.self.now.text c.args.k _ (ends_at _ c.args.self.now.text c.args.k _ c.starts.ensures.table read.0 (read.1 0)) c.starts.ensures.utf8
+pub returns-clause-value : goal.returns-clause-value
+returns-clause-value c = EndsAt-behind c.args.self.now.text c.args.k _ (next (goal.at.returns-clause-value c).After-start)
 
-pub returns-in-None-clause-value : goal.returns-in-None-clause-value
-returns-in-None-clause-value c =
+pub returns-clause-boundary : goal.returns-clause-boundary
+returns-clause-boundary c = EndsAt-start c.args.self.now.text c.args.k _ (next (goal.at.returns-clause-boundary c).After-start) c.start.ensures.utf8
+
+pub returns-then-k-last_line-clause-value : goal.returns-then-k-last_line-clause-value
+returns-then-k-last_line-clause-value c =
     let text = c.args.self.now.text in
-    omega (arith, c.len.ensures.len, last-in_table _ text c.args.k c.starts.ensures.table c.requires c.in-None.ensures.lookup.3)
+    let last : c.args.k ≡ last_line text = omega (arith, c.if-k-last_line.true, c.last_line.ensures) in
+    omega (arith, c.len.ensures.len, last-ends text c.args.k last)

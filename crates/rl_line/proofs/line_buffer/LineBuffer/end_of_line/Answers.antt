@@ -1,25 +1,24 @@
-use Rattle.std.proofs.Common.{sym, ◌∙◌, arith}
-use Rattle.rl_line.proofs.LineReadLemmas.{ends_at, last-in_table, EndsAt-stop}
+use Rattle.std.proofs.Common.{sym, ◌∙◌, ◌≡◌, arith}
+use Rattle.rl_base.specs.Lines.{last_line}
+use Rattle.rl_line.proofs.LineReadLemmas.{EndsAt, ends_at, last-ends, EndsAt-stop}
 use Rattle.rl_line.proofs.line_buffer.LineBuffer.end_of_line.Goals as goal
+use Rattle.rl_line.proofs.line_buffer.LineBuffer.end_of_line.Goals.{After-start}
+
+-- the newline at its end
+next : (c : After-start) → EndsAt c.args.self.now.text c.args.k c.start.result
+next c = ends_at c.args.self.now.text c.args.k c.start.result (omega (arith, c.requires, c.if-k-last_line.false, c.last_line.ensures)) c.start.ensures.start
 
 pub overflow_sub-result : goal.overflow_sub-result
-overflow_sub-result c =
-    let read = c.in-Some.ensures.lookup.3 in
-    let next = ends_at _ c.args.self.now.text c.args.k _ c.starts.ensures.table read.0 (read.1 0) in
-    omega (arith, next.stop)
+overflow_sub-result c = omega (arith, (next (goal.at.overflow_sub-result c).After-start).stop)
 
-pub returns-in-Some-clause-value : goal.returns-in-Some-clause-value
-returns-in-Some-clause-value c =
-    let read = c.in-Some.ensures.lookup.3 in
-    let next = ends_at _ c.args.self.now.text c.args.k _ c.starts.ensures.table read.0 (read.1 0) in
-    omega (arith, next.stop)
+pub returns-clause-value : goal.returns-clause-value
+returns-clause-value c = omega (arith, (next (goal.at.returns-clause-value c).After-start).stop)
 
-pub returns-in-Some-clause-boundary : goal.returns-in-Some-clause-boundary
-returns-in-Some-clause-boundary c =
-    let read = c.in-Some.ensures.lookup.3 in
-    EndsAt-stop c.args.self.now.text c.args.k _ (ends_at _ c.args.self.now.text c.args.k _ c.starts.ensures.table read.0 (read.1 0))
+pub returns-clause-boundary : goal.returns-clause-boundary
+returns-clause-boundary c = EndsAt-stop c.args.self.now.text c.args.k _ (next (goal.at.returns-clause-boundary c).After-start)
 
-pub returns-in-None-clause-value : goal.returns-in-None-clause-value
-returns-in-None-clause-value c =
+pub returns-then-k-last_line-clause-value : goal.returns-then-k-last_line-clause-value
+returns-then-k-last_line-clause-value c =
     let text = c.args.self.now.text in
-    c.len.ensures.len ∙ sym (last-in_table _ text c.args.k c.starts.ensures.table c.requires c.in-None.ensures.lookup.3)
+    let last : c.args.k ≡ last_line text = omega (arith, c.if-k-last_line.true, c.last_line.ensures) in
+    c.len.ensures.len ∙ sym (last-ends text c.args.k last)

@@ -7,10 +7,10 @@ use Rattle.rl_line.proofs.EditLemmas.{some_part}
 use Rattle.rl_line.proofs.StepLemmas.{Halted-from, Taken-from}
 use Rattle.rl_line.proofs.line_buffer.LineBuffer.exchange.Goals as goal
 
-pub returns-in_err-find_room_instead-clause-halted : goal.returns-in_err-find_room_instead-clause-halted
-returns-in_err-find_room_instead-clause-halted g c =
+pub returns-in_err-come-clause-halted : goal.returns-in_err-come-clause-halted
+returns-in_err-come-clause-halted g c =
     let p = err_from_is_err_and c.from_residual.result c.from_residual.ensures.1 in
-    let e = c.in_err-find_room_instead.ensures.err in
+    let e = c.in_err-come.ensures.err in
     let same : line_of (string_bytes c.find_room_instead.new.text) c.self.inside.pos c.self.inside.limit c.self.inside.can_growth ≡ c.args.self.now =
     ap (λ (t : List ℕ). line_of t c.self.inside.pos c.self.inside.limit c.self.inside.can_growth) c.find_room_instead.ensures.text ∙ c.self.view_is in
     rw (p.1, p.2) (inr (e.0, same, refl, omega (arith, some_part _ c.args.text.now e.1)))

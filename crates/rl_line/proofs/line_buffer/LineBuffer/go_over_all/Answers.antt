@@ -2,7 +2,6 @@ use Rattle.std.proofs.Common.{arith, rules, ◌⊎◌, ◌≡◌, ◌+◌, ◌-�
 use Rattle.std.specs.Str.{IsCharBoundary, IsUtf8}
 use Rattle.std.specs.String.{string_bytes, string_len}
 use Rattle.rl_base.specs.Lines.{is_newline}
-use Rattle.rl_line.specs.LineStarts.{line_starts}
 use Rattle.rl_line.specs.Line.{Line}
 use Rattle.rl_line.specs.Undo.{line_back}
 use Rattle.std.specs.Prelude.{IsSome}
@@ -11,8 +10,8 @@ use Rattle.rl_line.specs.declared.change.Measure.TheVariants.{Bytes, Newlines}
 use Rattle.rl_line.specs.Change.{faced, size_back, size_back_over, greatest_back_over, order}
 use Rattle.std.proofs.lemmas.List.{drop-map, drop_all}
 use Rattle.rl_line.proofs.ChangeLemmas.{length-order}
-use Rattle.rl_line.proofs.LineStartLemmas.{length-line_starts}
-use Rattle.rl_line.proofs.UndoLemmas.{IsBack, IsBack-none, IsBack-fits, IsBack-next, entries_from, one-fits, one-stands, size_back_over-within}
+use Rattle.rl_line.proofs.LineStartLemmas.{IsTable-same, length-table}
+use Rattle.rl_line.proofs.UndoLemmas.{IsBack, IsBack-none, IsBack-fits, IsBack-next, IsBack-stands, entries_from, one-fits, one-stands, size_back_over-within}
 use Rattle.std.proofs.lemmas.Result.{err_from_is_err_and}
 use Rattle.rl_line.proofs.RoomLemmas.{NeedsRoom-line}
 use Rattle.rl_line.proofs.line_buffer.LineBuffer.go_over_all.Goals as goal
@@ -74,9 +73,8 @@ loop-left-init c =
     let xs = order c.args.way c.args.changes.now in
     let text = c.args.self.now.text in
     let bytes : string_bytes c.self.inside.buf ≡ text = ap (λ (l : Line). l.text) c.self.view_is in
-    let newlines : vec_len c.self.inside.starts ≡ count_by is_newline text = c.self.inside.starts.ok.0 ∙ length-line_starts c.self.inside.starts.items text (c.self.invariant.table ∙ ap line_starts bytes) in
-    let table : c.find_room_over.new.starts.items ≡ line_starts (string_bytes c.find_room_over.new.text) =
-    c.find_room_over.ensures.starts ∙ c.self.invariant.table ∙ ap line_starts (sym c.find_room_over.ensures.text) in
+    let newlines : vec_len c.self.inside.starts.places ≡ count_by is_newline text = c.self.inside.starts.places.ok.0 ∙ length-table _ _ _ c.self.invariant.table ∙ ap (count_by is_newline) bytes in
+    let table = IsTable-same _ c.find_room_over.new.starts.places.items _ c.find_room_over.new.starts.border _ (string_bytes c.find_room_over.new.text) c.find_room_over.ensures.starts c.find_room_over.ensures.border c.find_room_over.ensures.text c.self.invariant.table in
     let inside = c.self.inside in
     let same : record { text = string_bytes c.find_room_over.new.text; cursor = inside.pos; limit = inside.limit; grow = inside.can_growth } ≡ c.args.self.now =
     ap (λ (t : List ℕ). record { text = t; cursor = inside.pos; limit = inside.limit; grow = inside.can_growth }) c.find_room_over.ensures.text ∙ c.self.view_is in
@@ -88,7 +86,7 @@ loop-left-init c =
       len = search rules;
       count = c.find_room_over.ensures.count ∙ newlines ∙ sym (ap (λ es. size_back_over Newlines (map (faced c.args.way) es) (count_by is_newline text)) none);
       room = search rules;
-      table_room = subst (λ n. greatest_back_over Newlines (map (faced c.args.way) xs) n ≤ vec_capacity c.find_room_over.new.starts) newlines c.in_ok-find_room_over.ensures.table;
+      table_room = subst (λ n. greatest_back_over Newlines (map (faced c.args.way) xs) n ≤ vec_capacity c.find_room_over.new.starts.places) newlines c.in_ok-find_room_over.ensures.table;
       is_line = record { table = table; at_boundary = search rules; within = search rules };
       within = omega arith;
     }
@@ -118,7 +116,7 @@ returns-in_err-find_room_over-clause-err c =
     let es = map (faced c.args.way) (order c.args.way c.args.changes.now) in
     let text = c.args.self.now.text in
     let bytes : string_bytes c.self.inside.buf ≡ text = ap (λ (l : Line). l.text) c.self.view_is in
-    let newlines : vec_len c.self.inside.starts ≡ count_by is_newline text = c.self.inside.starts.ok.0 ∙ length-line_starts c.self.inside.starts.items text (c.self.invariant.table ∙ ap line_starts bytes) in
+    let newlines : vec_len c.self.inside.starts.places ≡ count_by is_newline text = c.self.inside.starts.places.ok.0 ∙ length-table _ _ _ c.self.invariant.table ∙ ap (count_by is_newline) bytes in
     let len : string_len c.self.inside.buf ≡ length text = search rules in
     let more : (length text < greatest_back_over Bytes es (length text)) ⊎ (count_by is_newline text < greatest_back_over Newlines es (count_by is_newline text)) =
     subst (λ n. (n < greatest_back_over Bytes es n) ⊎ (count_by is_newline text < greatest_back_over Newlines es (count_by is_newline text))) len

@@ -13,10 +13,10 @@ invariant-loop-left l =
     record {
       back : IsBack l.way (order l.way l.changes) l.left l.fn.self record { text = string_bytes inside.buf; cursor = inside.pos; limit = inside.limit; grow = inside.can_growth };
       len : string_len inside.buf ≡ size_back_over Bytes (map (faced l.way) (drop l.left (order l.way l.changes))) (length l.fn.self.text);
-      count : vec_len inside.starts ≡ size_back_over Newlines (map (faced l.way) (drop l.left (order l.way l.changes))) (count_by is_newline l.fn.self.text);
+      count : vec_len inside.starts.places ≡ size_back_over Newlines (map (faced l.way) (drop l.left (order l.way l.changes))) (count_by is_newline l.fn.self.text);
       room : greatest_back_over Bytes (map (faced l.way) (order l.way l.changes)) (length l.fn.self.text) ≤ string_capacity inside.buf;
-      table_room : greatest_back_over Newlines (map (faced l.way) (order l.way l.changes)) (count_by is_newline l.fn.self.text) ≤ vec_capacity inside.starts;
-      is_line : IsLine (string_bytes inside.buf) inside.starts.items inside.pos inside.limit;
+      table_room : greatest_back_over Newlines (map (faced l.way) (order l.way l.changes)) (count_by is_newline l.fn.self.text) ≤ vec_capacity inside.starts.places;
+      is_line : IsLine (string_bytes inside.buf) inside.starts.places.items inside.starts.border inside.pos inside.limit;
       within : l.left ≤ length l.changes;
     }
 

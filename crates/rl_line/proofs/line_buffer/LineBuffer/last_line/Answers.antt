@@ -1,5 +1,8 @@
-use Rattle.rl_line.proofs.LineStartLemmas.{length-line_starts}
+use Rattle.std.proofs.Common.{ap, ◌∙◌}
+use Rattle.rl_base.specs.Lines.{last_line}
+use Rattle.rl_line.specs.Line.{Line}
+use Rattle.rl_line.proofs.LineStartLemmas.{length-table}
 use Rattle.rl_line.proofs.line_buffer.LineBuffer.last_line.Goals as goal
 
 pub returns : goal.returns
-returns c = length-line_starts c.starts.result.now c.args.self.now.text c.starts.ensures.table
+returns c = c.len.ensures ∙ c.self.inside.starts.places.ok.0 ∙ length-table _ _ _ c.self.invariant.table ∙ ap (λ (l : Line). last_line l.text) c.self.view_is

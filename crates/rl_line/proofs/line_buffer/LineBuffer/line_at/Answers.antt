@@ -1,9 +1,16 @@
-use Rattle.std.proofs.Common.{arith}
-use Rattle.rl_line.proofs.LineStartLemmas.{length-line_starts}
+use Rattle.std.proofs.Common.{ap, arith, subst, sym, ◌≡◌, ◌∙◌, rules, length, take, drop}
+use Rattle.std.proofs.lemmas.List.{take-append-drop}
+use Rattle.rl_base.specs.Lines.{line_number}
+use Rattle.rl_line.specs.Line.{Line}
+use Rattle.rl_line.proofs.LineStartLemmas.{newlines-take}
 use Rattle.rl_line.proofs.line_buffer.LineBuffer.line_at.Goals as goal
+use Rattle.rl_line.proofs.line_buffer.LineBuffer.line_at.Goals.{After-line_number}
+
+value : (c : After-line_number) → c.line_number.result ≡ line_number c.args.self.now.text c.args.pos
+value c = c.line_number.ensures ∙ ap (λ t. line_number t c.args.pos) c.as_str.ensures.value ∙ ap (λ (l : Line). line_number l.text c.args.pos) c.self.view_is
 
 pub returns-clause-value : goal.returns-clause-value
-returns-clause-value c = c.line_number.ensures.value c.args.self.now.text c.starts.ensures.table c.requires
+returns-clause-value c = value (goal.at.returns-clause-value c).After-line_number
 
 pub returns-clause-within : goal.returns-clause-within
-returns-clause-within c = omega (arith, c.line_number.ensures.within, length-line_starts _ c.args.self.now.text c.starts.ensures.table)
+returns-clause-within c = omega (arith, value (goal.at.returns-clause-within c).After-line_number, newlines-take c.args.self.now.text c.args.pos)

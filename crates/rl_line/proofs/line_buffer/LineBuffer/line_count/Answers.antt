@@ -1,9 +1,11 @@
-use Rattle.std.proofs.Common.{arith}
+use Rattle.std.proofs.Common.{ap, arith, count_by}
 use Rattle.rl_base.proofs.LineLemmas.{count_of_lines}
-use Rattle.rl_line.proofs.LineStartLemmas.{length-line_starts}
+use Rattle.rl_base.specs.Lines.{is_newline}
+use Rattle.rl_line.specs.Line.{Line}
+use Rattle.rl_line.proofs.LineStartLemmas.{length-table}
 use Rattle.rl_line.proofs.line_buffer.LineBuffer.line_count.Goals as goal
 
 pub returns-clause-count : goal.returns-clause-count
 returns-clause-count c =
-    let text = c.args.self.now.text in
-    omega (arith, count_of_lines text, length-line_starts _ text c.starts.ensures.table)
+    let bytes = ap (λ (l : Line). count_by is_newline l.text) c.self.view_is in
+    omega (arith, c.len.ensures, c.self.inside.starts.places.ok.0, length-table _ _ _ c.self.invariant.table, bytes, count_of_lines c.args.self.now.text)

@@ -12,7 +12,7 @@ use Rattle.rl_line.specs.Line.{Line, line_of}
 use Rattle.rl_line.specs.Ranges.{text_in}
 use Rattle.rl_line.specs.Plan.{Plan}
 use Rattle.rl_line.specs.Transpositions.{end_of_cluster, pull_back_plan}
-use Rattle.rl_line.proofs.LineStartLemmas.{length-line_starts, newlines-slice}
+use Rattle.rl_line.proofs.LineStartLemmas.{length-table, newlines-slice}
 use Rattle.rl_line.proofs.PlanLemmas.{Done-followed, Done-single, Halted-after, Halted-at_first}
 use Rattle.rl_line.proofs.StepLemmas.{line_of-kept, Done-from, Halted-from, Taken-deletion, Taken-insertion}
 use Rattle.rl_line.proofs.TranspositionLemmas.{exchanged, pull_back_plan-is}
@@ -51,9 +51,9 @@ insertion_step-requires-clause-table_room g c =
       d.table_capacity,
       ap (count_by is_newline) moved,
       newlines-slice text c.args.behind.start c.args.behind.end,
-      length-line_starts c.self.inside.starts.items text c.self.invariant.table,
-      c.self.inside.starts.ok.0,
-      c.self.inside.starts.ok.1,
+      length-table _ _ text c.self.invariant.table,
+      c.self.inside.starts.places.ok.0,
+      c.self.inside.starts.places.ok.1,
     )
 
 pub returns-in_err-insertion_step-clause-halted : goal.returns-in_err-insertion_step-clause-halted

@@ -8,4 +8,4 @@ pub returns-in_err-find_room-clause-cause : goal.returns-in_err-find_room-clause
 returns-in_err-find_room-clause-cause g c =
     let p = err_from_is_err_and c.from_residual.result c.from_residual.ensures.1 in
     let e = c.in_err-find_room.ensures.err in
-    rw (p.1, p.2) (inl (e.0, refl, omega (arith, e.1, c.newlines.ensures, count_by-le-length is_newline c.args.text.now)))
+    rw (p.1, p.2) (inl (e.0, refl, omega (arith, e.1, c.newlines-come.ensures, count_by-le-length is_newline c.args.text.now)))

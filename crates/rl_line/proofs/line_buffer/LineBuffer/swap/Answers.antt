@@ -1,17 +1,16 @@
 use Rattle.std.proofs.Common.{arith, ◌≡◌, List, ℕ, refl, inl, inr, ap, count_by, length, slice_range, subst, sym, ◌∙◌}
 use Rattle.std.proofs.lemmas.Result.{err_from_is_err_and}
 use Rattle.std.specs.List.{replace_range}
-use Rattle.std.specs.Str.{IsUtf8}
+use Rattle.std.specs.Str.{IsCharBoundary, IsUtf8}
 use Rattle.std.specs.String.{string_bytes}
-use Rattle.rl_base.proofs.TextLemmas.{slice-before}
+use Rattle.rl_base.proofs.TextLemmas.{IsCharBoundary-before, slice-before}
 use Rattle.rl_base.specs.Lines.{is_newline}
 use Rattle.rl_line.specs.Edits.{exchange_plan}
 use Rattle.rl_line.specs.Line.{Line, line_of}
-use Rattle.rl_line.specs.LineStarts.{line_starts}
 use Rattle.rl_line.specs.Ranges.{text_in}
 use Rattle.rl_line.specs.Transpositions.{swap_plan}
 use Rattle.rl_line.proofs.EditLemmas.{some_part}
-use Rattle.rl_line.proofs.LineStartLemmas.{length-line_starts, newlines-slice}
+use Rattle.rl_line.proofs.LineStartLemmas.{length-table, newlines-slice}
 use Rattle.rl_line.proofs.PlanLemmas.{Done-steps, Taken-append, Halted-front, Halted-behind}
 use Rattle.rl_line.proofs.StepLemmas.{Halted-from, Taken-from}
 use Rattle.rl_line.proofs.TranspositionLemmas.{last_steps, swap-front, swap-halves, places}
@@ -27,10 +26,10 @@ returns-in_err-second_text-clause-halted g c =
     let p = err_from_is_err_and c.from_residual-in_err-second_text.result c.from_residual-in_err-second_text.ensures.1 in
     rw (p.1, p.2) (inr (c.in_err-second_text.ensures.err, refl, refl, omega (arith, c.in_err-second_text.ensures.some)))
 
-pub returns-in_err-find_room_instead-clause-halted : goal.returns-in_err-find_room_instead-clause-halted
-returns-in_err-find_room_instead-clause-halted g c =
-    let p = err_from_is_err_and c.from_residual-in_err-find_room_instead.result c.from_residual-in_err-find_room_instead.ensures.1 in
-    let e = c.in_err-find_room_instead.ensures.err in
+pub returns-in_err-come-clause-halted : goal.returns-in_err-come-clause-halted
+returns-in_err-come-clause-halted g c =
+    let p = err_from_is_err_and c.from_residual-in_err-come.result c.from_residual-in_err-come.ensures.1 in
+    let e = c.in_err-come.ensures.err in
     let inside = c.self.inside in
     let line = c.args.self.now in
     let first = c.args.first in
@@ -156,9 +155,11 @@ exchange_steps-requires-2-clause-table_room g c =
       ap (count_by is_newline) goes,
       ap (count_by is_newline) comes,
       newlines-slice text second.start second.end,
-      length-line_starts c.find_room_instead.new.starts.items text (c.find_room_instead.ensures.starts ∙ c.self.invariant.table ∙ ap line_starts (sym c.find_room_instead.ensures.text)),
-      c.find_room_instead.new.starts.ok.0,
-      c.find_room_instead.new.starts.ok.1,
+      ap length c.find_room_instead.ensures.starts,
+      length-table _ _ _ c.self.invariant.table,
+      ap (count_by is_newline) c.find_room_instead.ensures.text,
+      c.find_room_instead.new.starts.places.ok.0,
+      c.find_room_instead.new.starts.places.ok.1,
     )
 
 pub returns-in_err-exchange_steps-2-clause-halted : goal.returns-in_err-exchange_steps-2-clause-halted
@@ -199,3 +200,13 @@ returns-clause-done g c =
     Done-steps _ (swap_plan line first second) _ _ _ _ _
     (Taken-append _ (exchange_plan line second first.end x first.end).steps (exchange_plan mid first first.start y second.end).steps _ mid _ _ _ _ (Taken-from _ (λ (l : Line). (exchange_plan l second first.end x first.end).steps) _ _ mid _ _ same (e.taken inside.can_growth)) (c.in_ok-exchange_steps-2.ensures.taken inside.can_growth))
     (swap-halves line mid first second x y x_is y_is is c.requires.second_start.0 c.requires.first c.requires.apart) c.in_ok-exchange_steps-2.ensures.cursor
+
+pub exchange_steps-requires-clause-boundary : goal.exchange_steps-requires-clause-boundary
+exchange_steps-requires-clause-boundary g c =
+    let line = c.args.self.now in
+    let first = c.args.first in
+    let second = c.args.second in
+    let x = c.as_str-2.result.now in
+    let same : string_bytes c.find_room_instead.new.text ≡ line.text = c.find_room_instead.ensures.text ∙ ap (λ (l : Line). l.text) c.self.view_is in
+    subst (λ t. IsCharBoundary (replace_range t second.start second.end x) first.end) (sym same)
+    (IsCharBoundary-before line.text second.start second.end first.end x (subst IsUtf8 c.as_str-text.ensures c.as_str-text.utf8) c.as_str-2.utf8 c.requires.second_start c.requires.second_end c.requires.first_end c.requires.apart)

@@ -2,12 +2,12 @@ use Rattle.std.proofs.Common.{rules, arith}
 use Rattle.std.proofs.lemmas.List.{get_or_default}
 use Rattle.std.proofs.lemmas.List.Edits.{map_over_more}
 use Rattle.std.proofs.lemmas.Grind.{common_steps}
-use Rattle.rl_line.specs.LineStarts.{shifted}
-use Rattle.rl_line.proofs.line_starts.shift.Goals as goal
+use Rattle.rl_line.specs.LineStarts.{from_end}
+use Rattle.rl_line.proofs.line_starts.turn.Goals as goal
 
 pub loop-place-preserved : goal.loop-place-preserved
 loop-place-preserved c =
-    map_over_more (shifted c.args.old c.args.new) c.args.places.now c.loop-place.places c.loop-place.place-index _ c.loop-place-test.true c.loop-place.invariant
+    map_over_more (from_end c.args.len) c.args.places.now c.loop-place.places c.loop-place.place-index _ c.loop-place-test.true c.loop-place.invariant
     (get_or_default c.loop-place.places c.loop-place.place-index 0 _ (search rules))
 
 pub returns : goal.returns

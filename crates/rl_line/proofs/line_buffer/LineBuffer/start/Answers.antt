@@ -1,0 +1,25 @@
+use Rattle.std.proofs.Common.{◌≡◌, ap, arith, subst, sym, ◌∙◌, get_or, count_by}
+use Rattle.std.proofs.lemmas.Str.{IsUtf8-string_bytes}
+use Rattle.std.specs.Str.{IsUtf8}
+use Rattle.std.specs.String.{string_bytes}
+use Rattle.rl_base.specs.Lines.{is_newline}
+use Rattle.rl_line.specs.Line.{Line}
+use Rattle.rl_line.specs.LineStarts.{line_starts, IsTable}
+use Rattle.rl_line.proofs.LineStartLemmas.{length-table}
+use Rattle.rl_line.proofs.line_buffer.LineBuffer.start.Goals as goal
+
+pub start-requires-clause-table : goal.start-requires-clause-table
+start-requires-clause-table c =
+    subst (IsTable c.self.inside.starts.places.items c.self.inside.starts.border) (sym c.as_str.ensures.value) c.self.invariant.table
+
+pub start-requires-clause-within : goal.start-requires-clause-within
+start-requires-clause-within c =
+    let bytes = ap (λ (l : Line). l.text) c.self.view_is in
+    omega (arith, c.requires, c.self.inside.starts.places.ok.0, length-table _ _ _ c.self.invariant.table, ap (count_by is_newline) bytes)
+
+pub returns-clause-start : goal.returns-clause-start
+returns-clause-start c =
+    c.start.ensures ∙ ap (λ t. get_or (line_starts t) c.args.k 0) (c.as_str.ensures.value ∙ ap (λ (l : Line). l.text) c.self.view_is)
+
+pub returns-clause-utf8 : goal.returns-clause-utf8
+returns-clause-utf8 c = subst IsUtf8 (ap (λ (l : Line). l.text) c.self.view_is) (IsUtf8-string_bytes c.self.inside.buf)

@@ -1,0 +1,13 @@
+use Rattle.std.proofs.Common.{◌≡◌, ◌-◌, ◌≤◌, take, length, count_by}
+use Rattle.rl_base.specs.Lines.{is_newline}
+use Rattle.rl_line.proofs.line_starts.newlines.Given as goal
+
+abbrev pub invariant-loop-at : goal.invariant-loop-at
+invariant-loop-at l =
+    record {
+      counted : l.n ≡ count_by is_newline (take l.at l.fn.text);
+      within : l.at ≤ length l.fn.text;
+    }
+
+abbrev pub decreases-loop-at : goal.decreases-loop-at
+decreases-loop-at l = length l.fn.text - l.at
