@@ -1,5 +1,5 @@
 -- What is left where a script stops at a fault.
-use Rattle.std.proofs.Common.{arith, ◌≡◌, ◌≤◌, ℕ, length, List, [], ◌∷◌, ◌++◌, Option, Some, None, Result, Ok, Err, refl, sym, ap, subst, ◌∙◌, append_assoc, append-nil, inl, inr, Bool, false, true}
+use Rattle.std.proofs.Common.{arith, ◌≡◌, ◌≤◌, ◌<◌, ℕ, length, List, [], ◌∷◌, ◌++◌, Option, Some, None, Result, Ok, Err, refl, sym, ap, subst, ◌∙◌, append_assoc, append-nil, inl, inr, Bool, false, true}
 use Rattle.std.proofs.lemmas.List.{take_all}
 use Rattle.std.proofs.KnownBytes.{Appends-trans, Appends-nil, Consumes-trans, Consumes-nil, Consumes-kept}
 use Rattle.std.specs.Io.KnownBytes.{Appends, Consumes, Keeps, IsAtEnd}
@@ -10,7 +10,7 @@ use Rattle.rl_session.specs.Progress.{HasNoNewline, Cuts, Took, Halts, Runs}
 use Rattle.rl_session.specs.declared.script.Interpreter.{Interpreter}
 use Rattle.rl_session.specs.declared.script.ScriptFault.{ScriptFault}
 use Rattle.rl_session.specs.declared.script.ScriptFault.TheVariants.{Read, Write, NoMemory}
-use Rattle.rl_session.proofs.LineLemmas.{lines_of-ended, lines_of-last, whole_lines-part, Outputs-append}
+use Rattle.rl_session.proofs.LineLemmas.{lines_of-ended, lines_of-last, whole_lines-part, HasNoNewline-append, Outputs-append, Took-part}
 
 Cut-whole : (lines : List (List ℕ)) (old new : Interpreter) (out : List ℕ) → Outputs old lines out new → CutOutputs old lines out
 Cut-whole [] old new out h = h.0
@@ -44,8 +44,9 @@ line_with [] b bs = some_line b bs
 line_with (c ∷ cs) b bs = some_line c (cs ++ b ∷ bs)
 
 -- nothing of the line was written
-pub Halts-none : (old : Interpreter) (part : List ℕ) (b : ℕ) (bytes : List ℕ) (held : Option (List ℕ)) → Halts NoMemory old part (b ∷ bytes) held held
-Halts-none old part b bytes held = record {
+pub Halts-none : (old : Interpreter) (part bytes : List ℕ) (held : Option (List ℕ)) → 0 < length bytes → Halts NoMemory old part bytes held held
+Halts-none old part [] held some = absurd (omega arith)
+Halts-none old part (b ∷ bytes) held some = record {
   lines = [];
   out = [];
   now = old;
@@ -92,6 +93,12 @@ Halts-after fault old mid part part' bytes bytes' a b c h k = record {
   written = subst (λ l. Appends a c l) (sym (append_assoc h.out k.out k.cut)) (Appends-trans a b c h.out (k.out ++ k.cut) h.written k.written);
   cuts = k.cuts;
 }
+
+-- the same of a line that begins with a part
+pub Halts-ended : (old : Interpreter) (part end written : List ℕ) (a b : Option (List ℕ)) → HasNoNewline part → HasNoNewline end → IsCut old (part ++ end) written
+    → Appends a b written → Halts Write old part (end ++ 10 ∷ []) a b
+Halts-ended old part end written a b h k cut w =
+    Halts-after Write old old part (part ++ end) end (10 ∷ []) a a b (Took-part old part end a) (Halts-line old (part ++ end) written a b (HasNoNewline-append part end h k) cut w)
 
 -- whatever comes after it
 pub Halts-longer : (fault : ScriptFault) (old : Interpreter) (part bytes further : List ℕ) (a c : Option (List ℕ))

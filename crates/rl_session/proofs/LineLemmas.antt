@@ -1,13 +1,17 @@
 -- How the lines of a script part it, and how what is written for them joins.
-use Rattle.std.proofs.Common.{◌≡◌, ◌≢◌, ℕ, length, List, [], ◌∷◌, ◌++◌, Option, ◌<◌, arith, refl, sym, ap, subst, ◌∙◌, append_assoc, append-nil, true, false}
+use Rattle.std.proofs.Common.{◌≡◌, ◌≢◌, ℕ, zero, suc, length, take, drop, List, [], ◌∷◌, ◌++◌, Option, Some, None, ◌<◌, arith, refl, sym, ap, subst, ◌∙◌, append_assoc, append-nil, true, false, inl, inr}
 use Rattle.std.specs.Prelude.{◌==◌}
 use Rattle.std.proofs.lemmas.Bool.Decides.{nat_tests}
 use borrow.Author.Tests.{eqb-true}
+use Rattle.std.proofs.lemmas.Bool.{eq-eqb}
+use Rattle.memchr.specs.Find.{Nowhere, Passes, is_byte}
 use Rattle.std.proofs.KnownBytes.{Appends-trans, Appends-nil, Consumes-trans}
 use Rattle.std.specs.Io.KnownBytes.{Appends, Consumes, IsAtEnd}
 use Rattle.rl_session.specs.Lines.{lines_of, whole_lines, onto, onto_some}
 use Rattle.rl_session.specs.Script.{LineOut, started, Outputs, Ran}
-use Rattle.rl_session.specs.Progress.{HasNoNewline, Took, Runs}
+use Rattle.rl_session.specs.Progress.{HasNoNewline, IsSaid, SaidOut, Took, Runs}
+use Rattle.rl_session.specs.Reads.{meaning_of}
+use Rattle.rl_session.specs.declared.grammar.ScriptLine.{ScriptLine}
 use Rattle.rl_session.specs.declared.script.Interpreter.{Interpreter}
 
 not_ten : (b : ℕ) → b ≢ 10 → (b == 10) ≡ false
@@ -32,9 +36,37 @@ pub whole_lines-part : (part : List ℕ) → HasNoNewline part → whole_lines p
 whole_lines-part [] h = refl
 whole_lines-part (b ∷ bs) h = rw (not_ten b h.0) (ap (onto_some b) (whole_lines-part bs h.1))
 
-pub HasNoNewline-more : (bs : List ℕ) (b : ℕ) → HasNoNewline bs → b ≢ 10 → HasNoNewline (bs ++ b ∷ [])
-HasNoNewline-more [] b h n = (n, tt)
-HasNoNewline-more (c ∷ cs) b h n = (h.0, HasNoNewline-more cs b h.1 n)
+pub HasNoNewline-append : (xs ys : List ℕ) → HasNoNewline xs → HasNoNewline ys → HasNoNewline (xs ++ ys)
+HasNoNewline-append [] ys h k = k
+HasNoNewline-append (x ∷ xs) ys h k = (h.0, HasNoNewline-append xs ys h.1 k)
+
+-- what a search for a newline passed by
+pub HasNoNewline-nowhere : (bytes : List ℕ) → Nowhere (Passes (is_byte 10) bytes) 0 (length bytes) → HasNoNewline bytes
+HasNoNewline-nowhere [] h = tt
+HasNoNewline-nowhere (b ∷ bs) h =
+    (λ e. h 0 (omega arith) (omega arith) (eq-eqb b 10 e), HasNoNewline-nowhere bs (λ k from to. h (suc k) (omega arith) (omega arith)))
+
+-- and what it found
+pub parted : (bytes : List ℕ) (n : ℕ) → n < length bytes → Nowhere (Passes (is_byte 10) bytes) 0 n → Passes (is_byte 10) bytes n
+    → HasNoNewline (take n bytes) × (bytes ≡ take n bytes ++ 10 ∷ drop (suc n) bytes)
+parted [] n l h p = absurd (omega arith)
+parted (b ∷ bs) zero l h p = (tt, ap (λ x. x ∷ bs) (eqb-true b 10 p))
+parted (b ∷ bs) (suc n) l h p =
+    let rest = parted bs n (omega arith) (λ k from to. h (suc k) (omega arith) (omega arith)) p in (
+      (λ e. h 0 (omega arith) (omega arith) (eq-eqb b 10 e), rest.0),
+      ap (λ l. b ∷ l) rest.1,
+    )
+
+-- a front of some bytes, with one line more
+pub longer_front : (bytes front rest end behind : List ℕ) → bytes ≡ front ++ rest → rest ≡ end ++ 10 ∷ behind → bytes ≡ (front ++ (end ++ 10 ∷ [])) ++ behind
+longer_front bytes front rest end behind e f =
+    e ∙ ap (λ l. front ++ l) (f ∙ sym (append_assoc end (10 ∷ []) behind)) ∙ sym (append_assoc front (end ++ 10 ∷ []) behind)
+
+-- what was read of a line was done
+pub LineOut-said : (old new : Interpreter) (line : List ℕ) (said : Option ScriptLine) (out : List ℕ) → IsSaid line said → SaidOut old said out new → LineOut old line out new
+unfolding LineOut
+LineOut-said old new line None out h k = inr (h, k.0, k.1)
+LineOut-said old new line (Some s) out h k = inl (meaning_of s, h, k)
 
 pub Outputs-append : (xs ys : List (List ℕ)) (old mid new : Interpreter) (first others : List ℕ)
     → Outputs old xs first mid → Outputs mid ys others new → Outputs old (xs ++ ys) (first ++ others) new
@@ -43,13 +75,13 @@ Outputs-append [] ys old mid new first others h k =
 Outputs-append (x ∷ xs) ys old mid new first others h k =
     (h.0, h.1, h.2 ++ others, ap (λ l. l ++ others) h.3 ∙ append_assoc h.1 h.2 others, h.4, Outputs-append xs ys h.0 mid new h.2 others h.5 k)
 
--- one byte more of a line
-pub Took-byte : (old : Interpreter) (part : List ℕ) (b : ℕ) (held : Option (List ℕ)) → Took old part (b ∷ []) held held old (part ++ b ∷ [])
-Took-byte old part b held = record {
+-- some bytes more of a line
+pub Took-part : (old : Interpreter) (part bytes : List ℕ) (held : Option (List ℕ)) → Took old part bytes held held old (part ++ bytes)
+Took-part old part bytes held = record {
   lines = [];
   out = [];
-  split = λ more. ap lines_of (sym (append_assoc part (b ∷ []) more));
-  ended = λ more. ap whole_lines (sym (append_assoc part (b ∷ []) more));
+  split = λ more. ap lines_of (sym (append_assoc part bytes more));
+  ended = λ more. ap whole_lines (sym (append_assoc part bytes more));
   outputs = (refl, refl);
   written = Appends-nil held;
 }
@@ -84,6 +116,12 @@ Took-line old new line out a b h k w = record {
   outputs = (new, out, [], sym (append-nil out), k, (refl, refl));
   written = w;
 }
+
+-- the same of a line that begins with a part
+pub Took-ended : (old new : Interpreter) (part end out : List ℕ) (a b : Option (List ℕ)) → HasNoNewline part → HasNoNewline end
+    → LineOut old (part ++ end) out new → Appends a b out → Took old part (end ++ 10 ∷ []) a b new []
+Took-ended old new part end out a b h k l w =
+    Took-trans old old new part (part ++ end) [] end (10 ∷ []) a a b (Took-part old part end a) (Took-line old new (part ++ end) out a b (HasNoNewline-append part end h k) l w)
 
 -- more was read, and taken
 pub Runs-more : (left mid leaves held holds now_holds : Option (List ℕ)) (now new : Interpreter) (part part' bytes : List ℕ)

@@ -1,8 +1,12 @@
 -- How far the running of a script has come.
-use Rattle.std.specs.Prelude.{◌≡◌, ◌≢◌, ℕ, List, [], ◌∷◌, ◌++◌, Option}
+use Rattle.std.specs.Prelude.{◌≡◌, ◌≢◌, ℕ, List, [], ◌∷◌, ◌++◌, Option, Some, None, MatchOption}
 use Rattle.std.specs.Io.KnownBytes.{Consumes, Appends}
+use Rattle.rl_session.specs.Grammar.{Means, MeansNothing}
 use Rattle.rl_session.specs.Lines.{lines_of, whole_lines}
-use Rattle.rl_session.specs.Script.{Outputs, IsCut, started}
+use Rattle.rl_session.specs.Print.{bad_line}
+use Rattle.rl_session.specs.Reads.{meaning_of}
+use Rattle.rl_session.specs.Script.{MeaningOut, Outputs, IsCut, started}
+use Rattle.rl_session.specs.declared.grammar.ScriptLine.{ScriptLine}
 use Rattle.rl_session.specs.declared.script.Interpreter.{Interpreter}
 use Rattle.rl_session.specs.declared.script.ScriptFault.{ScriptFault}
 use Rattle.rl_session.specs.declared.script.ScriptFault.TheVariants as why
@@ -11,6 +15,15 @@ use Rattle.rl_session.specs.declared.script.ScriptFault.TheVariants as why
 abbrev pub HasNoNewline : List ℕ → Type 0
 HasNoNewline [] = Unit {0}
 HasNoNewline (b ∷ bs) = (b ≢ 10) × HasNoNewline bs
+
+-- this was read of a line
+abbrev pub IsSaid : List ℕ → Option ScriptLine → Type 0
+IsSaid line said = MatchOption said (MeansNothing line) (λ s. Means line (meaning_of s))
+
+-- what was read of a line may lead from old to new, and this is printed for it
+abbrev pub SaidOut : Interpreter → Option ScriptLine → List ℕ → Interpreter → Type 0
+SaidOut old None out new = (new ≡ old) × (out ≡ bad_line)
+SaidOut old (Some said) out new = MeaningOut old (meaning_of said) out new
 
 -- Behind `part`, the beginning of a line, came `bytes`. The lines that they end were run and printed, and `part'` is left.
 pub record Took (old : Interpreter) (part bytes : List ℕ) (held holds : Option (List ℕ)) (new : Interpreter) (part' : List ℕ) : Type 0 where

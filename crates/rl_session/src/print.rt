@@ -1,19 +1,24 @@
 //! What is printed for a reply.
-ghost use Rattle.std.specs.Prelude.{◌≡◌, ◌≤◌, ◌<◌, OnOk, ◌++◌, true, take, drop, length, slice_index};
+ghost use Rattle.std.specs.Prelude.{◌≡◌, ◌+◌, ◌≤◌, ◌<◌, OnOk, ◌++◌, true, map, take, drop, length, slice_index};
 ghost use Rattle.std.specs.Fmt.{decimal};
+ghost use Rattle.std.specs.Simd.Lanes.{mask_l};
 ghost use Rattle.rl_session.specs.Print.{reply_word, number_of_fault, handed, escaped, escape, printed};
-ghost use Rattle.rl_session.specs.Writes.{is_special};
+ghost use Rattle.rl_session.specs.Writes.{is_special, ArePlain};
 
 use crate::session::{Fault, Reply, Session};
+use itoa::Buffer;
 use std::alloc::AllocError;
+use std::simd::prelude::*;
+
+// How many bytes of a text are looked at together.
+const LANES: usize = 16;
 
 // Adds the number's decimal digits.
 fn add_number(out: &mut Vec<u8>, n: usize) -> Result<(), AllocError>
     ensures { OnOk result (out.new.items ≡ out.old.items ++ decimal n) }
 {
-    let alloc = *out.allocator();
-    let digits = n.to_string(alloc)?;
-    out.extend_from_slice(digits.as_bytes())
+    let mut digits = Buffer::new();
+    out.extend_from_slice(digits.format(n).as_bytes())
 }
 
 // The word for a reply.
@@ -56,10 +61,40 @@ fn escape(b: u8) -> &'static [u8]
     }
 }
 
-// How many bytes from the front on are printed as they are.
-fn plain_len(text: &[u8], spaces: bool) -> usize
+// Which of the bytes are printed by two: a bit for each, the lowest for the first.
+#[inline(always)]
+fn specials(bytes: u8x16, spaces: bool) -> u64
+    ensures { result ≡ mask_l (map (is_special spaces) bytes) }
+{
+    let special = bytes.simd_eq(u8x16::splat(b'\\'))
+        | bytes.simd_eq(u8x16::splat(b'\n'))
+        | bytes.simd_eq(u8x16::splat(b'\r'))
+        | bytes.simd_eq(u8x16::splat(b'\t'));
+    if spaces {
+        return (special | bytes.simd_eq(u8x16::splat(b' '))).to_bitmask();
+    }
+    special.to_bitmask()
+}
+
+// How many of the next LANES bytes come before the first that is printed by two.
+#[inline(always)]
+fn plain_lanes(text: &[u8], at: usize, spaces: bool) -> usize
+    requires { at + LANES ≤ length text.now }
+    ensures within { result ≤ LANES }
+    ensures plain { ArePlain spaces text.now at (at + result) }
+    ensures stops { result < LANES → is_special spaces (slice_index text.now (at + result)) ≡ true }
+{
+    let found = specials(u8x16::from_slice(&text[at..]), spaces);
+    if found == 0 {
+        return LANES;
+    }
+    found.trailing_zeros() as usize
+}
+
+// How many bytes of a short text come before the first that is printed by two.
+fn plain_len_of_few(text: &[u8], spaces: bool) -> usize
     ensures within { result ≤ length text.now }
-    ensures plain { escaped spaces text.now ≡ take result text.now ++ escaped spaces (drop result text.now) }
+    ensures plain { ArePlain spaces text.now 0 result }
     ensures stops { result < length text.now → is_special spaces (slice_index text.now result) ≡ true }
 {
     for (i, b) in text.iter().enumerate() {
@@ -68,6 +103,27 @@ fn plain_len(text: &[u8], spaces: bool) -> usize
         }
     }
     text.len()
+}
+
+// How many bytes from the front on are printed as they are. The last LANES bytes may overlap those before.
+fn plain_len(text: &[u8], spaces: bool) -> usize
+    ensures within { result ≤ length text.now }
+    ensures plain { escaped spaces text.now ≡ take result text.now ++ escaped spaces (drop result text.now) }
+    ensures stops { result < length text.now → is_special spaces (slice_index text.now result) ≡ true }
+{
+    if text.len() < LANES {
+        return plain_len_of_few(text, spaces);
+    }
+    let last = text.len() - LANES;
+    let mut i = 0;
+    while i < last {
+        let count = plain_lanes(text, i, spaces);
+        if count < LANES {
+            return i + count;
+        }
+        i += LANES;
+    }
+    last + plain_lanes(text, last, spaces)
 }
 
 // Adds the text, escaped.

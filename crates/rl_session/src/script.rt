@@ -1,15 +1,16 @@
 //! Scripts: lines of commands from a reader, and one line to a writer for each.
-ghost use Rattle.std.specs.Prelude.{◌≡◌, ℕ, ◌<◌, [], ◌∷◌, length, take, OnOk, OnErr, IfOk, IfErr};
+ghost use Rattle.std.specs.Prelude.{◌≡◌, ℕ, ◌<◌, [], ◌∷◌, ◌++◌, length, take, string_bytes, OnOk, OnErr, IfOk, IfErr, MatchOption};
 ghost use Rattle.std.specs.Io.KnownBytes.{Appends};
 ghost use Rattle.rl_session.specs.Grammar.{NewText, Set, Do};
 ghost use Rattle.rl_session.specs.Print.{printed};
-ghost use Rattle.rl_session.specs.Script.{begun, started, MeaningOut, LineOut, Ran, Stopped, StoppedBy};
-ghost use Rattle.rl_session.specs.Progress.{HasNoNewline, Runs, Took, Halts};
+ghost use Rattle.rl_session.specs.Script.{begun, started, MeaningOut, Ran, Stopped, StoppedBy};
+ghost use Rattle.rl_session.specs.Progress.{HasNoNewline, IsSaid, SaidOut, Runs, Took, Halts};
 
 use crate::grammar::{ScriptLine, parse};
 use crate::print::add_printed;
 use crate::session::{Command, Fault, Reply, Session};
 use crate::settings::{Setting, Settings};
+use memchr::memchr;
 use std::alloc::Global;
 use std::io::{Read, Write};
 use thiserror::Error;
@@ -85,13 +86,16 @@ impl Interpreter {
         }
     }
 
-    // Begins a new text with the present settings. Where that is refused, the old session stays.
-    fn renew(&mut self, alloc: Global, text: &str, out: &mut Vec<u8>) -> Result<(), ScriptFault>
+    // Begins a new text with the present settings. Where that is refused, the old session stays. The text is dropped before the
+    // answer is printed.
+    fn renew(&mut self, alloc: Global, text: String, out: &mut Vec<u8>) -> Result<(), ScriptFault>
         requires { out.old.items ≡ [] }
-        ensures ok { OnOk result (MeaningOut self.old (NewText text.now) out.new.items self.new) }
+        ensures ok { OnOk result (MeaningOut self.old (NewText (string_bytes text)) out.new.items self.new) }
         ensures err { IfErr result (λ f. f ≡ ScriptFault.NoMemory) }
     {
-        match begin(alloc, self.settings, text) {
+        let opened = begin(alloc, self.settings, text.as_str());
+        drop(text);
+        match opened {
             Ok(session) => {
                 self.session = session;
                 self.answer(&Reply::Done, out)
@@ -110,30 +114,32 @@ impl Interpreter {
         self.answer(&Reply::Done, out)
     }
 
-    // Does a command.
-    fn obey(&mut self, command: &Command, out: &mut Vec<u8>) -> Result<(), ScriptFault>
+    // Does a command, which is dropped before the reply is printed.
+    fn obey(&mut self, command: Command, out: &mut Vec<u8>) -> Result<(), ScriptFault>
         requires { out.old.items ≡ [] }
-        ensures ok { OnOk result (MeaningOut self.old (Do command.now) out.new.items self.new) }
+        ensures ok { OnOk result (MeaningOut self.old (Do command) out.new.items self.new) }
         ensures err { IfErr result (λ f. f ≡ ScriptFault.NoMemory) }
     {
-        let reply = self.session.apply(command);
+        let reply = self.session.apply(&command);
+        drop(command);
         self.answer(&reply, out)
     }
 
-    // Runs one line, and leaves in `out` what is printed for it.
-    fn run_line(&mut self, alloc: Global, line: &[u8], out: &mut Vec<u8>) -> Result<(), ScriptFault>
-        ensures ok { OnOk result (LineOut self.old line.now out.new.items self.new) }
+    // Does what a line said, and leaves in `out` what is printed for it.
+    fn run_said(
+        &mut self,
+        alloc: Global,
+        said: Option<ScriptLine>,
+        out: &mut Vec<u8>,
+    ) -> Result<(), ScriptFault>
+        ensures ok { OnOk result (SaidOut self.old said out.new.items self.new) }
         ensures err { IfErr result (λ f. f ≡ ScriptFault.NoMemory) }
     {
         out.clear();
-        let said = match parse(alloc, line) {
-            Ok(said) => said,
-            Err(_) => return Err(ScriptFault::NoMemory),
-        };
         match said {
-            Some(ScriptLine::NewText(text)) => self.renew(alloc, text.as_str(), out),
+            Some(ScriptLine::NewText(text)) => self.renew(alloc, text, out),
             Some(ScriptLine::Set(setting)) => self.set(setting, out),
-            Some(ScriptLine::Do(command)) => self.obey(&command, out),
+            Some(ScriptLine::Do(command)) => self.obey(command, out),
             None => match out.extend_from_slice(b"bad\n") {
                 Ok(()) => Ok(()),
                 Err(_) => Err(ScriptFault::NoMemory),
@@ -159,19 +165,65 @@ fn put_line<W: Write>(writer: &mut W, line: &[u8]) -> Result<(), ScriptFault>
     Ok(())
 }
 
-// Runs a line, and writes what is printed for it.
-fn run_and_put<W: Write>(
+// The first line of the bytes, which a newline ends, and what stands behind it.
+fn split_line(bytes: &[u8]) -> Option<(&[u8], &[u8])>
+    ensures { MatchOption result (HasNoNewline bytes.now)
+        (λ found. HasNoNewline found.0.now × (bytes.now ≡ found.0.now ++ 10 ∷ found.1.now)) }
+{
+    let end = memchr(b'\n', bytes)?;
+    Some((&bytes[..end], &bytes[end + 1..]))
+}
+
+// What a line says.
+fn read_line(alloc: Global, line: &[u8]) -> Result<Option<ScriptLine>, ScriptFault>
+    ensures ok { IfOk result (λ said. IsSaid line.now said) }
+    ensures err { IfErr result (λ f. f ≡ ScriptFault.NoMemory) }
+{
+    match parse(alloc, line) {
+        Ok(said) => Ok(said),
+        Err(_) => Err(ScriptFault::NoMemory),
+    }
+}
+
+// What the line says that ends with `end` and begins with `part`, if that is not empty. The part is given up, so that a long
+// line does not live on while its command runs.
+fn read_end(
+    alloc: Global,
+    part: &mut Vec<u8>,
+    end: &[u8],
+) -> Result<Option<ScriptLine>, ScriptFault>
+    ensures ok { IfOk result (λ said. IsSaid (part.old.items ++ end.now) said) }
+    ensures given_up { OnOk result (part.new.items ≡ []) }
+    ensures err { IfErr result (λ f. f ≡ ScriptFault.NoMemory) }
+{
+    if part.is_empty() {
+        return read_line(alloc, end);
+    }
+    if part.extend_from_slice(end).is_err() {
+        return Err(ScriptFault::NoMemory);
+    }
+    let said = read_line(alloc, part.as_slice());
+    *part = Vec::new(alloc);
+    said
+}
+
+// Runs the line that ends with `end` and begins with `part`, and writes what is printed for it.
+fn end_line<W: Write>(
     alloc: Global,
     interpreter: &mut Interpreter,
-    line: &[u8],
+    part: &mut Vec<u8>,
+    end: &[u8],
     out: &mut Vec<u8>,
     writer: &mut W,
 ) -> Result<(), ScriptFault>
-    requires { HasNoNewline line.now }
-    ensures took { OnOk result (Took interpreter.old line.now (10 ∷ []) (W.contents writer.old) (W.contents writer.new) interpreter.new []) }
-    ensures halts { IfErr result (λ fault. Halts fault interpreter.old line.now (10 ∷ []) (W.contents writer.old) (W.contents writer.new)) }
+    requires part { HasNoNewline part.old.items }
+    requires end { HasNoNewline end.now }
+    ensures took { OnOk result (Took interpreter.old part.old.items (end.now ++ 10 ∷ []) (W.contents writer.old) (W.contents writer.new) interpreter.new []) }
+    ensures given_up { OnOk result (part.new.items ≡ []) }
+    ensures halts { IfErr result (λ fault. Halts fault interpreter.old part.old.items (end.now ++ 10 ∷ []) (W.contents writer.old) (W.contents writer.new)) }
 {
-    interpreter.run_line(alloc, line, out)?;
+    let said = read_end(alloc, part, end)?;
+    interpreter.run_said(alloc, said, out)?;
     put_line(writer, out.as_slice())
 }
 
@@ -189,15 +241,15 @@ fn take_block<W: Write>(
     ensures clean { OnOk result (HasNoNewline part.new.items) }
     ensures halts { IfErr result (λ fault. Halts fault interpreter.old part.old.items block.now (W.contents writer.old) (W.contents writer.new)) }
 {
-    for b in block {
-        if *b == b'\n' {
-            run_and_put(alloc, interpreter, part.as_slice(), out, writer)?;
-            part.clear();
-        } else if part.push(*b).is_err() {
-            return Err(ScriptFault::NoMemory);
-        }
+    let mut rest = block;
+    while let Some((end, behind)) = split_line(rest) {
+        end_line(alloc, interpreter, part, end, out, writer)?;
+        rest = behind;
     }
-    Ok(())
+    match part.extend_from_slice(rest) {
+        Ok(()) => Ok(()),
+        Err(_) => Err(ScriptFault::NoMemory),
+    }
 }
 
 /// Runs a script: reads it to its end, one command a line, and writes one line for each, whole before the
@@ -245,7 +297,7 @@ fn run_blocks<R: Read, W: Write>(
             if part.is_empty() {
                 return Ok(());
             }
-            return run_and_put(alloc, interpreter, part.as_slice(), out, writer);
+            return end_line(alloc, interpreter, part, &[], out, writer);
         }
         take_block(alloc, interpreter, part, out, &block[..count], writer)?;
     }

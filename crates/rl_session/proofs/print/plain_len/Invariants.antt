@@ -1,6 +1,12 @@
-use Rattle.std.proofs.Common.{◌≡◌, ◌++◌, take, drop}
-use Rattle.rl_session.specs.Print.{escaped}
+use Rattle.std.proofs.Common.{◌-◌, ◌≤◌, length}
+use Rattle.rl_session.specs.Writes.{ArePlain}
 use Rattle.rl_session.proofs.print.plain_len.Given as goal
 
 abbrev pub invariant-loop-i : goal.invariant-loop-i
-invariant-loop-i l = escaped l.spaces l.text ≡ take l.i l.text ++ escaped l.spaces (drop l.i l.text)
+invariant-loop-i l = record {
+  within : l.i ≤ length l.text;
+  plain : ArePlain l.spaces l.text 0 l.i;
+}
+
+abbrev pub decreases-loop-i : goal.decreases-loop-i
+decreases-loop-i l = l.last - l.i

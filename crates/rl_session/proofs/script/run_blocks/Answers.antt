@@ -14,15 +14,13 @@ returns-then-is_empty g c =
 pub returns-then-count-eq0 : goal.returns-then-count-eq0
 returns-then-count-eq0 g c =
     let bytes = rw c.if-count-eq0.true at c.in-Ok.ensures.bytes in
-    let put = rw c.as_slice.ensures.value at c.run_and_put.ensures.took in
-    let cut = rw c.as_slice.ensures.value at c.run_and_put.ensures.halts in
     let some = not_nil c.loop.part.items _ c.loop.part.ok.0 (sym c.is_empty.ensures ∙ c.if-is_empty.false) in
-    let stopped = IfErr-weaker c.run_and_put.result _ _
-    (λ f h. StoppedBy-last f _ _ _ _ _ _ _ _ c.loop.invariant.runs c.loop.invariant.clean some bytes.0 (bytes.1 refl (omega arith)) h) cut in
+    let stopped = IfErr-weaker c.end_line.result _ _
+    (λ f h. StoppedBy-last f _ _ _ _ _ _ _ _ c.loop.invariant.runs c.loop.invariant.clean some bytes.0 (bytes.1 refl (omega arith)) h) c.end_line.ensures.halts in
     record {
-      ok = on_ok_weaker c.run_and_put.result
-          (λ t. Ran-last _ _ _ _ _ _ _ _ _ c.loop.invariant.runs c.loop.invariant.clean some bytes.0 (bytes.1 refl (omega arith)) t) put;
-      err = Stopped-at _ _ _ _ c.run_and_put.result stopped;
+      ok = on_ok_weaker c.end_line.result
+          (λ t. Ran-last _ _ _ _ _ _ _ _ _ c.loop.invariant.runs c.loop.invariant.clean some bytes.0 (bytes.1 refl (omega arith)) t) c.end_line.ensures.took;
+      err = Stopped-at _ _ _ _ c.end_line.result stopped;
       fault = stopped;
     }
 
