@@ -1,8 +1,9 @@
-//! Undos and redos of a session, timed.
+//! Letters, undos and redos of a session, timed.
 use crate::stop::Stop;
 use crate::texts::{number_of, text_of};
 use rl_base::{GraphemeClusterMode, Movement, Word};
 use rl_session::{Command, Session};
+use std::alloc::Global;
 use std::time::{Duration, Instant};
 
 // As many texts as a session's ring has.
@@ -34,6 +35,26 @@ fn changes_here_and_there(session: &mut Session, count: usize) {
     }
 }
 
+// A session on a text of `size` bytes, the cursor at its end, that has room for so many bytes more.
+fn session_for(alloc: Global, count: usize, size: usize) -> Result<Session, Stop> {
+    let text = text_of(alloc, size)?;
+    let limit = size.saturating_add(count);
+    let text = text.as_str();
+    let mode = GraphemeClusterMode::Unicode;
+    let session = Session::new(alloc, text, text.len(), limit, RING_SIZE, mode)?;
+    Ok(session)
+}
+
+/// Times so many letters at the end of a text of `size` bytes, and tells the state at the end.
+pub fn time_typing(rt: &HostRuntime, count: usize, size: usize) -> Result<(Duration, u64), Stop> {
+    let mut session = session_for(rt.alloc(), count, size)?;
+    let start = Instant::now(rt)?;
+    applies_often(&mut session, &Command::Insert('a', 1), count);
+    let time = start.elapsed(rt)?;
+    let line = session.line();
+    Ok((time, number_of(line.as_str(), line.pos())))
+}
+
 /// Times undos of so many changes, or redos of them, in a text of `size` bytes, and tells the state at the end.
 pub fn time_history(
     rt: &HostRuntime,
@@ -42,11 +63,7 @@ pub fn time_history(
     count: usize,
     size: usize,
 ) -> Result<(Duration, u64), Stop> {
-    let text = text_of(rt.alloc(), size)?;
-    let limit = size.saturating_add(count);
-    let text = text.as_str();
-    let mode = GraphemeClusterMode::Unicode;
-    let mut session = Session::new(rt.alloc(), text, text.len(), limit, RING_SIZE, mode)?;
+    let mut session = session_for(rt.alloc(), count, size)?;
     if is_mixed {
         changes_here_and_there(&mut session, count);
     } else {

@@ -15,7 +15,7 @@ ghost use Rattle.std.specs.Prelude.{◌≡◌, OnOk, OnErr};
 ghost use Rattle.std.specs.Process.{exit_status};
 
 use edits::time_edit;
-use history::time_history;
+use history::{time_history, time_typing};
 use motions::time_motion;
 use std::env;
 use std::process::ExitCode;
@@ -34,6 +34,7 @@ fn time(
         Workload::Motion(motion) => time_motion(rt, motion, count, size),
         Workload::AtEnd(edit) => time_edit(rt, edit, false, count, size),
         Workload::InMiddle(edit) => time_edit(rt, edit, true, count, size),
+        Workload::TypeSession => time_typing(rt, count, size),
         Workload::UndoAtEnd => time_history(rt, false, false, count, size),
         Workload::UndoMixed => time_history(rt, true, false, count, size),
         Workload::RedoAtEnd => time_history(rt, false, true, count, size),

@@ -39,6 +39,8 @@ pub enum Workload {
     /// Edits at the end of the text, or in its middle.
     AtEnd(Edit),
     InMiddle(Edit),
+    /// Letters at the end of the text, by commands of a session.
+    TypeSession,
     /// Undos of as many edits, each with an entry of its own, at the end of the text or all over it; redos of them.
     UndoAtEnd,
     UndoMixed,
@@ -52,6 +54,7 @@ pub enum Workload {
 pub const WORKLOADS: &[(&str, Workload)] = &[
     ("type_end", Workload::AtEnd(Edit::Letter)),
     ("type_middle", Workload::InMiddle(Edit::Letter)),
+    ("type_session", Workload::TypeSession),
     ("entry_end", Workload::AtEnd(Edit::Dot)),
     ("entry_middle", Workload::InMiddle(Edit::Dot)),
     ("backspace_end", Workload::AtEnd(Edit::Backspace)),

@@ -12,7 +12,8 @@ ghost use Rattle.rl_line.specs.Plan.{Grows};
 use crate::line_starts::{newlines, newlines_of, stays, swap_starts};
 use rl_base::Refusal;
 
-/// Finds room in a text and in its table for so many bytes and newlines more.
+/// Finds room in a text and in its table for so many bytes and newlines more. Inlined, so that what is there costs no call.
+#[inline(always)]
 pub(crate) fn find_room(
     text: &mut String,
     starts: &mut Vec<usize>,
@@ -91,7 +92,8 @@ pub(crate) fn swap_in(
 }
 
 /// Puts a character in at a place, as `swap_in` does. In the last line of a text any but a newline is neither
-/// encoded nor counted.
+/// encoded nor counted, and at the end it costs no call.
+#[inline(always)]
 pub(crate) fn swap_in_char(text: &mut String, starts: &mut Vec<usize>, at: usize, c: char)
     requires place { IsCharBoundary (string_bytes text.old) at }
     requires table { starts.old.items ≡ line_starts (string_bytes text.old) }
@@ -105,6 +107,20 @@ pub(crate) fn swap_in_char(text: &mut String, starts: &mut Vec<usize>, at: usize
         put_char_in(text, at, c);
         return;
     }
+    swap_in_encoded(text, starts, at, c);
+}
+
+// The same of a character whose bytes are made, for the table.
+#[inline(never)]
+fn swap_in_encoded(text: &mut String, starts: &mut Vec<usize>, at: usize, c: char)
+    requires place { IsCharBoundary (string_bytes text.old) at }
+    requires table { starts.old.items ≡ line_starts (string_bytes text.old) }
+    requires room { string_len text.old + length (encode_utf8 c) ≤ string_capacity text.old }
+    requires table_room { vec_len starts.old + count_by is_newline (encode_utf8 c) ≤ vec_capacity starts.old }
+    ensures text { string_bytes text.new ≡ insert_slice (string_bytes text.old) at (encode_utf8 c) }
+    ensures table { starts.new.items ≡ line_starts (string_bytes text.new) }
+    ensures len { string_len text.new ≡ string_len text.old + length (encode_utf8 c) }
+{
     let mut bytes = [0; 4];
     swap_starts(starts, text.as_str(), at, at, c.encode_utf8(&mut bytes));
     put_char_in(text, at, c);
@@ -167,8 +183,27 @@ fn put_in(text: &mut String, at: usize, part: &str)
     }
 }
 
-// Puts a character in at a place.
+// Puts a character in at a place, with no call where that is the end and it is ASCII.
+#[inline(always)]
 fn put_char_in(text: &mut String, at: usize, c: char)
+    requires place { IsCharBoundary (string_bytes text.old) at }
+    requires room { string_len text.old + length (encode_utf8 c) ≤ string_capacity text.old }
+    ensures text { string_bytes text.new ≡ insert_slice (string_bytes text.old) at (encode_utf8 c) }
+    ensures capacity { string_capacity text.old ≤ string_capacity text.new }
+    ensures len { string_len text.new ≡ string_len text.old + length (encode_utf8 c) }
+{
+    if at == text.len() {
+        match text.push(c) {
+            Ok(()) => return,
+            Err(_) => unreachable!(),
+        }
+    }
+    put_char_before(text, at, c);
+}
+
+// Puts a character in before what stands at a place.
+#[inline(never)]
+fn put_char_before(text: &mut String, at: usize, c: char)
     requires place { IsCharBoundary (string_bytes text.old) at }
     requires room { string_len text.old + length (encode_utf8 c) ≤ string_capacity text.old }
     ensures text { string_bytes text.new ≡ insert_slice (string_bytes text.old) at (encode_utf8 c) }

@@ -248,7 +248,19 @@ impl Session {
         let _ = self.line.pos();
     }
 
+    // A letter is what an editor presses most: it does not pay for what the other commands need.
+    #[inline(always)]
     fn obey(&mut self, command: &Command) -> Reply
+        ensures { Does self.old command.now result self.new }
+    {
+        match command {
+            Command::Insert(c, n) => self.insert(*c, *n),
+            _ => self.obey_any(command),
+        }
+    }
+
+    #[inline(never)]
+    fn obey_any(&mut self, command: &Command) -> Reply
         ensures { Does self.old command.now result self.new }
     {
         match command {
