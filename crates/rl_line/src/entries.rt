@@ -37,7 +37,8 @@ pub(crate) fn insert_char(
     Ok(Freshness::Added)
 }
 
-// Adds an entry of a character to the recorded ones.
+// Adds an entry of a character to the recorded ones. Cold, since a letter mostly joins.
+#[cold]
 #[inline(never)]
 fn add_char(entries: &mut Vec<Change>, recorded: usize, idx: usize, c: char) -> Result<(), Refusal>
     requires { recorded ≤ length entries.old.items }

@@ -110,7 +110,8 @@ pub(crate) fn swap_in_char(text: &mut String, starts: &mut Vec<usize>, at: usize
     swap_in_encoded(text, starts, at, c);
 }
 
-// The same of a character whose bytes are made, for the table.
+// The same of a character whose bytes are made, for the table. Cold, since most is typed in the last line.
+#[cold]
 #[inline(never)]
 fn swap_in_encoded(text: &mut String, starts: &mut Vec<usize>, at: usize, c: char)
     requires place { IsCharBoundary (string_bytes text.old) at }
@@ -201,7 +202,8 @@ fn put_char_in(text: &mut String, at: usize, c: char)
     put_char_before(text, at, c);
 }
 
-// Puts a character in before what stands at a place.
+// Puts a character in before what stands at a place. Cold, since most is typed at the end.
+#[cold]
 #[inline(never)]
 fn put_char_before(text: &mut String, at: usize, c: char)
     requires place { IsCharBoundary (string_bytes text.old) at }

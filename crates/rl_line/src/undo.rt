@@ -304,6 +304,7 @@ impl DeleteListener for Changeset {
 }
 
 impl ChangeListener for Changeset {
+    #[inline(always)]
     fn insert_char(&mut self, idx: usize, c: char) -> Result<(), Refusal> {
         self.insert(idx, c)
     }

@@ -110,7 +110,9 @@ impl LineBuffer {
         self.insert_apart(c, n, listener)
     }
 
-    // Stays out of `insert`, or a letter would be slower for it.
+    // Stays out of `insert`, or a letter would be slower for it. Cold, as all that a letter at the end does not come to, so that the
+    // compiler takes that for the common way.
+    #[cold]
     #[inline(never)]
     fn insert_apart<L: ChangeListener>(
         &mut self,
