@@ -54,6 +54,7 @@ pub(crate) enum Freshness {
 
 impl Freshness {
     // That of a change that was joined, which loses its cursors, but keeps the one before it where they were told.
+    #[inline(always)]
     fn of_joined(cursors: &mut Cursors) -> Freshness
         ensures fresh { result ≡ freshness_joined cursors.old }
         ensures cursors { cursors.new ≡ None }
@@ -187,8 +188,20 @@ impl Change {
         }
     }
 
-    /// Tells a change its cursors.
+    /// Tells a change its cursors. Inlined, with the test for what a letter is told, so that this costs typing no call.
+    #[inline(always)]
     pub(crate) fn tell(&mut self, told: (usize, usize))
+        ensures { entry_of self.new ≡ with_cursors told (entry_of self.old) }
+    {
+        if let Change::Insert(cursors, _, _) = self {
+            *cursors = Some(told);
+            return;
+        }
+        self.tell_any(told);
+    }
+
+    #[inline(never)]
+    fn tell_any(&mut self, told: (usize, usize))
         ensures { entry_of self.new ≡ with_cursors told (entry_of self.old) }
     {
         match self {
@@ -410,6 +423,7 @@ pub(crate) fn copied(alloc: Global, text: &str) -> Result<String, Refusal>
 // does not. What was joined has no cursors yet.
 impl Change {
     /// An alphanumeric character that goes in right behind what was inserted.
+    #[inline(always)]
     pub(crate) fn join_char(&mut self, idx: usize, c: char) -> Result<Option<Freshness>, Refusal>
         ensures ok { IfOk result (λ fresh. TakesIn (InsertChar idx c) (entry_of self.old) (entry_of self.new) fresh) }
         ensures err { IfErr result (λ r. (r ≡ NoMemory) × (entry_of self.new ≡ entry_of self.old)) }

@@ -1,6 +1,6 @@
 //! A list of entries, of which the first are recorded, and those behind them were undone: what an event makes of it, and which
 //! of them an undo or a redo goes over. A function that records drops what was undone, and refused it leaves every entry.
-ghost use Rattle.std.specs.Prelude.{◌≡◌, ◌+◌, ◌^◌, ◌≤◌, ◌<◌, [], ◌∷◌, ◌++◌, length, map, take, drop, true, false, IfOk, IfErr, IfSome, OnOk, OnErr};
+ghost use Rattle.std.specs.Prelude.{◌≡◌, ◌+◌, ◌^◌, ◌≤◌, ◌<◌, [], ◌∷◌, ◌++◌, encode_utf8, length, map, take, drop, true, false, None, IfOk, IfErr, IfSome, OnOk, OnErr};
 ghost use Rattle.std.specs.Option.{option_map};
 ghost use Rattle.std.specs.String.{string_bytes};
 ghost use Rattle.std.specs.Vec.{vec_len, vec_capacity};
@@ -8,7 +8,7 @@ ghost use Rattle.rl_base.specs.Event.{InsertChar, InsertStr, Delete, Replace};
 ghost use Rattle.rl_base.specs.Text.{HasText};
 ghost use Rattle.rl_base.specs.declared.listeners.Direction.TheVariants.{Forward};
 ghost use Rattle.rl_base.specs.declared.listeners.Refusal.TheVariants.{NoMemory};
-ghost use Rattle.rl_line.specs.Record.{entries_after, entries_told, entry_of, freshness_of, last_insert};
+ghost use Rattle.rl_line.specs.Record.{Inserted, entries_after, entries_told, entry_of, freshness_of, last_insert};
 ghost use Rattle.rl_line.specs.Units.{IsMatched, adds_end, end_one, end_times, ends_in_begin, has_change, is_change, last_of, level, redo_of};
 ghost use Rattle.rl_line.specs.Entries.{JoinsLast, deep};
 
@@ -17,6 +17,7 @@ use rl_base::{Gathered, Refusal, RepeatCount};
 use std::alloc::Global;
 
 /// Records that a character was put in.
+#[inline(always)]
 #[tactic(auto, using(crate::proofs::JoinLemmas::alone_in_list), unfolding(crate::specs::Record::entries_of))]
 pub(crate) fn insert_char(
     entries: &mut Vec<Change>,
@@ -32,12 +33,23 @@ pub(crate) fn insert_char(
         keep(entries, recorded);
         return Ok(fresh);
     }
+    add_char(entries, recorded, idx, c)?;
+    Ok(Freshness::Added)
+}
+
+// Adds an entry of a character to the recorded ones. Cold, since a letter mostly joins.
+#[cold]
+#[inline(never)]
+fn add_char(entries: &mut Vec<Change>, recorded: usize, idx: usize, c: char) -> Result<(), Refusal>
+    requires { recorded ≤ length entries.old.items }
+    ensures ok { OnOk result (map entry_of entries.new.items ≡ take recorded (map entry_of entries.old.items) ++ Inserted idx (encode_utf8 c) None ∷ []) }
+    ensures err { IfErr result (λ r. (r ≡ NoMemory) × (map entry_of entries.new.items ≡ map entry_of entries.old.items)) }
+{
     let mut text = String::new(*entries.allocator());
     if text.push(c).is_err() {
         return Err(Refusal::NoMemory);
     }
-    add(entries, recorded, Change::Insert(None, idx, text))?;
-    Ok(Freshness::Added)
+    add(entries, recorded, Change::Insert(None, idx, text))
 }
 
 /// Records that a text was put in.
@@ -114,6 +126,7 @@ pub(crate) fn replace(
 }
 
 /// Tells the last recorded entry its cursors, where it may be told them yet.
+#[inline(always)]
 pub(crate) fn tell(
     entries: &mut Vec<Change>,
     recorded: usize,
@@ -137,6 +150,7 @@ pub(crate) fn tell(
 }
 
 // Joins a character that was inserted to the last recorded entry, if it does. Answers what may be told of that then.
+#[inline(always)]
 fn join_char(
     entries: &mut Vec<Change>,
     recorded: usize,

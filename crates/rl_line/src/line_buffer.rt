@@ -206,7 +206,9 @@ impl LineBuffer {
         )
     }
 
-    // The same step with one character: finds room, reports, and then puts it in, which can't fail any more.
+    // The same step with one character: finds room, reports, and then puts it in, which can't fail any more. Inlined, with all that
+    // a letter at the end goes through, so that typing is one function whose calls are for what comes seldom.
+    #[inline(always)]
     #[tactic(auto, using(rl_base::proofs::EventLemmas::fitting))]
     fn put_char<L: ChangeListener>(
         &mut self,

@@ -15,7 +15,8 @@ use rl_base::Refusal;
 use std::alloc::Global;
 use std::mem;
 
-/// Finds room in a text and in its table for so many bytes and newlines more.
+/// Finds room in a text and in its table for so many bytes and newlines more. Inlined, so that what is there costs no call.
+#[inline(always)]
 pub(crate) fn find_room(
     text: &mut String,
     starts: &mut LineStarts,
@@ -101,7 +102,8 @@ pub(crate) fn swap_in(
 }
 
 /// Puts a character in at a place, as `swap_in` does. Where the table's border is there, any but a newline is neither encoded
-/// nor counted.
+/// nor counted, and at the end it costs no call.
+#[inline(always)]
 pub(crate) fn swap_in_char(text: &mut String, starts: &mut LineStarts, at: usize, c: char)
     requires place { IsCharBoundary (string_bytes text.old) at }
     requires table { IsTable starts.old.places.items starts.old.border (string_bytes text.old) }
@@ -116,6 +118,21 @@ pub(crate) fn swap_in_char(text: &mut String, starts: &mut LineStarts, at: usize
         put_char_in(text, at, c);
         return;
     }
+    swap_in_encoded(text, starts, at, c);
+}
+
+// The same of a character whose bytes are made, for the table. Cold, since mostly no newline is typed, at the last change's place.
+#[cold]
+#[inline(never)]
+fn swap_in_encoded(text: &mut String, starts: &mut LineStarts, at: usize, c: char)
+    requires place { IsCharBoundary (string_bytes text.old) at }
+    requires table { IsTable starts.old.places.items starts.old.border (string_bytes text.old) }
+    requires room { string_len text.old + length (encode_utf8 c) ≤ string_capacity text.old }
+    requires table_room { vec_len starts.old.places + count_by is_newline (encode_utf8 c) ≤ vec_capacity starts.old.places }
+    ensures text { string_bytes text.new ≡ insert_slice (string_bytes text.old) at (encode_utf8 c) }
+    ensures table { IsTable starts.new.places.items starts.new.border (string_bytes text.new) }
+    ensures len { string_len text.new ≡ string_len text.old + length (encode_utf8 c) }
+{
     let mut bytes = [0; 4];
     swap_starts(
         starts,
@@ -123,7 +140,7 @@ pub(crate) fn swap_in_char(text: &mut String, starts: &mut LineStarts, at: usize
         at,
         at,
         c.encode_utf8(&mut bytes),
-        come,
+        newlines_of(c),
     );
     put_char_in(text, at, c);
 }
@@ -192,8 +209,29 @@ fn swap_within(text: &mut String, from: usize, to: usize, part: &str)
     *text = unsafe { String::from_utf8_unchecked(bytes) };
 }
 
-// Puts a character in at a place. `insert` moves what stands after it by `memmove` for one of a single byte alone.
+// Puts a character in at a place, with no call where that is the end and it is ASCII.
+#[inline(always)]
 fn put_char_in(text: &mut String, at: usize, c: char)
+    requires place { IsCharBoundary (string_bytes text.old) at }
+    requires room { string_len text.old + length (encode_utf8 c) ≤ string_capacity text.old }
+    ensures text { string_bytes text.new ≡ insert_slice (string_bytes text.old) at (encode_utf8 c) }
+    ensures capacity { string_capacity text.old ≤ string_capacity text.new }
+    ensures len { string_len text.new ≡ string_len text.old + length (encode_utf8 c) }
+{
+    if at == text.len() {
+        match text.push(c) {
+            Ok(()) => return,
+            Err(_) => unreachable!(),
+        }
+    }
+    put_char_before(text, at, c);
+}
+
+// Puts a character in before what stands at a place. `insert` moves what stands there by `memmove` for one of a single byte
+// alone. Cold, since most is typed at the end.
+#[cold]
+#[inline(never)]
+fn put_char_before(text: &mut String, at: usize, c: char)
     requires place { IsCharBoundary (string_bytes text.old) at }
     requires room { string_len text.old + length (encode_utf8 c) ≤ string_capacity text.old }
     ensures text { string_bytes text.new ≡ insert_slice (string_bytes text.old) at (encode_utf8 c) }

@@ -113,6 +113,7 @@ impl Changeset {
 
     /// Records that `c` was inserted at the byte place `idx`: an alphanumeric character joins the last entry, where
     /// that is an insertion that ends there. Refused, as every call that records, it changes nothing.
+    #[inline(always)]
     pub fn insert(&mut self, idx: usize, c: char) -> Result<(), Refusal>
         ensures done { OnOk result (self.new ≡ record_step self.old (InsertChar idx c)) }
         ensures err { IfErr result (λ r. (r ≡ NoMemory) × (self.new ≡ self.old)) }
@@ -329,6 +330,7 @@ impl DeleteListener for Changeset {
 
     fn stop_killing(&mut self) {}
 
+    #[inline(always)]
     fn cursors(&mut self, before: usize, after: usize) {
         entries::tell(&mut self.entries, self.recorded, self.fresh, before, after);
         self.fresh = Freshness::Stale;
@@ -336,6 +338,7 @@ impl DeleteListener for Changeset {
 }
 
 impl ChangeListener for Changeset {
+    #[inline(always)]
     fn insert_char(&mut self, idx: usize, c: char) -> Result<(), Refusal> {
         self.insert(idx, c)
     }

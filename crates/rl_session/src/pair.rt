@@ -32,12 +32,14 @@ impl DeleteListener for Pair {
         self.ring.stop_killing();
     }
 
+    #[inline(always)]
     fn cursors(&mut self, before: usize, after: usize) {
         self.changes.cursors(before, after);
     }
 }
 
 impl ChangeListener for Pair {
+    #[inline(always)]
     fn insert_char(&mut self, idx: usize, c: char) -> Result<(), Refusal> {
         self.changes.insert_char(idx, c)
     }

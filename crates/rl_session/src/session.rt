@@ -248,7 +248,19 @@ impl Session {
         let _ = self.line.pos();
     }
 
+    // A letter is what an editor presses most: it does not pay for what the other commands need.
+    #[inline(always)]
     fn obey(&mut self, command: &Command) -> Reply
+        ensures { Does self.old command.now result self.new }
+    {
+        match command {
+            Command::Insert(c, n) => self.insert(*c, *n),
+            _ => self.obey_any(command),
+        }
+    }
+
+    #[inline(never)]
+    fn obey_any(&mut self, command: &Command) -> Reply
         ensures { Does self.old command.now result self.new }
     {
         match command {
@@ -289,7 +301,8 @@ impl Session {
     /// Does one command. The ring is reset first, unless the command is a yank, or a kill by another movement
     /// than by clusters, and again after a yank that was not replied with `Inserted(Some(..))`. Whatever it
     /// answers, the recorded changes lead from the starting text to the present one, and back to the text from which
-    /// they came before.
+    /// they came before. Inlined, so that a reply is not copied on its way.
+    #[inline(always)]
     pub fn apply(&mut self, command: &Command) -> Reply
         ensures step { Step self.old command.now result self.new }
         ensures replays { (start : List ℕ) → Replays start self.old → Replays start self.new }

@@ -21,13 +21,23 @@ pub enum Class {
     Outside,
 }
 
-/// Whether the character is Alphabetic or a number (general category Nd, Nl or No).
+/// Whether the character is Alphabetic or a number (general category Nd, Nl or No). Inlined, so that an ASCII character, which
+/// is most often asked for, costs no call.
+#[inline(always)]
 pub fn is_alphanumeric(c: char) -> bool
     ensures { result ≡ is_alphanumeric c }
 {
     if c.is_ascii() {
         return c.is_ascii_alphanumeric();
     }
+    is_in_tables(c)
+}
+
+// The same by the tables of Unicode, whose search stays out of what asks for ASCII.
+#[inline(never)]
+fn is_in_tables(c: char) -> bool
+    ensures { result ≡ is_alphanumeric c }
+{
     is_alphabetic(c)
         || matches!(
             GeneralCategory::for_char(c),

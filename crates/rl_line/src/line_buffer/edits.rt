@@ -55,6 +55,7 @@ impl LineBuffer {
     }
 
     // One step: a character at the cursor, n times.
+    #[inline(always)]
     fn put_chars<L: ChangeListener>(
         &mut self,
         c: char,
@@ -70,6 +71,22 @@ impl LineBuffer {
             let at = self.pos();
             return self.put_char(at, c, at + c.len_utf8(), listener);
         }
+        self.put_char_copies(c, n, listener)
+    }
+
+    // One step: a character as a text at the cursor, n times.
+    #[inline(never)]
+    fn put_char_copies<L: ChangeListener>(
+        &mut self,
+        c: char,
+        n: RepeatCount,
+        listener: &mut L,
+    ) -> Result<(), Refusal>
+        ensures taken { OnOk result (Taken L.step ((InsertStr self.old.cursor (repeat n (encode_utf8 c)), self.old.cursor + length (encode_utf8 c) * n) ∷ []) self.old self.new listener.old listener.new) }
+        ensures cursor { OnOk result (self.new.cursor ≡ self.old.cursor + length (encode_utf8 c) * n) }
+        ensures kept { OnErr result (self.new ≡ self.old) }
+        ensures cause { IfErr result (λ r. or_no_memory L.refused listener.old (InsertStr self.old.cursor (repeat n (encode_utf8 c))) r listener.new) }
+    {
         let mut bytes = [0; 4];
         self.put_copies(c.encode_utf8(&mut bytes), n, listener)
     }
@@ -78,6 +95,39 @@ impl LineBuffer {
     /// Answers whether the cursor was at the end, or None where the text would get too long. Refused, it
     /// leaves the line as it was.
     pub fn insert<L: ChangeListener>(
+        &mut self,
+        c: char,
+        n: RepeatCount,
+        listener: &mut L,
+    ) -> Result<Option<bool>, Refusal>
+        ensures done { IfOk result (λ answer. Done L.step (insert_plan self.old c n) self.old self.new listener.old listener.new answer) }
+        ensures halted { IfErr result (λ r. Halted L.step (or_no_memory L.refused) (insert_plan self.old c n) self.old self.new listener.old listener.new r) }
+    {
+        // An ASCII character is what is typed most: that it is one byte is known here when this is compiled.
+        if n == 1 && c.is_ascii() {
+            return self.insert_here(c, n, listener);
+        }
+        self.insert_apart(c, n, listener)
+    }
+
+    // Stays out of `insert`, or a letter would be slower for it. Cold, as all that a letter at the end does not come to, so that the
+    // compiler takes that for the common way.
+    #[cold]
+    #[inline(never)]
+    fn insert_apart<L: ChangeListener>(
+        &mut self,
+        c: char,
+        n: RepeatCount,
+        listener: &mut L,
+    ) -> Result<Option<bool>, Refusal>
+        ensures done { IfOk result (λ answer. Done L.step (insert_plan self.old c n) self.old self.new listener.old listener.new answer) }
+        ensures halted { IfErr result (λ r. Halted L.step (or_no_memory L.refused) (insert_plan self.old c n) self.old self.new listener.old listener.new r) }
+    {
+        self.insert_here(c, n, listener)
+    }
+
+    #[inline(always)]
+    fn insert_here<L: ChangeListener>(
         &mut self,
         c: char,
         n: RepeatCount,

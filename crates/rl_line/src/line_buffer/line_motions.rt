@@ -1,7 +1,7 @@
 //! The motions over lines.
 ghost use Rattle.std.specs.Prelude.{◌≡◌, ◌≤◌, IfSome};
 ghost use Rattle.std.specs.Str.{IsCharBoundary};
-ghost use Rattle.rl_base.specs.Lines.{last_line, place_of_column};
+ghost use Rattle.rl_base.specs.Lines.{last_line, line_number, place_of_column};
 ghost use Rattle.rl_line.specs.LineMotions.{column_above, column_below, columns_before, home, line_end, place_above, place_below, place_in_line};
 ghost use Rattle.rl_line.specs.Motions.{Moved, unless_there};
 
@@ -52,8 +52,9 @@ impl LineBuffer {
         ensures value { result ≡ place_above layout.now self.now.text self.now.cursor n }
         ensures boundary { IfSome result (IsCharBoundary self.now.text) }
     {
-        let target = self.line_above(n)?;
-        let column = column_above(layout, target, self.columns_before(layout));
+        let k = self.line_number();
+        let target = self.line_above(k, n)?;
+        let column = column_above(layout, target, self.columns_before(k, layout));
         Some(self.place_in_line(target, column))
     }
 
@@ -61,17 +62,19 @@ impl LineBuffer {
         ensures value { result ≡ place_below layout.now self.now.text self.now.cursor n }
         ensures boundary { IfSome result (IsCharBoundary self.now.text) }
     {
-        let target = self.line_below(n)?;
         let k = self.line_number();
-        let column = column_below(layout, k, self.columns_before(layout));
+        let target = self.line_below(k, n)?;
+        let column = column_below(layout, k, self.columns_before(k, layout));
         Some(self.place_in_line(target, column))
     }
 
-    // The columns from the start of the cursor's line to the cursor.
-    fn columns_before(&self, layout: &Layout) -> Unit
+    // The columns from the start of the cursor's line, `k`, to the cursor.
+    fn columns_before(&self, k: usize, layout: &Layout) -> Unit
+        requires k { k ≡ line_number self.now.text self.now.cursor }
+        requires within { k ≤ last_line self.now.text }
         ensures { result ≡ columns_before layout.now self.now.text self.now.cursor }
     {
-        layout.width(&self.as_str()[self.home()..self.pos()])
+        layout.width(&self.as_str()[self.home_of(k)..self.pos()])
     }
 
     // The place before the cluster of a line that has the number of the column, or the line's end.

@@ -111,7 +111,20 @@ impl LineBuffer {
         ensures before { result ≤ self.now.cursor }
         ensures boundary { IsCharBoundary self.now.text result }
     {
-        self.start_of_line(self.line_at(self.pos()))
+        self.home_of(self.line_number())
+    }
+
+    // The start of the cursor's line, `k`.
+    pub(super) fn home_of(&self, k: usize) -> usize
+        requires k { k ≡ line_number self.now.text self.now.cursor }
+        requires within { k ≤ last_line self.now.text }
+        ensures value { result ≡ home self.now }
+        ensures before { result ≤ self.now.cursor }
+        ensures boundary { IsCharBoundary self.now.text result }
+    {
+        // So the proof knows that the cursor stands within the text.
+        let _cursor = self.pos();
+        self.start_of_line(k)
     }
 
     // The end of the text of the cursor's line.
@@ -123,24 +136,26 @@ impl LineBuffer {
         self.end_of_line(self.line_at(self.pos()))
     }
 
-    // The number of the `n`-th line above the cursor's, at least one, or of the first. None on the first.
-    pub(super) fn line_above(&self, n: RepeatCount) -> Option<usize>
+    // The number of the `n`-th line above the cursor's, `k`, at least one, or of the first. None on the first.
+    pub(super) fn line_above(&self, k: usize, n: RepeatCount) -> Option<usize>
+        requires k { k ≡ line_number self.now.text self.now.cursor }
+        requires within { k ≤ last_line self.now.text }
         ensures value { result ≡ line_above self.now.text self.now.cursor n }
         ensures within { IfSome result (λ k. k ≤ last_line self.now.text) }
     {
-        let k = self.line_number();
         if k == 0 {
             return None;
         }
         Some(k.saturating_sub(usize::from(n.max(1))))
     }
 
-    // The number of the `n`-th line below the cursor's, at least one, or of the last. None on the last.
-    pub(super) fn line_below(&self, n: RepeatCount) -> Option<usize>
+    // The number of the `n`-th line below the cursor's, `k`, at least one, or of the last. None on the last.
+    pub(super) fn line_below(&self, k: usize, n: RepeatCount) -> Option<usize>
+        requires k { k ≡ line_number self.now.text self.now.cursor }
+        requires within { k ≤ last_line self.now.text }
         ensures value { result ≡ line_below self.now.text self.now.cursor n }
         ensures within { IfSome result (λ k. k ≤ last_line self.now.text) }
     {
-        let k = self.line_number();
         let last = self.last_line();
         if k == last {
             return None;
