@@ -1,5 +1,5 @@
 -- What the table of line starts says of the lines of its text.
-use Rattle.std.proofs.Common.{◌≡◌, ℕ, zero, suc, ◌+◌, ◌-◌, ◌<◌, ◌≤◌, Bool, true, false, cond, List, [], ◌∷◌, ◌++◌, length, get_or, take, drop, min, All, refl, sym, ap, subst, ◌∙◌, arith, count_by, eqb, eqb-true, ne_eqb, leb, ltb, le_refl, length-append, slice_range, ⊎_elim, Some, None, ap₂}
+use Rattle.std.proofs.Common.{◌≡◌, ℕ, zero, suc, ◌+◌, ◌-◌, ◌<◌, ◌≤◌, Bool, true, false, cond, List, [], ◌∷◌, length, get_or, take, drop, min, All, refl, sym, ap, subst, ◌∙◌, arith, count_by, eqb, eqb-true, ne_eqb, leb, ltb, le_refl, length-append, slice_range, ⊎_elim, Some, None, ap₂}
 use Rattle.std.proofs.lemmas.Bool.{both_ways, cases_lt, le-leb, lt-leb, le-ltb, lt-ltb}
 use Rattle.std.proofs.lemmas.List.{length-take-le, get_or_append_left, get_or-append_right, get_or-take, get_or_default}
 use Rattle.std.proofs.lemmas.List.Edits.{length-between, get_or-between}

@@ -1,10 +1,10 @@
--- The places right behind the newlines of a text: of two joined, of one moved, how many there are, and where they lie.
+-- The places right after the newlines of a text: of two joined, how many there are, and where they lie; and the table of them with a border: where it lies between two parts of the text, where it moves, and where a range gives way to a part.
 use borrow.Rule.Slice.PartMut.{put_mid, post_of}
-use Rattle.std.proofs.Common.{◌≡◌, ℕ, zero, suc, ◌+◌, ◌-◌, ◌<◌, ◌≤◌, ◌&&◌, ◌==◌, nat_le, Bool, true, false, cond, List, [], ◌∷◌, ◌++◌, map, filter, length, get_or, set, take, drop, take-add, append_assoc, append-nil, length-append, length-drop, slice_range, All, count_by, refl, sym, ap, ap₂, subst, ◌∙◌, arith, eq-eqb, ne_eqb, ⊎_elim}
+use Rattle.std.proofs.Common.{◌≡◌, ℕ, zero, suc, ◌+◌, ◌-◌, ◌<◌, ◌≤◌, ◌&&◌, ◌==◌, nat_le, Bool, true, false, cond, List, [], ◌∷◌, ◌++◌, map, filter, length, get_or, set, take, drop, take-add, append_assoc, append-nil, length-append, length-drop, slice_range, All, count_by, refl, sym, ap, ap₂, subst, ◌∙◌, arith, ne_eqb}
 use Rattle.std.proofs.lemmas.Bool.{and_parts, eqb-true, leb-true}
-use Rattle.std.proofs.lemmas.List.{nil_from_length, take-append-drop, length-take, length-take-le, length-map, map-append, map_push, get_or-take, get_or-drop, get_or-map, get_or_append_left, get_or_at, get_or-append_right, take-take, take-append-le, take-map, take_at, take_all, drop-drop, drop-map, drop-append-le, drop_at, drop_all, drop_more, set_at}
+use Rattle.std.proofs.lemmas.List.{nil_from_length, take-append-drop, length-take, length-take-le, length-map, map-append, map_push, get_or-take, get_or-drop, get_or-map, get_or_append_left, get_or_at, get_or-append_right, take-take, take-append-le, take-map, take_at, drop-drop, drop-map, drop-append-le, drop_at, drop_all, drop_more, set_at}
 use Rattle.std.proofs.lemmas.List.Sums.{sum_by-cons, sum_by-append}
-use Rattle.std.proofs.lemmas.List.Edits.{length-between, take-paste}
+use Rattle.std.proofs.lemmas.List.Edits.{length-between}
 use Rattle.std.proofs.lemmas.List.Elements.{All-nil, All-cons, All-head, All-tail, All-get_or, All-weaker, All-append, All-map, All-take, All-drop}
 use Rattle.std.proofs.lemmas.Slice.{take-put_mid}
 use Rattle.std.proofs.lemmas.Str.{encode_ascii, inside_one}
@@ -423,55 +423,30 @@ put_more n i place x done old now size room is at =
     ∙ sym (append_assoc start ((n + x) ∷ []) (drop (i + 1) old))
     ∙ ap (λ l. l ++ drop (i + 1) old) (sym (map_push (λ p. n + p) done x))
 
--- ---- a gap of `come` in the stead of `gone`: the list of what stands before it, with what stands behind it
-gap-parts : (at p : ℕ) (xs front rest : List ℕ) → at ≤ p → length front ≡ p → take at front ≡ take at xs → (take at (front ++ rest) ≡ take at xs) × (drop p (front ++ rest) ≡ rest)
-gap-parts at p xs front rest le len before = (take-append-le at front rest (omega (arith, len)) ∙ before, drop_at front rest p len)
-
-pub gap-more : (at gone come : ℕ) (xs : List ℕ) → at ≤ length xs → come ≡ gone + 1 → (take at (insert xs at 0) ≡ take at xs) × (drop (at + come) (insert xs at 0) ≡ drop (at + gone) xs)
+-- ---- a gap of `come` in the stead of `gone`
+pub gap-more : (at gone come : ℕ) (xs : List ℕ) → at ≤ length xs → come ≡ gone + 1 → drop (at + come) (insert xs at 0) ≡ drop (at + gone) xs
 gap-more at gone come xs le one =
     let next : come ≡ suc gone = omega arith in
-    let size = length-take-le at xs le in
-    let rest = drop at xs in (
-      take_at (take at xs) (0 ∷ rest) at size,
-      sym (drop-drop come at (insert xs at 0)) ∙ ap (drop come) (drop_at (take at xs) (0 ∷ rest) at size) ∙ ap (λ k. drop k (0 ∷ rest)) next ∙ drop-drop gone at xs,
-    )
+    sym (drop-drop come at (insert xs at 0)) ∙ ap (drop come) (drop_at (take at xs) (0 ∷ drop at xs) at (length-take-le at xs le)) ∙ ap (λ k. drop k (0 ∷ drop at xs)) next ∙ drop-drop gone at xs
 
-pub gap-less : (at gone come : ℕ) (xs : List ℕ) → at ≤ length xs → gone ≡ come + 1 → (take at (remove xs at) ≡ take at xs) × (drop (at + come) (remove xs at) ≡ drop (at + gone) xs)
+pub gap-less : (at gone come : ℕ) (xs : List ℕ) → at ≤ length xs → gone ≡ come + 1 → drop (at + come) (remove xs at) ≡ drop (at + gone) xs
 gap-less at gone come xs le one =
-    let size = length-take-le at xs le in
-    let rest = drop (suc at) xs in
-    let place : suc at + come ≡ at + gone = omega arith in (
-      take_at (take at xs) rest at size,
-      sym (drop-drop come at (remove xs at)) ∙ ap (drop come) (drop_at (take at xs) rest at size) ∙ drop-drop come (suc at) xs ∙ ap (λ k. drop k xs) place,
+    let place : suc at + come ≡ at + gone = omega arith in
+    sym (drop-drop come at (remove xs at)) ∙ ap (drop come) (drop_at (take at xs) (drop (suc at) xs) at (length-take-le at xs le)) ∙ drop-drop come (suc at) xs ∙ ap (λ k. drop k xs) place
+
+pub gap-up : (at gone come len : ℕ) (xs more : List ℕ) → length xs ≡ len → at + gone ≤ len → gone < come → length more ≡ come - gone
+    → let now = copy_within (xs ++ more) (at + gone) len (at + come) in (take at now ≡ take at xs) × (drop (at + come) now ≡ drop (at + gone) xs)
+gap-up at gone come len xs more size within less count =
+    let n = len - (at + gone) in
+    let p = at + come in
+    let ys = xs ++ more in
+    let rest = drop (at + gone) xs in
+    let all = length-append xs more in
+    let front = length-take-le p ys (omega (arith, all)) in
+    let moved : take n (drop (at + gone) ys) ≡ rest =
+    ap (take n) (drop-append-le (at + gone) xs more (omega arith)) ∙ take_at rest more n (length-drop (at + gone) xs ∙ ap (λ k. k - (at + gone)) size) in
+    let none : drop (p + n) ys ≡ [] = drop_all (p + n) ys (omega (arith, all)) in
+    let is : copy_within ys (at + gone) len p ≡ take p ys ++ rest = ap₂ (λ l r. take p ys ++ l ++ r) moved none ∙ append-nil (take p ys ++ rest) in (
+      ap (take at) is ∙ take-append-le at (take p ys) rest (omega (arith, front)) ∙ take-take at p ys (omega arith) ∙ take-append-le at xs more (omega arith),
+      ap (drop p) is ∙ drop_at (take p ys) rest p front,
     )
-
-module _ (at gone come len : ℕ) (xs : List ℕ) (size : length xs ≡ len) (within : at + gone ≤ len) where
-  abbrev n : ℕ
-  n = len - (at + gone)
-
-  pub gap-down : come < gone
-      → let now = take (len - (gone - come)) (copy_within xs (at + gone) len (at + come)) in (take at now ≡ take at xs) × (drop (at + come) now ≡ drop (at + gone) xs)
-  gap-down less =
-      let p = at + come in
-      let rest = drop (at + gone) xs in
-      let until : len - (gone - come) ≡ p + n = omega arith in
-      let is : take (len - (gone - come)) (copy_within xs (at + gone) len p) ≡ take p xs ++ rest =
-      ap (λ k. take k (copy_within xs (at + gone) len p)) until
-      ∙ take-paste xs p rest n (omega arith) (omega (arith, length-drop (at + gone) xs)) ∙ ap (λ l. take p xs ++ l) (take_all n rest (omega (arith, length-drop (at + gone) xs))) in
-      let both = gap-parts at p xs (take p xs) rest (omega arith) (length-take-le p xs (omega arith)) (take-take at p xs (omega arith)) in
-      (ap (take at) is ∙ both.0, ap (drop p) is ∙ both.1)
-
-  pub gap-up : (more : List ℕ) → gone < come → length more ≡ come - gone
-      → let now = copy_within (xs ++ more) (at + gone) len (at + come) in (take at now ≡ take at xs) × (drop (at + come) now ≡ drop (at + gone) xs)
-  gap-up more less count =
-      let p = at + come in
-      let ys = xs ++ more in
-      let rest = drop (at + gone) xs in
-      let all = length-append xs more in
-      let moved : take n (drop (at + gone) ys) ≡ rest =
-      ap (take n) (drop-append-le (at + gone) xs more (omega arith)) ∙ take_at rest more n (length-drop (at + gone) xs ∙ ap (λ k. k - (at + gone)) size) in
-      let none : drop (p + n) ys ≡ [] = drop_all (p + n) ys (omega (arith, all)) in
-      let is : copy_within ys (at + gone) len p ≡ take p ys ++ rest =
-      ap₂ (λ l r. take p ys ++ l ++ r) moved none ∙ append-nil (take p ys ++ rest) in
-      let both = gap-parts at p xs (take p ys) rest (omega arith) (length-take-le p ys (omega (arith, all))) (take-take at p ys (omega arith) ∙ take-append-le at xs more (omega arith)) in
-      (ap (take at) is ∙ both.0, ap (drop p) is ∙ both.1)

@@ -1,6 +1,6 @@
 use Rattle.std.proofs.Common.{◌≡◌, ◌≤◌, ◌+◌, ◌-◌, ◌++◌, length, take, drop, count_by, slice_range, vec_len, sym, ap, ap₂, subst, ◌∙◌, arith}
 use Rattle.std.proofs.lemmas.List.{take_rest, length-drop, drop-drop}
-use Rattle.rl_base.specs.Lines.{is_newline, line_number}
+use Rattle.rl_base.specs.Lines.{is_newline}
 use Rattle.std.specs.List.{replace_range}
 use Rattle.rl_line.specs.LineStarts.{behind_newlines, IsTable}
 use Rattle.rl_line.proofs.LineStartLemmas.{IsTable-replaced, length-table, IsTable-written, newlines-front, newlines-take}

@@ -1,4 +1,4 @@
-use Rattle.std.proofs.Common.{◌≡◌, ◌+◌, ◌-◌, ◌++◌, List, ℕ, length, replicate, take, drop, vec_len, ap, sym, ◌∙◌, arith}
+use Rattle.std.proofs.Common.{◌≡◌, ◌+◌, ◌-◌, ◌++◌, List, ℕ, length, replicate, take, drop, vec_len, ap, ◌∙◌, arith}
 use Rattle.std.proofs.lemmas.List.{length-replicate, take_all}
 use Rattle.std.specs.List.{copy_within}
 use Rattle.rl_line.proofs.LineStartLemmas.{gap-less, gap-more, gap-up}
@@ -17,7 +17,7 @@ both c =
     let grown : c.resize.new.self.items ≡ xs ++ more = c.in-Ok-resize.ensures.items ∙ ap (λ l. l ++ more) (take_all n xs (omega (arith, size))) in
     let moved : c.copy_within-2.new.self.items ≡ copy_within (xs ++ more) (c.args.at + c.args.gone) len (c.args.at + c.args.come) =
     c.copy_within-2.ensures.items ∙ ap (λ l. copy_within l (c.args.at + c.args.gone) len (c.args.at + c.args.come)) grown in
-    let there = gap-up c.args.at c.args.gone c.args.come len xs size (omega (arith, c.requires.within, c.len-len.ensures)) more (omega (arith, c.if-come-gone.false, c.if-come-gone-2.false))
+    let there = gap-up c.args.at c.args.gone c.args.come len xs more size (omega (arith, c.requires.within, c.len-len.ensures)) (omega (arith, c.if-come-gone.false, c.if-come-gone-2.false))
     (length-replicate _ 0 ∙ (omega (arith, c.len-len.ensures))) in
     (ap (take c.args.at) moved ∙ there.0, ap (drop (c.args.at + c.args.come)) moved ∙ there.1)
 
@@ -31,10 +31,10 @@ pub returns-then-gone-come-eq1-clause-after : goal.returns-then-gone-come-eq1-cl
 returns-then-gone-come-eq1-clause-after c =
     let xs = c.args.places.now.items in
     let there = gap-less c.args.at c.args.gone c.args.come xs (omega (arith, c.requires.within, c.args.places.now.ok.0)) (omega (arith, c.if-gone-come-eq1.true)) in
-    ap (drop (c.args.at + c.args.come)) c.remove.ensures.items ∙ there.1
+    ap (drop (c.args.at + c.args.come)) c.remove.ensures.items ∙ there
 
 pub returns-in-Ok-clause-after : goal.returns-in-Ok-clause-after
 returns-in-Ok-clause-after c =
     let xs = c.args.places.now.items in
     let there = gap-more c.args.at c.args.gone c.args.come xs (omega (arith, c.requires.within, c.args.places.now.ok.0)) (omega (arith, c.if-come-gone-eq1.true, c.if-come-gone-2.false)) in
-    ap (drop (c.args.at + c.args.come)) c.in-Ok.ensures.items ∙ there.1
+    ap (drop (c.args.at + c.args.come)) c.in-Ok.ensures.items ∙ there

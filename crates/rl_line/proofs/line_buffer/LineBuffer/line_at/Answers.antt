@@ -1,5 +1,4 @@
-use Rattle.std.proofs.Common.{ap, arith, subst, sym, ◌≡◌, ◌∙◌, rules, length, take, drop}
-use Rattle.std.proofs.lemmas.List.{take-append-drop}
+use Rattle.std.proofs.Common.{ap, arith, ◌≡◌, ◌∙◌}
 use Rattle.rl_base.specs.Lines.{line_number}
 use Rattle.rl_line.specs.Line.{Line}
 use Rattle.rl_line.proofs.LineStartLemmas.{newlines-take}

@@ -1,7 +1,6 @@
-use Rattle.std.proofs.Common.{◌≡◌, ap, arith, subst, sym, ◌∙◌, get_or, count_by}
+use Rattle.std.proofs.Common.{ap, arith, subst, sym, ◌∙◌, get_or, count_by}
 use Rattle.std.proofs.lemmas.Str.{IsUtf8-string_bytes}
 use Rattle.std.specs.Str.{IsUtf8}
-use Rattle.std.specs.String.{string_bytes}
 use Rattle.rl_base.specs.Lines.{is_newline}
 use Rattle.rl_line.specs.Line.{Line}
 use Rattle.rl_line.specs.LineStarts.{line_starts, IsTable}
