@@ -202,7 +202,9 @@ fn join_replacement(
     entries[recorded - 1].join_replacement(idx, old, new)
 }
 
-/// Adds an entry to the recorded ones. Where it takes the place of one that was undone, there is room for it.
+/// Adds an entry to the recorded ones. Where it takes the place of one that was undone, there is room for it. Inlined, so that the
+/// entry is made where it is to stand.
+#[inline(always)]
 pub(crate) fn add(entries: &mut Vec<Change>, recorded: usize, entry: Change) -> Result<(), Refusal>
     requires { recorded ≤ length entries.old.items }
     ensures ok { OnOk result (map entry_of entries.new.items ≡ take recorded (map entry_of entries.old.items) ++ entry_of entry ∷ []) }
