@@ -51,11 +51,11 @@ swap_in-behind-requires-clause-start c = rw c.find_room_instead.ensures.text (st
 pub swap_in-behind-requires-clause-end : goal.swap_in-behind-requires-clause-end
 swap_in-behind-requires-clause-end c = rw c.find_room_instead.ensures.text (end (goal.at.swap_in-behind-requires-clause-end c).After-texts)
 
-pub returns-in_err-find_room_instead-clause-err : goal.returns-in_err-find_room_instead-clause-err
-returns-in_err-find_room_instead-clause-err c =
+pub returns-in_err-come-clause-err : goal.returns-in_err-come-clause-err
+returns-in_err-come-clause-err c =
     let p = err_from_is_err_and c.from_residual.result c.from_residual.ensures.1 in
-    let refused = c.in_err-find_room_instead.ensures.err in
-    let d = (goal.at.returns-in_err-find_room_instead-clause-err c).After-texts in
+    let refused = c.in_err-come.ensures.err in
+    let d = (goal.at.returns-in_err-come-clause-err c).After-texts in
     let e = faced c.args.way c.args.change.now in
     let text = string_bytes c.self.inside.buf in
     let goes : slice_range text c.in-Some.at (c.in-Some.at + length c.texts.result.0.now) ≡ new_text e =
