@@ -101,8 +101,8 @@ impl LineStarts {
         if come == 0 {
             return 0;
         }
-        let gone = self.line_number(text, to) - self.line_number(text, from);
-        come.saturating_sub(gone)
+        let first = self.line_number(text, from);
+        come.saturating_sub(self.newlines_up_to(text, first, to))
     }
 
     /// Whether the table stays as it is where a range gives way to a part that has so many newlines: none comes, none goes, and
@@ -114,7 +114,7 @@ impl LineStarts {
         requires end { to ≤ length text.now }
         ensures { result ≡ (come == 0 && (nat_le self.now.border (line_number text.now from) && nat_le (line_number text.now to) self.now.border)) }
     {
-        come == 0 && (self.border_by(text, from) && self.border_after(text, to))
+        come == 0 && (self.border_by(text, from) && self.begins_after(text, self.border, to))
     }
 
     // Whether all starts before the border lie at a place or before it.
@@ -130,17 +130,32 @@ impl LineStarts {
         self.start(text, self.border - 1) <= pos
     }
 
-    // Whether all starts from the border on lie after a place.
+    // Whether all starts from a number on lie after a place.
     #[inline(always)]
-    fn border_after(&self, text: &str, pos: usize) -> bool
+    fn begins_after(&self, text: &str, k: usize, pos: usize) -> bool
         requires table { IsTable self.now.places.items self.now.border text.now }
+        requires within { k ≤ vec_len self.now.places }
         requires place { pos ≤ length text.now }
-        ensures { result ≡ nat_le (line_number text.now pos) self.now.border }
+        ensures { result ≡ nat_le (line_number text.now pos) k }
     {
-        if self.border == self.places.len() {
+        if k == self.places.len() {
             return true;
         }
-        pos < self.start(text, self.border)
+        pos < self.start(text, k)
+    }
+
+    // How many newlines a range has that ends at a place, and begins in the line with a number: mostly none, which one look
+    // tells.
+    fn newlines_up_to(&self, text: &str, first: usize, to: usize) -> usize
+        requires table { IsTable self.now.places.items self.now.border text.now }
+        requires within { first ≤ vec_len self.now.places }
+        requires end { to ≤ length text.now }
+        ensures { result ≡ line_number text.now to - first }
+    {
+        if self.begins_after(text, first, to) {
+            return 0;
+        }
+        self.line_number(text, to) - first
     }
 
     // Moves the border. The starts that it passes are counted from the other end then.
@@ -220,7 +235,7 @@ fn exchange_starts(
     ensures count { vec_len starts.new.places ≡ (vec_len starts.old.places - count_by is_newline (slice_range text.now from to)) + count_by is_newline part.now }
 {
     let first = starts.line_number(text, from);
-    let gone = starts.line_number(text, to) - first;
+    let gone = starts.newlines_up_to(text, first, to);
     starts.move_border(text, first);
     open_gap(&mut starts.places, first, gone, come);
     put_behind_newlines(&mut starts.places[first..], from, part);
