@@ -147,7 +147,7 @@ impl LineStarts {
     fn move_border(&mut self, text: &str, border: usize)
         requires table { IsTable self.old.places.items self.old.border text.now }
         requires within { border ≤ vec_len self.old.places }
-        ensures table { IsTable self.new.places.items border text.now }
+        ensures table { IsTable self.new.places.items self.new.border text.now }
         ensures border { self.new.border ≡ border }
         ensures count { vec_len self.new.places ≡ vec_len self.old.places }
         ensures capacity { vec_capacity self.old.places ≤ vec_capacity self.new.places }
@@ -199,9 +199,9 @@ pub(crate) fn swap_starts(
     exchange_starts(starts, text, from, to, part, come);
 }
 
-// The same where the border is elsewhere, or newlines come or go. The starts after the range keep their distances from the end.
+/// The same where the border is elsewhere, or newlines come or go. The starts after the range keep their distances from the end.
 #[inline(never)]
-fn exchange_starts(
+pub(crate) fn exchange_starts(
     starts: &mut LineStarts,
     text: &str,
     from: usize,
@@ -220,8 +220,11 @@ fn exchange_starts(
     ensures count { vec_len starts.new.places ≡ (vec_len starts.old.places - count_by is_newline (slice_range text.now from to)) + count_by is_newline part.now }
 {
     let first = starts.line_number(text, from);
-    let gone = starts.line_number(text, to) - first;
     starts.move_border(text, first);
+    if starts.stays(text, from, to, come) {
+        return;
+    }
+    let gone = starts.line_number(text, to) - first;
     open_gap(&mut starts.places, first, gone, come);
     put_behind_newlines(&mut starts.places[first..], from, part);
     starts.border = first + come;

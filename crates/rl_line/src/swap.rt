@@ -9,7 +9,7 @@ ghost use Rattle.rl_base.specs.Event.{Replace};
 ghost use Rattle.rl_line.specs.LineStarts.{IsTable};
 ghost use Rattle.rl_line.specs.Plan.{Grows};
 
-use crate::line_starts::{LineStarts, newlines, newlines_of, swap_starts};
+use crate::line_starts::{LineStarts, exchange_starts, newlines, newlines_of, swap_starts};
 use rl_base::Refusal;
 
 /// Finds room in a text and in its table for so many bytes and newlines more.
@@ -114,7 +114,7 @@ pub(crate) fn swap_in_char(text: &mut String, starts: &mut LineStarts, at: usize
         return;
     }
     let mut bytes = [0; 4];
-    swap_starts(
+    exchange_starts(
         starts,
         text.as_str(),
         at,
