@@ -77,7 +77,9 @@ impl LineStarts {
         text.len() - self.places[k]
     }
 
-    /// The number of the line that a place lies in, from 0, by binary search in the part of the table that has it.
+    /// The number of the line that a place lies in, from 0, by binary search in the part of the table that has it. It stays a call,
+    /// so that the searches of one motion go over the same branches, which the processor then foresees.
+    #[inline(never)]
     pub(crate) fn line_number(&self, text: &str, pos: usize) -> usize
         requires table { IsTable self.now.places.items self.now.border text.now }
         requires place { pos ≤ length text.now }
