@@ -77,7 +77,9 @@ impl LineStarts {
         text.len() - self.places[k]
     }
 
-    /// The number of the line that a place lies in, from 0, by binary search in the part of the table that has it.
+    /// The number of the line that a place lies in, from 0, by binary search in the part of the table that has it. It stays a call,
+    /// so that the searches of one motion go over the same branches, which the processor then foresees.
+    #[inline(never)]
     pub(crate) fn line_number(&self, text: &str, pos: usize) -> usize
         requires table { IsTable self.now.places.items self.now.border text.now }
         requires place { pos ≤ length text.now }
@@ -101,8 +103,8 @@ impl LineStarts {
         if come == 0 {
             return 0;
         }
-        let first = self.line_number(text, from);
-        come.saturating_sub(self.newlines_up_to(text, first, to))
+        let gone = self.line_number(text, to) - self.line_number(text, from);
+        come.saturating_sub(gone)
     }
 
     /// Whether the table stays as it is where a range gives way to a part that has so many newlines: none comes, none goes, and
@@ -114,7 +116,7 @@ impl LineStarts {
         requires end { to ≤ length text.now }
         ensures { result ≡ (come == 0 && (nat_le self.now.border (line_number text.now from) && nat_le (line_number text.now to) self.now.border)) }
     {
-        come == 0 && (self.border_by(text, from) && self.begins_after(text, self.border, to))
+        come == 0 && (self.border_by(text, from) && self.border_after(text, to))
     }
 
     // Whether all starts before the border lie at a place or before it.
@@ -130,39 +132,24 @@ impl LineStarts {
         self.start(text, self.border - 1) <= pos
     }
 
-    // Whether all starts from a number on lie after a place.
+    // Whether all starts from the border on lie after a place.
     #[inline(always)]
-    fn begins_after(&self, text: &str, k: usize, pos: usize) -> bool
+    fn border_after(&self, text: &str, pos: usize) -> bool
         requires table { IsTable self.now.places.items self.now.border text.now }
-        requires within { k ≤ vec_len self.now.places }
         requires place { pos ≤ length text.now }
-        ensures { result ≡ nat_le (line_number text.now pos) k }
+        ensures { result ≡ nat_le (line_number text.now pos) self.now.border }
     {
-        if k == self.places.len() {
+        if self.border == self.places.len() {
             return true;
         }
-        pos < self.start(text, k)
-    }
-
-    // How many newlines a range has that ends at a place, and begins in the line with a number: mostly none, which one look
-    // tells.
-    fn newlines_up_to(&self, text: &str, first: usize, to: usize) -> usize
-        requires table { IsTable self.now.places.items self.now.border text.now }
-        requires within { first ≤ vec_len self.now.places }
-        requires end { to ≤ length text.now }
-        ensures { result ≡ line_number text.now to - first }
-    {
-        if self.begins_after(text, first, to) {
-            return 0;
-        }
-        self.line_number(text, to) - first
+        pos < self.start(text, self.border)
     }
 
     // Moves the border. The starts that it passes are counted from the other end then.
     fn move_border(&mut self, text: &str, border: usize)
         requires table { IsTable self.old.places.items self.old.border text.now }
         requires within { border ≤ vec_len self.old.places }
-        ensures table { IsTable self.new.places.items border text.now }
+        ensures table { IsTable self.new.places.items self.new.border text.now }
         ensures border { self.new.border ≡ border }
         ensures count { vec_len self.new.places ≡ vec_len self.old.places }
         ensures capacity { vec_capacity self.old.places ≤ vec_capacity self.new.places }
@@ -214,9 +201,9 @@ pub(crate) fn swap_starts(
     exchange_starts(starts, text, from, to, part, come);
 }
 
-// The same where the border is elsewhere, or newlines come or go. The starts after the range keep their distances from the end.
+/// The same where the border is elsewhere, or newlines come or go. The starts after the range keep their distances from the end.
 #[inline(never)]
-fn exchange_starts(
+pub(crate) fn exchange_starts(
     starts: &mut LineStarts,
     text: &str,
     from: usize,
@@ -235,8 +222,11 @@ fn exchange_starts(
     ensures count { vec_len starts.new.places ≡ (vec_len starts.old.places - count_by is_newline (slice_range text.now from to)) + count_by is_newline part.now }
 {
     let first = starts.line_number(text, from);
-    let gone = starts.newlines_up_to(text, first, to);
     starts.move_border(text, first);
+    if starts.stays(text, from, to, come) {
+        return;
+    }
+    let gone = starts.line_number(text, to) - first;
     open_gap(&mut starts.places, first, gone, come);
     put_behind_newlines(&mut starts.places[first..], from, part);
     starts.border = first + come;

@@ -9,7 +9,7 @@ ghost use Rattle.rl_base.specs.Event.{Replace};
 ghost use Rattle.rl_line.specs.LineStarts.{IsTable};
 ghost use Rattle.rl_line.specs.Plan.{Grows};
 
-use crate::line_starts::{LineStarts, newlines, newlines_of, swap_starts};
+use crate::line_starts::{LineStarts, exchange_starts, newlines, newlines_of, swap_starts};
 use crate::tails::swap_bytes;
 use rl_base::Refusal;
 use std::alloc::Global;
@@ -136,7 +136,7 @@ fn swap_in_encoded(text: &mut String, starts: &mut LineStarts, at: usize, c: cha
     ensures len { string_len text.new ≡ string_len text.old + length (encode_utf8 c) }
 {
     let mut bytes = [0; 4];
-    swap_starts(
+    exchange_starts(
         starts,
         text.as_str(),
         at,

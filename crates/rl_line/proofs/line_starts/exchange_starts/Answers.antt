@@ -3,48 +3,57 @@ use Rattle.std.proofs.lemmas.List.{take_rest, length-drop, drop-drop}
 use Rattle.rl_base.specs.Lines.{is_newline}
 use Rattle.std.specs.List.{replace_range}
 use Rattle.rl_line.specs.LineStarts.{behind_newlines, IsTable}
-use Rattle.rl_line.proofs.LineStartLemmas.{IsTable-replaced, length-table, IsTable-written, newlines-front, newlines-take}
+use Rattle.rl_line.proofs.LineStartLemmas.{IsTable-replaced, IsTable-stays, length-table, IsTable-written, newlines-front, newlines-replaced, newlines-take}
 use Rattle.rl_line.proofs.line_starts.exchange_starts.Goals as goal
-use Rattle.rl_line.proofs.line_starts.exchange_starts.Goals.{After-newlines_up_to-gone}
+use Rattle.rl_line.proofs.line_starts.exchange_starts.Goals.{After-line_number, Then-stays}
 
 -- the starts that go with the range
-gone : (c : After-newlines_up_to-gone) → c.newlines_up_to-gone.result ≡ count_by is_newline (slice_range c.args.text.now c.args.from c.args.to)
-gone c = omega (arith, c.line_number-first.ensures, c.newlines_up_to-gone.ensures, newlines-front c.args.text.now c.args.from c.args.to c.requires.order)
+gone : (c : After-line_number) → c.line_number.result ≡ c.line_number-first.result + count_by is_newline (slice_range c.args.text.now c.args.from c.args.to)
+gone c = omega (arith, c.line_number-first.ensures, c.line_number.ensures, newlines-front c.args.text.now c.args.from c.args.to c.requires.order)
 
-within : (c : After-newlines_up_to-gone) → c.line_number-first.result + c.newlines_up_to-gone.result ≤ vec_len c.args.starts.now.places
-within c =
-    omega (
-      arith,
-      c.line_number-first.ensures,
-      c.newlines_up_to-gone.ensures,
-      newlines-front c.args.text.now c.args.from c.args.to c.requires.order,
-      newlines-take c.args.text.now c.args.to,
-      length-table _ _ c.args.text.now c.requires.table,
-      c.args.starts.now.places.ok.0,
-    )
+within : (c : After-line_number) → c.line_number.result ≤ vec_len c.args.starts.now.places
+within c = omega (arith, c.line_number.ensures, newlines-take c.args.text.now c.args.to, length-table _ _ c.args.text.now c.requires.table, c.args.starts.now.places.ok.0)
 
-pub newlines_up_to-gone-requires-clause-within : goal.newlines_up_to-gone-requires-clause-within
-newlines_up_to-gone-requires-clause-within c =
-    omega (arith, c.line_number-first.ensures, newlines-take c.args.text.now c.args.from, length-table _ _ c.args.text.now c.requires.table, c.args.starts.now.places.ok.0)
+pub overflow_sub-gone : goal.overflow_sub-gone
+overflow_sub-gone c = omega (arith, gone (goal.at.overflow_sub-gone c).After-line_number)
 
 pub move_border-requires-clause-within : goal.move_border-requires-clause-within
 move_border-requires-clause-within c =
-    let d = (goal.at.move_border-requires-clause-within c).After-newlines_up_to-gone in
-    omega (arith, gone d, within d)
+    omega (arith, c.line_number-first.ensures, newlines-take c.args.text.now c.args.from, length-table _ _ c.args.text.now c.requires.table, c.args.starts.now.places.ok.0)
+
+-- the table is that of the new text too, where only the border had to move
+stays : (c : Then-stays) → IsTable c.move_border.new.self.places.items c.move_border.new.self.border (replace_range c.args.text.now c.args.from c.args.to c.args.part.now)
+stays c =
+    IsTable-stays _ c.args.text.now c.args.part.now c.args.from c.args.to _ _ c.move_border.ensures.table c.requires.order c.requires.end.0 c.requires.come (sym c.stays.ensures ∙ c.if-stays.true)
+
+pub returns-then-stays-clause-table : goal.returns-then-stays-clause-table
+returns-then-stays-clause-table c = stays c
+
+pub returns-then-stays-clause-count : goal.returns-then-stays-clause-count
+returns-then-stays-clause-count c =
+    omega (
+      arith,
+      c.args.starts.now.places.ok.0,
+      length-table _ _ c.args.text.now c.requires.table,
+      c.move_border.ensures.count,
+      c.move_border.new.self.places.ok.0,
+      length-table _ _ _ (stays c),
+      newlines-replaced c.args.text.now c.args.part.now c.args.from c.args.to c.requires.order,
+    )
 
 pub open_gap-requires-clause-within : goal.open_gap-requires-clause-within
 open_gap-requires-clause-within c =
-    let d = (goal.at.open_gap-requires-clause-within c).After-newlines_up_to-gone in
+    let d = (goal.at.open_gap-requires-clause-within c).After-line_number in
     omega (arith, gone d, within d, c.move_border.ensures.count)
 
 pub open_gap-requires-clause-room : goal.open_gap-requires-clause-room
 open_gap-requires-clause-room c =
-    let d = (goal.at.open_gap-requires-clause-room c).After-newlines_up_to-gone in
+    let d = (goal.at.open_gap-requires-clause-room c).After-line_number in
     omega (arith, gone d, within d, c.move_border.ensures.count, c.move_border.ensures.capacity, c.requires.come, c.requires.room)
 
 pub put_behind_newlines-requires-clause-within : goal.put_behind_newlines-requires-clause-within
 put_behind_newlines-requires-clause-within c =
-    let d = (goal.at.put_behind_newlines-requires-clause-within c).After-newlines_up_to-gone in
+    let d = (goal.at.put_behind_newlines-requires-clause-within c).After-line_number in
     let old = c.deref_mut.result.now in
     let first = c.line_number-first.result in
     omega (
@@ -61,7 +70,7 @@ put_behind_newlines-requires-clause-within c =
 
 pub returns-clause-table : goal.returns-clause-table
 returns-clause-table c =
-    let d = (goal.at.returns-clause-table c).After-newlines_up_to-gone in
+    let d = (goal.at.returns-clause-table c).After-line_number in
     let text = c.args.text.now in
     let part = c.args.part.now in
     let first = c.line_number-first.result in
@@ -71,16 +80,17 @@ returns-clause-table c =
     let many : first ≤ c.open_gap.new.places.len = omega (arith, c.open_gap.ensures.count, c.move_border.ensures.count, gone d, within d) in
     let size = c.put_behind_newlines.auto.places ∙ ap length rest ∙ length-drop first old ∙ ap (λ k. k - first) c.deref_mut.ensures.len in
     let front = ap (take first) c.deref_mut.ensures.value ∙ c.open_gap.ensures.before in
-    let back : drop (count_by is_newline part) (drop first old) ≡ drop (first + c.newlines_up_to-gone.result) places =
+    let back : drop (count_by is_newline part) (drop first old) ≡ drop (first + (c.line_number.result - first)) places =
     drop-drop (count_by is_newline part) first old ∙ ap (λ k. drop (first + k) old) (sym c.requires.come) ∙ ap (drop (first + c.args.come)) c.deref_mut.ensures.value ∙ c.open_gap.ensures.after in
     let is = ap (λ l. take first old ++ l) (c.put_behind_newlines.ensures ∙ ap (λ l. behind_newlines (c.args.from + 1) part ++ drop (count_by is_newline part) l) rest)
     ∙ ap₂ (λ l r. l ++ (behind_newlines (c.args.from + 1) part ++ r)) front back in
-    let made = IsTable-replaced places text part c.args.from c.args.to first c.newlines_up_to-gone.result c.move_border.ensures.table c.requires.order c.requires.end.0 c.line_number-first.ensures (omega (arith, gone d)) in
-    let all = take first places ++ (behind_newlines (c.args.from + 1) part ++ drop (first + c.newlines_up_to-gone.result) places) in
+    let table = subst (λ n. IsTable places n text) c.move_border.ensures.border c.move_border.ensures.table in
+    let made = IsTable-replaced places text part c.args.from c.args.to first (c.line_number.result - first) table c.requires.order c.requires.end.0 c.line_number-first.ensures (omega (arith, gone d)) in
+    let all = take first places ++ (behind_newlines (c.args.from + 1) part ++ drop (first + (c.line_number.result - first)) places) in
     IsTable-written first c.open_gap.new.places.len (first + c.args.come) old c.put_behind_newlines.new.places _ all (replace_range text c.args.from c.args.to part) c.deref_mut.ensures.len many size is
     (subst (λ n. IsTable all (first + n) (replace_range text c.args.from c.args.to part)) (sym c.requires.come) made)
 
 pub returns-clause-count : goal.returns-clause-count
 returns-clause-count c =
-    let d = (goal.at.returns-clause-count c).After-newlines_up_to-gone in
+    let d = (goal.at.returns-clause-count c).After-line_number in
     omega (arith, gone d, within d, c.open_gap.ensures.count, c.move_border.ensures.count, c.requires.come)
