@@ -31,12 +31,12 @@ HEAD = """<svg xmlns="http://www.w3.org/2000/svg" viewBox="0 0 {0} {1}" width="{
 <title>A line editor over Lodvarn: what is typed, and what the terminal shows</title>
 <style>
 text {{ font: 15px ui-monospace, Menlo, Consolas, "DejaVu Sans Mono", monospace; fill: #dfe3ea }}
+.head {{ fill: #9aa3b2 }}
 .key {{ fill: #8ec5d6 }}
 .screen {{ fill: #2e343e }}
 .cursor {{ fill: #a9c98b }}
 </style>
-<rect width="{0}" height="{1}" rx="8" fill="#21252b"/>
-"""
+<rect width="{0}" height="{1}" rx="8" fill="#21252b"/>"""
 
 
 def columns_of(text):
@@ -88,10 +88,12 @@ def screens_of(editor):
 
 def main():
     editor = Path(sys.argv[1]).resolve() if len(sys.argv) > 1 else PROGRAM
-    lines, y = [], SPACE
+    lines = [*draw_text(SPACE, SPACE, "You type", "head"), *draw_text(LEFT, SPACE, "The terminal shows", "head")]
+    y = SPACE + HEIGHT + SPACE // 2
     for (typed, _), (rows, cursor) in zip(STEPS, screens_of(editor)):
         lines += [*draw_typed(y, typed), *draw_screen(y, rows, cursor)]
         y += HEIGHT * len(rows) + SPACE
+    sys.stdout.reconfigure(encoding="utf-8")
     print(HEAD.format(RIGHT + SPACE, y), *lines, "</svg>", sep="\n")
 
 

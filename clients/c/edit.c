@@ -48,10 +48,16 @@ static const char *text(size_t *len) {
 /* The screen. Each frame is drawn over the last one, of which only the row of the cursor is known. */
 static size_t shown_row;
 
-/* The length of the first cluster. An ASCII character before another one is a cluster: no call is needed. */
+/* The length of the first cluster. An ASCII character before another one is a cluster. Else a short piece of the text
+ * tells, as long as the cluster ends before that piece does: the call reads all that it is given. */
 static size_t cluster(const char *bytes, size_t len) {
-    size_t first = 1;
-    if (len > 1 && ((bytes[0] | bytes[1]) & 0x80)) lodvarn_first_cluster(bytes, len, &first);
+    size_t first = 1, piece = 16;
+    if (len < 2 || !((bytes[0] | bytes[1]) & 0x80)) return 1;
+    do {
+        piece = 2 * piece < len ? 2 * piece : len;
+        while (piece < len && (bytes[piece] & 0xc0) == 0x80) piece++;
+        lodvarn_first_cluster(bytes, piece, &first);
+    } while (first == piece && piece < len);
     return first;
 }
 
