@@ -163,11 +163,16 @@ CASES = [
     ("what comes before a key of two parts", ["ab", keys("C-x")], ["> ab"], (0, 4)),
 ]
 
-# The same of pastes of 10 KB, which must be there soon.
+# The same for pastes of 10 KB, which must be there soon.
 PASTES = [
     ("a paste of letters", ["f" * 10000 + "z"], ["f" * 60] * 19 + ["f" * 42 + "z"], (19, 43)),
     ("of wide characters", ["日" * 3400 + "z"], ["日" * 30] * 19 + ["日" * 11 + "z"], (19, 23)),
-    ("of many texts", [("h" * 49 + "\r") * 200], ["=> " + "h" * 49, "> " + "h" * 49] * 9 + ["=> " + "h" * 49, ">"], (19, 2)),
+    (
+        "of many texts",
+        [("h" * 48 + "\r") * 200 + "i\r"],
+        ["=> " + "h" * 48, "> " + "h" * 48] * 8 + ["=> " + "h" * 48, "> i", "=> i", ">"],
+        (19, 2),
+    ),
 ]
 
 
