@@ -10,8 +10,11 @@
 #include <termios.h>
 #include <unistd.h>
 
-/* The bytes that a text may have, the killed texts that are kept, and the milliseconds that a key may take. */
-enum { LIMIT = 65536, RING = 60, WAIT = 200 };
+enum {
+    LIMIT = 65536, /* bytes that a text may have */
+    RING = 60,     /* killed texts that are kept */
+    WAIT = 200     /* milliseconds to wait for the rest of a key */
+};
 
 static const char prompt[] = "> ";
 static const uint16_t prompt_columns = 2;
@@ -48,8 +51,8 @@ static const char *text(size_t *len) {
 /* The screen. Each frame is drawn over the last one, of which only the row of the cursor is known. */
 static size_t shown_row;
 
-/* The length of the first cluster. An ASCII character before another one is a cluster. Else a short piece of the text
- * tells, as long as the cluster ends before that piece does: the call reads all that it is given. */
+/* The length of the first cluster. An ASCII character before another one is a cluster. Otherwise a short piece of the
+ * text is asked about, and a longer one where the cluster fills it, since the call reads the whole piece. */
 static size_t cluster(const char *bytes, size_t len) {
     size_t first = 1, piece = 16;
     if (len < 2 || !((bytes[0] | bytes[1]) & 0x80)) return 1;
@@ -154,8 +157,8 @@ static void clear_screen(uint32_t unused) {
     shown_row = 0;
 }
 
-/* Prints the text and begins the next one. The session stays, and with it the kill ring. Its record is emptied, so that
- * no undo leads back: this may be done when the text is the one that the session was opened on, the empty text. */
+/* Prints the text and begins the next one. The session stays, and so does the kill ring. The record is emptied, so that
+ * no undo leads back: lodvarn_truncate allows that since the text is the one that the session was opened on. */
 static void accept_text(uint32_t unused) {
     size_t len;
     (void)unused;
@@ -226,11 +229,11 @@ static const struct key *key_of(const char *bytes, size_t len, int whole) {
     return NULL;
 }
 
-/* The input. All that waits is read at once, and drawn once: the screen is drawn where the editor waits for a byte. */
+/* The input. All that waits is read at once and drawn once: the editor draws only where it has to wait for a byte. */
 static unsigned char input[4096];
 static size_t input_len, input_at;
 
-/* Waits for input, so many milliseconds or for ever. Whether there is some, or its end. */
+/* Waits for input, so many milliseconds or for ever. Whether there is input, or its end. */
 static int is_waiting(int milliseconds) {
     struct pollfd terminal = {0, POLLIN, 0};
     return poll(&terminal, 1, milliseconds) > 0;
@@ -251,7 +254,7 @@ static int next_byte(int milliseconds) {
     return input[input_at++];
 }
 
-/* The byte that was just read is read again. */
+/* The byte that was read last is read again. */
 static void put_back(void) { input_at--; }
 
 /* Inserts the character that begins with this byte. Bytes that are no UTF-8 are left out. */
