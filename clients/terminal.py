@@ -3,7 +3,7 @@
 
     python3 clients/terminal.py [PROGRAM]
 
-Its last line is 'N passed, M failed'.
+Tests too that docs/lodvarn.svg is what docs/picture.py makes. Its last line is 'N passed, M failed'.
 """
 
 import os
@@ -13,10 +13,13 @@ import tempfile
 import time
 from pathlib import Path
 
-PROGRAM = Path(__file__).resolve().parent / "out/edit"
+HERE = Path(__file__).resolve().parent
+PROGRAM = HERE / "out/edit"
+DOCS = HERE.parent / "docs"
 COLUMNS, ROWS = 60, 20
-# How long a screen may take to come, in seconds, and how long the editor waits for the rest of a key, and then some.
-PATIENCE, PAUSE = 10, 0.5
+# How long a screen may take to come, and a paste of 10 KB, in seconds. The editor waits less than PAUSE for the rest of
+# a key.
+PATIENCE, PASTED, PAUSE = 10, 2, 0.5
 FAMILY = "\U0001f468\u200d\U0001f469\u200d\U0001f467"
 # What is sent is a text, bytes, a list of keys by tmux's names, or this.
 PAUSED = object()
@@ -30,7 +33,7 @@ class Terminal:
     """A terminal of its own, on a socket in a folder of its own, in which the editor runs."""
 
     def __init__(self, program):
-        self.room = tempfile.TemporaryDirectory(prefix="lodvarn-")
+        self.folder = tempfile.TemporaryDirectory(prefix="lodvarn-")
         environment = {**os.environ, "LC_ALL": "C.UTF-8"}
         environment.pop("TMUX", None)
         self.environment = environment
@@ -39,7 +42,7 @@ class Terminal:
 
     def tmux(self, *words):
         ran = subprocess.run(
-            ["tmux", "-u", "-S", f"{self.room.name}/socket", "-f", "/dev/null", *words],
+            ["tmux", "-u", "-S", f"{self.folder.name}/socket", "-f", "/dev/null", *words],
             env=self.environment,
             capture_output=True,
             text=True,
@@ -69,12 +72,12 @@ class Terminal:
 
     def close(self):
         self.tmux("kill-server")
-        self.room.cleanup()
+        self.folder.cleanup()
 
 
-def await_that(look, is_wanted):
+def await_that(look, is_wanted, patience=PATIENCE):
     """Looks until what is seen is wanted, or patience ends. What was seen last."""
-    end = time.monotonic() + PATIENCE
+    end = time.monotonic() + patience
     while True:
         seen = look()
         if is_wanted(seen) or time.monotonic() > end:
@@ -101,7 +104,7 @@ CASES = [
     ("a yank is popped", ["one two", keys("C-w Left C-u C-y M-y")], ["> two"], (0, 5)),
     ("a line is killed to its start", ["one two", keys("M-b C-u")], ["> two"], (0, 2)),
     ("an undo takes back a word", ["one", " two", keys("C-_")], ["> one"], (0, 5)),
-    ("an undo behind a change of case", ["hello world", keys("M-b M-u C-_")], ["> hello world"], (0, 8)),
+    ("an undo after a change of case", ["hello world", keys("M-b M-u C-_")], ["> hello world"], (0, 8)),
     ("a redo of it", ["hello world", keys("M-b M-u C-_ M-_")], ["> hello WORLD"], (0, 13)),
     ("the other cases", ["HELLO world", keys("C-a M-l M-c")], ["> hello World"], (0, 13)),
     ("clusters are transposed", ["abc", keys("C-t")], ["> acb"], (0, 5)),
@@ -137,6 +140,15 @@ CASES = [
         ["> hello WÖRLD 日本", "and a second row", "=> hello WÖRLD 日本", "and a second row", "> two one"],
         (4, 9),
     ),
+    ("a word is yanked in the next text", ["one two", keys("C-w Enter C-y")], ["> one", "=> one", "> two"], (2, 5)),
+    (
+        "and popped there, as a text of its own",
+        ["one two", keys("C-w Enter"), "x y", keys("C-w C-y M-y")],
+        ["> one", "=> one", "> x two"],
+        (2, 7),
+    ),
+    ("no undo leads back", ["one", keys("Enter"), "two", keys("C-_ C-_")], ["> one", "=> one", ">"], (2, 2)),
+    ("nor a redo", ["one", keys("C-_ Enter M-_"), "x"], [">", "=>", "> x"], (2, 3)),
     ("the screen is cleared", ["ab", keys("Enter"), "cd", keys("C-l")], ["> cd"], (0, 4)),
     ("keys without a function", ["a", keys("F5 PageUp C-g C-Left"), "b"], ["> ba"], (0, 3)),
     ("a lone escape", [keys("Escape"), PAUSED, "b"], ["> b"], (0, 3)),
@@ -145,20 +157,33 @@ CASES = [
     ("bytes that are no text", ["a", b"\xff\x80\xc3", "b", b"\xe2\x82", keys("Left"), "c"], ["> acb"], (0, 4)),
     ("and bytes of no character", ["a", b"\xed\xa0\x80\xc0\x80\xf4\x90\x80\x80", "b"], ["> ab"], (0, 4)),
     ("the end of input", [keys("C-d")], [">", "ended 0"], (2, 0)),
-    ("behind a text", ["ab", keys("Enter"), "c", keys("BSpace C-d")], ["> ab", "=> ab", ">", "ended 0"], (4, 0)),
-    ("no end, behind a letter", ["ab", keys("C-d Left C-d")], ["> a"], (0, 3)),
+    ("after a text", ["ab", keys("Enter"), "c", keys("BSpace C-d")], ["> ab", "=> ab", ">", "ended 0"], (4, 0)),
+    ("no end, after a letter", ["ab", keys("C-d Left C-d")], ["> a"], (0, 3)),
     ("a character that stays broken off", [b"\xe6\x97", PAUSED, "x"], ["> x"], (0, 3)),
+    ("what comes before a key of two parts", ["ab", keys("C-x")], ["> ab"], (0, 4)),
+]
+
+# The same for pastes of 10 KB, which must be there soon.
+PASTES = [
+    ("a paste of letters", ["f" * 10000 + "z"], ["f" * 60] * 19 + ["f" * 42 + "z"], (19, 43)),
+    ("of wide characters", ["日" * 3400 + "z"], ["日" * 30] * 19 + ["日" * 11 + "z"], (19, 23)),
+    (
+        "of many texts",
+        [("h" * 48 + "\r") * 200 + "i\r"],
+        ["=> " + "h" * 48, "> " + "h" * 48] * 8 + ["=> " + "h" * 48, "> i", "=> i", ">"],
+        (19, 2),
+    ),
 ]
 
 
-def run_case(program, what, given, rows, cursor):
-    """Whether the keys lead to that screen."""
+def run_case(program, what, given, rows, cursor, patience=PATIENCE):
+    """Whether the keys lead to that screen in time."""
     terminal = Terminal(program)
     try:
         await_that(terminal.screen, lambda seen: seen == ([">"], (0, 2)))
         for one in [*given, *([] if rows else [PAUSED])]:
             terminal.send(one)
-        seen = await_that(terminal.screen, lambda seen: (rows or seen[0], cursor) == seen)
+        seen = await_that(terminal.screen, lambda seen: (rows or seen[0], cursor) == seen, patience)
         if (rows or seen[0], cursor) == seen:
             return True
         print(f"FAILED: {what}\n  wanted {rows} {cursor}\n  saw {seen[0]} {seen[1]}")
@@ -167,9 +192,20 @@ def run_case(program, what, given, rows, cursor):
         terminal.close()
 
 
+def run_picture(program):
+    """Whether the picture in docs is what the editor shows today."""
+    made = subprocess.run([sys.executable, DOCS / "picture.py", program], capture_output=True, timeout=10 * PATIENCE)
+    if made.returncode == 0 and made.stdout == (DOCS / "lodvarn.svg").read_bytes():
+        return True
+    print(f"FAILED: docs/lodvarn.svg is not what docs/picture.py makes\n{made.stderr.decode()}")
+    return False
+
+
 def main():
     program = Path(sys.argv[1]).resolve() if len(sys.argv) > 1 else PROGRAM
     outcomes = [run_case(program, *case) for case in CASES]
+    outcomes += [run_case(program, *case, PASTED) for case in PASTES]
+    outcomes.append(run_picture(program))
     print(f"{outcomes.count(True)} passed, {outcomes.count(False)} failed")
     return 0 if all(outcomes) else 1
 

@@ -1,5 +1,5 @@
 /* A line editor for a terminal over Lodvarn: the Emacs keys of GNU readline, UTF-8, several rows. Each accepted text
- * is printed as "=> text"; C-d on an empty text ends it. */
+ * is printed as "=> text". C-d on an empty text ends the editor. */
 #define _DEFAULT_SOURCE
 #include "lodvarn.h"
 #include <poll.h>
@@ -10,7 +10,11 @@
 #include <termios.h>
 #include <unistd.h>
 
-enum { LIMIT = 4096, RING = 60, WAIT = 200, ROOM = 2 * LIMIT };
+enum {
+    LIMIT = 65536, /* bytes that a text may have */
+    RING = 60,     /* killed texts that are kept */
+    WAIT = 200     /* milliseconds to wait for the rest of a key */
+};
 
 static const char prompt[] = "> ";
 static const uint16_t prompt_columns = 2;
@@ -32,25 +36,31 @@ static void enter_raw(void) {
 /* The text of the session, in a buffer that the next call uses again. */
 static const char *text(size_t *len) {
     static char *bytes;
-    static size_t room;
-    *len = lodvarn_text(&s, bytes, room);
-    if (*len > room) {
-        room = 2 * *len;
+    static size_t size;
+    *len = lodvarn_text(&s, bytes, size);
+    if (*len > size) {
+        size = 2 * *len;
         free(bytes);
-        bytes = malloc(room);
+        bytes = malloc(size);
         if (!bytes) exit(1);
-        lodvarn_text(&s, bytes, room);
+        lodvarn_text(&s, bytes, size);
     }
     return bytes;
 }
 
-/* The screen. A frame is drawn over the one before, of which only the row of its cursor is known. */
+/* The screen. Each frame is drawn over the last one, of which only the row of the cursor is known. */
 static size_t shown_row;
 
-/* The bytes of the first cluster; a character of ASCII before another one needs no look ahead. */
+/* The length of the first cluster. An ASCII character before another one is a cluster. Otherwise a short piece of the
+ * text is asked about, and a longer one where the cluster fills it, since the call reads the whole piece. */
 static size_t cluster(const char *bytes, size_t len) {
-    size_t first = 1;
-    if (len > 1 && ((bytes[0] | bytes[1]) & 0x80)) lodvarn_first_cluster(bytes, len, &first);
+    size_t first = 1, piece = 16;
+    if (len < 2 || !((bytes[0] | bytes[1]) & 0x80)) return 1;
+    do {
+        piece = 2 * piece < len ? 2 * piece : len;
+        while (piece < len && (bytes[piece] & 0xc0) == 0x80) piece++;
+        lodvarn_first_cluster(bytes, piece, &first);
+    } while (first == piece && piece < len);
     return first;
 }
 
@@ -61,8 +71,8 @@ static void begin_row(size_t row, struct view view) {
     if (view.top < row && row <= view.bottom) fputs("\r\n", stdout);
 }
 
-/* Draws the text from the prompt on. Rows are begun, and columns are told, as Lodvarn lays them out, so that a
- * terminal that measures a cluster otherwise is put right behind it. */
+/* Draws the prompt and the text. Rows and columns are those of lodvarn_cell. The cursor is placed after each cluster
+ * of several bytes, since the terminal may measure it differently. */
 static void draw(const char *bytes, size_t len, uint16_t columns, struct view view) {
     size_t row = 0;
     unsigned column = prompt_columns;
@@ -101,24 +111,18 @@ static void redraw(void) {
     shown_row = row - view.top;
 }
 
-/* The functions of keys, each with a number of its own. */
+/* What keys do. The number comes from the table of keys. */
 static void move(uint32_t movement) { lodvarn_move(&s, movement, 1, 0); }
 
+/* The ring keeps what is killed, but not what LODVARN_BACKWARD_CHAR and LODVARN_FORWARD_CHAR delete. */
 static void kill_to(uint32_t movement) { lodvarn_kill(&s, movement, 1, 0); }
 
 static void insert(uint32_t c) { lodvarn_insert(&s, c, 1); }
 
-static void erase(uint32_t ahead) {
-    char gone[ROOM];
-    size_t len;
-    if (ahead) lodvarn_delete(&s, 1, gone, sizeof gone, &len);
-    else lodvarn_backspace(&s, 1);
-}
-
 static void delete_or_end(uint32_t unused) {
     (void)unused;
     if (lodvarn_text(&s, NULL, 0) == 0) is_over = 1;
-    else erase(1);
+    else kill_to(LODVARN_FORWARD_CHAR);
 }
 
 static void yank(uint32_t older) {
@@ -126,7 +130,7 @@ static void yank(uint32_t older) {
     else lodvarn_yank(&s, 1);
 }
 
-/* These are several changes each, which one undo takes back. */
+/* The next two make several changes each. The group has one undo take them back. */
 static void change_case(uint32_t action) {
     size_t mark;
     lodvarn_begin(&s, &mark);
@@ -153,11 +157,8 @@ static void clear_screen(uint32_t unused) {
     shown_row = 0;
 }
 
-static void begin_text(void) {
-    if (lodvarn_open(&s, "", 0, 0, LIMIT, RING, LODVARN_UNICODE) != LODVARN_DONE) exit(1);
-    shown_row = 0;
-}
-
+/* Prints the text and begins the next one. The session stays, and so does the kill ring. The record is emptied, so that
+ * no undo leads back: lodvarn_truncate allows that since the text is the one that the session was opened on. */
 static void accept_text(uint32_t unused) {
     size_t len;
     (void)unused;
@@ -165,10 +166,11 @@ static void accept_text(uint32_t unused) {
     redraw();
     const char *bytes = text(&len);
     printf("\n=> %.*s\n", (int)len, bytes);
-    begin_text();
+    if (lodvarn_update(&s, "", 0, 0) != LODVARN_DONE || lodvarn_truncate(&s, 0) != LODVARN_DONE) exit(1);
+    shown_row = 0;
 }
 
-/* Keys, readline's name for what they do, and that. The last four names are of this editor. */
+/* The keys, readline's name for what each does, the function and its number. The last four names are of this editor. */
 static const struct key {
     const char *bytes, *name;
     void (*does)(uint32_t);
@@ -180,14 +182,14 @@ static const struct key {
     {"\x02", "backward-char", move, LODVARN_BACKWARD_CHAR},
     {"\x1b[D", "backward-char", move, LODVARN_BACKWARD_CHAR},
     {"\x04", "delete-char", delete_or_end, 0},
-    {"\x1b[3~", "delete-char", erase, 1},
+    {"\x1b[3~", "delete-char", kill_to, LODVARN_FORWARD_CHAR},
     {"\x05", "end-of-line", move, LODVARN_END_OF_LINE},
     {"\x1b[F", "end-of-line", move, LODVARN_END_OF_LINE},
     {"\x1b[4~", "end-of-line", move, LODVARN_END_OF_LINE},
     {"\x06", "forward-char", move, LODVARN_FORWARD_CHAR},
     {"\x1b[C", "forward-char", move, LODVARN_FORWARD_CHAR},
-    {"\x08", "backward-delete-char", erase, 0},
-    {"\x7f", "backward-delete-char", erase, 0},
+    {"\x08", "backward-delete-char", kill_to, LODVARN_BACKWARD_CHAR},
+    {"\x7f", "backward-delete-char", kill_to, LODVARN_BACKWARD_CHAR},
     {"\n", "accept-line", accept_text, 0},
     {"\r", "accept-line", accept_text, 0},
     {"\x0b", "kill-line", kill_to, LODVARN_END_OF_LINE},
@@ -227,28 +229,43 @@ static const struct key *key_of(const char *bytes, size_t len, int whole) {
     return NULL;
 }
 
-/* The next byte, -1 at the end of input, or -2 where none comes in time; one may have been put back. */
-static int put_back = -1;
+/* The input. All that waits is read at once and drawn once: the editor draws only where it has to wait for a byte. */
+static unsigned char input[4096];
+static size_t input_len, input_at;
 
-static int next_byte(int in_time) {
-    unsigned char byte;
-    struct pollfd input = {0, POLLIN, 0};
-    int last = put_back;
-    put_back = -1;
-    if (last >= 0) return last;
-    if (in_time && poll(&input, 1, WAIT) <= 0) return -2;
-    return read(0, &byte, 1) == 1 ? byte : -1;
+/* Waits for input, so many milliseconds or for ever. Whether there is input, or its end. */
+static int is_waiting(int milliseconds) {
+    struct pollfd terminal = {0, POLLIN, 0};
+    return poll(&terminal, 1, milliseconds) > 0;
 }
 
-/* Inserts the character that begins with this byte; bytes that are no character are left out. */
+/* The next byte, END at the end of input, or LATE where none comes in time. */
+enum { END = -1, LATE = -2, FOR_EVER = -1 };
+
+static int next_byte(int milliseconds) {
+    if (input_at == input_len) {
+        if (!is_waiting(0)) redraw();
+        if (!is_waiting(milliseconds)) return LATE;
+        ssize_t len = read(0, input, sizeof input);
+        if (len <= 0) return END;
+        input_len = (size_t)len;
+        input_at = 0;
+    }
+    return input[input_at++];
+}
+
+/* The byte that was read last is read again. */
+static void put_back(void) { input_at--; }
+
+/* Inserts the character that begins with this byte. Bytes that are no UTF-8 are left out. */
 static void self_insert(int byte) {
     static const uint32_t least[] = {0, 0x80, 0x800, 0x10000};
     int more = byte < 0x80 ? 0 : byte < 0xc0 ? -1 : byte < 0xe0 ? 1 : byte < 0xf0 ? 2 : byte < 0xf8 ? 3 : -1;
     uint32_t c = more > 0 ? (uint32_t)byte & (0x3fu >> more) : (uint32_t)byte;
     for (int i = 0; i < more; i++) {
-        int next = next_byte(1);
+        int next = next_byte(WAIT);
         if ((next & ~0x3f) != 0x80) {
-            put_back = next;
+            if (next >= 0) put_back();
             return;
         }
         c = c << 6 | ((uint32_t)next & 0x3f);
@@ -257,19 +274,19 @@ static void self_insert(int byte) {
     if (more >= 0 && c >= least[more] && !is_control) insert(c);
 }
 
-/* Passes over the rest of a key that has no function, as F5. An escape that came in place of it begins another. */
+/* Passes over the rest of a key that does nothing here, as F5. An escape in the middle of it begins another key. */
 static void pass_over(const char *bytes, size_t len) {
     int byte = bytes[len - 1], ends = len > 2;
-    if (len > 1 && byte == 0x1b) put_back = byte;
+    if (len > 1 && byte == 0x1b) put_back();
     if (len < 2 || byte == 0x1b || (bytes[1] != '[' && bytes[1] != 'O')) return;
-    for (; byte >= 0 && !(ends && 0x40 <= byte && byte <= 0x7e); ends = 1) byte = next_byte(1);
+    for (; byte >= 0 && !(ends && 0x40 <= byte && byte <= 0x7e); ends = 1) byte = next_byte(WAIT);
 }
 
-/* Reads a key and does what it says. A key that is broken off is passed over. Gives 0 at the end of input. */
+/* Reads a key and does what it says. A key that is cut short is passed over. Answers 0 when the editor is to end. */
 static int take_key(void) {
     char bytes[8];
     size_t len = 0;
-    int byte = next_byte(0);
+    int byte = next_byte(FOR_EVER);
     if (byte >= 0x20 && byte != 0x7f) {
         self_insert(byte);
         return 1;
@@ -280,20 +297,22 @@ static int take_key(void) {
         if (key) key->does(key->number);
         else if (len == sizeof bytes || !key_of(bytes, len, 0)) pass_over(bytes, len);
         else {
-            byte = next_byte(bytes[0] == 0x1b);
+            byte = next_byte(bytes[0] == 0x1b ? WAIT : FOR_EVER);
             continue;
         }
         break;
     }
-    return byte != -1 && !is_over;
+    return byte != END && !is_over;
 }
 
 int main(void) {
     if (tcgetattr(0, &before)) return perror("edit"), 1;
+    if (lodvarn_open(&s, "", 0, 0, LIMIT, RING, LODVARN_UNICODE) != LODVARN_DONE) return 1;
     enter_raw();
     atexit(leave_raw);
-    for (begin_text(), redraw(); take_key(); redraw()) {}
-    lodvarn_close(&s);
+    while (take_key()) {}
+    redraw();
     fputs("\r\n", stdout);
+    lodvarn_close(&s);
     return 0;
 }

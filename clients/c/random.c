@@ -153,7 +153,7 @@ int main(int argc, char **argv) {
         fprintf(script, "%s\n", line);
         typed_line(&t, line, answers);
         if (typed_reads_agree(&t)) continue;
-        printf("the reads disagree with the text behind line %ld: %s\n", i + 1, line);
+        printf("the reads disagree with the text after line %ld: %s\n", i + 1, line);
         disagree++;
     }
     lodvarn_close(&t.s);

@@ -27,7 +27,7 @@ void *__wrap_realloc(void *at, size_t size) { return refuses() ? NULL : __real_r
 
 static const char start[] = "ab cd";
 
-/* The calls that may take memory, one behind the other, until there are no more. */
+/* The calls that may take memory, one after the other, until there are no more. */
 static uint32_t step(unsigned which) {
     static char out[256];
     size_t len;
@@ -69,9 +69,9 @@ static uint32_t step(unsigned which) {
 /* The text is UTF-8, the cursor is a place of it, and it keeps to the limit. */
 static int stands(void) {
     static char text[1024];
-    size_t len = lodvarn_text(&s, text, sizeof text), cell;
+    size_t len = lodvarn_text(&s, text, sizeof text), row, column;
     return len <= sizeof text && len <= lodvarn_limit(&s)
-        && lodvarn_cell(text, len, lodvarn_pos(&s), 0, 80, LODVARN_UNICODE, &cell, &cell) == LODVARN_DONE;
+        && lodvarn_cell(text, len, lodvarn_pos(&s), 0, 80, LODVARN_UNICODE, &row, &column) == LODVARN_DONE;
 }
 
 /* With everything undone the text is the first one. */

@@ -210,7 +210,7 @@ static const struct row rows[] = {
     {"and is read by its escapes",
      "text\npaste 2 \\s\\u{E9}\nupdate 1 \\\\ b\n",
      "ok 0 \ntrue 6  é é\nok 1 \\\\ b\n"},
-    {"a movement behind an amount has its own arguments",
+    {"a movement after an amount has its own arguments",
      "text a\\nb\\nc\npos 0\nindent 1 down 1\ntext \\s\\sa\ndedent 255 buf\n",
      "ok 5 a\\nb\\nc\nok 0 a\\nb\\nc\ntrue 1  a\\n b\\nc\nok 3   a\ntrue 1 a\n"},
     {"words that can't be exchanged may still move the cursor",

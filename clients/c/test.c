@@ -188,8 +188,8 @@ static void cells_are_placed(void) {
         size_t row, column;
     } table[] = {
         {"nothing, without a prompt", "", 0, 0, 10, 0, 0, 0},
-        {"nothing, behind a prompt", "", 0, 2, 10, 0, 0, 2},
-        {"two letters behind a prompt", "ab", 2, 2, 10, 0, 0, 4},
+        {"nothing, after a prompt", "", 0, 2, 10, 0, 0, 2},
+        {"two letters after a prompt", "ab", 2, 2, 10, 0, 0, 4},
         {"a newline leads below, and to the left", "ab\ncd", 3, 2, 10, 0, 1, 0},
         {"and letters go on there", "ab\ncd", 5, 2, 10, 0, 1, 2},
         {"so does the one cluster of a carriage return and a newline", "ab\r\ncd", 5, 2, 10, 0, 1, 1},
@@ -199,7 +199,7 @@ static void cells_are_placed(void) {
         {"and the next letter stands there", "abcde", 5, 0, 4, 0, 1, 1},
         {"a prompt counts for its row alone", "abcdef", 6, 2, 4, 0, 2, 0},
         {"a newline at the edge makes one row", "abcd\ne", 5, 0, 4, 0, 1, 0},
-        {"and the letter behind it stands on that", "abcd\ne", 6, 0, 4, 0, 1, 1},
+        {"and the letter after it stands on that", "abcd\ne", 6, 0, 4, 0, 1, 1},
         {"a wide letter that fits to the edge", "ab漢", 5, 0, 4, 0, 1, 0},
         {"before a wide letter that does not fit", "abc漢", 3, 0, 4, 0, 0, 3},
         {"a wide letter that does not fit is whole below", "abc漢", 6, 0, 4, 0, 1, 2},

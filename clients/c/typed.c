@@ -15,7 +15,7 @@ static void fail(const char *what, const char *where) {
     exit(2);
 }
 
-/* The next word, which a space ends; *rest is behind that, or NULL where there is none. */
+/* The next word, which a space ends; *rest is what comes after it, or NULL where there is none. */
 static char *word(char **rest) {
     char *start = *rest;
     if (!start) fail("a word is missing", "");

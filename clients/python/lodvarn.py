@@ -7,9 +7,11 @@
         session.yank()
         print(session.text, session.pos)
 
-It calls the shared library liblodvarn.so: that of the environment's LODVARN_LIBRARY, else the one that clients/build
-made beside this folder, else the system's. Places are numbers of bytes of the text's UTF-8, and stand between two
-characters; a count n is at most 65535. What is refused raises a Fault. One thread at a time uses a session.
+It calls the shared library liblodvarn.so: the one that the environment's LODVARN_LIBRARY names, else the one that
+clients/build made in clients/out, else the system's. A place is a number of bytes from the start of the text's UTF-8.
+It must be a boundary: an end of the text, or between two characters. A count n is of grapheme clusters, words, lines or
+repetitions, at most 65535. Lines and columns are numbered from 0. A call that is refused raises a Fault. One thread at
+a time uses a session. docs/RULES.md says exactly what each call does.
 """
 
 from __future__ import annotations
@@ -32,7 +34,7 @@ class Mode(IntEnum):
 
 
 class Word(IntEnum):
-    """What belongs to a word: all but blanks, letters and digits, or these and _."""
+    """What belongs to a word: everything but blanks; letters and digits; or letters, digits and _."""
 
     BIG = 0
     EMACS = 1
@@ -40,7 +42,7 @@ class Word(IntEnum):
 
 
 class At(IntEnum):
-    """Where a motion to a word ahead stops."""
+    """Where a motion forward by words stops."""
 
     START = 0
     BEFORE_END = 1
@@ -48,7 +50,7 @@ class At(IntEnum):
 
 
 class Search(IntEnum):
-    """Where a search for a character leads: to it, or to the side of it that is met first."""
+    """Where a search for a character goes: to the character, or to just before it on the way."""
 
     FORWARD = 0
     FORWARD_BEFORE = 1
@@ -57,7 +59,7 @@ class Search(IntEnum):
 
 
 class Action(IntEnum):
-    """What happens to a word's case."""
+    """The letter case that a word gets."""
 
     CAPITALIZE = 0
     LOWERCASE = 1
@@ -65,7 +67,7 @@ class Action(IntEnum):
 
 
 class Movement(IntEnum):
-    """Where a motion goes, and what a kill, a copy or an indent is about."""
+    """Where a motion goes, and what a kill, a copy or an indent covers."""
 
     WHOLE_LINE = 0
     BEGINNING_OF_LINE = 1
@@ -117,11 +119,12 @@ class Answer(IntEnum):
 
 
 class Fault(Exception):
-    """A call was refused. Text, cursor and record are as they were, but after NoMemory in an edit of several steps."""
+    """A call was refused. Text, cursor and record are as they were, except where an edit of several steps ran out of
+    memory: it stands after the steps that it made."""
 
 
 class NoMemory(Fault):
-    """A growth found no memory."""
+    """Out of memory."""
 
 
 class BadPlace(Fault):
@@ -141,11 +144,11 @@ class Closed(Fault):
 
 
 class NotUtf8(Fault):
-    """A text is no UTF-8. No str that can be encoded is."""
+    """A text is not UTF-8. A str that can be encoded is UTF-8."""
 
 
 class NoSuchNumber(Fault):
-    """A number names nothing, or no character."""
+    """A number is none of its enum, or no character."""
 
 
 _FAULTS = {
@@ -163,7 +166,7 @@ _TEXT, _SIZE = ctypes.c_char_p, ctypes.c_size_t
 _U32, _U16, _U8 = ctypes.c_uint32, ctypes.c_uint16, ctypes.c_uint8
 _TO_SIZE, _TO_U16 = ctypes.POINTER(_SIZE), ctypes.POINTER(_U16)
 
-# What each call takes; each answers a code.
+# What each call takes. Each answers one of Answer.
 _CALLS = {
     "open": [_HANDLE, _TEXT, _SIZE, _SIZE, _SIZE, _SIZE, _U32],
     "set_pos": [_HANDLE, _SIZE],
@@ -235,14 +238,14 @@ _library = _load()
 
 
 def _in_range(number: int, kind: type) -> int:
-    """The number, where the kind holds it: ctypes would cut it off without a word."""
+    """The number, where the kind holds it. ctypes would cut it off silently."""
     if not 0 <= number < 1 << 8 * ctypes.sizeof(kind):
         raise OverflowError(f"{number} is not in the range of {kind.__name__}")
     return number
 
 
 def _call(name: str, *given: object) -> Answer:
-    """Makes the call, and raises what it is refused for. A text stands for its bytes and their number."""
+    """Makes the call, and raises a Fault where it is refused. Bytes are passed with their number."""
     arguments: list[object] = []
     for one in given:
         arguments += [one, len(one)] if isinstance(one, bytes) else [one]
@@ -256,7 +259,7 @@ def _call(name: str, *given: object) -> Answer:
 
 
 def _call_for_text(name: str, *given: object) -> Optional[str]:
-    """Makes a call that hands out a text, with a larger buffer where the first one is too small."""
+    """Makes a call that writes a text, again with a larger buffer where the first one is too small."""
     length = _SIZE(64)
     answer = Answer.TOO_SMALL
     while answer == Answer.TOO_SMALL:
@@ -267,14 +270,14 @@ def _call_for_text(name: str, *given: object) -> Optional[str]:
 
 
 def _yes(answer: Answer) -> Optional[bool]:
-    """Yes or no, or None where there was nothing to insert or no room."""
+    """True or False, or None where there was nothing to insert or the limit forbids it."""
     return None if answer == Answer.NONE else answer == Answer.TRUE
 
 
 class Session:
     """A text with its cursor, a ring of killed texts, and the record of its changes.
 
-    In a `with` it is closed at the end; else `close` does that, or the garbage collector.
+    A `with` closes it at its end. Otherwise `close` does, or the garbage collector.
     """
 
     def __init__(
@@ -285,16 +288,17 @@ class Session:
         ring_size: int = 60,
         mode: Mode = Mode.UNICODE,
     ) -> None:
-        """Opens a session on a text, with the cursor at the place pos, or at the end.
+        """Opens a session on a text, with the cursor at the place pos, by default at the end.
 
-        The text may grow to `limit` bytes, and the ring keeps `ring_size` texts. Raises BadPlace, NoMemory.
+        The text may grow to `limit` bytes, or stay as long as it is. The kill ring keeps up to `ring_size` texts.
+        Raises BadPlace, NoMemory.
         """
         self._at = ctypes.c_void_p()
         given = text.encode()
         _call("open", self._at, given, len(given) if pos is None else pos, limit, ring_size, mode)
 
     def close(self) -> None:
-        """Closes the session. Every later call but this raises Closed, or reads 0."""
+        """Closes the session. Every later call but this raises Closed, or reads 0 or an empty text."""
         _library.lodvarn_close(self._at)
 
     def __enter__(self) -> Session:
@@ -323,31 +327,34 @@ class Session:
         _call("set_pos", self._at, pos)
 
     def move(self, movement: Movement, n: int = 1, c: str = "\0") -> bool:
-        """Moves the cursor by a movement; c is the character of a search. False where there is nowhere to go."""
+        """Moves the cursor by a movement. c is the character of a search. False where there is nowhere to go."""
         return _call("move", self._at, movement, n, ord(c)) == Answer.TRUE
 
     def insert(self, c: str, n: int = 1) -> Optional[bool]:
-        """Inserts a character n times at the cursor. Whether that was the end, or None where there is no room."""
+        """Inserts a character n times at the cursor. Whether the cursor was at the end; None past the limit."""
         return _yes(_call("insert", self._at, ord(c), n))
 
     def paste(self, text: str, n: int = 1) -> Optional[bool]:
-        """Inserts a text n times at the cursor. Whether that was the end, or None for no text or no room."""
+        """Inserts a text n times at the cursor.
+
+        Whether the cursor was at the end, or None where the text is empty or the line would get longer than the limit.
+        """
         return _yes(_call("paste", self._at, text.encode(), n))
 
     def yank(self, n: int = 1) -> Optional[bool]:
-        """Inserts the ring's current text n times. Whether at the end, or None for no text or no room."""
+        """Inserts the ring's current text n times at the cursor. Answers as paste does."""
         return _yes(_call("yank", self._at, n))
 
     def yank_pop(self) -> Optional[bool]:
-        """Puts the ring's text before in the place of the one that was just yanked.
+        """Replaces the text that was just yanked by the one before it in the ring.
 
-        Whether the cursor was at the end, or None where no yank was done last. None also where the text before is
-        empty or has no room: then what was yanked is out of the text. Raises BadYankSize.
+        Whether the cursor was at the end, or None where the last command was no yank. None also where the text before
+        is empty or too long for the limit: what was yanked is deleted then. Raises BadYankSize.
         """
         return _yes(_call("yank_pop", self._at))
 
     def update(self, text: str, pos: Optional[int] = None) -> None:
-        """Puts a text in the place of the whole text, with the cursor at a place of it, or at its end.
+        """Replaces the whole text. The cursor goes to the place pos of the new text, by default to its end.
 
         A text that is longer than the limit is cut. Raises BadPlace.
         """
@@ -355,19 +362,22 @@ class Session:
         _call("update", self._at, given, len(given) if pos is None else pos)
 
     def insert_str(self, at: int, text: str) -> bool:
-        """Inserts a text at a place; the cursor keeps its number. Whether it was the end. Raises BadPlace."""
+        """Inserts a text at a place, whatever the limit. The cursor's place keeps its number.
+
+        Whether the place was the end. Raises BadPlace, also where the cursor would come to stand inside a character.
+        """
         return _call("insert_str", self._at, at, text.encode()) == Answer.TRUE
 
     def replace(self, start: int, end: int, text: str) -> None:
-        """Puts a text in the place of what stands between two places. Raises BadPlace."""
+        """Replaces what stands between two places, whatever the limit. The cursor goes after it. Raises BadPlace."""
         _call("replace", self._at, start, end, text.encode())
 
     def delete_range(self, start: int, end: int) -> None:
-        """Deletes what stands between two places. Raises BadPlace."""
+        """Deletes what stands between two places. The cursor goes there. Raises BadPlace."""
         _call("delete_range", self._at, start, end)
 
     def delete(self, n: int = 1) -> Optional[str]:
-        """Deletes n clusters from the cursor on, and gives them, or None where there are none."""
+        """Deletes n clusters after the cursor, and returns them, or None where there are none."""
         return _call_for_text("delete", self._at, n)
 
     def backspace(self, n: int = 1) -> bool:
@@ -375,19 +385,19 @@ class Session:
         return _call("backspace", self._at, n) == Answer.TRUE
 
     def kill_line(self) -> bool:
-        """Deletes to the end of the cursor's line, or the newline there; the ring does not keep it."""
+        """Deletes to the end of the cursor's line, or the newline there. The ring does not keep it."""
         return _call("kill_line", self._at) == Answer.TRUE
 
     def kill_buffer(self) -> bool:
-        """Deletes to the end of the text; the ring does not keep it."""
+        """Deletes to the end of the text. The ring does not keep it."""
         return _call("kill_buffer", self._at) == Answer.TRUE
 
     def discard_line(self) -> bool:
-        """Deletes back to the start of the cursor's line, or the newline before it; the ring does not keep it."""
+        """Deletes back to the start of the cursor's line, or the newline before it. The ring does not keep it."""
         return _call("discard_line", self._at) == Answer.TRUE
 
     def discard_buffer(self) -> bool:
-        """Deletes back to the start of the text; the ring does not keep it."""
+        """Deletes back to the start of the text. The ring does not keep it."""
         return _call("discard_buffer", self._at) == Answer.TRUE
 
     def delete_prev_word(self, word: Word, n: int = 1) -> bool:
@@ -395,65 +405,74 @@ class Session:
         return _call("delete_prev_word", self._at, word, n) == Answer.TRUE
 
     def delete_word(self, at: At, word: Word, n: int = 1) -> bool:
-        """Deletes ahead to a place at the n-th word. False where there is nothing."""
+        """Deletes forward to the n-th word, as `at` says. False where there is nothing."""
         return _call("delete_word", self._at, at, word, n) == Answer.TRUE
 
     def delete_to(self, search: Search, c: str, n: int = 1) -> bool:
-        """Deletes to the n-th character c, or the farthest. False where there is none."""
+        """Deletes to the n-th character c, or to the farthest where there are fewer. False where there is none."""
         return _call("delete_to", self._at, search, ord(c), n) == Answer.TRUE
 
     def transpose_chars(self) -> bool:
-        """Exchanges the clusters at the cursor: two changes. False where there are not two."""
+        """Exchanges the clusters before and after the cursor, in two changes. False where there are not two."""
         return _call("transpose_chars", self._at) == Answer.TRUE
 
     def transpose_words(self, n: int = 1) -> bool:
-        """Exchanges a word with the n-th before it: four changes. False where there are not two."""
+        """Exchanges a word with the n-th word before it, in four changes. False where there are not two."""
         return _call("transpose_words", self._at, n) == Answer.TRUE
 
     def edit_word(self, action: Action) -> bool:
-        """Changes the case of the word at the cursor or ahead: two changes. False where there is none."""
+        """Changes the case of the word at the cursor, or of the next, in two changes. False where there is none."""
         return _call("edit_word", self._at, action) == Answer.TRUE
 
     def kill(self, movement: Movement, n: int = 1, c: str = "\0") -> bool:
-        """Deletes what a movement covers; the ring keeps it, but by clusters. False where there is nothing."""
+        """Deletes what a movement covers. False where there is nothing.
+
+        The ring keeps it, but not by BACKWARD_CHAR and FORWARD_CHAR.
+        """
         return _call("kill", self._at, movement, n, ord(c)) == Answer.TRUE
 
     def copy(self, movement: Movement, n: int = 1, c: str = "\0") -> Optional[str]:
-        """What a movement covers, or None where that is nothing."""
+        """The text that a movement covers, or None where it covers nothing."""
         return _call_for_text("copy", self._at, movement, n, ord(c))
 
     def indent(self, movement: Movement, amount: int, n: int = 1, c: str = "\0") -> bool:
-        """Indents the lines of a movement by so many spaces, at most 255."""
+        """Inserts so many spaces, at most 255, at the start of each line that a movement covers."""
         return _call("indent", self._at, movement, n, ord(c), amount, 0) == Answer.TRUE
 
     def dedent(self, movement: Movement, amount: int, n: int = 1, c: str = "\0") -> bool:
-        """Takes up to so many bytes of blanks, at most 255, off the front of the lines of a movement."""
+        """Deletes up to so many bytes of blanks, at most 255, at the start of each line that a movement covers."""
         return _call("indent", self._at, movement, n, ord(c), amount, 1) == Answer.TRUE
 
     def begin(self) -> int:
-        """Opens a group of changes, which one undo takes back once it is closed. How many entries there were."""
+        """Begins an undo group, which one undo takes back once it is closed. The number of entries before it."""
         mark = _SIZE()
         _call("begin", self._at, mark)
         return mark.value
 
     def end(self) -> bool:
-        """Closes all open groups. False where there was no change in them, or no group."""
+        """Closes all open groups. False where they have no change, or none is open."""
         return _call("end", self._at) == Answer.TRUE
 
     def undo(self, n: int = 1) -> bool:
-        """Undoes the last n changes or groups. False where there was no change to undo."""
+        """Undoes the last n changes and groups. False where there was no change."""
         return _call("undo", self._at, n) == Answer.TRUE
 
     def redo(self) -> bool:
-        """Does again what was undone last. False where there is nothing."""
+        """Makes again what was undone last, one change or group. False where there is none."""
         return _call("redo", self._at) == Answer.TRUE
 
     def truncate(self, entries: int) -> None:
-        """Keeps so many entries of the record from the front. Raises NotReplaying."""
+        """Keeps the first entries of the record, so many, and forgets the others and what was undone.
+
+        Raises NotReplaying where they do not lead to the present text.
+        """
         _call("truncate", self._at, entries)
 
     def line_place(self) -> tuple[int, int]:
-        """The number of the cursor's line and its column in it, from 0. A kill behind this begins a new text."""
+        """The number of the cursor's line, and the width of that line before the cursor.
+
+        This is a command: a kill after it begins a new text of the ring.
+        """
         line, column = _SIZE(), _U16()
         _call("line_place", self._at, line, column)
         return line.value, column.value
@@ -468,7 +487,7 @@ class Session:
 
     @property
     def pos(self) -> int:
-        """The place of the cursor."""
+        """The place of the cursor, in bytes."""
         return _library.lodvarn_pos(self._at)
 
     @property
@@ -499,7 +518,7 @@ class Session:
 
     @property
     def last_was_yank(self) -> bool:
-        """Whether a yank or yank_pop was done last, and answered with no None: a yank of no times too."""
+        """Whether the last command was a yank or yank_pop and did not answer None. A yank of no times counts."""
         return _call("last_was_yank", self._at) == Answer.TRUE
 
 
@@ -515,30 +534,30 @@ def run_script(script: bytes) -> bytes:
 
 
 def width(text: str, mode: Mode = Mode.UNICODE) -> int:
-    """The columns that a text takes, at most 65535."""
+    """The number of columns that a text takes, at most 65535."""
     columns = _U16()
     _call("width", text.encode(), mode, columns)
     return columns.value
 
 
 def first_cluster(text: str) -> str:
-    """The first grapheme cluster of a text, which is empty where the text is."""
+    """The first grapheme cluster of a text, empty where the text is empty."""
     length, given = _SIZE(), text.encode()
     _call("first_cluster", given, length)
     return given[: length.value].decode()
 
 
 def last_cluster(text: str) -> str:
-    """The last grapheme cluster of a text, which is empty where the text is."""
+    """The last grapheme cluster of a text, empty where the text is empty."""
     length, given = _SIZE(), text.encode()
     _call("last_cluster", given, length)
     return given[len(given) - length.value :].decode()
 
 
 def cell(text: str, place: int, prompt: int, columns: int, mode: Mode = Mode.UNICODE) -> tuple[int, int]:
-    """The row and column of a place of a text on a screen that is so many columns wide.
+    """The row and column of a place of a text on a screen that has so many columns.
 
-    The text begins at the column `prompt` of row 0. Raises BadPlace, and NoSuchNumber for no columns.
+    The text begins at the column `prompt` of row 0. Raises BadPlace, and NoSuchNumber where `columns` is 0.
     """
     row, column = _SIZE(), _SIZE()
     _call("cell", text.encode(), place, prompt, columns, mode, row, column)

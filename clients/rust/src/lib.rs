@@ -13,8 +13,11 @@
 //! }
 //! ```
 //!
-//! Places are byte places, as those of a `str`, and counts are of grapheme clusters, words, lines or repetitions. Links
-//! `liblodvarn.a`, which `clients/build` makes.
+//! A place is a number of bytes from the start of the text, and a boundary, as an index of a `str` is. A count is of
+//! grapheme clusters, words, lines or repetitions. Lines, rows and columns are numbered from 0. The comment of each
+//! call names the faults that it answers. `docs/RULES.md` says exactly what each call does.
+//!
+//! The crate links `liblodvarn.a`, which `clients/build` makes.
 #![warn(missing_docs)]
 
 mod ffi;
@@ -31,7 +34,7 @@ use std::ptr::{null_mut, NonNull};
 
 /// A text with its cursor, a ring of killed texts, and the record of its changes.
 ///
-/// One thread at a time uses it: it may be sent to another, and not shared.
+/// It may be sent to another thread, but not shared between threads.
 ///
 /// ```compile_fail
 /// fn shared<T: Sync>() {}
@@ -85,7 +88,7 @@ fn string(bytes: Vec<u8>) -> String {
     String::from_utf8(bytes).expect("the library's texts are UTF-8")
 }
 
-// The text that a call hands out; where the buffer is too small, the call did nothing and is made again.
+// The text that a call writes. Where the buffer is too small the call did nothing, and is made again.
 fn handed(
     mut call: impl FnMut(*mut u8, usize, &mut usize) -> u32,
 ) -> Result<Option<String>, Fault> {
@@ -105,8 +108,8 @@ fn handed(
 }
 
 impl Session {
-    /// A session on a text, with the cursor at the place `pos`. Its text may grow to `limit` bytes, or stay as long as
-    /// it is; its ring keeps `ring_size` texts. `BadPlace`, `NoMemory`.
+    /// Opens a session on a text, with the cursor at the place `pos`. The text may grow to `limit` bytes, or stay as
+    /// long as it is. The kill ring keeps up to `ring_size` texts. `BadPlace`, `NoMemory`.
     pub fn new(
         text: &str,
         pos: usize,
@@ -133,14 +136,14 @@ impl Session {
         unsafe { ffi::lodvarn_move(self.at.get(), number, n, c) == ffi::TRUE }
     }
 
-    /// Inserts a character n times at the cursor. Whether that was the end, or `None` where there is no room within
-    /// the limit. `NoMemory`.
+    /// Inserts a character n times at the cursor. Whether the cursor was at the end, or `None` where the text would
+    /// get longer than the limit. `NoMemory`.
     pub fn insert(&mut self, c: char, n: u16) -> Result<Option<bool>, Fault> {
         inserted(unsafe { ffi::lodvarn_insert(self.at.get(), c.into(), n) })
     }
 
-    /// Inserts a text n times at the cursor. Whether that was the end, or `None` where the text is empty or there is
-    /// no room within the limit. `NoMemory`.
+    /// Inserts a text n times at the cursor. Whether the cursor was at the end, or `None` where the text is empty or
+    /// the line would get longer than the limit. `NoMemory`.
     pub fn paste(&mut self, text: &str, n: u16) -> Result<Option<bool>, Fault> {
         inserted(unsafe { ffi::lodvarn_paste(self.at.get(), text.as_ptr(), text.len(), n) })
     }
@@ -150,37 +153,38 @@ impl Session {
         inserted(unsafe { ffi::lodvarn_yank(self.at.get(), n) })
     }
 
-    /// Puts the ring's text before in the place of the one that was just yanked. Whether the cursor was at the end, or
-    /// `None` where no yank was done last. `None` also where the text before is empty or has no room: then what was
-    /// yanked is out of the text. `BadYankSize`, `NoMemory`.
+    /// Replaces the text that was just yanked by the one before it in the ring. Whether the cursor was at the end, or
+    /// `None` where the last command was no yank. `None` also where the text before is empty or too long for the limit:
+    /// what was yanked is deleted then. `BadYankSize`, `NoMemory`.
     pub fn yank_pop(&mut self) -> Result<Option<bool>, Fault> {
         inserted(unsafe { ffi::lodvarn_yank_pop(self.at.get()) })
     }
 
-    /// Puts a text, cut to the limit, in the place of the whole text, with the cursor at the place `pos` of it.
-    /// `BadPlace`, `NoMemory`.
+    /// Replaces the whole text by another one, which is cut to the limit. The cursor goes to the place `pos` of the new
+    /// text. `BadPlace`, `NoMemory`.
     pub fn update(&mut self, text: &str, pos: usize) -> Result<(), Fault> {
         done(unsafe { ffi::lodvarn_update(self.at.get(), text.as_ptr(), text.len(), pos) })
     }
 
-    /// Inserts a text at a place, whatever the limit; the cursor keeps its number. Whether the place was the end.
-    /// `BadPlace`, also where the cursor would stand inside a character, `NoMemory`.
+    /// Inserts a text at a place, whatever the limit. The cursor's place keeps its number. Whether the place was the
+    /// end. `BadPlace`, also where the cursor would come to stand inside a character; `NoMemory`.
     pub fn insert_str(&mut self, at: usize, text: &str) -> Result<bool, Fault> {
         yes(unsafe { ffi::lodvarn_insert_str(self.at.get(), at, text.as_ptr(), text.len()) })
     }
 
-    /// Puts a text in the place of a range, whatever the limit, with the cursor behind it. `BadPlace`, `NoMemory`.
+    /// Replaces what stands in a range by a text, whatever the limit. The cursor goes after the text. `BadPlace`,
+    /// `NoMemory`.
     pub fn replace(&mut self, range: Range<usize>, text: &str) -> Result<(), Fault> {
         let (from, to, ptr, len) = (range.start, range.end, text.as_ptr(), text.len());
         done(unsafe { ffi::lodvarn_replace(self.at.get(), from, to, ptr, len) })
     }
 
-    /// Deletes a range, with the cursor there. `BadPlace`, `NoMemory`.
+    /// Deletes what stands in a range. The cursor goes to its start. `BadPlace`, `NoMemory`.
     pub fn delete_range(&mut self, range: Range<usize>) -> Result<(), Fault> {
         done(unsafe { ffi::lodvarn_delete_range(self.at.get(), range.start, range.end) })
     }
 
-    /// Deletes n clusters from the cursor on, and gives them, or `None` where there are none. `NoMemory`.
+    /// Deletes n clusters after the cursor, and answers them, or `None` where there are none. `NoMemory`.
     pub fn delete(&mut self, n: u16) -> Result<Option<String>, Fault> {
         let at = self.at.get();
         handed(|out, cap, len| unsafe { ffi::lodvarn_delete(at, n, out, cap, len) })
@@ -191,8 +195,8 @@ impl Session {
         yes(unsafe { ffi::lodvarn_backspace(self.at.get(), n) })
     }
 
-    /// Deletes to the end of the cursor's line, or the newline there; the ring does not keep it, here and in the
-    /// deletions below. False where there is nothing. `NoMemory`.
+    /// Deletes to the end of the cursor's line, or the newline there. The ring does not keep it: of all deletions it
+    /// keeps only those by `kill`. False where there is nothing. `NoMemory`.
     pub fn kill_line(&mut self) -> Result<bool, Fault> {
         yes(unsafe { ffi::lodvarn_kill_line(self.at.get()) })
     }
@@ -218,60 +222,64 @@ impl Session {
         yes(unsafe { ffi::lodvarn_delete_prev_word(self.at.get(), word as u32, n) })
     }
 
-    /// Deletes ahead to a place at the n-th word. False where there is nothing. `NoMemory`.
+    /// Deletes forward to the n-th word, as `at` says. False where there is nothing. `NoMemory`.
     pub fn delete_word(&mut self, at: At, word: Word, n: u16) -> Result<bool, Fault> {
         yes(unsafe { ffi::lodvarn_delete_word(self.at.get(), at as u32, word as u32, n) })
     }
 
-    /// Deletes to the n-th hit of a search, or the farthest. False where there is none. `NoMemory`.
+    /// Deletes to the n-th hit of a search, or to the farthest where there are fewer. False where there is none.
+    /// `NoMemory`.
     pub fn delete_to(&mut self, search: Search, n: u16) -> Result<bool, Fault> {
         let (number, c) = search.numbers();
         yes(unsafe { ffi::lodvarn_delete_to(self.at.get(), number, c, n) })
     }
 
-    /// Exchanges the clusters at the cursor: two changes, to be wrapped in `begin` and `end` where one undo is to take
-    /// them back. False where there are not two. `NoMemory`.
+    /// Exchanges the clusters before and after the cursor, in two changes: call it between `begin` and `end` where one
+    /// undo is to take them back. False where there are not two. `NoMemory`.
     pub fn transpose_chars(&mut self) -> Result<bool, Fault> {
         yes(unsafe { ffi::lodvarn_transpose_chars(self.at.get()) })
     }
 
-    /// Exchanges a word with the n-th before it: four changes. False where there are not two, when the cursor may
-    /// still have moved. `NoMemory`.
+    /// Exchanges a word with the n-th word before it, in four changes. False where there are not two; the cursor may
+    /// have moved then. `NoMemory`.
     pub fn transpose_words(&mut self, n: u16) -> Result<bool, Fault> {
         yes(unsafe { ffi::lodvarn_transpose_words(self.at.get(), n) })
     }
 
-    /// Changes the case of the word from the cursor on: two changes. False where there is none. `NoMemory`.
+    /// Changes the letter case of the rest of the word at the cursor, or of the next word, in two changes. False where
+    /// there is none. `NoMemory`.
     pub fn edit_word(&mut self, action: Action) -> Result<bool, Fault> {
         yes(unsafe { ffi::lodvarn_edit_word(self.at.get(), action as u32) })
     }
 
-    /// Deletes what a movement covers. The ring keeps it, but not by clusters; kills right behind one another are one
-    /// text of it. False where there is nothing. `NoMemory`.
+    /// Deletes what a movement covers. The ring keeps it, but not by `BackwardChar` and `ForwardChar`. Kills one right
+    /// after the other become one text of the ring. False where there is nothing. `NoMemory`.
     pub fn kill(&mut self, movement: Movement) -> Result<bool, Fault> {
         let (number, n, c) = movement.numbers();
         yes(unsafe { ffi::lodvarn_kill(self.at.get(), number, n, c) })
     }
 
-    /// What a movement covers, or `None` where that is nothing. `NoMemory`.
+    /// The text that a movement covers, or `None` where it covers nothing. `NoMemory`.
     pub fn copy(&mut self, movement: Movement) -> Result<Option<String>, Fault> {
         let ((number, n, c), at) = (movement.numbers(), self.at.get());
         handed(|out, cap, len| unsafe { ffi::lodvarn_copy(at, number, n, c, out, cap, len) })
     }
 
-    /// Indents the lines of a movement by so many spaces, a change or more a line. `NoMemory`.
+    /// Inserts so many spaces at the start of each line that a movement covers, in a change or more for each line.
+    /// `NoMemory`.
     pub fn indent(&mut self, movement: Movement, amount: u8) -> Result<bool, Fault> {
         let (number, n, c) = movement.numbers();
         yes(unsafe { ffi::lodvarn_indent(self.at.get(), number, n, c, amount, 0) })
     }
 
-    /// Takes up to so many bytes of blanks off the front of the lines of a movement, a change a line. `NoMemory`.
+    /// Deletes up to so many bytes of blanks at the start of each line that a movement covers, in a change for each
+    /// line. `NoMemory`.
     pub fn dedent(&mut self, movement: Movement, amount: u8) -> Result<bool, Fault> {
         let (number, n, c) = movement.numbers();
         yes(unsafe { ffi::lodvarn_indent(self.at.get(), number, n, c, amount, 1) })
     }
 
-    /// Opens a group of changes, which one undo takes back once it is closed. How many entries there were.
+    /// Begins an undo group: once it is closed, one undo takes back all its changes. The number of entries before it.
     /// `NoMemory`.
     pub fn begin(&mut self) -> Result<usize, Fault> {
         let mut mark = 0;
@@ -281,29 +289,30 @@ impl Session {
         }
     }
 
-    /// Closes all open groups. False where there was no change in them, or no group. `NoMemory`.
+    /// Closes all open groups. False where they have no change, or none is open. `NoMemory`.
     pub fn end(&mut self) -> Result<bool, Fault> {
         yes(unsafe { ffi::lodvarn_end(self.at.get()) })
     }
 
-    /// Undoes the last n changes or groups, one for 0, and all where there are fewer. False where there was no change
-    /// to undo. `NoMemory`.
+    /// Undoes the last n changes and groups, one where n is 0, all where there are fewer. False where there was no
+    /// change. `NoMemory`.
     pub fn undo(&mut self, n: u16) -> Result<bool, Fault> {
         yes(unsafe { ffi::lodvarn_undo(self.at.get(), n) })
     }
 
-    /// Does again what was undone last. False where there is nothing. `NoMemory`.
+    /// Makes again what was undone last, one change or group. False where there is none. `NoMemory`.
     pub fn redo(&mut self) -> Result<bool, Fault> {
         yes(unsafe { ffi::lodvarn_redo(self.at.get()) })
     }
 
-    /// Keeps so many entries of the record from the front, and forgets the others. `NotReplaying`, `NoMemory`.
+    /// Keeps the first entries of the record, so many, and forgets the others and what was undone. `NotReplaying` where
+    /// they do not lead to the present text, `NoMemory`.
     pub fn truncate(&mut self, entries: usize) -> Result<(), Fault> {
         done(unsafe { ffi::lodvarn_truncate(self.at.get(), entries) })
     }
 
-    /// The number of the cursor's line and its column in it, from 0. It is a command: a kill behind it begins a new
-    /// text of the ring.
+    /// The number of the cursor's line, and the width of that line before the cursor, at most 65535. This is a command:
+    /// a kill after it begins a new text of the ring.
     pub fn line_place(&mut self) -> (usize, u16) {
         let (mut line, mut column) = (0, 0);
         unsafe { ffi::lodvarn_line_place(self.at.get(), &mut line, &mut column) };
@@ -319,7 +328,7 @@ impl Session {
         string(out)
     }
 
-    /// The place of the cursor.
+    /// The place of the cursor, in bytes.
     pub fn pos(&self) -> usize {
         unsafe { ffi::lodvarn_pos(self.at.get()) }
     }
@@ -334,7 +343,7 @@ impl Session {
         unsafe { ffi::lodvarn_line_count(self.at.get()) }
     }
 
-    /// Where a line stands, without its newline, or `None` where there is no such line.
+    /// The range of a line, without its newline, or `None` where there is no such line.
     pub fn line_range(&self, line: usize) -> Option<Range<usize>> {
         let (mut start, mut end) = (0, 0);
         let answer = unsafe { ffi::lodvarn_line_range(self.at.get(), line, &mut start, &mut end) };
@@ -351,7 +360,7 @@ impl Session {
         unsafe { ffi::lodvarn_entries(self.at.get()) }
     }
 
-    /// Whether a `yank` or `yank_pop` was done last, and answered `Some`: a yank of no times too.
+    /// Whether the last command was a `yank` or `yank_pop` and answered `Some`. A yank of no times counts.
     pub fn last_was_yank(&self) -> bool {
         unsafe { ffi::lodvarn_last_was_yank(self.at.get()) == ffi::TRUE }
     }

@@ -1,4 +1,4 @@
-//! What is asked of texts, without a session.
+//! The calls without a session.
 use crate::ffi;
 use crate::words::{Fault, Mode};
 use std::num::NonZeroU16;
@@ -21,29 +21,29 @@ pub fn run_script(script: &[u8]) -> Result<Vec<u8>, Fault> {
     }
 }
 
-/// The columns that a text takes, at most 65535.
+/// The number of columns that a text takes, at most 65535.
 pub fn width(text: &str, mode: Mode) -> u16 {
     let mut columns = 0;
     unsafe { ffi::lodvarn_width(text.as_ptr(), text.len(), mode as u32, &mut columns) };
     columns
 }
 
-/// The first grapheme cluster of a text, which is empty where the text is.
+/// The first grapheme cluster of a text, empty where the text is empty.
 pub fn first_cluster(text: &str) -> &str {
     let mut len = 0;
     unsafe { ffi::lodvarn_first_cluster(text.as_ptr(), text.len(), &mut len) };
     &text[..len]
 }
 
-/// The last grapheme cluster of a text, which is empty where the text is.
+/// The last grapheme cluster of a text, empty where the text is empty.
 pub fn last_cluster(text: &str) -> &str {
     let mut len = 0;
     unsafe { ffi::lodvarn_last_cluster(text.as_ptr(), text.len(), &mut len) };
     &text[text.len() - len..]
 }
 
-/// The row and column, from 0, of a byte place of a text on a screen that is so many columns wide, where the text
-/// begins at the column `prompt` of row 0. `BadPlace`.
+/// The row and column of a place of a text on a screen that has so many columns, where the text begins at the column
+/// `prompt` of row 0. `BadPlace`.
 pub fn cell(
     text: &str,
     place: usize,

@@ -1,4 +1,4 @@
-//! The words in which a session is spoken to, and their numbers.
+//! What the calls take, as types, and the numbers of these.
 use crate::ffi;
 use std::error::Error;
 use std::fmt;
@@ -6,38 +6,38 @@ use std::fmt;
 /// How columns are counted.
 #[derive(Clone, Copy, Debug, Default, PartialEq, Eq, Hash)]
 pub enum Mode {
-    /// The width of the whole text, emoji sequences as one.
+    /// The width of the whole text, an emoji sequence as one emoji.
     #[default]
     Unicode = 0,
-    /// The widths of its characters, added up.
+    /// The sum of the widths of its characters.
     WcWidth = 1,
-    /// The widths of the parts between zero-width joiners, added up.
+    /// The sum of the widths of the parts between zero-width joiners.
     NoZwj = 2,
 }
 
 /// What belongs to a word.
 #[derive(Clone, Copy, Debug, PartialEq, Eq, Hash)]
 pub enum Word {
-    /// All that is not blank.
+    /// Everything but blanks.
     Big = 0,
     /// Letters and digits.
     Emacs = 1,
-    /// Letters, digits and `_`, or else a run of other characters.
+    /// Letters, digits and `_`. A run of other characters but blanks is a word too.
     Vi = 2,
 }
 
-/// Where a motion to a word ahead stops.
+/// Where a motion forward by words stops.
 #[derive(Clone, Copy, Debug, PartialEq, Eq, Hash)]
 pub enum At {
     /// At the start of a word.
     Start = 0,
-    /// On the last character of a word; of an Emacs word, behind it.
+    /// At the last cluster of a word; after an Emacs word.
     BeforeEnd = 1,
-    /// Behind a word.
+    /// After a word.
     AfterEnd = 2,
 }
 
-/// What happens to a word's case.
+/// The letter case that a word gets.
 #[derive(Clone, Copy, Debug, PartialEq, Eq, Hash)]
 pub enum Action {
     /// The first character in upper case, the others in lower case.
@@ -48,16 +48,16 @@ pub enum Action {
     Uppercase = 2,
 }
 
-/// Where a search for a character leads.
+/// Where a search for a character goes.
 #[derive(Clone, Copy, Debug, PartialEq, Eq, Hash)]
 pub enum Search {
-    /// Ahead, to the character; a deletion takes it too.
+    /// Forward, to the character; a deletion takes it too.
     Forward(char),
-    /// Ahead, to the one before the character; a deletion leaves the character.
+    /// Forward, to the one before the character; a deletion leaves the character.
     ForwardBefore(char),
     /// Back, to the character; a deletion takes it too.
     Backward(char),
-    /// Back, to behind the character; a deletion leaves it.
+    /// Back, to the place after the character; a deletion leaves it.
     BackwardAfter(char),
 }
 
@@ -73,7 +73,7 @@ impl Search {
     }
 }
 
-/// Where a motion goes, and what a kill, a copy or an indent is about.
+/// Where a motion goes, and what a kill, a copy or an indent covers.
 #[derive(Clone, Copy, Debug, PartialEq, Eq, Hash)]
 pub enum Movement {
     /// The cursor's line.
@@ -82,17 +82,17 @@ pub enum Movement {
     BeginningOfLine,
     /// To the end of the cursor's line.
     EndOfLine,
-    /// To the start of a word back, by so many.
+    /// Back to the start of a word, by so many words.
     BackwardWord(u16, Word),
-    /// To a place at a word ahead, by so many.
+    /// Forward to a word, by so many words, as `At` says.
     ForwardWord(u16, At, Word),
-    /// To a character, by so many.
+    /// To the n-th hit of a search for a character, or to the farthest where there are fewer.
     Search(u16, Search),
-    /// To the first start of a word behind the start of the text.
+    /// From the first start of a big word after the start of the text to the cursor. No motion.
     FirstPrint,
     /// So many grapheme clusters back.
     BackwardChar(u16),
-    /// So many grapheme clusters ahead.
+    /// So many grapheme clusters forward.
     ForwardChar(u16),
     /// So many lines up.
     LineUp(u16),
@@ -131,11 +131,11 @@ impl Movement {
     }
 }
 
-/// Why a call was refused. Text, cursor and record are as they were, but for an edit of several steps that found no
-/// memory: it stands after the steps that it took.
+/// Why a call was refused. Text, cursor and record are as they were, except where an edit of several steps ran out of
+/// memory: it stands after the steps that it made.
 #[derive(Clone, Copy, Debug, PartialEq, Eq, Hash)]
 pub enum Fault {
-    /// A growth found no memory.
+    /// Out of memory.
     NoMemory,
     /// A place is past the text's end or inside a character, or two places are out of order.
     BadPlace,
@@ -146,7 +146,7 @@ pub enum Fault {
 }
 
 impl Fault {
-    /// The fault of that answer. No other answer comes: the types rule them out.
+    /// The fault of an answer. The types rule out every other answer.
     pub(crate) fn of(answer: u32) -> Fault {
         match answer {
             ffi::NO_MEMORY => Fault::NoMemory,
