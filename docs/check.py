@@ -1,21 +1,40 @@
 #!/usr/bin/env python3
-"""Looks whether each edit, test and file that docs/PROVING.md names beside a wrong body is there.
+"""Looks whether what the pages (*.md) name is there. Each thing named counts one for each page.
 
     python3 docs/check.py
 
-Its last line is 'N passed, M failed', where each row of the two tables counts one.
+- Each row of the tables of wrong bodies in docs/PROVING.md: its edits that must fail, its tests and its files.
+- Each relative link: its file, and the heading of its #part.
+- Each path in backquotes that begins with a folder of the top: a file or a folder, or a pattern that fits one.
+- Each call and constant of C (lodvarn_.., LODVARN_..): in include/lodvarn.h.
+- Each crate (rl_..): in crates.txt.
+
+Its last line is 'N passed, M failed'.
 """
 
 import re
 import sys
+from collections import Counter
 from pathlib import Path
 
 TOP = Path(__file__).resolve().parent.parent
+PAGES = sorted([*TOP.glob("*.md"), *TOP.glob("docs/*.md"), *TOP.glob("clients/*.md")])
 HEADING = "## Wrong bodies, and what refuses each"
 HEAD = "| Wrong body |"
+FOLDERS = ("crates", "docs", "clients", "faults", "include", ".ci")
+# A folder that the build makes, which a checkout has not.
+BUILT = "out"
+FENCED = re.compile(r"^( *)(```+|~~~+).*?^\1\2", re.M | re.S)
+LINK = re.compile(r"!?\[[^\]]*\]\(<?([^)\s>]+)>?[^)]*\)")
+SPAN = re.compile(r"(`+)(.+?)\1", re.S)
+CALL = re.compile(r"\b(?:lodvarn_[a-z0-9_]*[a-z0-9]|LODVARN_[A-Z0-9_]*[A-Z0-9])\b(?!_)")
+CRATE = re.compile(r"\brl_[a-z]+\b")
 
 
-def is_there(name):
+# --- the tables of wrong bodies ---
+
+
+def has_name(name):
     """Whether a file, a test of rl_tests as module::name, or an edit that must fail has that name."""
     if "/" in name:
         return (TOP / name).is_file()
@@ -26,24 +45,142 @@ def is_there(name):
     return any(TOP.glob(f"crates/*/must-fail/{name}.edit"))
 
 
-def main():
-    page = (TOP / "docs/PROVING.md").read_text()
-    section = page.partition(HEADING)[2].partition("\n## ")[0]
-    rows = [line for line in section.splitlines() if line.startswith("| ") and not line.startswith(HEAD)]
-    failed = 0
+def rows_of(page):
+    """The rows of the tables of wrong bodies."""
+    section = page.read_text().partition(HEADING)[2].partition("\n## ")[0]
+    return [line for line in section.splitlines() if line.startswith("| ") and not line.startswith(HEAD)]
+
+
+def faults_of_row(row):
+    """What is wrong with a row."""
+    body, told = row.strip("| ").split(" | ")
+    names = re.findall(r"`([^`]+)`", told)
+    missing = [f"{body}: there is no {name}" for name in names if not has_name(name)]
+    return missing if names else [f"{body}: nothing is named"]
+
+
+# --- links ---
+
+
+def prose_of(page):
+    """The text of a page without its blocks of code."""
+    return FENCED.sub("", page.read_text())
+
+
+def anchor_of(heading):
+    """The part of a link that leads to a heading."""
+    shown = LINK.sub(lambda found: found[0].partition("](")[0].lstrip("!["), heading)
+    return re.sub(r"[^\w\- ]", "", shown.strip().lower()).replace(" ", "-")
+
+
+def anchors_of(page):
+    """The parts of a page that a link may name. Of like headings the later ones get a number."""
+    seen = Counter()
+    anchors = set()
+    for heading in re.findall(r"^#+ +(.+?) *#*$", prose_of(page), re.M):
+        anchor = anchor_of(heading)
+        anchors.add(f"{anchor}-{seen[anchor]}" if seen[anchor] else anchor)
+        seen[anchor] += 1
+    return anchors
+
+
+def is_relative(link):
+    """Whether a link names no host."""
+    return not re.match(r"[a-z][a-z0-9+.-]*:|//", link)
+
+
+def links_of(page):
+    """The relative links of a page, those in code left out."""
+    return {link for link in LINK.findall(SPAN.sub("", prose_of(page))) if is_relative(link)}
+
+
+def link_leads(page, link):
+    """Whether a link of a page leads to a file, and to a heading of it where it names one."""
+    path, _, part = link.partition("#")
+    target = (page.parent / path) if path else page
+    if not target.exists():
+        return False
+    return not part or target.suffix == ".md" and part in anchors_of(target)
+
+
+# --- names in the text ---
+
+
+def paths_of(page):
+    """The paths in backquotes that begin with a folder of the top."""
+    words = (word.rstrip(".,;:") for _, span in SPAN.findall(prose_of(page)) for word in span.split())
+    words = (word.removeprefix("./") for word in words)
+    return {word for word in words if word.split("/")[0] in FOLDERS and re.fullmatch(r"[\w./*{},-]+/[\w./*{},-]*", word)}
+
+
+def path_is_there(path):
+    """Whether a path is there. A folder that the build makes is passed over; NAME stands for any name."""
+    if BUILT in path.split("/"):
+        return True
+    braces = re.search(r"\{([^}]*)\}", path)
+    if braces:
+        return all(path_is_there(path.replace(braces[0], it, 1)) for it in braces[1].split(","))
+    return any(TOP.glob(re.sub(r"\bNAME\b", "*", path.rstrip("/"))))
+
+
+def calls_of(page):
+    """The calls and constants of C that a page names, in code too."""
+    return set(CALL.findall(page.read_text()))
+
+
+def crates_of(page):
+    """The crates that a page names, in code too."""
+    return set(CRATE.findall(page.read_text()))
+
+
+# --- all of them ---
+
+
+class Count:
+    """How many of the things that are named are there, and how many are not."""
+
+    def __init__(self):
+        self.passed = self.failed = 0
+
+    def see(self, page, faults):
+        """Counts one thing, which is wrong where there are faults."""
+        self.failed += bool(faults)
+        self.passed += not faults
+        for fault in faults:
+            print(f"{page.relative_to(TOP)}: {fault}")
+
+    def see_all(self, page, kind, names, is_there):
+        """Counts the names of one kind on a page."""
+        for name in sorted(names):
+            self.see(page, [] if is_there(name) else [f"there is no {kind} {name}"])
+
+
+def see_page(count, page, header, crates):
+    """Looks for all that a page names."""
+    count.see_all(page, "target of the link", links_of(page), lambda link: link_leads(page, link))
+    count.see_all(page, "path", paths_of(page), path_is_there)
+    count.see_all(page, "call", calls_of(page), header.__contains__)
+    count.see_all(page, "crate", crates_of(page), crates.__contains__)
+
+
+def see_wrong_bodies(count, page):
+    """Looks for what refuses each wrong body."""
+    rows = rows_of(page)
     for row in rows:
-        body, told = row.strip("| ").split(" | ")
-        names = re.findall(r"`([^`]+)`", told)
-        wrong = [f"there is no {name}" for name in names if not is_there(name)]
-        if not names:
-            wrong = ["nothing is named"]
-        failed += bool(wrong)
-        for it in wrong:
-            print(f"{body}: {it}")
+        count.see(page, faults_of_row(row))
     if not rows:
-        print("no table of wrong bodies in docs/PROVING.md")
-    print(f"{len(rows) - failed} passed, {failed} failed")
-    return 1 if failed or not rows else 0
+        count.see(page, ["there is no table of wrong bodies"])
+
+
+def main():
+    count = Count()
+    see_wrong_bodies(count, TOP / "docs/PROVING.md")
+    header = set(CALL.findall((TOP / "include/lodvarn.h").read_text()))
+    crates = set(re.findall(r"^(\w+)", (TOP / "crates.txt").read_text(), re.M))
+    for page in PAGES:
+        see_page(count, page, header, crates)
+    print(f"{count.passed} passed, {count.failed} failed")
+    return 1 if count.failed else 0
 
 
 if __name__ == "__main__":
