@@ -12,7 +12,8 @@ Before each fenced block of code stands a comment that says what it is:
     <!-- run: rust -->      a program in Rust, in a package that depends on clients/rust
     <!-- run: script -->    lines for the program at PATH (crates/rl_script/out/rl_script)
     <!-- run: sh -->        commands for bash, run in a copy of the repository that has the library and the program
-    <!-- prints -->         what the example before it must print, exactly; only one for bash may do without
+    <!-- prints -->         what the example before it must print, exactly. In its stead a line may stand right after the
+                            example: It prints `..`. Only an example for bash may do without both
     <!-- shown -->          what is not run; where it is a piece of code, it stands whole in an example that is run
     <!-- from: FILE -->     a piece of that file, whose lines stand there in the same order
 
@@ -60,6 +61,8 @@ class Block:
     language: str
     comment: str
     text: str
+    # What the line after the block says that it prints, or None.
+    printed: str | None = None
 
     @property
     def kind(self):
@@ -89,6 +92,13 @@ def comment_before(lines, at):
     return found[1] if found else ""
 
 
+def printed_after(lines, at):
+    """What the first line from here on that isn't empty says that an example prints, or None."""
+    after = next((line for line in lines[at:] if line.strip()), "")
+    found = re.match(r"It prints `([^`]*)`", after)
+    return f"{found[1]}\n" if found else None
+
+
 def blocks_of(page, text):
     """The fenced blocks of a page. An indented block, which has no fence, is one without a comment."""
     lines = text.split("\n")
@@ -102,7 +112,8 @@ def blocks_of(page, text):
             length = rest.index(fence) if fence in rest else len(rest)
             inside = [line.removeprefix(indent) for line in lines[at + 1 : at + 1 + length]]
             comment = comment_before(lines, at) if fence in rest else "a fence that does not end"
-            blocks.append(Block(page, at + 1, language, comment, "".join(f"{line}\n" for line in inside)))
+            printed = printed_after(lines, at + length + 2)
+            blocks.append(Block(page, at + 1, language, comment, "".join(f"{line}\n" for line in inside), printed))
             at += length + 1
         elif indented and not lines[at - 1].strip():
             blocks.append(Block(page, at + 1, "", "", ""))
@@ -219,11 +230,11 @@ RUNS = {"rattle": run_rattle, "c": run_c, "python": run_python, "rust": run_rust
 def judge_run(block, after, place):
     if block.kind not in RUNS:
         raise Fault(f"there is no kind {block.kind!r}")
-    is_said = after is not None and after.comment == "prints"
-    if not is_said and block.kind != "sh":
-        raise Fault("no block after it says what it prints")
+    wanted = after.text if after is not None and after.comment == "prints" else block.printed
+    if wanted is None and block.kind != "sh":
+        raise Fault("nothing after it says what it prints")
     said = RUNS[block.kind](block.text, place)
-    if is_said and said != after.text:
+    if wanted not in (None, said):
         raise Fault(f"it printed {said!r}")
 
 
@@ -326,7 +337,9 @@ CHECKS = [
     ("sh", fenced("run: sh", "false | true\necho a\n"), "status 1"),
     ("sh", fenced("run: sh", "head -c 9 README.md docs/examples.py\n"), ""),
     ("python", PRINT, ""),
-    ("python", fenced("run: python", "print(1)\n"), "no block after it says"),
+    ("python", fenced("run: python", "print(1)\n") + "It prints `1`.\n", ""),
+    ("python", fenced("run: python", "print(1)\n") + "\nIt prints `2`.\n", "it printed '1\\n'"),
+    ("python", fenced("run: python", "print(1)\n") + "\nThen\n\nIt prints `1`.\n", "nothing after it says"),
     ("perl", fenced("run: perl", "print 1\n"), "there is no kind 'perl'"),
     ("shown", "```text\na\n```\n", "no comment"),
     ("shown", "Some text.\n\n    indented\n", "no comment"),
