@@ -8,6 +8,7 @@
 - Each path in backquotes that begins with a folder of the top: a file or a folder, or a pattern that fits one.
 - Each call and constant of C (lodvarn_.., LODVARN_..): in include/lodvarn.h.
 - Each crate (rl_..): in crates.txt.
+- Each word of a script (specs/Grammar.antt): one row in docs/RULES.md, and no row more.
 
 Its last line is 'N passed, M failed'.
 """
@@ -133,6 +134,39 @@ def crates_of(page):
     return set(CRATE.findall(page.read_text()))
 
 
+# --- the words of a script ---
+
+GRAMMAR = "crates/rl_session/specs/Grammar.antt"
+# Each table of words in docs/RULES.md by its heading, with the definitions whose words it has.
+WORD_TABLES = {
+    "Words that begin a line": "Says",
+    "Movements": "Names",
+    "Names among the arguments": "NamesWord|NamesAt|NamesSearch|NamesAction|NamesMode",
+}
+
+
+def words_of(definitions):
+    """The words that definitions of the grammar have."""
+    return set(re.findall(rf'[:→] (?:{definitions}) \(codes "(\w+)"\)', (TOP / GRAMMAR).read_text()))
+
+
+def words_under(page, heading):
+    """The words that begin the rows under a heading."""
+    section = re.split(r"\n#+ ", page.read_text().partition(f"\n### {heading}\n")[2])[0]
+    return Counter(re.findall(r"^\| `(\w+)` \|", section, re.M))
+
+
+def see_words(count, page):
+    """Looks whether each word of the grammar has one row, and each row a word."""
+    for heading, definitions in WORD_TABLES.items():
+        words, rows = words_of(definitions), words_under(page, heading)
+        if not words:
+            count.see(page, [f"{GRAMMAR} has no words for '{heading}'"])
+        for word in sorted(words | set(rows)):
+            faults = [] if word in words else [f"{heading}: {word} is no word of the grammar"]
+            count.see(page, faults + ([] if rows[word] == 1 else [f"{heading}: {rows[word]} rows for {word}"]))
+
+
 # --- all of them ---
 
 
@@ -175,6 +209,7 @@ def see_wrong_bodies(count, page):
 def main():
     count = Count()
     see_wrong_bodies(count, TOP / "docs/PROVING.md")
+    see_words(count, TOP / "docs/RULES.md")
     header = set(CALL.findall((TOP / "include/lodvarn.h").read_text()))
     crates = set(re.findall(r"^(\w+)", (TOP / "crates.txt").read_text(), re.M))
     for page in PAGES:

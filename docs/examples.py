@@ -34,7 +34,7 @@ from dataclasses import dataclass
 from pathlib import Path
 
 TOP = Path(__file__).resolve().parent.parent
-PAGES = ["README.md", "docs/GUIDE.md"]
+PAGES = ["README.md", "docs/GUIDE.md", "docs/RULES.md", "docs/DECISIONS.md"]
 # Blocks in these languages are no pieces of code: outputs, pictures, and commands that take long.
 PLAIN = {"", "text", "sh"}
 # How long an example may take, in seconds. An interpreter that shares a busy machine takes minutes.
