@@ -1,5 +1,5 @@
 #!/usr/bin/env python3
-"""Runs the examples of README.md and docs/GUIDE.md from their text, and compares what they print with the pages.
+"""Runs the examples of the pages (PAGES) from their text, and compares what they print with the pages.
 
     python3 docs/examples.py [--only KIND] [--out FOLDER] [--script PATH]
     python3 docs/examples.py --check [..]
