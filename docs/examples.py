@@ -12,7 +12,7 @@ Before each fenced block of code stands a comment that says what it is:
     <!-- run: rust -->      a program in Rust, in a package that depends on clients/rust
     <!-- run: script -->    lines for the program at PATH (crates/rl_script/out/rl_script)
     <!-- run: sh -->        commands for bash, run in a copy of the repository that has the library and the program
-    <!-- prints -->         what the example before it must print, exactly. In its stead a line may stand right after the
+    <!-- prints -->         what the example before it must print, exactly. In place of it a line may stand right after the
                             example: It prints `..`. Only an example for bash may do without both
     <!-- shown -->          what is not run; where it is a piece of code, it stands whole in an example that is run
     <!-- from: FILE -->     a piece of that file, whose lines stand there in the same order

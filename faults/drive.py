@@ -48,7 +48,7 @@ class Outcome:
 
 
 class Runner:
-    """Runs a program behind the library that refuses."""
+    """Runs a program with the library that refuses."""
 
     def __init__(self, room):
         self.room = room
@@ -118,7 +118,7 @@ def unescaped(text):
 
 
 def escaped(text):
-    """A text as it stands behind the cursor in a line that is printed."""
+    """A text as it stands after the cursor in a line that is printed."""
     for mark, written in (("\\", "\\\\"), ("\n", "\\n"), ("\r", "\\r"), ("\t", "\\t")):
         text = text.replace(mark, written)
     return text
@@ -183,7 +183,7 @@ def fault_of_texts(script, printed):
             start = unescaped(given)
         is_start = word == "text" and reply == "ok" or line == UNDO_ALL and reply in ("true", "false")
         if is_start and text != start:
-            return f"behind {line!r} the text is {escaped(text)!r}, and the session began with {escaped(start)!r}"
+            return f"after {line!r} the text is {escaped(text)!r}, and the session began with {escaped(start)!r}"
     return None
 
 
@@ -208,13 +208,13 @@ def fault_of_script_run(script, outcome, plain):
         return None
     if (outcome.status, outcome.err) != (1, b"no memory\n") or not outcome.refused:
         return f"status {outcome.status} with {outcome.err!r}, {outcome.refused} refused"
-    return None if len(printed) < asked else "it stopped behind its last line"
+    return None if len(printed) < asked else "it stopped after its last line"
 
 
 def fault_of_plain_run(script, plain):
     """What is wrong with a run with ample memory, if anything."""
     if any(it.startswith(b"refused:1 ") for it in lines_of(plain.out)):
-        return "with ample memory a line is refused for want of it"
+        return "with ample memory a line is refused as if it were out"
     return fault_of_script_run(script, plain, plain)
 
 

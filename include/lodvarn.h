@@ -285,7 +285,7 @@ uint32_t lodvarn_end(lodvarn **s);
  * before them. Answers TRUE, or FALSE where there was no change. Errors: NO_MEMORY. */
 uint32_t lodvarn_undo(lodvarn **s, uint16_t n);
 
-/* Makes again what was undone last, one change or group. Answers TRUE, or FALSE where there is none. Errors:
+/* Redoes what was undone last, one change or group. Answers TRUE, or FALSE where there is none. Errors:
  * NO_MEMORY. */
 uint32_t lodvarn_redo(lodvarn **s);
 

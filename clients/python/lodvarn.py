@@ -458,7 +458,7 @@ class Session:
         return _call("undo", self._at, n) == Answer.TRUE
 
     def redo(self) -> bool:
-        """Makes again what was undone last, one change or group. False where there is none."""
+        """Redoes what was undone last, one change or group. False where there is none."""
         return _call("redo", self._at) == Answer.TRUE
 
     def truncate(self, entries: int) -> None:

@@ -300,7 +300,7 @@ impl Session {
         yes(unsafe { ffi::lodvarn_undo(self.at.get(), n) })
     }
 
-    /// Makes again what was undone last, one change or group. False where there is none. `NoMemory`.
+    /// Redoes what was undone last, one change or group. False where there is none. `NoMemory`.
     pub fn redo(&mut self) -> Result<bool, Fault> {
         yes(unsafe { ffi::lodvarn_redo(self.at.get()) })
     }

@@ -84,7 +84,7 @@ bytes_in-clusters text u = ap length (concat-clusters text u)
 pub slice_range-front : (n : ℕ) (text : List ℕ) → slice_range text 0 n ≡ take n text
 slice_range-front n text = let same : n - 0 ≡ n = omega arith in ap (λ m. take m text) same
 
--- what stands behind a place is cut where a text begins
+-- what stands after a place is cut where a text begins
 pub IsCharBoundary-before_rest : (text : List ℕ) (pos place : ℕ) (front rest : List ℕ) → pos ≤ length text → drop pos text ≡ front ++ rest → place ≡ pos + length front
     → IsUtf8 rest → IsCharBoundary text place
 IsCharBoundary-before_rest text pos place front rest within e same u =

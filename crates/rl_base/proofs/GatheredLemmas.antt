@@ -43,7 +43,7 @@ fewer (x ∷ xs) (suc n) (suc i) b l =
     let head : x ≡ 32 = cc in
     ap (λ t. x ∷ t) (fewer xs n i tails (omega arith)) ∙ ap (λ y. y ∷ replicate i 32) head
 
--- a part in the place of the last blanks
+-- the last blanks give way to a part
 pub record Fronted (text part : List ℕ) (n i : ℕ) : Type 0 where
   pub blanks : BeginsBlank i (replace_range text i n part)
   pub text_is : drop i (replace_range text i n part) ≡ part ++ drop n text

@@ -1,4 +1,4 @@
--- The line that a place lies in, where a line begins and ends, and what stands behind a place.
+-- The line that a place lies in, where a line begins and ends, and what stands after a place.
 use Rattle.std.proofs.Common.{take-add, Some, None, slice_get, slice_range, ◌≡◌, ℕ, zero, suc, ◌+◌, ◌-◌, ◌<◌, ◌≤◌, Bool, true, false, cond, List, [], ◌∷◌, ◌++◌, length, get_or, take, drop, All, count_by, refl, sym, ap, ap₂, subst, ◌∙◌, arith, eqb, append-nil, length-append}
 use Rattle.std.proofs.lemmas.List.{drop-drop, take_at, get_or_at, length-take-le, take-append-drop, drop_at, take_all}
 use Rattle.std.proofs.lemmas.List.Splits.{slice_split-cons_yes, slice_split-cons_no, slice_split_none, length-slice_split}
@@ -118,8 +118,8 @@ count-newline b bs e = sum_by-cons (λ c. cond (eqb c 10) 1 0) b bs ∙ ap (λ (
 count-other : (b : ℕ) (bs : List ℕ) → eqb b 10 ≡ false → count_by is_newline (b ∷ bs) ≡ count_by is_newline bs
 count-other b bs e = sum_by-cons (λ c. cond (eqb c 10) 1 0) b bs ∙ ap (λ (v : Bool). cond v 1 0 + count_by is_newline bs) e ∙ (omega arith)
 
-lies-behind_newline : (b : ℕ) (bs : List ℕ) (j s t : ℕ) (line : List ℕ) → eqb b 10 ≡ true → Lies bs j s t line → Lies (b ∷ bs) (suc j) (suc s) (suc t) line
-lies-behind_newline b bs j s t line e h =
+lies-after_newline : (b : ℕ) (bs : List ℕ) (j s t : ℕ) (line : List ℕ) → eqb b 10 ≡ true → Lies bs j s t line → Lies (b ∷ bs) (suc j) (suc s) (suc t) line
+lies-after_newline b bs j s t line e h =
     record {
       len = omega (arith, h.len);
       number_start = count-newline b (take s bs) e ∙ (omega (arith, h.number_start));
@@ -128,8 +128,8 @@ lies-behind_newline b bs j s t line e h =
       within = omega (arith, h.within);
     }
 
-lies-behind : (b : ℕ) (bs : List ℕ) (j s t : ℕ) (line : List ℕ) → eqb b 10 ≡ false → Lies bs j s t line → Lies (b ∷ bs) j (suc s) (suc t) line
-lies-behind b bs j s t line e h =
+lies-after : (b : ℕ) (bs : List ℕ) (j s t : ℕ) (line : List ℕ) → eqb b 10 ≡ false → Lies bs j s t line → Lies (b ∷ bs) j (suc s) (suc t) line
+lies-after b bs j s t line e h =
     record {
       len = omega (arith, h.len);
       number_start = count-other b (take s bs) e ∙ h.number_start;
@@ -172,11 +172,11 @@ lies-in (b ∷ bs) j ls same l =
         (get_or (cond is ([] ∷ (line ∷ more)) (onto_first b (line ∷ more))) j [])
     from rest true e zero line more f l = lies-empty (b ∷ bs)
     from rest true e (suc j) line more f l =
-        at_places (b ∷ bs) (suc j) _ _ _ _ (get_or (line ∷ more) j []) (omega arith) (omega arith) (lies-behind_newline b bs j _ _ _ e (rest j (line ∷ more) f (omega arith)))
+        at_places (b ∷ bs) (suc j) _ _ _ _ (get_or (line ∷ more) j []) (omega arith) (omega arith) (lies-after_newline b bs j _ _ _ e (rest j (line ∷ more) f (omega arith)))
     from rest false e zero line more f l =
         at_places (b ∷ bs) 0 _ _ _ _ (b ∷ line) refl (omega arith) (lies-longer b bs _ line e (rest 0 (line ∷ more) f (omega arith)))
     from rest false e (suc j) line more f l =
-        at_places (b ∷ bs) (suc j) _ _ _ _ (get_or more j []) (omega arith) (omega arith) (lies-behind b bs (suc j) _ _ _ e (rest (suc j) (line ∷ more) f l))
+        at_places (b ∷ bs) (suc j) _ _ _ _ (get_or more j []) (omega arith) (omega arith) (lies-after b bs (suc j) _ _ _ e (rest (suc j) (line ∷ more) f l))
 
 pub lies : (text : List ℕ) (j : ℕ) → j < length (lines text) → Lies text j (start_of_line text j) (end_of_line text j) (text_of_line text j)
 lies text j l = lies-in text j (lines text) refl l
@@ -215,7 +215,7 @@ newlines-line text k l =
     let at = lies text k l in
     let back = drop (start_of_line text k) text in
     let len = length (text_of_line text k) in
-    let behind : drop len back ≡ drop (end_of_line text k) text = drop-drop len (start_of_line text k) text in
+    let after : drop len back ≡ drop (end_of_line text k) text = drop-drop len (start_of_line text k) text in
     omega (
       arith,
       count-parts text (start_of_line text k),
@@ -224,15 +224,15 @@ newlines-line text k l =
       at.number_stop,
       count-parts back len,
       ap last_line at.is,
-      ap last_line behind,
+      ap last_line after,
     )
 
--- ---- the lines of what stands behind a place
+-- ---- the lines of what stands after a place
 lines-onto : (part back line : List ℕ) (more : List (List ℕ)) → AllByRecursion (λ b. is_newline b ≡ false) part → lines back ≡ line ∷ more → lines (part ++ back) ≡ (part ++ line) ∷ more
 lines-onto [] back line more none e = e
 lines-onto (b ∷ part) back line more none e = slice_split-cons_no is_newline b (part ++ back) none.0 ∙ ap (onto_first b) (lines-onto part back line more none.1 e)
 
--- the line of a place ends with the first line of what stands behind it
+-- the line of a place ends with the first line of what stands after it
 pub end-from : (text : List ℕ) (pos : ℕ) (line : List ℕ) (more : List (List ℕ)) → pos ≤ length text → lines (drop pos text) ≡ line ∷ more → end_of_line text (line_number text pos) ≡ pos + length line
 end-from text pos line more within e =
     let front = take pos text in
@@ -242,12 +242,12 @@ end-from text pos line more within e =
     ap (λ t. end_of_line t (line_number text pos)) (sym (take-append-drop pos text)) ∙ end_of_line-is front back here.0 here.1 here.2 line more onto
     ∙ (omega (arith, length-take-le pos text within))
 
-pub end-behind : (text : List ℕ) (pos : ℕ) → pos ≤ length text → pos ≤ end_of_line text (line_number text pos)
-end-behind text pos within = let some = lines_some (drop pos text) in omega (arith, end-from text pos some.0 some.1 within some.2)
+pub end-after : (text : List ℕ) (pos : ℕ) → pos ≤ length text → pos ≤ end_of_line text (line_number text pos)
+end-after text pos within = let some = lines_some (drop pos text) in omega (arith, end-from text pos some.0 some.1 within some.2)
 
--- the lines behind that of a place are those of what stands behind the place, but for its first
-pub lines-behind : (text : List ℕ) (pos : ℕ) → drop (line_number text pos + 1) (lines text) ≡ drop 1 (lines (drop pos text))
-lines-behind text pos =
+-- the lines after that of a place are those of what stands after the place, but for its first
+pub lines-after : (text : List ℕ) (pos : ℕ) → drop (line_number text pos + 1) (lines text) ≡ drop 1 (lines (drop pos text))
+lines-after text pos =
     let front = take pos text in
     let back = drop pos text in
     let here = in_line front in

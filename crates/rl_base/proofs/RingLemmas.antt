@@ -19,7 +19,7 @@ length-join (s ∷ ss) (suc i) mode text = ap suc (length-join ss i mode text)
 
 -- where the next slot goes
 pub record Next (size index : ℕ) (slots : List (List ℕ)) (i : ℕ) : Type 0 where
-  pub behind : i ≤ length slots
+  pub after : i ≤ length slots
   pub below : i < size
   pub turns : (index + 1 ≡ size) × (i ≡ 0) ⊎ (index + 1 < size) × (i ≡ raised index slots)
 
@@ -35,11 +35,11 @@ next_index-is size index slots some within at = through (index + 1 == size) refl
     le = omega arith
 
     through : (b : Bool) → (index + 1 == size) ≡ b → Next size index slots (cond b 0 (raised index slots))
-    through true e = record { behind = omega arith; below = some; turns = inl (eqb-true (index + 1) size e, refl) }
+    through true e = record { after = omega arith; below = some; turns = inl (eqb-true (index + 1) size e, refl) }
     through false e =
         let n = eqb-false (index + 1) size e in
         let less : index + 1 < size = omega arith in
-        let two = rises slots at less in record { behind = two.0; below = two.1; turns = inr (less, refl) }
+        let two = rises slots at less in record { after = two.0; below = two.1; turns = inr (less, refl) }
 
 -- the next slot is within the size, and is there then
 pub length-put : (slots : List (List ℕ)) (i size : ℕ) (text : List ℕ) → i ≤ length slots → i < size → length slots ≤ size
@@ -59,7 +59,7 @@ length-put slots i size text h k le = through (i == length slots) refl
 IsRing-in_new_slot : (text : List ℕ) (r : Ring) → 0 < r.size → IsRing r → IsRing (in_new_slot text r)
 IsRing-in_new_slot text r some h =
     let n = next_index-is r.size r.index r.slots some h.within h.at_slot in
-    let l = length-put r.slots (next_index r.size r.index r.slots) r.size text n.behind n.below h.within in
+    let l = length-put r.slots (next_index r.size r.index r.slots) r.size text n.after n.below h.within in
     record { within = l.0; at_slot = omega arith }
 
 IsRing-killed_as : (size : ℕ) (last : Action) (text : List ℕ) (mode : Mode) (r : Ring) → size ≡ r.size → IsRing r → IsRing (killed_as size last text mode r)

@@ -89,8 +89,8 @@ back-join slots groups i (suc n) text mode at any some h =
         let two : rest ≡ take n gs = cc in
         ap (λ x. joined mode x text ∷ rest) one ∙ ap (λ l. joined mode g text ∷ l) two
 
-put-behind : (slots : List (List ℕ)) (i : ℕ) (text : List ℕ) → i ≡ length slots → put_at i text slots ≡ slots ++ text ∷ []
-put-behind slots i text h = through (i == length slots) refl
+put-after : (slots : List (List ℕ)) (i : ℕ) (text : List ℕ) → i ≡ length slots → put_at i text slots ≡ slots ++ text ∷ []
+put-after slots i text h = through (i == length slots) refl
   where
     through : (b : Bool) → (i == length slots) ≡ b → cond b (slots ++ text ∷ []) (slice_set slots i text) ≡ slots ++ text ∷ []
     through true e = refl
@@ -110,9 +110,9 @@ pub record Puts (n index i : ℕ) (text : List ℕ) (slots : List (List ℕ)) : 
   pub any : 0 < length (put_at i text slots)
 
 -- while there is room
-puts-behind : (n index i : ℕ) (text : List ℕ) (slots : List (List ℕ)) → length slots ≤ n → index + 1 ≡ max 1 (length slots) → i ≡ length slots → Puts n index i text slots
-puts-behind n index i text slots room full at =
-    let put = put-behind slots i text at in
+puts-after : (n index i : ℕ) (text : List ℕ) (slots : List (List ℕ)) → length slots ≤ n → index + 1 ≡ max 1 (length slots) → i ≡ length slots → Puts n index i text slots
+puts-after n index i text slots room full at =
+    let put = put-after slots i text at in
     let len : length (put_at i text slots) ≡ length slots + 1 = ap length put ∙ length-append slots (text ∷ []) in
     let short : length (reverse slots) ≤ n = rw (length-reverse slots) room in
     record {
@@ -165,7 +165,7 @@ pub puts : (n index : ℕ) (text : List ℕ) (slots : List (List ℕ)) → lengt
 puts n index text slots within at filling =
     let next = next_index-is (suc n) index slots (omega arith) within at in
     elim (le-or (length slots) n) [
-      | inl room ↦ puts-behind n index (next_index (suc n) index slots) text slots room (filling (omega arith)) (behind slots (next_index (suc n) index slots) room (filling (omega arith)) next)
+      | inl room ↦ puts-after n index (next_index (suc n) index slots) text slots room (filling (omega arith)) (after slots (next_index (suc n) index slots) room (filling (omega arith)) next)
       | inr over ↦ full (next_index (suc n) index slots) next.turns (omega arith)
     ]
   where
@@ -174,9 +174,9 @@ puts n index text slots within at filling =
     le-or (suc a) zero = inr (omega arith)
     le-or (suc a) (suc b) = elim (le-or a b) [ inl h ↦ inl (omega arith) | inr h ↦ inr (omega arith) ]
 
-    behind : (ss : List (List ℕ)) (i : ℕ) → length ss ≤ n → index + 1 ≡ max 1 (length ss) → Next (suc n) index ss i → i ≡ length ss
-    behind [] i room e next = let b = next.behind in omega arith
-    behind (s ∷ ss) i room e next = elim (next.turns) [ inl t ↦ let u = t.0 in absurd (omega arith) | inr t ↦ let u = t.1 in omega arith ]
+    after : (ss : List (List ℕ)) (i : ℕ) → length ss ≤ n → index + 1 ≡ max 1 (length ss) → Next (suc n) index ss i → i ≡ length ss
+    after [] i room e next = let b = next.after in omega arith
+    after (s ∷ ss) i room e next = elim (next.turns) [ inl t ↦ let u = t.0 in absurd (omega arith) | inr t ↦ let u = t.1 in omega arith ]
 
     full : (i : ℕ) → ((index + 1 ≡ suc n) × (i ≡ 0)) ⊎ ((index + 1 < suc n) × (i ≡ raised index slots)) → length slots ≡ suc n → Puts n index i text slots
     full i (inl t) e = subst (λ k. Puts n index k text slots) (sym t.1) (puts-first n index text slots e t.0)

@@ -1,4 +1,4 @@
--- Each change of a text puts one part in the place of another, so it can be taken back.
+-- Each change of a text replaces one part by another, so it can be taken back.
 use Rattle.std.proofs.Common.{◌≡◌, ℕ, ◌+◌, ◌-◌, true, List, [], ◌++◌, length, take, drop, slice_range, Option, Some, None, refl, sym, ap, subst, ◌∙◌, arith, append_assoc, length-append, take_at, drop_at}
 use Rattle.std.proofs.lemmas.List.{length-take-le, take-append-drop, nil_from_length}
 use Rattle.std.proofs.lemmas.List.Folds.{drop_split}
@@ -185,9 +185,9 @@ cut_alike a b c d e n = (
   sym (drop_at a b (length c) n) ∙ ap (drop (length c)) e ∙ drop_at c d (length c) refl,
 )
 
--- a second swap right behind what the first put in
-pub Swaps-behind : (x y z : List ℕ) (j i : ℕ) (o w s t : List ℕ) → Swaps x y j o w → Swaps y z i s t → j + length w ≡ i → Swaps x z j (o ++ s) (w ++ t)
-Swaps-behind x y z j i o w s t p q h =
+-- a second swap right after what the first put in
+pub Swaps-after : (x y z : List ℕ) (j i : ℕ) (o w s t : List ℕ) → Swaps x y j o w → Swaps y z i s t → j + length w ≡ i → Swaps x z j (o ++ s) (w ++ t)
+Swaps-after x y z j i o w s t p q h =
     let n : length (p.front ++ w) ≡ length q.front = length-append p.front w ∙ ap (λ k. k + length w) p.place ∙ h ∙ sym q.place in
     let both = cut_alike (p.front ++ w) p.rest q.front (s ++ q.rest) (append_assoc p.front w p.rest ∙ sym p.after_is ∙ q.text_is) n in
     record {

@@ -45,9 +45,9 @@ columns-first_part text part more total u v h =
     let i = h.0 in
     let joiner = h.2.1 in
     let split : text ≡ part ++ drop i text = sym (take-append-drop i text) ∙ ap (λ t. t ++ drop i text) (sym h.3) in
-    let behind : drop i text ≡ encode_utf8 0x200D ++ more = joiner.split ∙ ap (λ t. encode_utf8 0x200D ++ t) (sym h.4) in
+    let after : drop i text ≡ encode_utf8 0x200D ++ more = joiner.split ∙ ap (λ t. encode_utf8 0x200D ++ t) (sym h.4) in
     let cut : chars text ≡ chars part ++ 0x200D ∷ chars more =
-    ap chars split ∙ chars-append part (drop i text) v ∙ ap (λ l. chars part ++ l) (chars_past_char (drop i text) more 0x200D (IsUtf8-after text part (drop i text) u v split) behind) in
+    ap chars split ∙ chars-append part (drop i text) v ∙ ap (λ l. chars part ++ l) (chars_past_char (drop i text) more 0x200D (IsUtf8-after text part (drop i text) u v split) after) in
     let none = no_joiner part v (subst (NoCharPasses is_joiner) (sym h.3) h.2.0) in
     let sum = ap (sum_by (str_width false)) (ap (slice_split is_joiner) cut ∙ slice_split_at is_joiner (chars part) 0x200D (chars more) none refl)
     ∙ sum_by-cons (str_width false) (chars part) (slice_split is_joiner (chars more)) in

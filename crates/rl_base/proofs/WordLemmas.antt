@@ -44,7 +44,7 @@ nth-past_first n y ys more =
     let one : n - 1 ≡ suc (n - 2) = omega arith in
     ap (λ k. nth k (y ∷ ys)) two ∙ sym (ap (λ k. nth k ys) one)
 
--- x is the last of the clusters that are left, and y stands behind them
+-- x is the last of the clusters that are left, and y stands after them
 module _ (sense : Word) (left xs : List PlacedCluster) (x y : PlacedCluster) (e : left ≡ xs ++ x ∷ []) where
   split : stops Start sense (left ++ y ∷ []) ≡ stops Start sense (xs ++ x ∷ []) ++ cons_option (stop_between Start sense (x, y)) []
   split = ap (λ l. stops Start sense (l ++ y ∷ [])) e ∙ stops_push Start sense xs x y

@@ -38,7 +38,7 @@ join_at i mode text [] = []
 join_at zero mode text (s ∷ ss) = joined mode s text ∷ ss
 join_at (suc i) mode text (s ∷ ss) = s ∷ join_at i mode text ss
 
--- a text put over the slot at i, or behind all slots
+-- a text put over the slot at i, or after all slots
 abbrev pub put_at : ℕ → List ℕ → List (List ℕ) → List (List ℕ)
 put_at i text slots = if i == length slots then slots ++ text ∷ [] else slice_set slots i text
 
@@ -47,7 +47,7 @@ abbrev pub raised : ℕ → List (List ℕ) → ℕ
 raised index [] = index
 raised index (s ∷ ss) = index + 1
 
--- where the next new slot goes: right behind the current one, and from the last place of the ring back to 0
+-- where the next new slot goes: right after the current one, and from the last place of the ring back to 0
 abbrev pub next_index : ℕ → ℕ → List (List ℕ) → ℕ
 next_index size index slots = if index + 1 == size then 0 else raised index slots
 

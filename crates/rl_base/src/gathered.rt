@@ -130,7 +130,7 @@ fn find_blanks(buf: &mut String, blanks: usize, bytes: usize) -> Result<usize, R
     }
 }
 
-// Puts a part in the place of the last blanks before a text, and answers how many are left. It takes no memory.
+// Replaces the last blanks before a text by a part, and answers how many are left. It takes no memory.
 fn put_over_blanks(buf: &mut String, blanks: usize, part: &str) -> usize
     requires begins { BeginsBlank blanks (string_bytes buf.old) }
     requires room { length part.now ≤ blanks }

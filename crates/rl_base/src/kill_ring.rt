@@ -70,7 +70,7 @@ impl KillRing {
     }
 
     /// Puts a killed text into the ring (GNU readline: kill-line and its like). Right after another kill it is
-    /// joined to that one's text, at the side that `dir` says. Else it goes right behind the current text, over
+    /// joined to that one's text, at the side that `dir` says. Else it goes right after the current text, over
     /// one that stands there, and is the current one. Refused, where memory is out, it changes nothing. Where the ring
     /// would not grow it never refuses: at size 0, where it keeps no text, and an empty text that needs no slot more.
     pub fn kill(&mut self, text: &str, dir: Mode) -> Result<(), Refusal>
@@ -189,7 +189,7 @@ fn index_before(index: usize, slots: &[Gathered]) -> usize
     index - 1
 }
 
-// Puts a text over the slot at an index, or behind all slots.
+// Puts a text over the slot at an index, or after all slots.
 fn put(slots: &mut Vec<Gathered>, index: usize, text: &str) -> Result<(), Refusal>
     requires { index ≤ length slots.old.items }
     ensures ok { OnOk result (texts slots.new.items ≡ put_at index text.now (texts slots.old.items)) }

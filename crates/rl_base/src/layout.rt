@@ -121,7 +121,7 @@ pub struct Layout {
     pub cursor: Position,
     /// Where the line ends.
     pub end: Position,
-    /// Whether a hint or a message stands behind the line.
+    /// Whether a hint or a message stands after the line.
     pub has_info: bool,
 }
 

@@ -19,9 +19,9 @@ pub enum Word {
 pub enum At {
     /// At a word's first cluster (vi's `w`).
     Start,
-    /// At a word's last cluster (vi's `e`); for `Word::Emacs` behind it.
+    /// At a word's last cluster (vi's `e`); for `Word::Emacs` after it.
     BeforeEnd,
-    /// Behind a word (readline's `forward-word`).
+    /// After a word (readline's `forward-word`).
     AfterEnd,
 }
 
@@ -39,7 +39,7 @@ pub enum WordAction {
 /// Where a text is put, relative to the cursor. No call of these crates takes it: it is for an editor's commands.
 #[derive(Clone, Copy, Debug, Eq, PartialEq)]
 pub enum Anchor {
-    /// Behind the cursor (vi's `p`).
+    /// After the cursor (vi's `p`).
     After,
     /// Before the cursor (vi's `P`).
     Before,
@@ -54,7 +54,7 @@ pub enum CharSearch {
     ForwardBefore(char),
     /// Back, to the character (vi's `F`).
     Backward(char),
-    /// Back, to the place behind the character (vi's `T`).
+    /// Back, to the place after the character (vi's `T`).
     BackwardAfter(char),
 }
 
@@ -73,7 +73,7 @@ pub enum Movement {
     ForwardWord(RepeatCount, At, Word),
     /// To a character (vi's `f`, `t`, `F` and `T`).
     ViCharSearch(RepeatCount, CharSearch),
-    /// To the first place behind the text's start where a `Big` word starts (after vi's `^`).
+    /// To the first place after the text's start where a `Big` word starts (after vi's `^`).
     ViFirstPrint,
     /// Back by grapheme clusters (readline's `backward-char`, vi's `h`).
     BackwardChar(RepeatCount),

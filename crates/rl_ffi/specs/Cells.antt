@@ -14,18 +14,18 @@ abbrev pub is_newline : List ℕ → Bool
 is_newline cluster = bytes_eq cluster (10 ∷ []) || bytes_eq cluster (13 ∷ (10 ∷ []))
 
 module _ (mode : GraphemeClusterMode) (columns : ℕ) where
-  -- behind a cluster: a newline goes to the next row, and so does one that does not fit on what is left of its row
-  abbrev pub behind : ℕ × ℕ → List ℕ → ℕ × ℕ
-  behind at cluster =
+  -- after a cluster: a newline goes to the next row, and so does one that does not fit on what is left of its row
+  abbrev pub after : ℕ × ℕ → List ℕ → ℕ × ℕ
+  after at cluster =
       if is_newline cluster then (at.0 + 1, 0) else
       if nat_le (at.1 + width mode cluster) columns then (at.0, at.1 + width mode cluster) else
       (at.0 + 1, width mode cluster)
 
-  -- behind clusters, one after another
+  -- after clusters, one after another
   abbrev pub laid : ℕ × ℕ → List (List ℕ) → ℕ × ℕ
   laid at [] = at
-  laid at (cluster ∷ more) = laid (behind at cluster) more
+  laid at (cluster ∷ more) = laid (after at cluster) more
 
-  -- behind a text that begins at a column of row 0
+  -- after a text that begins at a column of row 0
   abbrev pub cell : ℕ → List ℕ → ℕ × ℕ
   cell prompt text = wrapped columns (laid (0, prompt) (clusters text))

@@ -1,12 +1,12 @@
 //! Laying a text out on a screen.
 ghost use Rattle.std.specs.Prelude.{◌≡◌, ◌+◌, ◌≤◌, ◌<◌, ◌^◌};
-ghost use Rattle.rl_ffi.specs.Cells.{behind, cell, wrapped};
+ghost use Rattle.rl_ffi.specs.Cells.{after, cell, wrapped};
 
 use rl_base::GraphemeClusterMode;
 use unicode_segmentation::UnicodeSegmentation;
 
-// The row and column behind a cluster that is laid out at a row and column.
-fn behind(
+// The row and column after a cluster that is laid out at a row and column.
+fn after(
     mode: GraphemeClusterMode,
     columns: u16,
     row: usize,
@@ -15,7 +15,7 @@ fn behind(
 ) -> (usize, usize)
     requires row { row < 2 ^ 63 }
     requires column { column ≤ 65535 }
-    ensures place { result ≡ behind mode columns (row, column) cluster.now }
+    ensures place { result ≡ after mode columns (row, column) cluster.now }
     ensures row { result.0 ≤ row + 1 }
     ensures column { result.1 ≤ 65535 }
 {
@@ -42,7 +42,7 @@ fn wrapped(columns: u16, row: usize, column: usize) -> (usize, usize)
     }
 }
 
-// The row and column behind a text that begins at a column of row 0.
+// The row and column after a text that begins at a column of row 0.
 pub(crate) fn cell(
     mode: GraphemeClusterMode,
     columns: u16,
@@ -54,7 +54,7 @@ pub(crate) fn cell(
     let mut row: usize = 0;
     let mut column = usize::from(prompt);
     for cluster in text.graphemes(true) {
-        (row, column) = behind(mode, columns, row, column, cluster);
+        (row, column) = after(mode, columns, row, column, cluster);
     }
     wrapped(columns, row, column)
 }

@@ -100,7 +100,7 @@ fn opened(
     }
 }
 
-/// Opens a session on a text, with the cursor at the byte place `pos`, in the place of the one that was there: DONE.
+/// Opens a session on a text, with the cursor at the byte place `pos`, and closes the one that was there: DONE.
 /// The line's limit is `limit` bytes, or the text's length where that is greater; the ring has room for `ring_size`
 /// texts. NO_SUCH_NUMBER (of the mode), NOT_UTF8, BAD_PLACE and NO_MEMORY leave the one that was there.
 #[unsafe(no_mangle)]
@@ -188,10 +188,10 @@ pub extern "C" fn lodvarn_yank(alloc: Global, s: &mut Handle, n: u16) -> u32
     call(alloc, s, Ok(Command::Yank(n)))
 }
 
-/// Puts the ring's text before in the place of the one that was just yanked, and answers as `lodvarn_insert` does.
-/// NONE where no yank was done last, which changes no text, and where the text before is empty or there is no room for
-/// it, when what was yanked is out. BAD_YANK_SIZE and CLOSED change nothing; NO_MEMORY leaves what the steps before it
-/// did.
+/// Replaces the text that was just yanked by the one before it in the ring (GNU readline: yank-pop), and answers as
+/// `lodvarn_insert` does. NONE where the last command was no yank: then no text changes. NONE too where the text before
+/// is empty, or longer than the limit leaves room for: then the yanked text is taken out. BAD_YANK_SIZE and CLOSED
+/// change nothing; NO_MEMORY stops it after the steps that it made.
 #[unsafe(no_mangle)]
 pub extern "C" fn lodvarn_yank_pop(alloc: Global, s: &mut Handle) -> u32
     ensures { Called (Ok Command.YankPop) s.old.value result s.new.value }
@@ -199,8 +199,8 @@ pub extern "C" fn lodvarn_yank_pop(alloc: Global, s: &mut Handle) -> u32
     call(alloc, s, Ok(Command::YankPop))
 }
 
-/// Puts a text in the place of the line's, with the cursor at a byte place of it: DONE. BAD_PLACE, NOT_UTF8 and CLOSED
-/// change nothing; NO_MEMORY leaves what the steps before it did.
+/// Replaces the whole text, and puts the cursor at a byte place of the new one: DONE. BAD_PLACE, NOT_UTF8 and CLOSED
+/// change nothing; NO_MEMORY stops it after the steps that it made.
 #[unsafe(no_mangle)]
 pub extern "C" fn lodvarn_update(alloc: Global, s: &mut Handle, text: &[u8], pos: usize) -> u32
     ensures { CalledWith text.now (λ t. Command.Update t pos) s.old.value result s.new.value }
@@ -211,7 +211,7 @@ pub extern "C" fn lodvarn_update(alloc: Global, s: &mut Handle, text: &[u8], pos
     }
 }
 
-/// Inserts a text at a byte place, and leaves the cursor at its own: TRUE or FALSE, whether the place was the end.
+/// Inserts a text at a byte place, and does not move the cursor: TRUE or FALSE, whether the place was the end.
 /// BAD_PLACE, NOT_UTF8, NO_MEMORY and CLOSED change no text.
 #[unsafe(no_mangle)]
 pub extern "C" fn lodvarn_insert_str(alloc: Global, s: &mut Handle, at: usize, text: &[u8]) -> u32
@@ -223,7 +223,7 @@ pub extern "C" fn lodvarn_insert_str(alloc: Global, s: &mut Handle, at: usize, t
     }
 }
 
-/// Puts a text in the place of what stands between two byte places: DONE. BAD_PLACE, NOT_UTF8, NO_MEMORY and CLOSED
+/// Replaces what stands between two byte places by a text: DONE. BAD_PLACE, NOT_UTF8, NO_MEMORY and CLOSED
 /// change no text.
 #[unsafe(no_mangle)]
 pub extern "C" fn lodvarn_replace(
@@ -306,7 +306,7 @@ pub extern "C" fn lodvarn_delete_prev_word(alloc: Global, s: &mut Handle, word: 
     }
 }
 
-/// Deletes to the start or the end of the n-th word ahead: TRUE or FALSE, whether there was anything. NO_MEMORY,
+/// Deletes up to the start or the end of the n-th word ahead: TRUE or FALSE, whether there was anything. NO_MEMORY,
 /// NO_SUCH_NUMBER and CLOSED change no text.
 #[unsafe(no_mangle)]
 pub extern "C" fn lodvarn_delete_word(
@@ -343,7 +343,7 @@ pub extern "C" fn lodvarn_delete_to(
 }
 
 /// Exchanges the clusters at the cursor: TRUE or FALSE, whether there were two. CLOSED changes nothing; NO_MEMORY
-/// leaves what the steps before it did.
+/// stops it after the steps that it made.
 #[unsafe(no_mangle)]
 pub extern "C" fn lodvarn_transpose_chars(alloc: Global, s: &mut Handle) -> u32
     ensures { Called (Ok Command.TransposeChars) s.old.value result s.new.value }
@@ -352,7 +352,7 @@ pub extern "C" fn lodvarn_transpose_chars(alloc: Global, s: &mut Handle) -> u32
 }
 
 /// Exchanges the word before the n-th word's end ahead with the word n words before it: TRUE or FALSE, whether there
-/// were two. CLOSED changes nothing; NO_MEMORY leaves what the steps before it did.
+/// were two. CLOSED changes nothing; NO_MEMORY stops it after the steps that it made.
 #[unsafe(no_mangle)]
 pub extern "C" fn lodvarn_transpose_words(alloc: Global, s: &mut Handle, n: u16) -> u32
     ensures { Called (Ok (Command.TransposeWords n)) s.old.value result s.new.value }
@@ -361,7 +361,7 @@ pub extern "C" fn lodvarn_transpose_words(alloc: Global, s: &mut Handle, n: u16)
 }
 
 /// Changes the letter case of the word at the cursor or ahead: TRUE or FALSE, whether there was one. NO_SUCH_NUMBER and
-/// CLOSED change nothing; NO_MEMORY leaves what the steps before it did.
+/// CLOSED change nothing; NO_MEMORY stops it after the steps that it made.
 #[unsafe(no_mangle)]
 pub extern "C" fn lodvarn_edit_word(alloc: Global, s: &mut Handle, action: u32) -> u32
     ensures { Called (named Command.EditWord (action_of action)) s.old.value result s.new.value }
@@ -384,7 +384,7 @@ pub extern "C" fn lodvarn_kill(alloc: Global, s: &mut Handle, movement: u32, n: 
 }
 
 /// Indents the lines of a movement by `amount` spaces, or dedents them by up to `amount` bytes of blanks: TRUE, also
-/// where nothing changed. NO_SUCH_NUMBER and CLOSED change nothing; NO_MEMORY leaves what the steps before it did.
+/// where nothing changed. NO_SUCH_NUMBER and CLOSED change nothing; NO_MEMORY stops it after the steps that it made.
 #[unsafe(no_mangle)]
 pub extern "C" fn lodvarn_indent(
     alloc: Global,
@@ -424,7 +424,7 @@ pub extern "C" fn lodvarn_undo(alloc: Global, s: &mut Handle, n: u16) -> u32
     call(alloc, s, Ok(Command::Undo(n)))
 }
 
-/// Does again what was undone last: TRUE or FALSE, whether there was a change. NO_MEMORY and CLOSED change no text.
+/// Redoes what was undone last: TRUE or FALSE, whether there was a change. NO_MEMORY and CLOSED change no text.
 #[unsafe(no_mangle)]
 pub extern "C" fn lodvarn_redo(alloc: Global, s: &mut Handle) -> u32
     ensures { Called (Ok Command.Redo) s.old.value result s.new.value }

@@ -1,4 +1,4 @@
-//! Sessions for C. C holds null or a session on the heap behind a handle, and passes the handle's address. Null is a
+//! Sessions for C. A handle is null, or points to a session on the heap; C passes the address of the handle. Null is a
 //! closed session, on which every call is harmless and says so. Each call answers a number.
 #![tactic(auto)]
 

@@ -26,7 +26,7 @@ pub extern "C" fn lodvarn_script(
 {
     let mut reader = script;
     let mut printed = Vec::new(alloc);
-    // A slice gives every byte, and a vector fails to take one only for want of memory.
+    // A slice gives every byte, and a vector fails to take one only where memory is out.
     let number = match run_script(alloc, &mut reader, &mut printed) {
         Ok(()) => DONE,
         Err(_) => NO_MEMORY,

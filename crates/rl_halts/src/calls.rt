@@ -81,7 +81,7 @@ fn insert_str(
     Ok(Some(Answer::Flag(at_end)))
 }
 
-// Puts the text in the place of so many bytes before the cursor.
+// Replaces so many bytes before the cursor by the text.
 fn yank_pop(
     line: &mut LineBuffer,
     size: usize,
@@ -96,7 +96,7 @@ fn yank_pop(
     Ok(Some(Answer::Inserted(inserted)))
 }
 
-// Puts the text in the place of the line's.
+// Replaces the line's text by this one.
 fn update(
     line: &mut LineBuffer,
     text: &str,
@@ -110,7 +110,7 @@ fn update(
     Ok(Some(Answer::Nothing))
 }
 
-// Puts the text in the place of the range, or takes the range out.
+// Replaces the range by the text, or takes the range out.
 fn replace(
     line: &mut LineBuffer,
     from: usize,

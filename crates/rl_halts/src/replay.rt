@@ -2,7 +2,7 @@
 use rl_base::laws::TextEvent;
 use std::alloc::{AllocError, Global};
 
-// The text with another one in the place of what stands at a place; None where that does not stand there.
+// The text where a part at a place is replaced by another; None where that part does not stand there.
 fn swapped(
     alloc: Global,
     text: &str,
@@ -11,7 +11,7 @@ fn swapped(
     new: &str,
 ) -> Result<Option<String>, AllocError> {
     let end = at.saturating_add(old.len());
-    let (Some(front), Some(gone), Some(behind)) = (
+    let (Some(front), Some(gone), Some(after)) = (
         text.get(..at),
         text.get(at..end),
         text.get(end..),
@@ -23,7 +23,7 @@ fn swapped(
     }
     let mut made = String::from_str(alloc, front)?;
     made.push_str(new)?;
-    made.push_str(behind)?;
+    made.push_str(after)?;
     Ok(Some(made))
 }
 

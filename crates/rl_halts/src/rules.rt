@@ -31,34 +31,34 @@ fn first_len(text: &str) -> usize {
 }
 
 // Whether a search from between the two texts hits.
-fn is_hit(cs: CharSearch, before: &str, behind: &str) -> bool {
+fn is_hit(cs: CharSearch, before: &str, after: &str) -> bool {
     match cs {
         CharSearch::Backward(c) | CharSearch::BackwardAfter(c) => before.contains(c),
-        CharSearch::Forward(c) | CharSearch::ForwardBefore(c) => behind
-            .get(first_len(behind)..)
+        CharSearch::Forward(c) | CharSearch::ForwardBefore(c) => after
+            .get(first_len(after)..)
             .is_some_and(|rest| rest.contains(c)),
     }
 }
 
 // Whether a kill with the cursor between the two texts deletes anything.
-fn kills(reach: Reach, n: RepeatCount, before: &str, behind: &str) -> bool {
+fn kills(reach: Reach, n: RepeatCount, before: &str, after: &str) -> bool {
     match reach {
-        Reach::WholeLine => !behind.is_empty() || !(before.is_empty() || before.ends_with('\n')),
+        Reach::WholeLine => !after.is_empty() || !(before.is_empty() || before.ends_with('\n')),
         Reach::BeginningOfLine | Reach::BeginningOfBuffer | Reach::BackwardWord(_) => {
             !before.is_empty()
         }
-        Reach::EndOfLine | Reach::EndOfBuffer => !behind.is_empty(),
+        Reach::EndOfLine | Reach::EndOfBuffer => !after.is_empty(),
         Reach::ForwardWord(At::AfterEnd, _) | Reach::ForwardWord(_, Word::Emacs) => {
-            !behind.is_empty()
+            !after.is_empty()
         }
-        Reach::ForwardWord(_, _) => n != 0 && first_len(behind) < behind.len(),
-        Reach::ViCharSearch(cs) => n != 0 && is_hit(cs, before, behind),
+        Reach::ForwardWord(_, _) => n != 0 && first_len(after) < after.len(),
+        Reach::ViCharSearch(cs) => n != 0 && is_hit(cs, before, after),
         Reach::ViFirstPrint => false,
         Reach::BackwardChar => n != 0 && !before.is_empty(),
-        Reach::ForwardChar => n != 0 && !behind.is_empty(),
+        Reach::ForwardChar => n != 0 && !after.is_empty(),
         Reach::LineUp => before.contains('\n'),
-        Reach::LineDown => behind.contains('\n'),
-        Reach::WholeBuffer => !before.is_empty() || !behind.is_empty(),
+        Reach::LineDown => after.contains('\n'),
+        Reach::WholeBuffer => !before.is_empty() || !after.is_empty(),
     }
 }
 
@@ -101,7 +101,7 @@ pub(crate) fn kill_count(case: &Case) -> u16 {
     }
 }
 
-// Whether a text of that length, so many times, fits behind one of that length.
+// Whether a text of that length, so many times, fits after one of that length.
 fn fits(case: &Case, held: usize, len: usize, n: RepeatCount) -> bool {
     case.grows || held.saturating_add(len.saturating_mul(usize::from(n))) <= case.limit()
 }
@@ -118,7 +118,7 @@ fn inserted(case: &Case, is_made: bool) -> Answer {
 // The answer of a deletion by a movement.
 fn killed(case: &Case, reach: Reach) -> bool {
     match (case.text.get(..case.cursor), case.text.get(case.cursor..)) {
-        (Some(before), Some(behind)) => kills(reach, case.count, before, behind),
+        (Some(before), Some(after)) => kills(reach, case.count, before, after),
         _ => false,
     }
 }
@@ -211,7 +211,7 @@ fn shifted(cursor: usize, event: &TextEvent) -> usize {
         .max(start)
 }
 
-// The cursor behind a pulled cluster and the first one of what stands behind it.
+// The cursor after a pulled cluster and the first one of what stands after it.
 fn past_next(text: &str, place: usize) -> usize {
     place.saturating_add(text.get(place..).map_or(0, first_len))
 }

@@ -105,13 +105,13 @@ ahead-step (suc d) (Deleted i s ps) rs = refl
 ahead-step zero (Replaced i s t ps) rs = refl
 ahead-step (suc d) (Replaced i s t ps) rs = refl
 
--- the first `at` entries were counted: so many groups are open behind them, and the whole unit has as many entries as these and what is left of it
+-- the first `at` entries were counted: so many groups are open after them, and the whole unit has as many entries as these and what is left of it
 pub record Counted (xs : List Change) (at d : ℕ) : Type 0 where
   pub within : at ≤ length xs
   pub small : d ≤ at
   pub unit : at + ahead_len d (map entry_of (drop at xs)) ≡ ahead_len 0 (map entry_of xs)
 
--- the entries from `at` on are the one there and those behind it
+-- the entries from `at` on are the one there and those after it
 front-read : (xs : List Change) (at : ℕ) (x : Change) → at < length xs → x ≡ get_or xs at x → map entry_of (drop at xs) ≡ entry_of x ∷ map entry_of (drop (at + 1) xs)
 front-read xs at x lt is =
     ap (map entry_of) (drop-cons xs at x lt) ∙ ap (λ (y : Change). entry_of y ∷ map entry_of (drop (suc at) xs)) (sym is)
@@ -124,7 +124,7 @@ next-unit xs at d x lt is c =
     let one : ahead_len d (map entry_of (drop at xs)) ≡ suc (rest_len (deep d (entry_of x ∷ [])) rest) = ap (ahead_len d) (front-read xs at x lt is) ∙ ahead-step d (entry_of x) rest in
     omega (arith, one, c.unit)
 
--- one entry more, where groups are open behind it
+-- one entry more, where groups are open after it
 pub Counted-next : (xs : List Change) (at d n : ℕ) (x : Change) → at < length xs → x ≡ get_or xs at x → Counted xs at d
     → n ≡ deep d (entry_of x ∷ []) → n ≤ d + 1 → 0 < n → Counted xs (at + 1) n
 Counted-next xs at d zero x lt is c e small some = absurd (omega arith)
@@ -134,7 +134,7 @@ Counted-next xs at d (suc n) x lt is c e small some = record {
   unit = ap (λ k. (at + 1) + rest_len k (map entry_of (drop (at + 1) xs))) e ∙ next-unit xs at d x lt is c;
 }
 
--- the unit ends where no group is open behind an entry, or where no entry is left
+-- the unit ends where no group is open after an entry, or where no entry is left
 pub Counted-end : (xs : List Change) (at d : ℕ) (x : Change) → IsMatched (map entry_of xs) → at < length xs → x ≡ get_or xs at x → Counted xs at d
     → 0 ≡ deep d (entry_of x ∷ []) → at + 1 ≡ length (redo_of (map entry_of xs))
 Counted-end xs at d x m lt is c e =
@@ -170,11 +170,11 @@ takes_begin-off [] e h = sym (ap (λ b. cond b [] (e ∷ (End ∷ []))) h)
 takes_begin-off (x ∷ []) e h = ap (λ l. x ∷ l) (takes_begin-off [] e h)
 takes_begin-off (x ∷ (y ∷ ys)) e h = ap (λ l. x ∷ l) (takes_begin-off (y ∷ ys) e h)
 
--- behind another entry comes an End
-adds_end-behind : (xs : List Entry) → ends_in_begin xs ≡ false → xs ++ End ∷ [] ≡ end_one xs
-adds_end-behind [] h = refl
-adds_end-behind (x ∷ []) h = sym (ap (λ b. cond b [] (x ∷ (End ∷ []))) h)
-adds_end-behind (x ∷ (y ∷ ys)) h = ap (λ l. x ∷ l) (adds_end-behind (y ∷ ys) h)
+-- after another entry comes an End
+adds_end-after : (xs : List Entry) → ends_in_begin xs ≡ false → xs ++ End ∷ [] ≡ end_one xs
+adds_end-after [] h = refl
+adds_end-after (x ∷ []) h = sym (ap (λ b. cond b [] (x ∷ (End ∷ []))) h)
+adds_end-after (x ∷ (y ∷ ys)) h = ap (λ l. x ∷ l) (adds_end-after (y ∷ ys) h)
 
 -- a Begin that is popped, and an End that is pushed
 pub end_one-popped : (xs ys : List Change) (o : Option Change) → xs ≡ ys ++ option_to_list o → (0 < length xs → IsSome o) → ends_in_begin (map entry_of xs) ≡ true
@@ -187,7 +187,7 @@ end_one-popped (x ∷ xs) ys o e some h =
 
 pub end_one-pushed : (xs ys : List Change) (x : Change) → ys ≡ xs ++ x ∷ [] → entry_of x ≡ End → ends_in_begin (map entry_of xs) ≡ false → map entry_of ys ≡ end_one (map entry_of xs)
 end_one-pushed xs ys x e end h =
-    ap (map entry_of) e ∙ map-append entry_of xs (x ∷ []) ∙ ap (λ (y : Entry). map entry_of xs ++ y ∷ []) end ∙ adds_end-behind (map entry_of xs) h
+    ap (map entry_of) e ∙ map-append entry_of xs (x ∷ []) ∙ ap (λ (y : Entry). map entry_of xs ++ y ∷ []) end ∙ adds_end-after (map entry_of xs) h
 
 -- one group less to close
 pub closes-next : (count i : ℕ) (es next all : List Entry) → i < count → next ≡ end_one es → end_times (count - i) es ≡ all → end_times (count - (i + 1)) next ≡ all

@@ -98,7 +98,7 @@ group_at xs h =
         made fs (cut_good xs [] (true ∷ fs) tt k).1 (closes (units xs) [] (length fs) (level-is xs (true ∷ fs) k ∙ (omega arith)))
 
 -- ---- a group without a change
--- n groups, opened one behind another
+-- n groups, opened one after another
 begins : ℕ → List Entry
 begins zero = []
 begins (suc n) = Begin ∷ begins n
@@ -138,27 +138,27 @@ ends_in_begin-begin (Inserted i s ps ∷ (d ∷ ds)) = ends_in_begin-begin (d �
 ends_in_begin-begin (Deleted i s ps ∷ (d ∷ ds)) = ends_in_begin-begin (d ∷ ds)
 ends_in_begin-begin (Replaced i s t ps ∷ (d ∷ ds)) = ends_in_begin-begin (d ∷ ds)
 
--- groups opened behind entries: how many are open, and what their ends do
-record OpenBehind (es : List Entry) (n : ℕ) (all : List Entry) : Type 0 where
+-- groups opened after entries: how many are open, and what their ends do
+record OpenAfter (es : List Entry) (n : ℕ) (all : List Entry) : Type 0 where
   level_is : level all ≡ n + level es
   ends : end_times n all ≡ es
   adds : adds_end n all ≡ false
 
-open_behind : (es : List Entry) (n : ℕ) → OpenBehind es n (es ++ begins n)
+open_after : (es : List Entry) (n : ℕ) → OpenAfter es n (es ++ begins n)
 unfolding begins
-open_behind es zero = subst (OpenBehind es 0) (sym (append-nil es)) (record { level_is = omega arith; ends = refl; adds = refl })
-open_behind es (suc n) =
-    let b = open_behind es n in
+open_after es zero = subst (OpenAfter es 0) (sym (append-nil es)) (record { level_is = omega arith; ends = refl; adds = refl })
+open_after es (suc n) =
+    let b = open_after es n in
     let last : es ++ begins (suc n) ≡ (es ++ begins n) ++ Begin ∷ [] = ap (λ x. es ++ x) (begins-last n) ∙ sym (append_assoc es (begins n) (Begin ∷ [])) in
     let up : level ((es ++ begins n) ++ Begin ∷ []) ≡ suc (level (es ++ begins n)) = ap opens (cut_more-append [] (es ++ begins n) (Begin ∷ [])) in
-    subst (OpenBehind es (suc n)) (sym last)
+    subst (OpenAfter es (suc n)) (sym last)
     (record {
       level_is = up ∙ ap suc b.level_is ∙ (omega arith);
       ends = ap (end_times n) (end_one-begin (es ++ begins n)) ∙ b.ends;
       adds = ap (λ x. not x || adds_end n (end_one ((es ++ begins n) ++ Begin ∷ []))) (ends_in_begin-begin (es ++ begins n)) ∙ ap (adds_end n) (end_one-begin (es ++ begins n)) ∙ b.adds;
     })
 
--- what happens behind a Begin happens to what stands behind it
+-- what happens after a Begin happens to what stands after it
 entries_after-begin : (event : Event) (ys : List Entry) → entries_after event (Begin ∷ ys) ≡ Begin ∷ entries_after event ys
 entries_after-begin (InsertChar i c) [] = refl
 entries_after-begin (InsertStr i s) [] = refl
@@ -174,7 +174,7 @@ entries_after-inside event [] ys = entries_after-begin event ys
 entries_after-inside event (x ∷ []) ys = ap (λ l. x ∷ l) (entries_after-begin event ys)
 entries_after-inside event (x ∷ (z ∷ zs)) ys = ap (λ l. x ∷ l) (entries_after-inside event (z ∷ zs) ys)
 
--- what stands in the record behind the Begin of an open group
+-- what stands in the record after the Begin of an open group
 pub record InsideOf (front es : List Entry) : Type 0 where
   pub inner : List Entry
   pub is : es ≡ front ++ Begin ∷ inner
@@ -214,10 +214,10 @@ pub past_begin : (xs ys : List Entry) → drop (suc (length xs)) (xs ++ Begin �
 past_begin [] ys = refl
 past_begin (x ∷ xs) ys = past_begin xs ys
 
--- where no change was recorded behind the begin, all that stands there is a Begin
+-- where no change was recorded after the begin, all that stands there is a Begin
 open_groups : (r : Record) (steps : List InGroup) → level r.recorded ≡ 0
     → has_change (drop (suc (length r.recorded)) (after_in_group steps (begun r)).recorded) ≡ false
-    → OpenBehind r.recorded (level (after_in_group steps (begun r)).recorded) (after_in_group steps (begun r)).recorded
+    → OpenAfter r.recorded (level (after_in_group steps (begun r)).recorded) (after_in_group steps (begun r)).recorded
 unfolding begins quiet
 open_groups r steps none c =
     let k = Inside-steps steps r.recorded (begun r) (record { inner = []; is = refl; matched = refl }) in
@@ -225,8 +225,8 @@ open_groups r steps none c =
     let all = all_begins k.inner [] (ap has_change (sym inner_is) ∙ c) refl k.matched in
     let n = suc (length k.inner) in
     let is : r.recorded ++ begins n ≡ (after_in_group steps (begun r)).recorded = sym (k.is ∙ ap (λ x. r.recorded ++ Begin ∷ x) all) in
-    let o = subst (OpenBehind r.recorded n) is (open_behind r.recorded n) in
-    subst (λ m. OpenBehind r.recorded m (after_in_group steps (begun r)).recorded) (sym (o.level_is ∙ ap (λ m. n + m) none ∙ add-zero n)) o
+    let o = subst (OpenAfter r.recorded n) is (open_after r.recorded n) in
+    subst (λ m. OpenAfter r.recorded m (after_in_group steps (begun r)).recorded) (sym (o.level_is ∙ ap (λ m. n + m) none ∙ add-zero n)) o
 
 -- its end leaves what was recorded before its begin, and adds no End
 pub group-empty : (r : Record) (steps : List InGroup) → level r.recorded ≡ 0

@@ -1,4 +1,4 @@
--- The steps of an indent: the parts that spaces go in by, the places behind a change at the start of a line, and the
+-- The steps of an indent: the parts that spaces go in by, the places after a change at the start of a line, and the
 -- lines that are left.
 use Rattle.std.proofs.Common.{Some, ◌≡◌, ℕ, zero, suc, ◌+◌, ◌-◌, ◌*◌, sum, length-append, ◌/◌, ◌%◌, ◌<◌, ◌≤◌, Bool, true, false, List, [], ◌∷◌, ◌++◌, length, take, drop, slice_range, min, max, refl, sym, ap, ap₂, subst, ◌∙◌, arith, append_assoc, ltb-true, ltb-false, eqb, eqb-true, ne_eqb, get_or, drop-cons}
 use Rattle.std.specs.Prelude.{◌==◌, nat_lt, if◌then◌else◌}
@@ -17,15 +17,15 @@ use Rattle.rl_base.specs.Lines.{lines, last_line, line_number, text_of_line, sta
 use Rattle.rl_base.specs.Text.{greatest_boundary}
 use Rattle.rl_base.specs.declared.listeners.Direction.TheVariants.{Forward}
 use Rattle.rl_base.specs.declared.listeners.Refusal.{Refusal}
-use Rattle.rl_base.proofs.LineLemmas.{count_of_lines, count-parts, end-from, lies, lines-behind, lines_some, newlines-line, start-next, text-between}
-use Rattle.rl_base.proofs.TextLemmas.{drop-behind, IsCharBoundary-before, IsCharBoundary-behind, IsCharBoundary-before_removal, IsCharBoundary-at_removal, removed-is_replaced, greatest_boundary-is}
+use Rattle.rl_base.proofs.LineLemmas.{count_of_lines, count-parts, end-from, lies, lines-after, lines_some, newlines-line, start-next, text-between}
+use Rattle.rl_base.proofs.TextLemmas.{drop-after, IsCharBoundary-before, IsCharBoundary-after, IsCharBoundary-before_removal, IsCharBoundary-at_removal, removed-is_replaced, greatest_boundary-is}
 use Rattle.rl_line.specs.Indents.{blanks, line_plan, lines_plan, spaces, parts, put_spaces, pushed, pulled}
 use Rattle.rl_line.specs.Plan.{Plan, Step, after, Taken, Completed, Done, Halted, after_steps, single}
 use Rattle.rl_line.specs.Line.{Line, stepped}
 use Rattle.rl_base.proofs.EventLemmas.{Deletes-from_IsSome, Inserts-from_IsSome}
 use Rattle.rl_line.proofs.LineStartLemmas.{newlines-append}
 use Rattle.rl_line.proofs.EditLemmas.{length-repeat}
-use Rattle.rl_line.proofs.PlanLemmas.{first_step, Halted-behind, Halted-front, Taken-append, Taken-nil}
+use Rattle.rl_line.proofs.PlanLemmas.{first_step, Halted-back, Halted-front, Taken-append, Taken-nil}
 
 -- ---- parts of at most 32
 abbrev turns : ℕ → ℕ → List ℕ
@@ -77,9 +77,9 @@ pushed-pushed i m n cursor = grind (arith, nat_tests)
 pub pushed-none : (i cursor : ℕ) → pushed i 0 cursor ≡ cursor
 pushed-none i cursor = grind (arith, nat_tests)
 
--- ---- what stands behind a change
-pub drop-behind_removal : (text : List ℕ) (i j q k : ℕ) → i ≤ length text → j ≤ q → k ≡ i + (q - j) → drop k (remove_range text i j) ≡ drop q text
-drop-behind_removal text i j q k within le e = ap (drop k) (removed-is_replaced text i j) ∙ drop-behind text i j q k [] within le (omega (arith, e))
+-- ---- what stands after a change
+pub drop-after_removal : (text : List ℕ) (i j q k : ℕ) → i ≤ length text → j ≤ q → k ≡ i + (q - j) → drop k (remove_range text i j) ≡ drop q text
+drop-after_removal text i j q k within le e = ap (drop k) (removed-is_replaced text i j) ∙ drop-after text i j q k [] within le (omega (arith, e))
 
 pub IsCharBoundary-pushed : (text : List ℕ) (i cursor : ℕ) (s : List ℕ) → IsUtf8 text → IsUtf8 s → IsCharBoundary text i → IsCharBoundary text cursor
     → IsCharBoundary (insert_slice text i s) (pushed i (length s) cursor)
@@ -87,7 +87,7 @@ IsCharBoundary-pushed text i cursor s u v start at = from (nat_lt cursor i) refl
   where
     from : (b : Bool) → nat_lt cursor i ≡ b → IsCharBoundary (insert_slice text i s) (if b then cursor else cursor + length s)
     from true e = IsCharBoundary-before text i i cursor s u v start start at (let l = ltb-true cursor i e in omega arith)
-    from false e = let l : i ≤ cursor = ltb-false cursor i e in IsCharBoundary-behind text i i cursor (cursor + length s) s u start.0 at l (omega arith)
+    from false e = let l : i ≤ cursor = ltb-false cursor i e in IsCharBoundary-after text i i cursor (cursor + length s) s u start.0 at l (omega arith)
 
 -- a boundary of a part of a text is one of the text, where the part ends at one
 pub IsCharBoundary-from_part : (text : List ℕ) (i j k : ℕ) → i ≤ j → IsCharBoundary text j → IsCharBoundary (slice_range text i j) k → IsCharBoundary text (i + k)
@@ -117,7 +117,7 @@ IsCharBoundary-pulled text i j n cursor u le is start end at = from (nat_lt curs
     from false false e f =
         let l = ltb-false cursor i e in
         let m = ltb-false cursor j f in
-        subst (λ t. IsCharBoundary t (max i (cursor - n))) (sym (removed-is_replaced text i j)) (IsCharBoundary-behind text i j cursor (max i (cursor - n)) [] u start.0 at m (omega arith))
+        subst (λ t. IsCharBoundary t (max i (cursor - n))) (sym (removed-is_replaced text i j)) (IsCharBoundary-after text i j cursor (max i (cursor - n)) [] u start.0 at m (omega arith))
 
 -- ---- the blanks at the start of a line's text
 front-between : (text : List ℕ) (i j n : ℕ) → n ≤ j - i → take n (slice_range text i j) ≡ slice_range text i (i + n)
@@ -140,8 +140,8 @@ line_plan-dedent text i j n least gone cursor place part rest order within part_
     ∙ ap₂ (λ (k : ℕ) (stop : ℕ). single (Delete i (slice_range text i (i + gone)) Forward) (pulled i k cursor) stop) len (ap (λ k. i + length part - k) len ∙ stop)
     ∙ ap (λ k. single (Delete i (slice_range text i (i + gone)) Forward) k (j - gone)) (sym place_is)
 
--- ---- what a shift of a line leaves: as many newlines, and behind k what stood behind q
-record KeepsBehind (old new : List ℕ) (q k : ℕ) : Type 0 where
+-- ---- what a shift of a line leaves: as many newlines, and after k what stood after q
+record KeepsAfter (old new : List ℕ) (q k : ℕ) : Type 0 where
   count : last_line new ≡ last_line old
   rest : drop k new ≡ drop q old
   within : k ≤ length new
@@ -150,8 +150,8 @@ newlines-spaces : (n : ℕ) → last_line (spaces n) ≡ 0
 newlines-spaces zero = refl
 newlines-spaces (suc n) = newlines-append (32 ∷ []) (spaces n) ∙ (omega (arith, newlines-spaces n))
 
-KeepsBehind-InsertStr : (text after : List ℕ) (i n q : ℕ) → i ≤ q → q ≤ length text → apply (InsertStr i (spaces n)) text ≡ Some after → KeepsBehind text after q (q + n)
-KeepsBehind-InsertStr text after i n q le inside h =
+KeepsAfter-InsertStr : (text after : List ℕ) (i n q : ℕ) → i ≤ q → q ≤ length text → apply (InsertStr i (spaces n)) text ≡ Some after → KeepsAfter text after q (q + n)
+KeepsAfter-InsertStr text after i n q le inside h =
     let s = spaces n in
     let is : insert_slice text i s ≡ after = same_Some _ _ (sym (Inserts-from_IsSome text i s (ap is_some h)).makes ∙ h) in
     let front = take i text ++ s in
@@ -165,7 +165,7 @@ KeepsBehind-InsertStr text after i n q le inside h =
         newlines-append (take i text) (drop i text),
         ap last_line (take-append-drop i text),
       );
-      rest = ap (drop (q + n)) (sym is) ∙ drop-behind text i i q (q + n) s (omega arith) le (omega (arith, length-spaces n));
+      rest = ap (drop (q + n)) (sym is) ∙ drop-after text i i q (q + n) s (omega arith) le (omega (arith, length-spaces n));
       within = omega (
         arith,
         ap length (sym is),
@@ -177,9 +177,9 @@ KeepsBehind-InsertStr text after i n q le inside h =
       );
     }
 
-KeepsBehind-Delete : (text after : List ℕ) (i q : ℕ) (s : List ℕ) (side : Direction) → i + length s ≤ q → q ≤ length text → last_line s ≡ 0 → apply (Delete i s side) text ≡ Some after
-    → KeepsBehind text after q (q - length s)
-KeepsBehind-Delete text after i q s side le inside none h =
+KeepsAfter-Delete : (text after : List ℕ) (i q : ℕ) (s : List ℕ) (side : Direction) → i + length s ≤ q → q ≤ length text → last_line s ≡ 0 → apply (Delete i s side) text ≡ Some after
+    → KeepsAfter text after q (q - length s)
+KeepsAfter-Delete text after i q s side le inside none h =
     let d = Deletes-from_IsSome text i s side (ap is_some h) in
     let j = i + length s in
     let is : remove_range text i j ≡ after = same_Some _ _ (sym d.makes ∙ h) in
@@ -198,7 +198,7 @@ KeepsBehind-Delete text after i q s side le inside none h =
         none,
         ap last_line (drop-drop (length s) i text),
       );
-      rest = ap (drop (q - length s)) (sym is) ∙ drop-behind_removal text i j q (q - length s) (omega arith) le (omega arith);
+      rest = ap (drop (q - length s)) (sym is) ∙ drop-after_removal text i j q (q - length s) (omega arith) le (omega arith);
       within = omega (
         arith,
         ap length (sym is),
@@ -208,16 +208,16 @@ KeepsBehind-Delete text after i q s side le inside none h =
       );
     }
 
-KeepsBehind-put : (ps : List ℕ) (i q cursor : ℕ) (old new : Line) → i ≤ q → q ≤ length old.text → after (put_spaces ps i cursor) old ≡ Some new → KeepsBehind old.text new.text q (q + sum ps)
-KeepsBehind-put [] i q cursor old new le inside h =
+KeepsAfter-put : (ps : List ℕ) (i q cursor : ℕ) (old new : Line) → i ≤ q → q ≤ length old.text → after (put_spaces ps i cursor) old ≡ Some new → KeepsAfter old.text new.text q (q + sum ps)
+KeepsAfter-put [] i q cursor old new le inside h =
     let is : old.text ≡ new.text = ap (λ (l : Line). l.text) (same_Some _ _ h) in
     let none : q + 0 ≡ q = omega arith in
     record { count = ap last_line (sym is); rest = ap₂ drop none (sym is); within = omega (arith, ap length is) }
-KeepsBehind-put (n ∷ more) i q cursor old new le inside h =
+KeepsAfter-put (n ∷ more) i q cursor old new le inside h =
     let at = pushed i n cursor in
     let b = first_step (InsertStr i (spaces n), at) (put_spaces more i at) old new h in
-    let one : KeepsBehind old.text b.text q (q + n) = KeepsBehind-InsertStr old.text b.text i n q le inside b.makes in
-    let others : KeepsBehind b.text new.text (q + n) (q + n + sum more) = KeepsBehind-put more i (q + n) at (stepped old b.text at) new (omega arith) one.within b.rest in
+    let one : KeepsAfter old.text b.text q (q + n) = KeepsAfter-InsertStr old.text b.text i n q le inside b.makes in
+    let others : KeepsAfter b.text new.text (q + n) (q + n + sum more) = KeepsAfter-put more i (q + n) at (stepped old b.text at) new (omega arith) one.within b.rest in
     let all : q + sum (n ∷ more) ≡ q + n + sum more = omega (arith, sum_by-cons (λ x. x) n more) in
     record {
       count = others.count ∙ one.count;
@@ -237,19 +237,19 @@ sum-parts n = sum_by-append (λ x. x) (repeat (n / 32) (32 ∷ [])) _ ∙ (omega
     rest false e = omega arith
 
 -- the plan's answer is the place where the line's text ends then
-KeepsBehind-line_plan : (dedent : Bool) (n : ℕ) (part : List ℕ) (i q cursor : ℕ) (old new : Line) → q ≡ i + length part → q ≤ length old.text → last_line part ≡ 0
-    → after (line_plan dedent n part i cursor).steps old ≡ Some new → KeepsBehind old.text new.text q (line_plan dedent n part i cursor).answer
-KeepsBehind-line_plan false n part i q cursor old new is inside none h =
+KeepsAfter-line_plan : (dedent : Bool) (n : ℕ) (part : List ℕ) (i q cursor : ℕ) (old new : Line) → q ≡ i + length part → q ≤ length old.text → last_line part ≡ 0
+    → after (line_plan dedent n part i cursor).steps old ≡ Some new → KeepsAfter old.text new.text q (line_plan dedent n part i cursor).answer
+KeepsAfter-line_plan false n part i q cursor old new is inside none h =
     let answer : q + sum (parts n) ≡ i + length part + n = omega (arith, sum-parts n) in
-    subst (KeepsBehind old.text new.text q) answer (KeepsBehind-put (parts n) i q cursor old new (omega arith) inside h)
-KeepsBehind-line_plan true n part i q cursor old new is inside none h =
+    subst (KeepsAfter old.text new.text q) answer (KeepsAfter-put (parts n) i q cursor old new (omega arith) inside h)
+KeepsAfter-line_plan true n part i q cursor old new is inside none h =
     let most = greatest_boundary part (min n (length part - length (trim_start part))) in
     let gone = blanks n part in
     let b = first_step (Delete i gone Forward, pulled i (length gone) cursor) [] old new h in
     let text : b.text ≡ new.text = ap (λ (l : Line). l.text) (same_Some _ _ b.rest) in
     let short : length gone ≤ length part = omega (arith, length-append (take most part) (drop most part), ap length (take-append-drop most part)) in
     let blank : last_line gone ≡ 0 = omega (arith, newlines-append (take most part) (drop most part), ap last_line (take-append-drop most part)) in
-    subst (KeepsBehind old.text new.text q) (omega arith) (subst (λ t. KeepsBehind old.text t q (q - length gone)) text (KeepsBehind-Delete old.text b.text i q gone Forward (omega arith) inside blank b.makes))
+    subst (KeepsAfter old.text new.text q) (omega arith) (subst (λ t. KeepsAfter old.text t q (q - length gone)) text (KeepsAfter-Delete old.text b.text i q gone Forward (omega arith) inside blank b.makes))
 
 -- ---- from line to line
 -- the lines before line k are done: those that are left are as they were, from where line k begins now
@@ -265,7 +265,7 @@ record EndsLine (text other : List ℕ) (k stop : ℕ) : Type 0 where
   start : start_of_line text (k + 1) ≡ stop + 1
   rest : drop (k + 1) (lines text) ≡ drop (k + 1) (lines other)
 
-ends_line : (old new : List ℕ) (k stop : ℕ) → k < length (lines old) → KeepsBehind old new (end_of_line old k) stop → EndsLine new old k stop
+ends_line : (old new : List ℕ) (k stop : ℕ) → k < length (lines old) → KeepsAfter old new (end_of_line old k) stop → EndsLine new old k stop
 ends_line old new k stop l kept =
     let e = end_of_line old k in
     let at = lies old k l in
@@ -275,7 +275,7 @@ ends_line old new k stop l kept =
     let end : end_of_line new k ≡ stop = ap (end_of_line new) (sym number) ∙ end-from new stop some.0 some.1 kept.within (ap lines kept.rest ∙ some.2) ∙ (omega (arith, none)) in
     record {
       start = omega (arith, end, start-next new k (omega (arith, count_of_lines new, count_of_lines old, kept.count, l)));
-      rest = ap (λ j. drop (j + 1) (lines new)) (sym number) ∙ lines-behind new stop ∙ ap (λ t. drop 1 (lines t)) kept.rest ∙ sym (lines-behind old e) ∙ ap (λ j. drop (j + 1) (lines old)) at.number_stop;
+      rest = ap (λ j. drop (j + 1) (lines new)) (sym number) ∙ lines-after new stop ∙ ap (λ t. drop 1 (lines t)) kept.rest ∙ sym (lines-after old e) ∙ ap (λ j. drop (j + 1) (lines old)) at.number_stop;
     }
 
 module _ {L : Type 0} (step : L → Event → L) (dedent : Bool) (n : ℕ) where
@@ -317,7 +317,7 @@ module _ {L : Type 0} (step : L → Event → L) (dedent : Bool) (n : ℕ) where
       LinesDone-halted refused new there r halted =
           let one = line_plan dedent n (slice_range now.text start stop) start now.cursor in
           let others = lines_plan dedent n (slice_range (lines old.text) (k + 1) (final + 1)) (one.answer + 1) one.cursor in
-          Halted-behind step refused plan (after_steps one.steps others) h.done old now new before here there r h.taken
+          Halted-back step refused plan (after_steps one.steps others) h.done old now new before here there r h.taken
           (Halted-front step refused (after_steps one.steps others) one others.steps now new here there r halted refl) (ap (λ (p : Plan Bool). p.steps) next)
 
       pub LinesDone-more : (new : Line) (there : L) → Completed step (line_plan dedent n (slice_range now.text start stop) start now.cursor) now new here there
@@ -326,9 +326,9 @@ module _ {L : Type 0} (step : L → Event → L) (dedent : Bool) (n : ℕ) where
           let part = slice_range now.text start stop in
           let here_plan = line_plan dedent n part start now.cursor in
           let line : part ≡ text_of_line now.text k = text-between now.text k start stop small start_is stop_is in
-          let behind : KeepsBehind now.text new.text stop here_plan.answer =
-          KeepsBehind-line_plan dedent n part start stop now.cursor now new (omega (arith, ap length line)) (omega (arith, (lies now.text k small).within)) (ap last_line line ∙ newlines-line now.text k small) one.taken.line in
-          let ends : EndsLine new.text now.text k here_plan.answer = ends_line now.text new.text k here_plan.answer small (subst (λ q. KeepsBehind now.text new.text q here_plan.answer) stop_is behind) in
+          let after : KeepsAfter now.text new.text stop here_plan.answer =
+          KeepsAfter-line_plan dedent n part start stop now.cursor now new (omega (arith, ap length line)) (omega (arith, (lies now.text k small).within)) (ap last_line line ∙ newlines-line now.text k small) one.taken.line in
+          let ends : EndsLine new.text now.text k here_plan.answer = ends_line now.text new.text k here_plan.answer small (subst (λ q. KeepsAfter now.text new.text q here_plan.answer) stop_is after) in
           let later = slice_range (lines old.text) (k + 1) (final + 1) in
           let others_plan = lines_plan dedent n later (here_plan.answer + 1) here_plan.cursor in
           record {
@@ -337,5 +337,5 @@ module _ {L : Type 0} (step : L → Event → L) (dedent : Bool) (n : ℕ) where
             left = next ∙ ap (λ ss. record others_plan { steps = ss }) (sym (append_assoc h.done here_plan.steps others_plan.steps))
                 ∙ ap₂ (λ i c. after_steps (h.done ++ here_plan.steps) (lines_plan dedent n later i c)) (sym ends.start) (sym one.cursor);
             rest = ends.rest ∙ sym (drop-drop 1 k (lines now.text)) ∙ ap (drop 1) h.rest ∙ drop-drop 1 k (lines old.text);
-            count = behind.count ∙ h.count;
+            count = after.count ∙ h.count;
           }

@@ -74,9 +74,9 @@ first_byte : (word : List ℕ) (first : ℕ) → first ≡ min 1 (length word) �
 first_byte [] first e = let none : first ≡ 0 = omega arith in (rw none refl, rw none refl)
 first_byte (c ∷ cs) first e = let one : first ≡ 1 = omega arith in (ap (λ n. take n (c ∷ cs)) one, ap (λ n. drop n (c ∷ cs)) one)
 
-pub capitalized-ascii : (word front behind upper lower made : List ℕ) (first : ℕ) → IsAscii word → first ≡ min 1 (length word) → front ≡ take first word → behind ≡ drop first word
-    → (IsAscii front → upper ≡ map to_ascii_uppercase front) → (IsAscii behind → lower ≡ map to_ascii_lowercase behind) → made ≡ upper ++ lower → made ≡ recased Capitalize word
-capitalized-ascii word front behind upper lower made first a n f b up low is =
+pub capitalized-ascii : (word front after upper lower made : List ℕ) (first : ℕ) → IsAscii word → first ≡ min 1 (length word) → front ≡ take first word → after ≡ drop first word
+    → (IsAscii front → upper ≡ map to_ascii_uppercase front) → (IsAscii after → lower ≡ map to_ascii_lowercase after) → made ≡ upper ++ lower → made ≡ recased Capitalize word
+capitalized-ascii word front after upper lower made first a n f b up low is =
     let cut = first_byte word first n in
     let raised : upper ≡ map to_ascii_uppercase (take 1 word) = up (subst IsAscii (sym f) (IsAscii-take word first a)) ∙ ap (map to_ascii_uppercase) (f ∙ cut.0) in
     let lowered : lower ≡ map to_ascii_lowercase (drop 1 word) = low (subst IsAscii (sym b) (IsAscii-drop word first a)) ∙ ap (map to_ascii_lowercase) (b ∙ cut.1) in

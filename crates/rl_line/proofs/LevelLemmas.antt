@@ -148,13 +148,13 @@ front-matched xs at h =
     IsMatched-front (map entry_of (take at xs)) (map entry_of (drop at xs))
     (subst IsMatched (ap (map entry_of) (sym (take-append-drop at xs)) ∙ map-append entry_of (take at xs) (drop at xs)) h)
 
--- n groups are open behind the first `at` entries
+-- n groups are open after the first `at` entries
 pub record LevelAt (xs : List Change) (len at n : ℕ) : Type 0 where
   pub within : at ≤ length xs
   pub cut : length xs - at ≤ length xs - len
   pub level : n ≡ level (map entry_of (take at xs))
 
--- the entries behind which the count stands are those before the last of them, and that one
+-- the entries after which the count stands are those before the last of them, and that one
 front-last : (xs : List Change) (len at : ℕ) (z x : Change) → len < at → at ≤ length xs → get_or xs (at - 1) z ≡ x
     → map entry_of (take at xs) ≡ map entry_of (take (at - 1) xs) ++ entry_of x ∷ []
 front-last xs len at z x lt within e =

@@ -15,8 +15,8 @@ use Rattle.rl_base.specs.Lines.{is_newline, lines, bytes_of, last_line, line_num
 use Rattle.rl_base.proofs.LineLemmas.{count-parts, lines_some, count_of_lines, start-before, start-next, end-last}
 use Rattle.rl_line.specs.Line.{between}
 use Rattle.rl_line.specs.LineRanges.{range_of_line}
-use Rattle.rl_line.specs.LineStarts.{behind_newlines, line_starts, from_end, IsTable}
-use Rattle.rl_line.proofs.LineStartLemmas.{behind_newlines-cons, behind_newlines-within, length-line_starts, length-table, newlines-take, parts, read-before, read-from, read-within}
+use Rattle.rl_line.specs.LineStarts.{after_newlines, line_starts, from_end, IsTable}
+use Rattle.rl_line.proofs.LineStartLemmas.{after_newlines-cons, after_newlines-within, length-line_starts, length-table, newlines-take, parts, read-before, read-from, read-within}
 
 -- ---- the places where lines begin: the table, with the start of the text before it
 -- where lines begin, the first of which begins at `from`
@@ -24,14 +24,14 @@ abbrev places : ℕ → List (List ℕ) → List ℕ
 places from [] = []
 places from (line ∷ more) = from ∷ places (from + length line + 1) more
 
-places-lines : (from : ℕ) (text : List ℕ) → places from (lines text) ≡ from ∷ behind_newlines (from + 1) text
+places-lines : (from : ℕ) (text : List ℕ) → places from (lines text) ≡ from ∷ after_newlines (from + 1) text
 places-lines from [] = refl
 places-lines from (b ∷ bs) =
     let some = lines_some bs in
-    one (places-lines (from + 1) bs) (is_newline b) some.0 some.1 some.2 ∙ ap (λ l. from ∷ l) (sym (behind_newlines-cons (from + 1) b bs))
+    one (places-lines (from + 1) bs) (is_newline b) some.0 some.1 some.2 ∙ ap (λ l. from ∷ l) (sym (after_newlines-cons (from + 1) b bs))
   where
-    one : places (from + 1) (lines bs) ≡ (from + 1) ∷ behind_newlines (from + 1 + 1) bs → (is : Bool) (line : List ℕ) (more : List (List ℕ)) → lines bs ≡ line ∷ more
-        → places from (cond is ([] ∷ lines bs) (onto_first b (lines bs))) ≡ from ∷ cond is ((from + 1) ∷ behind_newlines (from + 1 + 1) bs) (behind_newlines (from + 1 + 1) bs)
+    one : places (from + 1) (lines bs) ≡ (from + 1) ∷ after_newlines (from + 1 + 1) bs → (is : Bool) (line : List ℕ) (more : List (List ℕ)) → lines bs ≡ line ∷ more
+        → places from (cond is ([] ∷ lines bs) (onto_first b (lines bs))) ≡ from ∷ cond is ((from + 1) ∷ after_newlines (from + 1 + 1) bs) (after_newlines (from + 1 + 1) bs)
     one later true line more e =
         let same : from + 0 + 1 ≡ from + 1 = omega arith in
         ap (λ l. from ∷ l) (ap (λ n. places n (lines bs)) same ∙ later)
@@ -49,13 +49,13 @@ start-from_table : (text : List ℕ) (k : ℕ) → k < length (lines text) → g
 start-from_table text k h = ap (λ l. get_or l k 0) (sym (places-lines 0 text)) ∙ get_or-places 0 (lines text) k h ∙ (omega arith)
 
 -- a newline stands before each place
-newline-before : (n : ℕ) (text : List ℕ) → All (λ s. (n ≤ s) × (get_or text (s - n) 0 ≡ 10)) (behind_newlines n text)
+newline-before : (n : ℕ) (text : List ℕ) → All (λ s. (n ≤ s) × (get_or text (s - n) 0 ≡ 10)) (after_newlines n text)
 newline-before n [] = All-nil _
 newline-before n (b ∷ bs) =
     let P : ℕ → Type 0 = λ s. (n ≤ s) × (get_or (b ∷ bs) (s - n) 0 ≡ 10) in
-    let later : All P (behind_newlines (n + 1) bs) =
+    let later : All P (after_newlines (n + 1) bs) =
     All-weaker (λ s. (n + 1 ≤ s) × (get_or bs (s - (n + 1)) 0 ≡ 10)) P (λ s h. (omega arith, let next : s - n ≡ suc (s - (n + 1)) = omega arith in ap (λ i. get_or (b ∷ bs) i 0) next ∙ h.1)) _ (newline-before (n + 1) bs) in
-    rw (behind_newlines-cons n b bs) (one (is_newline b) refl (behind_newlines (n + 1) bs) later)
+    rw (after_newlines-cons n b bs) (one (is_newline b) refl (after_newlines (n + 1) bs) later)
   where
     one : (is : Bool) → is_newline b ≡ is → (l : List ℕ) → All (λ s. (n ≤ s) × (get_or (b ∷ bs) (s - n) 0 ≡ 10)) l → All (λ s. (n ≤ s) × (get_or (b ∷ bs) (s - n) 0 ≡ 10)) (cond is (n ∷ l) l)
     one true e l h = All-cons (λ s. (n ≤ s) × (get_or (b ∷ bs) (s - n) 0 ≡ 10)) n l (omega arith, let here : n - n ≡ 0 = omega arith in ap (λ i. get_or (b ∷ bs) i 0) here ∙ eqb-true b 10 e) h
@@ -74,7 +74,7 @@ ends_at text k next small is =
     let one : suc k ≡ k + 1 = omega arith in
     let start : next ≡ start_of_line text (k + 1) = is ∙ start-from_table text (suc k) (omega (arith, count_of_lines text)) ∙ ap (start_of_line text) one in
     let here : (1 ≤ next) × (next < 1 + length text) =
-    subst (λ s. (1 ≤ s) × (s < 1 + length text)) (sym is) (All-get_or (λ s. (1 ≤ s) × (s < 1 + length text)) (line_starts text) k 0 some (behind_newlines-within 1 text)) in
+    subst (λ s. (1 ≤ s) × (s < 1 + length text)) (sym is) (All-get_or (λ s. (1 ≤ s) × (s < 1 + length text)) (line_starts text) k 0 some (after_newlines-within 1 text)) in
     record {
       start = start;
       stop = start ∙ start-next text k (omega (arith, count_of_lines text));
@@ -94,8 +94,8 @@ module _ (text : List ℕ) (k next : ℕ) (h : EndsAt text k next) where
   EndsAt-start u =
       subst (IsCharBoundary text) (omega (arith, h.stop)) (IsCharBoundary-after_ascii text (next - 1) u (omega (arith, h.stop, h.within)) (omega (arith, h.newline)))
 
-  pub EndsAt-behind : next ≡ min (end_of_line text k + 1) (length text)
-  EndsAt-behind = omega (arith, h.stop, h.within)
+  pub EndsAt-after : next ≡ min (end_of_line text k + 1) (length text)
+  EndsAt-after = omega (arith, h.stop, h.within)
 
 -- ---- the line that a place lies in: where the starts pass the place
 module _ (text : List ℕ) (pos : ℕ) (within : pos ≤ length text) where
@@ -103,7 +103,7 @@ module _ (text : List ℕ) (pos : ℕ) (within : pos ≤ length text) where
   front = line_starts (take pos text)
 
   abbrev back : List ℕ
-  back = behind_newlines (pos + 1) (drop pos text)
+  back = after_newlines (pos + 1) (drop pos text)
 
   count : length front ≡ line_number text pos
   count = length-line_starts (take pos text)
@@ -115,14 +115,14 @@ module _ (text : List ℕ) (pos : ℕ) (within : pos ≤ length text) where
   started k less =
       let early : k < length front = omega (arith, count) in
       let at : get_or (line_starts text) k 0 ≡ get_or front k 0 = ap (λ t. get_or t k 0) (parts text pos within) ∙ get_or_append_left front back 0 k early in
-      omega (arith, at, length-take-le pos text within, All-get_or (λ s. (1 ≤ s) × (s < 1 + length (take pos text))) front k 0 early (behind_newlines-within 1 (take pos text)))
+      omega (arith, at, length-take-le pos text within, All-get_or (λ s. (1 ≤ s) × (s < 1 + length (take pos text))) front k 0 early (after_newlines-within 1 (take pos text)))
 
   pub not_started : (k : ℕ) → line_number text pos ≤ k → k < length (line_starts text) → pos < get_or (line_starts text) k 0
   not_started k past some =
       let P : ℕ → Type 0 = λ s. (pos + 1 ≤ s) × (s < pos + 1 + length (drop pos text)) in
       let late : length front ≤ k = omega (arith, count) in
       let at : get_or (line_starts text) k 0 ≡ get_or back (k - length front) 0 = ap (λ t. get_or t k 0) (parts text pos within) ∙ get_or-append_right front back (length front) k 0 refl late in
-      omega (arith, at, All-get_or P back (k - length front) 0 (omega (arith, total, late)) (behind_newlines-within (pos + 1) (drop pos text)))
+      omega (arith, at, All-get_or P back (k - length front) 0 (omega (arith, total, late)) (after_newlines-within (pos + 1) (drop pos text)))
 
   -- a start is at the place or before it where its number is less than that of the place's line
   pub leb-started : (k : ℕ) → k < length (line_starts text) → leb (get_or (line_starts text) k 0) pos ≡ leb (k + 1) (line_number text pos)

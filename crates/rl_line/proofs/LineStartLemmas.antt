@@ -12,62 +12,62 @@ use Rattle.std.specs.List.{enumerate_from, replace_range, copy_within, insert, r
 use Rattle.std.specs.Prelude.{encode_utf8}
 use Rattle.memchr.specs.Find.{is_byte, places, places_from}
 use Rattle.rl_base.specs.Lines.{is_newline, line_number}
-use Rattle.rl_line.specs.LineStarts.{behind_newlines, line_starts, from_end, starts_from_end, kept_starts, IsTable}
+use Rattle.rl_line.specs.LineStarts.{after_newlines, line_starts, from_end, starts_from_end, kept_starts, IsTable}
 
-pub behind_newlines-cons : (n b : ℕ) (bs : List ℕ) → behind_newlines n (b ∷ bs) ≡ cond (is_newline b) (n ∷ behind_newlines (n + 1) bs) (behind_newlines (n + 1) bs)
-behind_newlines-cons n b bs = from (is_newline b)
+pub after_newlines-cons : (n b : ℕ) (bs : List ℕ) → after_newlines n (b ∷ bs) ≡ cond (is_newline b) (n ∷ after_newlines (n + 1) bs) (after_newlines (n + 1) bs)
+after_newlines-cons n b bs = from (is_newline b)
   where
     from : (is : Bool) → map (λ x. x.0) (cond is ((n, b) ∷ filter (λ x. is_newline x.1) (enumerate_from (n + 1) bs)) (filter (λ x. is_newline x.1) (enumerate_from (n + 1) bs)))
-        ≡ cond is (n ∷ behind_newlines (n + 1) bs) (behind_newlines (n + 1) bs)
+        ≡ cond is (n ∷ after_newlines (n + 1) bs) (after_newlines (n + 1) bs)
     from true = refl
     from false = refl
 
-pub behind_newlines-append : (n : ℕ) (xs ys : List ℕ) → behind_newlines n (xs ++ ys) ≡ behind_newlines n xs ++ behind_newlines (n + length xs) ys
-behind_newlines-append n [] ys = let same : n ≡ n + 0 = omega arith in ap (λ k. behind_newlines k ys) same
-behind_newlines-append n (b ∷ xs) ys =
+pub after_newlines-append : (n : ℕ) (xs ys : List ℕ) → after_newlines n (xs ++ ys) ≡ after_newlines n xs ++ after_newlines (n + length xs) ys
+after_newlines-append n [] ys = let same : n ≡ n + 0 = omega arith in ap (λ k. after_newlines k ys) same
+after_newlines-append n (b ∷ xs) ys =
     let same : n + 1 + length xs ≡ n + length (b ∷ xs) = omega arith in
-    let rest = behind_newlines-append (n + 1) xs ys ∙ ap (λ k. behind_newlines (n + 1) xs ++ behind_newlines k ys) same in
-    behind_newlines-cons n b (xs ++ ys) ∙ ap (λ l. cond (is_newline b) (n ∷ l) l) rest
-    ∙ onto (is_newline b) (behind_newlines (n + 1) xs) (behind_newlines (n + length (b ∷ xs)) ys)
-    ∙ ap (λ l. l ++ behind_newlines (n + length (b ∷ xs)) ys) (sym (behind_newlines-cons n b xs))
+    let rest = after_newlines-append (n + 1) xs ys ∙ ap (λ k. after_newlines (n + 1) xs ++ after_newlines k ys) same in
+    after_newlines-cons n b (xs ++ ys) ∙ ap (λ l. cond (is_newline b) (n ∷ l) l) rest
+    ∙ onto (is_newline b) (after_newlines (n + 1) xs) (after_newlines (n + length (b ∷ xs)) ys)
+    ∙ ap (λ l. l ++ after_newlines (n + length (b ∷ xs)) ys) (sym (after_newlines-cons n b xs))
   where
     onto : (is : Bool) (l r : List ℕ) → cond is (n ∷ (l ++ r)) (l ++ r) ≡ cond is (n ∷ l) l ++ r
     onto true l r = refl
     onto false l r = refl
 
 -- the same places, counted from the end of a text that is longer by as much as they are further on
-from_end-moved : (len c k : ℕ) (xs : List ℕ) → map (from_end (len + c)) (behind_newlines (k + c) xs) ≡ map (from_end len) (behind_newlines k xs)
+from_end-moved : (len c k : ℕ) (xs : List ℕ) → map (from_end (len + c)) (after_newlines (k + c) xs) ≡ map (from_end len) (after_newlines k xs)
 from_end-moved len c k [] = refl
 from_end-moved len c k (b ∷ xs) =
     let here : from_end (len + c) (k + c) ≡ from_end len k = omega arith in
     let more : k + c + 1 ≡ k + 1 + c = omega arith in
-    let rest = ap (λ n. map (from_end (len + c)) (behind_newlines n xs)) more ∙ from_end-moved len c (k + 1) xs in
-    ap (map (from_end (len + c))) (behind_newlines-cons (k + c) b xs)
-    ∙ map-cond (from_end (len + c)) (is_newline b) (k + c) (behind_newlines (k + c + 1) xs)
+    let rest = ap (λ n. map (from_end (len + c)) (after_newlines n xs)) more ∙ from_end-moved len c (k + 1) xs in
+    ap (map (from_end (len + c))) (after_newlines-cons (k + c) b xs)
+    ∙ map-cond (from_end (len + c)) (is_newline b) (k + c) (after_newlines (k + c + 1) xs)
     ∙ ap₂ (λ n l. cond (is_newline b) (n ∷ l) l) here rest
-    ∙ sym (map-cond (from_end len) (is_newline b) k (behind_newlines (k + 1) xs))
-    ∙ sym (ap (map (from_end len)) (behind_newlines-cons k b xs))
+    ∙ sym (map-cond (from_end len) (is_newline b) k (after_newlines (k + 1) xs))
+    ∙ sym (ap (map (from_end len)) (after_newlines-cons k b xs))
   where
     map-cond : (f : ℕ → ℕ) (is : Bool) (n : ℕ) (l : List ℕ) → map f (cond is (n ∷ l) l) ≡ cond is (f n ∷ map f l) (map f l)
     map-cond f true n l = refl
     map-cond f false n l = refl
 
-pub length-behind_newlines : (n : ℕ) (xs : List ℕ) → length (behind_newlines n xs) ≡ count_by is_newline xs
-length-behind_newlines n [] = refl
-length-behind_newlines n (b ∷ xs) =
-    ap length (behind_newlines-cons n b xs) ∙ one (is_newline b) (behind_newlines (n + 1) xs)
-    ∙ ap (λ k. cond (is_newline b) 1 0 + k) (length-behind_newlines (n + 1) xs) ∙ sym (sum_by-cons (λ y. cond (is_newline y) 1 0) b xs)
+pub length-after_newlines : (n : ℕ) (xs : List ℕ) → length (after_newlines n xs) ≡ count_by is_newline xs
+length-after_newlines n [] = refl
+length-after_newlines n (b ∷ xs) =
+    ap length (after_newlines-cons n b xs) ∙ one (is_newline b) (after_newlines (n + 1) xs)
+    ∙ ap (λ k. cond (is_newline b) 1 0 + k) (length-after_newlines (n + 1) xs) ∙ sym (sum_by-cons (λ y. cond (is_newline y) 1 0) b xs)
   where
     one : (is : Bool) (l : List ℕ) → length (cond is (n ∷ l) l) ≡ cond is 1 0 + length l
     one true l = omega arith
     one false l = omega arith
 
-pub behind_newlines-within : (n : ℕ) (xs : List ℕ) → All (λ s. (n ≤ s) × (s < n + length xs)) (behind_newlines n xs)
-behind_newlines-within n [] = All-nil _
-behind_newlines-within n (b ∷ xs) =
-    let later : All (λ s. (n ≤ s) × (s < n + length (b ∷ xs))) (behind_newlines (n + 1) xs) =
-    All-weaker (λ s. (n + 1 ≤ s) × (s < n + 1 + length xs)) (λ s. (n ≤ s) × (s < n + length (b ∷ xs))) (λ s h. (omega arith, omega arith)) _ (behind_newlines-within (n + 1) xs) in
-    rw (behind_newlines-cons n b xs) (one (is_newline b) (behind_newlines (n + 1) xs) later)
+pub after_newlines-within : (n : ℕ) (xs : List ℕ) → All (λ s. (n ≤ s) × (s < n + length xs)) (after_newlines n xs)
+after_newlines-within n [] = All-nil _
+after_newlines-within n (b ∷ xs) =
+    let later : All (λ s. (n ≤ s) × (s < n + length (b ∷ xs))) (after_newlines (n + 1) xs) =
+    All-weaker (λ s. (n + 1 ≤ s) × (s < n + 1 + length xs)) (λ s. (n ≤ s) × (s < n + length (b ∷ xs))) (λ s h. (omega arith, omega arith)) _ (after_newlines-within (n + 1) xs) in
+    rw (after_newlines-cons n b xs) (one (is_newline b) (after_newlines (n + 1) xs) later)
   where
     one : (is : Bool) (l : List ℕ) → All (λ s. (n ≤ s) × (s < n + length (b ∷ xs))) l → All (λ s. (n ≤ s) × (s < n + length (b ∷ xs))) (cond is (n ∷ l) l)
     one true l h = All-cons (λ s. (n ≤ s) × (s < n + length (b ∷ xs))) n l (omega arith, omega arith) h
@@ -75,7 +75,7 @@ behind_newlines-within n (b ∷ xs) =
 
 -- a table has as many places as the text has newlines, and a part of the text has no more
 pub length-line_starts : (text : List ℕ) → length (line_starts text) ≡ count_by is_newline text
-length-line_starts text = length-behind_newlines 1 text
+length-line_starts text = length-after_newlines 1 text
 
 pub length-starts_from_end : (text : List ℕ) → length (starts_from_end text) ≡ count_by is_newline text
 length-starts_from_end text = length-map (line_starts text) (from_end (length text)) ∙ length-line_starts text
@@ -144,27 +144,27 @@ pub newlines-other : (c : ℕ) → (c ≡ 10 → ⊥) → count_by is_newline (e
 newlines-other c isnt =
     newlines-none (encode_utf8 c) (λ k within is. isnt (inside_one c [] (encode_utf8 c) k (sym (append-nil (encode_utf8 c))) within (omega (arith, is)) ∙ is))
 
--- the starts up to a place, and behind it
-pub parts : (text : List ℕ) (pos : ℕ) → pos ≤ length text → line_starts text ≡ line_starts (take pos text) ++ behind_newlines (pos + 1) (drop pos text)
+-- the starts up to a place, and after it
+pub parts : (text : List ℕ) (pos : ℕ) → pos ≤ length text → line_starts text ≡ line_starts (take pos text) ++ after_newlines (pos + 1) (drop pos text)
 parts text pos within =
     let place : 1 + length (take pos text) ≡ pos + 1 = omega (arith, length-take-le pos text within) in
-    ap line_starts (sym (take-append-drop pos text)) ∙ behind_newlines-append 1 (take pos text) (drop pos text)
-    ∙ ap (λ n. line_starts (take pos text) ++ behind_newlines n (drop pos text)) place
+    ap line_starts (sym (take-append-drop pos text)) ∙ after_newlines-append 1 (take pos text) (drop pos text)
+    ∙ ap (λ n. line_starts (take pos text) ++ after_newlines n (drop pos text)) place
 
 -- ---- a table whose border lies between two parts of its text
 drop-from_end : (xs ys : List ℕ) → drop (count_by is_newline xs) (starts_from_end (xs ++ ys)) ≡ starts_from_end ys
 drop-from_end xs ys =
     let f = from_end (length (xs ++ ys)) in
     let sum : length (xs ++ ys) ≡ length ys + length xs = omega (arith, length-append xs ys) in
-    ap (λ l. drop (count_by is_newline xs) (map f l)) (behind_newlines-append 1 xs ys)
-    ∙ ap (drop (count_by is_newline xs)) (map-append f (line_starts xs) (behind_newlines (1 + length xs) ys))
+    ap (λ l. drop (count_by is_newline xs) (map f l)) (after_newlines-append 1 xs ys)
+    ∙ ap (drop (count_by is_newline xs)) (map-append f (line_starts xs) (after_newlines (1 + length xs) ys))
     ∙ drop_at (map f (line_starts xs)) _ (count_by is_newline xs) (length-map (line_starts xs) f ∙ length-line_starts xs)
-    ∙ ap (λ n. map (from_end n) (behind_newlines (1 + length xs) ys)) sum ∙ from_end-moved (length ys) (length xs) 1 ys
+    ∙ ap (λ n. map (from_end n) (after_newlines (1 + length xs) ys)) sum ∙ from_end-moved (length ys) (length xs) 1 ys
 
 kept-between : (xs ys : List ℕ) → kept_starts (count_by is_newline xs) (xs ++ ys) ≡ line_starts xs ++ starts_from_end ys
 kept-between xs ys =
     let k = count_by is_newline xs in
-    ap₂ (λ l r. l ++ r) (ap (take k) (behind_newlines-append 1 xs ys) ∙ take_at (line_starts xs) _ k (length-line_starts xs)) (drop-from_end xs ys)
+    ap₂ (λ l r. l ++ r) (ap (take k) (after_newlines-append 1 xs ys) ∙ take_at (line_starts xs) _ k (length-line_starts xs)) (drop-from_end xs ys)
 
 IsTable-between : (xs ys : List ℕ) → IsTable (line_starts xs ++ starts_from_end ys) (count_by is_newline xs) (xs ++ ys)
 IsTable-between xs ys =
@@ -198,14 +198,14 @@ module _ (places text part : List ℕ) (from to first gone : ℕ) (h : IsTable p
       sym (drop-drop gone first places) ∙ ap (λ l. drop gone (drop first l)) at_border ∙ ap (drop gone) (drop_at (line_starts front) _ first count)
       ∙ ap₂ (λ n l. drop n (starts_from_end l)) cut halves ∙ drop-from_end gap (drop to text)
 
-  pub IsTable-replaced : IsTable (take first places ++ (behind_newlines (from + 1) part ++ drop (first + gone) places)) (first + count_by is_newline part) (replace_range text from to part)
+  pub IsTable-replaced : IsTable (take first places ++ (after_newlines (from + 1) part ++ drop (first + gone) places)) (first + count_by is_newline part) (replace_range text from to part)
   IsTable-replaced =
       let place : 1 + length front ≡ from + 1 = omega (arith, length-take-le from text (omega arith)) in
-      let starts : line_starts (front ++ part) ≡ line_starts front ++ behind_newlines (from + 1) part =
-      behind_newlines-append 1 front part ∙ ap (λ n. line_starts front ++ behind_newlines n part) place in
-      let all : line_starts (front ++ part) ++ starts_from_end (drop to text) ≡ take first places ++ (behind_newlines (from + 1) part ++ drop (first + gone) places) =
-      ap (λ l. l ++ starts_from_end (drop to text)) starts ∙ append_assoc (line_starts front) (behind_newlines (from + 1) part) _
-      ∙ sym (ap₂ (λ l r. l ++ (behind_newlines (from + 1) part ++ r)) before after) in
+      let starts : line_starts (front ++ part) ≡ line_starts front ++ after_newlines (from + 1) part =
+      after_newlines-append 1 front part ∙ ap (λ n. line_starts front ++ after_newlines n part) place in
+      let all : line_starts (front ++ part) ++ starts_from_end (drop to text) ≡ take first places ++ (after_newlines (from + 1) part ++ drop (first + gone) places) =
+      ap (λ l. l ++ starts_from_end (drop to text)) starts ∙ append_assoc (line_starts front) (after_newlines (from + 1) part) _
+      ∙ sym (ap₂ (λ l r. l ++ (after_newlines (from + 1) part ++ r)) before after) in
       let border : count_by is_newline (front ++ part) ≡ first + count_by is_newline part = newlines-append front part ∙ ap (λ n. n + count_by is_newline part) (sym number) in
       subst (λ l. IsTable l (first + count_by is_newline part) (replace_range text from to part)) all
       (subst (λ n. IsTable (line_starts (front ++ part) ++ starts_from_end (drop to text)) n (replace_range text from to part)) border (IsTable-between (front ++ part) (drop to text)))
@@ -221,17 +221,17 @@ IsTable-stays places text part from to come border h order within count stay =
     let high = leb-true _ _ ends.1 in
     let number : border ≡ line_number text from = omega (arith, low, high, newlines-front text from to order) in
     let gone : 0 ≡ count_by is_newline (slice_range text from to) = omega (arith, low, high, newlines-front text from to order) in
-    let new : behind_newlines (from + 1) part ≡ [] = nil_from_length _ (length-behind_newlines (from + 1) part ∙ clean) in
+    let new : after_newlines (from + 1) part ≡ [] = nil_from_length _ (length-after_newlines (from + 1) part ∙ clean) in
     let same : border + count_by is_newline part ≡ border = omega (arith, clean) in
     let none : border + 0 ≡ border = omega arith in
-    let all : take border places ++ (behind_newlines (from + 1) part ++ drop (border + 0) places) ≡ places =
+    let all : take border places ++ (after_newlines (from + 1) part ++ drop (border + 0) places) ≡ places =
     ap₂ (λ l n. take border places ++ (l ++ drop n places)) new none ∙ take-append-drop border places in
     subst (λ n. IsTable places n (replace_range text from to part)) same
     (subst (λ l. IsTable l (border + count_by is_newline part) (replace_range text from to part)) all (IsTable-replaced places text part from to border 0 h order within number gone))
 
 -- ---- the border moves, and the starts that it passes are counted from the other end
 starts-within : (text : List ℕ) → All (λ s. s ≤ length text) (line_starts text)
-starts-within text = All-weaker (λ s. (1 ≤ s) × (s < 1 + length text)) (λ s. s ≤ length text) (λ s h. omega (arith, h.1)) _ (behind_newlines-within 1 text)
+starts-within text = All-weaker (λ s. (1 ≤ s) × (s < 1 + length text)) (λ s. s ≤ length text) (λ s h. omega (arith, h.1)) _ (after_newlines-within 1 text)
 
 twice : (len : ℕ) (xs : List ℕ) → All (λ s. s ≤ len) xs → map (from_end len) (map (from_end len) xs) ≡ xs
 twice len [] h = refl
@@ -298,9 +298,9 @@ written k m n old new more len le within size =
     let all : length (put_mid k (m - k) old new) ≡ n = omega (arith, front, whole, length-append new (post_of k (m - k) old), back) in
     take_at (put_mid k (m - k) old new) more n all
 
-written-behind : (k n : ℕ) (old new more : List ℕ) → length old ≡ n → k ≤ n → length new ≡ n - k
+written-after : (k n : ℕ) (old new more : List ℕ) → length old ≡ n → k ≤ n → length new ≡ n - k
     → take n (put_mid k (length old - k) old new ++ more) ≡ take k old ++ new
-written-behind k n old new more len le size =
+written-after k n old new more len le size =
     let front = length-take-le k old (omega arith) in
     let whole = length-append (take k old) (new ++ post_of k (length old - k) old) in
     let enough : n ≤ length (put_mid k (length old - k) old new) = omega (arith, front, whole, length-append new (post_of k (length old - k) old)) in
@@ -348,7 +348,7 @@ slice-within places border low high text h =
 -- the table that is left where those from number `first` on were written over
 pub IsTable-written : (first n border : ℕ) (old new more all text : List ℕ) → length old ≡ n → first ≤ n → length new ≡ n - first → take first old ++ new ≡ all → IsTable all border text
     → IsTable (take n (put_mid first (length old - first) old new ++ more)) border text
-IsTable-written first n border old new more all text len le size is h = subst (λ l. IsTable l border text) (sym (written-behind first n old new more len le size ∙ is)) h
+IsTable-written first n border old new more all text len le size is h = subst (λ l. IsTable l border text) (sym (written-after first n old new more len le size ∙ is)) h
 
 pub IsTable-same : (places more : List ℕ) (border next : ℕ) (text now : List ℕ) → more ≡ places → next ≡ border → now ≡ text → IsTable places border text → IsTable more next now
 IsTable-same places more border next text now p b t h = subst (IsTable more next) (sym t) (subst (λ n. IsTable more n text) (sym b) (subst (λ l. IsTable l border text) (sym p) h))
@@ -377,34 +377,34 @@ module _ (places text : List ℕ) (border k : ℕ) (h : IsTable places border te
 
 -- ---- the newlines that a search finds
 found-from : (n m i : ℕ) (text : List ℕ) → m ≡ length text - i → i ≤ length text
-    → map (λ p. n + p) (places_from (is_byte 10) text i m) ≡ behind_newlines (n + i) (drop i text)
+    → map (λ p. n + p) (places_from (is_byte 10) text i m) ≡ after_newlines (n + i) (drop i text)
 unfolding places_from
-found-from n zero i text left within = ap (behind_newlines (n + i)) (sym (drop_all i text (omega (arith, left))))
+found-from n zero i text left within = ap (after_newlines (n + i)) (sym (drop_all i text (omega (arith, left))))
 found-from n (suc m) i text left within =
     let b = get_or text i 0 in
     let next : n + (i + 1) ≡ n + i + 1 = omega arith in
-    let rest : map (λ p. n + p) (places_from (is_byte 10) text (i + 1) m) ≡ behind_newlines (n + i + 1) (drop (i + 1) text) =
-    found-from n m (i + 1) text (omega (arith, left)) (omega (arith, left)) ∙ ap (λ k. behind_newlines k (drop (i + 1) text)) next in
+    let rest : map (λ p. n + p) (places_from (is_byte 10) text (i + 1) m) ≡ after_newlines (n + i + 1) (drop (i + 1) text) =
+    found-from n m (i + 1) text (omega (arith, left)) (omega (arith, left)) ∙ ap (λ k. after_newlines k (drop (i + 1) text)) next in
     one (is_newline b) (places_from (is_byte 10) text (i + 1) m)
     ∙ ap (λ l. cond (is_newline b) ((n + i) ∷ l) l) rest
-    ∙ sym (ap (behind_newlines (n + i)) (drop_more text i 0 (omega (arith, left))) ∙ behind_newlines-cons (n + i) b (drop (i + 1) text))
+    ∙ sym (ap (after_newlines (n + i)) (drop_more text i 0 (omega (arith, left))) ∙ after_newlines-cons (n + i) b (drop (i + 1) text))
   where
     one : (is : Bool) (l : List ℕ) → map (λ p. n + p) (cond is (i ∷ l) l) ≡ cond is ((n + i) ∷ map (λ p. n + p) l) (map (λ p. n + p) l)
     one true l = refl
     one false l = refl
 
-pub found : (n : ℕ) (text : List ℕ) → map (λ p. n + p) (places (is_byte 10) text) ≡ behind_newlines n text
+pub found : (n : ℕ) (text : List ℕ) → map (λ p. n + p) (places (is_byte 10) text) ≡ after_newlines n text
 found n text =
     let here : n + 0 ≡ n = omega arith in
-    found-from n (length text - 0) 0 text refl (omega arith) ∙ ap (λ k. behind_newlines k text) here
+    found-from n (length text - 0) 0 text refl (omega arith) ∙ ap (λ k. after_newlines k text) here
 
 pub length-found : (text : List ℕ) → length (places (is_byte 10) text) ≡ count_by is_newline text
-length-found text = sym (length-map (places (is_byte 10) text) (λ p. 0 + p)) ∙ ap length (found 0 text) ∙ length-behind_newlines 0 text
+length-found text = sym (length-map (places (is_byte 10) text) (λ p. 0 + p)) ∙ ap length (found 0 text) ∙ length-after_newlines 0 text
 
 pub found-within : (text done more : List ℕ) (x : ℕ) → done ++ x ∷ more ≡ places (is_byte 10) text → x < length text
 found-within text done more x split =
     let P : ℕ → Type 0 = λ s. (0 ≤ s) × (s < 0 + length text) in
-    let all : All P (map (λ p. 0 + p) (places (is_byte 10) text)) = subst (All P) (sym (found 0 text)) (behind_newlines-within 0 text) in
+    let all : All P (map (λ p. 0 + p) (places (is_byte 10) text)) = subst (All P) (sym (found 0 text)) (after_newlines-within 0 text) in
     let some : length done < length (places (is_byte 10) text) = omega (arith, ap length split, length-append done (x ∷ more)) in
     let at : get_or (map (λ p. 0 + p) (places (is_byte 10) text)) (length done) 0 ≡ 0 + x =
     get_or-map (λ p. 0 + p) (places (is_byte 10) text) (length done) 0 0 some ∙ ap (λ k. 0 + k) (ap (λ l. get_or l (length done) 0) (sym split) ∙ get_or_at done x more 0 (length done) refl) in
@@ -423,7 +423,7 @@ put_more n i place x done old now size room is at =
     ∙ sym (append_assoc start ((n + x) ∷ []) (drop (i + 1) old))
     ∙ ap (λ l. l ++ drop (i + 1) old) (sym (map_push (λ p. n + p) done x))
 
--- ---- a gap of `come` in the stead of `gone`
+-- ---- a gap of `come` in place of `gone`
 pub gap-more : (at gone come : ℕ) (xs : List ℕ) → at ≤ length xs → come ≡ gone + 1 → drop (at + come) (insert xs at 0) ≡ drop (at + gone) xs
 gap-more at gone come xs le one =
     let next : come ≡ suc gone = omega arith in

@@ -46,20 +46,20 @@ joint_marks (Replace i s t) (Replaced j o w ps) joint fs h =
     subst (λ k. IsSome (marks (k ∷ []) fs)) b.1 refl
 joint_marks event e joint fs h = cc
 
--- what the marks take in place of other entries, they take behind the same entries too
-behind : (o : Option (List Bool)) (xs ys : List Entry) → ((fs : List Bool) → IsSome (marks xs fs) → IsSome (marks ys fs))
+-- what the marks take in place of other entries, they take after the same entries too
+after : (o : Option (List Bool)) (xs ys : List Entry) → ((fs : List Bool) → IsSome (marks xs fs) → IsSome (marks ys fs))
     → IsSome (option_and_then (marks xs) o) → IsSome (option_and_then (marks ys) o)
-behind None xs ys f h = h
-behind (Some fs) xs ys f h = f fs h
+after None xs ys f h = h
+after (Some fs) xs ys f h = f fs h
 
 marks-after : (event : Event) (es : List Entry) (fs : List Bool) → IsSome (marks es fs) → IsSome (marks (entries_after event es) fs)
 marks-after event [] fs h = entries_of-marks event fs
 marks-after event (e ∷ []) fs h = from (joined event e) refl
   where
     from : (o : Option Entry) → joined event e ≡ o → IsSome (marks (option_map_or (λ joint. joint ∷ []) o (e ∷ entries_of event)) fs)
-    from None j = behind (mark e fs) [] (entries_of event) (λ gs k. entries_of-marks event gs) h
+    from None j = after (mark e fs) [] (entries_of event) (λ gs k. entries_of-marks event gs) h
     from (Some joint) j = joint_marks event e joint fs j
-marks-after event (e ∷ (d ∷ ds)) fs h = behind (mark e fs) (d ∷ ds) (entries_after event (d ∷ ds)) (λ gs k. marks-after event (d ∷ ds) gs k) h
+marks-after event (e ∷ (d ∷ ds)) fs h = after (mark e fs) (d ∷ ds) (entries_after event (d ∷ ds)) (λ gs k. marks-after event (d ∷ ds) gs k) h
 
 pub IsMatched-after : (event : Event) (es : List Entry) → IsMatched es → IsMatched (entries_after event es)
 IsMatched-after event es h = marks-after event es [] h

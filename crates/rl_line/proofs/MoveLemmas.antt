@@ -117,11 +117,11 @@ Undoes-of n k count first es le e f =
     let whole : es ≡ kept ++ (unit ++ drop k es) = sym (take-append-drop k es) ∙ ap (λ l. l ++ drop k es) (sym (kept-last n (take k es))) ∙ append_assoc kept unit (drop k es) in
     let sum : length kept + length unit ≡ k = sym (length-append kept unit) ∙ ap length (kept-last n (take k es)) ∙ length-take-le k es le in
     let long : length kept ≡ first = omega (arith, sum, e, f) in
-    let behind : drop first es ≡ unit ++ drop k es = ap (drop first) whole ∙ drop_at kept (unit ++ drop k es) first long in
+    let after : drop first es ≡ unit ++ drop k es = ap (drop first) whole ∙ drop_at kept (unit ++ drop k es) first long in
     record {
       recorded = ap (take first) whole ∙ take_at kept (unit ++ drop k es) first long;
-      pending = behind;
-      unit = ap (take (k - first)) behind ∙ take_at unit (drop k es) (k - first) (omega (arith, sum, long));
+      pending = after;
+      unit = ap (take (k - first)) after ∙ take_at unit (drop k es) (k - first) (omega (arith, sum, long));
     }
 
 pub undone-view : (n k first : ℕ) (r : Record) (es : List Entry) (fresh : Freshness) → cut_at k es fresh ≡ r → Undoes n k first es → cut_at first es Stale ≡ undone n r
@@ -133,7 +133,7 @@ undo-fits n es line h =
     let all : line_back es line ≡ _ = ap (λ l. line_back l line) (sym (kept-last n es)) ∙ line_back-append (kept_of n es) (last_of n es) line in
     IsSome-through (line_back (kept_of n es)) (line_back (last_of n es) line) (subst IsSome all h)
 
--- ---- redo: behind the k that are recorded more come to it
+-- ---- redo: after the k that are recorded more come to it
 pub record RedoesTo (k end : ℕ) (es : List Entry) : Type 0 where
   pub within : end ≤ length es
   pub recorded : take end es ≡ take k es ++ redo_of (drop k es)

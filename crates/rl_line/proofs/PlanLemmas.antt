@@ -202,9 +202,9 @@ module _ {L : Type 0} (step : L → Event → L) where
     }
 
     -- some steps, and then some of a plan
-    pub Halted-behind : {A B : Type 0} (whole : Plan A) (plan : Plan B) (first : List Step) (old mid new : Line) (b m n : L) (r : Refusal)
+    pub Halted-back : {A B : Type 0} (whole : Plan A) (plan : Plan B) (first : List Step) (old mid new : Line) (b m n : L) (r : Refusal)
         → Taken step first old mid b m → Halted step refused plan mid new m n r → whole.steps ≡ first ++ plan.steps → Halted step refused whole old new b n r
-    Halted-behind whole plan first old mid new b m n r t h e = record {
+    Halted-back whole plan first old mid new b m n r t h e = record {
       first = first ++ h.first;
       next = h.next;
       others = h.others;

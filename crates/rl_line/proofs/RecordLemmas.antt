@@ -7,7 +7,7 @@ use Rattle.std.specs.Str.{IsUtf8}
 use Rattle.rl_base.proofs.TextLemmas.{and_right}
 use Rattle.rl_base.specs.declared.listeners.Direction.TheVariants.{Forward}
 use Rattle.rl_base.specs.Event.{Event, InsertChar, InsertStr, Delete, Replace, Start, Stop, Cursors, apply}
-use Rattle.rl_base.proofs.SwapLemmas.{Swaps, Swaps-back, Swaps-nothing, Swaps-behind, Swaps-before, Swaps-InsertStr, Swaps-InsertChar, Swaps-Delete, Swaps-Replace, apply-InsertStr-Swaps, apply-Delete-Swaps, apply-Replace-Swaps, apply-IsUtf8}
+use Rattle.rl_base.proofs.SwapLemmas.{Swaps, Swaps-back, Swaps-nothing, Swaps-after, Swaps-before, Swaps-InsertStr, Swaps-InsertChar, Swaps-Delete, Swaps-Replace, apply-InsertStr-Swaps, apply-Delete-Swaps, apply-Replace-Swaps, apply-IsUtf8}
 use Rattle.rl_base.specs.Classes.{is_alphanumeric, is_word_cluster}
 use Rattle.rl_line.specs.Record.{Entry, Begin, End, Inserted, Deleted, Replaced, Record, entries_after, entries_of, joined, record_step, event_of, inverse, replay_entries, unwind, swapped}
 use Rattle.rl_line.proofs.ToldLemmas.{recorded-cases, last_told-unwind}
@@ -138,7 +138,7 @@ redone-joined (InsertChar i c) (Inserted j s ps) joint x y z h u p q =
     let at = eqb-true (j + length s) i (and_right (is_alphanumeric c) (j + length s == i) b.0) in
     ap (λ k. apply (event_of k) x) (sym b.1)
     ∙ apply-InsertStr-Swaps x z j (s ++ encode_utf8 c)
-    (Swaps-behind x y z j i [] s [] (encode_utf8 c) (Swaps-InsertStr x y j s u p) (Swaps-InsertChar y z i c (apply-IsUtf8 (InsertStr j s) x y u p) q) at)
+    (Swaps-after x y z j i [] s [] (encode_utf8 c) (Swaps-InsertStr x y j s u p) (Swaps-InsertChar y z i c (apply-IsUtf8 (InsertStr j s) x y u p) q) at)
 redone-joined (Delete i s side) (Deleted j t ps) joint x y z h u p q =
     let first = Swaps-Delete x y j t Forward u p in
     let second = Swaps-Delete y z i s side (apply-IsUtf8 (Delete j t Forward) x y u p) q in
@@ -147,7 +147,7 @@ redone-joined (Delete i s side) (Deleted j t ps) joint x y z h u p q =
       | inl b ↦
           let at : j ≡ i = eqb-true j i b.0 in
           ap (λ k. apply (event_of k) x) (sym b.1) ∙ ap (λ k. apply (Delete k (t ++ s) Forward) x) (sym at)
-          ∙ apply-Delete-Swaps x z j (t ++ s) Forward (Swaps-behind x y z j i t [] s [] first second (omega arith))
+          ∙ apply-Delete-Swaps x z j (t ++ s) Forward (Swaps-after x y z j i t [] s [] first second (omega arith))
       | inr k ↦
           let b = if_some (i + length s == j) (Deleted i (s ++ t) None) joint k in
           let at = eqb-true (i + length s) j b.0 in
@@ -158,7 +158,7 @@ redone-joined (Replace i s t) (Replaced j o w ps) joint x y z h u p q =
     let at = eqb-true (j + length w) i b.0 in
     ap (λ k. apply (event_of k) x) (sym b.1)
     ∙ apply-Replace-Swaps x z j (o ++ s) (w ++ t)
-    (Swaps-behind x y z j i o w s t (Swaps-Replace x y j o w u p) (Swaps-Replace y z i s t (apply-IsUtf8 (Replace j o w) x y u p) q) at)
+    (Swaps-after x y z j i o w s t (Swaps-Replace x y j o w u p) (Swaps-Replace y z i s t (apply-IsUtf8 (Replace j o w) x y u p) q) at)
 redone-joined event e joint x y z h u p q = cc
 
 -- the text from which entries came stays, whatever event came

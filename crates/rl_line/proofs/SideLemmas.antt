@@ -47,7 +47,7 @@ to_place-side : (line : Line) (o : Option ℕ) → IfSome (to_place line o) (Lie
 to_place-side line None = tt
 to_place-side line (Some q) = refl
 
--- where these places are not behind the cursor
+-- where these places are not past the cursor
 prev_pos-before : (text : List ℕ) (pos n : ℕ) → IfSome (prev_pos text pos n) (λ q. q ≤ pos)
 prev_pos-before text pos n = unless (λ q. q ≤ pos) _ _ (omega arith)
 

@@ -12,7 +12,7 @@ from_none : (n : ℕ) → n - 0 ≡ n
 from_none n = omega arith
 
 module _ {X : Type 0} (all part written : List X) (a : ℕ) (same : written ≡ part) where
-  -- the part is written in its place, and then what stands behind the range moves down to its end
+  -- the part is written in its place, and then what stands after the range moves down to its end
   module _ (less : ℕ) (within : a + length part + less ≤ length all) where
     abbrev e : ℕ
     e = a + length part
@@ -26,12 +26,12 @@ module _ {X : Type 0} (all part written : List X) (a : ℕ) (same : written ≡ 
     pub closed : (moved : List X) → moved ≡ copy_within rest less (length rest) 0 → take (length all - less) (put_mid e (length t - e) t moved) ≡ replace_range all a (e + less) part
     closed moved is =
         let long = ap length same in
-        let behind : rest ≡ drop e all = take_all (length t - e) (drop e t) (omega (arith, length-drop e t)) ∙ drop-put_mid a (e - a) all written e (omega arith) (omega arith) (omega arith) in
+        let after : rest ≡ drop e all = take_all (length t - e) (drop e t) (omega (arith, length-drop e t)) ∙ drop-put_mid a (e - a) all written e (omega arith) (omega arith) (omega arith) in
         let r : List X = drop e all in
         let count = length-drop e all in
         let left = length-drop less r in
         let now : moved ≡ drop less r ++ drop (length r - less) r =
-        is ∙ ap (λ l. copy_within l less (length l) 0) behind
+        is ∙ ap (λ l. copy_within l less (length l) 0) after
         ∙ ap (λ n. take (length r - less) (drop less r) ++ drop n r) (from_front (length r - less)) ∙ ap (λ l. l ++ drop (length r - less) r) (take_all (length r - less) (drop less r) (omega arith)) in
         let front : take e t ≡ take a all ++ part = take-put_mid a (e - a) all written e (omega arith) (omega arith) ∙ ap (λ l. take a all ++ l) same in
         let head : List X = take a all ++ part in
@@ -45,7 +45,7 @@ module _ {X : Type 0} (all part written : List X) (a : ℕ) (same : written ≡ 
         ∙ take_at (head ++ drop less r) _ (length all - less) (omega arith)
         ∙ ap (λ l. head ++ l) (drop-drop less e all)
 
-  -- what stands behind the range moves up to the end, and then the part is written in its place
+  -- what stands after the range moves up to the end, and then the part is written in its place
   module _ (going : ℕ) (longer : going ≤ length part) (within : a + length part ≤ length all) where
     abbrev b : ℕ
     b = a + going
@@ -53,17 +53,17 @@ module _ {X : Type 0} (all part written : List X) (a : ℕ) (same : written ≡ 
     abbrev more : ℕ
     more = length part - going
 
-    abbrev behind : List X
-    behind = take (length all - b) (drop b all)
+    abbrev after : List X
+    after = take (length all - b) (drop b all)
 
-    pub opened : (moved : List X) → moved ≡ copy_within behind 0 (length behind - more) more → put_mid a (a + length part - a) (put_mid b (length all - b) all moved) written ≡ replace_range (take (length all - more) all) a b part
+    pub opened : (moved : List X) → moved ≡ copy_within after 0 (length after - more) more → put_mid a (a + length part - a) (put_mid b (length all - b) all moved) written ≡ replace_range (take (length all - more) all) a b part
     opened moved is =
         let r : List X = drop b all in
         let count = length-drop b all in
         let k : ℕ = a + length part - a in
         let u : List X = put_mid b (length all - b) all moved in
         let m : List X = take (length r - more) r in
-        let whole : behind ≡ r = take_all (length all - b) r (omega arith) in
+        let whole : after ≡ r = take_all (length all - b) r (omega arith) in
         let now : moved ≡ take more r ++ m =
         is ∙ ap (λ l. copy_within l 0 (length l - more) more) whole
         ∙ ap (λ n. (take more r ++ take n r) ++ drop (more + n) r) (from_none (length r - more))

@@ -68,12 +68,12 @@ same-mark cursors (Replaced i s t ps) fs = refl
 pub last_told-marks : (cursors : ℕ × ℕ) (es : List Entry) (fs : List Bool) → marks (last_told cursors es) fs ≡ marks es fs
 last_told-marks cursors [] fs = refl
 last_told-marks cursors (e ∷ []) fs = ap (option_and_then (marks [])) (same-mark cursors e fs)
-last_told-marks cursors (e ∷ (d ∷ ds)) fs = behind (λ gs. last_told-marks cursors (d ∷ ds) gs) (mark e fs)
+last_told-marks cursors (e ∷ (d ∷ ds)) fs = after (λ gs. last_told-marks cursors (d ∷ ds) gs) (mark e fs)
   where
-    behind : ((gs : List Bool) → marks (last_told cursors (d ∷ ds)) gs ≡ marks (d ∷ ds) gs) → (o : Option (List Bool))
+    after : ((gs : List Bool) → marks (last_told cursors (d ∷ ds)) gs ≡ marks (d ∷ ds) gs) → (o : Option (List Bool))
         → option_and_then (marks (last_told cursors (d ∷ ds))) o ≡ option_and_then (marks (d ∷ ds)) o
-    behind same None = refl
-    behind same (Some gs) = same gs
+    after same None = refl
+    after same (Some gs) = same gs
 
 same-deep : (cursors : ℕ × ℕ) (e : Entry) (n : ℕ) (es : List Entry) → deep n (with_cursors cursors e ∷ es) ≡ deep n (e ∷ es)
 same-deep cursors Begin n es = refl
@@ -91,7 +91,7 @@ last_told-deep cursors (Inserted i s ps ∷ (d ∷ ds)) n = last_told-deep curso
 last_told-deep cursors (Deleted i s ps ∷ (d ∷ ds)) n = last_told-deep cursors (d ∷ ds) n
 last_told-deep cursors (Replaced i s t ps ∷ (d ∷ ds)) n = last_told-deep cursors (d ∷ ds) n
 
--- the last entry stands behind a Begin where any does
+-- the last entry stands after a Begin where any does
 pub last_told-begin : (cursors : ℕ × ℕ) (xs ys : List Entry) → last_told cursors (xs ++ Begin ∷ ys) ≡ xs ++ Begin ∷ last_told cursors ys
 last_told-begin cursors [] [] = refl
 last_told-begin cursors [] (y ∷ ys) = refl

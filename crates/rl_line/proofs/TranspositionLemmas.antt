@@ -6,7 +6,7 @@ use Rattle.std.proofs.lemmas.List.{length-take-le, drop-take, drop-append-le}
 use Rattle.std.specs.List.{insert_slice, remove_range, replace_range}
 use Rattle.std.specs.Str.{IsCharBoundary, IsUtf8}
 use Rattle.std.specs.declared.ops.Range.{Range}
-use Rattle.rl_base.proofs.TextLemmas.{slice-before, take-before, removed-is_replaced, IsCharBoundary-before, IsCharBoundary-at_removal, IsCharBoundary-past_replacement, IsCharBoundary-behind, IsUtf8-replaced}
+use Rattle.rl_base.proofs.TextLemmas.{slice-before, take-before, removed-is_replaced, IsCharBoundary-before, IsCharBoundary-at_removal, IsCharBoundary-past_replacement, IsCharBoundary-after, IsUtf8-replaced}
 use Rattle.rl_base.specs.declared.listeners.Direction.TheVariants.{Forward}
 use Rattle.rl_base.specs.Event.{InsertStr, Delete}
 use Rattle.rl_line.specs.Line.{Line}
@@ -56,30 +56,30 @@ places old mid first second x y e f is u v fo so apart fs fe ss se =
       start = start;
       stop = stop;
       gap = IsCharBoundary-at_removal made first.start first.end utf8 fo stop;
-      last = IsCharBoundary-behind made first.start first.end (second.start + length x) second.end y utf8 start.0 past (omega arith) (omega arith);
+      last = IsCharBoundary-after made first.start first.end (second.start + length x) second.end y utf8 start.0 past (omega arith) (omega arith);
     })
 
-pub pull_back_plan-is : (line : Line) (front : ℕ) (behind : Range ℕ) (x : List ℕ) (stop : ℕ) → x ≡ text_in line behind
-    → stop ≡ length x + end_of_cluster (remove_range line.text behind.start behind.end) front
-    → pull_back_plan line front behind ≡ followed_by (Delete behind.start (text_in line behind) Forward) behind.start (single (InsertStr front x) stop tt)
-pull_back_plan-is line front behind x stop e f =
-    ap₂ (λ (t : List ℕ) (k : ℕ). followed_by (Delete behind.start (text_in line behind) Forward) behind.start (single (InsertStr front t) k tt)) (sym e)
-    (sym (f ∙ ap (λ t. length t + end_of_cluster (remove_range line.text behind.start behind.end) front) e))
+pub pull_back_plan-is : (line : Line) (front : ℕ) (after : Range ℕ) (x : List ℕ) (stop : ℕ) → x ≡ text_in line after
+    → stop ≡ length x + end_of_cluster (remove_range line.text after.start after.end) front
+    → pull_back_plan line front after ≡ followed_by (Delete after.start (text_in line after) Forward) after.start (single (InsertStr front x) stop tt)
+pull_back_plan-is line front after x stop e f =
+    ap₂ (λ (t : List ℕ) (k : ℕ). followed_by (Delete after.start (text_in line after) Forward) after.start (single (InsertStr front t) k tt)) (sym e)
+    (sym (f ∙ ap (λ t. length t + end_of_cluster (remove_range line.text after.start after.end) front) e))
 
-pub exchanged : (line : Line) (front : ℕ) (behind : Range ℕ) (x : List ℕ) → x ≡ text_in line behind → front ≤ behind.start → behind.start ≤ length line.text
-    → insert_slice (remove_range line.text behind.start behind.end) front x ≡ exchanged_text line front behind
-exchanged line front behind x e le within =
+pub exchanged : (line : Line) (front : ℕ) (after : Range ℕ) (x : List ℕ) → x ≡ text_in line after → front ≤ after.start → after.start ≤ length line.text
+    → insert_slice (remove_range line.text after.start after.end) front x ≡ exchanged_text line front after
+exchanged line front after x e le within =
     let text = line.text in
-    let left = remove_range text behind.start behind.end in
+    let left = remove_range text after.start after.end in
     let front_is : take front left ≡ take front text =
-    ap (take front) (removed-is_replaced text behind.start behind.end) ∙ take-before text behind.start behind.end front [] within le in
-    let to : front + (behind.start - front) ≡ behind.start = omega arith in
-    let middle : drop front (take behind.start text) ≡ slice_range text front behind.start =
-    ap (λ n. drop front (take n text)) (sym to) ∙ drop-take front (behind.start - front) text in
-    let rest : drop front left ≡ slice_range text front behind.start ++ drop behind.end text =
-    drop-append-le front (take behind.start text) (drop behind.end text) (omega (arith, length-take-le behind.start text within)) ∙ ap (λ l. l ++ drop behind.end text) middle in
-    ap₂ (λ f r. (f ++ x) ++ r) front_is rest ∙ append_assoc (take front text) x (slice_range text front behind.start ++ drop behind.end text)
-    ∙ ap (λ t. take front text ++ (t ++ (slice_range text front behind.start ++ drop behind.end text))) e
+    ap (take front) (removed-is_replaced text after.start after.end) ∙ take-before text after.start after.end front [] within le in
+    let to : front + (after.start - front) ≡ after.start = omega arith in
+    let middle : drop front (take after.start text) ≡ slice_range text front after.start =
+    ap (λ n. drop front (take n text)) (sym to) ∙ drop-take front (after.start - front) text in
+    let rest : drop front left ≡ slice_range text front after.start ++ drop after.end text =
+    drop-append-le front (take after.start text) (drop after.end text) (omega (arith, length-take-le after.start text within)) ∙ ap (λ l. l ++ drop after.end text) middle in
+    ap₂ (λ f r. (f ++ x) ++ r) front_is rest ∙ append_assoc (take front text) x (slice_range text front after.start ++ drop after.end text)
+    ∙ ap (λ t. take front text ++ (t ++ (slice_range text front after.start ++ drop after.end text))) e
 
 pub transpose_chars-nothing : (line : Line) → None ≡ option_and_then (clusters_around line.text) (meeting_place line) → transpose_chars_plan line ≡ nothing line false
 transpose_chars-nothing line e = ap (pulled_back line) (sym e)

@@ -101,7 +101,7 @@ rest_split way xs m x now lt e =
     ∙ ap (λ es. line_back es now) (map-append (faced way) (take m xs) (x ∷ []))
     ∙ line_back-append (map (faced way) (take m xs)) (faced way x ∷ []) now
 
--- the entries from m on are that at m and those behind it
+-- the entries from m on are that at m and those after it
 pub entries_from : (way : Way) (xs : List Change) (m : ℕ) (x : Change) → m < length xs → x ≡ get_or xs m x
     → map (faced way) (drop m xs) ≡ faced way x ∷ map (faced way) (drop (m + 1) xs)
 entries_from way xs m x lt e =
@@ -221,9 +221,9 @@ line_back-is_some es line u at = from (text_back true es line.text) (line_back e
 -- where the entries before a mark leave text and cursor, the mark does too
 left_by_a_mark : (line mid now : Line) → (mid.text ≡ line.text) × (mid.cursor ≡ line.cursor) → if_standing (stepped mid mid.text mid.cursor) ≡ Some now
     → (now.text ≡ line.text) × (now.cursor ≡ line.cursor)
-left_by_a_mark line mid now behind is =
+left_by_a_mark line mid now after is =
     let same : now ≡ stepped mid mid.text mid.cursor = sym (standing-is (stepped mid mid.text mid.cursor) now is) in
-    (ap (λ (l : Line). l.text) same ∙ behind.0, ap (λ (l : Line). l.cursor) same ∙ behind.1)
+    (ap (λ (l : Line). l.text) same ∙ after.0, ap (λ (l : Line). l.cursor) same ∙ after.1)
 
 pub line_back-marks : (es : List Entry) (line now : Line) → has_change es ≡ false → line_back es line ≡ Some now → (now.text ≡ line.text) × (now.cursor ≡ line.cursor)
 unfolding apply

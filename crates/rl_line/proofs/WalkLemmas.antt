@@ -64,7 +64,7 @@ Walk-line_ahead (e ∷ es) line y u w at =
     subst IsSome (sym (ap (option_and_then (line_ahead es)) l.0))
     (Walk-line_ahead es (stepped line w.0 (cursor_after line.cursor e)) y (apply-IsUtf8 (event_of e) line.text w.0 u w.1.makes) w.2 l.1)
 
--- ---- an event, and the cursors that are told behind it
+-- ---- an event, and the cursors that are told after it
 -- an entry that was told no cursors
 untold : (e : Entry) (x y : List ℕ) → apply (event_of e) x ≡ Some y → cursors_of e ≡ None → LeadsTo e x y
 untold Begin x y makes none = record { makes = makes; before = refl; after = refl }
@@ -166,12 +166,12 @@ after-some event d [] = from (joined event d)
     from (Some j) = (j, [], refl)
 after-some event d (c ∷ cs) = (d, _, refl)
 
-pub told-behind : (fresh : Freshness) (b a : ℕ) (e y : Entry) (ys : List Entry) → entries_told fresh b a (e ∷ (y ∷ ys)) ≡ e ∷ entries_told fresh b a (y ∷ ys)
-told-behind is.Stale b a e y ys = refl
-told-behind is.Added b a e y ys = refl
-told-behind (is.Joined p) b a e y ys = refl
+pub told-after : (fresh : Freshness) (b a : ℕ) (e y : Entry) (ys : List Entry) → entries_told fresh b a (e ∷ (y ∷ ys)) ≡ e ∷ entries_told fresh b a (y ∷ ys)
+told-after is.Stale b a e y ys = refl
+told-after is.Added b a e y ys = refl
+told-after (is.Joined p) b a e y ys = refl
 
--- an event of a text, and the cursors behind it
+-- an event of a text, and the cursors after it
 walked : (event : Event) (es : List Entry) (x text now : List ℕ) (b a : ℕ) → IsUtf8 x → Walk es x text → apply event text ≡ Some now → IsCharBoundary text b → IsCharBoundary now a
     → Walk (entries_told (freshness_of event es) b a (entries_after event es)) x now
 walked event [] x text now b a u w h before after =
@@ -193,7 +193,7 @@ walked event (e ∷ (d ∷ ds)) x text now b a u w h before after =
     let (y, ys, some) = after-some event d ds in
     let fresh = freshness_of event (d ∷ ds) in
     let turn : entries_told fresh b a (e ∷ entries_after event (d ∷ ds)) ≡ e ∷ entries_told fresh b a (entries_after event (d ∷ ds)) =
-    ap (λ l. entries_told fresh b a (e ∷ l)) some ∙ told-behind fresh b a e y ys ∙ ap (λ l. e ∷ entries_told fresh b a l) (sym some) in
+    ap (λ l. entries_told fresh b a (e ∷ l)) some ∙ told-after fresh b a e y ys ∙ ap (λ l. e ∷ entries_told fresh b a l) (sym some) in
     subst (λ es. Walk es x now) (sym turn) (w.0, w.1, rest)
 
 -- ---- a record
@@ -253,15 +253,15 @@ pub Walks-Undone : (n : ℕ) (r now : Record) (old new : Line) (a : Bool) → Un
 Walks-Undone n r now old new a d w =
     let kept = kept_of n r.recorded in
     let last = last_of n r.recorded in
-    let (mid, first, behind) = Walk-split kept last w.start old.text (subst (λ es. Walk es w.start old.text) (sym (kept-last n r.recorded)) w.back) in
+    let (mid, first, after) = Walk-split kept last w.start old.text (subst (λ es. Walk es w.start old.text) (sym (kept-last n r.recorded)) w.back) in
     let there : mid ≡ new.text =
-    same_Some _ _ (sym (Walk-back last mid old.text (Walk-IsUtf8 kept w.start mid w.is_text first) behind) ∙ line_back-text_back last old new d.line_is) in
+    same_Some _ _ (sym (Walk-back last mid old.text (Walk-IsUtf8 kept w.start mid w.is_text first) after) ∙ line_back-text_back last old new d.line_is) in
     subst (λ (k : Record). Walks k new.text) (sym d.record_is) (record {
       start = w.start;
       is_text = w.is_text;
       back = subst (Walk kept w.start) there first;
       end = w.end;
-      ahead = Walk-append last r.pending new.text old.text w.end (subst (λ t. Walk last t old.text) there behind) w.ahead;
+      ahead = Walk-append last r.pending new.text old.text w.end (subst (λ t. Walk last t old.text) there after) w.ahead;
       stale = refl;
     })
 
@@ -269,14 +269,14 @@ pub Walks-Redone : (r now : Record) (old new : Line) (a : Bool) → Redone r now
 Walks-Redone r now old new a d w =
     let unit = redo_of r.pending in
     let rest = drop (length unit) r.pending in
-    let (mid, first, behind) = Walk-split unit rest old.text w.end (subst (λ es. Walk es old.text w.end) (sym (redo-parts r.pending)) w.ahead) in
+    let (mid, first, after) = Walk-split unit rest old.text w.end (subst (λ es. Walk es old.text w.end) (sym (redo-parts r.pending)) w.ahead) in
     let there : mid ≡ new.text = same_Some _ _ (sym (Walk-replay unit old.text mid first) ∙ line_ahead-replay unit old new d.line_is) in
     subst (λ (k : Record). Walks k new.text) (sym d.record_is) (record {
       start = w.start;
       is_text = w.is_text;
       back = Walk-append r.recorded unit w.start old.text new.text w.back (subst (Walk unit old.text) there first);
       end = w.end;
-      ahead = subst (λ t. Walk rest t w.end) there behind;
+      ahead = subst (λ t. Walk rest t w.end) there after;
       stale = refl;
     })
 
@@ -317,7 +317,7 @@ Walks-ended r text w =
 pub Walks-truncated : (len : ℕ) (r : Record) (text : List ℕ) → replays_to len r text ≡ true → Walks r text → Walks (truncated len r) text
 Walks-truncated len r text h w =
     let front = take len r.recorded in
-    let (mid, first, behind) = Walk-split front (drop len r.recorded) w.start text (subst (λ es. Walk es w.start text) (sym (take-append-drop len r.recorded)) w.back) in
+    let (mid, first, after) = Walk-split front (drop len r.recorded) w.start text (subst (λ es. Walk es w.start text) (sym (take-append-drop len r.recorded)) w.back) in
     let u = Walk-IsUtf8 r.recorded w.start text w.is_text w.back in
     let all : unwind r.recorded text ≡ Some w.start = unwind-replay r.recorded w.start text w.is_text (Walk-replay r.recorded w.start text w.back) in
     let there : mid ≡ text =

@@ -48,7 +48,7 @@ yank_pop_plan line z s =
     followed_by (Delete from (slice_range line.text from line.cursor) Forward) from
     (yank_plan (stepped line (remove_range line.text from line.cursor) from) s 1)
 
--- s takes the place of i..j, and the cursor is behind it
+-- s takes the place of i..j, and the cursor is after it
 abbrev pub replace_plan : Line → ℕ → ℕ → List ℕ → Plan (Unit {0})
 replace_plan line i j s = single (Replace i (slice_range line.text i j) s) (i + length s) tt
 

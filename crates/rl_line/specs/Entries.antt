@@ -5,7 +5,7 @@ use Rattle.rl_line.specs.Record.{Entry, Begin, End, Record, entries_after, entri
 use Rattle.rl_line.specs.Units.{AtLevel}
 use Rattle.rl_line.specs.declared.change.Freshness.{Freshness}
 
--- the record that one list of entries is: the first n are recorded, and those behind them wait to be redone
+-- the record that one list of entries is: the first n are recorded, and those after them wait to be redone
 abbrev pub cut_at : ℕ → List Entry → Freshness → Record
 cut_at n es fresh = record { recorded = take n es; pending = drop n es; fresh = fresh }
 

@@ -32,7 +32,7 @@ mapped Uppercase word = str_to_uppercase word
 mapped Lowercase word = str_to_lowercase word
 mapped Capitalize word = let first = end_of_cluster word 0 in str_to_uppercase (take first word) ++ str_to_lowercase (drop first word)
 
--- a text takes the place of the word, if there is one, and the cursor goes behind it. The answer: was there one?
+-- a text takes the place of the word, if there is one, and the cursor goes past it. The answer: was there one?
 abbrev pub put_for : Line → Option (Range ℕ) → List ℕ → Plan Bool
 put_for line None made = nothing line false
 put_for line (Some word) made = answering true (exchange_plan line word line.cursor made (word.start + length made))

@@ -3,13 +3,13 @@ use Rattle.std.specs.Prelude.{◌≡◌, ℕ, ◌-◌, ◌≤◌, List, ◌++◌
 use Rattle.std.specs.List.{enumerate_from}
 use Rattle.rl_base.specs.Lines.{is_newline}
 
--- the places right behind the newlines of a text whose first byte ends at n
-abbrev pub behind_newlines : ℕ → List ℕ → List ℕ
-behind_newlines n text = map (λ b. b.0) (filter (λ b. is_newline b.1) (enumerate_from n text))
+-- the places right after the newlines of a text whose first byte ends at n
+abbrev pub after_newlines : ℕ → List ℕ → List ℕ
+after_newlines n text = map (λ b. b.0) (filter (λ b. is_newline b.1) (enumerate_from n text))
 
--- the places right behind each newline of a text
+-- the places right after each newline of a text
 abbrev pub line_starts : List ℕ → List ℕ
-line_starts text = behind_newlines 1 text
+line_starts text = after_newlines 1 text
 
 -- a place of a text of length len, counted from its end
 abbrev pub from_end : ℕ → ℕ → ℕ

@@ -50,7 +50,7 @@ Grows (InsertStr i s) = 0 < length s
 Grows (Replace i s t) = NeedsRoom s t
 Grows _ = ⊥
 
--- the refusals of a listener, and want of memory where the event grows, of which the listener hears nothing
+-- the refusals of a listener, and memory that is out where the event grows, of which the listener hears nothing
 abbrev pub or_no_memory : {L : Type 0} → (L → Event → Refusal → L → Type 0) → L → Event → Refusal → L → Type 0
 or_no_memory refused before event r now = ((r ≡ NoMemory) × (now ≡ before) × Grows event) ⊎ refused before event r now
 

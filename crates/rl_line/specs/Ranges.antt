@@ -38,28 +38,28 @@ to_hit (ForwardBefore _) pos hit = between pos hit
 to_hit (Backward _) pos hit = between hit pos
 to_hit (BackwardAfter c) pos hit = between (hit + len_utf8 c) pos
 
--- from the first start of a Big word behind the text's start, where that is not behind the cursor
+-- from the first start of a Big word after the text's start, where that is not past the cursor
 abbrev pub from_first_print : List ℕ → ℕ → Option (Range ℕ)
 from_first_print text pos =
     if pos == 0 then None
     else option_and_then (λ q. if nat_le q pos then Some (between q pos) else None) (next_word text 0 Start Big 1)
 
--- behind the newline of line k; of the last, which has none, the end of the text
-abbrev pub behind_line : List ℕ → ℕ → ℕ
-behind_line text k = min (end_of_line text k + 1) (length text)
+-- after the newline of line k; of the last, which has none, the end of the text
+abbrev pub after_line : List ℕ → ℕ → ℕ
+after_line text k = min (end_of_line text k + 1) (length text)
 
 -- the cursor's line with the n lines above it; none on the first line
 abbrev pub lines_up : List ℕ → ℕ → ℕ → Option (Range ℕ)
 lines_up text pos n =
     let k = line_number text pos in
-    if k == 0 then None else Some (between (start_of_line text (k - n)) (behind_line text k))
+    if k == 0 then None else Some (between (start_of_line text (k - n)) (after_line text k))
 
 -- the cursor's line with the n lines below it, and the newline above it; none without a newline from the cursor on
 abbrev pub lines_down : List ℕ → ℕ → ℕ → Option (Range ℕ)
 lines_down text pos n =
     let k = line_number text pos in
     if count_by is_newline (drop pos text) == 0 then None
-    else Some (between (start_of_line text k - 1) (behind_line text (min (last_line text) (k + n))))
+    else Some (between (start_of_line text k - 1) (after_line text (min (last_line text) (k + n))))
 
 -- what a movement covers, and copies
 abbrev pub covered : Line → Movement → Option (Range ℕ)

@@ -46,9 +46,9 @@ entries_of Start = []
 entries_of Stop = []
 entries_of (Cursors _ _) = []
 
--- the one entry that stands for an entry and an event that joins it: an alphanumeric character right behind what
--- was inserted, an alphanumeric cluster that stood right behind what was deleted, or before it, and a replacement
--- right behind what was put in. The one entry has no cursors yet
+-- the one entry that stands for an entry and an event that joins it: an alphanumeric character right after what
+-- was inserted, an alphanumeric cluster that stood right after what was deleted, or before it, and a replacement
+-- right after what was put in. The one entry has no cursors yet
 abbrev pub joined : Event → Entry → Option Entry
 joined (InsertChar i c) (Inserted j s _) =
     if is_alphanumeric c && (j + length s == i) then Some (Inserted j (s ++ encode_utf8 c) None) else None
@@ -148,7 +148,7 @@ IsRecorded Start = ⊥
 IsRecorded Stop = ⊥
 IsRecorded (Cursors _ _) = ⊥
 
--- a record is refused an event that it would keep, for want of memory, and is as it was then
+-- a record is refused an event that it would keep, since memory is out, and is as it was then
 abbrev pub record_refused : Record → Event → Refusal → Record → Type 0
 record_refused old event why now = (why ≡ NoMemory) × (now ≡ old) × IsRecorded event
 

@@ -19,7 +19,7 @@ meeting_place line =
     if nat_lt (length (clusters line.text)) 2 then None
     else if line.cursor == length line.text then prev_pos line.text line.cursor 1 else Some line.cursor
 
--- the place of the cluster before it, and the range of the one behind it, if there are both
+-- the place of the cluster before it, and the range of the one after it, if there are both
 abbrev pub clusters_around : List ℕ → ℕ → Option (ℕ × Range ℕ)
 clusters_around text q =
     option_and_then (λ front. option_map (λ stop. (front, between q stop)) (next_pos text q 1)) (prev_pos text q 1)
@@ -28,33 +28,33 @@ clusters_around text q =
 abbrev pub end_of_cluster : List ℕ → ℕ → ℕ
 end_of_cluster text pos = unwrap_or (next_pos text pos 1) pos
 
--- a range goes, and comes in at a place in front of it, and the cursor goes behind the cluster that follows it there
+-- a range goes, and comes in at a place in front of it, and the cursor goes past the cluster that follows it there
 abbrev pub pull_back_plan : Line → ℕ → Range ℕ → Plan (Unit {0})
-pull_back_plan line front behind =
-    let moved = text_in line behind in
-    let stop = length moved + end_of_cluster (remove_range line.text behind.start behind.end) front in
-    followed_by (Delete behind.start moved Forward) behind.start (single (InsertStr front moved) stop tt)
+pull_back_plan line front after =
+    let moved = text_in line after in
+    let stop = length moved + end_of_cluster (remove_range line.text after.start after.end) front in
+    followed_by (Delete after.start moved Forward) after.start (single (InsertStr front moved) stop tt)
 
 -- that, if there are two clusters. The answer: were there two?
 abbrev pub pulled_back : Line → Option (ℕ × Range ℕ) → Plan Bool
 pulled_back line None = nothing line false
-pulled_back line (Some (front, behind)) = answering true (pull_back_plan line front behind)
+pulled_back line (Some (front, after)) = answering true (pull_back_plan line front after)
 
--- of two clusters that meet, the one behind is pulled back in front of the other
+-- of two clusters that meet, the one after is pulled back in front of the other
 abbrev pub transpose_chars_plan : Line → Plan Bool
 transpose_chars_plan line = pulled_back line (option_and_then (clusters_around line.text) (meeting_place line))
 
 -- the text with what stands from a place to a range, and that range, exchanged
 abbrev pub exchanged_text : Line → ℕ → Range ℕ → List ℕ
-exchanged_text line front behind =
-    take front line.text ++ (text_in line behind ++ (slice_range line.text front behind.start ++ drop behind.end line.text))
+exchanged_text line front after =
+    take front line.text ++ (text_in line after ++ (slice_range line.text front after.start ++ drop after.end line.text))
 
 -- two clusters that met were exchanged, and nothing else changed in the text
 pub record SwapsClusters (old new : Line) : Type 0 where
   pub front : ℕ
-  pub behind : Range ℕ
-  pub met : option_and_then (clusters_around old.text) (meeting_place old) ≡ Some (front, behind)
-  pub text : new.text ≡ exchanged_text old front behind
+  pub after : Range ℕ
+  pub met : option_and_then (clusters_around old.text) (meeting_place old) ≡ Some (front, after)
+  pub text : new.text ≡ exchanged_text old front after
   pub len : length new.text ≡ length old.text
 
 -- n Emacs words ahead or back, or the place itself where no motion leads on
@@ -91,7 +91,7 @@ swap_plan line first second =
 abbrev pub only_move : ℕ → Plan Bool
 only_move cursor = record { steps = []; cursor = cursor; answer = false }
 
--- the two words are exchanged, if they are two, else the cursor goes behind the first
+-- the two words are exchanged, if they are two, else the cursor goes past the first
 abbrev pub transpose_words_plan : Line → ℕ → Plan Bool
 transpose_words_plan line n =
     let first = first_word line n in

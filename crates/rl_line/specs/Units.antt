@@ -32,7 +32,7 @@ cut_more us [] = us
 cut_more us (e ∷ es) = cut_more (add_entry e us) es
 
 -- the units of entries, the latest first. Of an insertion of a, a Begin, and insertions of b and c they are the last of these,
--- that of b, the Begin, and that of a; with an End behind them they are two, all from the Begin to the End, and that of a.
+-- that of b, the Begin, and that of a; with an End after them they are two, all from the Begin to the End, and that of a.
 abbrev pub units : List Entry → List UndoUnit
 units es = cut_more [] es
 

@@ -264,8 +264,8 @@ pub(crate) fn go_over(
     match change.place() {
         Some(at) => {
             let (going, coming) = change.texts(way);
-            let behind = swap_in(text, starts, at, at + going.len(), coming, newlines(coming));
-            change.cursor_over(way).unwrap_or(behind)
+            let after = swap_in(text, starts, at, at + going.len(), coming, newlines(coming));
+            change.cursor_over(way).unwrap_or(after)
         }
         None => cursor,
     }
@@ -422,7 +422,7 @@ pub(crate) fn copied(alloc: Global, text: &str) -> Result<String, Refusal>
 // Joining: each of these takes an event in where it joins the change, and answers what may be told of it then, or None where it
 // does not. What was joined has no cursors yet.
 impl Change {
-    /// An alphanumeric character that goes in right behind what was inserted.
+    /// An alphanumeric character that goes in right after what was inserted.
     #[inline(always)]
     pub(crate) fn join_char(&mut self, idx: usize, c: char) -> Result<Option<Freshness>, Refusal>
         ensures ok { IfOk result (λ fresh. TakesIn (InsertChar idx c) (entry_of self.old) (entry_of self.new) fresh) }
@@ -444,7 +444,7 @@ impl Change {
         }
     }
 
-    /// An alphanumeric cluster that stood right behind what was deleted, or right before it.
+    /// An alphanumeric cluster that stood right after what was deleted, or right before it.
     pub(crate) fn join_deletion(
         &mut self,
         idx: usize,
@@ -475,7 +475,7 @@ impl Change {
         }
     }
 
-    /// A replacement right behind what was put in.
+    /// A replacement right after what was put in.
     pub(crate) fn join_replacement(
         &mut self,
         idx: usize,

@@ -1,4 +1,4 @@
-//! A list of entries, of which the first are recorded, and those behind them were undone: what an event makes of it, and which
+//! A list of entries, of which the first are recorded, and those after them were undone: what an event makes of it, and which
 //! of them an undo or a redo goes over. A function that records drops what was undone, and refused it leaves every entry.
 ghost use Rattle.std.specs.Prelude.{◌≡◌, ◌+◌, ◌^◌, ◌≤◌, ◌<◌, [], ◌∷◌, ◌++◌, encode_utf8, length, map, take, drop, true, false, None, IfOk, IfErr, IfSome, OnOk, OnErr};
 ghost use Rattle.std.specs.Option.{option_map};
@@ -242,20 +242,20 @@ pub(crate) fn first(entries: &[Change], len: usize) -> &[Change]
     &entries[..len.min(entries.len())]
 }
 
-/// How many groups are open behind the entries, where none is before them.
+/// How many groups are open after the entries, where none is before them.
 pub(crate) fn level(entries: &[Change]) -> usize
     requires { IsMatched (map entry_of entries.now) }
     ensures { result ≡ level (map entry_of entries.now) }
 {
     let mut level = 0;
     for entry in entries {
-        level = level_behind(entry, level);
+        level = level_after(entry, level);
     }
     level
 }
 
-// How many groups are open behind an entry, where so many are before it.
-fn level_behind(entry: &Change, level: usize) -> usize
+// How many groups are open after an entry, where so many are before it.
+fn level_after(entry: &Change, level: usize) -> usize
     requires { level < 2 ^ 63 }
     ensures level { result ≡ deep level (entry_of entry.now ∷ []) }
     ensures bound { result ≤ level + 1 }
@@ -267,8 +267,8 @@ fn level_behind(entry: &Change, level: usize) -> usize
     }
 }
 
-/// How many groups are open behind the first `len` entries, all where there are fewer. It goes back to there from
-/// the last entry, behind which `last` are open.
+/// How many groups are open after the first `len` entries, all where there are fewer. It goes back to there from
+/// the last entry, after which `last` are open.
 pub(crate) fn level_at(entries: &[Change], len: usize, last: usize) -> usize
     requires matched { IsMatched (map entry_of entries.now) }
     requires last { last ≡ level (map entry_of entries.now) }
@@ -422,7 +422,7 @@ pub(crate) fn next_len(entries: &[Change]) -> usize
     let mut level = 0;
     let mut at = 0;
     while at < entries.len() {
-        level = level_behind(&entries[at], level);
+        level = level_after(&entries[at], level);
         at += 1;
         if level == 0 {
             return at;

@@ -234,7 +234,7 @@ impl LineBuffer {
         Ok(())
     }
 
-    // One step: finds room, reports, and then puts a text in the place of another, which can't fail any more.
+    // One step: finds room, reports, and then replaces a text by another, which can't fail any more.
     #[tactic(auto, using(rl_base::proofs::EventLemmas::fitting))]
     fn put_instead<L: ChangeListener>(
         &mut self,
@@ -326,8 +326,8 @@ impl LineBuffer {
         let (going, coming) = change.texts(way);
         let to = at + going.len();
         let come = find_room_instead(&mut self.buf, &mut self.starts, at, to, coming)?;
-        let behind = swap_in(&mut self.buf, &mut self.starts, at, to, coming, come);
-        self.pos = change.cursor_over(way).unwrap_or(behind);
+        let after = swap_in(&mut self.buf, &mut self.starts, at, to, coming, come);
+        self.pos = change.cursor_over(way).unwrap_or(after);
         self.limit = self.limit.max(self.buf.len());
         Ok(())
     }

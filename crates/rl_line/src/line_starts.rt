@@ -3,7 +3,7 @@ ghost use Rattle.std.specs.Prelude.{◌≡◌, ℕ, [], ◌+◌, ◌-◌, ◌^�
 ghost use Rattle.std.specs.List.{replace_range};
 ghost use Rattle.std.specs.Str.{IsCharBoundary};
 ghost use Rattle.rl_base.specs.Lines.{is_newline, line_number};
-ghost use Rattle.rl_line.specs.LineStarts.{behind_newlines, line_starts, from_end, IsTable};
+ghost use Rattle.rl_line.specs.LineStarts.{after_newlines, line_starts, from_end, IsTable};
 
 use memchr::memchr_iter;
 use std::alloc::Global;
@@ -228,11 +228,11 @@ pub(crate) fn exchange_starts(
     }
     let gone = starts.line_number(text, to) - first;
     open_gap(&mut starts.places, first, gone, come);
-    put_behind_newlines(&mut starts.places[first..], from, part);
+    put_after_newlines(&mut starts.places[first..], from, part);
     starts.border = first + come;
 }
 
-// Makes room for `come` places in the stead of `gone` from a number on. What is left between is open. One more or less, as for a
+// Makes room for `come` places in place of `gone` from a number on. What is left between is open. One more or less, as for a
 // newline that is typed or taken out, goes by the calls that move memory.
 fn open_gap(places: &mut Vec<usize>, at: usize, gone: usize, come: usize)
     requires within { at + gone ≤ vec_len places.old }
@@ -270,10 +270,10 @@ fn open_gap(places: &mut Vec<usize>, at: usize, gone: usize, come: usize)
 
 // Puts the places after the newlines of a part that begins at `at` before those that stay.
 #[inline(never)]
-fn put_behind_newlines(places: &mut [usize], at: usize, part: &str)
+fn put_after_newlines(places: &mut [usize], at: usize, part: &str)
     requires within { count_by is_newline part.now ≤ length places.old }
     requires fits { at + length part.now < 2 ^ 64 }
-    ensures { places.new ≡ behind_newlines (at + 1) part.now ++ drop (count_by is_newline part.now) places.old }
+    ensures { places.new ≡ after_newlines (at + 1) part.now ++ drop (count_by is_newline part.now) places.old }
 {
     let mut n = 0;
     for newline in memchr_iter(b'\n', part.as_bytes()) {

@@ -41,7 +41,7 @@ pub(crate) fn find_room(
     Ok(())
 }
 
-/// Finds room in a line's text and in its table for a part in the place of a range. Answers how many newlines the part has.
+/// Finds room in a line's text and in its table for a part that replaces a range. Answers how many newlines the part has.
 /// Inlined, since an undo and a redo ask for it, and mostly for next to nothing.
 #[inline(always)]
 pub(crate) fn find_room_instead(
@@ -72,7 +72,7 @@ pub(crate) fn find_room_instead(
     Ok(come)
 }
 
-/// Puts a part that has so many newlines in the place of a range, in a line's text and in its table, which have room for what
+/// Replaces a range by a part that has so many newlines, in a line's text and in its table, which have room for what
 /// this makes of them: an insertion where the range is empty, a deletion where the part is. Answers the part's end.
 pub(crate) fn swap_in(
     text: &mut String,
@@ -147,7 +147,7 @@ fn swap_in_encoded(text: &mut String, starts: &mut LineStarts, at: usize, c: cha
     put_char_in(text, at, c);
 }
 
-/// Puts a part in the place of a range, in a text that has room for what this makes of it.
+/// Replaces a range by a part, in a text that has room for what this makes of it.
 pub(crate) fn swap_text(text: &mut String, from: usize, to: usize, part: &str)
     requires order { from ≤ to }
     requires start { IsCharBoundary (string_bytes text.old) from }

@@ -50,7 +50,7 @@ fn move_up(tail: &mut [u8], by: usize)
     move_tail!(tail, by, up_by, tail.copy_within(..end, by); 1 2 3 4 5 6 7 8 9 10 11 12 13 14 15 16)
 }
 
-/// Puts a part in the place of a range, in a list of bytes that has room for what this makes of it.
+/// Replaces a range by a part, in a list of bytes that has room for what this makes of it.
 pub(crate) fn swap_bytes(text: &mut Vec<u8>, from: usize, to: usize, part: &[u8])
     requires order { from ≤ to }
     requires within { to ≤ vec_len text.old }
@@ -66,7 +66,7 @@ pub(crate) fn swap_bytes(text: &mut Vec<u8>, from: usize, to: usize, part: &[u8]
     }
 }
 
-// Puts a part in the place of a range that is longer by so much.
+// Replaces a range that is longer than the part by so much.
 fn shrink(text: &mut Vec<u8>, from: usize, less: usize, part: &[u8])
     requires within { from + length part.now + less ≤ vec_len text.old }
     ensures items { text.new.items ≡ replace_range text.old.items from (from + length part.now + less) part.now }
@@ -87,7 +87,7 @@ fn close_up(all: &mut [u8], from: usize, less: usize, part: &[u8])
     move_down(&mut all[end..], less);
 }
 
-// Puts a part in the place of a range of so many bytes, which is shorter.
+// Replaces a range of so many bytes, which is shorter than the part.
 fn grow(text: &mut Vec<u8>, from: usize, going: usize, part: &[u8])
     requires within { from + going ≤ vec_len text.old }
     requires longer { going ≤ length part.now }

@@ -26,11 +26,11 @@ use std::marker::Model;
 /// Every call that records a change, also an empty one, and every `begin`, `end` and `truncate` drops what was
 /// undone; the start and the stop of a kill and the telling of cursors do not.
 ///
-/// With a change it keeps the cursor before it and after it, if it is told them right behind the change; a change that
+/// With a change it keeps the cursor before it and after it, if it is told them right after the change; a change that
 /// joins another keeps the first cursor before and the last one after.
 #[derive(Drop)]
 pub struct Changeset {
-    // What is recorded, and behind it what was undone, the entry that is redone next first: an undo and a redo move no entry.
+    // What is recorded, and after it what was undone, the entry that is redone next first: an undo and a redo move no entry.
     entries: Vec<Change>,
     // How many of them are recorded.
     recorded: usize,
@@ -134,7 +134,7 @@ impl Changeset {
     }
 
     /// Records that `string` was deleted from the byte place `idx`, from whichever side of the cursor: an
-    /// alphanumeric grapheme cluster joins the last entry, where that is a deletion that it stood right behind, or
+    /// alphanumeric grapheme cluster joins the last entry, where that is a deletion that it stood right after, or
     /// right before. An empty one is no entry.
     pub fn delete(&mut self, idx: usize, string: &str) -> Result<(), Refusal>
         ensures done { OnOk result (self.new ≡ record_step self.old (Delete idx string.now Forward)) }
@@ -248,7 +248,7 @@ impl Changeset {
         self.fresh = Freshness::Stale;
     }
 
-    /// A copy of what the last change put in, where it is an insertion or a replacement; ends of groups behind
+    /// A copy of what the last change put in, where it is an insertion or a replacement; ends of groups after
     /// it are passed over.
     pub fn last_insert(&self) -> Result<Option<String>, Refusal>
         ensures ok { IfOk result (λ text. option_map string_bytes text ≡ last_insert self.now.recorded) }

@@ -114,7 +114,7 @@ impl Watched {
         self.commands_refused = self.commands_refused.saturating_add(1);
     }
 
-    // A command is refused for want of memory, and after that for a place that is no longer one.
+    // A command is refused since memory is out, and after that for a place that is no longer one.
     fn hear(&mut self, reply: &Reply) -> Result<(), Failed> {
         match reply {
             Reply::Refused(Fault::NoMemory) => {}
@@ -138,7 +138,7 @@ impl Watched {
         Ok(())
     }
 
-    // Prints what is there now, behind what was done.
+    // Prints what is there now, after what was done.
     fn print_left(&self, rt: &impl Print) {
         let text = self.session.line().as_str();
         let cursor = self.session.line().pos();

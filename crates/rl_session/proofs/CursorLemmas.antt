@@ -18,7 +18,7 @@ use Rattle.rl_line.proofs.JoinLemmas.{fresh-Delete-nothing}
 use Rattle.rl_line.proofs.PlanLemmas.{first_step}
 use Rattle.rl_line.proofs.RecordLemmas.{entries_of-undo, if_else, if_some, redone-joined, undoes-inverse, unless}
 use Rattle.rl_line.proofs.ToldLemmas.{same-event, told-cases}
-use Rattle.rl_line.proofs.WalkLemmas.{after-some, none_or_one, told-added, told-behind}
+use Rattle.rl_line.proofs.WalkLemmas.{after-some, none_or_one, told-added, told-after}
 
 -- an event of a text, which is the last one where it is a replacement
 abbrev pub IsLone : Event → List Step → Type 0
@@ -46,7 +46,7 @@ pub record AddedAlone (e : Entry) (text now : List ℕ) (before after : ℕ) : T
   pub makes : apply (event_of e) text ≡ Some now
 
 -- ---- what a step makes of the entries
--- the entries after an event of a text and the cursors behind it
+-- the entries after an event of a text and the cursors after it
 abbrev pub next : Event → List Entry → ℕ → ℕ → List Entry
 next event es b a = entries_told (freshness_of event es) b a (entries_after event es)
 
@@ -66,7 +66,7 @@ next-cons : (event : Event) (e d : Entry) (ds : List Entry) (b a : ℕ) → next
 next-cons event e d ds b a =
     let (y, ys, some) = after-some event d ds in
     let fresh = freshness_of event (d ∷ ds) in
-    ap (λ l. entries_told fresh b a (e ∷ l)) some ∙ told-behind fresh b a e y ys ∙ ap (λ l. e ∷ entries_told fresh b a l) (sym some)
+    ap (λ l. entries_told fresh b a (e ∷ l)) some ∙ told-after fresh b a e y ys ∙ ap (λ l. e ∷ entries_told fresh b a l) (sym some)
 
 next-front : (event : Event) (front : List Entry) (l : Entry) (b a : ℕ) → next event (front ++ l ∷ []) b a ≡ front ++ next event (l ∷ []) b a
 next-front event [] l b a = refl
@@ -144,7 +144,7 @@ same-weight p (Inserted i s ps) = refl
 same-weight p (Deleted i s ps) = refl
 same-weight p (Replaced i s t ps) = refl
 
--- at each place an entry that is no lighter, and perhaps more entries behind these
+-- at each place an entry that is no lighter, and perhaps more entries after these
 abbrev Grows : List Entry → List Entry → Type 0
 Grows [] ys = Unit {0}
 Grows (x ∷ xs) [] = ⊥
@@ -187,10 +187,10 @@ heavier (InsertChar i c) (Inserted k s ps) j ss h lone =
 heavier (Delete i s side) (Deleted k t ps) j ss h lone =
     let rest = cond (i + length s == k) (Some (Deleted i (s ++ t) None)) None in
     let some = cut-some i s side k t ps j h in
-    let behind : length t < length (t ++ s) = omega (arith, some, length-append t s) in
+    let after : length t < length (t ++ s) = omega (arith, some, length-append t s) in
     let before : length t < length (s ++ t) = omega (arith, some, length-append s t) in
     elim (if_else (k == i) (Deleted i (t ++ s) None) j rest (unless (not (is_word_cluster s)) j (cond (k == i) (Some (Deleted i (t ++ s) None)) rest) h)) [
-      | inl b ↦ inl (subst (λ n. length t < n) (ap weight b.1) behind)
+      | inl b ↦ inl (subst (λ n. length t < n) (ap weight b.1) after)
       | inr q ↦ inl (subst (λ n. length t < n) (ap weight (if_some (i + length s == k) (Deleted i (s ++ t) None) j q).1) before)
     ]
 heavier (Replace i s t) (Replaced k o w ps) j ss h lone =
@@ -217,9 +217,9 @@ Grows-heard b [] r q = Grows-same r.recorded
 Grows-heard b (s ∷ ss) r q =
     let k = heard_step record_step b s r in
     let es = r.recorded in
-    let behind = entries_after s.0 es in
-    let told = Grows-told (freshness_of s.0 es) b s.1 behind in
-    let first : Grows es (next s.0 es b s.1) = Grows-on es behind (next s.0 es b s.1) (Grows-after s.0 es ss q.1) told in
+    let after = entries_after s.0 es in
+    let told = Grows-told (freshness_of s.0 es) b s.1 after in
+    let first : Grows es (next s.0 es b s.1) = Grows-on es after (next s.0 es b s.1) (Grows-after s.0 es ss q.1) told in
     Grows-on es k.recorded (heard record_step s.1 ss k).recorded (subst (Grows es) (sym (recorded-next b s.0 s.1 ss r q.1)) first) (Grows-heard s.1 ss k q.2)
 
 -- ---- one entry is there, and stays the only one
@@ -303,23 +303,23 @@ last-same : (xs : List Entry) (k e : Entry) → xs ++ k ∷ [] ≡ xs ++ e ∷ [
 last-same [] k e h = cc
 last-same (x ∷ xs) k e h = let rest : xs ++ k ∷ [] ≡ xs ++ e ∷ [] = cc in last-same xs k e rest
 
--- the steps behind the one that added the entry
-behind-added : (steps : List Step) (r : Record) (x : List ℕ) (first : ℕ) (line new : Line) (base : List Entry) (k e : Entry)
+-- the steps after the one that added the entry
+after-added : (steps : List Step) (r : Record) (x : List ℕ) (first : ℕ) (line new : Line) (base : List Entry) (k e : Entry)
     → IsUtf8 x → after steps line ≡ Some new → Quiet line.cursor steps
     → r.recorded ≡ base ++ k ∷ [] → AddedAlone k x line.text first line.cursor → (heard record_step line.cursor steps r).recorded ≡ base ++ e ∷ []
     → AddedAlone e x new.text first (ends_at line.cursor steps)
-behind-added [] r x first line new base k e u h q is alone end =
+after-added [] r x first line new base k e u h q is alone end =
     let same : line ≡ new = cc in
     let one = last-same base k e (sym is ∙ end) in
     subst (λ d. AddedAlone d x new.text first line.cursor) one (subst (λ (l : Line). AddedAlone k x l.text first line.cursor) same alone)
-behind-added (s ∷ ss) r x first line new base k e u h q is alone end =
+after-added (s ∷ ss) r x first line new base k e u h q is alone end =
     let b = first_step s ss line new h in
     let c = line.cursor in
     let now = heard_step record_step c s r in
     let made : now.recorded ≡ base ++ next s.0 (k ∷ []) c s.1 =
     recorded-next c s.0 s.1 ss r q.1 ∙ ap (λ es. next s.0 es c s.1) is ∙ next-front s.0 base k c s.1 in
     elim (one-more s.0 x line.text b.text k first c s.1 u alone b.makes q.0) [
-      | inl t ↦ behind-added ss now x first (stepped line b.text s.1) new base t.entry e u b.rest q.2 (made ∙ ap (λ es. base ++ es) t.is) t.alone end
+      | inl t ↦ after-added ss now x first (stepped line b.text s.1) new base t.entry e u b.rest q.2 (made ∙ ap (λ es. base ++ es) t.is) t.alone end
       | inr t ↦
           let more = Grows-length now.recorded (heard record_step s.1 ss now).recorded (Grows-heard s.1 ss now q.2) in
           let two : length now.recorded ≡ length base + 2 = ap length (made ∙ ap (λ es. base ++ es) t.1) ∙ length-append base (k ∷ (t.0 ∷ [])) in
@@ -392,6 +392,6 @@ added-alone (s ∷ ss) r old new e u h q end =
             let grown : now.recorded ≡ es ++ with_cursors p k ∷ [] = is ∙ apart ∙ ap (λ ks. es ++ ks) (told-one (entries_of s.0) k c s.1 one) in
             let makes : apply (event_of (with_cursors p k)) old.text ≡ Some b.text =
             ap (λ v. apply v old.text) (same-event p k) ∙ added-makes s.0 old.text b.text k u b.makes one in
-            behind-added ss now old.text c line new es (with_cursors p k) e u b.rest q.2 grown (record { cursors = added-cursors s.0 k p one; makes = makes }) end
+            after-added ss now old.text c line new es (with_cursors p k) e u b.rest q.2 grown (record { cursors = added-cursors s.0 k p one; makes = makes }) end
       ]
     ]

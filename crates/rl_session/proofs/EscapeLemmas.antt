@@ -42,7 +42,7 @@ not_named bytes inner digits more is parts h none c others e =
     let same : digits ≡ found.0 = (same_parts 125 digits found.0 more others h (digits-Lacks 0 found.0 c found.1.value) both).0 in
     none c (subst (λ d. NamesChar d c) (sym same) found.1)
 
--- the character behind the backslash
+-- the character after the backslash
 
 pub after_u : (bytes rest : List ℕ) (c : ℕ) → bytes ≡ encode_utf8 c ++ rest → c ≡ 117 → bytes ≡ 117 ∷ rest
 after_u bytes rest c e is = e ∙ ap (λ l. l ++ rest) (ap encode_utf8 is ∙ encode_ascii 117 (omega arith))

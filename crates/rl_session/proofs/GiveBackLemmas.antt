@@ -115,13 +115,13 @@ respelled line r e action (Some word) made is adds = from (length made == 0) ref
     from true h =
         let empty = eqb-true (length made) 0 h in
         let c = line.cursor in
-        let behind = word.start + length made in
+        let after = word.start + length made in
         let mid = heard_step record_step c (gone, c) r in
         let first : mid.recorded ≡ r.recorded =
         recorded-next c gone c [] r tt ∙ ap (λ f. entries_told f c c (entries_after gone r.recorded)) (fresh-Delete-nothing r.recorded word.start (text_in line word) Forward (omega (arith, empty, long)))
         ∙ after-Delete-nothing r.recorded word.start (text_in line word) Forward (omega (arith, empty, long)) in
-        let second : (heard_step record_step c (come, behind) mid).recorded ≡ mid.recorded =
-        recorded-next c come behind [] mid tt ∙ ap (λ f. entries_told f c behind (entries_after come mid.recorded)) (fresh-InsertStr-nothing mid.recorded word.start made empty)
+        let second : (heard_step record_step c (come, after) mid).recorded ≡ mid.recorded =
+        recorded-next c come after [] mid tt ∙ ap (λ f. entries_told f c after (entries_after come mid.recorded)) (fresh-InsertStr-nothing mid.recorded word.start made empty)
         ∙ after-InsertStr-nothing mid.recorded word.start made empty in
         absurd (one_longer r.recorded _ e (second ∙ first) adds)
     from false h = record {

@@ -22,7 +22,7 @@ use Rattle.rl_base.specs.declared.motion.Movement.{Movement}
 use Rattle.rl_base.specs.declared.motion.Movement.TheVariants.{BeginningOfLine, EndOfLine, BackwardWord, ForwardWord, ViCharSearch, BeginningOfBuffer, EndOfBuffer}
 use Rattle.rl_base.proofs.KillGroupLemmas.{lent-size, ring_step-size}
 use Rattle.rl_base.proofs.RingLemmas.{next_index-is}
-use Rattle.rl_base.proofs.SwapLemmas.{Swaps, Swaps-back, Swaps-Delete, Swaps-behind, Swaps-before, apply-InsertStr-Swaps}
+use Rattle.rl_base.proofs.SwapLemmas.{Swaps, Swaps-back, Swaps-Delete, Swaps-after, Swaps-before, apply-InsertStr-Swaps}
 use Rattle.rl_line.specs.Line.{Line, stepped}
 use Rattle.rl_line.specs.Plan.{Step as PlanStep, Plan, nothing, single, heard as heard_steps, heard_step, Taken, Done, Halted, or_no_memory}
 use Rattle.rl_line.specs.Edits.{too_long, yank_plan}
@@ -45,9 +45,9 @@ use Rattle.rl_session.proofs.PairLemmas.{Halted-own}
 use Rattle.rl_line.proofs.PlanLemmas.{first_step}
 
 -- ---- the newest slot
-get-behind : (slots : List (List ℕ)) (text : List ℕ) → slice_get (slots ++ text ∷ []) (length slots) ≡ Some text
-get-behind [] text = refl
-get-behind (s ∷ ss) text = get-behind ss text
+get-after : (slots : List (List ℕ)) (text : List ℕ) → slice_get (slots ++ text ∷ []) (length slots) ≡ Some text
+get-after [] text = refl
+get-after (s ∷ ss) text = get-after ss text
 
 get-set : (slots : List (List ℕ)) (i : ℕ) (text : List ℕ) → i < length slots → slice_get (slice_set slots i text) i ≡ Some text
 get-set [] i text h = absurd (omega arith)
@@ -58,7 +58,7 @@ get-put : (slots : List (List ℕ)) (i : ℕ) (text : List ℕ) → i ≤ length
 get-put slots i text h = by_end (i == length slots) refl
   where
     by_end : (b : Bool) → (i == length slots) ≡ b → slice_get (cond b (slots ++ text ∷ []) (slice_set slots i text)) i ≡ Some text
-    by_end true e = ap (slice_get (slots ++ text ∷ [])) (eqb-true i (length slots) e) ∙ get-behind slots text
+    by_end true e = ap (slice_get (slots ++ text ∷ [])) (eqb-true i (length slots) e) ∙ get-after slots text
     by_end false e = let n = eqb-false i (length slots) e in get-set slots i text (omega arith)
 
 get-join : (slots : List (List ℕ)) (i : ℕ) (mode : Mode) (old text : List ℕ) → slice_get slots i ≡ Some old
@@ -75,7 +75,7 @@ record Newest (r : Ring) (text : List ℕ) : Type 0 where
 put-newest : (text : List ℕ) (r : Ring) → 0 < r.size → IsRing r → Newest (in_new_slot text r) text
 put-newest text r some h =
     let n = next_index-is r.size r.index r.slots some h.within h.at_slot in
-    record { slot_is = get-put r.slots (next_index r.size r.index r.slots) text n.behind; last_is = refl }
+    record { slot_is = get-put r.slots (next_index r.size r.index r.slots) text n.after; last_is = refl }
 
 first_as : (size : ℕ) (last : Action) (text : List ℕ) (mode : Mode) (r : Ring) → size ≡ r.size → 0 < size → IsRing r → IsNoKill last
     → Newest (killed_as size last text mode r) text
@@ -355,7 +355,7 @@ Ready-took start old new roomy r t = record {
 took-joins : (side : Direction) (start old new slot taken : List ℕ) (i j : ℕ) → Swaps start old i slot [] → Swaps old new j taken []
     → Touches side (length taken) i j → Swaps start new j (joined (side_mode side) slot taken) []
 took-joins Forward start old new slot taken i j p q t =
-    subst (λ k. Swaps start new k (slot ++ taken) []) (sym t) (Swaps-behind start old new i j slot [] taken [] p q (omega arith))
+    subst (λ k. Swaps start new k (slot ++ taken) []) (sym t) (Swaps-after start old new i j slot [] taken [] p q (omega arith))
 took-joins Backward start old new slot taken i j p q t = Swaps-before start old new i j slot taken p q t
 
 Missing-took : (start : List ℕ) (old new : State) → Roomy new → Missing start old → Took old new → Missing start new
@@ -492,7 +492,7 @@ GivenBack-yanked old now left new m reset_after settles y =
       slot_is = ap (λ (s : State). yank s.pair.ring) settles ∙ yank-reset reset_after left.pair.ring ∙ y.slot_is
           ∙ yank-lent (yank now.pair.ring) now.pair.ring ∙ m.newest.slot_is;
       front = m.swaps.front;
-      behind = m.swaps.rest;
+      after = m.swaps.rest;
       left = m.swaps.after_is;
       place = sym m.swaps.place;
       stands = text ∙ m.swaps.text_is;

@@ -58,9 +58,9 @@ parted (b ∷ bs) (suc n) l h p =
     )
 
 -- a front of some bytes, with one line more
-pub longer_front : (bytes front rest end behind : List ℕ) → bytes ≡ front ++ rest → rest ≡ end ++ 10 ∷ behind → bytes ≡ (front ++ (end ++ 10 ∷ [])) ++ behind
-longer_front bytes front rest end behind e f =
-    e ∙ ap (λ l. front ++ l) (f ∙ sym (append_assoc end (10 ∷ []) behind)) ∙ sym (append_assoc front (end ++ 10 ∷ []) behind)
+pub longer_front : (bytes front rest end after : List ℕ) → bytes ≡ front ++ rest → rest ≡ end ++ 10 ∷ after → bytes ≡ (front ++ (end ++ 10 ∷ [])) ++ after
+longer_front bytes front rest end after e f =
+    e ∙ ap (λ l. front ++ l) (f ∙ sym (append_assoc end (10 ∷ []) after)) ∙ sym (append_assoc front (end ++ 10 ∷ []) after)
 
 -- what was read of a line was done
 pub LineOut-said : (old new : Interpreter) (line : List ℕ) (said : Option ScriptLine) (out : List ℕ) → IsSaid line said → SaidOut old said out new → LineOut old line out new
@@ -132,7 +132,7 @@ Runs-more left mid leaves held holds now_holds now new part part' bytes h r k = 
   took = Took-trans started now new [] part part' h.input bytes held holds now_holds h.took k;
 }
 
--- the script ended behind a newline, or was empty
+-- the script ended after a newline, or was empty
 pub Ran-end : (left mid leaves held holds : Option (List ℕ)) (now : Interpreter) (part : List ℕ)
     → Runs left mid held holds now part → part ≡ [] → Consumes mid leaves [] → IsAtEnd leaves → Ran left leaves held holds
 Ran-end left mid leaves held holds now part h e r end =

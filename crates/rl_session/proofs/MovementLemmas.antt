@@ -1,4 +1,4 @@
--- One movement at most is named, by what stands behind its word.
+-- One movement at most is named, by what stands after its word.
 use Rattle.std.proofs.Common.{◌≡◌, ℕ, List, Option, Some, refl, sym, ap, subst, ◌∙◌}
 use Rattle.std.specs.Prelude.{codes}
 use Rattle.rl_base.specs.declared.layout.GraphemeClusterMode.{GraphemeClusterMode}
@@ -41,7 +41,7 @@ NamesMode-one unicode unicode = refl
 NamesMode-one wcwidth wcwidth = refl
 NamesMode-one nozwj nozwj = refl
 
--- what stands behind a word
+-- what stands after a word
 
 pub Numbered-one : {g : ℕ} {given xs ys : List ℕ} {m n : ℕ} → Numbered g given m xs → Numbered g given n ys → (m ≡ n) × (xs ≡ ys)
 Numbered-one p q = (some_same _ p.number q.number, some_same _ p.on q.on)
@@ -54,7 +54,7 @@ pub CountAtWord-one : {given : List ℕ} {m n : ℕ} {a b : At} {v w : Word} →
 CountAtWord-one {b = b} {w = w} p q =
     let same = Numbered-one p.counted q.counted in
     let kinds : p.kind ≡ q.kind = some_same _ p.on (ap rest same.1 ∙ q.on) in
-    let placed : NamesAt (word p.behind) b = subst (λ l. NamesAt (word l) b) (sym same.1) q.placed in
+    let placed : NamesAt (word p.after) b = subst (λ l. NamesAt (word l) b) (sym same.1) q.placed in
     (same.0, NamesAt-one p.placed placed, NamesWord-one p.named (subst (λ l. NamesWord l w) (sym kinds) q.named))
 
 pub CountSearch-one : {given : List ℕ} {m n : ℕ} {s t : CharSearch} → CountSearch given m s → CountSearch given n t → (m ≡ n) × (s ≡ t)
@@ -62,7 +62,7 @@ CountSearch-one {t = t} p q =
     let same = Numbered-one p.counted q.counted in
     let bytes : p.bytes ≡ q.bytes = some_same _ p.on (ap rest same.1 ∙ q.on) in
     let char : p.c ≡ q.c = SpellsChar-one p.char (subst (λ l. SpellsChar l q.c) (sym bytes) q.char) in
-    let named : NamesSearch (word p.behind) p.c t = rw (same.1, char) q.named in (same.0, NamesSearch-one p.named named)
+    let named : NamesSearch (word p.after) p.c t = rw (same.1, char) q.named in (same.0, NamesSearch-one p.named named)
 
 -- one movement at most
 
@@ -98,8 +98,8 @@ pub no-find : (given : List ℕ) → HasNoSearch given → NamesNothing (codes "
 no-find given none movement (find p) = none _ _ p
 
 -- the characters, then the kind of search, are what they are
-pub no_kind : {given behind bytes : List ℕ} {n c : ℕ} → Numbered 65535 given n behind → rest behind ≡ Some bytes → SpellsChar bytes c
-    → ((cs : CharSearch) → NamesSearch (word behind) c cs → ⊥) → HasNoSearch given
+pub no_kind : {given after bytes : List ℕ} {n c : ℕ} → Numbered 65535 given n after → rest after ≡ Some bytes → SpellsChar bytes c
+    → ((cs : CharSearch) → NamesSearch (word after) c cs → ⊥) → HasNoSearch given
 no_kind {c = c} h on char none m cs p =
     let same = Numbered-one h p.counted in
     let bytes = some_same _ on (ap rest same.1 ∙ p.on) in

@@ -32,7 +32,7 @@ Done-changes plan old new p q a d = record { last = d.last; taken = Taken-change
 abbrev pub keeps_changes : Record → Event → Refusal → Record → Type 0
 keeps_changes r _ _ now = now ≡ r
 
--- whatever refused, a pair or the line for want of memory, the record is as it was
+-- whatever refused, a pair, or the line since memory is out: the record is as it was
 pub cause-changes : (p q : Pair) (e : Event) (w : Refusal) → or_no_memory pair_refused p e w q → q.changes ≡ p.changes
 cause-changes p q e w h = elim h [ inl c ↦ ap (λ (k : Pair). k.changes) c.1 | inr c ↦ c.1 ]
 

@@ -73,7 +73,7 @@ Placed-leads start es held p = let l = lands start (reverse es) held p in (l.tex
 with_last_first : (es : List Entry) (e : Entry) (start : List ℕ) → replay_entries (reverse (e ∷ reverse es)) start ≡ replay_entries (es ++ (e ∷ [])) start
 with_last_first es e start = ap (λ x. replay_entries (reverse x) start) (sym (reverse-append es (e ∷ []))) ∙ back_again (es ++ (e ∷ [])) start
 
--- one entry more, with its text behind all held texts
+-- one entry more, with its text after all held texts
 Placed-add : (start : List ℕ) (es : List Entry) (e : Entry) (held : List (List ℕ)) (text : List ℕ) → Placed start es held
     → replay_entries (es ++ (e ∷ [])) start ≡ Some text → Placed start (es ++ (e ∷ [])) (held ++ (text ∷ []))
 Placed-add start es e held text p h =

@@ -256,7 +256,7 @@ NoneEmpty text = All (λ (p : List ℕ). 0 < length p) (clusters text)
 abbrev pub NoneAtEnd : List ℕ → Type 0
 NoneAtEnd text = All (λ (x : PlacedCluster). x.0 < length text) (placed_clusters text)
 
--- behind a place that is not the end stands a cluster, which is not empty
+-- after a place that is not the end stands a cluster, which is not empty
 next-some : (text : List ℕ) (q stop : ℕ) → NoneEmpty (drop q text) → IsUtf8 text → IsCharBoundary text q → next_pos text q 1 ≡ Some stop → 0 < length (slice_range text q stop)
 next-some text q stop full u bound h = from (q == length text) refl h
   where
@@ -382,8 +382,8 @@ IsCharBoundary-word_end text pos n u bound = from (pos == length text) (next_sto
     from false None h = bound
     from false (Some stop) h = IsCharBoundary-from_rest text pos stop bound.0 h
 
-end-behind : (text : List ℕ) (pos n : ℕ) → pos ≤ word_end text pos n
-end-behind text pos n = from (pos == length text) (next_stop stop_at.AfterEnd Emacs n (drop pos text))
+end-after : (text : List ℕ) (pos n : ℕ) → pos ≤ word_end text pos n
+end-after text pos n = from (pos == length text) (next_stop stop_at.AfterEnd Emacs n (drop pos text))
   where
     from : (b : Bool) (o : Option ℕ) → pos ≤ unwrap_or (cond b None (option_map (λ stop. pos + stop) o)) pos
     from true o = omega arith
@@ -431,7 +431,7 @@ Settles-words line n true full u bound e =
     let second = second_word line n in
     let stop = IsCharBoundary-word_end text line.cursor n u bound in
     let two = apart first second e in
-    Settles-swap line first second (end-behind text first.start 1) two.1 (wide second.end refl two.0) stop.0
+    Settles-swap line first second (end-after text first.start 1) two.1 (wide second.end refl two.0) stop.0
   where
     wide : (stop : ℕ) → word_end line.text line.cursor n ≡ stop → ((first_word line n).start ≡ (second_word line n).start → ⊥) → (second_word line n).start < (second_word line n).end
     wide zero is differ =

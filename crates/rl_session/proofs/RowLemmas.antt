@@ -55,7 +55,7 @@ Kept-Edits takes condition plan telling old reply new u d = told-Kept telling pl
 lent-Kept : {A X : Type 0} (plan : Plan A) (lent new : State) → IsUtf8 lent.line.text → (X × (new ≡ lent)) ⊎ CutShort room_by_step plan lent new → KeepsOrigin lent new
 lent-Kept plan lent new u h = elim h [ inl e ↦ same_origin lent new u e.1 | inr c ↦ cut-Kept room_by_step plan lent new u c ]
 
--- a record in the place of another
+-- a record that replaces another
 changes-Kept : (changes : Record) (old new : State) → Kept old.pair.changes changes old.line old.line → new ≡ with_changes changes old → KeepsOrigin old new
 changes-Kept changes old new k e = subst (KeepsOrigin old) (sym e) k
 

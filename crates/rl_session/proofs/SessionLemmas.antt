@@ -150,7 +150,7 @@ AtRest-kill m p q old new (Err w) at d h r = record {
   idle = idle-Told (is_by_characters m) _ p q (λ i. idle-Halted (kill_plan old m) old new p q w (NoneStarts-kill old m) (Halted-own nothing_more (kill_plan old m) old new p q w i) r.idle) h;
 }
 
--- nothing was done for want of memory
+-- nothing was done, since memory is out
 Walks-same : (r now : Record) (old new : Line) → (now ≡ r) × (new ≡ old) → Walks r old.text → Walks now new.text
 Walks-same r now old new h w = subst (λ (k : Record). Walks k new.text) (sym h.0) (subst (λ (l : Line). Walks r l.text) (sym h.1) w)
 

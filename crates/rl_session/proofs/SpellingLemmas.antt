@@ -30,7 +30,7 @@ plain-on : (xs bytes text : List ℕ) → Lacks 92 xs → Spells bytes text → 
 plain-on [] bytes text h s = s
 plain-on (x ∷ xs) bytes text h s = plain h.0 (plain-on xs bytes text h.1 s)
 
--- behind a plain byte stands what spells the text behind that byte
+-- after a plain byte stands what spells the text after that byte
 plain-tail : {b : ℕ} {bytes text : List ℕ} → b ≢ 92 → Spells (b ∷ bytes) text → (more : List ℕ) × Spells bytes more × (text ≡ b ∷ more)
 plain-tail n (plain {text = more} m s) = (more, s, refl)
 plain-tail n (escape e s) = absurd (n refl)
@@ -200,14 +200,14 @@ char-more bytes others c h n d s =
 pub no_char : (bytes : List ℕ) → bytes ≡ [] → SpellsNoChar bytes
 no_char bytes e c s = empty-none c [] (append-nil (encode_utf8 c) ∙ sym (nothing-one s.1 e))
 
-pub no_escaped_char : (bytes behind : List ℕ) → bytes ≡ 92 ∷ behind → BeginsNoEscape behind → SpellsNoChar bytes
-no_escaped_char bytes behind e none c s = no_escape behind none (encode_utf8 c) (subst (λ b. Spells b (encode_utf8 c)) e s.1)
+pub no_escaped_char : (bytes after : List ℕ) → bytes ≡ 92 ∷ after → BeginsNoEscape after → SpellsNoChar bytes
+no_escaped_char bytes after e none c s = no_escape after none (encode_utf8 c) (subst (λ b. Spells b (encode_utf8 c)) e s.1)
 
-pub escaped_char : (bytes behind : List ℕ) (r : Option (ℕ × Bor (List ℕ))) → bytes ≡ 92 ∷ behind
-    → MatchOption r (BeginsNoEscape behind) (λ found. BeginsEscape behind found.0 found.1.now)
+pub escaped_char : (bytes after : List ℕ) (r : Option (ℕ × Bor (List ℕ))) → bytes ≡ 92 ∷ after
+    → MatchOption r (BeginsNoEscape after) (λ found. BeginsEscape after found.0 found.1.now)
     → MatchOption r (SpellsNoChar bytes) (λ found. BeginsChar bytes found.0 found.1.now)
-escaped_char bytes behind None e h = no_escaped_char bytes behind e h
-escaped_char bytes behind (Some found) e h = subst (λ b. BeginsChar b found.0 found.1.now) (sym e) (Begins-escape behind found.1.now found.0 h)
+escaped_char bytes after None e h = no_escaped_char bytes after e h
+escaped_char bytes after (Some found) e h = subst (λ b. BeginsChar b found.0 found.1.now) (sym e) (Begins-escape after found.1.now found.0 h)
 
 -- a character of a text is a scalar value
 pub IsScalar-first : (bytes rest : List ℕ) (c : ℕ) → IsUtf8 bytes → bytes ≡ encode_utf8 c ++ rest → IsScalar c
@@ -223,17 +223,17 @@ not_slash bytes rest c e n is = n rest (e ∙ ap (λ l. l ++ rest) (ap encode_ut
 pub read_all : (bytes : List ℕ) → Begins bytes [] bytes
 read_all bytes = record { on = λ more s. s; only = λ whole s. (whole, s, refl) }
 
-pub read_on : (bytes text rest xs behind : List ℕ) (c : ℕ) (others : List ℕ) → Begins bytes text rest → rest ≡ xs ++ 92 ∷ behind → Lacks 92 xs
-    → BeginsEscape behind c others → Begins bytes ((text ++ xs) ++ encode_utf8 c) others
-read_on bytes text rest xs behind c others b e h p =
-    let on : Begins rest xs (92 ∷ behind) = subst (λ l. Begins l xs (92 ∷ behind)) (sym e) (Begins-plain xs (92 ∷ behind) h) in
-    Begins-then bytes (text ++ xs) (92 ∷ behind) (encode_utf8 c) others (Begins-then bytes text rest xs (92 ∷ behind) b on) (Begins-escape behind others c p).1
+pub read_on : (bytes text rest xs after : List ℕ) (c : ℕ) (others : List ℕ) → Begins bytes text rest → rest ≡ xs ++ 92 ∷ after → Lacks 92 xs
+    → BeginsEscape after c others → Begins bytes ((text ++ xs) ++ encode_utf8 c) others
+read_on bytes text rest xs after c others b e h p =
+    let on : Begins rest xs (92 ∷ after) = subst (λ l. Begins l xs (92 ∷ after)) (sym e) (Begins-plain xs (92 ∷ after) h) in
+    Begins-then bytes (text ++ xs) (92 ∷ after) (encode_utf8 c) others (Begins-then bytes text rest xs (92 ∷ after) b on) (Begins-escape after others c p).1
 
-pub read_none : (bytes text rest xs behind : List ℕ) → Begins bytes text rest → rest ≡ xs ++ 92 ∷ behind → Lacks 92 xs → BeginsNoEscape behind → SpellsNothing bytes
-read_none bytes text rest xs behind b e h none whole s =
+pub read_none : (bytes text rest xs after : List ℕ) → Begins bytes text rest → rest ≡ xs ++ 92 ∷ after → Lacks 92 xs → BeginsNoEscape after → SpellsNothing bytes
+read_none bytes text rest xs after b e h none whole s =
     let one : (more : List ℕ) × Spells rest more × (whole ≡ text ++ more) = b.only whole s in
-    let two : (more : List ℕ) × Spells (92 ∷ behind) more × (one.0 ≡ xs ++ more) = plain-only xs (92 ∷ behind) one.0 h (subst (λ l. Spells l one.0) e one.1) in
-    no_escape behind none two.0 two.1
+    let two : (more : List ℕ) × Spells (92 ∷ after) more × (one.0 ≡ xs ++ more) = plain-only xs (92 ∷ after) one.0 h (subst (λ l. Spells l one.0) e one.1) in
+    no_escape after none two.0 two.1
 
 pub read_end : (bytes text rest : List ℕ) → Begins bytes text rest → Lacks 92 rest → Spells bytes (text ++ rest)
 read_end bytes text rest b h = b.on rest (Spells-plain rest h)

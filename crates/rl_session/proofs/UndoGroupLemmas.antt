@@ -113,7 +113,7 @@ ended_group xs inner h none c =
     ∙ ap (kept_of 1) (ends_inside (level inner) xs inner h refl)
     ∙ closed_group xs (end_times (level inner) inner) low.matched low.level_is (has_change-end_times (level inner) inner ∙ c)
 
--- ---- what stands in the record behind the Begin of an open group
+-- ---- what stands in the record after the Begin of an open group
 Inside-steps : (cursor : ℕ) (steps : List Step) (front : List Entry) (r : Record) → Inside front r → Inside front (heard record_step cursor steps r)
 Inside-steps cursor [] front r k = k
 Inside-steps cursor (s ∷ ss) front r k =
@@ -188,7 +188,7 @@ kept-before front r i none change =
     let inner_is : drop (suc (length front)) r.recorded ≡ i.inner = ap (drop (suc (length front))) i.is ∙ past_begin front i.inner in
     ap (λ x. kept_of 1 (end_times (level x) x)) i.is ∙ ended_group front i.inner i.matched none (ap has_change (sym inner_is) ∙ change)
 
--- the text before rows that began and ended a group is the one after an undo right behind them
+-- the text before rows that began and ended a group is the one after an undo right after them
 group-undone : (start : List ℕ) (texts : List (List ℕ)) (inside : List Row) (b e u : Row) (mid : State) → Holds start texts b.before
     → b.command ≡ asks.Begin → ¬ (WasRefused b.reply) → level b.before.pair.changes.recorded ≡ 0
     → AllStandInGroup inside → Leads b.after inside mid → e.before ≡ mid → e.command ≡ asks.End → ¬ (WasRefused e.reply)

@@ -21,9 +21,9 @@ pub word-before : (xs ys : List ℕ) → Lacks 32 xs → word (xs ++ 32 ∷ ys) 
 word-before [] ys h = refl
 word-before (x ∷ xs) ys h = rw (other x 32 h.0) (ap (λ l. x ∷ l) (word-before xs ys h.1))
 
-pub rest-behind : (xs ys : List ℕ) → Lacks 32 xs → rest (xs ++ 32 ∷ ys) ≡ Some ys
-rest-behind [] ys h = refl
-rest-behind (x ∷ xs) ys h = rw (other x 32 h.0) (rest-behind xs ys h.1)
+pub rest-after : (xs ys : List ℕ) → Lacks 32 xs → rest (xs ++ 32 ∷ ys) ≡ Some ys
+rest-after [] ys h = refl
+rest-after (x ∷ xs) ys h = rw (other x 32 h.0) (rest-after xs ys h.1)
 
 pub word-whole : (xs : List ℕ) → Lacks 32 xs → word xs ≡ xs
 word-whole [] h = refl
@@ -33,7 +33,7 @@ pub rest-none : (xs : List ℕ) → Lacks 32 xs → rest xs ≡ None
 rest-none [] h = refl
 rest-none (x ∷ xs) h = rw (other x 32 h.0) (rest-none xs h.1)
 
--- one text at most stands behind a number
+-- one text at most stands after a number
 
 SpellsRest-one : (given : Option (List ℕ)) (s t : List ℕ) → SpellsRest given s → SpellsRest given t → s ≡ t
 SpellsRest-one None s t p q = p ∙ sym q

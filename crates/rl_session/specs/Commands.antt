@@ -190,7 +190,7 @@ asked line (TransposeWords n) = edit a_copy (Unit {0}) (transpose_words_plan lin
 asked line (Indent m amount dedent) = edit room_by_step (Unit {0}) (indent_plan line m amount dedent) answers
 asked line _ = other
 
--- an edit: refused where its condition fails, and else done, or cut short for want of memory
+-- an edit: refused where its condition fails, and else done, or cut short since memory is out
 abbrev pub Edits : {A : Type 0} → Takes → Type 0 → Plan A → Telling A → State → Reply → State → Type 0
 Edits takes condition plan telling old (says.Refused BadPlace) new = (¬ condition) × (new ≡ old)
 Edits takes condition plan telling old (says.Refused NoMemory) new = condition × (Unbegun takes plan old new ⊎ CutShort takes plan old new)

@@ -32,7 +32,7 @@ abbrev pub are_digits : List ℕ → Bool
 are_digits [] = true
 are_digits (d ∷ ds) = (nat_le 48 d && nat_le d 57) && are_digits ds
 
--- the value of the digits that stand behind those of value n
+-- the value of the digits that stand after those of value n
 abbrev pub value_from : ℕ → List ℕ → ℕ
 value_from n [] = n
 value_from n (d ∷ ds) = value_from (n * 10 + (d - 48)) ds
@@ -42,7 +42,7 @@ unfoldable pub number_of : ℕ → List ℕ → Option ℕ
 number_of greatest bytes =
     if nat_lt 0 (length bytes) && (are_digits bytes && nat_le (value_from 0 bytes) greatest) then Some (value_from 0 bytes) else None
 
--- the character that a letter behind a backslash stands for
+-- the character that a letter after a backslash stands for
 abbrev pub letter_of : ℕ → Option ℕ
 letter_of b =
     if b == 92 then Some 92
@@ -60,7 +60,7 @@ hex_digit b =
     else if nat_le 65 b && nat_le b 70 then Some (b - 55)
     else None
 
--- the value of the hexadecimal digits that stand behind those of value n
+-- the value of the hexadecimal digits that stand after those of value n
 abbrev pub hex_from : ℕ → List ℕ → Option ℕ
 hex_from n [] = Some n
 hex_from n (b ∷ bs) = option_and_then (λ d. hex_from (n * 16 + d) bs) (hex_digit b)
@@ -72,7 +72,7 @@ pub record NamesChar (digits : List ℕ) (c : ℕ) : Type 0 where
   pub value : hex_from 0 digits ≡ Some c
   pub is : IsScalar c
 
--- these bytes, behind a backslash, stand for this character: a letter, or a u and digits in braces
+-- these bytes, after a backslash, stand for this character: a letter, or a u and digits in braces
 pub data Escapes : List ℕ → ℕ → Type 0 where
   letter : {b c : ℕ} → letter_of b ≡ Some c → Escapes (b ∷ []) c
   braced : {digits : List ℕ} {c : ℕ} → NamesChar digits c → Escapes (codes "u{" ++ digits ++ codes "}") c
@@ -93,15 +93,15 @@ abbrev pub word : List ℕ → List ℕ
 word [] = []
 word (b ∷ bs) = if b == 32 then [] else b ∷ word bs
 
--- what stands behind the first space, where there is one
+-- what stands after the first space, where there is one
 abbrev pub rest : List ℕ → Option (List ℕ)
 rest [] = None
 rest (b ∷ bs) = if b == 32 then Some bs else rest bs
 
--- the first word is this number, at most the greatest, and these bytes stand behind the space
-pub record Numbered (greatest : ℕ) (given : List ℕ) (n : ℕ) (behind : List ℕ) : Type 0 where
+-- the first word is this number, at most the greatest, and these bytes stand after the space
+pub record Numbered (greatest : ℕ) (given : List ℕ) (n : ℕ) (after : List ℕ) : Type 0 where
   pub number : number_of greatest (word given) ≡ Some n
-  pub on : rest given ≡ Some behind
+  pub on : rest given ≡ Some after
 
 -- what follows a word stands for this text, which is empty where no space follows
 abbrev pub SpellsRest : Option (List ℕ) → List ℕ → Type 0
@@ -152,24 +152,24 @@ pub record CountWord (given : List ℕ) (n : ℕ) (w : Word) : Type 0 where
 
 -- a count, a place at a word and a kind of word
 pub record CountAtWord (given : List ℕ) (n : ℕ) (a : At) (w : Word) : Type 0 where
-  pub behind : List ℕ
+  pub after : List ℕ
   pub kind : List ℕ
-  pub counted : Numbered 65535 given n behind
-  pub placed : NamesAt (word behind) a
-  pub on : rest behind ≡ Some kind
+  pub counted : Numbered 65535 given n after
+  pub placed : NamesAt (word after) a
+  pub on : rest after ≡ Some kind
   pub named : NamesWord kind w
 
 -- a count, a kind of search and a character
 pub record CountSearch (given : List ℕ) (n : ℕ) (cs : CharSearch) : Type 0 where
-  pub behind : List ℕ
+  pub after : List ℕ
   pub bytes : List ℕ
   pub c : ℕ
-  pub counted : Numbered 65535 given n behind
-  pub on : rest behind ≡ Some bytes
+  pub counted : Numbered 65535 given n after
+  pub on : rest after ≡ Some bytes
   pub char : SpellsChar bytes c
-  pub named : NamesSearch (word behind) c cs
+  pub named : NamesSearch (word after) c cs
 
--- the words for movements, each with what it wants behind it: None where no space follows, or Some of what stands behind the space
+-- the words for movements, each with what it wants after it: None where no space follows, or Some of what stands after the space
 pub data Names : List ℕ → Option (List ℕ) → Movement → Type 0 where
   whole : Names (codes "line") None WholeLine
   home : Names (codes "home") None BeginningOfLine
@@ -192,17 +192,17 @@ NamesMovement bytes movement = Names (word bytes) (rest bytes) movement
 
 -- an amount to indent by and a movement
 pub record AmountMovement (given : List ℕ) (amount : ℕ) (movement : Movement) : Type 0 where
-  pub behind : List ℕ
-  pub amounts : Numbered 255 given amount behind
-  pub named : NamesMovement behind movement
+  pub after : List ℕ
+  pub amounts : Numbered 255 given amount after
+  pub named : NamesMovement after movement
 
 -- the ends of a range and a text
 pub record RangeText (given : List ℕ) (a b : ℕ) (text : List ℕ) : Type 0 where
-  pub behind : List ℕ
-  pub starts : Numbered (2 ^ 64 - 1) given a behind
-  pub ends : NumberedText (2 ^ 64 - 1) behind b text
+  pub after : List ℕ
+  pub starts : Numbered (2 ^ 64 - 1) given a after
+  pub ends : NumberedText (2 ^ 64 - 1) after b text
 
--- the words that begin a line, each with what it wants behind it
+-- the words that begin a line, each with what it wants after it
 pub data Says : List ℕ → Option (List ℕ) → Meaning → Type 0 where
   no_text : Says (codes "text") None (NewText [])
   text : {bytes text : List ℕ} → Spells bytes text → Says (codes "text") (Some bytes) (NewText text)

@@ -15,7 +15,7 @@ use Rattle.rl_session.specs.Commands.{Asked, asked, edit, other}
 use Rattle.rl_session.specs.Run.{Row}
 use Rattle.rl_session.specs.State.{State}
 
--- a text stands in a list of texts, right behind these
+-- a text stands in a list of texts, right after these
 pub record StandsAfter (before : List (List ℕ)) (text : List ℕ) (held : List (List ℕ)) : Type 0 where
   pub rest : List (List ℕ)
   pub is : held ≡ before ++ text ∷ rest

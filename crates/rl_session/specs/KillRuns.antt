@@ -47,8 +47,8 @@ pub record GivenBack (old mid new : State) : Type 0 where
   pub yanked : List ℕ
   pub slot_is : yank new.pair.ring ≡ Some yanked
   pub front : List ℕ
-  pub behind : List ℕ
-  pub left : mid.line.text ≡ front ++ behind
+  pub after : List ℕ
+  pub left : mid.line.text ≡ front ++ after
   pub place : mid.line.cursor ≡ length front
-  pub stands : new.line.text ≡ front ++ (yanked ++ behind)
+  pub stands : new.line.text ≡ front ++ (yanked ++ after)
   pub cursor_is : new.line.cursor ≡ length front + length yanked

@@ -11,7 +11,7 @@ use Rattle.rl_session.specs.declared.pair.Pair.{Pair}
 abbrev pub pair_step : Pair → Event → Pair
 pair_step p event = record { ring = ring_step p.ring event; changes = record_step p.changes event }
 
--- a refusal is for want of memory, and the record is as it was then: the ring refused an event whose text it keeps, and is as it
+-- a refusal says that memory is out, and the record is as it was then: the ring refused an event whose text it keeps, and is as it
 -- was too, or it heard the event, which the record refused though it would keep it
 abbrev pub pair_refused : Pair → Event → Refusal → Pair → Type 0
 pair_refused p event why now =

@@ -25,7 +25,7 @@ abbrev pub SaidOut : Interpreter → Option ScriptLine → List ℕ → Interpre
 SaidOut old None out new = (new ≡ old) × (out ≡ bad_line)
 SaidOut old (Some said) out new = MeaningOut old (meaning_of said) out new
 
--- Behind `part`, the beginning of a line, came `bytes`. The lines that they end were run and printed, and `part'` is left.
+-- After `part`, the beginning of a line, came `bytes`. The lines that they end were run and printed, and `part'` is left.
 pub record Took (old : Interpreter) (part bytes : List ℕ) (held holds : Option (List ℕ)) (new : Interpreter) (part' : List ℕ) : Type 0 where
   pub lines : List (List ℕ)
   pub out : List ℕ

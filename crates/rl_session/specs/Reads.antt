@@ -20,7 +20,7 @@ meaning_of (made.NewText text) = NewText (string_bytes text)
 meaning_of (made.Set setting) = Set setting
 meaning_of (made.Do command) = Do command
 
--- the bytes begin with what stands, behind a backslash, for the character, and the others follow it
+-- the bytes begin with what stands, after a backslash, for the character, and the others follow it
 pub record BeginsEscape (bytes : List ℕ) (c : ℕ) (others : List ℕ) : Type 0 where
   pub code : List ℕ
   pub stands : Escapes code c
@@ -57,7 +57,7 @@ SpellsNoChar bytes = (c : ℕ) → SpellsChar bytes c → ⊥
 
 -- no number up to the greatest stands before a first space
 abbrev pub HasNoNumber : ℕ → List ℕ → Type 0
-HasNoNumber greatest given = (n : ℕ) (behind : List ℕ) → Numbered greatest given n behind → ⊥
+HasNoNumber greatest given = (n : ℕ) (after : List ℕ) → Numbered greatest given n after → ⊥
 
 -- the bytes begin with no number up to the greatest, or no text follows it
 abbrev pub HasNoText : ℕ → List ℕ → Type 0
@@ -83,7 +83,7 @@ HasNoSearch given = (n : ℕ) (cs : CharSearch) → CountSearch given n cs → �
 abbrev pub HasNoMovement : List ℕ → Type 0
 HasNoMovement given = (amount : ℕ) (movement : Movement) → AmountMovement given amount movement → ⊥
 
--- the word names no movement with what stands behind it
+-- the word names no movement with what stands after it
 abbrev pub NamesNothing : List ℕ → Option (List ℕ) → Type 0
 NamesNothing word given = (movement : Movement) → Names word given movement → ⊥
 
@@ -91,7 +91,7 @@ NamesNothing word given = (movement : Movement) → Names word given movement �
 abbrev pub NamesNoMovement : List ℕ → Type 0
 NamesNoMovement bytes = (movement : Movement) → NamesMovement bytes movement → ⊥
 
--- the word says nothing with what stands behind it
+-- the word says nothing with what stands after it
 abbrev pub SaysNothing : List ℕ → Option (List ℕ) → Type 0
 SaysNothing word given = (meaning : Meaning) → Says word given meaning → ⊥
 
@@ -119,7 +119,7 @@ holds_text (InsertStr _ _) = true
 holds_text (Replace _ _ _) = true
 holds_text _ = false
 
--- the word says no command that holds a text, with what stands behind its space
+-- the word says no command that holds a text, with what stands after its space
 abbrev pub SaysNoTextCommand : List ℕ → List ℕ → Type 0
 SaysNoTextCommand word given = (command : Command) → holds_text command ≡ true → Says word (Some given) (Do command) → ⊥
 
@@ -133,15 +133,15 @@ deletes (DeleteWord _ _ _) = true
 deletes (DeleteTo _ _) = true
 deletes _ = false
 
--- the word says no such deletion, with what stands behind its space
+-- the word says no such deletion, with what stands after its space
 abbrev pub SaysNoDeletion : List ℕ → List ℕ → Type 0
 SaysNoDeletion word given = (command : Command) → deletes command ≡ true → Says word (Some given) (Do command) → ⊥
 
--- the word says no command without a text, with what stands behind its space
+-- the word says no command without a text, with what stands after its space
 abbrev pub SaysNoCommand : List ℕ → List ℕ → Type 0
 SaysNoCommand word given = (command : Command) → holds_text command ≡ false → Says word (Some given) (Do command) → ⊥
 
--- the word says no setting with what stands behind its space
+-- the word says no setting with what stands after its space
 abbrev pub SaysNoSetting : List ℕ → List ℕ → Type 0
 SaysNoSetting word given = (setting : Setting) → Says word (Some given) (Set setting) → ⊥
 

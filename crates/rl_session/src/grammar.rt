@@ -82,7 +82,7 @@ fn named_char(digits: &str) -> Option<char>
     char::from_u32(value)
 }
 
-// The character that a letter behind a backslash stands for.
+// The character that a letter after a backslash stands for.
 fn letter_of(letter: char) -> Option<char>
     ensures { result ≡ letter_of letter }
 {
@@ -96,23 +96,23 @@ fn letter_of(letter: char) -> Option<char>
     }
 }
 
-// The character that stands in braces behind `\u`, and what follows.
-fn braced(behind: &str) -> Option<(char, &str)>
-    ensures cases { MatchOption result (BeginsNoEscape (117 ∷ behind.now))
-        (λ found. BeginsEscape (117 ∷ behind.now) found.0 found.1.now) }
+// The character that stands in braces after `\u`, and what follows.
+fn braced(after: &str) -> Option<(char, &str)>
+    ensures cases { MatchOption result (BeginsNoEscape (117 ∷ after.now))
+        (λ found. BeginsEscape (117 ∷ after.now) found.0 found.1.now) }
     ensures utf8 { IfSome result (λ found. IsUtf8 found.1.now) }
 {
-    let (digits, behind) = behind.strip_prefix('{')?.split_once('}')?;
-    Some((named_char(digits)?, behind))
+    let (digits, after) = after.strip_prefix('{')?.split_once('}')?;
+    Some((named_char(digits)?, after))
 }
 
 // The character of the escape whose backslash stood before, and what follows.
-fn escape(behind: &str) -> Option<(char, &str)>
-    ensures cases { MatchOption result (BeginsNoEscape behind.now)
-        (λ found. BeginsEscape behind.now found.0 found.1.now) }
+fn escape(after: &str) -> Option<(char, &str)>
+    ensures cases { MatchOption result (BeginsNoEscape after.now)
+        (λ found. BeginsEscape after.now found.0 found.1.now) }
     ensures utf8 { IfSome result (λ found. IsUtf8 found.1.now) }
 {
-    let mut rest = behind.chars();
+    let mut rest = after.chars();
     let letter = rest.next()?;
     if letter == 'u' {
         return braced(rest.as_str());
@@ -125,9 +125,9 @@ fn is_well_formed(escaped: &str) -> bool
     ensures { MatchBool result (SpellsSome escaped.now) (SpellsNothing escaped.now) }
 {
     let mut rest = escaped;
-    while let Some((_, behind)) = rest.split_once('\\') {
-        match escape(behind) {
-            Some((_, behind)) => rest = behind,
+    while let Some((_, after)) = rest.split_once('\\') {
+        match escape(after) {
+            Some((_, after)) => rest = after,
             None => return false,
         }
     }
@@ -142,12 +142,12 @@ fn read_text(alloc: Global, escaped: &str) -> Result<Option<String>, AllocError>
 {
     let mut text = String::new(alloc);
     let mut rest = escaped;
-    while let Some((plain, behind)) = rest.split_once('\\') {
+    while let Some((plain, after)) = rest.split_once('\\') {
         text.push_str(plain)?;
-        match escape(behind) {
-            Some((c, behind)) => {
+        match escape(after) {
+            Some((c, after)) => {
                 text.push(c)?;
-                rest = behind;
+                rest = after;
             }
             None => return Ok(None),
         }
@@ -181,7 +181,7 @@ fn first_char(escaped: &str) -> Option<(char, &str)>
         (λ found. BeginsChar escaped.now found.0 found.1.now) }
 {
     match escaped.strip_prefix('\\') {
-        Some(behind) => escape(behind),
+        Some(after) => escape(after),
         None => {
             let mut rest = escaped.chars();
             Some((rest.next()?, rest.as_str()))
@@ -193,44 +193,44 @@ fn first_char(escaped: &str) -> Option<(char, &str)>
 fn character(escaped: &str) -> Option<char>
     ensures { MatchOption result (SpellsNoChar escaped.now) (λ c. SpellsChar escaped.now c) }
 {
-    let (c, behind) = first_char(escaped)?;
-    if behind.is_empty() { Some(c) } else { None }
+    let (c, after) = first_char(escaped)?;
+    if after.is_empty() { Some(c) } else { None }
 }
 
-// The first word, and what stands behind the first space, if there is one.
+// The first word, and what stands after the first space, if there is one.
 fn first_word(given: &str) -> (&str, Option<&str>)
     ensures word { result.0.now ≡ word given.now }
-    ensures rest { MatchOption result.1 (rest given.now ≡ None) (λ behind. rest given.now ≡ Some behind.now) }
+    ensures rest { MatchOption result.1 (rest given.now ≡ None) (λ after. rest given.now ≡ Some after.now) }
     ensures utf8 { IsUtf8 result.0.now }
-    ensures rest_utf8 { IfSome result.1 (λ behind. IsUtf8 behind.now) }
+    ensures rest_utf8 { IfSome result.1 (λ after. IsUtf8 after.now) }
 {
     match given.split_once(' ') {
-        Some((word, behind)) => (word, Some(behind)),
+        Some((word, after)) => (word, Some(after)),
         None => (given, None),
     }
 }
 
-// The number before the first space, where it is at most the greatest, and what stands behind it.
+// The number before the first space, where it is at most the greatest, and what stands after it.
 fn numbered(given: &str, greatest: usize) -> Option<(usize, &str)>
     ensures cases { MatchOption result (HasNoNumber greatest given.now) (λ found. Numbered greatest given.now found.0 found.1.now) }
     ensures bound { IfSome result (λ found. found.0 ≤ greatest) }
     ensures utf8 { IfSome result (λ found. IsUtf8 found.1.now) }
 {
-    let (digits, behind) = first_word(given);
+    let (digits, after) = first_word(given);
     let n = number(digits, greatest)?;
-    Some((n, behind?))
+    Some((n, after?))
 }
 
-// The count before the first space, and what stands behind it.
+// The count before the first space, and what stands after it.
 fn counted(given: &str) -> Option<(u16, &str)>
     ensures cases { MatchOption result (HasNoNumber 65535 given.now) (λ found. Numbered 65535 given.now found.0 found.1.now) }
     ensures utf8 { IfSome result (λ found. IsUtf8 found.1.now) }
 {
-    let (n, behind) = numbered(given, 65535)?;
-    Some((n as u16, behind))
+    let (n, after) = numbered(given, 65535)?;
+    Some((n as u16, after))
 }
 
-// The number before the first space, where it is at most the greatest, and the text behind it, which is
+// The number before the first space, where it is at most the greatest, and the text after it, which is
 // empty where no space stands.
 fn numbered_text(
     alloc: Global,
@@ -242,12 +242,12 @@ fn numbered_text(
     ensures err { OnErr result (HasSomeText greatest given.now) }
     ensures bound { IfOk result (λ found. IfSome found (λ p. p.0 ≤ greatest)) }
 {
-    let (digits, behind) = first_word(given);
+    let (digits, after) = first_word(given);
     let n = match number(digits, greatest) {
         Some(n) => n,
         None => return Ok(None),
     };
-    let text = match behind {
+    let text = match after {
         Some(escaped) => unescape(alloc, escaped)?,
         None => Some(String::new(alloc)),
     };
@@ -330,8 +330,8 @@ fn count_and_word(given: &str) -> Option<(u16, Word)>
 fn count_at_word(given: &str) -> Option<(u16, At, Word)>
     ensures { MatchOption result (HasNoAt given.now) (λ found. CountAtWord given.now found.0 found.1 found.2) }
 {
-    let (n, behind) = counted(given)?;
-    let (stop, kind) = first_word(behind);
+    let (n, after) = counted(given)?;
+    let (stop, kind) = first_word(after);
     let word = named_word(kind?)?;
     Some((n, named_at(stop)?, word))
 }
@@ -340,13 +340,13 @@ fn count_at_word(given: &str) -> Option<(u16, At, Word)>
 fn count_and_search(given: &str) -> Option<(u16, CharSearch)>
     ensures { MatchOption result (HasNoSearch given.now) (λ found. CountSearch given.now found.0 found.1) }
 {
-    let (n, behind) = counted(given)?;
-    let (kind, escaped) = first_word(behind);
+    let (n, after) = counted(given)?;
+    let (kind, escaped) = first_word(after);
     let c = character(escaped?)?;
     Some((n, named_search(kind, c)?))
 }
 
-// The movement of a word and of what stands behind its space.
+// The movement of a word and of what stands after its space.
 fn movement_with(word: &str, given: &str) -> Option<Movement>
     ensures { MatchOption result (NamesNothing word.now (Some given.now)) (λ movement. Names word.now (Some given.now) movement) }
 {
@@ -411,8 +411,8 @@ fn range_deletion(given: &str) -> Option<Command>
     ensures { MatchOption result (SaysNoDeletion (codes "range") given.now)
         (λ command. Says (codes "range") (Some given.now) (Do command)) }
 {
-    let (start, behind) = numbered(given, usize::MAX)?;
-    Some(Command::DeleteRange(start, number(behind, usize::MAX)?))
+    let (start, after) = numbered(given, usize::MAX)?;
+    Some(Command::DeleteRange(start, number(after, usize::MAX)?))
 }
 
 // An amount to indent by and a movement.
@@ -423,7 +423,7 @@ fn amount_and_movement(given: &str) -> Option<(u8, Movement)>
     Some((amount as u8, movement(named)?))
 }
 
-// The deletion of a word and of what stands behind its space.
+// The deletion of a word and of what stands after its space.
 fn deletion(word: &str, given: &str) -> Option<Command>
     ensures { MatchOption result (SaysNoDeletion word.now given.now)
         (λ command. Says word.now (Some given.now) (Do command)) }
@@ -448,7 +448,7 @@ fn deletion(word: &str, given: &str) -> Option<Command>
     }
 }
 
-// The command of a word and of what stands behind its space, but a text.
+// The command of a word and of what stands after its space, but a text.
 fn command(word: &str, given: &str) -> Option<Command>
     ensures { MatchOption result (SaysNoCommand word.now given.now)
         (λ command. Says word.now (Some given.now) (Do command)) }
@@ -482,11 +482,11 @@ fn replacement(alloc: Global, given: &str) -> Result<Option<Command>, AllocError
         (λ command. Says (codes "rep") (Some given.now) (Do command))) }
     ensures err { OnErr result (HoldsText (codes "rep") given.now) }
 {
-    let (start, behind) = match numbered(given, usize::MAX) {
+    let (start, after) = match numbered(given, usize::MAX) {
         Some(found) => found,
         None => return Ok(None),
     };
-    match numbered_text(alloc, behind, usize::MAX)? {
+    match numbered_text(alloc, after, usize::MAX)? {
         Some((end, text)) => Ok(Some(Command::Replace(start, end, text))),
         None => Ok(None),
     }
@@ -516,7 +516,7 @@ fn text_command(alloc: Global, word: &str, given: &str) -> Result<Option<Command
     }
 }
 
-// The setting of a word and of what stands behind its space.
+// The setting of a word and of what stands after its space.
 fn setting(word: &str, given: &str) -> Option<Setting>
     ensures { MatchOption result (SaysNoSetting word.now given.now)
         (λ setting. Says word.now (Some given.now) (Set setting)) }
@@ -529,7 +529,7 @@ fn setting(word: &str, given: &str) -> Option<Setting>
     }
 }
 
-// What a word says with what stands behind its space, where no text belongs to it.
+// What a word says with what stands after its space, where no text belongs to it.
 fn without_text(word: &str, given: &str) -> Option<ScriptLine>
     ensures { MatchOption result (SaysNoneWithoutText word.now given.now)
         (λ said. Says word.now (Some given.now) (meaning_of said)) }
@@ -540,7 +540,7 @@ fn without_text(word: &str, given: &str) -> Option<ScriptLine>
     }
 }
 
-// What a word says with what stands behind its space.
+// What a word says with what stands after its space.
 fn with_given(alloc: Global, word: &str, given: &str) -> Result<Option<ScriptLine>, AllocError>
     ensures ok { IfOk result (λ found. MatchOption found (SaysNothing word.now (Some given.now))
         (λ said. Says word.now (Some given.now) (meaning_of said))) }

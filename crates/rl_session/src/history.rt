@@ -12,7 +12,7 @@ ghost use Rattle.rl_session.specs.declared.session.Command.{Command};
 ghost use Rattle.rl_session.specs.declared.session.Command.TheVariants.{Begin, End, Redo, Undo};
 ghost use Rattle.rl_session.specs.declared.session.Reply.{Reply};
 
-/// The recorded entries and the undone ones behind them are placed among the texts that were held: each beginning of
+/// The recorded entries and the undone ones after them are placed among the texts that were held: each beginning of
 /// them leads to such a text, and no place goes back. The recorded ones alone lead to the present text, and the undone
 /// ones on from there. This goes on over further runs.
 pub fn record_is_placed()

@@ -165,7 +165,7 @@ fn put_line<W: Write>(writer: &mut W, line: &[u8]) -> Result<(), ScriptFault>
     Ok(())
 }
 
-// The first line of the bytes, which a newline ends, and what stands behind it.
+// The first line of the bytes, which a newline ends, and what stands after it.
 fn split_line(bytes: &[u8]) -> Option<(&[u8], &[u8])>
     ensures { MatchOption result (HasNoNewline bytes.now)
         (λ found. HasNoNewline found.0.now × (bytes.now ≡ found.0.now ++ 10 ∷ found.1.now)) }
@@ -242,9 +242,9 @@ fn take_block<W: Write>(
     ensures halts { IfErr result (λ fault. Halts fault interpreter.old part.old.items block.now (W.contents writer.old) (W.contents writer.new)) }
 {
     let mut rest = block;
-    while let Some((end, behind)) = split_line(rest) {
+    while let Some((end, after)) = split_line(rest) {
         end_line(alloc, interpreter, part, end, out, writer)?;
-        rest = behind;
+        rest = after;
     }
     match part.extend_from_slice(rest) {
         Ok(()) => Ok(()),
@@ -272,7 +272,7 @@ pub fn run_script<R: Read, W: Write>(
     run_blocks(alloc, &mut interpreter, &mut part, &mut out, reader, writer)
 }
 
-// Runs what is left to read, behind a part of a line.
+// Runs what is left to read, after a part of a line.
 fn run_blocks<R: Read, W: Write>(
     alloc: Global,
     interpreter: &mut Interpreter,

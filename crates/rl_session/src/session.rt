@@ -39,13 +39,13 @@ pub enum Command {
     Paste(String, RepeatCount),
     /// Inserts the ring's current text at the cursor, so many times.
     Yank(RepeatCount),
-    /// Puts the ring's text before in the place of the one that was just yanked.
+    /// Replaces the text that was just yanked by the one before it in the ring.
     YankPop,
-    /// Puts a text in the place of the line's, with the cursor at a place of it.
+    /// Replaces the line's text, and puts the cursor at a place of the new one.
     Update(String, usize),
     /// Inserts a text at a place, and leaves the cursor at its own. Answers whether the place was the end.
     InsertStr(usize, String),
-    /// Puts a text in the place of what stands between two places.
+    /// Replaces what stands between two places by a text.
     Replace(usize, usize, String),
     /// Deletes what stands between two places.
     DeleteRange(usize, usize),
@@ -86,7 +86,7 @@ pub enum Command {
     End,
     /// Undoes so many units: one for 0, and all where there are fewer.
     Undo(RepeatCount),
-    /// Does again what was undone last.
+    /// Redoes what was undone last.
     Redo,
     /// Forgets all but so many entries of the record.
     Truncate(usize),
@@ -351,7 +351,7 @@ impl Session {
 }
 
 /// Two runs, one after the other, are one of the same rows, and so are the texts that they held. The rows of a run up
-/// to any of them are a run, and so are those behind: so what a law says of the last row of a run holds of any row, with
+/// to any of them are a run, and so are those after: so what a law says of the last row of a run holds of any row, with
 /// the texts that were held by then. A single row, as each command makes one, is a run.
 pub fn runs_compose()
     ensures joined { (old mid new : State) (cs ds : List Command) (rs ss : List Reply) (first : Run old cs rs mid) (second : Run mid ds ss new)

@@ -89,9 +89,9 @@ const ROWS: &[Row] = &[
     ),
 ];
 
-// It is so, of a script that breaks behind so many bytes.
-fn is_so(rt: &impl Abort, is_so: bool, what: &str, behind: usize) {
-    assert!(rt; is_so, "{what}, behind {behind} bytes");
+// It is so, of a script that breaks after so many bytes.
+fn is_so(rt: &impl Abort, is_so: bool, what: &str, after: usize) {
+    assert!(rt; is_so, "{what}, after {after} bytes");
 }
 
 // How many lines end in that part of a script.
@@ -121,13 +121,13 @@ fn len_of_lines(output: &[u8], lines: usize) -> usize {
     len
 }
 
-// Where a read fails behind so many bytes, the script stops, and that was printed.
-fn stops_reading(rt: &impl Abort, alloc: Global, script: &[u8], behind: usize, wanted: &[u8]) {
+// Where a read fails after so many bytes, the script stops, and that was printed.
+fn stops_reading(rt: &impl Abort, alloc: Global, script: &[u8], after: usize, wanted: &[u8]) {
     for singly in [false, true] {
         let mut printed = Vec::new(alloc);
         let mut reader = FailRead {
             rest: script,
-            left: behind,
+            left: after,
             singly,
         };
         let stopped = run_script(alloc, &mut reader, &mut printed);
@@ -135,10 +135,10 @@ fn stops_reading(rt: &impl Abort, alloc: Global, script: &[u8], behind: usize, w
             rt,
             stopped == Err(ScriptFault::Read),
             "a read fails",
-            behind,
+            after,
         );
         let answered = printed.as_slice() == wanted;
-        is_so(rt, answered, "what was read is answered", behind);
+        is_so(rt, answered, "what was read is answered", after);
     }
 }
 
@@ -146,16 +146,16 @@ fn stops_reading(rt: &impl Abort, alloc: Global, script: &[u8], behind: usize, w
 #[test]
 fn a_read_fails_at_each_place(rt: HostRuntime) {
     for (script, output) in ROWS {
-        for behind in 0..=script.len() {
-            let lines = ended(script.get(..behind).unwrap_or(script));
+        for after in 0..=script.len() {
+            let lines = ended(script.get(..after).unwrap_or(script));
             let len = len_of_lines(output, lines);
             let wanted = output.get(..len).unwrap_or(output);
-            stops_reading(&rt, rt.alloc(), script, behind, wanted);
+            stops_reading(&rt, rt.alloc(), script, after, wanted);
         }
     }
 }
 
-// A writer that is full behind so many bytes stops the script, if there is more, and holds that.
+// A writer that is full after so many bytes stops the script, if there is more, and holds that.
 fn stops_writing(
     rt: &impl Abort,
     alloc: Global,
@@ -193,9 +193,9 @@ fn stops_writing(
 #[test]
 fn a_write_fails_at_each_place(rt: HostRuntime) {
     for (script, output) in ROWS {
-        for behind in 0..=output.len() {
-            let wanted = output.get(..behind).unwrap_or(output);
-            let more = behind < output.len();
+        for after in 0..=output.len() {
+            let wanted = output.get(..after).unwrap_or(output);
+            let more = after < output.len();
             stops_writing(&rt, rt.alloc(), script, Full::Fails, wanted, more);
             stops_writing(&rt, rt.alloc(), script, Full::TakesNothing, wanted, more);
         }

@@ -17,7 +17,7 @@ enum Call {
     Replace(usize, usize, &'static str),
 }
 
-// Puts the text in the place of what stands before the cursor.
+// Replaces what stands before the cursor by the text.
 pub(crate) fn yank_pop<L: ChangeListener>(
     rt: &impl Abort,
     line: &mut LineBuffer,
@@ -30,7 +30,7 @@ pub(crate) fn yank_pop<L: ChangeListener>(
     line.yank_pop(size, text, listener)
 }
 
-// Puts the text in the place of a range.
+// Replaces a range by the text.
 pub(crate) fn replace<L: ChangeListener>(
     rt: &impl Abort,
     line: &mut LineBuffer,
@@ -45,7 +45,7 @@ pub(crate) fn replace<L: ChangeListener>(
     line.replace(from..to, text, listener)
 }
 
-// Puts the text in the place of the whole text, with the cursor at that place of it.
+// Replaces the whole text by this one, with the cursor at that place of it.
 pub(crate) fn update<L: ChangeListener>(
     rt: &impl Abort,
     line: &mut LineBuffer,

@@ -108,7 +108,7 @@ fn a_pop_goes_round(rt: HostRuntime) -> Result<(), Fail> {
 }
 
 #[test]
-fn a_kill_overwrites_the_text_behind_the_current_one(rt: HostRuntime) -> Result<(), Fail> {
+fn a_kill_overwrites_the_text_after_the_current_one(rt: HostRuntime) -> Result<(), Fail> {
     const STEPS: &[Step] = &[
         (Call::Kill("a"), None),
         (Call::Reset, None),

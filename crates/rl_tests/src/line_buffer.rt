@@ -165,7 +165,7 @@ fn inserts_a_text(rt: HostRuntime) -> Result<(), Fail> {
     Ok(())
 }
 
-// What the line, of limit 8, answers, also of the place behind the next cluster.
+// What the line, of limit 8, answers, also of the place after the next cluster.
 fn says(
     rt: &impl Abort,
     line: &LineBuffer,

@@ -26,7 +26,7 @@ fn take(line: &mut LineBuffer, step: &Step, layout: &Layout) -> bool {
     }
 }
 
-// Each step with its answer and the cursor behind it.
+// Each step with its answer and the cursor after it.
 type Taken = (Step, bool, usize);
 
 // It is so, of a step on that text below a prompt of that width.
@@ -188,7 +188,7 @@ fn numbers(
     }
     for i in [count, usize::MAX] {
         let none = line.line_range(i).is_none();
-        holds(rt, none, "no line behind the last", text, i);
+        holds(rt, none, "no line after the last", text, i);
     }
     Ok(())
 }

@@ -287,7 +287,7 @@ fn words_agree(
             Some(place) => Some(pos.wrapping_add(*place)),
             None if at == At::AfterEnd || word == Word::Emacs => Some(text.len()),
             None if n == 0 => None,
-            None => last_behind(alloc, text, pos)?,
+            None => last_after(alloc, text, pos)?,
         };
         goes_to_word(rt, text, pos, at, word, n, next);
     }
@@ -303,7 +303,7 @@ fn pieces(alloc: Global, text: &str) -> Result<Vec<(usize, &str)>, AllocError> {
 }
 
 /// The place of the last cluster, if it is not the one at `pos`.
-fn last_behind(alloc: Global, text: &str, pos: usize) -> Result<Option<usize>, AllocError> {
+fn last_after(alloc: Global, text: &str, pos: usize) -> Result<Option<usize>, AllocError> {
     if !text.is_char_boundary(pos) {
         return Ok(None);
     }

@@ -354,7 +354,7 @@ fn texts_and_places_are_commanded(rt: HostRuntime) -> Result<(), Fail> {
             b"ok 0 \ntrue 6  \xc3\xa9 \xc3\xa9\nok 1 \\\\ b\n",
         ),
         (
-            "a movement behind an amount has its own arguments",
+            "a movement after an amount has its own arguments",
             b"text a\\nb\\nc\npos 0\nindent 1 down 1\ntext \\s\\sa\ndedent 255 buf\n",
             b"ok 5 a\\nb\\nc\nok 0 a\\nb\\nc\ntrue 1  a\\n b\\nc\nok 3   a\ntrue 1 a\n",
         ),

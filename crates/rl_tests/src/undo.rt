@@ -257,7 +257,7 @@ fn groups_nest(rt: HostRuntime) -> Result<(), Fail> {
         (Call::Undo(1), 0, "", 0, 0, 0),
     ];
     goes(&rt, rt.alloc(), "", NESTED)?;
-    // of several begins the one with nothing behind it is taken off, and the others are closed
+    // of several begins the one with nothing after it is taken off, and the others are closed
     const BEGINS: &[Step] = &[
         (Call::Begin, 0, "", 0, 1, 1),
         (Call::Begin, 1, "", 0, 2, 2),
@@ -291,7 +291,7 @@ fn every_call_keeps_count_of_the_open_groups(rt: HostRuntime) -> Result<(), Fail
         (Call::End, 0, "ab", 2, 0, 0),
     ];
     goes(&rt, rt.alloc(), "", NESTED)?;
-    // begins that are undone behind an open one, and redone
+    // begins that are undone after an open one, and redone
     const BEGINS: &[Step] = &[
         (Call::Begin, 0, "", 0, 1, 1),
         (Call::Yank("a"), 1, "a", 1, 2, 1),
@@ -442,7 +442,7 @@ fn a_group_without_a_change_has_no_end(rt: HostRuntime) -> Result<(), Fail> {
 }
 
 #[test]
-fn changes_behind_the_record_are_seen(rt: HostRuntime) -> Result<(), Fail> {
+fn changes_after_the_record_are_seen(rt: HostRuntime) -> Result<(), Fail> {
     const FOREIGN: Call = Call::Told(Event::Deletion(5, "x", Direction::Forward));
     const STEPS: &[Step] = &[
         (FOREIGN, 1, "ab", 2, 1, 0),

@@ -226,7 +226,7 @@ impl LineBuffer {
         Ok(())
     }
 
-    /// Puts a text in the place of the line's, with the cursor at a byte place of it. Where the line may not
+    /// Replaces the line's text, and puts the cursor at a byte place of the new one. Where the line may not
     /// grow, it takes no more of the text than its limit allows, up to a character's end, and the cursor is
     /// at its end at most. Refused, it leaves the line as it was, or empty.
     pub fn update<L: ChangeListener>(
@@ -256,7 +256,7 @@ impl LineBuffer {
         &text[..text.floor_char_boundary(self.limit)]
     }
 
-    /// Puts a text in the place of a range, and moves the cursor behind it. Refused, it leaves the line as it was.
+    /// Replaces a range by a text, and moves the cursor past it. Refused, it leaves the line as it was.
     pub fn replace<L: ChangeListener>(
         &mut self,
         range: Range<usize>,

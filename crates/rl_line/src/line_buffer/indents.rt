@@ -16,7 +16,7 @@ impl LineBuffer {
     /// Indents each line that holds a byte of what a movement covers by `amount` spaces, which go in at its
     /// start, at most 32 at once; or, with `dedent`, takes up to `amount` bytes of its leading blanks out, up
     /// to a character's end (vi's `>` and `<`). By a movement within a line, or one that covers nothing, it is
-    /// the cursor's line. A cursor at the start of a line or behind goes with the text, to that start at
+    /// the cursor's line. A cursor at the start of a line or after goes with the text, to that start at
     /// least. Answers true. Refused, it leaves the line after the steps that it took. A dedent takes no memory: it is
     /// refused only where its listener refuses.
     pub fn indent<L: ChangeListener>(

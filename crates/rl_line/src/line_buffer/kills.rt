@@ -138,7 +138,7 @@ impl LineBuffer {
     }
 
     /// Deletes from the start of the cursor's line to the cursor, or the cluster before it where the cursor
-    /// is there (GNU readline: unix-line-discard). Answers whether the cursor was behind the start of the
+    /// is there (GNU readline: unix-line-discard). Answers whether the cursor was past the start of the
     /// text. It takes no memory; where its listener refuses, the line stays as it was.
     pub fn discard_line<L: DeleteListener>(&mut self, listener: &mut L) -> Result<bool, Refusal>
         ensures done { IfOk result (λ answer. Done L.step (kill_plan self.old BeginningOfLine) self.old self.new listener.old listener.new answer) }
@@ -147,7 +147,7 @@ impl LineBuffer {
         self.delete_by(&Movement::BeginningOfLine, listener)
     }
 
-    /// Deletes from the start of the text to the cursor. Answers whether the cursor was behind that. It takes
+    /// Deletes from the start of the text to the cursor. Answers whether the cursor was past that. It takes
     /// no memory; where its listener refuses, the line stays as it was.
     pub fn discard_buffer<L: DeleteListener>(&mut self, listener: &mut L) -> Result<bool, Refusal>
         ensures done { IfOk result (λ answer. Done L.step (kill_plan self.old BeginningOfBuffer) self.old self.new listener.old listener.new answer) }
@@ -157,7 +157,7 @@ impl LineBuffer {
     }
 
     /// Deletes from the `n`-th start of a word before the cursor, or the text's start, to the cursor (GNU
-    /// readline: backward-kill-word, unix-word-rubout). Answers whether the cursor was behind the start. It
+    /// readline: backward-kill-word, unix-word-rubout). Answers whether the cursor was past the start. It
     /// takes no memory; where its listener refuses, the line stays as it was.
     pub fn delete_prev_word<L: DeleteListener>(
         &mut self,

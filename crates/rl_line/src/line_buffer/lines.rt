@@ -4,7 +4,7 @@ ghost use Rattle.std.specs.Str.{IsCharBoundary, IsUtf8};
 ghost use Rattle.rl_base.specs.Lines.{last_line, line_number, lines, start_of_line, end_of_line, text_of_line};
 ghost use Rattle.rl_line.specs.LineMotions.{home, line_end, line_above, line_below};
 ghost use Rattle.rl_line.specs.LineStarts.{line_starts};
-ghost use Rattle.rl_line.specs.Ranges.{behind_line};
+ghost use Rattle.rl_line.specs.Ranges.{after_line};
 ghost use Rattle.rl_line.specs.LineRanges.{range_of_line};
 
 use crate::line_buffer::LineBuffer;
@@ -20,7 +20,7 @@ impl LineBuffer {
         self.line_at(self.pos())
     }
 
-    /// How many lines the text has, at least one. A newline at its end has an empty line behind it.
+    /// How many lines the text has, at least one. A newline at its end has an empty line after it.
     pub fn line_count(&self) -> usize
         ensures count { result ≡ length (lines self.now.text) }
         ensures some { 0 < result }
@@ -93,10 +93,10 @@ impl LineBuffer {
         self.start(k) - 1
     }
 
-    // The place behind the newline of a line, or the end of the text for the last, which has none.
-    pub(super) fn behind_line(&self, k: usize) -> usize
+    // The place after the newline of a line, or the end of the text for the last, which has none.
+    pub(super) fn after_line(&self, k: usize) -> usize
         requires { k ≤ last_line self.now.text }
-        ensures value { result ≡ behind_line self.now.text k }
+        ensures value { result ≡ after_line self.now.text k }
         ensures boundary { IsCharBoundary self.now.text result }
     {
         if k == self.last_line() {
@@ -130,7 +130,7 @@ impl LineBuffer {
     // The end of the text of the cursor's line.
     pub(super) fn line_end(&self) -> usize
         ensures value { result ≡ line_end self.now }
-        ensures behind { self.now.cursor ≤ result }
+        ensures after { self.now.cursor ≤ result }
         ensures boundary { IsCharBoundary self.now.text result }
     {
         self.end_of_line(self.line_at(self.pos()))

@@ -108,7 +108,7 @@ impl LineBuffer {
         ensures end { IfSome result (λ r. IsCharBoundary self.now.text r.end) }
     {
         let k = self.line_number();
-        self.unless_empty(self.end_of_line(k), self.behind_line(k))
+        self.unless_empty(self.end_of_line(k), self.after_line(k))
     }
 
     // The cursor's line and `n` lines above it, with their newlines.
@@ -123,7 +123,7 @@ impl LineBuffer {
             return None;
         }
         let first = k.saturating_sub(usize::from(n));
-        Some(self.start_of_line(first)..self.behind_line(k))
+        Some(self.start_of_line(first)..self.after_line(k))
     }
 
     // The cursor's line and `n` lines below it, with their newlines and the one above.
@@ -140,7 +140,7 @@ impl LineBuffer {
         }
         let start = self.start_of_line(k).saturating_sub(1);
         let final_line = last.min(k.saturating_add(usize::from(n)));
-        Some(start..self.behind_line(final_line))
+        Some(start..self.after_line(final_line))
     }
 
     // A range of the text, unless it is empty.

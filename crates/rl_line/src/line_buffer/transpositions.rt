@@ -14,47 +14,47 @@ use std::ops::Range;
 use unicode_segmentation::UnicodeSegmentation;
 
 impl LineBuffer {
-    /// Exchanges the grapheme clusters before and behind the cursor, or the last two at the end of the text
-    /// (GNU readline: transpose-chars), and moves the cursor behind both. Answers whether there are two. Where
+    /// Exchanges the grapheme clusters before and after the cursor, or the last two at the end of the text
+    /// (GNU readline: transpose-chars), and moves the cursor past both. Answers whether there are two. Where
     /// it finds no memory, it leaves the line as it was; where its listener refuses, as it was or without the
-    /// cluster behind.
+    /// cluster after.
     pub fn transpose_chars<L: ChangeListener>(&mut self, listener: &mut L) -> Result<bool, Refusal>
         ensures done { IfOk result (λ answer. Done L.step (transpose_chars_plan self.old) self.old self.new listener.old listener.new answer) }
         ensures halted { IfErr result (λ r. Halted L.step L.refused (transpose_chars_plan self.old) self.old self.new listener.old listener.new r ⊎ Uncopied (transpose_chars_plan self.old) self.old self.new listener.old listener.new r) }
         ensures swaps { IfOk result (λ answer. answer ≡ true → SwapsClusters self.old self.new) }
     {
         match self.meeting_clusters() {
-            Some((front, behind)) => {
-                self.pull_back(front, behind, listener)?;
+            Some((front, after)) => {
+                self.pull_back(front, after, listener)?;
                 Ok(true)
             }
             None => Ok(false),
         }
     }
 
-    // Two steps: a cluster is taken out, and put in at a place in front of it, in the room that it left. The cursor goes behind the
+    // Two steps: a cluster is taken out, and put in at a place in front of it, in the room that it left. The cursor goes past the
     // cluster that follows it there.
     fn pull_back<L: ChangeListener>(
         &mut self,
         front: usize,
-        behind: Range<usize>,
+        after: Range<usize>,
         listener: &mut L,
     ) -> Result<(), Refusal>
-        requires order { front ≤ behind.start × behind.start ≤ behind.end }
+        requires order { front ≤ after.start × after.start ≤ after.end }
         requires front { IsCharBoundary self.old.text front }
-        requires start { IsCharBoundary self.old.text behind.start }
-        requires end { IsCharBoundary self.old.text behind.end }
-        ensures done { IfOk result (λ answer. Done L.step (pull_back_plan self.old front behind) self.old self.new listener.old listener.new answer) }
-        ensures halted { IfErr result (λ r. Halted L.step L.refused (pull_back_plan self.old front behind) self.old self.new listener.old listener.new r ⊎ Uncopied (pull_back_plan self.old front behind) self.old self.new listener.old listener.new r) }
-        ensures text { OnOk result (self.new.text ≡ exchanged_text self.old front behind) }
+        requires start { IsCharBoundary self.old.text after.start }
+        requires end { IsCharBoundary self.old.text after.end }
+        ensures done { IfOk result (λ answer. Done L.step (pull_back_plan self.old front after) self.old self.new listener.old listener.new answer) }
+        ensures halted { IfErr result (λ r. Halted L.step L.refused (pull_back_plan self.old front after) self.old self.new listener.old listener.new r ⊎ Uncopied (pull_back_plan self.old front after) self.old self.new listener.old listener.new r) }
+        ensures text { OnOk result (self.new.text ≡ exchanged_text self.old front after) }
     {
-        let moved = self.text_of(&behind)?;
-        let start = behind.start;
+        let moved = self.text_of(&after)?;
+        let start = after.start;
         deletion_step(
             &mut self.buf,
             &mut self.starts,
             &mut self.pos,
-            behind,
+            after,
             Direction::Forward,
             start,
             listener,
@@ -102,7 +102,7 @@ impl LineBuffer {
     }
 
     /// Exchanges the Emacs word before the `n`-th word's end ahead with the word `n` words before it (GNU
-    /// readline: transpose-words), and moves the cursor behind both. Answers false where these are not two
+    /// readline: transpose-words), and moves the cursor past both. Answers false where these are not two
     /// words, and then leaves the cursor at the first word's end. Where it finds no memory, it leaves the line
     /// as it was; where its listener refuses, after the steps that it took.
     pub fn transpose_words<L: ChangeListener>(
@@ -205,7 +205,7 @@ impl LineBuffer {
     }
 }
 
-// The place of the cluster before a place, and the range of the one behind it, if there are both.
+// The place of the cluster before a place, and the range of the one after it, if there are both.
 fn clusters_around(text: &str, place: usize) -> Option<(usize, Range<usize>)>
     requires { IsCharBoundary text.now place }
     ensures value { result ≡ clusters_around text.now place }

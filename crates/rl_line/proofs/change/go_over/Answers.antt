@@ -18,23 +18,23 @@ pub overflow_add-at : goal.overflow_add-at
 overflow_add-at c =
     omega (arith, (stands (goal.at.overflow_add-at c).In-Some).end.0, ap length c.texts.ensures.going, c.args.text.now.bytes.ok.0, c.args.text.now.bytes.ok.1, c.args.text.now.bytes.small)
 
-pub swap_in-behind-requires-clause-start : goal.swap_in-behind-requires-clause-start
-swap_in-behind-requires-clause-start c = (stands (goal.at.swap_in-behind-requires-clause-start c).In-Some).start
+pub swap_in-after-requires-clause-start : goal.swap_in-after-requires-clause-start
+swap_in-after-requires-clause-start c = (stands (goal.at.swap_in-after-requires-clause-start c).In-Some).start
 
-pub swap_in-behind-requires-clause-end : goal.swap_in-behind-requires-clause-end
-swap_in-behind-requires-clause-end c = rw c.texts.ensures.going (stands (goal.at.swap_in-behind-requires-clause-end c).In-Some).end
+pub swap_in-after-requires-clause-end : goal.swap_in-after-requires-clause-end
+swap_in-after-requires-clause-end c = rw c.texts.ensures.going (stands (goal.at.swap_in-after-requires-clause-end c).In-Some).end
 
-pub swap_in-behind-requires-clause-table_room : goal.swap_in-behind-requires-clause-table_room
-swap_in-behind-requires-clause-table_room c =
-    rw (c.texts.ensures.going, c.texts.ensures.coming, (stands (goal.at.swap_in-behind-requires-clause-table_room c).In-Some).bytes) c.requires.table_room
+pub swap_in-after-requires-clause-table_room : goal.swap_in-after-requires-clause-table_room
+swap_in-after-requires-clause-table_room c =
+    rw (c.texts.ensures.going, c.texts.ensures.coming, (stands (goal.at.swap_in-after-requires-clause-table_room c).In-Some).bytes) c.requires.table_room
 
 pub returns-in-Some-clause-count : goal.returns-in-Some-clause-count
 returns-in-Some-clause-count c =
-    rw (c.swap_in-behind.ensures.count, c.texts.ensures.going, c.texts.ensures.coming, (stands (goal.at.returns-in-Some-clause-count c).In-Some).bytes) refl
+    rw (c.swap_in-after.ensures.count, c.texts.ensures.going, c.texts.ensures.coming, (stands (goal.at.returns-in-Some-clause-count c).In-Some).bytes) refl
 
 pub returns-in-Some-clause-text : goal.returns-in-Some-clause-text
 returns-in-Some-clause-text c =
-    rw ((stands (goal.at.returns-in-Some-clause-text c).In-Some).makes, c.swap_in-behind.ensures.text, c.texts.ensures.going, c.texts.ensures.coming) refl
+    rw ((stands (goal.at.returns-in-Some-clause-text c).In-Some).makes, c.swap_in-after.ensures.text, c.texts.ensures.going, c.texts.ensures.coming) refl
 
 pub returns-in-None-clause-text : goal.returns-in-None-clause-text
 returns-in-None-clause-text c =
@@ -45,9 +45,9 @@ went : (c : After-unwrap_or) → c.unwrap_or.result ≡ cursor_after c.args.curs
 went c =
     let e = faced c.args.way c.args.change.now in
     let at_place : place e ≡ Some c.in-Some.at = place-faced c.args.way c.args.change.now ∙ sym c.place.ensures ∙ c.in-Some.is in
-    let behind : c.swap_in-behind.result ≡ place_after c.args.cursor (inverse e) =
-    c.swap_in-behind.ensures.end ∙ ap (λ (t : List ℕ). c.in-Some.at + length t) c.texts.ensures.coming ∙ sym (place_after-is e c.in-Some.at c.args.cursor at_place) in
-    c.unwrap_or.ensures ∙ ap (λ o. unwrap_or o c.swap_in-behind.result) c.cursor_over.ensures ∙ ap (unwrap_or (cursor_told (inverse e))) behind
+    let after : c.swap_in-after.result ≡ place_after c.args.cursor (inverse e) =
+    c.swap_in-after.ensures.end ∙ ap (λ (t : List ℕ). c.in-Some.at + length t) c.texts.ensures.coming ∙ sym (place_after-is e c.in-Some.at c.args.cursor at_place) in
+    c.unwrap_or.ensures ∙ ap (λ o. unwrap_or o c.swap_in-after.result) c.cursor_over.ensures ∙ ap (unwrap_or (cursor_told (inverse e))) after
 
 pub returns-in-Some-clause-cursor : goal.returns-in-Some-clause-cursor
 returns-in-Some-clause-cursor c = went (goal.at.returns-in-Some-clause-cursor c).After-unwrap_or
@@ -55,6 +55,6 @@ returns-in-Some-clause-cursor c = went (goal.at.returns-in-Some-clause-cursor c)
 -- it stands in the new text
 pub returns-in-Some-clause-boundary : goal.returns-in-Some-clause-boundary
 returns-in-Some-clause-boundary c =
-    let made : apply (event_of (inverse (faced c.args.way c.args.change.now))) (string_bytes c.args.text.now) ≡ Some (string_bytes c.swap_in-behind.new.text) =
-    rw ((stands (goal.at.returns-in-Some-clause-boundary c).In-Some).makes, c.swap_in-behind.ensures.text, c.texts.ensures.going, c.texts.ensures.coming) refl in
-    subst (IsCharBoundary (string_bytes c.swap_in-behind.new.text)) (sym (went (goal.at.returns-in-Some-clause-boundary c).After-unwrap_or)) (c.requires.stands (string_bytes c.swap_in-behind.new.text) made)
+    let made : apply (event_of (inverse (faced c.args.way c.args.change.now))) (string_bytes c.args.text.now) ≡ Some (string_bytes c.swap_in-after.new.text) =
+    rw ((stands (goal.at.returns-in-Some-clause-boundary c).In-Some).makes, c.swap_in-after.ensures.text, c.texts.ensures.going, c.texts.ensures.coming) refl in
+    subst (IsCharBoundary (string_bytes c.swap_in-after.new.text)) (sym (went (goal.at.returns-in-Some-clause-boundary c).After-unwrap_or)) (c.requires.stands (string_bytes c.swap_in-after.new.text) made)

@@ -7,9 +7,9 @@ use Rattle.rl_line.proofs.entries.level.Goals as goal
 
 pub loop-entry-preserved : goal.loop-entry-preserved
 loop-entry-preserved c = record {
-  counted = c.level_behind-level.ensures.level
+  counted = c.level_after-level.ensures.level
       ∙ sym (deep-next c.args.entries.now c.loop-entry.entry-index c.loop-entry.level c.entry-item.result c.loop-entry-test.true c.entry-item.is c.loop-entry.invariant.counted);
-  small = omega (arith, c.level_behind-level.ensures.bound, c.loop-entry.invariant.small);
+  small = omega (arith, c.level_after-level.ensures.bound, c.loop-entry.invariant.small);
 }
 
 pub returns : goal.returns

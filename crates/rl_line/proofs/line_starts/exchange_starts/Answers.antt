@@ -2,7 +2,7 @@ use Rattle.std.proofs.Common.{◌≡◌, ◌≤◌, ◌+◌, ◌-◌, ◌++◌, 
 use Rattle.std.proofs.lemmas.List.{take_rest, length-drop, drop-drop}
 use Rattle.rl_base.specs.Lines.{is_newline}
 use Rattle.std.specs.List.{replace_range}
-use Rattle.rl_line.specs.LineStarts.{behind_newlines, IsTable}
+use Rattle.rl_line.specs.LineStarts.{after_newlines, IsTable}
 use Rattle.rl_line.proofs.LineStartLemmas.{IsTable-replaced, IsTable-stays, length-table, IsTable-written, newlines-front, newlines-replaced, newlines-take}
 use Rattle.rl_line.proofs.line_starts.exchange_starts.Goals as goal
 use Rattle.rl_line.proofs.line_starts.exchange_starts.Goals.{After-line_number, Then-stays}
@@ -51,9 +51,9 @@ open_gap-requires-clause-room c =
     let d = (goal.at.open_gap-requires-clause-room c).After-line_number in
     omega (arith, gone d, within d, c.move_border.ensures.count, c.move_border.ensures.capacity, c.requires.come, c.requires.room)
 
-pub put_behind_newlines-requires-clause-within : goal.put_behind_newlines-requires-clause-within
-put_behind_newlines-requires-clause-within c =
-    let d = (goal.at.put_behind_newlines-requires-clause-within c).After-line_number in
+pub put_after_newlines-requires-clause-within : goal.put_after_newlines-requires-clause-within
+put_after_newlines-requires-clause-within c =
+    let d = (goal.at.put_after_newlines-requires-clause-within c).After-line_number in
     let old = c.deref_mut.result.now in
     let first = c.line_number-first.result in
     omega (
@@ -78,16 +78,16 @@ returns-clause-table c =
     let old = c.deref_mut.result.now in
     let rest = take_rest old first in
     let many : first ≤ c.open_gap.new.places.len = omega (arith, c.open_gap.ensures.count, c.move_border.ensures.count, gone d, within d) in
-    let size = c.put_behind_newlines.auto.places ∙ ap length rest ∙ length-drop first old ∙ ap (λ k. k - first) c.deref_mut.ensures.len in
+    let size = c.put_after_newlines.auto.places ∙ ap length rest ∙ length-drop first old ∙ ap (λ k. k - first) c.deref_mut.ensures.len in
     let front = ap (take first) c.deref_mut.ensures.value ∙ c.open_gap.ensures.before in
     let back : drop (count_by is_newline part) (drop first old) ≡ drop (first + (c.line_number.result - first)) places =
     drop-drop (count_by is_newline part) first old ∙ ap (λ k. drop (first + k) old) (sym c.requires.come) ∙ ap (drop (first + c.args.come)) c.deref_mut.ensures.value ∙ c.open_gap.ensures.after in
-    let is = ap (λ l. take first old ++ l) (c.put_behind_newlines.ensures ∙ ap (λ l. behind_newlines (c.args.from + 1) part ++ drop (count_by is_newline part) l) rest)
-    ∙ ap₂ (λ l r. l ++ (behind_newlines (c.args.from + 1) part ++ r)) front back in
+    let is = ap (λ l. take first old ++ l) (c.put_after_newlines.ensures ∙ ap (λ l. after_newlines (c.args.from + 1) part ++ drop (count_by is_newline part) l) rest)
+    ∙ ap₂ (λ l r. l ++ (after_newlines (c.args.from + 1) part ++ r)) front back in
     let table = subst (λ n. IsTable places n text) c.move_border.ensures.border c.move_border.ensures.table in
     let made = IsTable-replaced places text part c.args.from c.args.to first (c.line_number.result - first) table c.requires.order c.requires.end.0 c.line_number-first.ensures (omega (arith, gone d)) in
-    let all = take first places ++ (behind_newlines (c.args.from + 1) part ++ drop (first + (c.line_number.result - first)) places) in
-    IsTable-written first c.open_gap.new.places.len (first + c.args.come) old c.put_behind_newlines.new.places _ all (replace_range text c.args.from c.args.to part) c.deref_mut.ensures.len many size is
+    let all = take first places ++ (after_newlines (c.args.from + 1) part ++ drop (first + (c.line_number.result - first)) places) in
+    IsTable-written first c.open_gap.new.places.len (first + c.args.come) old c.put_after_newlines.new.places _ all (replace_range text c.args.from c.args.to part) c.deref_mut.ensures.len many size is
     (subst (λ n. IsTable all (first + n) (replace_range text c.args.from c.args.to part)) (sym c.requires.come) made)
 
 pub returns-clause-count : goal.returns-clause-count

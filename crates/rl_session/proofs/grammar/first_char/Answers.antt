@@ -7,7 +7,7 @@ use Rattle.rl_session.proofs.grammar.first_char.Goals as goal
 pub returns-in-Some : goal.returns-in-Some
 returns-in-Some c =
     let strip = strip_prefix_char 92 c.args.escaped.now c.strip_prefix.result c.strip_prefix.ensures.cases (omega arith) in
-    escaped_char c.args.escaped.now c.in-Some.behind.now c.escape.result (rw c.in-Some.is at strip) c.escape.ensures.cases
+    escaped_char c.args.escaped.now c.in-Some.after.now c.escape.result (rw c.in-Some.is at strip) c.escape.ensures.cases
 
 pub returns-in_err-next-in-None : goal.returns-in_err-next-in-None
 returns-in_err-next-in-None c =

@@ -2,18 +2,18 @@ use Rattle.std.proofs.Common.{arith, sym, ◌∙◌, ap}
 use Rattle.std.proofs.lemmas.Str.Pattern.{split_parts}
 use Rattle.rl_session.specs.Grammar.{word, rest}
 use Rattle.rl_session.proofs.PartLemmas.{Lacks-by_index}
-use Rattle.rl_session.proofs.WordLemmas.{word-before, rest-behind, word-whole, rest-none}
+use Rattle.rl_session.proofs.WordLemmas.{word-before, rest-after, word-whole, rest-none}
 use Rattle.rl_session.proofs.grammar.first_word.Goals as goal
 
 pub returns-in-Some-clause-word : goal.returns-in-Some-clause-word
 returns-in-Some-clause-word c =
     let parts = rw c.in-Some.is at (split_parts 32 c.args.given.now c.split_once.result c.split_once.ensures.cases (omega arith)) in
-    sym (ap word parts.0 ∙ word-before _ c.in-Some.behind.now (Lacks-by_index 32 c.in-Some.word.now parts.1))
+    sym (ap word parts.0 ∙ word-before _ c.in-Some.after.now (Lacks-by_index 32 c.in-Some.word.now parts.1))
 
 pub returns-in-Some-clause-rest : goal.returns-in-Some-clause-rest
 returns-in-Some-clause-rest c =
     let parts = rw c.in-Some.is at (split_parts 32 c.args.given.now c.split_once.result c.split_once.ensures.cases (omega arith)) in
-    ap rest parts.0 ∙ rest-behind _ c.in-Some.behind.now (Lacks-by_index 32 c.in-Some.word.now parts.1)
+    ap rest parts.0 ∙ rest-after _ c.in-Some.after.now (Lacks-by_index 32 c.in-Some.word.now parts.1)
 
 pub returns-in-None-clause-word : goal.returns-in-None-clause-word
 returns-in-None-clause-word c =

@@ -4,28 +4,28 @@ use Rattle.rl_session.proofs.PartLemmas.{Lacks-by_index}
 use Rattle.rl_session.proofs.SpellingLemmas.{read_all, read_on, read_end, read_none}
 use Rattle.rl_session.proofs.grammar.is_well_formed.Goals as goal
 
-pub loop-behind-init : goal.loop-behind-init
-loop-behind-init c = record { read = ([], read_all c.args.escaped.now); utf8 = c.utf8.escaped }
+pub loop-after-init : goal.loop-after-init
+loop-after-init c = record { read = ([], read_all c.args.escaped.now); utf8 = c.utf8.escaped }
 
-pub loop-behind-preserved : goal.loop-behind-preserved
-loop-behind-preserved c =
-    let parts = rw c.in-Some.is at (split_parts 92 c.loop-behind.rest.now c.split_once.result c.split_once.ensures.cases (omega arith)) in
+pub loop-after-preserved : goal.loop-after-preserved
+loop-after-preserved c =
+    let parts = rw c.in-Some.is at (split_parts 92 c.loop-after.rest.now c.split_once.result c.split_once.ensures.cases (omega arith)) in
     record {
       read = (
         _,
-        read_on c.args.escaped.now c.loop-behind.invariant.read.0 c.loop-behind.rest.now c.in-Some.field-0-0.now c.in-Some.behind.now c.in-Some-escape.field-0-0
-            c.in-Some-escape.behind.now c.loop-behind.invariant.read.1 parts.0 (Lacks-by_index 92 c.in-Some.field-0-0.now parts.1) c.in-Some-escape.ensures.cases,
+        read_on c.args.escaped.now c.loop-after.invariant.read.0 c.loop-after.rest.now c.in-Some.field-0-0.now c.in-Some.after.now c.in-Some-escape.field-0-0
+            c.in-Some-escape.after.now c.loop-after.invariant.read.1 parts.0 (Lacks-by_index 92 c.in-Some.field-0-0.now parts.1) c.in-Some-escape.ensures.cases,
       );
       utf8 = c.in-Some-escape.ensures.utf8;
     }
 
 pub returns-in-None : goal.returns-in-None
 returns-in-None c =
-    let parts = rw c.in-Some.is at (split_parts 92 c.loop-behind.rest.now c.split_once.result c.split_once.ensures.cases (omega arith)) in
-    read_none c.args.escaped.now c.loop-behind.invariant.read.0 c.loop-behind.rest.now c.in-Some.field-0-0.now c.in-Some.behind.now c.loop-behind.invariant.read.1 parts.0
+    let parts = rw c.in-Some.is at (split_parts 92 c.loop-after.rest.now c.split_once.result c.split_once.ensures.cases (omega arith)) in
+    read_none c.args.escaped.now c.loop-after.invariant.read.0 c.loop-after.rest.now c.in-Some.field-0-0.now c.in-Some.after.now c.loop-after.invariant.read.1 parts.0
     (Lacks-by_index 92 c.in-Some.field-0-0.now parts.1) c.in-None.ensures.cases
 
 pub returns : goal.returns
 returns c =
-    let parts = rw c.in_default.is at (split_parts 92 c.loop-behind.rest.now c.split_once.result c.split_once.ensures.cases (omega arith)) in
-    (_, read_end c.args.escaped.now c.loop-behind.invariant.read.0 c.loop-behind.rest.now c.loop-behind.invariant.read.1 (Lacks-by_index 92 c.loop-behind.rest.now parts))
+    let parts = rw c.in_default.is at (split_parts 92 c.loop-after.rest.now c.split_once.result c.split_once.ensures.cases (omega arith)) in
+    (_, read_end c.args.escaped.now c.loop-after.invariant.read.0 c.loop-after.rest.now c.loop-after.invariant.read.1 (Lacks-by_index 92 c.loop-after.rest.now parts))

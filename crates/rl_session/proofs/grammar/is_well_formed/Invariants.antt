@@ -3,11 +3,11 @@ use Rattle.std.specs.Str.{IsUtf8}
 use Rattle.rl_session.specs.Reads.{Begins}
 use Rattle.rl_session.proofs.grammar.is_well_formed.Given as goal
 
-abbrev pub invariant-loop-behind : goal.invariant-loop-behind
-invariant-loop-behind l = record {
+abbrev pub invariant-loop-after : goal.invariant-loop-after
+invariant-loop-after l = record {
   read : (text : List ℕ) × Begins l.escaped text l.rest;
   utf8 : IsUtf8 l.rest;
 }
 
-abbrev pub decreases-loop-behind : goal.decreases-loop-behind
-decreases-loop-behind l = length l.rest
+abbrev pub decreases-loop-after : goal.decreases-loop-after
+decreases-loop-after l = length l.rest

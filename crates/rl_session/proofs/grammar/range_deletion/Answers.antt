@@ -9,7 +9,7 @@ returns-in_err-start c = rw c.from_residual.ensures (range-no_start c.args.given
 pub returns-in_err-number : goal.returns-in_err-number
 returns-in_err-number c =
     rw c.from_residual-in_err-number.ensures
-    (range-no_end c.args.given.now c.in_ok-start.behind.now c.in_ok-start.start c.in_ok-start.ensures.cases c.in_err-number.ensures.value)
+    (range-no_end c.args.given.now c.in_ok-start.after.now c.in_ok-start.start c.in_ok-start.ensures.cases c.in_err-number.ensures.value)
 
 pub returns : goal.returns
 returns c = range c.in_ok-start.ensures.cases (sym c.in_ok-number.ensures.value)

@@ -12,7 +12,7 @@ loop-plain-preserved c =
     record {
       read =
           rw (c.in_ok-push-in-Some-escape.ensures.bytes, c.in_ok-push_str.ensures.bytes)
-          (read_on c.args.escaped.now (string_bytes c.loop-plain.text) c.loop-plain.rest.now c.in-Some.plain.now c.in-Some.behind.now c.in-Some-escape.c c.in-Some-escape.behind.now
+          (read_on c.args.escaped.now (string_bytes c.loop-plain.text) c.loop-plain.rest.now c.in-Some.plain.now c.in-Some.after.now c.in-Some-escape.c c.in-Some-escape.after.now
           c.loop-plain.invariant.read parts.0 (Lacks-by_index 92 c.in-Some.plain.now parts.1) c.in-Some-escape.ensures.cases);
       utf8 = c.in-Some-escape.ensures.utf8;
     }
@@ -20,7 +20,7 @@ loop-plain-preserved c =
 pub returns-in-None-clause-ok : goal.returns-in-None-clause-ok
 returns-in-None-clause-ok c =
     let parts = rw c.in-Some.is at (split_parts 92 c.loop-plain.rest.now c.split_once.result c.split_once.ensures.cases (omega arith)) in
-    read_none c.args.escaped.now (string_bytes c.loop-plain.text) c.loop-plain.rest.now c.in-Some.plain.now c.in-Some.behind.now c.loop-plain.invariant.read parts.0
+    read_none c.args.escaped.now (string_bytes c.loop-plain.text) c.loop-plain.rest.now c.in-Some.plain.now c.in-Some.after.now c.loop-plain.invariant.read parts.0
     (Lacks-by_index 92 c.in-Some.plain.now parts.1) c.in-None.ensures.cases
 
 pub returns-clause-ok : goal.returns-clause-ok
@@ -32,14 +32,14 @@ returns-clause-ok c =
 pub returns-in_err-push_str-clause-err : goal.returns-in_err-push_str-clause-err
 returns-in_err-push_str-clause-err c =
     let parts = rw c.in-Some.is at (split_parts 92 c.loop-plain.rest.now c.split_once.result c.split_once.ensures.cases (omega arith)) in
-    let some : 0 < length c.loop-plain.rest.now = rw parts.0 (omega (arith, length-append c.in-Some.plain.now (92 ∷ c.in-Some.behind.now))) in
+    let some : 0 < length c.loop-plain.rest.now = rw parts.0 (omega (arith, length-append c.in-Some.plain.now (92 ∷ c.in-Some.after.now))) in
     let p = err_from_is_err_and c.from_residual.result c.from_residual.ensures.1 in
     rw p.1 (read_some c.args.escaped.now (string_bytes c.loop-plain.text) c.loop-plain.rest.now c.loop-plain.invariant.read some)
 
 pub returns-in_err-push-in-Some-escape-clause-err : goal.returns-in_err-push-in-Some-escape-clause-err
 returns-in_err-push-in-Some-escape-clause-err c =
     let parts = rw c.in-Some.is at (split_parts 92 c.loop-plain.rest.now c.split_once.result c.split_once.ensures.cases (omega arith)) in
-    let some : 0 < length c.loop-plain.rest.now = rw parts.0 (omega (arith, length-append c.in-Some.plain.now (92 ∷ c.in-Some.behind.now))) in
+    let some : 0 < length c.loop-plain.rest.now = rw parts.0 (omega (arith, length-append c.in-Some.plain.now (92 ∷ c.in-Some.after.now))) in
     let p = err_from_is_err_and c.from_residual-in_err-push-in-Some-escape.result c.from_residual-in_err-push-in-Some-escape.ensures.1 in
     rw p.1 (read_some c.args.escaped.now (string_bytes c.loop-plain.text) c.loop-plain.rest.now c.loop-plain.invariant.read some)
 

@@ -12,7 +12,7 @@ loop-end-preserved g c =
     record {
       took = (
         so_far.0 ++ (end ++ 10 ∷ []),
-        longer_front c.args.block.now so_far.0 c.loop-end.rest.now end c.in-Some.behind.now so_far.1 parts.1,
+        longer_front c.args.block.now so_far.0 c.loop-end.rest.now end c.in-Some.after.now so_far.1 parts.1,
         rw c.in_ok-end_line.ensures.given_up (Took-trans _ _ _ _ _ _ _ _ _ _ _ so_far.2 c.in_ok-end_line.ensures.took),
       );
       clean = rw c.in_ok-end_line.ensures.given_up tt;
@@ -23,8 +23,8 @@ returns-in_err-end_line-clause-halts g c =
     let so_far = c.loop-end.invariant.took in
     let parts = rw c.in-Some.is at c.split_line.ensures in
     let end = c.in-Some.end.now in
-    let whole = longer_front c.args.block.now so_far.0 c.loop-end.rest.now end c.in-Some.behind.now so_far.1 parts.1 in
-    let all = Halts-longer _ _ _ _ c.in-Some.behind.now _ _ (Halts-after _ _ _ _ _ _ _ _ _ _ so_far.2 c.in_err-end_line.ensures.halts) in
+    let whole = longer_front c.args.block.now so_far.0 c.loop-end.rest.now end c.in-Some.after.now so_far.1 parts.1 in
+    let all = Halts-longer _ _ _ _ c.in-Some.after.now _ _ (Halts-after _ _ _ _ _ _ _ _ _ _ so_far.2 c.in_err-end_line.ensures.halts) in
     let p = err_from_is_err_and c.from_residual.result c.from_residual.ensures.1 in
     rw (p.1, p.2, whole) all
 

@@ -13,7 +13,7 @@ returns-in_default-clause-value c =
     let none = sym (ap grapheme_indices_left c.rev-clusters.ensures.source ∙ c.grapheme_indices.ensures.left) ∙ c.in_default.ensures.steps.0 in
     sym (prev_word-none c.args.text.now c.args.pos c.args.word c.args.n c.range.result.now (c.range.ensures.value ∙ slice_range-front c.args.pos c.args.text.now) (omega (arith, c.range.ensures.len)) c.range.utf8 none)
 
--- a word starts behind the cluster that was read
+-- a word starts after the cluster that was read
 begun : (c : goal.Then-wanted-eq1) → starts c.args.word c.in-Some-2.cluster.now c.loop-start.invariant.cluster ≡ true
 begun c = sym (c.starts.ensures c.args.word _ _ c.class_of-last.ensures c.loop-start.invariant.class) ∙ c.if-starts.true
 

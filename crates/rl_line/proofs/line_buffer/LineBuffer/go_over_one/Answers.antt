@@ -45,11 +45,11 @@ end c = rw c.texts.ensures.going (stands c).end
 pub find_room_instead-requires-clause-end : goal.find_room_instead-requires-clause-end
 find_room_instead-requires-clause-end c = end (goal.at.find_room_instead-requires-clause-end c).After-texts
 
-pub swap_in-behind-requires-clause-start : goal.swap_in-behind-requires-clause-start
-swap_in-behind-requires-clause-start c = rw c.find_room_instead.ensures.text (stands (goal.at.swap_in-behind-requires-clause-start c).After-texts).start
+pub swap_in-after-requires-clause-start : goal.swap_in-after-requires-clause-start
+swap_in-after-requires-clause-start c = rw c.find_room_instead.ensures.text (stands (goal.at.swap_in-after-requires-clause-start c).After-texts).start
 
-pub swap_in-behind-requires-clause-end : goal.swap_in-behind-requires-clause-end
-swap_in-behind-requires-clause-end c = rw c.find_room_instead.ensures.text (end (goal.at.swap_in-behind-requires-clause-end c).After-texts)
+pub swap_in-after-requires-clause-end : goal.swap_in-after-requires-clause-end
+swap_in-after-requires-clause-end c = rw c.find_room_instead.ensures.text (end (goal.at.swap_in-after-requires-clause-end c).After-texts)
 
 pub returns-in_err-come-clause-err : goal.returns-in_err-come-clause-err
 returns-in_err-come-clause-err c =
@@ -66,32 +66,32 @@ returns-in_err-come-clause-err c =
     rw (p.1, p.2) (refused.0, search rules, subst (λ (l : Line). Any (NeedsRoom l.text) (texts_back (e ∷ []) l.text)) c.self.view_is needs)
 
 -- the text that is made, and the cursor in it, told or not
-makes : (c : After-max-self-inside) → apply (event_of (inverse (faced c.args.way c.args.change.now))) (string_bytes c.self.inside.buf) ≡ Some (string_bytes c.swap_in-behind.new.text)
+makes : (c : After-max-self-inside) → apply (event_of (inverse (faced c.args.way c.args.change.now))) (string_bytes c.self.inside.buf) ≡ Some (string_bytes c.swap_in-after.new.text)
 makes c =
-    rw ((stands (goal.at.After-max-self-inside c).After-texts).makes, c.swap_in-behind.ensures.text, c.find_room_instead.ensures.text, c.texts.ensures.going, c.texts.ensures.coming) refl
+    rw ((stands (goal.at.After-max-self-inside c).After-texts).makes, c.swap_in-after.ensures.text, c.find_room_instead.ensures.text, c.texts.ensures.going, c.texts.ensures.coming) refl
 
 went : (c : After-max-self-inside) → c.unwrap_or-self-inside.result ≡ cursor_after c.self.inside.pos (inverse (faced c.args.way c.args.change.now))
 went c =
     let e = faced c.args.way c.args.change.now in
-    let behind : c.swap_in-behind.result ≡ place_after c.self.inside.pos (inverse e) =
-    c.swap_in-behind.ensures.end ∙ ap (λ (t : List ℕ). c.in-Some.at + length t) c.texts.ensures.coming
+    let after : c.swap_in-after.result ≡ place_after c.self.inside.pos (inverse e) =
+    c.swap_in-after.ensures.end ∙ ap (λ (t : List ℕ). c.in-Some.at + length t) c.texts.ensures.coming
     ∙ sym (place_after-is e c.in-Some.at c.self.inside.pos (at_place (goal.at.After-max-self-inside c).After-texts)) in
-    c.unwrap_or-self-inside.ensures ∙ ap (λ o. unwrap_or o c.swap_in-behind.result) c.cursor_over.ensures ∙ ap (unwrap_or (cursor_told (inverse e))) behind
+    c.unwrap_or-self-inside.ensures ∙ ap (λ o. unwrap_or o c.swap_in-after.result) c.cursor_over.ensures ∙ ap (unwrap_or (cursor_told (inverse e))) after
 
-there : (c : After-max-self-inside) → IsCharBoundary (string_bytes c.swap_in-behind.new.text) (cursor_after c.self.inside.pos (inverse (faced c.args.way c.args.change.now)))
+there : (c : After-max-self-inside) → IsCharBoundary (string_bytes c.swap_in-after.new.text) (cursor_after c.self.inside.pos (inverse (faced c.args.way c.args.change.now)))
 there c =
     let d = (goal.at.After-max-self-inside c).After-texts in
-    one-stands (faced c.args.way c.args.change.now) (now d) (follows d) (string_bytes c.swap_in-behind.new.text) (makes c)
+    one-stands (faced c.args.way c.args.change.now) (now d) (follows d) (string_bytes c.swap_in-after.new.text) (makes c)
 
-width : (c : After-max-self-inside) → c.len.result ≡ length (string_bytes c.swap_in-behind.new.text)
-width c = c.len.ensures ∙ c.swap_in-behind.new.text.bytes.ok.0
+width : (c : After-max-self-inside) → c.len.result ≡ length (string_bytes c.swap_in-after.new.text)
+width c = c.len.ensures ∙ c.swap_in-after.new.text.bytes.ok.0
 
 pub invariant_of-self-2 : goal.invariant_of-self-2
 invariant_of-self-2 c =
     let d = (goal.at.invariant_of-self-2 c).After-max-self-inside in
     record {
-      table = c.swap_in-behind.ensures.table;
-      at_boundary = subst (IsCharBoundary (string_bytes c.swap_in-behind.new.text)) (sym (went d)) (there d);
+      table = c.swap_in-after.ensures.table;
+      at_boundary = subst (IsCharBoundary (string_bytes c.swap_in-after.new.text)) (sym (went d)) (there d);
       within = omega (arith, c.max-self-inside.ensures, width d);
     }
 
@@ -100,4 +100,4 @@ returns-clause-ok c =
     let d = (goal.at.returns-clause-ok c).After-max-self-inside in
     let e = faced c.args.way c.args.change.now in
     ap (line_back (e ∷ [])) (sym c.self.view_is)
-    ∙ one-back e _ _ (string_bytes c.swap_in-behind.new.text) (makes d) (rw (went d, c.max-self-inside.ensures, width d) refl) (there d)
+    ∙ one-back e _ _ (string_bytes c.swap_in-after.new.text) (makes d) (rw (went d, c.max-self-inside.ensures, width d) refl) (there d)

@@ -16,4 +16,4 @@ returns-clause-value c =
 
 pub returns-clause-order : goal.returns-clause-order
 returns-clause-order c =
-    omega (arith, c.start_of_line.ensures.value, c.start_of_line.ensures.boundary.0, c.behind_line.ensures.value, start-mono c.args.self.now.text c.line_number-k.result c.min-final_line.result (omega arith))
+    omega (arith, c.start_of_line.ensures.value, c.start_of_line.ensures.boundary.0, c.after_line.ensures.value, start-mono c.args.self.now.text c.line_number-k.result c.min-final_line.result (omega arith))

@@ -11,7 +11,7 @@ use Rattle.rl_line.specs.Ranges.{text_in}
 use Rattle.rl_line.specs.Transpositions.{swap_plan}
 use Rattle.rl_line.proofs.EditLemmas.{some_part}
 use Rattle.rl_line.proofs.LineStartLemmas.{length-table, newlines-slice}
-use Rattle.rl_line.proofs.PlanLemmas.{Done-steps, Taken-append, Halted-front, Halted-behind}
+use Rattle.rl_line.proofs.PlanLemmas.{Done-steps, Taken-append, Halted-front, Halted-back}
 use Rattle.rl_line.proofs.StepLemmas.{Halted-from, Taken-from}
 use Rattle.rl_line.proofs.TranspositionLemmas.{last_steps, swap-front, swap-halves, places}
 use Rattle.rl_line.proofs.line_buffer.LineBuffer.swap.Goals as goal
@@ -178,7 +178,7 @@ returns-in_err-exchange_steps-2-clause-halted g c =
     let e = c.in_ok-exchange_steps.ensures in
     let mid = line_of (string_bytes c.exchange_steps.new.text) c.exchange_steps.new.pos c.exchange_steps.new.limit inside.can_growth in
     let is : mid.text ≡ replace_range line.text second.start second.end x = e.text ∙ ap (λ (l : Line). replace_range l.text second.start second.end x) same in
-    rw (p.1, p.2) (inl (Halted-behind _ _ (swap_plan line first second) (exchange_plan mid first first.start y second.end) (exchange_plan line second first.end x first.end).steps _ mid _ _ _ _ _
+    rw (p.1, p.2) (inl (Halted-back _ _ (swap_plan line first second) (exchange_plan mid first first.start y second.end) (exchange_plan line second first.end x first.end).steps _ mid _ _ _ _ _
     (Taken-from _ (λ (l : Line). (exchange_plan l second first.end x first.end).steps) _ _ mid _ _ same (e.taken inside.can_growth)) (c.in_err-exchange_steps-2.ensures.halted inside.can_growth)
     (swap-halves line mid first second x y x_is y_is is c.requires.second_start.0 c.requires.first c.requires.apart)))
 

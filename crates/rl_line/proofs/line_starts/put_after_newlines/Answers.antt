@@ -2,8 +2,8 @@ use Rattle.std.proofs.Common.{◌≡◌, ◌<◌, ◌+◌, ◌++◌, ◌∷◌, 
 use Rattle.std.proofs.lemmas.List.{append_assoc, append-nil, length_push}
 use Rattle.memchr.specs.Find.{is_byte, places}
 use Rattle.rl_line.proofs.LineStartLemmas.{found, found-within, length-found, put_more}
-use Rattle.rl_line.proofs.line_starts.put_behind_newlines.Goals as goal
-use Rattle.rl_line.proofs.line_starts.put_behind_newlines.Goals.{In-Some}
+use Rattle.rl_line.proofs.line_starts.put_after_newlines.Goals as goal
+use Rattle.rl_line.proofs.line_starts.put_after_newlines.Goals.{In-Some}
 
 -- the newline that comes, between those that were put and those to come
 split : (c : In-Some) → c.loop-newline.yielded ++ c.in-Some.newline ∷ c.next.new.self ≡ places (is_byte 10) c.args.part.now

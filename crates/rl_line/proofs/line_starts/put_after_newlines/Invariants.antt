@@ -1,6 +1,6 @@
 use Rattle.std.proofs.Common.{◌≡◌, ◌+◌, ◌++◌, map, drop, length}
 use Rattle.memchr.specs.Find.{is_byte, places}
-use Rattle.rl_line.proofs.line_starts.put_behind_newlines.Given as goal
+use Rattle.rl_line.proofs.line_starts.put_after_newlines.Given as goal
 
 abbrev pub invariant-loop-newline : goal.invariant-loop-newline
 invariant-loop-newline l =

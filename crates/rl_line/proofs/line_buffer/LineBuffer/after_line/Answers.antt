@@ -1,15 +1,15 @@
 use Rattle.std.proofs.Common.{◌≡◌, arith}
 use Rattle.rl_base.specs.Lines.{last_line}
-use Rattle.rl_line.proofs.LineReadLemmas.{EndsAt, ends_at, last-ends, EndsAt-start, EndsAt-behind}
-use Rattle.rl_line.proofs.line_buffer.LineBuffer.behind_line.Goals as goal
-use Rattle.rl_line.proofs.line_buffer.LineBuffer.behind_line.Goals.{After-start}
+use Rattle.rl_line.proofs.LineReadLemmas.{EndsAt, ends_at, last-ends, EndsAt-start, EndsAt-after}
+use Rattle.rl_line.proofs.line_buffer.LineBuffer.after_line.Goals as goal
+use Rattle.rl_line.proofs.line_buffer.LineBuffer.after_line.Goals.{After-start}
 
 -- the newline at its end
 next : (c : After-start) → EndsAt c.args.self.now.text c.args.k c.start.result
 next c = ends_at c.args.self.now.text c.args.k c.start.result (omega (arith, c.requires, c.if-k-last_line.false, c.last_line.ensures)) c.start.ensures.start
 
 pub returns-clause-value : goal.returns-clause-value
-returns-clause-value c = EndsAt-behind c.args.self.now.text c.args.k _ (next (goal.at.returns-clause-value c).After-start)
+returns-clause-value c = EndsAt-after c.args.self.now.text c.args.k _ (next (goal.at.returns-clause-value c).After-start)
 
 pub returns-clause-boundary : goal.returns-clause-boundary
 returns-clause-boundary c = EndsAt-start c.args.self.now.text c.args.k _ (next (goal.at.returns-clause-boundary c).After-start) c.start.ensures.utf8
