@@ -56,7 +56,7 @@ fn edits_often(
     Ok(())
 }
 
-// A line that holds a text, the cursor in its middle or at its end, and there what the edits are to take.
+// A line that holds a text, with the cursor in its middle or at its end, and there the text that the edits delete.
 fn line_for(
     alloc: Global,
     edit: Edit,

@@ -10,8 +10,8 @@ use std::time::{Duration, Instant};
 // Far enough from one place to the next that changes there do not join.
 const STRIDE: usize = 7919;
 
-// Changes the text here and there, by turns with a character, a deletion, a kill of a word and a yank of that, so that it
-// stays about as long as it is.
+// Changes the text here and there: by turns with a character, a deletion, a kill of a word and a yank of that word. So
+// the text keeps about its length.
 fn changes_here_and_there(session: &mut Session, count: usize) {
     let mut place: usize = 0;
     for i in 0..count {
@@ -27,7 +27,7 @@ fn changes_here_and_there(session: &mut Session, count: usize) {
     }
 }
 
-/// Times undos of so many changes, or redos of them, in a text of `size` bytes, and tells the state at the end.
+/// Times undos of `count` changes, or redos of them, in a text of `size` bytes, and tells the state at the end.
 pub fn time_history(
     rt: &HostRuntime,
     edits: Edits,

@@ -1,6 +1,6 @@
 //! Times the workloads of an editor. `rl_bench NAME COUNT SIZE` makes a text of SIZE bytes, does the calls of the workload COUNT
-//! times, and prints the nanoseconds that a call took, and a number made of the state at the end, by which two states of the
-//! code can be seen to have done the same. Without words it prints what workloads there are.
+//! times, and prints the nanoseconds that a call took, and a number made of the state at the end. By that number two
+//! states of the code can be seen to have done the same. Without words it lists the workloads.
 #![tactic(auto)]
 
 mod edits;
@@ -91,7 +91,7 @@ fn run(rt: &HostRuntime) -> Result<(), Stop> {
     Ok(())
 }
 
-// The status at the end: 0 exactly where a workload was timed, or all were listed, and else 1.
+// The status at the end: 0 exactly where a workload was timed, or all were listed; otherwise 1.
 fn status(outcome: &Result<(), Stop>) -> ExitCode
     ensures ran { OnOk outcome.now (exit_status result ≡ 0) }
     ensures stopped { OnErr outcome.now (exit_status result ≡ 1) }

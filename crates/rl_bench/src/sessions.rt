@@ -22,7 +22,7 @@ pub fn session_of(rt: &HostRuntime, size: usize, more: usize) -> Result<Session,
     )?)
 }
 
-/// Applies the command so many times.
+/// Applies the command `count` times.
 pub fn applies_often(session: &mut Session, command: &Command, count: usize) {
     for _ in 0..count {
         let _ = session.apply(command);
@@ -39,7 +39,7 @@ pub fn time_letters(rt: &HostRuntime, count: usize, size: usize) -> Result<(Dura
     Ok((time, number_of(line.as_str(), line.pos())))
 }
 
-/// Times yanks of a text of `size` bytes after that text itself, which are each undone, and tells the state at the end.
+/// Times yanks of a text of `size` bytes after that text itself, each undone, and tells the state at the end.
 pub fn time_yanks(rt: &HostRuntime, count: usize, size: usize) -> Result<(Duration, u64), Stop> {
     let mut session = session_of(rt, size, size)?;
     let _ = session.apply(&Command::Kill(Movement::WholeBuffer));

@@ -12,7 +12,7 @@ pub enum Motion {
     Back,
     /// To the start and to the end of the line in the middle, by turns.
     HomeEnd,
-    /// By so many lines.
+    /// By the given number of lines.
     Up(RepeatCount),
     Down(RepeatCount),
 }
@@ -47,7 +47,7 @@ pub enum Edits {
 /// A workload: which calls are made, and from where.
 #[derive(Clone, Copy)]
 pub enum Workload {
-    /// Motions, which begin again at the other end where there is nowhere to go.
+    /// Motions, which start again from the other end where there is nowhere to go.
     Motion(Motion),
     /// Edits at the end of the text, in its middle, or in the middle of a text of short lines.
     AtEnd(Edit),

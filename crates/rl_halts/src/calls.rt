@@ -17,7 +17,7 @@ pub(crate) enum Answer {
     Text(Option<String>),
 }
 
-/// Whether a text can go in at a place of the line, whose cursor stays a place.
+/// Whether a text can be inserted at a place of the line, so that the cursor stays at a boundary.
 pub(crate) fn can_go_in(line: &LineBuffer, idx: usize, text: &str) -> bool
     ensures place { result ≡ true → IsCharBoundary line.now.text idx }
     ensures stays { result ≡ true → IsCharBoundary (insert_slice line.now.text idx text.now) line.now.cursor }
@@ -67,7 +67,7 @@ fn delete(
     }
 }
 
-// Puts the text in at the place.
+// Inserts the text at the place.
 fn insert_str(
     line: &mut LineBuffer,
     idx: usize,
@@ -81,7 +81,7 @@ fn insert_str(
     Ok(Some(Answer::Flag(at_end)))
 }
 
-// Replaces so many bytes before the cursor by the text.
+// Replaces the given number of bytes before the cursor by the text.
 fn yank_pop(
     line: &mut LineBuffer,
     size: usize,
@@ -128,7 +128,7 @@ fn replace(
     Ok(Some(Answer::Nothing))
 }
 
-/// Makes the edit, and hands out its answer: None where the edit's places are none of the line's.
+/// Makes the edit, and hands out its answer: None where the edit's places are not places of the line.
 pub(crate) fn make(
     line: &mut LineBuffer,
     case: &Case,

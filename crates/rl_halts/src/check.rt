@@ -67,7 +67,7 @@ pub(crate) fn line_of(alloc: Global, case: &Case) -> Result<LineBuffer, AllocErr
     Ok(line)
 }
 
-// Makes the edit with so many changes allowed; None where its places are none of the line's.
+// Makes the edit with that many changes allowed; None where its places are not places of the line.
 fn make_edit(alloc: Global, case: &Case, allowed: usize) -> Result<Option<Left>, AllocError> {
     let mut line = line_of(alloc, case)?;
     let mut heard = RefuseAt::new(alloc, allowed);
@@ -120,7 +120,7 @@ fn stands(alloc: Global, case: &Case, left: &Left) -> Result<Option<&'static str
     Ok(None)
 }
 
-// What the edit left, answered or told otherwise than by the rules, if anything.
+// What the edit left, answered or told against the rules, if anything.
 fn broken_rule(
     alloc: Global,
     case: &Case,
@@ -153,8 +153,8 @@ fn broken_rule(
     stands(alloc, case, left)
 }
 
-/// Makes an edit with all its changes allowed, and compares it with the rules of another. That must be told to break the
-/// rule that is wanted.
+/// Makes an edit with all its changes allowed, and compares it with the rules of another. The comparison must report
+/// the wanted rule as broken.
 pub(crate) fn check_wrong(
     alloc: Global,
     made: &Case,
@@ -194,7 +194,7 @@ fn check(
     Ok(())
 }
 
-// The text comes out of the line as it stood there. So a leak of the rest of the line shows in this program too.
+// The line hands out its text as it was. So a leak of the rest of the line shows in this program too.
 fn comes_out(alloc: Global, case: &Case, line: LineBuffer) -> Result<(), Fault> {
     let held = String::from_str(alloc, line.as_str())?;
     if line.into_string().as_str() == held.as_str() {

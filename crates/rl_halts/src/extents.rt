@@ -26,7 +26,7 @@ fn search_over(line: &mut LineBuffer, cs: CharSearch, n: RepeatCount) -> usize {
     }
 }
 
-// The end of what is killed of the cursor's line, which may be its newline.
+// The end of the killed part of the cursor's line, which may be the end of its newline.
 fn line_end(line: &mut LineBuffer) -> usize {
     if !line.move_end() {
         line.move_forward(1);
@@ -72,7 +72,7 @@ fn ends(line: &mut LineBuffer, reach: Reach, n: RepeatCount) -> (usize, usize) {
     (cursor, other_end(line, reach, n))
 }
 
-// The other end of what is killed from the cursor on or up to it.
+// The other end of a kill that starts or ends at the cursor.
 fn other_end(line: &mut LineBuffer, reach: Reach, n: RepeatCount) -> usize {
     match reach {
         Reach::BeginningOfLine => {

@@ -1,6 +1,6 @@
 //! Makes every edit in a few awkward texts, at each of their places, with none, one, two .. of its changes allowed,
-//! and ends with status 1 at the first that leaves anything but what the rules say. Before that it shows that edits which
-//! leave something else are told.
+//! and ends with status 1 at the first that leaves anything other than what the rules say. Before that it shows that it
+//! detects edits which leave something else.
 #![tactic(auto)]
 
 mod calls;

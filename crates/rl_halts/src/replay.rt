@@ -1,4 +1,4 @@
-//! What a change that a listener heard of makes of a text.
+//! How a change that a listener heard of changes a text.
 use rl_base::laws::TextEvent;
 use std::alloc::{AllocError, Global};
 

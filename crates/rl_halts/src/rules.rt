@@ -101,7 +101,7 @@ pub(crate) fn kill_count(case: &Case) -> u16 {
     }
 }
 
-// Whether a text of that length, so many times, fits after one of that length.
+// Whether `n` texts of length `len` fit after one of length `held`.
 fn fits(case: &Case, held: usize, len: usize, n: RepeatCount) -> bool {
     case.grows || held.saturating_add(len.saturating_mul(usize::from(n))) <= case.limit()
 }
@@ -162,7 +162,7 @@ pub(crate) fn answer(
     Ok(answer)
 }
 
-/// Whether an edit with that answer makes so many changes.
+/// Whether an edit with that answer makes that many changes.
 pub(crate) fn is_count(case: &Case, answer: &Answer, count: usize) -> bool {
     let is_made = match answer {
         Answer::Flag(flag) => *flag,
@@ -184,12 +184,12 @@ pub(crate) fn is_count(case: &Case, answer: &Answer, count: usize) -> bool {
     }
 }
 
-// How many changes put so many spaces in, 32 at most by each.
+// How many changes insert the given number of spaces, at most 32 each.
 fn pieces(amount: u8) -> usize {
     usize::from(amount / 32).saturating_add(usize::from(amount % 32 != 0))
 }
 
-// Where the first of the two words ends that a transposition exchanges, by the motions over words.
+// The end of the first of the two words that a transposition exchanges, by the motions over words.
 fn first_word_end(alloc: Global, case: &Case) -> Result<usize, AllocError> {
     let mut line = line_of(alloc, case)?;
     line.move_to_next_word(At::AfterEnd, Word::Emacs, case.count);

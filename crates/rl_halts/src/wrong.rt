@@ -1,4 +1,4 @@
-//! The comparison with the rules, shown to fail: edits that are judged as if others had been made.
+//! Shows that the comparison with the rules can fail: edits are judged as if others had been made.
 use crate::cases::{Case, Deletion, Edit, Reach};
 use crate::check::{Fault, check_wrong};
 use std::alloc::Global;
@@ -59,7 +59,7 @@ const ROWS: &[Row] = &[
     ),
 ];
 
-/// Judges each edit of the table as the other one. That answers how many were told.
+/// Judges each edit of the table as the other one. Answers how many were detected.
 pub(crate) fn check_all_wrong(alloc: Global) -> Result<usize, Fault> {
     for (made, text, cursor, judged, wanted) in ROWS {
         let made = once(TEXT, 1, *made);

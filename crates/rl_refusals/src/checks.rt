@@ -10,7 +10,7 @@ pub(crate) struct Failed {
     what: &'static str,
 }
 
-/// Goes on exactly where it is so.
+/// Fails exactly where it is not so.
 pub(crate) fn holds(is_so: bool, what: &'static str) -> Result<(), Failed>
     ensures held { OnOk result (is_so ≡ true) }
     ensures failed { OnErr result (is_so ≡ false) }

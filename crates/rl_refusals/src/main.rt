@@ -13,7 +13,7 @@ use crate::sessions::{all_at_once, one_by_one, word_in_capitals, wrong_record};
 use std::alloc::Global;
 use std::process::ExitCode;
 
-// Runs all sessions, with a check that must fail before them. That answers how much was refused.
+// Runs a check that must fail, and then all sessions. Answers how much was refused.
 fn run_all(rt: &impl Print, alloc: Global) -> Result<usize, Failed> {
     let wrong_record = wrong_record(rt, alloc)?;
     let one_by_one = one_by_one(rt, alloc)?;

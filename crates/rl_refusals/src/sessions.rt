@@ -30,7 +30,7 @@ fn commands(alloc: Global) -> Result<[Command; 16], AllocError> {
     ])
 }
 
-/// A line and a record that do not belong together, which the check after every command must tell.
+/// A line and a record that do not belong together, which the check after every command must detect.
 pub(crate) fn wrong_record(rt: &impl Print, alloc: Global) -> Result<usize, Failed> {
     let _ = println!(rt; "A wrong record");
     let Ok(line) = LineBuffer::with_capacity(alloc, 2) else {
@@ -86,7 +86,7 @@ fn undo_between(rt: &impl Print, watched: &mut Watched) -> Result<(), Failed> {
     }
 }
 
-/// A word that is put in capitals by two events: it is deleted, and then inserted. Either may be refused.
+/// Two events put a word in capitals: it is deleted, and then inserted. Either may be refused.
 pub(crate) fn word_in_capitals(rt: &impl Print, alloc: Global) -> Result<usize, Failed> {
     let _ = println!(rt; "A word in capitals");
     let Some(mut watched) = Watched::open(rt, alloc, "ab", 0)? else {
@@ -104,7 +104,7 @@ pub(crate) fn word_in_capitals(rt: &impl Print, alloc: Global) -> Result<usize, 
     Ok(watched.refused())
 }
 
-/// Commands in one run, of which none is done where there is no room for their replies.
+/// Commands in one run. None is done where there is no room for their replies.
 pub(crate) fn all_at_once(rt: &impl Print, alloc: Global) -> Result<usize, Failed> {
     let _ = println!(rt; "All at once");
     let Some(mut watched) = Watched::open(rt, alloc, "ab cd", 5)? else {

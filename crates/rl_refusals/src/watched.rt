@@ -9,7 +9,7 @@ use std::alloc::Global;
 // refusal.
 const TRIES: u8 = 8;
 
-// The question is answered with yes, or refused. That answers how often it was refused.
+// The question is answered with yes, or refused. Answers how often it was refused.
 fn expect_yes(
     rt: &impl Print,
     answer: Result<bool, Refusal>,
@@ -29,7 +29,7 @@ fn expect_yes(
 }
 
 /// What holds after every command: the cursor stands between two characters, and the record can be undone and redone,
-/// and replays. That answers how many of the three questions were refused.
+/// and replays. Answers how many of the three questions were refused.
 pub(crate) fn stands(
     rt: &impl Print,
     line: &LineBuffer,
@@ -96,7 +96,7 @@ impl Watched {
         self.session.line().is_empty()
     }
 
-    /// Checks that the session has that text and cursor, and so many entries.
+    /// Checks that the session has that text, cursor and number of entries.
     pub(crate) fn leaves(
         &self,
         text: &str,
@@ -114,7 +114,7 @@ impl Watched {
         self.commands_refused = self.commands_refused.saturating_add(1);
     }
 
-    // A command is refused since memory is out, and after that for a place that is no longer one.
+    // A command is refused since memory is out, or after such a refusal for a place that is no longer valid.
     fn hear(&mut self, reply: &Reply) -> Result<(), Failed> {
         match reply {
             Reply::Refused(Fault::NoMemory) => {}
@@ -156,7 +156,7 @@ impl Watched {
         Ok(reply)
     }
 
-    /// Does the commands in one run. That answers whether it was done, and not refused before the first.
+    /// Does the commands in one run. Answers whether it was done, and not refused before the first.
     pub(crate) fn run(&mut self, rt: &impl Print, commands: &[Command]) -> Result<bool, Failed> {
         let replies = match self.session.run(commands) {
             Ok(replies) => replies,

@@ -22,8 +22,8 @@ fn status(outcome: Result<(), ScriptFault>) -> ExitCode
     }
 }
 
-// Runs the script, and prints why it stopped before its end, if it did. Status 0 says that all was read and answered, and
-// 1 that what was written is what some lines from the front print.
+// Runs the script, and prints why it stopped before its end, if it did. Status 0 says that all was read and answered.
+// Status 1 says that what was written is what some lines from the front print.
 fn run<R: Read, W: Write>(
     rt: &impl Eprint,
     alloc: Global,

@@ -37,7 +37,7 @@ use Rattle.rl_session.specs.declared.session.Reply.{Reply}
 use Rattle.rl_session.specs.declared.session.Reply.TheVariants as says
 use Rattle.rl_session.specs.State.{State, Follows, Stands, with_ring}
 
--- where a movement leads, if anywhere; columns are counted from the edge, since the prompt's column is 0
+-- where a movement leads, if anywhere; columns are counted from the left edge, since the prompt's column is 0
 abbrev pub destination : State → Movement → Option ℕ
 destination s BeginningOfLine = unless_there s.line (home s.line)
 destination s EndOfLine = unless_there s.line (line_end s.line)
@@ -66,14 +66,14 @@ pub record Edited {A : Type 0} (plan : Plan A) (old new : State) (answer : A) : 
   pub done : Done pair_step plan old.line new.line old.pair new.pair answer
   pub mode : new.mode ≡ old.mode
 
--- what memory an edit takes beside its listener: none; at each step the room that the step needs; or, before its first step, that
--- of a copy of what it moves or hands out
+-- what memory an edit takes besides its listener: none; at each step the room that the step needs; or, before its first step,
+-- the room for a copy of what it moves or hands out
 pub data Takes : Type 0 where
   nothing_more : Takes
   room_by_step : Takes
   a_copy : Takes
 
--- how its steps may be refused
+-- how the steps of an edit may be refused
 abbrev pub refusal_of : Takes → Pair → Event → Refusal → Pair → Type 0
 refusal_of nothing_more = pair_refused
 refusal_of room_by_step = or_no_memory pair_refused
@@ -99,26 +99,26 @@ pub record KillRefused (mvt : Movement) (old new : State) : Type 0 where
   pub told : Told pair_step (is_by_characters mvt) (λ before now. Halted pair_step pair_refused (kill_plan old.line mvt) old.line new.line before now why.NoMemory) old.pair new.pair
   pub mode : new.mode ≡ old.mode
 
--- a text that the ring lent goes in n times, if it lent one
+-- a text that the ring lent is inserted n times, if it lent one
 abbrev pub lent_plan : Line → Option (List ℕ) → ℕ → Plan (Option Bool)
 lent_plan line None n = nothing line None
 lent_plan line (Some s) n = yank_plan line s n
 
--- a text that the ring lent takes the place of that many bytes before the cursor, if it lent one
+-- a text that the ring lent replaces the given number of bytes before the cursor, if it lent one
 abbrev pub popped_plan : Line → Option (ℕ × List ℕ) → Plan (Option Bool)
 popped_plan line None = nothing line None
 popped_plan line (Some p) = yank_pop_plan line p.0 p.1
 
--- that many bytes can stand before the cursor, as a text
+-- the given number of bytes stands before the cursor, and begins at a boundary
 abbrev pub StandsYanked : Option ℕ → Line → Type 0
 StandsYanked None line = Unit {0}
 StandsYanked (Some size) line = (size ≤ line.cursor) × IsCharBoundary line.text (line.cursor - size)
 
--- the ring lent a text: it is current, and its length is kept
+-- the ring lent a text: that text is now current, and its length is kept
 abbrev pub lent : State → State
 lent s = with_ring (yanked s.pair.ring) s
 
--- the same with the text before
+-- the same with the text before it in the ring
 abbrev pub popped : State → State
 popped s = with_ring (yank_popped s.pair.ring) s
 
@@ -126,7 +126,7 @@ popped s = with_ring (yank_popped s.pair.ring) s
 abbrev pub IsRange : List ℕ → ℕ → ℕ → Type 0
 IsRange text i j = (i ≤ j) × IsCharBoundary text i × IsCharBoundary text j
 
--- a text can go in at a place, with the cursor where it is
+-- a text can be inserted at a place, and the cursor stays where it is
 abbrev pub CanGoIn : Line → ℕ → List ℕ → Type 0
 CanGoIn line i s = IsCharBoundary line.text i × IsCharBoundary (insert_slice line.text i s) line.cursor
 
@@ -144,11 +144,11 @@ pub record PutAgain (old new : State) (answer : Bool) : Type 0 where
   pub redone : Redone old.pair.changes new.pair.changes old.line new.line answer
   pub others : KeepsRing old new
 
--- the record became another, and nothing else changed
+-- the record was replaced by another, and nothing else changed
 abbrev pub with_changes : Record → State → State
 with_changes changes s = record s { pair = record s.pair { changes = changes } }
 
--- how the answer of an edit is told
+-- how a reply tells the answer of an edit
 pub data Telling : Type 0 → Type 1 where
   answers : Telling Bool
   inserts : Telling (Option Bool)
@@ -163,8 +163,8 @@ Tells hands_out P (says.Text t) = P (option_map string_bytes t)
 Tells is_done P says.Done = P tt
 Tells _ P _ = ⊥
 
--- what a command asks for: an edit, with the memory that it takes, a condition on its places, its plan, and the reply
--- that tells its answer; or something else
+-- what a command asks for: an edit, with the memory that it takes, a condition on its places, its plan, and how a reply
+-- tells its answer; or something else
 pub data Asked : Type 1 where
   edit : {A : Type 0} → (takes : Takes) → (condition : Type 0) → (plan : Plan A) → (telling : Telling A) → Asked
   other : Asked
@@ -190,14 +190,14 @@ asked line (TransposeWords n) = edit a_copy (Unit {0}) (transpose_words_plan lin
 asked line (Indent m amount dedent) = edit room_by_step (Unit {0}) (indent_plan line m amount dedent) answers
 asked line _ = other
 
--- an edit: refused where its condition fails, and else done, or cut short since memory is out
+-- an edit: refused where its condition fails; otherwise done, or cut short since memory is out
 abbrev pub Edits : {A : Type 0} → Takes → Type 0 → Plan A → Telling A → State → Reply → State → Type 0
 Edits takes condition plan telling old (says.Refused BadPlace) new = (¬ condition) × (new ≡ old)
 Edits takes condition plan telling old (says.Refused NoMemory) new = condition × (Unbegun takes plan old new ⊎ CutShort takes plan old new)
 Edits takes condition plan telling old reply new = condition × Tells telling (λ a. Edited plan old new a) reply
 
--- what is no edit, or one of a text that is not told by the command. What needs no room, since there is nothing to copy, to close
--- or to make longer, is not refused.
+-- Commands that are no edit, or an edit whose text the command does not tell. A command is not refused where it needs no room,
+-- since there is nothing to copy, to close or to make longer.
 abbrev pub Others : State → Command → Reply → State → Type 0
 Others old (SetPos q) says.Done new = IsCharBoundary old.line.text q × (new ≡ record old { line = record old.line { cursor = q } })
 Others old (SetPos q) (says.Refused BadPlace) new = (¬ (IsCharBoundary old.line.text q)) × (new ≡ old)
@@ -208,7 +208,7 @@ Others old (EditWord action) (says.Answer a) new = Recased old.line action (λ m
 Others old (EditWord action) (says.Refused NoMemory) new = Recased old.line action (λ made. Unbegun a_copy (edit_word_plan old.line made) old new ⊎ CutShort a_copy (edit_word_plan old.line made) old new)
 Others old (Kill m) (says.Answer a) new = Killed m old new a
 Others old (Kill m) (says.Refused NoMemory) new = KillRefused m old new
--- a yanked text is copied out of the ring, for which there may be no memory either, unless it is empty
+-- a yanked text is copied out of the ring, which may run out of memory too, unless the text is empty
 Others old (Yank n) (says.Inserted a) new = Edited (lent_plan old.line (yank old.pair.ring) n) (lent old) new a
 Others old (Yank n) (says.Refused NoMemory) new =
     (HasText (yank old.pair.ring) × (new ≡ lent old)) ⊎ CutShort room_by_step (lent_plan old.line (yank old.pair.ring) n) (lent old) new
@@ -245,7 +245,7 @@ DoesAsked other old command reply new = Others old command reply new
 abbrev pub Does : State → Command → Reply → State → Type 0
 Does old command reply new = DoesAsked (asked old.line command) old command reply new
 
--- the commands before which the ring is not reset: what it did last is part of what they do
+-- the commands before which the ring is not reset: they go on from what it did last
 abbrev pub continues : Command → Bool
 continues (Kill m) = not (is_by_characters m)
 continues (Yank _) = true
@@ -256,7 +256,7 @@ continues _ = false
 abbrev pub readied : Command → State → State
 readied command s = with_ring (if continues command then s.pair.ring else reset s.pair.ring) s
 
--- whether it is a yank that was not replied with Inserted (Some _)
+-- whether it is a yank whose reply is not Inserted (Some _)
 abbrev pub is_vain_yank : Command → Reply → Bool
 is_vain_yank (Yank _) (says.Inserted (Some _)) = false
 is_vain_yank YankPop (says.Inserted (Some _)) = false

@@ -32,7 +32,7 @@ abbrev pub are_digits : List ℕ → Bool
 are_digits [] = true
 are_digits (d ∷ ds) = (nat_le 48 d && nat_le d 57) && are_digits ds
 
--- the value of the digits that stand after those of value n
+-- the value of these digits, after digits of value n
 abbrev pub value_from : ℕ → List ℕ → ℕ
 value_from n [] = n
 value_from n (d ∷ ds) = value_from (n * 10 + (d - 48)) ds
@@ -60,7 +60,7 @@ hex_digit b =
     else if nat_le 65 b && nat_le b 70 then Some (b - 55)
     else None
 
--- the value of the hexadecimal digits that stand after those of value n
+-- the value of these hexadecimal digits, after digits of value n
 abbrev pub hex_from : ℕ → List ℕ → Option ℕ
 hex_from n [] = Some n
 hex_from n (b ∷ bs) = option_and_then (λ d. hex_from (n * 16 + d) bs) (hex_digit b)
@@ -77,8 +77,8 @@ pub data Escapes : List ℕ → ℕ → Type 0 where
   letter : {b c : ℕ} → letter_of b ≡ Some c → Escapes (b ∷ []) c
   braced : {digits : List ℕ} {c : ℕ} → NamesChar digits c → Escapes (codes "u{" ++ digits ++ codes "}") c
 
--- These bytes of a script stand for this text: nothing for none, a byte that is no backslash for itself, and a backslash with
--- what follows it for a character.
+-- These bytes of a script stand for this text: no bytes for the empty text, a byte other than a backslash for itself, and a
+-- backslash with what follows it for a character.
 pub data Spells : List ℕ → List ℕ → Type 0 where
   nothing : Spells [] []
   plain : {b : ℕ} {bytes text : List ℕ} → b ≢ 92 → Spells bytes text → Spells (b ∷ bytes) (b ∷ text)
@@ -169,7 +169,7 @@ pub record CountSearch (given : List ℕ) (n : ℕ) (cs : CharSearch) : Type 0 w
   pub char : SpellsChar bytes c
   pub named : NamesSearch (word after) c cs
 
--- the words for movements, each with what it wants after it: None where no space follows, or Some of what stands after the space
+-- the words for movements, each with its argument: None where no space follows, or Some of what stands after the space
 pub data Names : List ℕ → Option (List ℕ) → Movement → Type 0 where
   whole : Names (codes "line") None WholeLine
   home : Names (codes "home") None BeginningOfLine
@@ -186,7 +186,7 @@ pub data Names : List ℕ → Option (List ℕ) → Movement → Type 0 where
   bob : Names (codes "bob") None BeginningOfBuffer
   eob : Names (codes "eob") None EndOfBuffer
 
--- the movement that the bytes name, by a word and what that wants
+-- the movement that the bytes name, by a word and its argument
 abbrev pub NamesMovement : List ℕ → Movement → Type 0
 NamesMovement bytes movement = Names (word bytes) (rest bytes) movement
 
@@ -202,7 +202,7 @@ pub record RangeText (given : List ℕ) (a b : ℕ) (text : List ℕ) : Type 0 w
   pub starts : Numbered (2 ^ 64 - 1) given a after
   pub ends : NumberedText (2 ^ 64 - 1) after b text
 
--- the words that begin a line, each with what it wants after it
+-- the words that begin a line, each with its argument
 pub data Says : List ℕ → Option (List ℕ) → Meaning → Type 0 where
   no_text : Says (codes "text") None (NewText [])
   text : {bytes text : List ℕ} → Spells bytes text → Says (codes "text") (Some bytes) (NewText text)
@@ -255,7 +255,7 @@ Means line meaning = IsUtf8 line × Says (word line) (rest line) meaning
 abbrev pub MeansNothing : List ℕ → Type 0
 MeansNothing line = (meaning : Meaning) → Means line meaning → ⊥
 
--- Two meanings are the same: of a text that a command holds its bytes count, and not the room that they have in memory.
+-- Two meanings are the same. Texts that commands hold are compared by their bytes, not by the room that they have in memory.
 pub data Same : Meaning → Meaning → Type 0 where
   same : {m n : Meaning} → m ≡ n → Same m n
   pastes : {s t : String Global} {n : ℕ} → string_bytes s ≡ string_bytes t → Same (Do (Paste s n)) (Do (Paste t n))

@@ -24,15 +24,15 @@ pub record StandsAfter (before : List (List ℕ)) (text : List ℕ) (held : List
 abbrev pub WasHeld : List ℕ → List (List ℕ) → Type 0
 WasHeld text held = (before : List (List ℕ)) × StandsAfter before text held
 
--- entries, the last first: a beginning of the held texts ends with the text to which they lead, and those before the
--- last entry are placed in that beginning
+-- entries, the last first: a prefix of the held texts ends with the text to which they lead, and the entries before the
+-- last one are placed in that prefix
 abbrev pub PlacedBack : List ℕ → List Entry → List (List ℕ) → Type 0
 PlacedBack start [] held = WasHeld start held
 PlacedBack start (e ∷ es) held =
     (before : List (List ℕ)) × (text : List ℕ) × StandsAfter before text held
     × (replay_entries (reverse (e ∷ es)) start ≡ Some text) × PlacedBack start es (before ++ text ∷ [])
 
--- each beginning of the entries leads from the start to a held text, and no place goes back
+-- each prefix of the entries leads from the start to a held text, and no place goes back
 abbrev pub Placed : List ℕ → List Entry → List (List ℕ) → Type 0
 Placed start es held = PlacedBack start (reverse es) held
 
@@ -43,7 +43,7 @@ pub record History (start : List ℕ) (held : List (List ℕ)) (text : List ℕ)
   pub placed : Placed start (r.recorded ++ r.pending) held
   pub matched : BothMatched r
 
--- so it is in a state, of which these texts were held by then
+-- the same of a state, where these texts were held by then
 abbrev pub Holds : List ℕ → List (List ℕ) → State → Type 0
 Holds start held s = History start held s.line.text s.pair.changes
 
@@ -52,7 +52,7 @@ abbrev pub WasRefused : Reply → Type 0
 WasRefused (says.Refused _) = Unit {0}
 WasRefused _ = ⊥
 
--- the word that an edit of a word finds ahead is of ASCII characters
+-- the word that an edit of a word finds ahead is ASCII
 abbrev pub FindsAsciiWord : Line → Type 0
 FindsAsciiWord line = (word : Range ℕ) → word_ahead line ≡ Some word → IsAscii (text_in line word)
 
@@ -69,7 +69,7 @@ IsEdit line YankPop = Unit {0}
 IsEdit line (EditWord _) = FindsAsciiWord line
 IsEdit line command = IsAsked (asked line command)
 
--- what may happen inside a group: an end, an undo, a redo or a truncation only where it was refused
+-- what may happen inside a group: an end, an undo, a redo or a truncation may only where it was refused
 abbrev pub MayStandInGroup : Command → Reply → Type 0
 MayStandInGroup End reply = WasRefused reply
 MayStandInGroup (Undo _) reply = WasRefused reply
@@ -77,7 +77,7 @@ MayStandInGroup Redo reply = WasRefused reply
 MayStandInGroup (Truncate _) reply = WasRefused reply
 MayStandInGroup _ _ = Unit {0}
 
--- all rows may stand there
+-- all rows may stand in a group
 abbrev pub AllStandInGroup : List Row → Type 0
 AllStandInGroup [] = Unit {0}
 AllStandInGroup (row ∷ rows) = MayStandInGroup row.command row.reply × AllStandInGroup rows

@@ -44,7 +44,7 @@ abbrev pub escaped : Bool → List ℕ → List ℕ
 escaped spaces [] = []
 escaped spaces (b ∷ bs) = escape spaces b ++ escaped spaces bs
 
--- what a reply hands out: a text, printed as one word, a number, a line and a column with a colon between, or the number of its
+-- what a reply hands out: a text, printed as one word; a number; a line and a column with a colon between; or the number of its
 -- fault
 abbrev pub handed : Reply → List ℕ
 handed (Text (Some t)) = escaped true (string_bytes t)
@@ -53,7 +53,7 @@ handed (At k column) = decimal k ++ (58 ∷ decimal column)
 handed (Refused fault) = decimal (number_of_fault fault)
 handed _ = []
 
--- the reply, the cursor and the text, parted by spaces, in one line
+-- the reply, the cursor and the text, separated by spaces, in one line
 abbrev pub printed : Reply → State → List ℕ
 printed reply s = reply_word reply ++ (handed reply ++ (32 ∷ (decimal s.line.cursor ++ (32 ∷ (escaped false s.line.text ++ 10 ∷ [])))))
 

@@ -34,14 +34,14 @@ pub record Took (old : Interpreter) (part bytes : List ℕ) (held holds : Option
   pub outputs : Outputs old lines out new
   pub written : Appends held holds out
 
--- a line's output may not be written, or be cut, for this fault
+-- for this fault, a line's output may stay unwritten, or be cut
 abbrev pub Cuts : ScriptFault → Interpreter → List ℕ → List ℕ → Type 0
 Cuts why.Read now line cut = ⊥
 Cuts why.Write now line cut = IsCut now line cut
 Cuts why.NoMemory now line cut = cut ≡ []
 
--- After `part` came `bytes`. Some lines from the front were run and printed, and then a fault came at the next line, of whose output
--- `cut` was written.
+-- After `part` came `bytes`. Some lines from the front were run and printed. Then a fault came at the next line, and `cut` was
+-- written of its output.
 pub record Halts (fault : ScriptFault) (old : Interpreter) (part bytes : List ℕ) (held holds : Option (List ℕ)) : Type 0 where
   pub lines : List (List ℕ)
   pub out : List ℕ

@@ -20,7 +20,7 @@ meaning_of (made.NewText text) = NewText (string_bytes text)
 meaning_of (made.Set setting) = Set setting
 meaning_of (made.Do command) = Do command
 
--- the bytes begin with what stands, after a backslash, for the character, and the others follow it
+-- the bytes begin with the rest of an escape, after its backslash, for the character, and the others follow it
 pub record BeginsEscape (bytes : List ℕ) (c : ℕ) (others : List ℕ) : Type 0 where
   pub code : List ℕ
   pub stands : Escapes code c
@@ -95,7 +95,7 @@ NamesNoMovement bytes = (movement : Movement) → NamesMovement bytes movement �
 abbrev pub SaysNothing : List ℕ → Option (List ℕ) → Type 0
 SaysNothing word given = (meaning : Meaning) → Says word given meaning → ⊥
 
--- the word says a new text, or a command that holds a text, with what stands after its space, and this is the text
+-- the word, with what stands after its space, says a new text or a command that holds a text, and this is the text
 pub data SaysText : List ℕ → List ℕ → List ℕ → Type 0 where
   new_text : {bytes text : List ℕ} → Spells bytes text → SaysText (codes "text") bytes text
   pasted : {given text : List ℕ} {n : ℕ} → NumberedText 65535 given n text → SaysText (codes "paste") given text
@@ -107,7 +107,7 @@ pub data SaysText : List ℕ → List ℕ → List ℕ → Type 0 where
 abbrev pub HoldsText : List ℕ → List ℕ → Type 0
 HoldsText word given = (text : List ℕ) × SaysText word given text × (0 < length text)
 
--- so does a line
+-- the same of a line
 abbrev pub LineHoldsText : List ℕ → Type 0
 LineHoldsText line = IsUtf8 line × (given : List ℕ) × (rest line ≡ Some given) × HoldsText (word line) given
 
@@ -123,7 +123,7 @@ holds_text _ = false
 abbrev pub SaysNoTextCommand : List ℕ → List ℕ → Type 0
 SaysNoTextCommand word given = (command : Command) → holds_text command ≡ true → Says word (Some given) (Do command) → ⊥
 
--- whether a command deletes what a count or a range tells
+-- whether a command is a deletion by a count or a range
 abbrev pub deletes : Command → Bool
 deletes (DeleteRange _ _) = true
 deletes (Delete _) = true

@@ -20,7 +20,7 @@ use Rattle.rl_session.specs.Commands.{Asked, Takes, Telling, edit, other, asked,
 abbrev pub texts_of_steps : List PlanStep → List ℕ → List (List ℕ)
 texts_of_steps steps text = texts_after (map (λ (s : PlanStep). s.0) steps) text
 
--- the texts after each step of a plan that was carried out, and after the first ones of one that was cut short
+-- the texts after each step of a plan that was carried out, and after the first steps of a plan that was cut short
 abbrev pub texts_of : {A : Type 0} → Plan A → Line → List (List ℕ)
 texts_of plan line = texts_of_steps plan.steps line.text
 
@@ -56,7 +56,7 @@ abbrev pub held_by : (asks : Asked) → (old : State) (command : Command) (reply
 held_by (edit takes condition plan telling) old command reply new d = held_by_edit takes condition plan telling old reply new d
 held_by other old command reply new d = held_by_other old command reply new d
 
--- the texts that a row held: after each step that was taken, or after each entry that was taken back or made again
+-- the texts that a row held: after each step that was taken, or after each entry that was undone or redone
 abbrev pub held_in : (old : State) (command : Command) (reply : Reply) (new : State) → Does old command reply new → List (List ℕ)
 held_in old command reply new d = held_by (asked old.line command) old command reply new d
 
@@ -80,13 +80,13 @@ abbrev pub Leads : State → List Row → State → Type 0
 Leads old [] new = new ≡ old
 Leads old (row ∷ rows) new = (row.before ≡ old) × Leads row.after rows new
 
--- the state before the last row, or this one where there is none
+-- the state before the last row, or the given state where there is no row
 abbrev pub before_last : State → List Row → State
 before_last s [] = s
 before_last s (row ∷ []) = row.before
 before_last s (row ∷ (next ∷ rows)) = before_last s (next ∷ rows)
 
--- what was asked in these rows, and what was replied
+-- the commands of the rows, and their replies
 abbrev pub commands_of : List Row → List Command
 commands_of rows = map (λ (row : Row). row.command) rows
 

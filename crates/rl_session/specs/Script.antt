@@ -15,7 +15,7 @@ use Rattle.rl_session.specs.declared.session.Reply.{Reply}
 use Rattle.rl_session.specs.declared.session.Reply.TheVariants.{Done, Refused}
 use Rattle.rl_session.specs.declared.settings.Settings.{Settings}
 
--- the session that a text begins: the cursor at its end
+-- the session that begins with a text: the cursor is at its end
 abbrev pub begun : Settings → List ℕ → State
 begun settings text = fresh text (length text) settings.limit settings.ring_size settings.mode
 
@@ -31,7 +31,7 @@ MeaningOut old (Set setting) out new = (new ≡ record old { settings = with_set
 MeaningOut old (Do command) out new =
     (reply : Reply) × (session : State) × Step old.session command reply session × (new ≡ record old { session = session }) × (out ≡ printed reply session)
 
--- so may a line; one that means nothing changes nothing
+-- the same of a line; a line that means nothing changes nothing
 unfoldable pub LineOut : Interpreter → List ℕ → List ℕ → Interpreter → Type 0
 LineOut old line out new =
     ((m : Meaning) × Means line m × MeaningOut old m out new) ⊎ (MeansNothing line × (new ≡ old) × (out ≡ bad_line))
@@ -42,7 +42,7 @@ Outputs old [] out new = (out ≡ []) × (new ≡ old)
 Outputs old (line ∷ lines) out new =
     (mid : Interpreter) × (first : List ℕ) × (others : List ℕ) × (out ≡ first ++ others) × LineOut old line first mid × Outputs mid lines others new
 
--- the lines may begin so, and this is printed for them, though of the last one's perhaps only the front
+-- the same of lines whose last output may be cut: this is printed for them, of the last one perhaps only the front
 abbrev pub CutOutputs : Interpreter → List (List ℕ) → List ℕ → Type 0
 CutOutputs old [] out = out ≡ []
 CutOutputs old (line ∷ []) out = (new : Interpreter) × (whole : List ℕ) × (k : ℕ) × LineOut old line whole new × (out ≡ take k whole)
@@ -80,16 +80,16 @@ pub record IsCut (old : Interpreter) (line written : List ℕ) : Type 0 where
   pub part : k < length whole
   pub is : written ≡ take k whole
 
--- What each fault leaves, where this was read of a script, these lines of it were run and printed, and then `cut` was written. A failed
--- read: each line that was read whole was run. A failed write: the next line was run, and its output was cut. No memory: there was a next
--- line, or nothing was read yet.
+-- What each fault leaves, where `read` was read of a script, `lines` of it were run and printed, and then `cut` was written.
+-- A failed read: each line that was read whole was run. A failed write: the next line was run, and its output was cut. No
+-- memory: there was a next line, or nothing was read yet.
 abbrev pub Leaves : ScriptFault → Option (List ℕ) → List ℕ → List (List ℕ) → Interpreter → List ℕ → Type 0
 Leaves why.Read script read lines now cut = (lines ≡ whole_lines read) × (cut ≡ [])
 Leaves why.Write script read lines now cut = (line : List ℕ) × HasNext script lines line × IsCut now line cut
 Leaves why.NoMemory script read lines now cut = (((line : List ℕ) × HasNext script lines line) ⊎ ((read ≡ []) × (lines ≡ []))) × (cut ≡ [])
 
--- A fault stopped the script after these lines, whose output was written whole. Each line that was read whole before the last block, of
--- 4096 bytes at most, is among them.
+-- A fault stopped the script after these lines, whose output was written whole. They include each line that was read whole
+-- before the last block, which has at most 4096 bytes.
 pub record StoppedBy (fault : ScriptFault) (left leaves held holds : Option (List ℕ)) : Type 0 where
   pub before : List ℕ
   pub block : List ℕ

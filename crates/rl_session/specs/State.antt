@@ -22,7 +22,7 @@ pub record Follows (line : Line) (r : Record) : Type 0 where
   pub back : IsSome (line_back r.recorded line)
   pub ahead : IsSome (line_ahead r.pending line)
 
--- what a session keeps from command to command: the record leads to the text and on from it, and no kill is on
+-- what holds between commands: the record leads to the text and on from it, and no kill is on
 pub record AtRest (line : Line) (pair : Pair) : Type 0 where
   pub walks : Walks pair.changes line.text
   pub idle : pair.ring.killing ≡ false
@@ -48,8 +48,8 @@ fresh text pos limit ring_size mode = record {
   mode = mode;
 }
 
--- what may come of making a session: one with these five values, unless the place is none for a cursor. Memory may be out where the
--- line's limit is above 0.
+-- what making a session may give: a session with these five values, or BadPlace where the place is no boundary. NoMemory comes
+-- only where the line's limit is above 0.
 abbrev pub Opens : List ℕ → ℕ → ℕ → ℕ → GraphemeClusterMode → Result State Fault → Type 0
 Opens text pos limit ring_size mode (Ok session) = IsCharBoundary text pos × (session ≡ fresh text pos limit ring_size mode)
 Opens text pos limit ring_size mode (Err NoMemory) = IsCharBoundary text pos × (0 < max limit (length text))

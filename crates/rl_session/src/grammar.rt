@@ -106,7 +106,7 @@ fn braced(after: &str) -> Option<(char, &str)>
     Some((named_char(digits)?, after))
 }
 
-// The character of the escape whose backslash stood before, and what follows.
+// The character of the escape whose backslash was read before, and what follows.
 fn escape(after: &str) -> Option<(char, &str)>
     ensures cases { MatchOption result (BeginsNoEscape after.now)
         (λ found. BeginsEscape after.now found.0 found.1.now) }
@@ -156,8 +156,8 @@ fn read_text(alloc: Global, escaped: &str) -> Result<Option<String>, AllocError>
     Ok(Some(text))
 }
 
-// The text that the bytes stand for. Out of memory is only what stands for one that is not empty: what stands for none is
-// told so also where there was no memory for its front.
+// The text that the bytes stand for. Out of memory comes only for bytes that stand for a text that is not empty. Bytes
+// that stand for no text give None, also where there was no memory for their first part.
 fn unescape(alloc: Global, escaped: &str) -> Result<Option<String>, AllocError>
     ensures ok { IfOk result (λ found. MatchOption found (SpellsNothing escaped.now)
         (λ text. Spells escaped.now (string_bytes text))) }
@@ -448,7 +448,7 @@ fn deletion(word: &str, given: &str) -> Option<Command>
     }
 }
 
-// The command of a word and of what stands after its space, but a text.
+// The command of a word and of what stands after its space, for commands without a text.
 fn command(word: &str, given: &str) -> Option<Command>
     ensures { MatchOption result (SaysNoCommand word.now given.now)
         (λ command. Says word.now (Some given.now) (Do command)) }
@@ -476,7 +476,7 @@ fn command(word: &str, given: &str) -> Option<Command>
     }
 }
 
-// The replacement of what stands between two places by a text.
+// The replacement of the text between two places by another.
 fn replacement(alloc: Global, given: &str) -> Result<Option<Command>, AllocError>
     ensures ok { IfOk result (λ found. MatchOption found (SaysNoTextCommand (codes "rep") given.now)
         (λ command. Says (codes "rep") (Some given.now) (Do command))) }
@@ -529,7 +529,7 @@ fn setting(word: &str, given: &str) -> Option<Setting>
     }
 }
 
-// What a word says with what stands after its space, where no text belongs to it.
+// What a word says with what stands after its space, for words that take no text.
 fn without_text(word: &str, given: &str) -> Option<ScriptLine>
     ensures { MatchOption result (SaysNoneWithoutText word.now given.now)
         (λ said. Says word.now (Some given.now) (meaning_of said)) }
@@ -577,7 +577,7 @@ fn lone_command(word: &str) -> Option<Command>
     }
 }
 
-// What a word says that no space follows.
+// What a word says where no space follows it.
 fn alone(alloc: Global, word: &str) -> Option<ScriptLine>
     ensures { MatchOption result (SaysNothing word.now None)
         (λ said. Says word.now None (meaning_of said)) }

@@ -12,9 +12,9 @@ ghost use Rattle.rl_session.specs.declared.session.Command.{Command};
 ghost use Rattle.rl_session.specs.declared.session.Command.TheVariants.{Begin, End, Redo, Undo};
 ghost use Rattle.rl_session.specs.declared.session.Reply.{Reply};
 
-/// The recorded entries and the undone ones after them are placed among the texts that were held: each beginning of
-/// them leads to such a text, and no place goes back. The recorded ones alone lead to the present text, and the undone
-/// ones on from there. This goes on over further runs.
+/// The recorded entries, followed by the undone ones, are placed among the texts that were held: each prefix of them
+/// leads to a held text, and no place goes back. The recorded entries alone lead to the present text, and the undone
+/// ones on from there. Further runs keep this.
 pub fn record_is_placed()
     ensures placed { (text : List ℕ) (pos limit ring_size : ℕ) (mode : GraphemeClusterMode) (commands : List Command) (replies : List Reply) (new : State)
         → IsUtf8 text → IsCharBoundary text pos → (run : Run (fresh text pos limit ring_size mode) commands replies new)
@@ -29,8 +29,8 @@ pub fn record_is_placed()
         → Holds start held old → (run : Run old commands replies new) → Holds start (held ++ held_of run.rows) new }
 {}
 
-/// In the recorded entries, and in the undone ones, every end of a group has its begin, and every closed group holds a
-/// change.
+/// Among the recorded entries, and among the undone ones, every end of a group has its begin, and every closed group
+/// holds a change.
 pub fn groups_stay_closed()
     ensures { (text : List ℕ) (pos limit ring_size : ℕ) (mode : GraphemeClusterMode) (commands : List Command) (replies : List Reply) (new : State)
         → IsUtf8 text → IsCharBoundary text pos → Run (fresh text pos limit ring_size mode) commands replies new
@@ -50,8 +50,8 @@ pub fn undo_leaves_a_held_text()
         × (row.before.pair.changes.recorded ≡ row.after.pair.changes.recorded ++ last_of n row.before.pair.changes.recorded) }
 {}
 
-/// One undo right after the end of a group leaves the text at its begin, where none of the three was refused, the group
-/// was opened with no other open, a change was recorded in it, and each undo, redo or truncation inside was refused.
+/// One undo right after the end of a group gives back the text at its begin. Conditions: none of the three was refused,
+/// no other group was open, a change was recorded in it, and each undo, redo or truncation inside was refused.
 pub fn group_is_undone_at_once()
     ensures { (text : List ℕ) (pos limit ring_size : ℕ) (mode : GraphemeClusterMode) (commands : List Command) (replies : List Reply) (new : State)
         (earlier inside later : List Row) (b e u : Row)
@@ -64,9 +64,9 @@ pub fn group_is_undone_at_once()
         → u.after.line.text ≡ b.before.line.text }
 {}
 
-/// An undo of one unit right after an edit that added one entry, and joined none, gives back text and cursor from before
-/// the edit, and a redo right after that those from after it, where none of the three was refused. An edit of a word past
-/// ASCII is left out, since its text is not told.
+/// An undo of one unit right after an edit that added one entry, and joined none, gives back the text and cursor from
+/// before the edit. A redo right after that gives back those from after it. Condition: none of the three was refused.
+/// An edit of a word past ASCII is left out, since its text is not told.
 pub fn undo_gives_back_the_cursor()
     ensures undone { (text : List ℕ) (pos limit ring_size : ℕ) (mode : GraphemeClusterMode) (commands : List Command) (replies : List Reply) (new : State)
         (earlier later : List Row) (row back : Row) (e : Entry)
@@ -86,8 +86,8 @@ pub fn undo_gives_back_the_cursor()
         → (again.after.line.text ≡ row.after.line.text) × (again.after.line.cursor ≡ row.after.line.cursor) }
 {}
 
-/// As many redos right after an undo as it took units give back the text, the recorded entries and the undone ones from
-/// before it, where none of these was refused and the undo took no begin of an open group.
+/// Right after an undo, as many redos as it took units give back the text, the recorded entries and the undone ones
+/// from before it. Conditions: none of these was refused, and the undo took no begin of an open group.
 pub fn redos_of_a_run_give_back()
     ensures { (text : List ℕ) (pos limit ring_size : ℕ) (mode : GraphemeClusterMode) (commands : List Command) (replies : List Reply) (new : State)
         (earlier redos : List Row) (u : Row) (n : ℕ)

@@ -10,9 +10,9 @@ ghost use Rattle.rl_session.specs.declared.session.Command.{Command};
 ghost use Rattle.rl_session.specs.declared.session.Command.TheVariants.{Kill, Yank};
 ghost use Rattle.rl_session.specs.declared.session.Reply.{Reply};
 
-/// In every session, directed kills, one right after the other, and then one yank give back the text, and the
-/// cursor stands at the end of what was yanked, which went in where the kills left it. At least one kill answers
-/// true, nothing is refused, the ring has room for a text, and what it did last before was no kill.
+/// In every session, directed kills, one right after the other, and then one yank give back the text. The yank
+/// inserts where the kills left the cursor, and leaves the cursor at the end of the yanked text. Conditions: at least
+/// one kill answers true, nothing is refused, the ring has room for a text, and its last action before was no kill.
 pub fn kills_then_yank()
     ensures { (text : List ℕ) (pos limit ring_size : ℕ) (mode : GraphemeClusterMode) (earlier : List Command) (said : List Reply) (old new : State)
         (movements : List Movement) (replies : List Reply) (last : Reply)

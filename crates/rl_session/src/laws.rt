@@ -9,7 +9,7 @@ pub fn escapes_are_read()
     ensures { (spaces : Bool) (t : List ℕ) → IsUtf8 t → Spells (escaped spaces t) t }
 {}
 
-/// A line has one meaning at most. Of a text that a command holds its bytes count, and not the room that they have.
+/// A line has at most one meaning. Texts that commands hold are compared by their bytes, not by their room in memory.
 pub fn one_meaning()
     ensures { (line : List ℕ) (m n : Meaning) → Means line m → Means line n → Same m n }
 {}

@@ -2,8 +2,8 @@
 use rl_base::{ChangeListener, DeleteListener, Direction, KillRing, Refusal};
 use rl_line::Changeset;
 
-/// A kill ring and a record, told together. The ring hears of a deletion first: where one of the two refuses,
-/// the record is as it was, and the ring is too, or it heard of that deletion.
+/// A kill ring and a record, told together. The ring hears of a deletion first. Where one of the two refuses, the
+/// record is as it was; the ring is as it was too, or it heard of that deletion.
 #[derive(Drop)]
 pub struct Pair {
     /// Hears of deletions, and of where a kill starts and ends.

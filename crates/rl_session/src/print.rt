@@ -10,7 +10,7 @@ use itoa::Buffer;
 use std::alloc::AllocError;
 use std::simd::prelude::*;
 
-// How many bytes of a text are looked at together.
+// How many bytes of a text are tested at once.
 const LANES: usize = 16;
 
 // Adds the number's decimal digits.
@@ -40,14 +40,14 @@ fn reply_word(reply: &Reply) -> &'static str
     }
 }
 
-// Whether the byte is printed by two; a space is, where texts stand between words.
+// Whether the byte is printed as two; a space is too, where texts stand between words.
 fn is_special(b: u8, spaces: bool) -> bool
     ensures { result ≡ is_special spaces b }
 {
     b == b'\\' || b == b'\n' || b == b'\r' || b == b'\t' || (spaces && b == b' ')
 }
 
-// The two bytes that such a byte is printed by.
+// The two bytes that a special byte is printed as.
 fn escape(b: u8) -> &'static [u8]
     requires { is_special true b ≡ true }
     ensures { result.now ≡ escape true b }
@@ -61,7 +61,7 @@ fn escape(b: u8) -> &'static [u8]
     }
 }
 
-// Which of the bytes are printed by two: a bit for each, the lowest for the first.
+// Which of the bytes are printed as two: a bit for each, the lowest for the first.
 #[inline(always)]
 fn specials(bytes: u8x16, spaces: bool) -> u64
     ensures { result ≡ mask_l (map (is_special spaces) bytes) }
@@ -76,7 +76,7 @@ fn specials(bytes: u8x16, spaces: bool) -> u64
     special.to_bitmask()
 }
 
-// How many of the next LANES bytes come before the first that is printed by two.
+// How many of the next LANES bytes come before the first that is printed as two.
 #[inline(always)]
 fn plain_lanes(text: &[u8], at: usize, spaces: bool) -> usize
     requires { at + LANES ≤ length text.now }
@@ -91,7 +91,7 @@ fn plain_lanes(text: &[u8], at: usize, spaces: bool) -> usize
     found.trailing_zeros() as usize
 }
 
-// How many bytes of a short text come before the first that is printed by two.
+// How many bytes of a short text come before the first that is printed as two.
 fn plain_len_of_few(text: &[u8], spaces: bool) -> usize
     ensures within { result ≤ length text.now }
     ensures plain { ArePlain spaces text.now 0 result }

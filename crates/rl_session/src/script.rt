@@ -39,7 +39,7 @@ const _: () = prove!(ScriptFault::NoMemory as u8 == 3);
 // How many bytes are read at once.
 const BLOCK: usize = 4096;
 
-// What a script holds between its lines.
+// What is kept from one line of a script to the next.
 #[derive(Drop)]
 struct Interpreter {
     settings: Settings,
@@ -62,7 +62,7 @@ fn begin(alloc: Global, settings: Settings, text: &str) -> Result<Session, Fault
 }
 
 impl Interpreter {
-    // The one before the first line.
+    // The interpreter before the first line.
     fn start(alloc: Global) -> Result<Self, ScriptFault>
         ensures ok { IfOk result (λ first. first ≡ started) }
         ensures err { IfErr result (λ f. f ≡ ScriptFault.NoMemory) }
@@ -86,8 +86,8 @@ impl Interpreter {
         }
     }
 
-    // Begins a new text with the present settings. Where that is refused, the old session stays. The text is dropped before the
-    // answer is printed.
+    // Begins a new text with the present settings. Where that is refused, the old session stays. The text is dropped
+    // before the answer is printed.
     fn renew(&mut self, alloc: Global, text: String, out: &mut Vec<u8>) -> Result<(), ScriptFault>
         requires { out.old.items ≡ [] }
         ensures ok { OnOk result (MeaningOut self.old (NewText (string_bytes text)) out.new.items self.new) }
@@ -165,7 +165,7 @@ fn put_line<W: Write>(writer: &mut W, line: &[u8]) -> Result<(), ScriptFault>
     Ok(())
 }
 
-// The first line of the bytes, which a newline ends, and what stands after it.
+// The bytes before the first newline, and those after it, if there is one.
 fn split_line(bytes: &[u8]) -> Option<(&[u8], &[u8])>
     ensures { MatchOption result (HasNoNewline bytes.now)
         (λ found. HasNoNewline found.0.now × (bytes.now ≡ found.0.now ++ 10 ∷ found.1.now)) }
@@ -185,8 +185,8 @@ fn read_line(alloc: Global, line: &[u8]) -> Result<Option<ScriptLine>, ScriptFau
     }
 }
 
-// What the line says that ends with `end` and begins with `part`, if that is not empty. The part is given up, so that a long
-// line does not live on while its command runs.
+// What the line says that consists of `part` and then `end`. The part is given up, so that a long line does not live on
+// while its command runs.
 fn read_end(
     alloc: Global,
     part: &mut Vec<u8>,
@@ -207,7 +207,7 @@ fn read_end(
     said
 }
 
-// Runs the line that ends with `end` and begins with `part`, and writes what is printed for it.
+// Runs the line that consists of `part` and then `end`, and writes what is printed for it.
 fn end_line<W: Write>(
     alloc: Global,
     interpreter: &mut Interpreter,
@@ -227,7 +227,7 @@ fn end_line<W: Write>(
     put_line(writer, out.as_slice())
 }
 
-// Takes the next bytes of the script: runs each line that they end, and keeps the beginning of the next.
+// Takes the next bytes of the script: runs each line that ends in them, and keeps the beginning of the next.
 fn take_block<W: Write>(
     alloc: Global,
     interpreter: &mut Interpreter,
@@ -252,11 +252,10 @@ fn take_block<W: Write>(
     }
 }
 
-/// Runs a script: reads it to its end, one command a line, and writes one line for each, whole before the
-/// next is run. It begins with the usual settings and the session of the empty text. On a fault the lines
-/// before it were run and their output was written whole, and a line that was not read whole was not run.
-/// Where a write failed, a part of the next line's output may be written. No more is read ahead than a block
-/// of 4096 bytes.
+/// Runs a script: reads it to its end, one command per line, and writes one line for each, whole before the
+/// next is run. It begins with the usual settings and the session of the empty text. On a fault, the lines
+/// before it were run and their output was written whole. A line that was not read whole was not run. Where a
+/// write failed, a part of the next line's output may be written. At most a block of 4096 bytes is read ahead.
 pub fn run_script<R: Read, W: Write>(
     alloc: Global,
     reader: &mut R,
@@ -272,7 +271,7 @@ pub fn run_script<R: Read, W: Write>(
     run_blocks(alloc, &mut interpreter, &mut part, &mut out, reader, writer)
 }
 
-// Runs what is left to read, after a part of a line.
+// Runs the rest of the script, after a part of a line that was already read.
 fn run_blocks<R: Read, W: Write>(
     alloc: Global,
     interpreter: &mut Interpreter,

@@ -31,27 +31,27 @@ use thiserror::Error;
 pub enum Command {
     /// Moves the cursor to a place.
     SetPos(usize),
-    /// Moves the cursor by a movement. Over a whole line or text, and to the first print place, there is none.
+    /// Moves the cursor by a movement. `WholeLine`, `WholeBuffer` and `ViFirstPrint` do not move it.
     Move(Movement),
-    /// Inserts a character at the cursor, so many times.
+    /// Inserts a character at the cursor, the given number of times.
     Insert(char, RepeatCount),
-    /// Inserts a text at the cursor, so many times.
+    /// Inserts a text at the cursor, the given number of times.
     Paste(String, RepeatCount),
-    /// Inserts the ring's current text at the cursor, so many times.
+    /// Inserts the ring's current text at the cursor, the given number of times.
     Yank(RepeatCount),
     /// Replaces the text that was just yanked by the one before it in the ring.
     YankPop,
-    /// Replaces the line's text, and puts the cursor at a place of the new one.
+    /// Replaces the line's text, and sets the cursor to a place in the new text.
     Update(String, usize),
-    /// Inserts a text at a place, and leaves the cursor at its own. Answers whether the place was the end.
+    /// Inserts a text at a place, and leaves the cursor where it is. Answers whether the place was the end.
     InsertStr(usize, String),
-    /// Replaces what stands between two places by a text.
+    /// Replaces the text between two places by another.
     Replace(usize, usize, String),
-    /// Deletes what stands between two places.
+    /// Deletes the text between two places.
     DeleteRange(usize, usize),
-    /// Deletes so many grapheme clusters from the cursor on.
+    /// Deletes the given number of grapheme clusters from the cursor on.
     Delete(RepeatCount),
-    /// Deletes so many grapheme clusters before the cursor.
+    /// Deletes the given number of grapheme clusters before the cursor.
     Backspace(RepeatCount),
     /// Deletes from the cursor to the end of its line, or the newline there.
     KillLine,
@@ -61,8 +61,8 @@ pub enum Command {
     DiscardLine,
     /// Deletes from the start of the text to the cursor.
     DiscardBuffer,
-    /// Deletes back to the start of the word so many words before the cursor; all before it for 0, or where there
-    /// are fewer.
+    /// Deletes back to the start of the n-th word before the cursor. For 0, or where there are fewer words, deletes
+    /// all before the cursor.
     DeletePrevWord(Word, RepeatCount),
     /// Deletes to the start or the end of a word ahead.
     DeleteWord(At, Word, RepeatCount),
@@ -70,25 +70,25 @@ pub enum Command {
     DeleteTo(CharSearch, RepeatCount),
     /// Exchanges the clusters at the cursor.
     TransposeChars,
-    /// Exchanges the word before the n-th word's end ahead with the word n words before it.
+    /// Exchanges the word before the end of the n-th word ahead with the word n words before it.
     TransposeWords(RepeatCount),
     /// Changes the letter case of the word at the cursor or ahead.
     EditWord(WordAction),
-    /// Kills by a movement. What was killed goes to the ring, but by clusters.
+    /// Kills by a movement. The killed text goes to the ring, except where the movement is by clusters.
     Kill(Movement),
     /// Copies what a movement covers.
     Copy(Movement),
-    /// Indents the lines of a movement by so many spaces, or dedents them by up to so many bytes of blanks.
+    /// Indents the lines of a movement by a number of spaces, or dedents them by at most that many bytes of blanks.
     Indent(Movement, u8, bool),
     /// Opens a group of changes.
     Begin,
     /// Closes all open groups.
     End,
-    /// Undoes so many units: one for 0, and all where there are fewer.
+    /// Undoes the given number of units: one for 0, and all where there are fewer.
     Undo(RepeatCount),
     /// Redoes what was undone last.
     Redo,
-    /// Forgets all but so many entries of the record.
+    /// Truncates the record to the given number of entries.
     Truncate(usize),
     /// Asks where the cursor stands.
     LinePlace,
@@ -112,7 +112,7 @@ pub enum Fault {
     NotReplaying = 4,
 }
 
-// The numbers are part of the interface: a refusal is printed with its fault's.
+// The numbers are part of the interface: a refusal is printed with the number of its fault.
 const _: () = prove!(Fault::NoMemory as u8 == 1);
 
 const _: () = prove!(Fault::BadPlace as u8 == 2);
@@ -231,7 +231,7 @@ impl Session {
         &self.pair.ring
     }
 
-    // What the parts of a session promise of themselves, and that no kill is on, for the proofs of what stands on them.
+    // States the invariants of a session's parts, and that no kill is on, for the proofs that rely on them.
     fn stands(&self)
         ensures { Stands self.now }
     {
@@ -240,15 +240,15 @@ impl Session {
         let _ = self.pair.ring.yank_size();
     }
 
-    // That the line can go back over the record, and ahead over what was undone. The call only tells the proof where its
-    // cursor stands.
+    // States that the line can go back over the record, and ahead over what was undone. The call only tells the proof
+    // where the line's cursor stands.
     fn follows(&self)
         ensures { Follows self.now.line self.now.pair.changes }
     {
         let _ = self.line.pos();
     }
 
-    // A letter is what an editor presses most: it does not pay for what the other commands need.
+    // A typed letter is the most common command: it does not pay for what the other commands need.
     #[inline(always)]
     fn obey(&mut self, command: &Command) -> Reply
         ensures { Does self.old command.now result self.new }
@@ -298,10 +298,10 @@ impl Session {
         }
     }
 
-    /// Does one command. The ring is reset first, unless the command is a yank, or a kill by another movement
-    /// than by clusters, and again after a yank that was not replied with `Inserted(Some(..))`. Whatever it
-    /// answers, the recorded changes lead from the starting text to the present one, and back to the text from which
-    /// they came before. Inlined, so that a reply is not copied on its way.
+    /// Does one command. The ring is reset first, unless the command is a yank, or a kill by a movement other than
+    /// by clusters. It is also reset after a yank whose reply is not `Inserted(Some(..))`. Whatever the reply, the
+    /// recorded changes lead from the starting text to the present one, and back to the same text as before. Inlined,
+    /// so that a reply is not copied on its way.
     #[inline(always)]
     pub fn apply(&mut self, command: &Command) -> Reply
         ensures step { Step self.old command.now result self.new }
@@ -318,9 +318,9 @@ impl Session {
         reply
     }
 
-    /// Does the commands in order, and answers one reply for each. It finds room for the replies first:
-    /// refused, it did none, and there was one to do. In either case the record leads back to the text from which it
-    /// came before.
+    /// Does the commands in order, and answers one reply for each. It allocates room for the replies first. Where
+    /// that is refused, it did no command, and there was at least one to do. In either case the record leads back to
+    /// the same text as before.
     pub fn run(&mut self, commands: &[Command]) -> Result<Vec<Reply>, Fault>
         ensures run { IfOk result (λ replies. Run self.old commands.now replies.items self.new) }
         ensures stands { Stands self.new }
@@ -350,9 +350,9 @@ impl Session {
     }
 }
 
-/// Two runs, one after the other, are one of the same rows, and so are the texts that they held. The rows of a run up
-/// to any of them are a run, and so are those after: so what a law says of the last row of a run holds of any row, with
-/// the texts that were held by then. A single row, as each command makes one, is a run.
+/// Two runs, one after the other, form one run: its rows and its held texts are those of the first, then of the second.
+/// The rows of a run up to any row are a run, and so are the rows after it. So what a law says of the last row of a run
+/// holds of any row, with the texts that were held by then. A single row, as each command makes one, is a run.
 pub fn runs_compose()
     ensures joined { (old mid new : State) (cs ds : List Command) (rs ss : List Reply) (first : Run old cs rs mid) (second : Run mid ds ss new)
         → (both : Run old (cs ++ ds) (rs ++ ss) new) × (both.rows ≡ first.rows ++ second.rows) × (held_of both.rows ≡ held_of first.rows ++ held_of second.rows) }
@@ -362,15 +362,15 @@ pub fn runs_compose()
     ensures row { (row : Row) → (run : Run row.before (row.command ∷ []) (row.reply ∷ []) row.after) × (run.rows ≡ row ∷ []) }
 {}
 
-/// Where a line can go back over its record and ahead (`follows`), as after every command, what is recorded can be taken back from
-/// the text, and what was undone can be made again on it.
+/// After every command, a line can go back over its record and ahead (`follows`). Where it can, what is recorded can be
+/// taken back from the text, and what was undone can be redone on it.
 pub fn what_was_undone_can_be_made_again()
     ensures recorded { (line : Line) (changes : Record) → Follows line changes → IsSome (unwind changes.recorded line.text) }
     ensures pending { (line : Line) (changes : Record) → Follows line changes → IsSome (replay_entries changes.pending line.text) }
 {}
 
-/// After every row of a run, also where a step was refused, the recorded changes replayed from the starting
-/// text give the present text.
+/// After every row of a run, also where a step was refused, replaying the recorded changes from the starting text
+/// gives the present text.
 pub fn each_row_replays()
     ensures { (start : List ℕ) (old new : State) (commands : List Command) (replies : List Reply) (run : Run old commands replies new)
         → Replays start old → AfterEach (Replays start) run.rows }

@@ -25,7 +25,7 @@ pub(crate) struct Settings {
 const RING_SIZE: usize = 60;
 
 impl Settings {
-    /// Those of a script that says none.
+    /// The settings of a script that sets none.
     pub(crate) fn usual() -> Self
         ensures { result ≡ usual }
     {

@@ -8,7 +8,7 @@ use std::io::{ErrorKind, Read, Write};
 use std::process::Abort;
 use std::test::Fail;
 
-// A script over memory. So many bytes of it are read yet, in blocks or singly, before a read fails.
+// A script in memory. `left` more bytes of it are read, in blocks or singly, before a read fails.
 #[derive(Drop)]
 struct FailRead<'a> {
     rest: &'a [u8],
@@ -38,7 +38,7 @@ enum Full {
     TakesNothing,
 }
 
-// An output in memory. So many bytes are written to it yet, in blocks or singly, before it is full.
+// An output in memory. `left` more bytes are written to it, in blocks or singly, before it is full.
 #[derive(Drop)]
 struct FailWrite {
     held: Vec<u8>,
@@ -89,7 +89,7 @@ const ROWS: &[Row] = &[
     ),
 ];
 
-// It is so, of a script that breaks after so many bytes.
+// It is so, of a script that breaks after that many bytes.
 fn is_so(rt: &impl Abort, is_so: bool, what: &str, after: usize) {
     assert!(rt; is_so, "{what}, after {after} bytes");
 }
@@ -105,7 +105,7 @@ fn ended(part: &[u8]) -> usize {
     lines
 }
 
-// How long the first so many lines are.
+// The length of the first `lines` lines.
 fn len_of_lines(output: &[u8], lines: usize) -> usize {
     let mut left = lines;
     let mut len = 0usize;
@@ -121,7 +121,7 @@ fn len_of_lines(output: &[u8], lines: usize) -> usize {
     len
 }
 
-// Where a read fails after so many bytes, the script stops, and that was printed.
+// Where a read fails after `after` bytes, the script stops, and `wanted` was printed.
 fn stops_reading(rt: &impl Abort, alloc: Global, script: &[u8], after: usize, wanted: &[u8]) {
     for singly in [false, true] {
         let mut printed = Vec::new(alloc);
@@ -155,7 +155,7 @@ fn a_read_fails_at_each_place(rt: HostRuntime) {
     }
 }
 
-// A writer that is full after so many bytes stops the script, if there is more, and holds that.
+// A writer that is full after the wanted bytes stops the script, if there is more, and holds these bytes.
 fn stops_writing(
     rt: &impl Abort,
     alloc: Global,

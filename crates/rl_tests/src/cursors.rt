@@ -1,12 +1,12 @@
-//! The cursors that a record is told, and gives back, with answers that were worked out by hand. First the record is told
-//! them by itself, and other than a line would tell them, so that no rule but its own leads to them; then a session's edits are
-//! undone and done again, in scripts.
+//! The cursors that a record is told, and gives back, with answers that were worked out by hand. First the record alone
+//! is told cursors that a line would not tell, so that only its own rule leads to them. Then a session's edits are
+//! undone and redone, in scripts.
 use crate::script::{Row, print_all};
 use crate::undo::{Call, Event, Step, goes};
 use rl_base::Direction;
 use std::test::Fail;
 
-// "b", put between "a" and "c".
+// "b", inserted between "a" and "c".
 const PUT: Call = Call::Told(Event::Text(1, "b"));
 
 // The cursor before that and after it.
@@ -54,7 +54,7 @@ fn cursors_leave_what_was_undone(rt: HostRuntime) -> Result<(), Fail> {
         (Call::Redo, 1, "a", 1, 1, 0),
     ];
     goes(&rt, rt.alloc(), "a", STEPS)?;
-    // nor take the place of those that it has
+    // nor do they replace those that it has
     const TOLD_BEFORE: &[Step] = &[
         (Call::Told(Event::Char(0, 'a')), 1, "ab", 2, 1, 0),
         (Call::Told(Event::Cursors(0, 1)), 1, "ab", 2, 1, 0),
@@ -101,7 +101,7 @@ fn characters_that_join_keep_the_first_cursor(rt: HostRuntime) -> Result<(), Fai
         (Call::Redo, 1, "abcd", 4, 1, 0),
     ];
     goes(&rt, rt.alloc(), "abcd", BOTH_TOLD)?;
-    // what joined takes the cursors away
+    // a change that joins removes the cursors
     const FIRST_TOLD: &[Step] = &[
         (FIRST, 1, "abcd", 4, 1, 0),
         (Call::Told(Event::Cursors(0, 2)), 1, "abcd", 4, 1, 0),
@@ -110,7 +110,7 @@ fn characters_that_join_keep_the_first_cursor(rt: HostRuntime) -> Result<(), Fai
         (Call::Redo, 1, "abcd", 3, 1, 0),
     ];
     goes(&rt, rt.alloc(), "abcd", FIRST_TOLD)?;
-    // and where there were none it gets none
+    // and a joined change without cursors gets none
     const SECOND_TOLD: &[Step] = &[
         (FIRST, 1, "abcd", 4, 1, 0),
         (SECOND, 1, "abcd", 4, 1, 0),
@@ -286,7 +286,7 @@ fn the_cursor_comes_back(rt: HostRuntime) -> Result<(), Fail> {
     print_all(&rt, rt.alloc(), ROWS)
 }
 
-// Each walk is undone change by change, and done again: the cursor is then where it stood before each change, and
+// Each walk is undone change by change, and redone: the cursor is then where it stood before each change, and
 // after it.
 #[test]
 fn walks_are_gone_back_and_again(rt: HostRuntime) -> Result<(), Fail> {

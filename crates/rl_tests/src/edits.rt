@@ -1,4 +1,4 @@
-//! Edits that put texts in, with answers that were worked out by hand.
+//! Edits that insert texts, with answers that were worked out by hand.
 use crate::line_buffer::{holds, leaves, line_within};
 use crate::told::{AHEAD, Told, is_told};
 use rl_base::laws::RefuseAt;
@@ -17,7 +17,7 @@ enum Call {
     Replace(usize, usize, &'static str),
 }
 
-// Replaces what stands before the cursor by the text.
+// Replaces the bytes before the cursor by the text.
 pub(crate) fn yank_pop<L: ChangeListener>(
     rt: &impl Abort,
     line: &mut LineBuffer,
@@ -57,7 +57,7 @@ pub(crate) fn update<L: ChangeListener>(
     line.update(text, pos, listener)
 }
 
-// Makes the call, if its places are places. The answer is that of a yank.
+// Makes the call, if its places are boundaries. It answers as a yank does.
 fn make(
     rt: &impl Abort,
     line: &mut LineBuffer,

@@ -4,8 +4,8 @@ use std::alloc::Global;
 use std::process::Abort;
 use std::test::Fail;
 
-// A text, two parts that are put in front of it, one at its end, and the text then. It is packed, and a part more is put in
-// front: the text at last.
+// A text, two parts that are put in front of it, one at its end, and the text then. It is packed, and one more part is
+// put in front, which gives the last text.
 type Row = (
     &'static str,
     &'static str,
@@ -25,7 +25,7 @@ const ROWS: &[Row] = &[
     ("b", "", "", "c", "bc", "a", "abc"),
     // One blank, which the part takes; then as many as there are bytes to move.
     ("c", "b", "a", "d", "abcd", "", "abcd"),
-    // Many blanks: of a long text, of which parts leave some over, and of a long part.
+    // Many blanks: of a long text, where the parts leave some unused, and of a long part.
     (
         "0123456789",
         "b",
@@ -49,13 +49,13 @@ const ROWS: &[Row] = &[
     ("  c", " ", "b ", " ", "b    c ", "  a", "  ab    c "),
 ];
 
-// It is that text, and so long.
+// It holds that text, and has its length.
 fn holds(rt: &impl Abort, gathered: &Gathered, text: &str) {
     let is_so = gathered.as_str() == text && gathered.len() == text.len();
     assert!(rt; is_so, "{}", gathered.as_str());
 }
 
-// Puts the parts of a row round its text.
+// Adds the parts of a row to its text, on both sides.
 fn grow(rt: &impl Abort, alloc: Global, row: &Row) -> Result<(), Fail> {
     let (text, second, first, last, all, more, at_last) = row;
     let mut gathered = Gathered::of(alloc, text)?;

@@ -28,20 +28,20 @@ enum Edit {
     Dedent(Movement, u8),
 }
 
-// Takes the whole text out.
+// Deletes the whole text.
 fn delete_range(rt: &impl Abort, line: &mut LineBuffer, heard: &mut RefuseAt) -> Option<Refusal> {
     let end = line.len();
     assert!(rt; line.as_str().is_char_boundary(0) && line.as_str().is_char_boundary(end));
     line.delete_range(0..end, heard).err()
 }
 
-// Puts "cd" in at the cursor, which stays.
+// Inserts "cd" at the cursor, which stays.
 fn insert_str(line: &mut LineBuffer, heard: &mut RefuseAt) -> Option<Refusal> {
     let at = line.pos();
     line.insert_str(at, "cd", heard).err()
 }
 
-// Makes the edit, from the start of the text where it takes a place. That answers why it was refused, if it was.
+// Makes the edit, from the start of the text where it takes a place. Answers why it was refused, if it was.
 fn make(
     rt: &impl Abort,
     line: &mut LineBuffer,
@@ -72,7 +72,7 @@ fn make(
     }
 }
 
-// It is so, of an edit of that text at that place with so many changes allowed.
+// It is so, of an edit of that text at that place with that many changes allowed.
 fn is_so(rt: &impl Abort, is_so: bool, text: &str, pos: usize, allowed: usize) {
     assert!(rt; is_so, "{text:?} at {pos}, {allowed} allowed");
 }
@@ -108,7 +108,7 @@ fn halts_after(
 // A change, and the text and the cursor that it leaves.
 type Step = (Told, &'static str, usize);
 
-// With 0, 1, 2 .. changes allowed, the edit takes so many of the steps; only with all of them it is not refused.
+// With 0, 1, 2 .. changes allowed, the edit takes that many of the steps. Only with all of them is it not refused.
 fn halts(
     rt: &impl Abort,
     alloc: Global,

@@ -20,7 +20,8 @@ fn make_all(
     Ok(())
 }
 
-// Makes the calls on a line that holds the text, with a new record, and undoes once. That leaves that text and cursor, and so many entries.
+// Makes the calls on a line that holds the text, with a new record, and undoes once. That leaves that text and
+// cursor, and that number of entries.
 fn records(
     rt: &impl Abort,
     alloc: Global,

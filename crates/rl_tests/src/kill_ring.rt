@@ -182,7 +182,7 @@ fn cursors_are_not_heard(rt: HostRuntime) -> Result<(), Fail> {
     const STEPS: &[Step] = &[
         (Call::Cursors, None),
         (Call::YankNone, None),
-        // they part no kills, and end none
+        // they neither separate kills nor end one
         (Call::Start, None),
         (Call::Ahead("b"), None),
         (Call::Cursors, None),
@@ -192,7 +192,7 @@ fn cursors_are_not_heard(rt: HostRuntime) -> Result<(), Fail> {
         (Call::Cursors, None),
         (Call::Kill("c"), None),
         (Call::Yank("abc"), Some(3)),
-        // nor what was yanked from what comes in its place
+        // nor do they separate a yank from the pop that replaces its text
         (Call::Cursors, Some(3)),
         (Call::Pop(3, "abc"), Some(3)),
     ];

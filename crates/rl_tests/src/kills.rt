@@ -92,7 +92,7 @@ fn is_without(rt: &impl Abort, line: &LineBuffer, text: &str, pos: usize, gone: 
     holds(rt, line.len() == left, "the length", text, pos);
 }
 
-// Where the listener refuses the first change, the call is refused if it makes one, and leaves the line.
+// Where the listener refuses the first change, the call is refused if it makes one, and leaves the line as it was.
 fn is_refused(
     rt: &impl Abort,
     alloc: Global,
@@ -403,7 +403,7 @@ fn movements(n: RepeatCount) -> [Movement; 31] {
     ]
 }
 
-// The movements that may kill where there is nothing to copy, or the other way.
+// The movements that may kill where there is nothing to copy, or copy where there is nothing to kill.
 fn may_differ(mvt: &Movement) -> bool {
     matches!(
         mvt,
@@ -437,7 +437,7 @@ fn is_gone(
     is_so(rt, whole == Some(text.len()), mvt, text, pos);
 }
 
-// How often, 1 or 0, the movement kills something there where it copies something. Then both are the same text.
+// 1 where the movement kills something exactly if it copies something, else 0. What both take is the same text.
 fn kills_its_copy(
     rt: &impl Abort,
     alloc: Global,
@@ -484,7 +484,7 @@ fn kills_delete_what_copies_hold(rt: HostRuntime) -> Result<(), Fail> {
     Ok(())
 }
 
-// Where the listener refuses it, a kill leaves the line.
+// Where the listener refuses it, a kill leaves the line as it was.
 fn refused_kill(
     rt: &impl Abort,
     alloc: Global,

@@ -17,7 +17,7 @@ pub(crate) fn line_of(
     line_within(rt, alloc, MAX_LINE, false, text, pos)
 }
 
-// The same of that limit, with leave to grow past it, or without.
+// The same with that limit, past which the line may grow or not.
 pub(crate) fn line_within(
     rt: &impl Abort,
     alloc: Global,
@@ -91,7 +91,7 @@ fn inserts_on_an_empty_line(rt: HostRuntime) -> Result<(), Fail> {
     Ok(())
 }
 
-// Inserts so often, on a line made with limit 2. That answers that, and leaves that text and so many entries.
+// Inserts `n` times, on a line made with limit 2. That gives that answer, that text and that number of entries.
 fn inserts_within(
     rt: &impl Abort,
     line: &mut LineBuffer,
@@ -110,7 +110,7 @@ fn inserts_within(
     Ok(())
 }
 
-// A character, how often it is inserted, the answer, and the text and the entries after it.
+// A character, its count, the answer, and the text and the number of entries after it.
 type Inserted = (char, RepeatCount, Option<bool>, &'static str, usize);
 
 // Inserts by each row of the table.

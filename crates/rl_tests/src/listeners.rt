@@ -21,7 +21,7 @@ fn no_listener_refuses_nothing(rt: HostRuntime) {
     );
 }
 
-// It will hear so many changes yet, heard so many, and counted no kill.
+// It will hear `left` more changes, heard `seen` so far, and counted no kill.
 fn counts(rt: &impl Abort, heard: &RefuseAt, left: usize, seen: usize) {
     let changes = heard.left == left && heard.seen.len() == seen;
     let kills = heard.starts == 0 && heard.stops == 0;

@@ -101,7 +101,7 @@ fn motions_once(rt: HostRuntime) -> Result<(), Fail> {
     print_each(&rt, rt.alloc(), ROWS)
 }
 
-// Whether there only is space after the cursor.
+// Whether there is only space after the cursor.
 fn ends(rt: &impl Abort, alloc: Global, text: &str, pos: usize, want: bool) -> Result<(), Fail> {
     let line = line_of(rt, alloc, text, pos)?;
     let answer = line.is_end_of_input();

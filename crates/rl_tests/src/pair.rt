@@ -13,7 +13,7 @@ fn is_text(found: &str, wanted: Option<&str>) -> bool {
     }
 }
 
-// The record has so many entries, and the ring lends that.
+// The record has that many entries, and the ring lends that text.
 fn holds(rt: &impl Abort, pair: &mut Pair, entries: usize, wanted: Option<&str>, what: &str) {
     assert!(rt; pair.changes.len() == entries, "{what}");
     match pair.ring.yank() {
@@ -54,7 +54,7 @@ fn a_pair_hears_as_one(rt: HostRuntime) -> Result<(), Fail> {
     hears(&rt, &mut line, &mut pair)
 }
 
-// Undoes the change of the pair's record, and makes it again. The cursor goes to these two places.
+// Undoes the change of the pair's record, and redoes it. The cursor goes to these two places.
 fn goes_to(
     rt: &impl Abort,
     line: &mut LineBuffer,

@@ -1,5 +1,5 @@
-//! Great and rare input, with ample memory. A call that answers that memory is out may meet its contract wherever it
-//! asks for some, so each kind of input that could be told apart from common input is met here.
+//! Large and rare input, with ample memory. A call may answer out of memory within its contract wherever it asks for
+//! memory. So each kind of input that could be told apart from common input is tested here.
 use crate::script::{is_so, printed_by};
 use rl_base::laws::RefuseAt;
 use rl_base::{DeleteListener, Direction, GraphemeClusterMode, Refusal};
@@ -8,7 +8,7 @@ use std::alloc::Global;
 use std::process::Abort;
 use std::test::Fail;
 
-// A script or what it prints: parts, each so often.
+// A script or what it prints: parts, each with how often it is repeated.
 type Parts = &'static [(&'static str, usize)];
 
 // What the script is about, the script, and what it prints.

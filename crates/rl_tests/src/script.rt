@@ -393,7 +393,7 @@ fn every_word_does_something(rt: HostRuntime) -> Result<(), Fail> {
 }
 
 // The driver reads blocks of 4096 bytes: here are fourteen of them and a part of one. Their borders lie inside lines,
-// but one between two lines; one line is longer than three blocks, and the last has no newline.
+// except one between two lines. One line is longer than three blocks, and the last has no newline.
 #[test]
 fn a_script_is_longer_than_a_block(rt: HostRuntime) -> Result<(), Fail> {
     let alloc = rt.alloc();
@@ -427,7 +427,7 @@ fn a_column_is_cut(rt: HostRuntime) -> Result<(), Fail> {
     Ok(())
 }
 
-// The middle between the two.
+// The three texts, one after the other.
 fn between(alloc: Global, before: &[u8], middle: &[u8], after: &[u8]) -> Result<Vec<u8>, Fail> {
     let mut whole = Vec::new(alloc);
     whole.extend_from_slice(before)?;
@@ -520,7 +520,7 @@ fn malformed_lines_print_bad(rt: HostRuntime) -> Result<(), Fail> {
     Ok(())
 }
 
-// A comparison of texts proves faster where it is handed on than within an assert.
+// A comparison of texts proves faster as an argument than within an assert.
 pub(crate) fn is_so(rt: &impl Abort, is_so: bool, what: &str) {
     assert!(rt; is_so, "{what}");
 }

@@ -6,13 +6,13 @@ use std::alloc::Global;
 use std::process::Abort;
 use std::test::Fail;
 
-// The record has so many entries and open groups.
+// The record has that many entries and open groups.
 fn records(rt: &impl Abort, session: &Session, entries: usize, groups: usize) {
     is_so(rt, session.record().len() == entries, "the entries");
     is_so(rt, session.record().level() == groups, "the open groups");
 }
 
-// The ring's last text was yanked, of that size, or it was not.
+// The ring's last action was a yank of that size, or no yank.
 fn was_yanked(rt: &impl Abort, session: &Session, size: Option<usize>, what: &str) {
     is_so(rt, session.ring().yank_size() == size, what);
 }
@@ -147,7 +147,7 @@ fn does_each(
     Ok(())
 }
 
-// In a state in which each changes something, or hands it back.
+// Each command runs in a state in which it changes something, or hands something back.
 #[test]
 fn every_command_does_something(rt: HostRuntime) -> Result<(), Fail> {
     let alloc = rt.alloc();

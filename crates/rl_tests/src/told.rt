@@ -2,7 +2,7 @@
 use rl_base::Direction;
 use rl_base::laws::{RefuseAt, TextEvent};
 
-// A change: its place, its text, and the side of a deletion. Of a replacement it is the new text.
+// A change: its place, its text, and the side of a deletion. A replacement's text is the new one.
 pub(crate) type Told = (usize, &'static str, Option<Direction>);
 
 // The side of a deletion ahead.

@@ -27,7 +27,7 @@ fn redo(rt: &impl Abort, line: &mut LineBuffer, record: &mut Changeset) -> Resul
     record.redo(line)
 }
 
-// It is so, of a line with that cursor, whose record has so many entries.
+// It is so, of a line with that cursor, whose record has that many entries.
 fn is_so(rt: &impl Abort, is_so: bool, what: &str, cursor: usize, entries: usize) {
     assert!(rt;
         is_so,
@@ -104,7 +104,7 @@ fn tell(record: &mut Changeset, event: Event) -> Result<(), Refusal> {
     }
 }
 
-// Puts "zz" in at the cursor, which stays.
+// Inserts "zz" at the cursor, which stays.
 fn put_text(line: &mut LineBuffer, record: &mut Changeset) -> Result<bool, Refusal> {
     let at = line.pos();
     line.insert_str(at, "zz", record)
@@ -130,7 +130,7 @@ fn delete_ahead(line: &mut LineBuffer, record: &mut Changeset) -> Result<usize, 
     Ok(usize::from(gone.is_some()))
 }
 
-// Makes the call. It answers the mark of a begin, or the limit, and else 1 for true and 0 for what is not true.
+// Makes the call. It answers the mark of a begin, or the limit; otherwise 1 for true, and 0 for what is not true.
 pub(crate) fn make(
     rt: &impl Abort,
     line: &mut LineBuffer,
@@ -257,7 +257,7 @@ fn groups_nest(rt: HostRuntime) -> Result<(), Fail> {
         (Call::Undo(1), 0, "", 0, 0, 0),
     ];
     goes(&rt, rt.alloc(), "", NESTED)?;
-    // of several begins the one with nothing after it is taken off, and the others are closed
+    // of several begins, the one with nothing after it is removed, and the others are closed
     const BEGINS: &[Step] = &[
         (Call::Begin, 0, "", 0, 1, 1),
         (Call::Begin, 1, "", 0, 2, 2),
@@ -368,7 +368,7 @@ fn other_calls_drop_what_was_undone(rt: HostRuntime) -> Result<(), Fail> {
     Ok(())
 }
 
-// Whether the last change put that text in, or none where there is none.
+// Whether the last change inserted that text, or nothing where it is None.
 fn put_in(record: &Changeset, text: Option<&str>) -> Result<bool, Refusal> {
     match record.last_insert()? {
         Some(last) => Ok(text == Some(last.as_str())),
@@ -376,7 +376,7 @@ fn put_in(record: &Changeset, text: Option<&str>) -> Result<bool, Refusal> {
     }
 }
 
-// Makes the call, and looks then at the text that the last change put in.
+// Makes the call, and then compares the text that the last change inserted.
 fn copies_after(
     rt: &impl Abort,
     line: &mut LineBuffer,

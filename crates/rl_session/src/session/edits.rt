@@ -32,8 +32,8 @@ impl Session {
         done(self.line.update(text.as_str(), pos, &mut self.pair))
     }
 
-    // Whether a text can go in at a place, with the cursor where it is: on either side of the text, or between
-    // two of its characters.
+    // Whether a text can be inserted at a place, and the cursor stays where it is: on either side of the text, or
+    // between two of its characters.
     fn can_go_in(&self, idx: usize, text: &str) -> bool
         ensures yes { result ≡ true → CanGoIn self.now.line idx text.now }
         ensures no { result ≡ false → ¬ (CanGoIn self.now.line idx text.now) }

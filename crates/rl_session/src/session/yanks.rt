@@ -78,7 +78,7 @@ impl Session {
     }
 }
 
-// Whether the ring is left for a command as it is.
+// Whether the command goes on from what the ring did last, so that the ring is not reset.
 fn continues(command: &Command) -> bool
     ensures { result ≡ continues command.now }
 {
@@ -89,7 +89,7 @@ fn continues(command: &Command) -> bool
     }
 }
 
-// Whether it is a yank that was not replied with `Inserted(Some(..))`.
+// Whether it is a yank whose reply is not `Inserted(Some(..))`.
 fn is_vain_yank(command: &Command, reply: &Reply) -> bool
     ensures { result ≡ is_vain_yank command.now reply.now }
 {
@@ -121,7 +121,7 @@ fn popped(alloc: Global, ring: &mut KillRing) -> Result<Option<(usize, String)>,
     }
 }
 
-// A copy of a text, which takes no memory where that is empty.
+// A copy of a text, which takes no memory where the text is empty.
 fn copied(alloc: Global, text: &str) -> Result<String, AllocError>
     ensures copy { IfOk result (λ copy. string_bytes copy ≡ text.now) }
     ensures some { OnErr result (0 < length text.now) }
