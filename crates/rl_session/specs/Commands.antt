@@ -109,7 +109,7 @@ abbrev pub popped_plan : Line → Option (ℕ × List ℕ) → Plan (Option Bool
 popped_plan line None = nothing line None
 popped_plan line (Some p) = yank_pop_plan line p.0 p.1
 
--- the given number of bytes stands before the cursor, and begins at a boundary
+-- the given number of bytes, if one is given, stands before the cursor, and begins at a boundary
 abbrev pub StandsYanked : Option ℕ → Line → Type 0
 StandsYanked None line = Unit {0}
 StandsYanked (Some size) line = (size ≤ line.cursor) × IsCharBoundary line.text (line.cursor - size)

@@ -88,7 +88,7 @@ pub enum Command {
     Undo(RepeatCount),
     /// Redoes what was undone last.
     Redo,
-    /// Truncates the record to the given number of entries.
+    /// Truncates the record to the given number of entries, and drops what was undone.
     Truncate(usize),
     /// Asks where the cursor stands.
     LinePlace,
