@@ -3,7 +3,7 @@ use Rattle.std.specs.Prelude.{ℕ, List, [], ◌∷◌, reverse, if◌then◌els
 use Rattle.std.specs.Str.{chars, encode_utf8_all}
 use Rattle.ucd_props.specs.Binary.{is_white_space}
 
--- the characters from the first on that is no blank
+-- the characters from the first one on that is not a blank
 abbrev pub past_blanks : List ℕ → List ℕ
 past_blanks [] = []
 past_blanks (c ∷ cs) = if is_white_space c then past_blanks cs else c ∷ cs

@@ -1,4 +1,4 @@
--- The grapheme clusters of a text, and the places that a number of them leads to.
+-- The grapheme clusters of a text, and the places that lie a number of clusters ahead or back.
 use Rattle.std.specs.Prelude.{ℕ, ◌+◌, ◌-◌, true, ◌||◌, ◌==◌, List, length, take, drop, reverse, Option, Some, None, if◌then◌else◌}
 use Rattle.std.specs.List.{concat}
 use Rattle.unicode_segmentation.specs.Grapheme.{graphemes}

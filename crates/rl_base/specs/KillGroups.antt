@@ -5,7 +5,7 @@ use Rattle.rl_base.specs.declared.listeners.Direction.{Direction}
 use Rattle.rl_base.specs.Event.{Event, InsertChar, InsertStr, Delete, Replace, Start, Stop, Cursors}
 use Rattle.rl_base.specs.KillRing.{Ring, joined, side_mode, killed, reset, yanked, ring_step}
 
--- what is done with a ring, but for yank_pop
+-- what is done with a ring, except yank_pop
 pub data Doing : Type 0 where
   Kills : (text : List ℕ) (mode : Mode) → Doing
   Resets : Doing
@@ -24,7 +24,7 @@ abbrev pub ring_done : List Doing → Ring → Ring
 ring_done [] r = r
 ring_done (d ∷ ds) r = ring_done ds (ring_do d r)
 
--- every group there was, the newest first, whether the next kill still belongs to it, and whether a kill is on
+-- every group there was, the newest first; whether the next kill still belongs to the newest; and whether a kill is on
 pub record Groups : Type 0 where
   pub groups : List (List ℕ)
   pub growing : Bool
@@ -40,7 +40,7 @@ grown false text mode gs = text ∷ gs
 grown true text mode [] = text ∷ []
 grown true text mode (g ∷ gs) = joined mode g text ∷ gs
 
--- the groups after a kill, to which the next kill belongs
+-- the groups after a kill; the next kill belongs to the newest
 abbrev pub with_kill : List ℕ → Mode → Groups → Groups
 with_kill text mode g = record g { groups = grown g.growing text mode g.groups; growing = true }
 
@@ -75,7 +75,7 @@ group_done (d ∷ ds) g = group_done ds (group_do d g)
 abbrev pub groups_of : List Doing → List (List ℕ)
 groups_of ds = (group_done ds no_groups).groups
 
--- the slots from the one at i back round to the one after it
+-- the slots from the one at i backwards, round the ring, to the one after it
 abbrev pub back_from : ℕ → List (List ℕ) → List (List ℕ)
 back_from i slots = reverse (take (i + 1) slots) ++ reverse (drop (i + 1) slots)
 

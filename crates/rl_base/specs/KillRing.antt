@@ -18,7 +18,7 @@ pub record Ring : Type 0 where
   pub last : Action
   pub killing : Bool
 
--- no more slots than the size, and the index at one of them, or at 0 before the first
+-- no more slots than the size, and the index is that of a slot, or 0 where there is none
 pub record IsRing (r : Ring) : Type 0 where
   pub within : length r.slots ≤ r.size
   pub at_slot : r.index < max 1 (length r.slots)
@@ -55,7 +55,7 @@ next_index size index slots = if index + 1 == size then 0 else raised index slot
 abbrev pub in_current : Mode → List ℕ → Ring → Ring
 in_current mode text r = record r { slots = join_at r.index mode text r.slots; last = Kill }
 
--- a text in a slot of its own, which is the current one then
+-- a text in a slot of its own, which becomes the current one
 abbrev pub in_new_slot : List ℕ → Ring → Ring
 in_new_slot text r =
     record r { slots = put_at (next_index r.size r.index r.slots) text r.slots; index = next_index r.size r.index r.slots; last = Kill }
@@ -71,11 +71,11 @@ killed_as (suc _) Other text mode r = in_new_slot text r
 abbrev pub killed : List ℕ → Mode → Ring → Ring
 killed text mode r = killed_as r.size r.last text mode r
 
--- a kill makes the ring larger: it has a place for texts, and the text isn't empty or there is a slot more
+-- a kill makes the ring larger: its size is not 0, and the text isn't empty or a slot is added
 abbrev pub Enlarges : List ℕ → Mode → Ring → Type 0
 Enlarges text mode r = (0 < r.size) × ((0 < length text) ⊎ (length r.slots < length (killed text mode r).slots))
 
--- the ring where something else was done
+-- the ring after something else was done
 abbrev pub reset : Ring → Ring
 reset r = record r { last = Other }
 
@@ -129,12 +129,12 @@ popped_ring (Some size) r = yanked (turned r)
 abbrev pub yank_popped : Ring → Ring
 yank_popped r = popped_ring (yank_size r) r
 
--- where a text is joined that stood at a side of the cursor
+-- the end at which a text from a side of the cursor is joined
 abbrev pub side_mode : Direction → Mode
 side_mode Forward = Append
 side_mode Backward = Prepend
 
--- the ring after a deletion: one while a kill is on is a kill
+-- the ring after a deletion, which is a kill where a kill is on
 abbrev pub heard : Bool → List ℕ → Direction → Ring → Ring
 heard false text side r = r
 heard true text side r = killed text (side_mode side) r

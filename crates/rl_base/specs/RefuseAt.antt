@@ -1,4 +1,4 @@
--- A listener for tests, which hears so many changes of a text and refuses the next.
+-- A listener for tests, which hears a given number of changes of a text and refuses the next.
 use Rattle.std.specs.Prelude.{◌≡◌, ℕ, zero, suc, ◌+◌, ◌<◌, List, [], ◌∷◌, ◌++◌, Option, Some, None, min}
 use Rattle.std.specs.String.{string_bytes}
 use Rattle.rl_base.specs.declared.laws.refuse_at.TextEvent.{TextEvent}
@@ -7,7 +7,7 @@ use Rattle.rl_base.specs.declared.listeners.Refusal.{Refusal}
 use Rattle.rl_base.specs.declared.listeners.Refusal.TheVariants as why_of
 use Rattle.rl_base.specs.Event.{Event, InsertChar, InsertStr, Delete, Replace, Start, Stop, Cursors}
 
--- how many changes it will hear yet, always Some number, those that it heard, the first one first, and how many
+-- how many more changes it will hear, always Some number; those that it heard, the first one first; and how many
 -- kills started and stopped
 pub record Hearing : Type 0 where
   pub left : Option ℕ
@@ -26,17 +26,17 @@ event_of (seen_as.Replace i s t) = Replace i (string_bytes s) (string_bytes t)
 abbrev pub new_hearing : ℕ → Hearing
 new_hearing left = record { left = Some left; seen = []; starts = 0; stops = 0 }
 
--- one more of a kill's starts or stops; no count goes past the greatest u16
+-- one more start or stop of a kill; no count goes past the greatest u16
 abbrev pub counted : ℕ → ℕ
 counted n = min (n + 1) 65535
 
--- one change less to hear. Where none is left that gives None, which no listener has, so that none hears a change there
+-- one change less to hear. Where none is left it gives None, which no listener has, so that no listener hears a change there
 abbrev pub one_less : Option ℕ → Option ℕ
 one_less (Some (suc left)) = Some left
 one_less (Some zero) = None
 one_less None = None
 
--- one that lists one change more, and will hear one less
+-- the listener with one more change listed, and one less to hear
 abbrev pub listed : Event → Hearing → Hearing
 listed event h = record h { left = one_less h.left; seen = h.seen ++ event ∷ [] }
 

@@ -48,14 +48,14 @@ prev_word text pos sense n =
 abbrev pub last_place : List ℕ → Option ℕ
 last_place text = last_or None (map (λ piece. piece.0) (drop 1 (placed_clusters text)))
 
--- where a motion ends that finds fewer stops than were asked for
+-- where a motion ends if it finds fewer stops than were asked for
 abbrev pub last_stop : At → Word → ℕ → List ℕ → Option ℕ
 last_stop AfterEnd sense n text = Some (length text)
 last_stop at Emacs n text = Some (length text)
 last_stop at sense zero text = None
 last_stop at sense (suc n) text = last_place text
 
--- the clusters that a motion looks at: one to the last cluster of a word leaves out the first
+-- the clusters that a motion looks at: a motion to a word's last cluster skips the first one
 abbrev pub looked_at : At → List PlacedCluster → List PlacedCluster
 looked_at BeforeEnd pieces = drop 1 pieces
 looked_at at pieces = pieces

@@ -8,17 +8,17 @@ use crate::listeners::Refusal;
 use std::alloc::Global;
 use std::marker::Model;
 
-/// A text that grows at both ends. A row of parts that are put there takes time of the text that they make, and not of that
-/// for each part.
+/// A text that grows at both ends. Adding a row of parts takes time proportional to the text that they make, not to
+/// that text for each part.
 ///
-/// A slot of a `KillRing` and a deletion in a record of `rl_line` are such texts inside; no call takes or answers one. A
-/// listener of a caller's own may gather what is deleted in one too: `of` the first text, then `push_back` of what stood
-/// ahead of the cursor and `push_front` of what stood before it. `as_str` reads it; `as_string` after `pack` lends a `String`.
+/// A slot of a `KillRing` and a deletion in a record of `rl_line` are such texts inside; no call takes or answers one.
+/// A caller's own listener may gather deleted text too: `of` for the first text, then `push_back` for what stood ahead
+/// of the cursor and `push_front` for what stood before it. `as_str` reads it; after `pack`, `as_string` lends it.
 #[derive(Drop)]
 pub struct Gathered {
     buf: String,
-    // So many blanks stand before the text. A part in front takes the place of the last of them, so that the
-    // text need not move.
+    // How many blanks stand before the text. A part put in front replaces the last of them, so that the text
+    // need not move.
     blanks: usize,
 }
 
@@ -35,7 +35,7 @@ impl Model for Gathered {
 }
 
 impl Gathered {
-    /// A text that holds a copy of `text`. It is refused only where memory is out, and an empty one never.
+    /// A text that holds a copy of `text`. Refused only where memory is out; an empty one is never refused.
     pub fn of(alloc: Global, text: &str) -> Result<Gathered, Refusal>
         ensures ok { IfOk result (λ g. g.text ≡ text.now) }
         ensures err { IfErr result (λ r. (r ≡ NoMemory) × (0 < length text.now)) }
@@ -66,7 +66,7 @@ impl Gathered {
         &self.buf.as_str()[self.blanks..]
     }
 
-    /// Puts a part at the end. Refused, where memory is out, it changes nothing; an empty part is never refused.
+    /// Puts a part at the end. Refused only where memory is out, and then it changes nothing; an empty part never is.
     pub fn push_back(&mut self, part: &str) -> Result<(), Refusal>
         ensures ok { OnOk result (self.new.text ≡ self.old.text ++ part.now) }
         ensures err { IfErr result (λ r. (r ≡ NoMemory) × (self.new.text ≡ self.old.text) × (0 < length part.now)) }
@@ -77,8 +77,8 @@ impl Gathered {
         }
     }
 
-    /// Puts a part in front. Refused, where memory is out, it changes nothing; a part for which there are blanks
-    /// enough before the text is never refused.
+    /// Puts a part in front. Refused only where memory is out, and then it changes nothing. A part that fits into
+    /// the blanks before the text is never refused.
     pub fn push_front(&mut self, part: &str) -> Result<(), Refusal>
         ensures ok { OnOk result (self.new.text ≡ part.now ++ self.old.text) }
         ensures err { IfErr result (λ r. (r ≡ NoMemory) × (self.new.text ≡ self.old.text) × (self.old.blanks < length part.now)) }
@@ -88,7 +88,7 @@ impl Gathered {
         Ok(())
     }
 
-    /// Packs the text, so that it can be lent: takes away what stands before it. It takes no memory.
+    /// Packs the text, so that it can be lent: removes the blanks before it. It takes no memory.
     pub fn pack(&mut self)
         ensures text { self.new.text ≡ self.old.text }
         ensures blanks { self.new.blanks ≡ 0 }
@@ -108,8 +108,8 @@ impl Gathered {
     }
 }
 
-// Finds blanks for so many bytes before a text, and answers how many stand there then. Where there are too few, as
-// many come as there are bytes to move, so that the next move comes only after as many bytes in front.
+// Finds blanks for `bytes` bytes before a text, and answers how many stand there then. Where there are too few, it adds
+// at least as many as there are bytes to move, so that the next move comes only after as many bytes in front.
 fn find_blanks(buf: &mut String, blanks: usize, bytes: usize) -> Result<usize, Refusal>
     requires { BeginsBlank blanks (string_bytes buf.old) }
     ensures blanks { IfOk result (λ n. BeginsBlank n (string_bytes buf.new)) }
@@ -142,8 +142,8 @@ fn put_over_blanks(buf: &mut String, blanks: usize, part: &str) -> usize
         return from;
     };
     // The standard library doesn't promise that a text of the same length needs no more room. It does promise it of a
-    // deletion, and of an insertion where there is room: so all blanks give way. That is one more kind of range, so that the
-    // call above stays the only one of its kind, and is inlined.
+    // deletion, and of an insertion where there is room: so all blanks are removed. This uses another kind of range, so
+    // that the call above stays the only one of its kind, and is inlined.
     match buf.replace_range(..blanks, "") {
         Ok(()) => {}
         Err(_) => unreachable!(),

@@ -29,11 +29,11 @@ enum Action {
     Other,
 }
 
-/// Killed texts, as many as its size (GNU readline: kill ring). Kills right after each other make one text.
+/// Killed texts, at most as many as its size (GNU readline: kill ring). Consecutive kills make one text.
 /// One of the texts is the current one, which `yank` lends.
 ///
-/// As a listener it keeps what is deleted while a kill is on. No other event can be refused, nor one that makes it no
-/// larger: at size 0 none, and no empty text that needs no slot more.
+/// As a listener it keeps what is deleted while a kill is on. It can refuse only such a deletion, and only where the
+/// ring would grow: never at size 0, and never an empty text that needs no new slot.
 #[derive(Drop)]
 pub struct KillRing {
     size: usize,
@@ -69,10 +69,10 @@ impl KillRing {
         }
     }
 
-    /// Puts a killed text into the ring (GNU readline: kill-line and its like). Right after another kill it is
-    /// joined to that one's text, at the side that `dir` says. Else it goes right after the current text, over
-    /// one that stands there, and is the current one. Refused, where memory is out, it changes nothing. Where the ring
-    /// would not grow it never refuses: at size 0, where it keeps no text, and an empty text that needs no slot more.
+    /// Puts a killed text into the ring (GNU readline: kill-line and its like). Right after another kill it is joined
+    /// to that kill's text, at the side that `dir` says. Else it goes right after the current text, replaces one that
+    /// stands there, and becomes the current one. Refused only where memory is out, and then it changes nothing. Never
+    /// refused where the ring would not grow: at size 0, which keeps no text, and an empty text that needs no new slot.
     pub fn kill(&mut self, text: &str, dir: Mode) -> Result<(), Refusal>
         ensures done { OnOk result (self.new ≡ killed text.now dir self.old) }
         ensures err { IfErr result (λ r. (r ≡ NoMemory) × (self.new ≡ self.old) × Enlarges text.now dir self.old) }
@@ -112,9 +112,9 @@ impl KillRing {
         text_at(&self.slots, self.index)
     }
 
-    /// Right after a `yank` or another `yank_pop`, goes to the text before the current one, from the first round
-    /// to the last (GNU readline: yank-pop). Answers the length in bytes of the text that was yanked, which is
-    /// to give way, and the text. `None` after anything else.
+    /// Right after a `yank` or another `yank_pop`, goes to the text before the current one, or from the first
+    /// to the last (GNU readline: yank-pop). Answers the length in bytes of the text that was yanked, and the
+    /// text that is to replace it. `None` after anything else.
     pub fn yank_pop(&mut self) -> Option<(usize, &String)>
         ensures* moved { sem 𝓛 (EndsAs self.entry (yank_popped self.old)) }
         ensures value { MatchOption result (yank_pop self.old ≡ None) (λ s. yank_pop self.old ≡ Some (s.0, string_bytes s.1.now)) }

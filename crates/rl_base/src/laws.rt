@@ -1,4 +1,4 @@
-//! Laws that hold of the definitions alone, and a listener for tests of what stands on a line.
+//! Laws that hold of the definitions alone, and a listener for tests of code that uses a line.
 ghost use Rattle.std.specs.Prelude.{◌≡◌, ℕ, ◌<◌, ◌↔◌, true, false, List, ◌∷◌, ◌++◌, None, take, slice_get};
 ghost use Rattle.std.specs.Char.{is_whitespace};
 ghost use Rattle.std.specs.Str.{trim_start, trim_end};
@@ -41,9 +41,9 @@ pub fn blanks_are_white_space()
     ensures trailing { (text : List ℕ) → trim_end text ≡ without_trailing_blanks text }
 {}
 
-/// Whatever is done with a new ring but `yank_pop`, and where no kill is refused, it holds the latest groups of
-/// consecutive kills, as many as it has room for, and a yank gives the newest. Kills one right after the other
-/// are one group, of their texts joined.
+/// Whatever is done with a new ring except `yank_pop`, and where no kill is refused, it holds the latest groups of
+/// consecutive kills, as many as it has room for, and a yank gives the newest. Consecutive kills are one group:
+/// their texts, joined.
 pub fn ring_holds_groups()
     ensures last { (size : ℕ) (doings : List Doing) → 0 < size → newest_first (ring_done doings (new_ring size)) ≡ take size (groups_of doings) }
     ensures newest { (size : ℕ) (doings : List Doing) → 0 < size → yank (ring_done doings (new_ring size)) ≡ slice_get (groups_of doings) 0 }

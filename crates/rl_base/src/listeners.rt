@@ -56,8 +56,8 @@ pub trait DeleteListener {
     fn stop_killing(&mut self)
         ensures { self.new ≡ step self.old Stop };
 
-    /// The change that was told last moves the cursor from the byte place `before` to `after`. Each change is
-    /// followed by this call, and it can't be refused.
+    /// The change that was told last moves the cursor from the byte place `before` to `after`. This call follows
+    /// each change, and it can't be refused.
     fn cursors(&mut self, before: usize, after: usize)
         ensures { self.new ≡ step self.old (Cursors before after) };
 }

@@ -3,14 +3,14 @@
 /// How often a motion or an edit is repeated (GNU readline's numeric argument).
 pub type RepeatCount = u16;
 
-/// What counts as a word. A grapheme cluster belongs to words or does not, as a whole.
+/// What counts as a word. A grapheme cluster belongs to a word as a whole or not at all.
 #[derive(Clone, Copy, Debug, Eq, PartialEq)]
 pub enum Word {
     /// Clusters without a blank (vi's WORD, readline's `unix-word-rubout`).
     Big,
     /// Clusters of letters and numbers (readline's `forward-word`).
     Emacs,
-    /// Letters, numbers and the underscore; other clusters that are no blanks make words of their own (vi's word).
+    /// Letters, numbers and the underscore; other clusters without a blank make words of their own (vi's word).
     Vi,
 }
 
@@ -73,7 +73,7 @@ pub enum Movement {
     ForwardWord(RepeatCount, At, Word),
     /// To a character (vi's `f`, `t`, `F` and `T`).
     ViCharSearch(RepeatCount, CharSearch),
-    /// To the first place after the text's start where a `Big` word starts (after vi's `^`).
+    /// To the first place after the text's start where a `Big` word starts (modelled on vi's `^`).
     ViFirstPrint,
     /// Back by grapheme clusters (readline's `backward-char`, vi's `h`).
     BackwardChar(RepeatCount),

@@ -13,8 +13,8 @@ use Rattle.rl_line.specs.Record.{Entry, Begin, End, Inserted, Deleted, Replaced,
 use Rattle.rl_line.specs.declared.change.Freshness.{Freshness}
 use Rattle.rl_line.specs.Undo.{cursor_told}
 
--- what an entry makes of an event: it takes the event in, where they join, and then its cursors may be told so far; else it stays
--- as it is
+-- what an entry makes of an event: where they join, it takes the event in, and `fresh` says what it may be told of its cursors;
+-- else it stays as it is
 abbrev pub TakesIn : Event → Entry → Entry → Option Freshness → Type 0
 TakesIn event old new (Some fresh) = (joined event old ≡ Some new) × (fresh ≡ freshness_joined (cursors_of old))
 TakesIn event old new None = (joined event old ≡ None) × (new ≡ old)
@@ -50,7 +50,7 @@ abbrev pub order : Way → List Change → List Change
 order Back changes = changes
 order Ahead changes = reverse changes
 
--- how much a text has of what it is measured by
+-- the size of a text by a measure
 abbrev pub size_of : Measure → List ℕ → ℕ
 size_of Bytes text = length text
 size_of Newlines text = count_by is_newline text

@@ -13,11 +13,11 @@ use Rattle.rl_line.specs.Plan.{Plan, nothing, single, followed_by}
 abbrev pub too_long : Line → ℕ → Bool
 too_long line n = not line.grow && nat_lt line.limit n
 
--- a character goes in at i, n times; once it is told as a character, else as a text
+-- a character goes in at i, n times; for n = 1 it is told as a character, else as a text
 abbrev pub insert_event : ℕ → ℕ → ℕ → Event
 insert_event i c n = if n == 1 then InsertChar i c else InsertStr i (repeat n (encode_utf8 c))
 
--- n times c goes in at the cursor, which goes past it, unless that is too long. The answer: was the cursor at the end?
+-- c goes in n times at the cursor, which goes past it, unless that is too long. The answer: was the cursor at the end?
 abbrev pub insert_plan : Line → ℕ → ℕ → Plan (Option Bool)
 insert_plan line c n =
     let more = length (encode_utf8 c) * n in
@@ -33,7 +33,7 @@ insert_str_plan line i s = single (InsertStr i s) line.cursor (i == length line.
 abbrev pub delete_range_plan : Line → ℕ → ℕ → Plan (Unit {0})
 delete_range_plan line i j = single (Delete i (slice_range line.text i j) Forward) i tt
 
--- n times s goes in at the cursor, which goes past it, unless s is empty or that is too long. The answer: was the cursor at the end?
+-- s goes in n times at the cursor, which goes past it, unless s is empty or that is too long. The answer: was it at the end?
 abbrev pub yank_plan : Line → List ℕ → ℕ → Plan (Option Bool)
 yank_plan line s n =
     let more = length s * n in
@@ -48,7 +48,7 @@ yank_pop_plan line z s =
     followed_by (Delete from (slice_range line.text from line.cursor) Forward) from
     (yank_plan (stepped line (remove_range line.text from line.cursor) from) s 1)
 
--- s takes the place of i..j, and the cursor is after it
+-- s replaces i..j, and the cursor is after it
 abbrev pub replace_plan : Line → ℕ → ℕ → List ℕ → Plan (Unit {0})
 replace_plan line i j s = single (Replace i (slice_range line.text i j) s) (i + length s) tt
 
@@ -60,7 +60,7 @@ exchange_plan line r p s q = followed_by (Delete r.start (text_in line r) Forwar
 abbrev pub cut_to_limit : Line → List ℕ → List ℕ
 cut_to_limit line s = if too_long line (length s) then take (greatest_boundary s line.limit) s else s
 
--- as much of s as the line may hold takes the place of the text, and the cursor is at q, or at the end
+-- as much of s as the line may hold replaces the text, and the cursor is at q, or at the end
 abbrev pub update_plan : Line → List ℕ → ℕ → Plan (Unit {0})
 update_plan line s q =
     let cut = cut_to_limit line s in

@@ -5,11 +5,11 @@ use Rattle.rl_line.specs.Record.{Entry, Begin, End, Record, entries_after, entri
 use Rattle.rl_line.specs.Units.{AtLevel}
 use Rattle.rl_line.specs.declared.change.Freshness.{Freshness}
 
--- the record that one list of entries is: the first n are recorded, and those after them wait to be redone
+-- a list of entries, read as a record: the first n are recorded, and those after them wait to be redone
 abbrev pub cut_at : ℕ → List Entry → Freshness → Record
 cut_at n es fresh = record { recorded = take n es; pending = drop n es; fresh = fresh }
 
--- there are so many, and so many groups are open in them
+-- there are n entries at least; cut after n, the marks match and `level` groups are open
 pub record IsCutAt (n level : ℕ) (es : List Entry) (fresh : Freshness) : Type 0 where
   pub within : n ≤ length es
   pub at_level : AtLevel level (cut_at n es fresh)

@@ -38,7 +38,7 @@ abbrev pub put_spaces : List ℕ → ℕ → ℕ → List Step
 put_spaces [] i cursor = []
 put_spaces (n ∷ more) i cursor = (InsertStr i (spaces n), pushed i n cursor) ∷ put_spaces more i (pushed i n cursor)
 
--- what a dedent takes from the start of a line's text: of its leading blanks up to n bytes, up to a boundary
+-- what a dedent takes from the start of a line's text: up to n bytes of its leading blanks, up to a boundary
 abbrev pub blanks : ℕ → List ℕ → List ℕ
 blanks n text = take (greatest_boundary text (min n (length text - length (trim_start text)))) text
 

@@ -32,7 +32,7 @@ mapped Uppercase word = str_to_uppercase word
 mapped Lowercase word = str_to_lowercase word
 mapped Capitalize word = let first = end_of_cluster word 0 in str_to_uppercase (take first word) ++ str_to_lowercase (drop first word)
 
--- a text takes the place of the word, if there is one, and the cursor goes past it. The answer: was there one?
+-- a text replaces the word, if there is one, and the cursor goes past it. The answer: was there one?
 abbrev pub put_for : Line → Option (Range ℕ) → List ℕ → Plan Bool
 put_for line None made = nothing line false
 put_for line (Some word) made = answering true (exchange_plan line word line.cursor made (word.start + length made))
@@ -47,7 +47,7 @@ pub record Recased (line : Line) (action : WordAction) (P : List ℕ → Type 0)
   pub ascii : (word : Range ℕ) → word_ahead line ≡ Some word → IsAscii (text_in line word) → made ≡ recased action (text_in line word)
   pub holds : P made
 
--- the word, where it is not ASCII, gave way to itself in the case that is asked for
+-- the word, where it is not ASCII, was replaced by itself in the case that is asked for
 abbrev pub Maps : Line → WordAction → Line → Type 0
 Maps old action new =
     (word : Range ℕ) → word_ahead old ≡ Some word → ¬ (IsAscii (text_in old word)) → new.text ≡ replace_range old.text word.start word.end (mapped action (text_in old word))

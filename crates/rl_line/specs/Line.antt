@@ -14,7 +14,7 @@ pub record Line : Type 0 where
   pub limit : ℕ
   pub grow : Bool
 
--- the table is that of the text, the cursor stands between two characters, and the text keeps to the limit
+-- the table belongs to the text, the cursor stands between two characters, and the text keeps to the limit
 pub record IsLine (text starts : List ℕ) (border cursor limit : ℕ) : Type 0 where
   pub table : IsTable starts border text
   pub at_boundary : IsCharBoundary text cursor

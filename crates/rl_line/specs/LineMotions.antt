@@ -34,7 +34,7 @@ column_above layout target columns = if target == 0 then columns - layout.prompt
 abbrev pub column_below : Layout → ℕ → ℕ → ℕ
 column_below layout k columns = if k == 0 then min (columns + layout.prompt_size.col) 65535 else columns
 
--- the place before the cluster of line k that has the number of the column, or the line's end
+-- the place before the cluster of line k whose number is the column, or the line's end
 abbrev pub place_in_line : List ℕ → ℕ → ℕ → ℕ
 place_in_line text k column = start_of_line text k + place_of_column (text_of_line text k) column
 

@@ -43,14 +43,14 @@ abbrev pub after : List Step → Line → Option Line
 after [] line = Some line
 after (s ∷ ss) line = option_and_then (after ss) (after_step s.0 s.1 line)
 
--- an event for which the text or its table needs room: it puts something in, or makes the text longer, or its newlines more
+-- an event for which the text or its table needs room: it puts something in, or makes the text longer, or adds newlines
 abbrev pub Grows : Event → Type 0
 Grows (InsertChar i c) = Unit {0}
 Grows (InsertStr i s) = 0 < length s
 Grows (Replace i s t) = NeedsRoom s t
 Grows _ = ⊥
 
--- the refusals of a listener, and memory that is out where the event grows, of which the listener hears nothing
+-- the refusals of a listener, and NoMemory for an event that grows, of which the listener hears nothing
 abbrev pub or_no_memory : {L : Type 0} → (L → Event → Refusal → L → Type 0) → L → Event → Refusal → L → Type 0
 or_no_memory refused before event r now = ((r ≡ NoMemory) × (now ≡ before) × Grows event) ⊎ refused before event r now
 
@@ -67,7 +67,7 @@ abbrev pub bytes_of : List Step → ℕ
 bytes_of [] = 0
 bytes_of (s ∷ ss) = bytes_told s.0 + bytes_of ss
 
--- the plan was not begun, since memory was out: what its steps move is copied first, and their room found, and they tell a byte
+-- the plan was not begun, since memory was out for copying what its steps move, or for their room; they tell at least a byte
 abbrev pub Uncopied : {L A : Type 0} → Plan A → Line → Line → L → L → Refusal → Type 0
 Uncopied plan old new before now r = (r ≡ NoMemory) × (new ≡ old) × (now ≡ before) × (0 < bytes_of plan.steps)
 

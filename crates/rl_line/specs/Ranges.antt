@@ -44,7 +44,7 @@ from_first_print text pos =
     if pos == 0 then None
     else option_and_then (λ q. if nat_le q pos then Some (between q pos) else None) (next_word text 0 Start Big 1)
 
--- after the newline of line k; of the last, which has none, the end of the text
+-- after the newline of line k; for the last, which has none, the end of the text
 abbrev pub after_line : List ℕ → ℕ → ℕ
 after_line text k = min (end_of_line text k + 1) (length text)
 
@@ -78,11 +78,11 @@ covered line WholeBuffer = unless_empty 0 (length line.text)
 covered line BeginningOfBuffer = unless_empty 0 line.cursor
 covered line EndOfBuffer = unless_empty line.cursor (length line.text)
 
--- the newline at the end of a line's text, which only the last line has not
+-- the newline at the end of a line's text, which only the last line lacks
 abbrev pub newline_at : List ℕ → ℕ → Option (Range ℕ)
 newline_at text stop = if stop == length text then None else Some (between stop (stop + 1))
 
--- what a movement kills: what it covers, but for these
+-- what a movement kills: what it covers, except for these
 abbrev pub killed : Line → Movement → Option (Range ℕ)
 -- of an empty line, and at the end of a line, the newline goes
 killed line WholeLine = option_or (covered line WholeLine) (newline_at line.text (line_end line))
@@ -96,7 +96,7 @@ killed line mvt = covered line mvt
 abbrev pub here : Line → Range ℕ
 here line = between line.cursor line.cursor
 
--- what an indent takes the lines of: what a movement covers, but for those within a line
+-- the range whose lines an indent takes: what a movement covers, except for movements within a line
 abbrev pub indented : Line → Movement → Range ℕ
 indented line WholeLine = here line
 indented line BeginningOfLine = here line

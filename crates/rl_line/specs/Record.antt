@@ -29,8 +29,8 @@ entry_of (made.Insert cursors i s) = Inserted i (string_bytes s) cursors
 entry_of (made.Delete cursors i gathered) = Deleted i gathered.text cursors
 entry_of (made.Replace cursors i texts) = Replaced i (string_bytes texts.value.before) (string_bytes texts.value.after) cursors
 
--- what was recorded, the oldest first, what was undone and waits to be redone, in the order in which it was made, and whether the
--- cursors of the last recorded change may still be told
+-- what was recorded, the oldest first; what was undone and waits to be redone, in the order in which it was made; and whether
+-- the cursors of the last recorded change may still be told
 pub record Record : Type 0 where
   pub recorded : List Entry
   pub pending : List Entry
@@ -78,7 +78,7 @@ cursors_of (Inserted i s cursors) = cursors
 cursors_of (Deleted i s cursors) = cursors
 cursors_of (Replaced i s t cursors) = cursors
 
--- a change that an event joined has kept the cursor before it where its cursors were told, and else can't be told any
+-- a change that an event joined has kept the cursor before it where its cursors were told, and else can't be told cursors
 abbrev pub freshness_joined : Option (ℕ × ℕ) → Freshness
 freshness_joined None = is.Stale
 freshness_joined (Some cursors) = is.Joined cursors.0
@@ -94,7 +94,7 @@ freshness_of event [] = freshness_added (entries_of event)
 freshness_of event (e ∷ []) = option_map_or (λ _. freshness_joined (cursors_of e)) (joined event e) (freshness_added (entries_of event))
 freshness_of event (e ∷ (d ∷ ds)) = freshness_of event (d ∷ ds)
 
--- the start and the stop of a kill leave that, and cursors that are told end it
+-- the freshness after an event: the start and the stop of a kill leave it, and telling cursors ends it
 abbrev pub freshness_after : Event → Record → Freshness
 freshness_after Start r = r.fresh
 freshness_after Stop r = r.fresh
@@ -138,7 +138,7 @@ pending_after _ pending = []
 unfoldable pub record_step : Record → Event → Record
 record_step r event = record { recorded = recorded_after event r; pending = pending_after event r.pending; fresh = freshness_after event r }
 
--- an event that adds an entry or joins one: what is put in or taken out is no empty text
+-- an event that adds an entry or joins one: what is put in or taken out is not an empty text
 abbrev pub IsRecorded : Event → Type 0
 IsRecorded (InsertChar i c) = Unit {0}
 IsRecorded (InsertStr i s) = 0 < length s
@@ -148,11 +148,11 @@ IsRecorded Start = ⊥
 IsRecorded Stop = ⊥
 IsRecorded (Cursors _ _) = ⊥
 
--- a record is refused an event that it would keep, since memory is out, and is as it was then
+-- a record refuses an event that it would keep, since memory is out, and stays as it was
 abbrev pub record_refused : Record → Event → Refusal → Record → Type 0
 record_refused old event why now = (why ≡ NoMemory) × (now ≡ old) × IsRecorded event
 
--- the event that makes an entry again; a mark changes nothing
+-- the event that redoes an entry; a mark changes nothing
 abbrev pub event_of : Entry → Event
 event_of Begin = Start
 event_of End = Stop
@@ -207,11 +207,11 @@ abbrev pub agree : Option (List ℕ) → Option (List ℕ) → Bool
 agree (Some a) (Some b) = bytes_eq a b
 agree _ _ = false
 
--- all that was recorded can be taken back from the text, and the first entries alone as well, and both give the same
+-- all recorded entries can be taken back from the text, so can the first `len` alone, and both give the same text
 abbrev pub replays_to : ℕ → Record → List ℕ → Bool
 replays_to len r text = agree (unwind r.recorded text) (unwind (take len r.recorded) text)
 
--- of entries, the last first: what the first that is no End put in
+-- what the first entry that is not an End put in, where entries are listed the last first
 abbrev pub put_in_first : List Entry → Option (List ℕ)
 put_in_first (End ∷ es) = put_in_first es
 put_in_first (Inserted i s _ ∷ es) = Some s

@@ -40,11 +40,11 @@ abbrev pub pulled_back : Line → Option (ℕ × Range ℕ) → Plan Bool
 pulled_back line None = nothing line false
 pulled_back line (Some (front, after)) = answering true (pull_back_plan line front after)
 
--- of two clusters that meet, the one after is pulled back in front of the other
+-- the second of two clusters that meet is pulled back in front of the first
 abbrev pub transpose_chars_plan : Line → Plan Bool
 transpose_chars_plan line = pulled_back line (option_and_then (clusters_around line.text) (meeting_place line))
 
--- the text with what stands from a place to a range, and that range, exchanged
+-- the text in which a range and what stands between a place and it are exchanged
 abbrev pub exchanged_text : Line → ℕ → Range ℕ → List ℕ
 exchanged_text line front after =
     take front line.text ++ (text_in line after ++ (slice_range line.text front after.start ++ drop after.end line.text))
@@ -77,7 +77,7 @@ first_word line n =
 abbrev pub are_two : Range ℕ → Range ℕ → Bool
 are_two first second = not (first.start == second.start) && nat_le first.end second.start
 
--- the second of two ranges gives way to the first's text, and then the first to the second's
+-- the second of two ranges is replaced by the first's text, and then the first by the second's
 abbrev pub swap_plan : Line → Range ℕ → Range ℕ → Plan (Unit {0})
 swap_plan line first second =
     record {

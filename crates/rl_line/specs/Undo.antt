@@ -11,7 +11,7 @@ use Rattle.rl_line.specs.Units.{last_of, redo_of, has_change, undone, redone}
 abbrev pub cursor_told : Entry → Option ℕ
 cursor_told e = option_map (λ (cursors : ℕ × ℕ). cursors.1) (cursors_of e)
 
--- where the cursor goes else: to the entry's place, past what it put in; a mark leaves it
+-- where the cursor goes otherwise: to the entry's place, past what it put in; a mark leaves it
 abbrev pub place_after : ℕ → Entry → ℕ
 place_after cursor Begin = cursor
 place_after cursor End = cursor
@@ -37,8 +37,8 @@ abbrev pub line_back : List Entry → Line → Option Line
 line_back [] line = Some line
 line_back (e ∷ es) line = option_and_then (line_after (inverse e)) (line_back es line)
 
--- whether a text can go back over entries, or ahead, is asked on a copy of it: so where there is a change, and the text, or one that
--- comes on the way, is not empty
+-- whether a text can go back over entries, or ahead, is tried on a copy of it. That takes memory only where there is a change,
+-- and the text, or one on the way, is not empty
 abbrev pub CopiesBack : List Entry → List ℕ → Type 0
 CopiesBack es text = (has_change es ≡ true) × (0 < length text + bytes_back es)
 
@@ -57,12 +57,12 @@ texts_back entries text = texts_after (map (λ (e : Entry). event_of (inverse e)
 abbrev pub texts_ahead : List Entry → List ℕ → List (List ℕ)
 texts_ahead entries text = texts_after (map event_of entries) text
 
--- on the way back from a text, the cursor that was told from before a change stands between two characters there
+-- on the way back from a text, each cursor that was told as the one before a change stands between two characters there
 abbrev pub StandBefore : List Entry → List ℕ → Type 0
 StandBefore es text = (first others : List Entry) (e : Entry) (place : ℕ) (now : List ℕ) → es ≡ first ++ e ∷ others → cursor_told (inverse e) ≡ Some place
     → unwind (e ∷ others) text ≡ Some now → IsCharBoundary now place
 
--- on the way ahead, the one from after it
+-- on the way ahead, each cursor that was told as the one after a change
 abbrev pub StandAfter : List Entry → List ℕ → Type 0
 StandAfter es text = (first others : List Entry) (e : Entry) (place : ℕ) (now : List ℕ) → es ≡ first ++ e ∷ others → cursor_told e ≡ Some place
     → replay_entries (first ++ e ∷ []) text ≡ Some now → IsCharBoundary now place

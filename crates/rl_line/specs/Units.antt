@@ -31,8 +31,8 @@ abbrev pub cut_more : List UndoUnit → List Entry → List UndoUnit
 cut_more us [] = us
 cut_more us (e ∷ es) = cut_more (add_entry e us) es
 
--- the units of entries, the latest first. Of an insertion of a, a Begin, and insertions of b and c they are the last of these,
--- that of b, the Begin, and that of a; with an End after them they are two, all from the Begin to the End, and that of a.
+-- the units of entries, the latest first. An insertion of a, a Begin, and insertions of b and c are four units: those of c and
+-- of b, the Begin, and that of a. With an End after them they are two: all from the Begin to the End, and the insertion of a.
 abbrev pub units : List Entry → List UndoUnit
 units es = cut_more [] es
 
@@ -50,7 +50,7 @@ opens (Whole es ∷ us) = opens us
 abbrev pub level : List Entry → ℕ
 level es = opens (units es)
 
--- the units that an undo of n takes off: the last n, of which there is one at least, or all
+-- the units that an undo of n takes off: the last n, at least one, or all where there are fewer
 abbrev pub last_units : ℕ → List Entry → List UndoUnit
 last_units n es = take (max n 1) (units es)
 
@@ -88,7 +88,7 @@ ends_in_begin [] = false
 ends_in_begin (e ∷ []) = is_begin e
 ends_in_begin (e ∷ (d ∷ ds)) = ends_in_begin (d ∷ ds)
 
--- the group that was opened last is closed: a Begin at the end is taken off, else an End is added
+-- the group that was opened last is closed: a Begin at the end is removed, else an End is added
 abbrev pub end_one : List Entry → List Entry
 end_one [] = End ∷ []
 end_one (e ∷ []) = if is_begin e then [] else e ∷ (End ∷ [])
@@ -99,7 +99,7 @@ abbrev pub end_times : ℕ → List Entry → List Entry
 end_times zero es = es
 end_times (suc n) es = end_times n (end_one es)
 
--- whether the entries have an End more once n groups are closed: a group that is not empty gets one
+-- whether the entries have one more End once n groups are closed: a group that is not empty gets one
 abbrev pub adds_end : ℕ → List Entry → Bool
 adds_end zero es = false
 adds_end (suc n) es = not (ends_in_begin es) || adds_end n (end_one es)
@@ -143,7 +143,7 @@ marks (e ∷ es) flags = option_and_then (marks es) (mark e flags)
 abbrev pub IsMatched : List Entry → Type 0
 IsMatched es = IsSome (marks es [])
 
--- so it is in both lists of a record
+-- this holds for both lists of a record
 pub record BothMatched (r : Record) : Type 0 where
   pub recorded : IsMatched r.recorded
   pub pending : IsMatched r.pending

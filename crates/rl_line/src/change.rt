@@ -20,8 +20,8 @@ use rl_base::places::{is_alphanumeric, is_word_cluster};
 use rl_base::{Gathered, Refusal};
 use std::alloc::Global;
 
-/// An entry of a record: the begin or the end of a group, or one change of a text: its cursors and its byte place, with what
-/// was put in, taken out, or taken out and put in. The cursors come first, so that they lie at one offset in each kind.
+/// An entry of a record: the begin or the end of a group, or one change of a text: its cursors, its byte place, and
+/// what was put in, taken out, or both. The cursors come first, so that they lie at the same offset in each kind.
 #[derive(Drop)]
 pub(crate) enum Change {
     Begin,
@@ -31,7 +31,7 @@ pub(crate) enum Change {
     Replace(Cursors, usize, Box<Texts>),
 }
 
-/// The text that a replacement took out, and the one that it put in. They are boxed, so that an entry is not longer for them.
+/// The text that a replacement took out, and the one that it put in. They are boxed, so that they make no entry longer.
 #[derive(Drop)]
 pub(crate) struct Texts {
     pub(crate) before: String,
@@ -41,19 +41,19 @@ pub(crate) struct Texts {
 /// The byte places of the cursor before a change and after it, where they were told.
 pub(crate) type Cursors = Option<(usize, usize)>;
 
-/// Whether the last change may be told its cursors yet.
+/// Whether the last change may still be told its cursors.
 #[derive(Clone, Copy)]
 pub(crate) enum Freshness {
     /// It may not.
     Stale,
     /// It was added.
     Added,
-    /// It was joined, and had its cursors, of which it keeps the one before it.
+    /// It was joined and had its cursors: it keeps the cursor before it.
     Joined(usize),
 }
 
 impl Freshness {
-    // That of a change that was joined, which loses its cursors, but keeps the one before it where they were told.
+    // The freshness of a joined change. It loses its cursors, but keeps the one before it where they were told.
     #[inline(always)]
     fn of_joined(cursors: &mut Cursors) -> Freshness
         ensures fresh { result ≡ freshness_joined cursors.old }
@@ -88,7 +88,7 @@ struct Growth {
 }
 
 impl Measure {
-    // How much a text has of it.
+    // The size of a text by this measure.
     fn of(self, text: &str) -> usize
         ensures { result ≡ size_of self text.now }
     {
@@ -98,8 +98,8 @@ impl Measure {
         }
     }
 
-    // The size of a text of size `size` once a part of it gave way to another, if a `usize` holds it. Inlined, so that what is
-    // measured is known when it is compiled.
+    // The size of a text of size `size` once a part of it is replaced by another, if a `usize` holds it. Inlined, so
+    // that the measure is known at compile time.
     #[inline(always)]
     fn size_over(self, size: usize, going: &str, coming: &str) -> Option<usize>
         ensures some { IfSome result (λ n. n ≡ (size - size_of self going.now) + size_of self coming.now) }
@@ -111,7 +111,7 @@ impl Measure {
 }
 
 impl Change {
-    /// Whether it is no mark of a group.
+    /// Whether it is a change, not a mark of a group.
     pub(crate) fn is_change(&self) -> bool
         ensures { result ≡ is_change (entry_of self.now) }
     {
@@ -146,7 +146,7 @@ impl Change {
         }
     }
 
-    /// The text at the place that goes on this way, and the one that comes. Inlined, so that the way is known when it is compiled.
+    /// The text that goes out at the place this way, and the one that comes in. Inlined: the compiler knows the way.
     #[inline(always)]
     pub(crate) fn texts(&self, way: Way) -> (&str, &str)
         ensures going { result.0.now ≡ new_text (faced way self.now) }
@@ -188,7 +188,7 @@ impl Change {
         }
     }
 
-    /// Tells a change its cursors. Inlined, with the test for what a letter is told, so that this costs typing no call.
+    /// Tells a change its cursors. Inlined, with the test for an insertion, so that typing a letter costs no call here.
     #[inline(always)]
     pub(crate) fn tell(&mut self, told: (usize, usize))
         ensures { entry_of self.new ≡ with_cursors told (entry_of self.old) }
@@ -237,8 +237,8 @@ impl Change {
     }
 }
 
-/// Goes over a change in a line's text and its table, which have room for what it makes of them. Answers where the cursor
-/// goes, which was at `cursor`.
+/// Goes over a change in a line's text and its table, which have room for the result. Answers where the cursor goes
+/// from `cursor`.
 pub(crate) fn go_over(
     text: &mut String,
     starts: &mut LineStarts,
@@ -271,7 +271,7 @@ pub(crate) fn go_over(
     }
 }
 
-// Goes over a change in a text that has room for what it makes of it.
+// Goes over a change in a text that has room for the result.
 fn go_over_in_text(text: &mut String, change: &Change, way: Way)
     requires fits { IsSome (apply (event_of (inverse (faced way change.now))) (string_bytes text.old)) }
     requires room { size_back Bytes (faced way change.now) (string_len text.old) ≤ string_capacity text.old }
@@ -302,7 +302,7 @@ fn stands_at(text: &str, at: usize, part: &str) -> bool
     &text[at..end] == part
 }
 
-/// The change that is gone over when so many are left with it: going back the last comes first, and going ahead the first.
+/// The change after which `left` are left to go over: going back the last comes first, and going ahead the first.
 #[inline(always)]
 pub(crate) fn nth_on(way: Way, changes: &[Change], left: usize) -> &Change
     requires { left < length changes.now }
@@ -314,8 +314,8 @@ pub(crate) fn nth_on(way: Way, changes: &[Change], left: usize) -> &Change
     }
 }
 
-/// Finds room in a line's text and its table for the longest of each on the way over the changes. Inlined, as `nth_on` is, so that
-/// the way is known when it is compiled.
+/// Finds room in a line's text and its table for the longest of each on the way over the changes. Inlined, as `nth_on`
+/// is, so that the way is known at compile time.
 #[inline(always)]
 pub(crate) fn find_room_over(
     text: &mut String,
@@ -336,8 +336,8 @@ pub(crate) fn find_room_over(
     find_room(text, starts, growth.bytes, growth.newlines)
 }
 
-// How much more than at first a text of so many bytes, and a table of so many newlines, have at most on the way over the
-// changes. Inlined, so that the way is known when it is compiled.
+// The most by which a text of `bytes` bytes, and a table of `newlines` newlines, grow on the way over the changes.
+// Inlined, so that the way is known at compile time.
 #[inline(always)]
 fn growth_over(
     changes: &[Change],
@@ -372,8 +372,8 @@ fn growth_over(
     })
 }
 
-/// The text once it went over the changes, or none where one of them does not fit, or, if `asks` says so, where a cursor that
-/// was told would not stand between two characters.
+/// The text after it went over the changes. None where one of them does not fit or, if `asks` says so, where a cursor
+/// that was told would not stand between two characters.
 pub(crate) fn text_over(
     alloc: Global,
     text: &str,

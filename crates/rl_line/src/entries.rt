@@ -1,5 +1,5 @@
-//! A list of entries, of which the first are recorded, and those after them were undone: what an event makes of it, and which
-//! of them an undo or a redo goes over. A function that records drops what was undone, and refused it leaves every entry.
+//! A list of entries: the first are recorded, and those after them were undone. What an event makes of it, and which
+//! entries an undo or a redo goes over. A function that records drops what was undone; refused, it leaves every entry.
 ghost use Rattle.std.specs.Prelude.{◌≡◌, ◌+◌, ◌^◌, ◌≤◌, ◌<◌, [], ◌∷◌, ◌++◌, encode_utf8, length, map, take, drop, true, false, None, IfOk, IfErr, IfSome, OnOk, OnErr};
 ghost use Rattle.std.specs.Option.{option_map};
 ghost use Rattle.std.specs.String.{string_bytes};
@@ -98,7 +98,7 @@ pub(crate) fn delete(
     Ok(Freshness::Added)
 }
 
-/// Records that a text gave way to another.
+/// Records that a text was replaced by another.
 #[tactic(auto, using(crate::proofs::JoinLemmas::alone_in_list), unfolding(crate::specs::Record::entries_of))]
 pub(crate) fn replace(
     entries: &mut Vec<Change>,
@@ -125,7 +125,7 @@ pub(crate) fn replace(
     Ok(Freshness::Added)
 }
 
-/// Tells the last recorded entry its cursors, where it may be told them yet.
+/// Tells the last recorded entry its cursors, where it may still be told them.
 #[inline(always)]
 pub(crate) fn tell(
     entries: &mut Vec<Change>,
@@ -149,7 +149,7 @@ pub(crate) fn tell(
     }
 }
 
-// Joins a character that was inserted to the last recorded entry, if it does. Answers what may be told of that then.
+// Joins an inserted character to the last recorded entry, if it does join. Answers that entry's freshness then.
 #[inline(always)]
 fn join_char(
     entries: &mut Vec<Change>,
@@ -167,7 +167,7 @@ fn join_char(
     entries[recorded - 1].join_char(idx, c)
 }
 
-// Joins a deletion to the last recorded entry, if it does. Answers what may be told of that then.
+// Joins a deletion to the last recorded entry, if it does join. Answers that entry's freshness then.
 fn join_deletion(
     entries: &mut Vec<Change>,
     recorded: usize,
@@ -184,7 +184,7 @@ fn join_deletion(
     entries[recorded - 1].join_deletion(idx, string)
 }
 
-// Joins a replacement to the last recorded entry, if it does. Answers what may be told of that then.
+// Joins a replacement to the last recorded entry, if it does join. Answers that entry's freshness then.
 fn join_replacement(
     entries: &mut Vec<Change>,
     recorded: usize,
@@ -202,8 +202,8 @@ fn join_replacement(
     entries[recorded - 1].join_replacement(idx, old, new)
 }
 
-/// Adds an entry to the recorded ones. Where it takes the place of one that was undone, there is room for it. Inlined, so that the
-/// entry is made where it is to stand.
+/// Adds an entry to the recorded ones. Where it replaces one that was undone, there is room for it. Inlined, so that
+/// the entry is built in place.
 #[inline(always)]
 pub(crate) fn add(entries: &mut Vec<Change>, recorded: usize, entry: Change) -> Result<(), Refusal>
     requires { recorded ≤ length entries.old.items }
@@ -242,7 +242,7 @@ pub(crate) fn first(entries: &[Change], len: usize) -> &[Change]
     &entries[..len.min(entries.len())]
 }
 
-/// How many groups are open after the entries, where none is before them.
+/// How many groups are open after the entries, where none is open before them.
 pub(crate) fn level(entries: &[Change]) -> usize
     requires { IsMatched (map entry_of entries.now) }
     ensures { result ≡ level (map entry_of entries.now) }
@@ -254,7 +254,7 @@ pub(crate) fn level(entries: &[Change]) -> usize
     level
 }
 
-// How many groups are open after an entry, where so many are before it.
+// How many groups are open after an entry, where `level` are open before it.
 fn level_after(entry: &Change, level: usize) -> usize
     requires { level < 2 ^ 63 }
     ensures level { result ≡ deep level (entry_of entry.now ∷ []) }
@@ -267,8 +267,8 @@ fn level_after(entry: &Change, level: usize) -> usize
     }
 }
 
-/// How many groups are open after the first `len` entries, all where there are fewer. It goes back to there from
-/// the last entry, after which `last` are open.
+/// How many groups are open after the first `len` entries, all where there are fewer. It counts back from the last
+/// entry, after which `last` are open.
 pub(crate) fn level_at(entries: &[Change], len: usize, last: usize) -> usize
     requires matched { IsMatched (map entry_of entries.now) }
     requires last { last ≡ level (map entry_of entries.now) }
@@ -287,7 +287,7 @@ pub(crate) fn level_at(entries: &[Change], len: usize, last: usize) -> usize
     level
 }
 
-/// Whether closing so many groups adds an End, as it does where one of them is not empty.
+/// Whether closing `count` groups adds an End: it does where one of them is not empty.
 pub(crate) fn adds_end(entries: &[Change], count: usize) -> bool
     ensures { result ≡ adds_end count (map entry_of entries.now) }
 {
@@ -306,7 +306,7 @@ pub(crate) fn adds_end(entries: &[Change], count: usize) -> bool
     false
 }
 
-/// Finds room for so many Ends, where one is to be added.
+/// Finds room for `count` Ends, where one is to be added.
 pub(crate) fn find_ends(entries: &mut Vec<Change>, adds: bool, count: usize) -> Result<(), Refusal>
     ensures items { entries.new.items ≡ entries.old.items }
     ensures room { OnOk result (adds ≡ true → vec_len entries.new + count ≤ vec_capacity entries.new) }
@@ -321,7 +321,7 @@ pub(crate) fn find_ends(entries: &mut Vec<Change>, adds: bool, count: usize) -> 
     }
 }
 
-/// Closes so many groups in a list that has room for as many Ends, if one is added.
+/// Closes `count` groups in a list that has room for as many Ends, if one is added.
 pub(crate) fn close_groups(entries: &mut Vec<Change>, count: usize)
     requires { adds_end count (map entry_of entries.old.items) ≡ true → vec_len entries.old + count ≤ vec_capacity entries.old }
     ensures { map entry_of entries.new.items ≡ end_times count (map entry_of entries.old.items) }
@@ -331,7 +331,7 @@ pub(crate) fn close_groups(entries: &mut Vec<Change>, count: usize)
     }
 }
 
-// Closes the group that was opened last: takes a Begin at the end off, or adds an End.
+// Closes the group that was opened last: removes a Begin at the end, or adds an End.
 fn close_last(entries: &mut Vec<Change>)
     requires { ends_in_begin (map entry_of entries.old.items) ≡ false → vec_len entries.old < vec_capacity entries.old }
     ensures entries { map entry_of entries.new.items ≡ end_one (map entry_of entries.old.items) }
@@ -358,7 +358,7 @@ fn ends_in_begin(entries: &[Change]) -> bool
     }
 }
 
-/// The change that the last `n` units are, or the last one where `n` is 0, if they are one change alone.
+/// The change that makes up the last `n` units, or the last unit where `n` is 0, if they are one change alone.
 #[inline(always)]
 pub(crate) fn last_alone(entries: &[Change], n: RepeatCount) -> Option<&Change>
     ensures { IfSome result (λ change. (is_change (entry_of change.now) ≡ true) × (last_of n (map entry_of entries.now) ≡ entry_of change.now ∷ [])) }
@@ -370,7 +370,7 @@ pub(crate) fn last_alone(entries: &[Change], n: RepeatCount) -> Option<&Change>
     if last.is_change() { Some(last) } else { None }
 }
 
-/// The change that the unit is which is redone next, of undone entries, if it is one change alone.
+/// The change that makes up the next unit to redo, of undone entries, if that unit is one change alone.
 #[inline(always)]
 pub(crate) fn next_alone(entries: &[Change]) -> Option<&Change>
     requires { IsMatched (map entry_of entries.now) }
@@ -414,7 +414,7 @@ pub(crate) fn last_len(entries: &[Change], n: RepeatCount) -> usize
     entries.len() - at
 }
 
-/// How many entries the unit has that is redone next, of undone entries.
+/// How many entries the next unit to redo has, of undone entries.
 pub(crate) fn next_len(entries: &[Change]) -> usize
     requires { IsMatched (map entry_of entries.now) }
     ensures { result ≡ length (redo_of (map entry_of entries.now)) }

@@ -53,7 +53,7 @@ const _: () = prove!(MAX_LINE == 4096);
 #[derive(Drop)]
 pub struct LineBuffer {
     buf: String,
-    // Where the lines of the text begin, but for the first.
+    // Where the lines of the text begin, except the first.
     starts: LineStarts,
     pos: usize,
     limit: usize,
@@ -80,7 +80,7 @@ impl fmt::Debug for LineBuffer {
 }
 
 impl LineBuffer {
-    /// An empty line of that limit, with room for as many bytes, that may not grow.
+    /// An empty line with that limit and room for as many bytes. It may not grow.
     pub fn with_capacity(alloc: Global, capacity: usize) -> Result<Self, Refusal>
         ensures ok { IfOk result (λ line. line ≡ record { text = []; cursor = 0; limit = capacity; grow = false }) }
         ensures err { IfErr result (λ r. (r ≡ NoMemory) × (0 < capacity)) }
@@ -97,7 +97,7 @@ impl LineBuffer {
         }
     }
 
-    /// The line, with leave to grow past its limit, or without.
+    /// The line, with or without leave to grow past its limit.
     pub fn can_growth(self, can_growth: bool) -> Self
         ensures { result ≡ record self { grow = can_growth } }
     {
@@ -206,8 +206,8 @@ impl LineBuffer {
         )
     }
 
-    // The same step with one character: finds room, reports, and then puts it in, which can't fail any more. Inlined, with all that
-    // a letter at the end goes through, so that typing is one function whose calls are for what comes seldom.
+    // The same step with one character: finds room, reports, and then puts it in, which can't fail any more. Inlined,
+    // with all that typing at the end goes through, so that this is one function that makes calls only for rare cases.
     #[inline(always)]
     #[tactic(auto, using(rl_base::proofs::EventLemmas::fitting))]
     fn put_char<L: ChangeListener>(
@@ -309,8 +309,8 @@ impl LineBuffer {
         Ok(())
     }
 
-    // Goes over one change alone, as `go_over_all` does over several. Inlined, so that undo and redo each know their way when they
-    // are compiled.
+    // Goes over one change alone, as `go_over_all` does over several. Inlined, so that undo and redo each know their
+    // way at compile time.
     #[inline(always)]
     pub(crate) fn go_over_one(&mut self, change: &Change, way: Way) -> Result<(), Refusal>
         requires change { is_change (entry_of change.now) ≡ true }
@@ -332,9 +332,9 @@ impl LineBuffer {
         Ok(())
     }
 
-    // Goes over the changes, the last first going back, the first first going ahead. It finds the room for the longest text and
-    // the longest table on the way before it changes anything. Inlined, so that undo and redo each know their way when they are
-    // compiled.
+    // Goes over the changes: going back, the last first; going ahead, the first first. It finds the room for the
+    // longest text and the longest table on the way before it changes anything. Inlined, so that undo and redo each
+    // know their way at compile time.
     #[inline(always)]
     pub(crate) fn go_over_all(&mut self, changes: &[Change], way: Way) -> Result<(), Refusal>
         requires { IsSome (line_back (map (faced way) (order way changes.now)) self.old) }

@@ -1,4 +1,4 @@
-//! The table of a line's text: the places right after its newlines, in order, where its lines begin but for the first.
+//! The table of a line's text: the places right after its newlines, in order, where its lines begin except the first.
 ghost use Rattle.std.specs.Prelude.{◌≡◌, ℕ, [], ◌+◌, ◌-◌, ◌^◌, ◌<◌, ◌≤◌, ◌++◌, ◌==◌, ◌&&◌, nat_le, All, map, take, drop, get_or, length, count_by, encode_utf8, slice_range, vec_len, vec_capacity};
 ghost use Rattle.std.specs.List.{replace_range};
 ghost use Rattle.std.specs.Str.{IsCharBoundary};
@@ -8,16 +8,16 @@ ghost use Rattle.rl_line.specs.LineStarts.{after_newlines, line_starts, from_end
 use memchr::memchr_iter;
 use std::alloc::Global;
 
-/// Where the lines of a text begin, but for the first. The starts before the border count from the start of the text, those
-/// from it on from its end: so a change at the border leaves all of them as they are.
+/// Where the lines of a text begin, except the first. The starts before the border are counted from the text's start,
+/// those from the border on from the text's end: so a change at the border leaves all of them as they are.
 #[derive(Drop)]
 pub(crate) struct LineStarts {
     pub(crate) places: Vec<usize>,
     pub(crate) border: usize,
 }
 
-/// How many newlines a text has. They are counted in stretches so short that a byte holds each count, which the compiler makes
-/// vectors of bytes of.
+/// How many newlines a text has. They are counted in stretches so short that a byte holds each count: the compiler
+/// makes vectors of bytes of this.
 pub(crate) fn newlines(text: &str) -> usize
     ensures { result ≡ count_by is_newline text.now }
 {
@@ -64,7 +64,7 @@ impl LineStarts {
         }
     }
 
-    /// The start with a number, from 0, in the table of a text.
+    /// The start numbered `k`, from 0, in the table of a text.
     #[inline(always)]
     pub(crate) fn start(&self, text: &str, k: usize) -> usize
         requires table { IsTable self.now.places.items self.now.border text.now }
@@ -77,8 +77,8 @@ impl LineStarts {
         text.len() - self.places[k]
     }
 
-    /// The number of the line that a place lies in, from 0, by binary search in the part of the table that has it. It stays a call,
-    /// so that the searches of one motion go over the same branches, which the processor then foresees.
+    /// The number of the line that a place lies in, from 0, by binary search in the part of the table that has it. Not
+    /// inlined, so that the searches of one motion go over the same branches, which the processor then predicts.
     #[inline(never)]
     pub(crate) fn line_number(&self, text: &str, pos: usize) -> usize
         requires table { IsTable self.now.places.items self.now.border text.now }
@@ -93,7 +93,7 @@ impl LineStarts {
         self.places[..border].partition_point(|start| *start <= pos)
     }
 
-    /// How many newlines more than a range of the text a part has that has so many.
+    /// How many more newlines a part with `come` newlines has than a range of the text.
     pub(crate) fn more_than(&self, text: &str, from: usize, to: usize, come: usize) -> usize
         requires table { IsTable self.now.places.items self.now.border text.now }
         requires order { from ≤ to }
@@ -107,8 +107,8 @@ impl LineStarts {
         come.saturating_sub(gone)
     }
 
-    /// Whether the table stays as it is where a range gives way to a part that has so many newlines: none comes, none goes, and
-    /// the border is there.
+    /// Whether the table stays as it is where a range is replaced by a part with `come` newlines: none comes, none
+    /// goes, and the border is there.
     #[inline(always)]
     pub(crate) fn stays(&self, text: &str, from: usize, to: usize, come: usize) -> bool
         requires table { IsTable self.now.places.items self.now.border text.now }
@@ -145,7 +145,7 @@ impl LineStarts {
         pos < self.start(text, self.border)
     }
 
-    // Moves the border. The starts that it passes are counted from the other end then.
+    // Moves the border. The starts that it passes are then counted from the other end.
     fn move_border(&mut self, text: &str, border: usize)
         requires table { IsTable self.old.places.items self.old.border text.now }
         requires within { border ≤ vec_len self.old.places }
@@ -164,7 +164,7 @@ impl LineStarts {
     }
 }
 
-// Counts places of a text of a length from its other end.
+// Counts places of a text of length `len` from its other end.
 fn turn(places: &mut [usize], len: usize)
     requires { All (λ place. place ≤ len) places.old }
     ensures { places.new ≡ map (from_end len) places.old }
@@ -174,8 +174,8 @@ fn turn(places: &mut [usize], len: usize)
     }
 }
 
-/// Keeps the table of a text while a range of it gives way to a part that has so many newlines. It has room for what this makes of
-/// it.
+/// Updates the table of a text for the replacement of a range by a part with `come` newlines. The table has room for
+/// the result.
 #[inline(always)]
 pub(crate) fn swap_starts(
     starts: &mut LineStarts,
@@ -232,7 +232,7 @@ pub(crate) fn exchange_starts(
     starts.border = first + come;
 }
 
-// Makes room for `come` places in place of `gone` from a number on. What is left between is open. One more or less, as for a
+// Replaces `gone` places from index `at` on by `come` places, whose values are left open. One more or less, as for a
 // newline that is typed or taken out, goes by the calls that move memory.
 fn open_gap(places: &mut Vec<usize>, at: usize, gone: usize, come: usize)
     requires within { at + gone ≤ vec_len places.old }

@@ -1,7 +1,7 @@
 //! The steps of an edit over the parts of a line that has room for them: each reports its event, and then changes text, table and
 //! cursor, which can't fail any more. So an edit of several steps finds room for all of them before it takes the first, and then
-//! only its listener can refuse one. A line's capacity is no part of its value, and no method could hand it on to the next: hence
-//! these are functions over the parts.
+//! only its listener can refuse one. A line's capacity is no part of its value, so no method could promise it to the
+//! next: hence these are functions over the parts.
 ghost use Rattle.std.specs.Prelude.{◌≡◌, ◌+◌, ◌-◌, ◌≤◌, Bool, max, List, [], ◌∷◌, count_by, length, slice_range, vec_len, vec_capacity, IfErr, OnOk, OnErr};
 ghost use Rattle.std.specs.String.{string_bytes, string_len, string_capacity};
 ghost use Rattle.std.specs.List.{insert_slice, remove_range, replace_range};
@@ -18,7 +18,7 @@ use crate::swap::swap_in;
 use rl_base::{ChangeListener, DeleteListener, Direction, Refusal};
 use std::ops::Range;
 
-/// One step: puts a text in that has so many newlines, and leaves the cursor at a place.
+/// One step: puts in a text with `come` newlines, and leaves the cursor at a place.
 #[inline(always)]
 pub(crate) fn insertion_step<L: ChangeListener>(
     text: &mut String,
@@ -92,8 +92,8 @@ pub(crate) fn deletion_step<L: DeleteListener>(
     Ok(())
 }
 
-/// Two steps: takes a range out, which leaves the cursor at `between`, and puts a text in at its place that has so
-/// many newlines.
+/// Two steps: takes a range out, which leaves the cursor at `between`, and puts a text with `come` newlines in at its
+/// place.
 pub(crate) fn exchange_steps<L: ChangeListener>(
     text: &mut String,
     starts: &mut LineStarts,

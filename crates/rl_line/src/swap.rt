@@ -1,4 +1,4 @@
-//! The one way in which a text changes, and the table of a line's text with it: a range gives way to a part.
+//! The one way in which a text changes, and the table of a line's text with it: a range is replaced by a part.
 ghost use Rattle.std.specs.Prelude.{◌≡◌, ◌+◌, ◌-◌, ◌<◌, ◌≤◌, ◌++◌, encode_utf8, count_by, length, slice_range, take, vec_len, vec_capacity, IfErr, IfOk, OnOk};
 ghost use Rattle.std.specs.String.{string_bytes, string_len, string_capacity};
 ghost use Rattle.std.specs.List.{insert_slice, replace_range};
@@ -15,7 +15,7 @@ use rl_base::Refusal;
 use std::alloc::Global;
 use std::mem;
 
-/// Finds room in a text and in its table for so many bytes and newlines more. Inlined, so that what is there costs no call.
+/// Finds room in a text and in its table for so many more bytes and newlines. Inlined: room there costs no call.
 #[inline(always)]
 pub(crate) fn find_room(
     text: &mut String,
@@ -72,8 +72,8 @@ pub(crate) fn find_room_instead(
     Ok(come)
 }
 
-/// Replaces a range by a part that has so many newlines, in a line's text and in its table, which have room for what
-/// this makes of them: an insertion where the range is empty, a deletion where the part is. Answers the part's end.
+/// Replaces a range by a part with `come` newlines, in a line's text and in its table, which have room for the result:
+/// an insertion where the range is empty, a deletion where the part is. Answers the part's end.
 pub(crate) fn swap_in(
     text: &mut String,
     starts: &mut LineStarts,
@@ -103,8 +103,8 @@ pub(crate) fn swap_in(
     from + part.len()
 }
 
-/// Puts a character in at a place, as `swap_in` does. Where the table's border is there, any but a newline is neither encoded
-/// nor counted, and at the end it costs no call.
+/// Puts a character in at a place, as `swap_in` does. Where the table's border is there, a character other than a
+/// newline is neither encoded nor counted, and at the end it costs no call.
 #[inline(always)]
 pub(crate) fn swap_in_char(text: &mut String, starts: &mut LineStarts, at: usize, c: char)
     requires place { IsCharBoundary (string_bytes text.old) at }
@@ -123,7 +123,7 @@ pub(crate) fn swap_in_char(text: &mut String, starts: &mut LineStarts, at: usize
     swap_in_encoded(text, starts, at, c);
 }
 
-// The same of a character whose bytes are made, for the table. Cold, since mostly no newline is typed, at the last change's place.
+// The same with the character encoded, for the table. Cold: mostly no newline is typed, and at the last change's place.
 #[cold]
 #[inline(never)]
 fn swap_in_encoded(text: &mut String, starts: &mut LineStarts, at: usize, c: char)
@@ -147,7 +147,7 @@ fn swap_in_encoded(text: &mut String, starts: &mut LineStarts, at: usize, c: cha
     put_char_in(text, at, c);
 }
 
-/// Replaces a range by a part, in a text that has room for what this makes of it.
+/// Replaces a range by a part, in a text that has room for the result.
 pub(crate) fn swap_text(text: &mut String, from: usize, to: usize, part: &str)
     requires order { from ≤ to }
     requires start { IsCharBoundary (string_bytes text.old) from }
@@ -195,7 +195,7 @@ fn append(text: &mut String, part: &str)
     }
 }
 
-// As `swap_text` does, where something stands after the range: what does moves once, as bytes.
+// As `swap_text`, where something stands after the range: that moves once, as bytes.
 fn swap_within(text: &mut String, from: usize, to: usize, part: &str)
     requires order { from ≤ to }
     requires start { IsCharBoundary (string_bytes text.old) from }
@@ -229,8 +229,8 @@ fn put_char_in(text: &mut String, at: usize, c: char)
     put_char_before(text, at, c);
 }
 
-// Puts a character in before what stands at a place. `insert` moves what stands there by `memmove` for one of a single byte
-// alone. Cold, since most is typed at the end.
+// Puts a character in before what stands at a place. `insert` moves that by `memmove` only for a character of a single
+// byte. Cold, since most is typed at the end.
 #[cold]
 #[inline(never)]
 fn put_char_before(text: &mut String, at: usize, c: char)

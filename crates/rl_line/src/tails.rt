@@ -3,7 +3,7 @@
 ghost use Rattle.std.specs.Prelude.{◌≡◌, ◌+◌, ◌-◌, ◌≤◌, length, take, vec_len, vec_capacity};
 ghost use Rattle.std.specs.List.{copy_within, replace_range};
 
-// Moves a tail by a distance as `$by` does, which gets it as a constant where it is one of those listed; else by `$other`.
+// Moves a tail by a distance: by `$by` with a constant where the distance is one of those listed, else by `$other`.
 macro_rules! move_tail {
     ($tail:ident, $distance:ident, $by:ident, $other:expr; $($constant:literal)*) => {
         match $distance {
@@ -14,8 +14,8 @@ macro_rules! move_tail {
     };
 }
 
-// By a constant, and in a function of its own, LLVM makes `memmove` of it. Inlined, or by a distance that is known when it
-// runs, it stays a loop of 16 bytes a step.
+// With a constant distance and in a function of its own, LLVM turns this into `memmove`. Inlined, or with a distance
+// known only at run time, it stays a loop of 16 bytes a step.
 #[inline(never)]
 fn down_by<const K: usize>(tail: &mut [u8])
     requires { K ≤ length tail.old }
@@ -33,7 +33,7 @@ fn up_by<const K: usize>(tail: &mut [u8])
     tail.copy_within(..end, K);
 }
 
-// Moves all but so many bytes of the slice down, to its start.
+// Moves all bytes of the slice except the first `by` down, to its start.
 fn move_down(tail: &mut [u8], by: usize)
     requires { by ≤ length tail.old }
     ensures { tail.new ≡ copy_within tail.old by (length tail.old) 0 }
@@ -41,7 +41,7 @@ fn move_down(tail: &mut [u8], by: usize)
     move_tail!(tail, by, down_by, tail.copy_within(by.., 0); 1 2 3 4 5 6 7 8 9 10 11 12 13 14 15 16)
 }
 
-// Moves all but so many bytes of the slice up, to its end.
+// Moves all bytes of the slice except the last `by` up, to its end.
 fn move_up(tail: &mut [u8], by: usize)
     requires { by ≤ length tail.old }
     ensures { tail.new ≡ copy_within tail.old 0 (length tail.old - by) by }
@@ -50,7 +50,7 @@ fn move_up(tail: &mut [u8], by: usize)
     move_tail!(tail, by, up_by, tail.copy_within(..end, by); 1 2 3 4 5 6 7 8 9 10 11 12 13 14 15 16)
 }
 
-/// Replaces a range by a part, in a list of bytes that has room for what this makes of it.
+/// Replaces a range by a part, in a list of bytes that has room for the result.
 pub(crate) fn swap_bytes(text: &mut Vec<u8>, from: usize, to: usize, part: &[u8])
     requires order { from ≤ to }
     requires within { to ≤ vec_len text.old }
@@ -66,7 +66,7 @@ pub(crate) fn swap_bytes(text: &mut Vec<u8>, from: usize, to: usize, part: &[u8]
     }
 }
 
-// Replaces a range that is longer than the part by so much.
+// Replaces a range that is `less` bytes longer than the part.
 fn shrink(text: &mut Vec<u8>, from: usize, less: usize, part: &[u8])
     requires within { from + length part.now + less ≤ vec_len text.old }
     ensures items { text.new.items ≡ replace_range text.old.items from (from + length part.now + less) part.now }
@@ -77,7 +77,7 @@ fn shrink(text: &mut Vec<u8>, from: usize, less: usize, part: &[u8])
     text.truncate(len);
 }
 
-// The same, but that at the end so many bytes are left over.
+// The same, but leaves `less` bytes over at the end.
 fn close_up(all: &mut [u8], from: usize, less: usize, part: &[u8])
     requires within { from + length part.now + less ≤ length all.old }
     ensures { take (length all.old - less) all.new ≡ replace_range all.old from (from + length part.now + less) part.now }
@@ -87,7 +87,7 @@ fn close_up(all: &mut [u8], from: usize, less: usize, part: &[u8])
     move_down(&mut all[end..], less);
 }
 
-// Replaces a range of so many bytes, which is shorter than the part.
+// Replaces a range of `going` bytes, which is shorter than the part.
 fn grow(text: &mut Vec<u8>, from: usize, going: usize, part: &[u8])
     requires within { from + going ≤ vec_len text.old }
     requires longer { going ≤ length part.now }
@@ -102,7 +102,7 @@ fn grow(text: &mut Vec<u8>, from: usize, going: usize, part: &[u8])
     open_up(text.as_mut_slice(), from, going, part);
 }
 
-// The same, where as many bytes as the part has more stand at the end, to give way.
+// The same in a slice that ends with bytes to spare, as many as the part is longer by.
 fn open_up(all: &mut [u8], from: usize, going: usize, part: &[u8])
     requires longer { going ≤ length part.now }
     requires within { from + length part.now ≤ length all.old }

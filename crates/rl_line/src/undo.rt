@@ -26,15 +26,15 @@ use std::marker::Model;
 /// Every call that records a change, also an empty one, and every `begin`, `end` and `truncate` drops what was
 /// undone; the start and the stop of a kill and the telling of cursors do not.
 ///
-/// With a change it keeps the cursor before it and after it, if it is told them right after the change; a change that
-/// joins another keeps the first cursor before and the last one after.
+/// With a change it keeps the cursor before it and after it, if it is told them right after the change. Where changes
+/// join, it keeps the first cursor before and the last one after.
 #[derive(Drop)]
 pub struct Changeset {
     // What is recorded, and after it what was undone, the entry that is redone next first: an undo and a redo move no entry.
     entries: Vec<Change>,
     // How many of them are recorded.
     recorded: usize,
-    // Whether the last recorded change may be told its cursors yet.
+    // Whether the last recorded change may still be told its cursors.
     fresh: Freshness,
     // How many groups are open, so that no call has to count them over the whole record.
     level: usize,
@@ -81,7 +81,7 @@ impl Changeset {
         self.level
     }
 
-    /// Opens a group, whose changes are undone and redone at once when it is closed. Answers how many entries
+    /// Opens a group, whose changes are undone and redone together once it is closed. Answers how many entries
     /// stand before it, a mark that `truncate` takes.
     pub fn begin(&mut self) -> Result<usize, Refusal>
         ensures done { IfOk result (λ answer. (answer ≡ length self.old.recorded) × (self.new ≡ begun self.old)) }
@@ -95,8 +95,8 @@ impl Changeset {
         Ok(before)
     }
 
-    /// Closes every open group, the last one first: one that is empty leaves the record. Answers whether there
-    /// was one that holds something.
+    /// Closes every open group, the last one first; an empty one is removed from the record. Answers whether one
+    /// of them holds something.
     pub fn end(&mut self) -> Result<bool, Refusal>
         ensures done { IfOk result (λ answer. (answer ≡ adds_end (level self.old.recorded) self.old.recorded) × (self.new ≡ ended self.old)) }
         ensures err { IfErr result (λ r. (r ≡ NoMemory) × (self.new ≡ self.old) × (adds_end (level self.old.recorded) self.old.recorded ≡ true)) }
@@ -112,7 +112,7 @@ impl Changeset {
     }
 
     /// Records that `c` was inserted at the byte place `idx`: an alphanumeric character joins the last entry, where
-    /// that is an insertion that ends there. Refused, as every call that records, it changes nothing.
+    /// that is an insertion that ends there. Refused, it changes nothing, like every call that records.
     #[inline(always)]
     pub fn insert(&mut self, idx: usize, c: char) -> Result<(), Refusal>
         ensures done { OnOk result (self.new ≡ record_step self.old (InsertChar idx c)) }
@@ -145,7 +145,7 @@ impl Changeset {
         Ok(())
     }
 
-    /// Records that `old`, which stood at the byte place `idx`, gave way to `new`: it joins the last entry, where
+    /// Records that `old`, which stood at the byte place `idx`, was replaced by `new`: it joins the last entry, where
     /// that is a replacement that ends there.
     pub fn replace(&mut self, idx: usize, old: &str, new: &str) -> Result<(), Refusal>
         ensures done { OnOk result (self.new ≡ record_step self.old (Replace idx old.now new.now)) }
@@ -352,7 +352,7 @@ impl ChangeListener for Changeset {
     }
 }
 
-/// Entries that lead from one text to another are unwound from that back to the first, and the other way.
+/// Where entries lead from one text to another, unwinding them leads back from that to the first, and conversely.
 pub fn unwinding_is_replaying()
     ensures unwound { (es : List Entry) (before after : List ℕ) → IsUtf8 before → replay_entries es before ≡ Some after → unwind es after ≡ Some before }
     ensures replayed { (es : List Entry) (before after : List ℕ) → IsUtf8 after → unwind es after ≡ Some before → replay_entries es before ≡ Some after }
@@ -381,8 +381,8 @@ pub fn ends_close_groups()
     ensures { (xs ys : List Entry) → IsMatched (xs ++ End ∷ ys) → GroupAt xs }
 {}
 
-/// A group that was opened where none is open, and in which no change was recorded, leaves what was recorded
-/// before its begin, and its end adds nothing.
+/// Ending a group that was opened where none was open, and in which no change was recorded, restores what was
+/// recorded before its begin, and adds nothing.
 pub fn empty_group_leaves_the_record()
     ensures recorded { (r : Record) (steps : List InGroup) → level r.recorded ≡ 0
         → has_change (drop (suc (length r.recorded)) (after_in_group steps (begun r)).recorded) ≡ false
@@ -392,7 +392,7 @@ pub fn empty_group_leaves_the_record()
         → adds_end (level (after_in_group steps (begun r)).recorded) (after_in_group steps (begun r)).recorded ≡ false }
 {}
 
-/// As many redos as an undo took units give back the text, what was recorded and what was undone before, unless
+/// One redo for each unit that an undo took gives back the text, what was recorded and what was undone before, unless
 /// the undo took the begin of an open group.
 pub fn redos_of_a_line_give_back()
     ensures { (n : ℕ) (r mid now : Record) (line back ahead : Line) (answer : Bool) → IsUtf8 line.text → BothMatched r

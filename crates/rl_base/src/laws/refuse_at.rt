@@ -1,4 +1,4 @@
-//! A listener for tests, which hears so many changes and refuses the next.
+//! A listener for tests, which hears a given number of changes and refuses the next.
 ghost use Rattle.std.specs.Prelude.{◌≡◌, OnOk, IfOk, IfErr};
 ghost use Rattle.std.specs.String.{string_bytes};
 ghost use Rattle.rl_base.specs.RefuseAt.{Refuses, event_of, listed, new_hearing};
@@ -20,12 +20,12 @@ pub enum TextEvent {
     Replace(usize, String, String),
 }
 
-/// A listener for tests of what stands on a line: it hears so many changes, lists them, and refuses the next with
-/// `Refusal::Listener`. Where its list finds no memory it refuses with `Refusal::NoMemory`. A refusal leaves it as
-/// it was; the start and the stop of a kill it counts and never refuses.
+/// A listener for tests of code that uses a line: it hears a given number of changes, lists them, and refuses the next
+/// with `Refusal::Listener`. Where its list finds no memory it refuses with `Refusal::NoMemory`. A refusal leaves it as
+/// it was. It counts the start and the stop of a kill, and never refuses them.
 #[derive(Drop)]
 pub struct RefuseAt {
-    /// How many changes it will hear yet.
+    /// How many more changes it will hear.
     pub left: usize,
     /// The changes that it heard, the first one first.
     pub seen: Vec<TextEvent>,
@@ -57,7 +57,7 @@ impl RefuseAt {
         }
     }
 
-    // Lists one change more, if it will hear one yet.
+    // Lists one more change, if it will still hear one.
     fn list(&mut self, event: TextEvent) -> Result<(), Refusal>
         ensures ok { OnOk result (self.new ≡ listed (event_of event) self.old) }
         ensures err { IfErr result (λ r. Refuses self.old.left r × (self.new ≡ self.old)) }
@@ -72,7 +72,7 @@ impl RefuseAt {
         Ok(())
     }
 
-    // A text of its own for its list, if it will hear one change yet.
+    // A copy of a text for its list, if it will still hear a change.
     fn copied(&self, text: &str) -> Result<String, Refusal>
         ensures ok { IfOk result (λ copy. string_bytes copy ≡ text.now) }
         ensures err { IfErr result (Refuses self.now.left) }

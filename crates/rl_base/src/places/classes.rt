@@ -33,7 +33,7 @@ pub fn is_alphanumeric(c: char) -> bool
     is_in_tables(c)
 }
 
-// The same by the tables of Unicode, whose search stays out of what asks for ASCII.
+// The same by the tables of Unicode. Not inlined, so that the ASCII case does not carry their search.
 #[inline(never)]
 fn is_in_tables(c: char) -> bool
     ensures { result ≡ is_alphanumeric c }
@@ -65,7 +65,7 @@ fn has_blank(cluster: &str) -> bool
     }
 }
 
-// Stays out of what calls `has_blank`, or a cluster of one ASCII character would be slower for it.
+// Not inlined into callers of `has_blank`, or a cluster of one ASCII character would be slower.
 #[inline(never)]
 fn any_blank(cluster: &str) -> bool
     ensures { result ≡ has_blank cluster.now }
@@ -98,7 +98,7 @@ pub fn is_word_cluster(text: &str) -> bool
     is_one_cluster(text) && all_alphanumeric(text)
 }
 
-// A text of one byte is one without being cut.
+// A text of one byte is one cluster: it need not be cut.
 fn is_one_cluster(text: &str) -> bool
     ensures { result ≡ (length (clusters text.now) == 1) }
 {

@@ -67,7 +67,7 @@ fn nth_hit(text: &str, start: usize, wanted: char, n: RepeatCount) -> Option<usi
     hit
 }
 
-/// The same before `end`, from there back.
+/// The same for the hits before `end`, counted from there back.
 fn nth_hit_back(text: &str, end: usize, wanted: char, n: RepeatCount) -> Option<usize>
     requires { IsCharBoundary text.now end }
     ensures { result ≡ nth_or_last n (reverse (hits wanted 0 (take end text.now))) }
@@ -86,7 +86,7 @@ fn nth_hit_back(text: &str, end: usize, wanted: char, n: RepeatCount) -> Option<
     hit
 }
 
-/// The place of the last character before `end`, where `start` stands before it.
+/// The place of the last character before `end`, where `start` is before `end`.
 fn char_before(text: &str, start: usize, end: usize) -> usize
     requires some { start < end }
     requires start { IsCharBoundary text.now start }

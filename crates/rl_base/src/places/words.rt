@@ -91,7 +91,7 @@ fn next_stop(text: &str, at: At, word: Word, n: RepeatCount) -> Option<usize>
     last_stop(text, at, word, n)
 }
 
-/// The clusters that a motion looks at: one to the last cluster of a word leaves out the first.
+/// The clusters that a motion looks at: a motion to a word's last cluster skips the first one.
 fn looked_at(text: &str, at: At) -> GraphemeIndices<'_>
     ensures { grapheme_indices_left result ≡ looked_at at (placed_clusters text.now) }
 {
@@ -102,7 +102,7 @@ fn looked_at(text: &str, at: At) -> GraphemeIndices<'_>
     clusters
 }
 
-/// Where a motion ends that finds fewer stops than were asked for.
+/// Where a motion ends if it finds fewer stops than were asked for.
 fn last_stop(text: &str, at: At, word: Word, n: RepeatCount) -> Option<usize>
     ensures value { result ≡ last_stop at word n text.now }
     ensures boundary { IfSome result (IsCharBoundary text.now) }

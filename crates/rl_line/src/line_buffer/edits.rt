@@ -103,15 +103,15 @@ impl LineBuffer {
         ensures done { IfOk result (λ answer. Done L.step (insert_plan self.old c n) self.old self.new listener.old listener.new answer) }
         ensures halted { IfErr result (λ r. Halted L.step (or_no_memory L.refused) (insert_plan self.old c n) self.old self.new listener.old listener.new r) }
     {
-        // An ASCII character is what is typed most: that it is one byte is known here when this is compiled.
+        // Mostly an ASCII character is typed: here the compiler knows that it is one byte.
         if n == 1 && c.is_ascii() {
             return self.insert_here(c, n, listener);
         }
         self.insert_apart(c, n, listener)
     }
 
-    // Stays out of `insert`, or a letter would be slower for it. Cold, as all that a letter at the end does not come to, so that the
-    // compiler takes that for the common way.
+    // Not inlined into `insert`, or a letter would be slower. Cold, as is all that a letter at the end does not reach,
+    // so that the compiler takes the letter's path for the common one.
     #[cold]
     #[inline(never)]
     fn insert_apart<L: ChangeListener>(
@@ -184,8 +184,8 @@ impl LineBuffer {
         self.yank(text, 1, listener)
     }
 
-    // Two steps: a range is taken out, which leaves the cursor at `between`, and then a text is put in at its place. Room for it
-    // comes first.
+    // Two steps: a range is taken out, which leaves the cursor at `between`, and then a text is put in at its place. It
+    // finds room for the text first.
     pub(super) fn exchange<L: ChangeListener>(
         &mut self,
         range: Range<usize>,

@@ -13,12 +13,12 @@ use std::ops::Range;
 const SPACES: &str = "                                ";
 
 impl LineBuffer {
-    /// Indents each line that holds a byte of what a movement covers by `amount` spaces, which go in at its
-    /// start, at most 32 at once; or, with `dedent`, takes up to `amount` bytes of its leading blanks out, up
-    /// to a character's end (vi's `>` and `<`). By a movement within a line, or one that covers nothing, it is
-    /// the cursor's line. A cursor at the start of a line or after goes with the text, to that start at
-    /// least. Answers true. Refused, it leaves the line after the steps that it took. A dedent takes no memory: it is
-    /// refused only where its listener refuses.
+    /// Indents each line that holds a byte of what a movement covers by `amount` spaces, put in at its start, at
+    /// most 32 at once. With `dedent` it instead takes out up to `amount` bytes of the line's leading blanks, up
+    /// to a character's end (vi's `>` and `<`). For a movement within a line, or one that covers nothing, it
+    /// takes the cursor's line. A cursor at the start of a line or after it moves with the text, to that start
+    /// at least. Answers true. Refused, it leaves the line as it is after the steps that it took. A dedent takes
+    /// no memory: it is refused only where its listener refuses.
     pub fn indent<L: ChangeListener>(
         &mut self,
         mvt: &Movement,

@@ -82,11 +82,11 @@ impl LineBuffer {
         }
     }
 
-    /// Kills by a movement: deletes what it covers. Where that is nothing, the whole line and its end kill
-    /// the line's newline, and its beginning kills the cluster before it. To the first print place nothing is
-    /// killed. Answers whether there was something. The listener hears the start of a kill first and its end
-    /// last, also where nothing was killed or it refused; but by `BackwardChar` and `ForwardChar` it hears of
-    /// the deletion alone. It takes no memory; where its listener refuses, the line stays as it was.
+    /// Kills by a movement: deletes what it covers. Where that is nothing, `WholeLine` and `EndOfLine` kill the
+    /// line's newline, and `BeginningOfLine` kills the cluster before the line. `ViFirstPrint` kills nothing.
+    /// Answers whether something was killed. The listener hears the start of a kill first and its end last, also
+    /// where nothing was killed or it refused. With `BackwardChar` and `ForwardChar` it hears of the deletion
+    /// alone. It takes no memory; where its listener refuses, the line stays as it was.
     pub fn kill<L: DeleteListener>(
         &mut self,
         mvt: &Movement,
@@ -128,7 +128,7 @@ impl LineBuffer {
         self.delete_by(&Movement::EndOfLine, listener)
     }
 
-    /// Deletes from the cursor to the end of the text. Answers whether the cursor was before that. It takes
+    /// Deletes from the cursor to the end of the text. Answers whether the cursor was before the end. It takes
     /// no memory; where its listener refuses, the line stays as it was.
     pub fn kill_buffer<L: DeleteListener>(&mut self, listener: &mut L) -> Result<bool, Refusal>
         ensures done { IfOk result (λ answer. Done L.step (kill_plan self.old EndOfBuffer) self.old self.new listener.old listener.new answer) }
@@ -147,7 +147,7 @@ impl LineBuffer {
         self.delete_by(&Movement::BeginningOfLine, listener)
     }
 
-    /// Deletes from the start of the text to the cursor. Answers whether the cursor was past that. It takes
+    /// Deletes from the start of the text to the cursor. Answers whether the cursor was past the start. It takes
     /// no memory; where its listener refuses, the line stays as it was.
     pub fn discard_buffer<L: DeleteListener>(&mut self, listener: &mut L) -> Result<bool, Refusal>
         ensures done { IfOk result (λ answer. Done L.step (kill_plan self.old BeginningOfBuffer) self.old self.new listener.old listener.new answer) }
@@ -231,8 +231,8 @@ fn is_by_characters(mvt: &Movement) -> bool
     matches!(mvt, Movement::BackwardChar(_) | Movement::ForwardChar(_))
 }
 
-/// By every movement that kills exactly what it copies, that is all but those to the ends of a line, over
-/// it, and to the first print place, a kill answers true exactly where there is something to copy, and then
+/// All movements kill exactly what they copy, except those to the ends of a line, over it, and to the first
+/// print place. By one that does, a kill answers true exactly where there is something to copy, and then
 /// reports that text and nothing else.
 pub fn kill_agrees_with_copy()
     ensures answer { (line : Line) (mvt : Movement) → is_exact mvt ≡ true → ((kill_plan line mvt).answer ≡ true) ↔ IsSome (copied line mvt) }

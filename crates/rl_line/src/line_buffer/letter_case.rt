@@ -14,10 +14,10 @@ use std::alloc::{AllocError, Global};
 use std::ops::Range;
 
 impl LineBuffer {
-    /// Edits the letters of the Emacs word at the cursor or ahead, from its first cluster at the cursor or
-    /// ahead on (GNU readline: capitalize-word, downcase-word, upcase-word), and moves the cursor past it.
-    /// Answers whether there is one. Where it finds no memory, it leaves the line as it was; where its
-    /// listener refuses, as it was or without the word.
+    /// Edits the letters of the Emacs word at the cursor or ahead, but none before the cursor (GNU readline:
+    /// capitalize-word, downcase-word, upcase-word), and moves the cursor past it.
+    /// Answers whether there is one. Where it finds no memory, it leaves the line as it was. Where its
+    /// listener refuses, it leaves the line as it was or without the word.
     pub fn edit_word<L: ChangeListener>(
         &mut self,
         action: WordAction,

@@ -28,7 +28,7 @@ impl LineBuffer {
         self.move_elsewhere(end)
     }
 
-    /// Moves up by `n` lines, at least one, or to the first, to the cluster with the number of the cursor's
+    /// Moves up by `n` lines, at least one, or to the first line: to the cluster whose number is the cursor's
     /// column, or to the line's end (GNU readline: previous-screen-line). The layout counts the columns, and
     /// says how far its prompt pushes the first line. Answers whether there is a line above.
     pub fn move_to_line_up(&mut self, n: RepeatCount, layout: &Layout) -> bool
@@ -38,7 +38,7 @@ impl LineBuffer {
         self.move_to_place(place)
     }
 
-    /// Moves down by `n` lines, at least one, or to the last, to the cluster with the number of the cursor's
+    /// Moves down by `n` lines, at least one, or to the last line: to the cluster whose number is the cursor's
     /// column, or to the line's end (GNU readline: next-screen-line). The layout counts the columns, and says
     /// how far its prompt pushes the first line. Answers whether there is a line below.
     pub fn move_to_line_down(&mut self, n: RepeatCount, layout: &Layout) -> bool
@@ -77,7 +77,7 @@ impl LineBuffer {
         layout.width(&self.as_str()[self.home_of(k)..self.pos()])
     }
 
-    // The place before the cluster of a line that has the number of the column, or the line's end.
+    // The place before the cluster of a line whose number is the column, or the line's end.
     fn place_in_line(&self, k: usize, column: Unit) -> usize
         requires { k ≤ last_line self.now.text }
         ensures value { result ≡ place_in_line self.now.text k column }

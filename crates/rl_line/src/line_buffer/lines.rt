@@ -28,7 +28,7 @@ impl LineBuffer {
         self.starts.places.len() + 1
     }
 
-    /// Where the text of line `i` stands, from 0, in bytes: without its newline. None where there are not so many lines.
+    /// The byte range of the text of line `i`, counted from 0, without its newline. None where there is no such line.
     pub fn line_range(&self, i: usize) -> Option<Range<usize>>
         ensures value { result ≡ range_of_line self.now.text i }
         ensures text { IfSome result (λ r. slice_range self.now.text r.start r.end ≡ text_of_line self.now.text i) }
@@ -41,7 +41,7 @@ impl LineBuffer {
         Some(self.start_of_line(i)..self.end_of_line(i))
     }
 
-    // The start with a number, from 0, in the table.
+    // The start numbered `k`, from 0, in the table.
     fn start(&self, k: usize) -> usize
         requires { k < last_line self.now.text }
         ensures start { result ≡ get_or (line_starts self.now.text) k 0 }
@@ -136,7 +136,7 @@ impl LineBuffer {
         self.end_of_line(self.line_at(self.pos()))
     }
 
-    // The number of the `n`-th line above the cursor's, `k`, at least one, or of the first. None on the first.
+    // The number of the `n`-th line above the cursor's line `k`, at least one, or of the first line. None on the first.
     pub(super) fn line_above(&self, k: usize, n: RepeatCount) -> Option<usize>
         requires k { k ≡ line_number self.now.text self.now.cursor }
         requires within { k ≤ last_line self.now.text }
@@ -149,7 +149,7 @@ impl LineBuffer {
         Some(k.saturating_sub(usize::from(n.max(1))))
     }
 
-    // The number of the `n`-th line below the cursor's, `k`, at least one, or of the last. None on the last.
+    // The number of the `n`-th line below the cursor's line `k`, at least one, or of the last line. None on the last.
     pub(super) fn line_below(&self, k: usize, n: RepeatCount) -> Option<usize>
         requires k { k ≡ line_number self.now.text self.now.cursor }
         requires within { k ≤ last_line self.now.text }

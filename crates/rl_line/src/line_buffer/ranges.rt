@@ -71,7 +71,7 @@ impl LineBuffer {
         }
     }
 
-    // What an indent takes the lines of.
+    // The range whose lines an indent takes.
     pub(super) fn indented(&self, mvt: &Movement) -> Range<usize>
         ensures value { result ≡ indented self.now mvt.now }
         ensures order { result.start ≤ result.end }

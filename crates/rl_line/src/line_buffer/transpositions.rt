@@ -16,8 +16,8 @@ use unicode_segmentation::UnicodeSegmentation;
 impl LineBuffer {
     /// Exchanges the grapheme clusters before and after the cursor, or the last two at the end of the text
     /// (GNU readline: transpose-chars), and moves the cursor past both. Answers whether there are two. Where
-    /// it finds no memory, it leaves the line as it was; where its listener refuses, as it was or without the
-    /// cluster after.
+    /// it finds no memory, it leaves the line as it was. Where its listener refuses, it leaves the line as it
+    /// was or without the second cluster.
     pub fn transpose_chars<L: ChangeListener>(&mut self, listener: &mut L) -> Result<bool, Refusal>
         ensures done { IfOk result (λ answer. Done L.step (transpose_chars_plan self.old) self.old self.new listener.old listener.new answer) }
         ensures halted { IfErr result (λ r. Halted L.step L.refused (transpose_chars_plan self.old) self.old self.new listener.old listener.new r ⊎ Uncopied (transpose_chars_plan self.old) self.old self.new listener.old listener.new r) }
@@ -32,8 +32,8 @@ impl LineBuffer {
         }
     }
 
-    // Two steps: a cluster is taken out, and put in at a place in front of it, in the room that it left. The cursor goes past the
-    // cluster that follows it there.
+    // Two steps: takes a cluster out, and puts it in at a place before it, in the room that it left. The cursor goes
+    // past the cluster that follows it there.
     fn pull_back<L: ChangeListener>(
         &mut self,
         front: usize,
@@ -123,8 +123,8 @@ impl LineBuffer {
         Ok(true)
     }
 
-    // Four steps: the second of two ranges gives way to the first's text, and then the first to the second's. In the end the text is
-    // as long as before, so room is missing at most where it is longest, between the two.
+    // Four steps: replaces the second of two ranges by the first's text, and then the first by the second's. In the end
+    // the text is as long as before, so it needs more room at most between the two, where it is longest.
     fn swap<L: ChangeListener>(
         &mut self,
         first: Range<usize>,
