@@ -3,7 +3,7 @@
 
     python3 clients/check_header.py [HEADER [SOURCES]]
 
-Both ways: what only one of the two has fails. Its last line is 'N passed, M failed', where each call counts one.
+What only one of the two has fails, whichever it is. Its last line is 'N passed, M failed', where each call counts one.
 """
 
 import re

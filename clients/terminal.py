@@ -17,7 +17,7 @@ HERE = Path(__file__).resolve().parent
 PROGRAM = HERE / "out/edit"
 DOCS = HERE.parent / "docs"
 COLUMNS, ROWS = 60, 20
-# How long a screen may take to come, and a paste of 10 KB, in seconds. The editor waits less than PAUSE for the rest of
+# How long a screen may take to show, and a paste of 10 KB, in seconds. The editor waits less than PAUSE for the rest of
 # a key.
 PATIENCE, PASTED, PAUSE = 10, 2, 0.5
 FAMILY = "\U0001f468\u200d\U0001f469\u200d\U0001f467"
@@ -76,7 +76,7 @@ class Terminal:
 
 
 def await_that(look, is_wanted, patience=PATIENCE):
-    """Looks until what is seen is wanted, or patience ends. What was seen last."""
+    """Looks until what is seen is wanted, or patience ends. Returns what was seen last."""
     end = time.monotonic() + patience
     while True:
         seen = look()
@@ -86,7 +86,7 @@ def await_that(look, is_wanted, patience=PATIENCE):
 
 
 # What is shown, what is sent, and the rows and the cursor that this leads to; rows that are None are not compared,
-# where terminals draw a cluster in ways of their own.
+# since terminals differ in how they draw a cluster.
 CASES = [
     ("a prompt", [], [">"], (0, 2)),
     ("typing", ["hello"], ["> hello"], (0, 7)),
@@ -163,7 +163,7 @@ CASES = [
     ("what comes before a key of two parts", ["ab", keys("C-x")], ["> ab"], (0, 4)),
 ]
 
-# The same for pastes of 10 KB, which must be there soon.
+# The same for pastes of 10 KB, which must appear soon.
 PASTES = [
     ("a paste of letters", ["f" * 10000 + "z"], ["f" * 60] * 19 + ["f" * 42 + "z"], (19, 43)),
     ("of wide characters", ["日" * 3400 + "z"], ["日" * 30] * 19 + ["日" * 11 + "z"], (19, 23)),

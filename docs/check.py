@@ -1,14 +1,14 @@
 #!/usr/bin/env python3
-"""Looks whether what the pages (*.md) name is there. Each thing named counts one for each page.
+"""Checks that what the pages (*.md) name is there. Each thing named counts one for each page.
 
     python3 docs/check.py
 
 - Each row of the tables of wrong bodies in docs/PROVING.md: its edits that must fail, its tests and its files.
 - Each relative link: its file, and the heading of its #part.
-- Each path in backquotes that begins with a folder of the top: a file or a folder, or a pattern that fits one.
+- Each path in backquotes that begins with a folder of the top: a file or a folder, or a pattern that matches one.
 - Each call and constant of C (lodvarn_.., LODVARN_..): in include/lodvarn.h.
 - Each crate (rl_..): in crates.txt.
-- Each word of a script (specs/Grammar.antt): one row in docs/RULES.md, and no row more.
+- Each word of a script (specs/Grammar.antt): one row in docs/RULES.md, and no other rows.
 
 Its last line is 'N passed, M failed'.
 """
@@ -23,7 +23,7 @@ PAGES = sorted([*TOP.glob("*.md"), *TOP.glob("docs/*.md"), *TOP.glob("clients/*.
 HEADING = "## Wrong bodies, and what refuses each"
 HEAD = "| Wrong body |"
 FOLDERS = ("crates", "docs", "clients", "faults", "include", ".ci")
-# A folder that the build makes, which a checkout has not.
+# A folder that the build makes; a checkout does not have it.
 BUILT = "out"
 FENCED = re.compile(r"^( *)(```+|~~~+).*?^\1\2", re.M | re.S)
 LINK = re.compile(r"!?\[[^\]]*\]\(<?([^)\s>]+)>?[^)]*\)")
@@ -75,7 +75,7 @@ def anchor_of(heading):
 
 
 def anchors_of(page):
-    """The parts of a page that a link may name. Of like headings the later ones get a number."""
+    """The parts of a page that a link may name. Where headings are alike, the later ones get a number."""
     seen = Counter()
     anchors = set()
     for heading in re.findall(r"^#+ +(.+?) *#*$", prose_of(page), re.M):
@@ -91,7 +91,7 @@ def is_relative(link):
 
 
 def links_of(page):
-    """The relative links of a page, those in code left out."""
+    """The relative links of a page, except those in code."""
     return {link for link in LINK.findall(SPAN.sub("", prose_of(page))) if is_relative(link)}
 
 
@@ -115,7 +115,7 @@ def paths_of(page):
 
 
 def path_is_there(path):
-    """Whether a path is there. A folder that the build makes is passed over; NAME stands for any name."""
+    """Whether a path is there. A folder that the build makes is skipped; NAME stands for any name."""
     if BUILT in path.split("/"):
         return True
     braces = re.search(r"\{([^}]*)\}", path)
@@ -157,7 +157,7 @@ def words_under(page, heading):
 
 
 def see_words(count, page):
-    """Looks whether each word of the grammar has one row, and each row a word."""
+    """Checks that each word of the grammar has one row, and each row a word."""
     for heading, definitions in WORD_TABLES.items():
         words, rows = words_of(definitions), words_under(page, heading)
         if not words:

@@ -6,20 +6,20 @@
 
 Before each fenced block of code stands a comment that says what it is:
 
-    <!-- run: rattle -->    a program in Rattle, run by `rt try` in a copy of the crates, as a crate more
+    <!-- run: rattle -->    a program in Rattle, run by `rt try` in a copy of the crates, as an extra crate
     <!-- run: c -->         a program in C, built by gcc and pkg-config over the library in FOLDER (clients/out)
     <!-- run: python -->    a program in Python, with the folder clients/python to import from
     <!-- run: rust -->      a program in Rust, in a package that depends on clients/rust
     <!-- run: script -->    lines for the program at PATH (crates/rl_script/out/rl_script)
     <!-- run: sh -->        commands for bash, run in a copy of the repository that has the library and the program
-    <!-- prints -->         what the example before it must print, exactly. In place of it a line may stand right after the
+    <!-- prints -->         what the example before it must print, exactly. Instead, a line may stand right after the
                             example: It prints `..`. Only an example for bash may do without both
-    <!-- shown -->          what is not run; where it is a piece of code, it stands whole in an example that is run
+    <!-- shown -->          what is not run; a piece of code must stand whole in an example that is run
     <!-- from: FILE -->     a piece of that file, whose lines stand there in the same order
 
 A block without such a comment fails. KIND is one of these runs, or `shown` for all that is not run. With --check it
-looks whether wrong pages fail, as one whose example prints something else. One line says what is wrong with each block
-that fails, and the last one is 'N passed, M failed'.
+checks that wrong pages fail, such as one whose example prints something else. One line says what is wrong with each
+block that fails, and the last one is 'N passed, M failed'.
 """
 
 import argparse
@@ -35,7 +35,7 @@ from pathlib import Path
 
 TOP = Path(__file__).resolve().parent.parent
 PAGES = ["README.md", "docs/GUIDE.md", "docs/RULES.md", "docs/DECISIONS.md"]
-# Blocks in these languages are no pieces of code: outputs, pictures, and commands that take long.
+# Blocks in these languages are not pieces of code: outputs, pictures, and commands that take long.
 PLAIN = {"", "text", "sh"}
 # How long an example may take, in seconds. An interpreter that shares a busy machine takes minutes.
 PATIENCE = 900
@@ -137,11 +137,11 @@ def is_in_order(piece, whole):
     return all(line in rest for line in piece)
 
 
-# Runs. Each gets the text of an example, and gives what it prints.
+# Runs. Each gets the text of an example, and returns what it prints.
 
 
 def output(words, given="", **how):
-    """What the words print. A fault where they end with another status than 0."""
+    """What the words print. A fault where they end with a status other than 0."""
     try:
         how |= {"input": given, "capture_output": True, "encoding": "utf-8", "errors": "replace", "timeout": PATIENCE}
         ran = subprocess.run(words, **how)
@@ -155,7 +155,7 @@ def output(words, given="", **how):
 
 
 def copy_crates(folder):
-    """Copies what the crates are made of, and adds nothing that was built."""
+    """Copies the sources of the crates, and nothing that was built."""
     for name in ["crates.txt", "HANDLES"]:
         shutil.copy(TOP / name, folder)
     for crate in (TOP / "crates").iterdir():

@@ -3,7 +3,7 @@
 
     python3 docs/picture.py [EDITOR] > docs/lodvarn.svg
 
-EDITOR is clients/out/edit by default. Needs tmux. Fails where the editor does not come to what the steps say.
+EDITOR is clients/out/edit by default. Needs tmux. Fails where the editor does not show what the steps say.
 """
 
 import re

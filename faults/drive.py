@@ -1,5 +1,5 @@
 #!/usr/bin/env python3
-"""Runs the built programs with each request for memory, each read and each write refused, and checks what comes of it.
+"""Runs the built programs with each request for memory, each read and each write refused, and checks the outcome.
 
     python3 faults/drive.py [--script PROGRAM] [--refusals PROGRAM]
 
@@ -23,9 +23,9 @@ LIBRARIES = ("rl_base", "rl_line", "rl_session")
 # How long one run may take, in seconds: a thousand times what it needs.
 LIMIT = 20
 UNDO_ALL = "undo 65535"
-# A refused undo changes nothing, and is asked for again.
+# A refused undo changes nothing, so it is tried again.
 LAST_LINES = f"{UNDO_ALL}\n".encode() * 24
-# For how many requests the memory is gone, in the runs in which it comes back.
+# How many requests are refused, in the runs in which memory comes back.
 GAPS = (2, 5, 14)
 RANDOM_SCRIPTS = 150
 RANDOM_LINES = 40
@@ -95,7 +95,7 @@ class Part:
         self.see(what, False, None if holds else "it does not hold")
 
     def close(self):
-        """Prints the part. One in which nothing was refused shows nothing, and fails."""
+        """Prints the part. A part in which nothing was refused shows nothing, and fails."""
         if not self.met:
             self.see("the whole part", False, "no run met a refusal")
         print(f"{self.name}: {self.runs} runs and checks, {self.met} met a refusal, {len(self.wrong)} failed")
@@ -125,7 +125,7 @@ def escaped(text):
 
 
 def is_of_command(line):
-    """Whether a line has the form of those that are printed for what has a meaning."""
+    """Whether a line has the form that is printed for a line with a meaning."""
     try:
         return re.fullmatch(r"[^ ]+ [0-9]+ .*", line.decode()) is not None
     except UnicodeDecodeError:
@@ -145,7 +145,7 @@ def is_boundary(cursor, text):
 
 
 def lines_of(written):
-    """The lines that were written, each of which a newline ends."""
+    """The lines that were written; a newline ends each."""
     return written.split(b"\n")[:-1]
 
 
@@ -172,7 +172,7 @@ def fault_of_lines(outcome, plain):
 
 
 def fault_of_texts(script, printed):
-    """What is wrong with the texts that sessions begin with, and with those that are left when all was undone."""
+    """What is wrong with the texts that sessions begin with, and with those left after everything is undone."""
     start = ""
     for line, shown in zip(script.decode().split("\n"), printed):
         if shown == b"bad":
@@ -232,7 +232,7 @@ def memory_cases(requests, gaps):
 
 
 def fault_of_count(outcome, plain):
-    """What is wrong with the count of refusals, if anything: one is met exactly where the plain run asks."""
+    """What is wrong with the count of refusals, if anything: one occurs exactly where the plain run asks for memory."""
     first = outcome.faults.get("REFUSE", outcome.faults.get("FROM"))
     if (outcome.refused > 0) == (first <= plain.requests):
         return None
@@ -267,7 +267,7 @@ def words_of_grammar():
 
 
 def idle_lines(script, plain):
-    """The lines of a script that are refused or mean nothing, or hand nothing back and leave cursor and text."""
+    """The lines of a script that are refused, mean nothing, or give nothing back and leave cursor and text."""
     idle, before = [], None
     for line, shown in zip(script.splitlines(), lines_of(plain.out)):
         reply, _, left = shown.partition(b" ")
@@ -298,7 +298,7 @@ def random_text(chance):
 
 
 def random_movement(chance):
-    """A movement as a script writes it, with all that it wants."""
+    """A movement as a script writes it, with all its arguments."""
     forms = "line;home;eol;bword N S;fword N A S;find N X C;first;bchar N;fchar N;up N;down N;buf;bob;eob"
     return filled(chance, chance.choice(forms.split(";")))
 
@@ -311,7 +311,7 @@ FORMS = (
 
 
 def filled(chance, form):
-    """A form of a line with something in the place of each capital letter."""
+    """A form of a line, with each capital letter replaced."""
     made = {
         "A": lambda: chance.choice(["start", "before", "after"]),
         "C": lambda: chance.choice(["a", "o", "é", "\\n", "\\s"]),
@@ -330,7 +330,7 @@ def filled(chance, form):
 
 
 def random_script(chance):
-    """A script of random lines, those that leave nothing to do less often."""
+    """A script of random lines. Those that leave nothing to do come less often."""
     weights = [0.2 if it.split()[0] in ("text", "limit", "ring", "mode", "killbuf", "update") else 1 for it in FORMS]
     lines = [filled(chance, it) for it in chance.choices(FORMS, weights, k=RANDOM_LINES)]
     return "\n".join([filled(chance, "limit K"), filled(chance, "text T"), *lines, ""]).encode() + LAST_LINES
@@ -388,14 +388,14 @@ def stream_part(runner, program):
 
 
 def with_streams(program, words):
-    """How a run ends whose standard streams a shell gives it."""
+    """How a run ends with the standard streams that a shell gives it."""
     shell = ["bash", "-c", words, "bash", program]
     ran = subprocess.run(shell, input=b"text a\n", capture_output=True, timeout=LIMIT)
     return ran.returncode, ran.stdout, ran.stderr
 
 
 def read_by_nobody(program):
-    """How a run ends whose output goes into a pipe that nobody reads, with the signal for that at its default."""
+    """How a run ends when its output goes to a pipe that nobody reads, with that signal at its default."""
     reader, writer = os.pipe()
     os.close(reader)
     ran = subprocess.run([program], input=b"text a\n", stdout=writer, stderr=subprocess.PIPE, timeout=LIMIT)
@@ -446,7 +446,7 @@ def refusals_part(runner, program):
 
 
 def program_of(name, given):
-    """The program of that crate: the one that is given, else the gate's, built anew where it is not there or old."""
+    """The program of that crate: the given one, else the gate's, which is built again where it is missing or old."""
     if given:
         return str(Path(given).resolve())
     folder = TOP / "crates" / name
@@ -475,7 +475,7 @@ def run_parts(script, refusals):
 
 
 def main():
-    """Runs all parts on the programs. Where one can't be run at all, that is the one failure that is told."""
+    """Runs all parts on the programs. Where one can't be run at all, that is the one failure reported."""
     words = argparse.ArgumentParser(description=__doc__.splitlines()[0])
     words.add_argument("--script", help="the program to run as rl_script")
     words.add_argument("--refusals", help="the program to run as rl_refusals")

@@ -1,5 +1,5 @@
 // Stands between a program and the C library, and refuses what it asks for. It is preloaded, and counts the
-// requests for memory, the reads and the writes of the program, each from 1 on:
+// requests for memory, the reads and the writes of the program, each from 1:
 //
 //   REFUSE=N    the N-th request for memory finds none
 //   FROM=N      the N-th and all later ones find none, with UNTIL=M those up to the M-th
@@ -14,7 +14,7 @@
 #include <sys/syscall.h>
 #include <unistd.h>
 
-// The C library's own, by the names under which it exports them beside the public ones.
+// The C library's own functions, by the names that it exports beside the public ones.
 extern void *__libc_malloc(size_t size);
 extern void *__libc_realloc(void *old, size_t size);
 extern void *__libc_calloc(size_t count, size_t size);
@@ -50,7 +50,7 @@ __attribute__((destructor)) static void end(void) {
     close(out);
 }
 
-// Whether the next request for memory is one to refuse.
+// Whether to refuse the next request for memory.
 static int is_refused(void) {
     if (!counts) return 0;
     unsigned long n = ++requests;
@@ -72,7 +72,7 @@ void *calloc(size_t count, size_t size) {
     return is_refused() ? NULL : __libc_calloc(count, size);
 }
 
-// What a read or write of so many bytes is let take, or -1 where it is the one that fails.
+// How many bytes a read or write of that length may take, or -1 where it is the one that fails.
 static ssize_t let(unsigned long is_at, unsigned long fails_at, size_t length) {
     if (is_at == fails_at) {
         refused++;

@@ -35,12 +35,12 @@
  *
  * Answers
  * A call that answers a uint32_t answers one of enum lodvarn_answer. The comment of each call names its answers and its
- * errors, without LODVARN_. CLOSED is an error of each call with an s that answers a uint32_t, but for lodvarn_open.
+ * errors, without LODVARN_. CLOSED is an error of each call with an s that answers a uint32_t, except lodvarn_open.
  * The errors are the numbers from LODVARN_NO_MEMORY on. What an error leaves:
  * - NO_MEMORY: an edit of several steps stops after the steps that it made, and the record has these. Every other call
  *   leaves text, cursor, record and limit as they were. The ring may have kept a text that a kill did not delete.
- * - BAD_PLACE, BAD_YANK_SIZE and NOT_REPLAYING: text, cursor, record and limit as they were. The call was a command all
- *   the same: a kill after it begins a new text of the ring, and lodvarn_yank_pop after it answers NONE.
+ * - BAD_PLACE, BAD_YANK_SIZE and NOT_REPLAYING: text, cursor, record and limit as they were. The call still counts as
+ *   a command: a kill after it begins a new text of the ring, and lodvarn_yank_pop after it answers NONE.
  * - CLOSED and the errors after it: the whole session as it was.
  *
  * A call writes through out and through a pointer to a number only with the answer that its comment names for that.
@@ -76,7 +76,7 @@ enum lodvarn_answer {
     LODVARN_NOT_REPLAYING = 14, /* the entries to keep do not lead to the present text */
     LODVARN_CLOSED = 20,        /* the session is closed */
     LODVARN_NOT_UTF8 = 21,      /* a text that was passed is not UTF-8 */
-    LODVARN_NO_SUCH_NUMBER = 22, /* a number is none of its enum, or no character */
+    LODVARN_NO_SUCH_NUMBER = 22, /* a number is not in its enum, or is no character */
     LODVARN_TOO_SMALL = 23      /* the text to write is longer than the buffer */
 };
 
@@ -91,7 +91,7 @@ enum lodvarn_mode {
 enum lodvarn_word {
     LODVARN_BIG = 0,   /* everything but blanks */
     LODVARN_EMACS = 1, /* letters and digits */
-    LODVARN_VI = 2     /* letters, digits and _; a run of other characters but blanks is a word too */
+    LODVARN_VI = 2     /* letters, digits and _; a run of other characters except blanks is a word too */
 };
 
 /* Where a motion forward by words stops. */
@@ -154,14 +154,14 @@ enum lodvarn_indent_direction {
     LODVARN_DEDENT = 1  /* deletes leading blanks */
 };
 
-/* Opens a session on a text, with the cursor at the place pos. A session that *s has is closed then. The text may
+/* Opens a session on a text, with the cursor at the place pos. A session that *s had is closed. The text may
  * grow to limit bytes, or to len where that is greater. The kill ring keeps up to ring_size texts. The mode is an
  * enum lodvarn_mode. Answers DONE. Errors: NOT_UTF8, NO_SUCH_NUMBER, BAD_PLACE, NO_MEMORY; they leave the session
  * that *s has. */
 uint32_t lodvarn_open(lodvarn **s, const char *text, size_t len, size_t pos, size_t limit, size_t ring_size,
                       uint32_t mode);
 
-/* Closes the session, if *s has one, and frees its memory. *s is NULL then. */
+/* Closes the session, if *s has one, and frees its memory. *s is NULL afterwards. */
 void lodvarn_close(lodvarn **s);
 
 /* Moves the cursor to the place pos. Answers DONE. Errors: BAD_PLACE. */
@@ -185,10 +185,10 @@ uint32_t lodvarn_paste(lodvarn **s, const char *text, size_t len, uint16_t n);
 uint32_t lodvarn_yank(lodvarn **s, uint16_t n);
 
 /* Replaces the text that the last call yanked by the one before it in the ring. Answers TRUE where the cursor was at
- * the end, FALSE where it was not. Answers NONE where the last command was no yank; the text is unchanged then.
- * Answers NONE also where the text before it is empty or too long for the limit; what was yanked is deleted then, and
- * the record has that. Errors: BAD_YANK_SIZE where no text of the yanked length ends at the cursor, as can be after
- * a yank of no times; NO_MEMORY. */
+ * the end, FALSE where it was not. Answers NONE where the last command was not a yank: then the text is unchanged.
+ * Answers NONE also where the text before it is empty or too long for the limit: then what was yanked is deleted, and
+ * the record has that. Errors: BAD_YANK_SIZE where no text of the yanked length ends at the cursor, as may happen
+ * after a yank with n = 0; NO_MEMORY. */
 uint32_t lodvarn_yank_pop(lodvarn **s);
 
 /* Replaces the whole text by another one, which is cut to the limit. The cursor goes to the place pos of the new
@@ -232,11 +232,11 @@ uint32_t lodvarn_discard_line(lodvarn **s);
  * NO_MEMORY. */
 uint32_t lodvarn_discard_buffer(lodvarn **s);
 
-/* Deletes back to the start of the n-th word, an enum lodvarn_word. Answers TRUE, or FALSE where there is nothing.
+/* Deletes back to the start of the n-th word, by an enum lodvarn_word. Answers TRUE, or FALSE where there is nothing.
  * Errors: NO_SUCH_NUMBER, NO_MEMORY. */
 uint32_t lodvarn_delete_prev_word(lodvarn **s, uint32_t word, uint16_t n);
 
-/* Deletes forward to the n-th word: to the place that at says, an enum lodvarn_at, of an enum lodvarn_word. Answers
+/* Deletes forward to the n-th word, by an enum lodvarn_word, and there to the place at, an enum lodvarn_at. Answers
  * TRUE, or FALSE where there is nothing. Errors: NO_SUCH_NUMBER, NO_MEMORY. */
 uint32_t lodvarn_delete_word(lodvarn **s, uint32_t at, uint32_t word, uint16_t n);
 
@@ -246,7 +246,7 @@ uint32_t lodvarn_delete_to(lodvarn **s, uint32_t search, uint32_t c, uint16_t n)
 
 /* Exchanges the clusters before and after the cursor; at the end of the text, the last two. The cursor goes after
  * both. Answers TRUE, or FALSE where there are not two. These are two changes: call it between lodvarn_begin and
- * lodvarn_end where one undo is to take them back. Errors: NO_MEMORY. */
+ * lodvarn_end if one undo should take back both. Errors: NO_MEMORY. */
 uint32_t lodvarn_transpose_chars(lodvarn **s);
 
 /* Exchanges the word that ends n-th after the cursor with the word n words before it. The cursor goes after both.
@@ -259,8 +259,8 @@ uint32_t lodvarn_transpose_words(lodvarn **s, uint16_t n);
  * lodvarn_transpose_chars. Errors: NO_SUCH_NUMBER, NO_MEMORY. */
 uint32_t lodvarn_edit_word(lodvarn **s, uint32_t action);
 
-/* Deletes what an enum lodvarn_movement covers. The ring keeps it, but not by BACKWARD_CHAR and FORWARD_CHAR. Kills
- * one right after the other become one text of the ring. Answers TRUE, or FALSE where there is nothing. Errors:
+/* Deletes what an enum lodvarn_movement covers. The ring keeps it, except by BACKWARD_CHAR and FORWARD_CHAR.
+ * Consecutive kills become one text of the ring. Answers TRUE, or FALSE where there is nothing. Errors:
  * NO_SUCH_NUMBER, NO_MEMORY. */
 uint32_t lodvarn_kill(lodvarn **s, uint32_t movement, uint16_t n, uint32_t c);
 
@@ -289,8 +289,8 @@ uint32_t lodvarn_undo(lodvarn **s, uint16_t n);
  * NO_MEMORY. */
 uint32_t lodvarn_redo(lodvarn **s);
 
-/* Keeps the first entries of the record, so many as the argument says, and forgets the others and what was undone.
- * They must lead to the present text. Answers DONE. Errors: NOT_REPLAYING where they do not, NO_MEMORY. After
+/* Keeps the first entries of the record, as many as the argument says, and forgets the others and what was undone.
+ * The kept ones must lead to the present text. Answers DONE. Errors: NOT_REPLAYING where they do not, NO_MEMORY. After
  * lodvarn_update to the empty text it may keep 0 entries in a session that was opened on the empty text. That is how
  * the next line begins with the kill ring of the last one. */
 uint32_t lodvarn_truncate(lodvarn **s, size_t entries);
@@ -316,7 +316,7 @@ size_t lodvarn_line_number(lodvarn **s);
 size_t lodvarn_line_count(lodvarn **s);
 
 /* Tells where line number line begins and where it ends, before its newline. Answers DONE with the two places in
- * *start and *end, NONE where there are not so many lines. */
+ * *start and *end, NONE where there is no such line. */
 uint32_t lodvarn_line_range(lodvarn **s, size_t line, size_t *start, size_t *end);
 
 /* Answers how many bytes the text may have. 0 where the session is closed. */
@@ -325,9 +325,9 @@ size_t lodvarn_limit(lodvarn **s);
 /* Answers the number of entries of the record, the marks of groups too. 0 where the session is closed. */
 size_t lodvarn_entries(lodvarn **s);
 
-/* Asks whether the last command was lodvarn_yank or lodvarn_yank_pop and answered TRUE or FALSE, which a yank of no
- * times does too. Then lodvarn_yank_pop expects the yanked text before the cursor; otherwise it answers NONE. Answers
- * TRUE or FALSE. */
+/* Asks whether the last command was lodvarn_yank or lodvarn_yank_pop and answered TRUE or FALSE, as a yank with
+ * n = 0 also does. If so, lodvarn_yank_pop expects the yanked text before the cursor; otherwise it answers NONE.
+ * Answers TRUE or FALSE. */
 uint32_t lodvarn_last_was_yank(lodvarn **s);
 
 /* Calls without a session. */
@@ -350,9 +350,9 @@ uint32_t lodvarn_first_cluster(const char *text, size_t len, size_t *out_len);
  * empty. Errors: NOT_UTF8. */
 uint32_t lodvarn_last_cluster(const char *text, size_t len, size_t *out_len);
 
-/* Finds where a place of a text is on a screen that has so many columns, where the text begins at column prompt of
- * row 0. A newline, "\n" or "\r\n", leads to the next row. A cluster that does not fit in the rest of its row stands
- * whole in the next row. A place at the right edge is column 0 of the next row. The mode is an enum lodvarn_mode.
+/* Finds where a place of a text is on a screen with that many columns. The text begins at column prompt of
+ * row 0. A newline, "\n" or "\r\n", leads to the next row. A cluster that does not fit in the rest of its row goes
+ * whole to the next row. A place at the right edge is column 0 of the next row. The mode is an enum lodvarn_mode.
  * Answers DONE with the cell in *row and *column. Errors: NOT_UTF8, BAD_PLACE, NO_SUCH_NUMBER also where columns is
  * 0. */
 uint32_t lodvarn_cell(const char *text, size_t len, size_t place, uint16_t prompt, uint16_t columns, uint32_t mode,

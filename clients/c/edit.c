@@ -33,7 +33,7 @@ static void enter_raw(void) {
     tcsetattr(0, TCSADRAIN, &raw);
 }
 
-/* The text of the session, in a buffer that the next call uses again. */
+/* The text of the session, in a buffer that the next call reuses. */
 static const char *text(size_t *len) {
     static char *bytes;
     static size_t size;
@@ -48,11 +48,11 @@ static const char *text(size_t *len) {
     return bytes;
 }
 
-/* The screen. Each frame is drawn over the last one, of which only the row of the cursor is known. */
+/* The screen. Each frame is drawn over the last one. Only the row of its cursor is known. */
 static size_t shown_row;
 
-/* The length of the first cluster. An ASCII character before another one is a cluster. Otherwise a short piece of the
- * text is asked about, and a longer one where the cluster fills it, since the call reads the whole piece. */
+/* The length of the first cluster. An ASCII character before another one is a cluster. Otherwise the call gets a
+ * short piece of the text, and a longer one where the cluster fills it, since it reads the whole piece. */
 static size_t cluster(const char *bytes, size_t len) {
     size_t first = 1, piece = 16;
     if (len < 2 || !((bytes[0] | bytes[1]) & 0x80)) return 1;
@@ -130,7 +130,7 @@ static void yank(uint32_t older) {
     else lodvarn_yank(&s, 1);
 }
 
-/* The next two make several changes each. The group has one undo take them back. */
+/* The next two make several changes each. The group lets one undo take them back. */
 static void change_case(uint32_t action) {
     size_t mark;
     lodvarn_begin(&s, &mark);
@@ -233,7 +233,7 @@ static const struct key *key_of(const char *bytes, size_t len, int whole) {
 static unsigned char input[4096];
 static size_t input_len, input_at;
 
-/* Waits for input, so many milliseconds or for ever. Whether there is input, or its end. */
+/* Waits for input, that many milliseconds or for ever. Answers whether there is input, or its end. */
 static int is_waiting(int milliseconds) {
     struct pollfd terminal = {0, POLLIN, 0};
     return poll(&terminal, 1, milliseconds) > 0;
@@ -254,10 +254,10 @@ static int next_byte(int milliseconds) {
     return input[input_at++];
 }
 
-/* The byte that was read last is read again. */
+/* Lets the last byte be read again. */
 static void put_back(void) { input_at--; }
 
-/* Inserts the character that begins with this byte. Bytes that are no UTF-8 are left out. */
+/* Inserts the character that begins with this byte. Bytes that are not UTF-8 are skipped. */
 static void self_insert(int byte) {
     static const uint32_t least[] = {0, 0x80, 0x800, 0x10000};
     int more = byte < 0x80 ? 0 : byte < 0xc0 ? -1 : byte < 0xe0 ? 1 : byte < 0xf0 ? 2 : byte < 0xf8 ? 3 : -1;
@@ -274,7 +274,7 @@ static void self_insert(int byte) {
     if (more >= 0 && c >= least[more] && !is_control) insert(c);
 }
 
-/* Passes over the rest of a key that does nothing here, as F5. An escape in the middle of it begins another key. */
+/* Skips the rest of a key that does nothing here, such as F5. An escape in the middle of it begins another key. */
 static void pass_over(const char *bytes, size_t len) {
     int byte = bytes[len - 1], ends = len > 2;
     if (len > 1 && byte == 0x1b) put_back();
@@ -282,7 +282,7 @@ static void pass_over(const char *bytes, size_t len) {
     for (; byte >= 0 && !(ends && 0x40 <= byte && byte <= 0x7e); ends = 1) byte = next_byte(WAIT);
 }
 
-/* Reads a key and does what it says. A key that is cut short is passed over. Answers 0 when the editor is to end. */
+/* Reads a key and does what it says. A key that is cut short is skipped. Answers 0 when the editor should end. */
 static int take_key(void) {
     char bytes[8];
     size_t len = 0;

@@ -9,7 +9,7 @@ enum { LIMIT = 24, RING = 10, WIDTH = 24 };
 
 static lodvarn *s;
 
-/* Tells that nothing went in, or why a call was refused. */
+/* Says that nothing was inserted, or why a call was refused. */
 static void hear(uint32_t answer) {
     if (answer == LODVARN_NONE) printf("(nothing goes in) ");
     if (answer >= LODVARN_NO_MEMORY) printf("(refused: %u) ", (unsigned)answer);
@@ -75,7 +75,7 @@ static const struct key {
     {"RET", accept_line, 0},
 };
 
-/* Types a text of UTF-8, by one call for each character. */
+/* Types a UTF-8 text, with one call for each character. */
 static void type(const char *word) {
     while (*word) {
         unsigned char first = (unsigned char)*word++;

@@ -1,5 +1,5 @@
-/* Opens sessions and never closes them: where leaks are told, this program does not end with status 0. There are a
- * hundred, since a word that is left on the stack may still point to one of them. */
+/* Opens sessions and never closes them: where leaks are reported, this program does not end with status 0. There
+ * are a hundred, since a word left on the stack may still point to one of them. */
 #include "lodvarn.h"
 
 int main(void) {

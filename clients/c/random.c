@@ -68,7 +68,7 @@ static void add_movement(void) {
     }
 }
 
-/* A line that begins anew. */
+/* A line that starts over. */
 static void add_start(void) {
     static const unsigned limits[] = {0, 3, 20, 100, 300}, rings[] = {0, 1, 2, 5};
     static const char *const modes[] = {"unicode", "wcwidth", "nozwj"};
@@ -80,7 +80,7 @@ static void add_start(void) {
     }
 }
 
-/* A line that puts something in, or in the place of something. */
+/* A line that inserts or replaces something. */
 static void add_insertion(struct typed *t) {
     unsigned from = place(t);
     switch (below(8)) {
@@ -95,7 +95,7 @@ static void add_insertion(struct typed *t) {
     }
 }
 
-/* A line that takes something out. */
+/* A line that deletes something. */
 static void add_deletion(struct typed *t) {
     static const char *const whole[] = {"killline", "killline", "discline", "discline", "killbuf", "discbuf"};
     unsigned from = place(t);
@@ -129,7 +129,7 @@ static void add_other(struct typed *t) {
     }
 }
 
-/* A line for the session as it stands: one that grew long is cut back. */
+/* A line for the session as it is: a text that grew long is replaced. */
 static void make_line(struct typed *t) {
     line[0] = 0;
     if (lodvarn_text(&t->s, NULL, 0) > 400) { add("text "); add_text(); return; }

@@ -1,4 +1,4 @@
-/* Each request of the library for memory is refused in turn: the call says so, the session stands, and undo leads back
+/* Refuses each request of the library for memory in turn: the call says so, the session is sound, and undo leads back
  * to the text that it began with. To be linked with -Wl,--wrap=malloc,--wrap=realloc. Its last line is 'N passed, M
  * failed', where each request counts one. */
 #include "lodvarn.h"
@@ -74,14 +74,14 @@ static int stands(void) {
         && lodvarn_cell(text, len, lodvarn_pos(&s), 0, 80, LODVARN_UNICODE, &row, &column) == LODVARN_DONE;
 }
 
-/* With everything undone the text is the first one. */
+/* After everything is undone the text is the first one. */
 static int leads_back(void) {
     char text[8];
     while (lodvarn_entries(&s) > 0 && lodvarn_undo(&s, UINT16_MAX) != LODVARN_NO_MEMORY) {}
     return lodvarn_text(&s, text, sizeof text) == 5 && !memcmp(text, start, 5);
 }
 
-/* How many calls said that there is no memory, where the request of that number finds none. */
+/* How many calls said that memory is out, where the request of that number is refused. */
 static int refused_at(size_t request, int *holds) {
     int refused = 0;
     uint32_t answer;
@@ -98,7 +98,7 @@ static int refused_at(size_t request, int *holds) {
     return refused;
 }
 
-/* A script that ends where that request finds no memory still tells how much it printed: whole lines, or none. */
+/* A script that ends because that request is refused still tells how much it printed: whole lines, or none. */
 static int script_tells_its_length(size_t request) {
     static const char script[] = "text a\ntext b\n", whole[] = "ok 1 a\nok 1 b\n";
     char out[64];

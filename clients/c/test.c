@@ -220,7 +220,7 @@ static void cells_are_placed(void) {
     }
 }
 
-/* What each number means: a call with it, and the line of a script that says the same. */
+/* What each number means: a call with it, and the line of a script that means the same. */
 static uint32_t move(lodvarn **at, uint32_t movement) { return lodvarn_move(at, movement, 2, 'x'); }
 static uint32_t kill(lodvarn **at, uint32_t movement) { return lodvarn_kill(at, movement, 2, 'x'); }
 static uint32_t prev_word(lodvarn **at, uint32_t word) { return lodvarn_delete_prev_word(at, word, 2); }
@@ -289,7 +289,7 @@ static const struct meaning {
 };
 enum { MEANINGS = sizeof meanings / sizeof *meanings };
 
-/* On this text, with the cursor at the one place or the other, no two lines of a call do the same. */
+/* On this text no two lines of a call do the same from both places of the cursor. */
 static const char amid[] = "text   x One\\nx-two\\ntwo_x/y z,x aB b_c,d e.f x\\n3x\\n4\\n5";
 static const char *const amid_places[] = {"pos 25", "pos 27"};
 
@@ -346,7 +346,7 @@ static char out[8];
 static size_t number, other;
 static uint16_t columns;
 
-/* All that a refused call leaves, but for what the ring did last. */
+/* All that a refused call leaves, except what the ring did last. */
 struct state {
     char text[64], out[8];
     size_t len, pos, entries, limit, number, other;
@@ -373,8 +373,8 @@ static int same(const struct state *a, const struct state *b) {
         && a->other == b->other && a->columns == b->columns;
 }
 
-/* The call answers that, and leaves session and numbers; an error that is no command's own leaves also that a yank
- * was done last. */
+/* The call answers that, and leaves session and numbers as they were. An error from LODVARN_CLOSED on also leaves
+ * whether a yank was done last. */
 #define LEAVES(wanted, call)                                                                          \
     do {                                                                                              \
         struct state before = state();                                                                \
@@ -601,7 +601,7 @@ static void a_yank_of_no_times_is_one(void) {
     see("a pop that is refused ends that", lodvarn_last_was_yank(&s) == LODVARN_FALSE);
 }
 
-/* With ample memory no call says that it is out, whatever is great: the ring, the texts, what is copied, a script. */
+/* With ample memory no call says that it is out, however large the ring, the texts, what is copied or a script is. */
 static void great_input_is_met(void) {
     enum { GREAT = 100001, PAIRS = 15000, PAIR = 15, ANSWERS = 17 };
     static char great[GREAT], got[PAIRS * ANSWERS], script[PAIRS * PAIR];

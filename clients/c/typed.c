@@ -5,7 +5,7 @@
 
 enum { ROOM = 1 << 16 };
 
-/* What a call handed out. */
+/* What a call wrote. */
 static char handed[ROOM];
 static size_t handed_len, mark, line_number;
 static uint16_t column;
@@ -29,7 +29,7 @@ static size_t number(char **rest) { return strtoull(word(rest), NULL, 10); }
 
 static uint16_t count(char **rest) { return (uint16_t)number(rest); }
 
-/* The place of a name among some. */
+/* The index of a name in a list. */
 static uint32_t named(const char *name, const char *const *names) {
     for (uint32_t i = 0; names[i]; i++)
         if (!strcmp(name, names[i])) return i;
@@ -69,7 +69,7 @@ static uint32_t decode(const char *from) {
     return c;
 }
 
-/* The text that the rest of a line spells, in its place. */
+/* Decodes the text that the rest of a line spells, in place. */
 static char *text(char *rest, size_t *len) {
     static char none[1];
     if (!rest) rest = none;

@@ -1,4 +1,4 @@
-/* Runs the lines of a script by the typed calls, and prints what a script prints. The lines have to have a meaning. */
+/* Runs the lines of a script by the typed calls, and prints what a script prints. Each line must have a meaning. */
 #ifndef TYPED_H
 #define TYPED_H
 

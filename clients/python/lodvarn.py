@@ -148,7 +148,7 @@ class NotUtf8(Fault):
 
 
 class NoSuchNumber(Fault):
-    """A number is none of its enum, or no character."""
+    """A number is not in its enum, or is no character."""
 
 
 _FAULTS = {
@@ -259,7 +259,7 @@ def _call(name: str, *given: object) -> Answer:
 
 
 def _call_for_text(name: str, *given: object) -> Optional[str]:
-    """Makes a call that writes a text, again with a larger buffer where the first one is too small."""
+    """Makes a call that writes a text, and repeats it with a larger buffer where the first one is too small."""
     length = _SIZE(64)
     answer = Answer.TOO_SMALL
     while answer == Answer.TOO_SMALL:
@@ -298,7 +298,7 @@ class Session:
         _call("open", self._at, given, len(given) if pos is None else pos, limit, ring_size, mode)
 
     def close(self) -> None:
-        """Closes the session. Every later call but this raises Closed, or reads 0 or an empty text."""
+        """Closes the session. Every later call except this one raises Closed, or reads 0 or an empty text."""
         _library.lodvarn_close(self._at)
 
     def __enter__(self) -> Session:
@@ -348,7 +348,7 @@ class Session:
     def yank_pop(self) -> Optional[bool]:
         """Replaces the text that was just yanked by the one before it in the ring.
 
-        Whether the cursor was at the end, or None where the last command was no yank. None also where the text before
+        Whether the cursor was at the end, or None where the last command was not a yank. None also where the one before
         is empty or too long for the limit: what was yanked is deleted then. Raises BadYankSize.
         """
         return _yes(_call("yank_pop", self._at))
@@ -373,7 +373,7 @@ class Session:
         _call("replace", self._at, start, end, text.encode())
 
     def delete_range(self, start: int, end: int) -> None:
-        """Deletes what stands between two places. The cursor goes there. Raises BadPlace."""
+        """Deletes what stands between two places. The cursor goes to the first. Raises BadPlace."""
         _call("delete_range", self._at, start, end)
 
     def delete(self, n: int = 1) -> Optional[str]:
@@ -427,7 +427,7 @@ class Session:
     def kill(self, movement: Movement, n: int = 1, c: str = "\0") -> bool:
         """Deletes what a movement covers. False where there is nothing.
 
-        The ring keeps it, but not by BACKWARD_CHAR and FORWARD_CHAR.
+        The ring keeps it, except by BACKWARD_CHAR and FORWARD_CHAR.
         """
         return _call("kill", self._at, movement, n, ord(c)) == Answer.TRUE
 
@@ -436,15 +436,15 @@ class Session:
         return _call_for_text("copy", self._at, movement, n, ord(c))
 
     def indent(self, movement: Movement, amount: int, n: int = 1, c: str = "\0") -> bool:
-        """Inserts so many spaces, at most 255, at the start of each line that a movement covers."""
+        """Inserts `amount` spaces, at most 255, at the start of each line that a movement covers."""
         return _call("indent", self._at, movement, n, ord(c), amount, 0) == Answer.TRUE
 
     def dedent(self, movement: Movement, amount: int, n: int = 1, c: str = "\0") -> bool:
-        """Deletes up to so many bytes of blanks, at most 255, at the start of each line that a movement covers."""
+        """Deletes up to `amount` bytes of blanks, at most 255, at the start of each line that a movement covers."""
         return _call("indent", self._at, movement, n, ord(c), amount, 1) == Answer.TRUE
 
     def begin(self) -> int:
-        """Begins an undo group, which one undo takes back once it is closed. The number of entries before it."""
+        """Begins an undo group: once closed, one undo takes it back. Answers the number of entries before it."""
         mark = _SIZE()
         _call("begin", self._at, mark)
         return mark.value
@@ -462,7 +462,7 @@ class Session:
         return _call("redo", self._at) == Answer.TRUE
 
     def truncate(self, entries: int) -> None:
-        """Keeps the first entries of the record, so many, and forgets the others and what was undone.
+        """Keeps the first `entries` entries of the record, and forgets the others and what was undone.
 
         Raises NotReplaying where they do not lead to the present text.
         """
@@ -518,7 +518,7 @@ class Session:
 
     @property
     def last_was_yank(self) -> bool:
-        """Whether the last command was a yank or yank_pop and did not answer None. A yank of no times counts."""
+        """Whether the last command was a yank or yank_pop and did not answer None. A yank with n = 0 counts."""
         return _call("last_was_yank", self._at) == Answer.TRUE
 
 
@@ -555,7 +555,7 @@ def last_cluster(text: str) -> str:
 
 
 def cell(text: str, place: int, prompt: int, columns: int, mode: Mode = Mode.UNICODE) -> tuple[int, int]:
-    """The row and column of a place of a text on a screen that has so many columns.
+    """The row and column of a place of a text on a screen with `columns` columns.
 
     The text begins at the column `prompt` of row 0. Raises BadPlace, and NoSuchNumber where `columns` is 0.
     """

@@ -1,4 +1,4 @@
-"""Worked scripts of sessions in Python, with answers that were worked out by hand."""
+"""Scripts of sessions in Python, with answers that were worked out by hand."""
 
 import copy
 import ctypes

@@ -1,4 +1,4 @@
-//! Links liblodvarn.a: that of the folder LODVARN_LIB, else the one that clients/build made.
+//! Links liblodvarn.a: the one in the folder LODVARN_LIB, else the one that clients/build made.
 use std::env;
 use std::path::PathBuf;
 

@@ -41,7 +41,7 @@ use std::ptr::{null_mut, NonNull};
 /// shared::<lodvarn::Session>();
 /// ```
 pub struct Session {
-    // A read takes the session out of the handle and puts it back, so it is handed a pointer to write to.
+    // A read takes the session out of the handle and puts it back, so it gets a pointer that it may write to.
     at: UnsafeCell<ffi::Handle>,
 }
 
@@ -154,8 +154,8 @@ impl Session {
     }
 
     /// Replaces the text that was just yanked by the one before it in the ring. Whether the cursor was at the end, or
-    /// `None` where the last command was no yank. `None` also where the text before is empty or too long for the limit:
-    /// what was yanked is deleted then. `BadYankSize`, `NoMemory`.
+    /// `None` where the last command was not a yank. `None` also where the one before is empty or too long for the
+    /// limit: then what was yanked is deleted. `BadYankSize`, `NoMemory`.
     pub fn yank_pop(&mut self) -> Result<Option<bool>, Fault> {
         inserted(unsafe { ffi::lodvarn_yank_pop(self.at.get()) })
     }
@@ -252,8 +252,8 @@ impl Session {
         yes(unsafe { ffi::lodvarn_edit_word(self.at.get(), action as u32) })
     }
 
-    /// Deletes what a movement covers. The ring keeps it, but not by `BackwardChar` and `ForwardChar`. Kills one right
-    /// after the other become one text of the ring. False where there is nothing. `NoMemory`.
+    /// Deletes what a movement covers. The ring keeps it, except by `BackwardChar` and `ForwardChar`. Consecutive
+    /// kills become one text of the ring. False where there is nothing. `NoMemory`.
     pub fn kill(&mut self, movement: Movement) -> Result<bool, Fault> {
         let (number, n, c) = movement.numbers();
         yes(unsafe { ffi::lodvarn_kill(self.at.get(), number, n, c) })
@@ -265,14 +265,14 @@ impl Session {
         handed(|out, cap, len| unsafe { ffi::lodvarn_copy(at, number, n, c, out, cap, len) })
     }
 
-    /// Inserts so many spaces at the start of each line that a movement covers, in a change or more for each line.
+    /// Inserts `amount` spaces at the start of each line that a movement covers, in a change or more for each line.
     /// `NoMemory`.
     pub fn indent(&mut self, movement: Movement, amount: u8) -> Result<bool, Fault> {
         let (number, n, c) = movement.numbers();
         yes(unsafe { ffi::lodvarn_indent(self.at.get(), number, n, c, amount, 0) })
     }
 
-    /// Deletes up to so many bytes of blanks at the start of each line that a movement covers, in a change for each
+    /// Deletes up to `amount` bytes of blanks at the start of each line that a movement covers, in a change for each
     /// line. `NoMemory`.
     pub fn dedent(&mut self, movement: Movement, amount: u8) -> Result<bool, Fault> {
         let (number, n, c) = movement.numbers();
@@ -305,8 +305,8 @@ impl Session {
         yes(unsafe { ffi::lodvarn_redo(self.at.get()) })
     }
 
-    /// Keeps the first entries of the record, so many, and forgets the others and what was undone. `NotReplaying` where
-    /// they do not lead to the present text, `NoMemory`.
+    /// Keeps the first `entries` entries of the record, and forgets the others and what was undone. `NotReplaying`
+    /// where they do not lead to the present text, `NoMemory`.
     pub fn truncate(&mut self, entries: usize) -> Result<(), Fault> {
         done(unsafe { ffi::lodvarn_truncate(self.at.get(), entries) })
     }
@@ -360,7 +360,7 @@ impl Session {
         unsafe { ffi::lodvarn_entries(self.at.get()) }
     }
 
-    /// Whether the last command was a `yank` or `yank_pop` and answered `Some`. A yank of no times counts.
+    /// Whether the last command was a `yank` or `yank_pop` and answered `Some`. A yank with n = 0 counts.
     pub fn last_was_yank(&self) -> bool {
         unsafe { ffi::lodvarn_last_was_yank(self.at.get()) == ffi::TRUE }
     }

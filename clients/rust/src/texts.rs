@@ -42,7 +42,7 @@ pub fn last_cluster(text: &str) -> &str {
     &text[text.len() - len..]
 }
 
-/// The row and column of a place of a text on a screen that has so many columns, where the text begins at the column
+/// The row and column of a place of a text on a screen with `columns` columns, where the text begins at the column
 /// `prompt` of row 0. `BadPlace`.
 pub fn cell(
     text: &str,

@@ -22,7 +22,7 @@ pub enum Word {
     Big = 0,
     /// Letters and digits.
     Emacs = 1,
-    /// Letters, digits and `_`. A run of other characters but blanks is a word too.
+    /// Letters, digits and `_`. A run of other characters except blanks is a word too.
     Vi = 2,
 }
 
@@ -82,21 +82,21 @@ pub enum Movement {
     BeginningOfLine,
     /// To the end of the cursor's line.
     EndOfLine,
-    /// Back to the start of a word, by so many words.
+    /// Back to the start of the n-th word.
     BackwardWord(u16, Word),
-    /// Forward to a word, by so many words, as `At` says.
+    /// Forward to the n-th word, as `At` says.
     ForwardWord(u16, At, Word),
     /// To the n-th hit of a search for a character, or to the farthest where there are fewer.
     Search(u16, Search),
     /// From the first start of a big word after the start of the text to the cursor. No motion.
     FirstPrint,
-    /// So many grapheme clusters back.
+    /// n grapheme clusters back.
     BackwardChar(u16),
-    /// So many grapheme clusters forward.
+    /// n grapheme clusters forward.
     ForwardChar(u16),
-    /// So many lines up.
+    /// n lines up.
     LineUp(u16),
-    /// So many lines down.
+    /// n lines down.
     LineDown(u16),
     /// The whole text.
     WholeBuffer,

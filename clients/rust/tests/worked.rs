@@ -1,4 +1,4 @@
-//! Worked scripts of sessions in Rust, with answers that were worked out by hand.
+//! Scripts of sessions in Rust, with answers that were worked out by hand.
 use lodvarn::{
     cell, first_cluster, last_cluster, run_script, width, Action, At, Fault, Mode, Movement,
     Search, Session, Word,
@@ -179,7 +179,7 @@ fn kills_come_back() {
     let ahead = Movement::ForwardWord(1, At::AfterEnd, Word::Emacs);
     for movement in [ahead, Movement::BeginningOfLine, Movement::EndOfLine] {
         assert_eq!(session.kill(movement), Ok(true));
-        // a read parts no kills
+        // a read does not separate two kills
         assert!(!session.last_was_yank());
     }
     stands(&session, "", 0);

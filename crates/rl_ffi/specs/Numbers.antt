@@ -101,11 +101,11 @@ action_of k = if k == 0 then Some Capitalize else if k == 1 then Some Lowercase 
 abbrev pub mode_of : ℕ → Option GraphemeClusterMode
 mode_of k = if k == 0 then Some Unicode else if k == 1 then Some WcWidth else if k == 2 then Some NoZwj else None
 
--- whether a direction of an indent is to dedent
+-- whether the direction of an indent means dedent
 abbrev pub dedents_of : ℕ → Option Bool
 dedents_of k = if k == 0 then Some false else if k == 1 then Some true else None
 
--- a search, by its number and its character's
+-- a search, by its number and the number of its character
 abbrev pub search_of : ℕ → ℕ → Option CharSearch
 search_of k c =
     if k == 0 then option_map Forward (char_of c) else

@@ -1,4 +1,4 @@
--- What the calls answer that change nothing. A closed session has no text, and its numbers are 0.
+-- What the calls that change nothing answer. A closed session has no text, and its numbers are 0.
 use Rattle.std.specs.Prelude.{◌≡◌, ℕ, List, [], length, Option, Some, None, is_some}
 use Rattle.std.specs.declared.ops.Range.{Range}
 use Rattle.rl_base.specs.KillRing.{yank_size}

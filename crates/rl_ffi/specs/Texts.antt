@@ -1,4 +1,4 @@
--- What the calls answer that need no session.
+-- What the calls that need no session answer.
 use Rattle.std.specs.Prelude.{◌≡◌, ◌⊎◌, ℕ, zero, suc, List, [], ◌∷◌, length, reverse, take, Option, Some, None}
 use Rattle.std.specs.Str.{IsCharBoundary, IsUtf8}
 use Rattle.rl_base.specs.Clusters.{clusters}
@@ -17,7 +17,7 @@ abbrev pub WidthTold : Option GraphemeClusterMode → List ℕ → ℕ → ℕ �
 WidthTold None text n old new = (n ≡ no_such_number) × (new ≡ old)
 WidthTold (Some mode) text n old new = Told text (width mode text) n old new
 
--- how many bytes the first of some clusters has
+-- how many bytes the first cluster of a list has
 abbrev pub first_length : List (List ℕ) → ℕ
 first_length [] = 0
 first_length (cluster ∷ more) = length cluster
@@ -35,13 +35,13 @@ CellIn mode columns prompt text place n old new =
     ⊎ ((¬ (IsUtf8 text)) × (n ≡ not_utf8) × (new ≡ old))
     ⊎ (IsUtf8 text × (¬ (IsCharBoundary text place)) × (n ≡ bad_place) × (new ≡ old))
 
--- on a screen without columns nothing stands
+-- a screen without columns has no cells
 abbrev pub CellTold : Option GraphemeClusterMode → ℕ → ℕ → List ℕ → ℕ → ℕ → ℕ × ℕ → ℕ × ℕ → Type 0
 CellTold None columns prompt text place n old new = (n ≡ no_such_number) × (new ≡ old)
 CellTold (Some mode) zero prompt text place n old new = (n ≡ no_such_number) × (new ≡ old)
 CellTold (Some mode) (suc k) prompt text place n old new = CellIn mode (suc k) prompt text place n old new
 
--- what a script prints: it was read to its end, or a fault stopped it. That the reads of a slice do not fail is said of slices alone.
+-- what a script prints: it was read to its end, or a fault stopped it. Only slices say that their reads do not fail.
 abbrev pub Printed : List ℕ → ℕ → List ℕ → Type 0
 Printed script n out =
     ((n ≡ done) × (left : List ℕ) × Ran (Some script) (Some left) (Some []) (Some out))

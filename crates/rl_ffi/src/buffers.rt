@@ -2,7 +2,7 @@
 ghost use Rattle.std.specs.Prelude.{◌≡◌, ◌≤◌, length};
 ghost use Rattle.rl_ffi.specs.Buffers.{put, written};
 
-// Writes the whole text to the buffer's front.
+// Writes the whole text to the start of the buffer.
 pub(crate) fn put(text: &[u8], out: &mut [u8])
     requires { length text.now ≤ length out.old }
     ensures { out.new ≡ put text.now out.old }
@@ -10,7 +10,7 @@ pub(crate) fn put(text: &[u8], out: &mut [u8])
     out[..text.len()].copy_from_slice(text);
 }
 
-// Writes as much of the text as there is room for.
+// Writes as much of the text as fits.
 pub(crate) fn write(text: &[u8], out: &mut [u8])
     ensures { out.new ≡ written text.now out.old }
 {

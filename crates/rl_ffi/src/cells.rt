@@ -30,7 +30,7 @@ fn after(
     }
 }
 
-// The row and column, with what is at the right edge or past it in the next row.
+// The row and column; at the right edge or past it, those of the next row's start.
 fn wrapped(columns: u16, row: usize, column: usize) -> (usize, usize)
     requires { row < 2 ^ 63 }
     ensures { result ≡ wrapped columns (row, column) }

@@ -24,8 +24,8 @@ use rl_session::{Command, Reply, Session};
 use std::alloc::Global;
 use std::mem::replace;
 
-// Asks the session for a command, unless a number says why there is none. Inlined here and below, so that each call knows its
-// command when it is compiled.
+// Applies the command to the session, unless a number says why there is none. Inlined here and below, so that each
+// call's command is known when it is compiled.
 #[inline(always)]
 fn ask(alloc: Global, s: &mut Handle, command: Result<Command, u32>) -> Result<Reply, u32>
     ensures { Replies command s.old.value result s.new.value }
@@ -51,7 +51,7 @@ fn number_of(answer: &Result<Reply, u32>) -> u32
     }
 }
 
-// The same, where the number tells all.
+// The same, where the answer's number says everything.
 #[inline(always)]
 fn call(alloc: Global, s: &mut Handle, command: Result<Command, u32>) -> u32
     ensures { Called command s.old.value result s.new.value }
@@ -60,7 +60,7 @@ fn call(alloc: Global, s: &mut Handle, command: Result<Command, u32>) -> u32
     number_of(&answer)
 }
 
-// A text of C as one of a command.
+// The bytes of C as the text of a command.
 fn text_of(alloc: Global, bytes: &[u8]) -> Result<String, u32>
     ensures { IsTextOf bytes.now result }
 {
@@ -100,9 +100,9 @@ fn opened(
     }
 }
 
-/// Opens a session on a text, with the cursor at the byte place `pos`, and closes the one that was there: DONE.
+/// Opens a session on a text, with the cursor at the byte place `pos`, and closes the session that was there: DONE.
 /// The line's limit is `limit` bytes, or the text's length where that is greater; the ring has room for `ring_size`
-/// texts. NO_SUCH_NUMBER (of the mode), NOT_UTF8, BAD_PLACE and NO_MEMORY leave the one that was there.
+/// texts. NO_SUCH_NUMBER (of the mode), NOT_UTF8, BAD_PLACE and NO_MEMORY leave the session that was there.
 #[unsafe(no_mangle)]
 pub extern "C" fn lodvarn_open(
     alloc: Global,
@@ -156,7 +156,7 @@ pub extern "C" fn lodvarn_move(alloc: Global, s: &mut Handle, movement: u32, n: 
 }
 
 /// Inserts a character n times at the cursor: TRUE or FALSE, whether the cursor was at the end, or NONE where the text
-/// would get longer than it may. CLOSED, NO_SUCH_NUMBER (of the character) and NO_MEMORY change no text.
+/// would get longer than the limit. CLOSED, NO_SUCH_NUMBER (of the character) and NO_MEMORY change no text.
 #[unsafe(no_mangle)]
 pub extern "C" fn lodvarn_insert(alloc: Global, s: &mut Handle, c: u32, n: u16) -> u32
     ensures { Called (named (λ x. Command.Insert x n) (char_of c)) s.old.value result s.new.value }
@@ -167,7 +167,7 @@ pub extern "C" fn lodvarn_insert(alloc: Global, s: &mut Handle, c: u32, n: u16) 
     }
 }
 
-/// Inserts a text n times at the cursor, and answers as `lodvarn_insert` does, and NONE of an empty text too. CLOSED,
+/// Inserts a text n times at the cursor. Answers as `lodvarn_insert` does, and NONE also for an empty text. CLOSED,
 /// NOT_UTF8 and NO_MEMORY change no text.
 #[unsafe(no_mangle)]
 pub extern "C" fn lodvarn_paste(alloc: Global, s: &mut Handle, text: &[u8], n: u16) -> u32
@@ -179,8 +179,8 @@ pub extern "C" fn lodvarn_paste(alloc: Global, s: &mut Handle, text: &[u8], n: u
     }
 }
 
-/// Inserts the ring's current text n times at the cursor, and answers as `lodvarn_insert` does, and NONE where the ring
-/// has none too. CLOSED and NO_MEMORY change no text.
+/// Inserts the ring's current text n times at the cursor. Answers as `lodvarn_insert` does, and NONE also where the
+/// ring has no text. CLOSED and NO_MEMORY change no text.
 #[unsafe(no_mangle)]
 pub extern "C" fn lodvarn_yank(alloc: Global, s: &mut Handle, n: u16) -> u32
     ensures { Called (Ok (Command.Yank n)) s.old.value result s.new.value }
@@ -188,9 +188,9 @@ pub extern "C" fn lodvarn_yank(alloc: Global, s: &mut Handle, n: u16) -> u32
     call(alloc, s, Ok(Command::Yank(n)))
 }
 
-/// Replaces the text that was just yanked by the one before it in the ring (GNU readline: yank-pop), and answers as
-/// `lodvarn_insert` does. NONE where the last command was no yank: then no text changes. NONE too where the text before
-/// is empty, or longer than the limit leaves room for: then the yanked text is taken out. BAD_YANK_SIZE and CLOSED
+/// Replaces the text that was just yanked by the one before it in the ring (GNU readline: yank-pop). Answers as
+/// `lodvarn_insert` does, and NONE where the last command was not a yank: then no text changes. NONE also where the
+/// text before it is empty, or longer than the limit allows: then the yanked text is deleted. BAD_YANK_SIZE and CLOSED
 /// change nothing; NO_MEMORY stops it after the steps that it made.
 #[unsafe(no_mangle)]
 pub extern "C" fn lodvarn_yank_pop(alloc: Global, s: &mut Handle) -> u32
@@ -324,7 +324,7 @@ pub extern "C" fn lodvarn_delete_word(
     }
 }
 
-/// Deletes to the n-th hit of a search for a character, or the farthest: TRUE or FALSE, whether there was one.
+/// Deletes to the n-th hit of a search for a character, or to the farthest: TRUE or FALSE, whether there was one.
 /// NO_MEMORY, NO_SUCH_NUMBER and CLOSED change no text.
 #[unsafe(no_mangle)]
 pub extern "C" fn lodvarn_delete_to(
@@ -351,7 +351,7 @@ pub extern "C" fn lodvarn_transpose_chars(alloc: Global, s: &mut Handle) -> u32
     call(alloc, s, Ok(Command::TransposeChars))
 }
 
-/// Exchanges the word before the n-th word's end ahead with the word n words before it: TRUE or FALSE, whether there
+/// Exchanges the word that ends n-th after the cursor with the word n words before it: TRUE or FALSE, whether there
 /// were two. CLOSED changes nothing; NO_MEMORY stops it after the steps that it made.
 #[unsafe(no_mangle)]
 pub extern "C" fn lodvarn_transpose_words(alloc: Global, s: &mut Handle, n: u16) -> u32
@@ -432,7 +432,7 @@ pub extern "C" fn lodvarn_redo(alloc: Global, s: &mut Handle) -> u32
     call(alloc, s, Ok(Command::Redo))
 }
 
-/// Forgets all but `entries` entries of the record: DONE. NOT_REPLAYING, NO_MEMORY and CLOSED leave the record.
+/// Keeps only the first `entries` entries of the record: DONE. NOT_REPLAYING, NO_MEMORY and CLOSED leave the record.
 #[unsafe(no_mangle)]
 pub extern "C" fn lodvarn_truncate(alloc: Global, s: &mut Handle, entries: usize) -> u32
     ensures { Called (Ok (Command.Truncate entries)) s.old.value result s.new.value }
@@ -440,8 +440,8 @@ pub extern "C" fn lodvarn_truncate(alloc: Global, s: &mut Handle, entries: usize
     call(alloc, s, Ok(Command::Truncate(entries)))
 }
 
-/// Opens a group of changes: MARK, with `mark` written, how many entries the record had. NO_MEMORY and CLOSED leave
-/// both as they were.
+/// Opens a group of changes: MARK, with the number of entries that the record had in `mark`. NO_MEMORY and CLOSED leave
+/// record and `mark` as they were.
 #[unsafe(no_mangle)]
 pub extern "C" fn lodvarn_begin(alloc: Global, s: &mut Handle, mark: &mut usize) -> u32
     ensures { (answer : Result Reply ℕ) × Replies (Ok Command.Begin) s.old.value answer s.new.value × (result ≡ number_of answer) × (mark.new ≡ mark_in answer mark.old) }
@@ -453,7 +453,7 @@ pub extern "C" fn lodvarn_begin(alloc: Global, s: &mut Handle, mark: &mut usize)
     number_of(&answer)
 }
 
-/// Where the cursor stands: AT, with the number of its line, from 0, and the columns from the line's start written.
+/// Where the cursor is: AT, with the number of its line, from 0, and the columns from the line's start written.
 /// CLOSED leaves both as they were.
 #[unsafe(no_mangle)]
 pub extern "C" fn lodvarn_line_place(
@@ -473,7 +473,7 @@ pub extern "C" fn lodvarn_line_place(
     number_of(&answer)
 }
 
-// Hands a reply's text out.
+// Writes out a reply's text and its length.
 fn hand_out(reply: &Reply, out: &mut [u8], len: &mut usize) -> u32
     requires { Fits reply.now out.old }
     ensures number { result ≡ reply_number reply.now }
@@ -509,8 +509,8 @@ fn delete(session: &mut Session, n: RepeatCount, out: &mut [u8], len: &mut usize
     hand_out(&reply, out, len)
 }
 
-/// Deletes n grapheme clusters from the cursor on: TEXT, with the deleted text in `out` and its bytes in `len`, or NONE
-/// where there were none. TOO_SMALL writes to `len` what is needed, and changes nothing else; NO_MEMORY and CLOSED
+/// Deletes n grapheme clusters after the cursor: TEXT, with the deleted text in `out` and its bytes in `len`, or NONE
+/// where there were none. TOO_SMALL writes the bytes needed to `len`, and changes nothing else; NO_MEMORY and CLOSED
 /// change no text.
 #[unsafe(no_mangle)]
 pub extern "C" fn lodvarn_delete(
@@ -549,7 +549,7 @@ fn copy(session: &mut Session, movement: Movement, out: &mut [u8], len: &mut usi
 }
 
 /// Copies what a movement covers: TEXT, with the text in `out` and its bytes in `len`, or NONE where that is nothing.
-/// TOO_SMALL writes to `len` what is needed, and changes nothing else; NO_SUCH_NUMBER, NO_MEMORY and CLOSED change no
+/// TOO_SMALL writes the bytes needed to `len`, and changes nothing else; NO_SUCH_NUMBER, NO_MEMORY and CLOSED change no
 /// text.
 #[unsafe(no_mangle)]
 pub extern "C" fn lodvarn_copy(

@@ -22,7 +22,7 @@ impl Model for Handle {
 }
 
 impl Handle {
-    /// Holds none.
+    /// Holds no session.
     #[inline(always)]
     pub fn closed(alloc: Global) -> Handle
         ensures { result.value ≡ None }
@@ -67,7 +67,7 @@ impl Handle {
         Handle::of_parts(Parts::of(session))
     }
 
-    /// The session.
+    /// The session, if there is one.
     #[inline(always)]
     pub fn take(self) -> Option<Box<Session>>
         ensures { option_map (λ b. b.value) result ≡ self.value }

@@ -1,11 +1,11 @@
-//! A box on the heap as its pointer and its allocator, which another module may keep and put together again.
+//! A box on the heap, split into its pointer and its allocator. Another module may keep these and join them again.
 ghost use Rattle.std.specs.Prelude.{◌≡◌};
 ghost use Rattle.std.specs.Box.Ownership.{box_owns};
 
 use std::alloc::Allocator;
 use std::marker::Model;
 
-// Owns what a box at the pointer would.
+// Owns what a box with this pointer would own.
 pub struct Parts<T, A: Allocator> {
     pub(crate) at: *mut T,
     pub(crate) alloc: A,
@@ -17,7 +17,7 @@ impl<T, A: Allocator> Model for Parts<T, A> {
 }
 
 impl<T, A: Allocator> Parts<T, A> {
-    // The box taken apart.
+    // Splits the box.
     #[inline(always)]
     pub fn of(boxed: Box<T, A>) -> Parts<T, A>
     where
@@ -28,7 +28,7 @@ impl<T, A: Allocator> Parts<T, A> {
         Parts { at, alloc }
     }
 
-    // The box put together.
+    // Joins the box again.
     #[inline(always)]
     pub fn into_box(self) -> Box<T, A>
         ensures { result.value ≡ self.value }

@@ -11,7 +11,7 @@ use rl_line::LineBuffer;
 use std::alloc::Global;
 use std::mem::replace;
 
-/// Copies the text, in bytes as much of it as there is room for, and answers how long the whole is; 0 for a closed
+/// Copies as many bytes of the text as fit, and answers how long the whole is, in bytes; 0 for a closed
 /// session.
 #[unsafe(no_mangle)]
 pub extern "C" fn lodvarn_text(alloc: Global, s: &mut Handle, out: &mut [u8]) -> usize
@@ -111,7 +111,7 @@ pub extern "C" fn lodvarn_entries(alloc: Global, s: &mut Handle) -> usize
     }
 }
 
-/// Whether the last action of the ring was a yank or a pop, also one of no times: TRUE or FALSE, or CLOSED.
+/// Whether the last action of the ring was a yank or a yank-pop, also with count 0: TRUE or FALSE, or CLOSED.
 #[unsafe(no_mangle)]
 pub extern "C" fn lodvarn_last_was_yank(alloc: Global, s: &mut Handle) -> u32
     ensures value { result ≡ last_was_yank_of s.old.value }
@@ -127,7 +127,7 @@ pub extern "C" fn lodvarn_last_was_yank(alloc: Global, s: &mut Handle) -> u32
     }
 }
 
-// Writes where a line's text stands, if there is such a line.
+// Writes where a line's text begins and ends, if there is such a line.
 fn range_in(line: &LineBuffer, i: usize, start: &mut usize, end: &mut usize) -> u32
     ensures { RangeIn (range_of_line line.now.text i) result (start.old, end.old) (start.new, end.new) }
 {
@@ -141,8 +141,8 @@ fn range_in(line: &LineBuffer, i: usize, start: &mut usize, end: &mut usize) -> 
     }
 }
 
-/// Where the text of line `line` stands, from 0, in bytes and without its newline: DONE, with both ends written. NONE
-/// where there is no such line, and CLOSED; then both stay as they were.
+/// Where the text of line `line`, counted from 0, begins and ends, in bytes, without its newline: DONE, with both
+/// written. NONE, where there is no such line, and CLOSED leave both as they were.
 #[unsafe(no_mangle)]
 pub extern "C" fn lodvarn_line_range(
     alloc: Global,

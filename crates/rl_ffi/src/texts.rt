@@ -12,9 +12,9 @@ use rl_session::run_script;
 use std::alloc::Global;
 use unicode_segmentation::UnicodeSegmentation;
 
-/// Runs a whole script in a session of its own, and copies what it prints, in bytes as much of it as there is room
-/// for; `len` is how long the whole is. Answers DONE, or NO_MEMORY where memory ended: then both are of what its first
-/// lines print, the last one perhaps cut.
+/// Runs a whole script in a session of its own, and copies as many bytes of what it prints as fit; `len` is how long
+/// the whole is. Answers DONE, or NO_MEMORY where memory ran out: then `out` and `len` are of what its first lines
+/// print, the last one perhaps cut.
 #[unsafe(no_mangle)]
 pub extern "C" fn lodvarn_script(
     alloc: Global,
@@ -26,7 +26,7 @@ pub extern "C" fn lodvarn_script(
 {
     let mut reader = script;
     let mut printed = Vec::new(alloc);
-    // A slice gives every byte, and a vector fails to take one only where memory is out.
+    // A read from a slice never fails, and a write to a vector fails only where memory is out.
     let number = match run_script(alloc, &mut reader, &mut printed) {
         Ok(()) => DONE,
         Err(_) => NO_MEMORY,
@@ -54,7 +54,7 @@ pub extern "C" fn lodvarn_width(text: &[u8], mode: u32, columns: &mut u16) -> u3
     }
 }
 
-/// How many bytes the first grapheme cluster of a text has, 0 where it is empty: DONE, with `len` written. NOT_UTF8
+/// How many bytes the first grapheme cluster of a text has, 0 for an empty text: DONE, with `len` written. NOT_UTF8
 /// leaves it as it was.
 #[unsafe(no_mangle)]
 pub extern "C" fn lodvarn_first_cluster(text: &[u8], len: &mut usize) -> u32
@@ -72,7 +72,7 @@ pub extern "C" fn lodvarn_first_cluster(text: &[u8], len: &mut usize) -> u32
     }
 }
 
-/// How many bytes the last grapheme cluster of a text has, 0 where it is empty: DONE, with `len` written. NOT_UTF8
+/// How many bytes the last grapheme cluster of a text has, 0 for an empty text: DONE, with `len` written. NOT_UTF8
 /// leaves it as it was.
 #[unsafe(no_mangle)]
 pub extern "C" fn lodvarn_last_cluster(text: &[u8], len: &mut usize) -> u32
@@ -111,9 +111,9 @@ fn cell_in(
     DONE
 }
 
-/// The row and the column, from 0, of a byte place of a text that begins at column `prompt` of row 0 of a screen with
-/// `columns` columns: DONE, with both written. NO_SUCH_NUMBER (also where `columns` is 0), NOT_UTF8, and BAD_PLACE
-/// where the place is no boundary of a character, leave them as they were.
+/// The row and the column, from 0, of a byte place of a text on a screen with `columns` columns. The text begins at
+/// column `prompt` of row 0: DONE, with both written. NO_SUCH_NUMBER (also where `columns` is 0), NOT_UTF8, and
+/// BAD_PLACE where the place is no boundary of a character, leave them as they were.
 #[unsafe(no_mangle)]
 pub extern "C" fn lodvarn_cell(
     text: &[u8],
