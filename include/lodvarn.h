@@ -224,8 +224,8 @@ uint32_t lodvarn_kill_line(lodvarn **s);
 /* Deletes from the cursor to the end of the text. Answers TRUE, or FALSE where there is nothing. Errors: NO_MEMORY. */
 uint32_t lodvarn_kill_buffer(lodvarn **s);
 
-/* Deletes from the start of the cursor's line to the cursor, or the newline before it where the cursor is at that
- * start. Answers TRUE, or FALSE where there is nothing. Errors: NO_MEMORY. */
+/* Deletes from the start of the cursor's line to the cursor, or the newline before it, CR LF as one, where the
+ * cursor is at that start. Answers TRUE, or FALSE where there is nothing. Errors: NO_MEMORY. */
 uint32_t lodvarn_discard_line(lodvarn **s);
 
 /* Deletes from the start of the text to the cursor. Answers TRUE, or FALSE where there is nothing. Errors:

@@ -206,7 +206,7 @@ impl Session {
         yes(unsafe { ffi::lodvarn_kill_buffer(self.at.get()) })
     }
 
-    /// Deletes back to the start of the cursor's line, or the newline before it. False where there is nothing.
+    /// Deletes back to the start of the cursor's line, or the newline before it, CR LF as one. False where nothing is.
     /// `NoMemory`.
     pub fn discard_line(&mut self) -> Result<bool, Fault> {
         yes(unsafe { ffi::lodvarn_discard_line(self.at.get()) })
