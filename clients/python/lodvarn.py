@@ -393,7 +393,7 @@ class Session:
         return _call("kill_buffer", self._at) == Answer.TRUE
 
     def discard_line(self) -> bool:
-        """Deletes to the start of the cursor's line, or the newline before it, CR LF as one. The ring does not keep it."""
+        """Deletes to the start of the cursor's line, or the newline before it, CR LF as one. Not for the ring."""
         return _call("discard_line", self._at) == Answer.TRUE
 
     def discard_buffer(self) -> bool:
