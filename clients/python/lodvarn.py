@@ -66,6 +66,11 @@ class Action(IntEnum):
     UPPERCASE = 2
 
 
+class _IndentDirection(IntEnum):
+    INDENT = 0
+    DEDENT = 1
+
+
 class Movement(IntEnum):
     """Where a motion goes, and what a kill, a copy or an indent covers."""
 
@@ -437,11 +442,11 @@ class Session:
 
     def indent(self, movement: Movement, amount: int, n: int = 1, c: str = "\0") -> bool:
         """Inserts `amount` spaces, at most 255, at the start of each line that a movement covers."""
-        return _call("indent", self._at, movement, n, ord(c), amount, 0) == Answer.TRUE
+        return _call("indent", self._at, movement, n, ord(c), amount, _IndentDirection.INDENT) == Answer.TRUE
 
     def dedent(self, movement: Movement, amount: int, n: int = 1, c: str = "\0") -> bool:
         """Deletes up to `amount` bytes of blanks, at most 255, at the start of each line that a movement covers."""
-        return _call("indent", self._at, movement, n, ord(c), amount, 1) == Answer.TRUE
+        return _call("indent", self._at, movement, n, ord(c), amount, _IndentDirection.DEDENT) == Answer.TRUE
 
     def begin(self) -> int:
         """Begins an undo group: once closed, one undo takes it back. Answers the number of entries before it."""

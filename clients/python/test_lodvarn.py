@@ -10,7 +10,7 @@ import unittest
 from pathlib import Path
 
 import lodvarn
-from lodvarn import Action, Answer, At, Mode, Movement, Search, Session, Word
+from lodvarn import Action, At, Mode, Movement, Search, Session, Word
 
 TOP = Path(__file__).resolve().parent.parent.parent
 FAMILY = "\U0001f468\u200d\U0001f469\u200d\U0001f467"
@@ -218,13 +218,7 @@ class Texts(Case):
         self.assertEqual(lodvarn.run_script(b""), b"")
 
 
-class Numbers(unittest.TestCase):
-    def test_the_numbers_are_those_of_the_header(self):
-        header = (TOP / "include/lodvarn.h").read_text()
-        numbers = {name: int(number) for name, number in re.findall(r"\bLODVARN_(\w+) = (\d+)", header)}
-        named = [one for kind in (Answer, Action, At, Mode, Movement, Search, Word) for one in kind]
-        self.assertEqual(numbers, {one.name: one.value for one in named} | {"INDENT": 0, "DEDENT": 1})
-
+class Calls(unittest.TestCase):
     def test_the_calls_are_those_of_the_header(self):
         header = re.sub(r"/\*.*?\*/", "", (TOP / "include/lodvarn.h").read_text(), flags=re.S)
         counts = {name: given.count(",") + 1 for name, given in re.findall(r"\blodvarn_(\w+)\(([^)]*)\)", header)}

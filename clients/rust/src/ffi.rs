@@ -11,17 +11,8 @@ pub struct Raw {
 /// A handle: null, or a session.
 pub type Handle = *mut Raw;
 
-pub const DONE: u32 = 0;
-pub const TRUE: u32 = 1;
-pub const FALSE: u32 = 2;
-pub const NONE: u32 = 3;
-pub const TEXT: u32 = 4;
-pub const MARK: u32 = 5;
-pub const NO_MEMORY: u32 = 11;
-pub const BAD_PLACE: u32 = 12;
-pub const BAD_YANK_SIZE: u32 = 13;
-pub const NOT_REPLAYING: u32 = 14;
-pub const TOO_SMALL: u32 = 23;
+// The numbers of the header, which build.rs makes constants of: DONE is that of LODVARN_DONE.
+include!(concat!(env!("OUT_DIR"), "/numbers.rs"));
 
 extern "C" {
     pub fn lodvarn_open(

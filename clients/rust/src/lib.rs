@@ -20,6 +20,8 @@
 //! The crate links `liblodvarn.a`, which `clients/build` makes.
 #![warn(missing_docs)]
 
+// A number or a call of the header that nothing uses is an error.
+#[deny(dead_code)]
 mod ffi;
 mod texts;
 mod words;
@@ -269,14 +271,14 @@ impl Session {
     /// `NoMemory`.
     pub fn indent(&mut self, movement: Movement, amount: u8) -> Result<bool, Fault> {
         let (number, n, c) = movement.numbers();
-        yes(unsafe { ffi::lodvarn_indent(self.at.get(), number, n, c, amount, 0) })
+        yes(unsafe { ffi::lodvarn_indent(self.at.get(), number, n, c, amount, ffi::INDENT) })
     }
 
     /// Deletes up to `amount` bytes of blanks at the start of each line that a movement covers, in a change for each
     /// line. `NoMemory`.
     pub fn dedent(&mut self, movement: Movement, amount: u8) -> Result<bool, Fault> {
         let (number, n, c) = movement.numbers();
-        yes(unsafe { ffi::lodvarn_indent(self.at.get(), number, n, c, amount, 1) })
+        yes(unsafe { ffi::lodvarn_indent(self.at.get(), number, n, c, amount, ffi::DEDENT) })
     }
 
     /// Begins an undo group: once it is closed, one undo takes back all its changes. The number of entries before it.
@@ -315,7 +317,8 @@ impl Session {
     /// a kill after it begins a new text of the ring.
     pub fn line_place(&mut self) -> (usize, u16) {
         let (mut line, mut column) = (0, 0);
-        unsafe { ffi::lodvarn_line_place(self.at.get(), &mut line, &mut column) };
+        let answer = unsafe { ffi::lodvarn_line_place(self.at.get(), &mut line, &mut column) };
+        debug_assert_eq!(answer, ffi::AT);
         (line, column)
     }
 

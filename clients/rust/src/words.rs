@@ -1,51 +1,55 @@
-//! What the calls take, as types, and the numbers of these.
+//! What the calls take, as types, and the numbers of these, by their names in the header.
 use crate::ffi;
 use std::error::Error;
 use std::fmt;
 
 /// How columns are counted.
 #[derive(Clone, Copy, Debug, Default, PartialEq, Eq, Hash)]
+#[repr(u32)]
 pub enum Mode {
     /// The width of the whole text, an emoji sequence as one emoji.
     #[default]
-    Unicode = 0,
+    Unicode = ffi::UNICODE,
     /// The sum of the widths of its characters.
-    WcWidth = 1,
+    WcWidth = ffi::WC_WIDTH,
     /// The sum of the widths of the parts between zero-width joiners.
-    NoZwj = 2,
+    NoZwj = ffi::NO_ZWJ,
 }
 
 /// What belongs to a word.
 #[derive(Clone, Copy, Debug, PartialEq, Eq, Hash)]
+#[repr(u32)]
 pub enum Word {
     /// Everything but blanks.
-    Big = 0,
+    Big = ffi::BIG,
     /// Letters and digits.
-    Emacs = 1,
+    Emacs = ffi::EMACS,
     /// Letters, digits and `_`. A run of other characters except blanks is a word too.
-    Vi = 2,
+    Vi = ffi::VI,
 }
 
 /// Where a motion forward by words stops.
 #[derive(Clone, Copy, Debug, PartialEq, Eq, Hash)]
+#[repr(u32)]
 pub enum At {
     /// At the start of a word.
-    Start = 0,
+    Start = ffi::START,
     /// At the last cluster of a word; after an Emacs word.
-    BeforeEnd = 1,
+    BeforeEnd = ffi::BEFORE_END,
     /// After a word.
-    AfterEnd = 2,
+    AfterEnd = ffi::AFTER_END,
 }
 
 /// The letter case that a word gets.
 #[derive(Clone, Copy, Debug, PartialEq, Eq, Hash)]
+#[repr(u32)]
 pub enum Action {
     /// The first character in upper case, the others in lower case.
-    Capitalize = 0,
+    Capitalize = ffi::CAPITALIZE,
     /// All in lower case.
-    Lowercase = 1,
+    Lowercase = ffi::LOWERCASE,
     /// All in upper case.
-    Uppercase = 2,
+    Uppercase = ffi::UPPERCASE,
 }
 
 /// Where a search for a character goes.
@@ -65,10 +69,10 @@ impl Search {
     /// Its number, and the number of its character.
     pub(crate) fn numbers(self) -> (u32, u32) {
         match self {
-            Search::Forward(c) => (0, c.into()),
-            Search::ForwardBefore(c) => (1, c.into()),
-            Search::Backward(c) => (2, c.into()),
-            Search::BackwardAfter(c) => (3, c.into()),
+            Search::Forward(c) => (ffi::FORWARD, c.into()),
+            Search::ForwardBefore(c) => (ffi::FORWARD_BEFORE, c.into()),
+            Search::Backward(c) => (ffi::BACKWARD, c.into()),
+            Search::BackwardAfter(c) => (ffi::BACKWARD_AFTER, c.into()),
         }
     }
 }
@@ -107,27 +111,57 @@ pub enum Movement {
 }
 
 impl Movement {
+    fn number(self) -> u32 {
+        match self {
+            Movement::WholeLine => ffi::WHOLE_LINE,
+            Movement::BeginningOfLine => ffi::BEGINNING_OF_LINE,
+            Movement::EndOfLine => ffi::END_OF_LINE,
+            Movement::BackwardWord(_, Word::Big) => ffi::BACKWARD_BIG_WORD,
+            Movement::BackwardWord(_, Word::Emacs) => ffi::BACKWARD_EMACS_WORD,
+            Movement::BackwardWord(_, Word::Vi) => ffi::BACKWARD_VI_WORD,
+            Movement::ForwardWord(_, At::Start, Word::Big) => ffi::FORWARD_BIG_WORD_START,
+            Movement::ForwardWord(_, At::BeforeEnd, Word::Big) => ffi::FORWARD_BIG_WORD_BEFORE_END,
+            Movement::ForwardWord(_, At::AfterEnd, Word::Big) => ffi::FORWARD_BIG_WORD_AFTER_END,
+            Movement::ForwardWord(_, At::Start, Word::Emacs) => ffi::FORWARD_EMACS_WORD_START,
+            Movement::ForwardWord(_, At::BeforeEnd, Word::Emacs) => {
+                ffi::FORWARD_EMACS_WORD_BEFORE_END
+            }
+            Movement::ForwardWord(_, At::AfterEnd, Word::Emacs) => {
+                ffi::FORWARD_EMACS_WORD_AFTER_END
+            }
+            Movement::ForwardWord(_, At::Start, Word::Vi) => ffi::FORWARD_VI_WORD_START,
+            Movement::ForwardWord(_, At::BeforeEnd, Word::Vi) => ffi::FORWARD_VI_WORD_BEFORE_END,
+            Movement::ForwardWord(_, At::AfterEnd, Word::Vi) => ffi::FORWARD_VI_WORD_AFTER_END,
+            Movement::Search(_, Search::Forward(_)) => ffi::SEARCH_FORWARD,
+            Movement::Search(_, Search::ForwardBefore(_)) => ffi::SEARCH_FORWARD_BEFORE,
+            Movement::Search(_, Search::Backward(_)) => ffi::SEARCH_BACKWARD,
+            Movement::Search(_, Search::BackwardAfter(_)) => ffi::SEARCH_BACKWARD_AFTER,
+            Movement::FirstPrint => ffi::FIRST_PRINT,
+            Movement::BackwardChar(_) => ffi::BACKWARD_CHAR,
+            Movement::ForwardChar(_) => ffi::FORWARD_CHAR,
+            Movement::LineUp(_) => ffi::LINE_UP,
+            Movement::LineDown(_) => ffi::LINE_DOWN,
+            Movement::WholeBuffer => ffi::WHOLE_BUFFER,
+            Movement::BeginningOfBuffer => ffi::BEGINNING_OF_BUFFER,
+            Movement::EndOfBuffer => ffi::END_OF_BUFFER,
+        }
+    }
+
+    /// Its count, and the number of its character.
+    fn count(self) -> (u16, u32) {
+        match self {
+            Movement::Search(n, search) => (n, search.numbers().1),
+            Movement::BackwardWord(n, _) | Movement::ForwardWord(n, _, _) => (n, 0),
+            Movement::BackwardChar(n) | Movement::ForwardChar(n) => (n, 0),
+            Movement::LineUp(n) | Movement::LineDown(n) => (n, 0),
+            _ => (0, 0),
+        }
+    }
+
     /// Its number, its count, and the number of its character.
     pub(crate) fn numbers(self) -> (u32, u16, u32) {
-        match self {
-            Movement::WholeLine => (0, 0, 0),
-            Movement::BeginningOfLine => (1, 0, 0),
-            Movement::EndOfLine => (2, 0, 0),
-            Movement::BackwardWord(n, word) => (3 + word as u32, n, 0),
-            Movement::ForwardWord(n, at, word) => (6 + 3 * word as u32 + at as u32, n, 0),
-            Movement::Search(n, search) => {
-                let (number, c) = search.numbers();
-                (15 + number, n, c)
-            }
-            Movement::FirstPrint => (19, 0, 0),
-            Movement::BackwardChar(n) => (20, n, 0),
-            Movement::ForwardChar(n) => (21, n, 0),
-            Movement::LineUp(n) => (22, n, 0),
-            Movement::LineDown(n) => (23, n, 0),
-            Movement::WholeBuffer => (24, 0, 0),
-            Movement::BeginningOfBuffer => (25, 0, 0),
-            Movement::EndOfBuffer => (26, 0, 0),
-        }
+        let (n, c) = self.count();
+        (self.number(), n, c)
     }
 }
 
@@ -146,13 +180,16 @@ pub enum Fault {
 }
 
 impl Fault {
-    /// The fault of an answer. The types rule out every other answer.
+    /// The fault of an answer that is one.
     pub(crate) fn of(answer: u32) -> Fault {
         match answer {
             ffi::NO_MEMORY => Fault::NoMemory,
             ffi::BAD_PLACE => Fault::BadPlace,
             ffi::BAD_YANK_SIZE => Fault::BadYankSize,
             ffi::NOT_REPLAYING => Fault::NotReplaying,
+            ffi::CLOSED | ffi::NOT_UTF8 | ffi::NO_SUCH_NUMBER => {
+                unreachable!("the types rule it out")
+            }
             _ => unreachable!("the library answered {answer}"),
         }
     }

@@ -1,0 +1,110 @@
+#!/usr/bin/env python3
+"""Compares the numbers of include/lodvarn.h with those of crates/rl_ffi and of the clients for Python and Rust.
+
+    python3 clients/check_numbers.py
+
+Each enum whole: what only one side has fails too. The client for Rust has no numbers of its own: its build.rs makes
+constants of the header's, and each must stand where its name says. The last line is 'N passed, M failed', where each
+name counts one for each of the three.
+"""
+
+import ast
+import re
+import sys
+from pathlib import Path
+
+TOP = Path(__file__).resolve().parent.parent
+# The enum that a function of the crate names otherwise, and its numbers, which are a bool there.
+ENUMS = {"dedents": "indent_direction"}
+DIRECTIONS = {"false": "INDENT", "true": "DEDENT"}
+
+
+def snake(name):
+    """A name as the header writes it: BeforeEnd is BEFORE_END."""
+    return re.sub(r"(?<!^)(?=[A-Z])", "_", name).upper()
+
+
+def name_of(value):
+    """The header's name of a value of the crate or of the client for Rust, as Movement::BackwardWord(n, Word::Big)."""
+    match [snake(name) for name in re.findall(r"::(\w+)", value)]:
+        case ["BACKWARD_WORD", word]:
+            return f"BACKWARD_{word}_WORD"
+        case ["FORWARD_WORD", at, word]:
+            return f"FORWARD_{word}_WORD_{at}"
+        case names:
+            return "_".join(names).removeprefix("VI_")
+
+
+def numbers_of_header(header):
+    """The numbers of the header: an enum, a name, a number."""
+    header = re.sub(r"/\*.*?\*/", "", header, flags=re.S)
+    found = []
+    for enum, body in re.findall(r"\benum lodvarn_(\w+) \{(.*?)\};", header, re.S):
+        found += [(enum, name, int(number)) for name, number in re.findall(r"^ +LODVARN_(\w+) = (\d+)", body, re.M)]
+    if len(found) != header.count("=") or not found:
+        raise ValueError(f"the header has {header.count('=')} numbers, and {len(found)} have a line of their own")
+    return found
+
+
+def numbers_of_crate(source):
+    """The numbers of the crate: the constants of the answers, and what each of its functions makes of a number."""
+    answers = re.findall(r"^(?:pub\(crate\) )?const (\w+): u32 = (\d+);", source, re.M)
+    found = [("answer", name, int(number)) for name, number in answers]
+    searches = {}
+    for name, body in re.findall(r"^pub\(crate\) fn (\w+)_of\(number: u32.*?^\{\n(.*?)^\}", source, re.M | re.S):
+        for number, value in re.findall(r"^ +(\d+) => (.+),$", body, re.M):
+            search = re.fullmatch(r"by_search\(n, search_of\((\d+), c\)\)", value)
+            flag = re.fullmatch(r"Some\((false|true)\)", value)
+            shown = f"SEARCH_{searches[search[1]]}" if search else DIRECTIONS[flag[1]] if flag else name_of(value)
+            if name == "search":
+                searches[number] = shown
+            found.append((ENUMS.get(name, name), shown, int(number)))
+    return found
+
+
+def numbers_of_python(source):
+    """The numbers of clients/python/lodvarn.py: the members of each IntEnum."""
+    found = []
+    for kind in ast.parse(source).body:
+        if isinstance(kind, ast.ClassDef) and [ast.unparse(base) for base in kind.bases] == ["IntEnum"]:
+            members = [it for it in kind.body if isinstance(it, ast.Assign)]
+            enum = snake(kind.name.lstrip("_")).lower()
+            found += [(enum, it.targets[0].id, ast.literal_eval(it.value)) for it in members]
+    return found
+
+
+def numbers_of_rust(source, header):
+    """The numbers that clients/rust/src/words.rs takes from the header, each by the name of what it stands for."""
+    numbers = {name: (enum, number) for enum, name, number in header}
+    found = []
+    for value, name in re.findall(r"^ +(\S.*?) (?:= |=> (?:\{\s*)?)\(?ffi::(\w+)", source, re.M):
+        enum, number = numbers.get(name, ("nothing", -1))
+        found.append((enum, name_of(value if "::" in value else f"::{value}"), number))
+    return found
+
+
+def see(where, wanted, found):
+    """Compares the numbers of one place with those that are wanted there. How many are right, and how many are not."""
+    wrong = sorted(set(wanted) ^ set(found)) + sorted(it for it in set(found) if found.count(it) > 1)
+    for one in wrong:
+        print(f"{where}: {one} stands {wanted.count(one)} times in the header, and {found.count(one)} times there")
+    return len(set(wanted) & set(found)), len(wrong)
+
+
+def main():
+    header = numbers_of_header((TOP / "include/lodvarn.h").read_text())
+    crate, python, rust = "crates/rl_ffi/src/numbers.rt", "clients/python/lodvarn.py", "clients/rust/src/words.rs"
+    # The client for Rust has no types for the others; the compiler sees to it that it uses them.
+    typed = [it for it in header if it[0] not in ("answer", "indent_direction")]
+    sums = [
+        see(crate, header, numbers_of_crate((TOP / crate).read_text())),
+        see(python, header, numbers_of_python((TOP / python).read_text())),
+        see(rust, typed, numbers_of_rust((TOP / rust).read_text(), header)),
+    ]
+    passed, failed = (sum(counts) for counts in zip(*sums))
+    print(f"{passed} passed, {failed} failed")
+    return 1 if failed else 0
+
+
+if __name__ == "__main__":
+    sys.exit(main())
