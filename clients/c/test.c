@@ -44,29 +44,24 @@ static char *printed_at_once(const char *script) {
     return printed;
 }
 
-static void prints(const char *what, const char *script, const char *wanted) {
-    int reads;
-    char *typed = printed_by(script, &reads), *at_once = printed_at_once(script);
-    see(what, !strcmp(typed, wanted) && !strcmp(at_once, wanted) && reads);
-    if (strcmp(typed, wanted)) printf("  wanted\n%s  but got\n%s", wanted, typed);
-    free(typed);
-    free(at_once);
+/* What was printed is what should be; it is freed. */
+static void see_printed(const char *what, char *printed, const char *wanted) {
+    see(what, !strcmp(printed, wanted));
+    if (strcmp(printed, wanted)) printf("  wanted\n%s  but got\n%s", wanted, printed);
+    free(printed);
 }
+
+/* A line without a meaning, for which there is no call, prints bad. */
+static int has_bad_line(const char *printed) { return !strncmp(printed, "bad\n", 4) || strstr(printed, "\nbad\n"); }
 
 static void scripts_print(void) {
-    for (size_t i = 0; i < sizeof rows / sizeof *rows; i++) prints(rows[i].what, rows[i].script, rows[i].wanted);
-}
-
-static void lines_print(void) {
-    for (size_t i = 0; i < sizeof lines / sizeof *lines; i++) {
-        const struct lines *row = &lines[i];
-        char script[1024], wanted[1024], what[1200];
-        snprintf(script, sizeof script, "text %s\npos %zu\n%s\n", row->text, row->pos, row->lines);
-        snprintf(what, sizeof what, "%s on \"%s\" at %zu", row->lines, row->text, row->pos);
-        char *start = printed_at_once((snprintf(wanted, sizeof wanted, "text %s\n", row->text), wanted));
-        snprintf(wanted, sizeof wanted, "%sok %zu %s\n%s\n", start, row->pos, row->text, row->wanted);
-        free(start);
-        prints(what, script, wanted);
+    for (size_t i = 0; i < sizeof rows / sizeof *rows; i++) {
+        const struct row *row = &rows[i];
+        int reads;
+        see_printed(row->what, printed_at_once(row->script), row->wanted);
+        if (has_bad_line(row->wanted)) continue;
+        see_printed(row->what, printed_by(row->script, &reads), row->wanted);
+        see(row->what, reads);
     }
 }
 
@@ -634,7 +629,6 @@ static void memory_that_is_not_there(void) {
 
 int main(void) {
     scripts_print();
-    lines_print();
     a_case_change_is_undone_at_once();
     reads_read();
     reads_part_no_kills();

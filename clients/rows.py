@@ -1,0 +1,79 @@
+#!/usr/bin/env python3
+"""Prints the worked scripts of crates/rl_tests as a table for C: what each shows, the script, and what it prints.
+
+    python3 clients/rows.py > rows.h
+
+They stand there in the tables that go to print_all, a whole script a row, and to print_each, a text, the cursor, lines
+of a script and what these print. A table that can't be read whole is an error, so no row is lost.
+"""
+
+import ast
+import re
+from pathlib import Path
+
+TESTS = Path(__file__).resolve().parent.parent / "crates/rl_tests/src"
+TEXT = r'"(?:[^"\\]|\\.)*"'
+CONSTANT = re.compile(rf"const (\w+): &str = ({TEXT});")
+ESCAPE = re.compile(rb"\\(?:x(..)|u\{(\w+)\}|(.))")
+LETTERS = {b"n": b"\n", b"r": b"\r", b"t": b"\t", b"\\": b"\\", b'"': b'"'}
+# What stands in a text of C as it is. Two question marks and what comes after them may mean another character there.
+PLAIN = set(range(32, 127)) - set(b'"\\?')
+
+
+def bytes_of(literal):
+    """The bytes that a text or a byte string of Rattle stands for."""
+
+    def meant(found):
+        code, scalar, letter = found.groups()
+        return bytes.fromhex(code.decode()) if code else chr(int(scalar, 16)).encode() if scalar else LETTERS[letter]
+
+    return ESCAPE.sub(meant, literal[literal.index('"') + 1 : -1].encode())
+
+
+def read_table(table, constants):
+    """The rows of a table, each a tuple of bytes and numbers. A word in it is one of the constants."""
+
+    def in_python(found):
+        part = found[0]
+        if part.startswith("//"):
+            return ""
+        return repr(bytes_of(part if part.endswith('"') else constants[part]))
+
+    return ast.literal_eval(re.sub(rf"b?{TEXT}|//[^\n]*|[A-Z]\w*", in_python, table))
+
+
+def whole(text, pos, lines, printed):
+    """Lines that run on a text with the cursor at that place, as a whole script."""
+    length = len(re.sub(rb"\\.", b"x", text))
+    what = b'%s on "%s" at %d' % (lines, text, pos)
+    script = b"text %s\npos %d\n%s\n" % (text, pos, lines)
+    return what, script, b"ok %d %s\nok %d %s\n%s\n" % (length, text, pos, text, printed)
+
+
+def rows_of(source):
+    """The worked scripts of a file of tests."""
+    rows = []
+    for use in re.finditer(r"\bprint_(all|each)\((?!rt:)", source):
+        before, _, table = source[: use.start()].rpartition("const ROWS: &[")
+        read = read_table(table.partition("= &")[2].rstrip().removesuffix(";"), dict(CONSTANT.findall(before)))
+        rows += read if use[1] == "all" else [whole(*row) for row in read]
+    return rows
+
+
+def in_c(text):
+    """A text as C has it. A NUL would end it."""
+    if 0 in text:
+        raise ValueError(f"a NUL in {text}")
+    return '"' + "".join(chr(b) if b in PLAIN else f"\\{b:03o}" for b in text) + '"'
+
+
+def main():
+    print("static const struct row {\n    const char *what, *script, *wanted;\n} rows[] = {")
+    for file in sorted(TESTS.glob("*.rt")):
+        for row in rows_of(file.read_text()):
+            print(f"    {{{', '.join(in_c(text) for text in row)}}},")
+    print("};")
+
+
+if __name__ == "__main__":
+    main()
