@@ -1,9 +1,9 @@
-//! Edits that their listener refuses halfway, and what they leave.
-use crate::edits::{replace, update, yank_pop};
+//! Edits of several changes that their listener refuses halfway, and what they leave. `rl_halts` refuses every edit.
+use crate::edits::{update, yank_pop};
 use crate::line_buffer::{leaves, line_of};
 use crate::told::{AHEAD, Told, is_told};
 use rl_base::laws::RefuseAt;
-use rl_base::{Movement, Refusal, RepeatCount, Word, WordAction};
+use rl_base::{Movement, Refusal, WordAction};
 use rl_line::LineBuffer;
 use std::alloc::Global;
 use std::process::Abort;
@@ -12,33 +12,13 @@ use std::test::Fail;
 // An edit, as a value of a table.
 #[derive(Drop)]
 enum Edit {
-    Insert(char, RepeatCount),
-    Yank(&'static str),
     YankPop(&'static str),
     Update(&'static str),
-    Replace(&'static str),
-    Delete(RepeatCount),
-    Kill(Movement),
     TransposeChars,
     TransposeWords,
     EditWord(WordAction),
-    InsertStr,
-    DeleteRange,
     Indent(Movement, u8),
     Dedent(Movement, u8),
-}
-
-// Deletes the whole text.
-fn delete_range(rt: &impl Abort, line: &mut LineBuffer, heard: &mut RefuseAt) -> Option<Refusal> {
-    let end = line.len();
-    assert!(rt; line.as_str().is_char_boundary(0) && line.as_str().is_char_boundary(end));
-    line.delete_range(0..end, heard).err()
-}
-
-// Inserts "cd" at the cursor, which stays.
-fn insert_str(line: &mut LineBuffer, heard: &mut RefuseAt) -> Option<Refusal> {
-    let at = line.pos();
-    line.insert_str(at, "cd", heard).err()
 }
 
 // Makes the edit, from the start of the text where it takes a place. Answers why it was refused, if it was.
@@ -49,24 +29,14 @@ fn make(
     heard: &mut RefuseAt,
 ) -> Option<Refusal> {
     match edit {
-        Edit::Insert(c, n) => line.insert(*c, *n, heard).err(),
-        Edit::Yank(text) => line.yank(text, 1, heard).err(),
         Edit::YankPop(text) => {
             let at = line.pos();
             yank_pop(rt, line, at, text, heard).err()
         }
         Edit::Update(text) => update(rt, line, text, 0, heard).err(),
-        Edit::Replace(text) => {
-            let end = line.len();
-            replace(rt, line, 0, end, text, heard).err()
-        }
-        Edit::Delete(n) => line.delete(*n, heard).err(),
-        Edit::Kill(mvt) => line.kill(mvt, heard).err(),
         Edit::TransposeChars => line.transpose_chars(heard).err(),
         Edit::TransposeWords => line.transpose_words(1, heard).err(),
         Edit::EditWord(action) => line.edit_word(*action, heard).err(),
-        Edit::InsertStr => insert_str(line, heard),
-        Edit::DeleteRange => delete_range(rt, line, heard),
         Edit::Indent(mvt, amount) => line.indent(mvt, *amount, false, heard).err(),
         Edit::Dedent(mvt, amount) => line.indent(mvt, *amount, true, heard).err(),
     }
@@ -119,45 +89,13 @@ fn halts(
 ) -> Result<(), Fail> {
     let refused = !steps.is_empty();
     halts_after(rt, alloc, text, pos, edit, 0, refused, text, pos)?;
-    let mut before = text;
     for (taken, (told, after, cursor)) in steps.iter().enumerate() {
         let allowed = taken.saturating_add(1);
         let refused = allowed < steps.len();
         let heard = halts_after(rt, alloc, text, pos, edit, allowed, refused, after, *cursor)?;
         is_so(rt, is_told(&heard, *told), text, pos, allowed);
-        before = *after;
     }
     Ok(())
-}
-
-// A text, the cursor, an edit of one change, and the text and the cursor after it.
-type Row = (&'static str, usize, Edit, &'static str, usize);
-
-// Makes each edit of the table, which is refused its only change first.
-fn halt_at_once(rt: &impl Abort, alloc: Global, rows: &[Row]) -> Result<(), Fail> {
-    for (text, pos, edit, after, cursor) in rows {
-        halts_after(rt, alloc, text, *pos, edit, 0, true, text, *pos)?;
-        halts_after(rt, alloc, text, *pos, edit, 1, false, after, *cursor)?;
-    }
-    Ok(())
-}
-
-#[test]
-fn refused_edits_leave_the_line(rt: HostRuntime) -> Result<(), Fail> {
-    const BACK: Movement = Movement::BackwardWord(1, Word::Vi);
-    const ROWS: &[Row] = &[
-        ("ab", 1, Edit::Insert('c', 1), "acb", 2),
-        ("ab", 1, Edit::Insert('c', 2), "accb", 3),
-        ("ab", 1, Edit::Yank("c"), "acb", 2),
-        ("ab", 1, Edit::InsertStr, "acdb", 1),
-        ("ab", 1, Edit::Replace("cde"), "cde", 3),
-        ("ab", 1, Edit::Delete(1), "a", 1),
-        ("ab", 1, Edit::DeleteRange, "", 0),
-        ("ab cd", 3, Edit::Kill(Movement::WholeLine), "", 0),
-        ("ab cd", 3, Edit::Kill(Movement::WholeBuffer), "", 0),
-        ("ab cd", 5, Edit::Kill(BACK), "ab ", 3),
-    ];
-    halt_at_once(&rt, rt.alloc(), ROWS)
 }
 
 // A text, the cursor, an edit, and its steps.
