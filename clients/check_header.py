@@ -1,17 +1,20 @@
 #!/usr/bin/env python3
-"""Compares include/lodvarn.h with the exports of crates/rl_ffi: names, arguments in their order, results.
+"""Compares the calls of include/lodvarn.h with the exports of crates/rl_ffi, and with what the clients for Python and
+Rust declare: names, arguments in their order, results.
 
-    python3 clients/check_header.py [HEADER [SOURCES]]
+    python3 clients/check_header.py
 
-What only one of the two has fails, whichever it is. Its last line is 'N passed, M failed', where each call counts one.
+What only one side has fails, whichever it is. Its last line is 'N passed, M failed', where each call counts one for
+each of the three.
 """
 
+import ast
 import re
 import sys
 from pathlib import Path
 
 TOP = Path(__file__).resolve().parent.parent
-# What a type of an export takes in C: nothing, one argument, or a pointer and a length.
+# What a type of an export, or of the client for Rust, takes in C: nothing, one argument, or a pointer and a length.
 IN_C = {
     "Global": [],
     "&mut Handle": ["lodvarn **"],
@@ -19,13 +22,30 @@ IN_C = {
     "&mut [u8]": ["char *", "size_t"],
     "&mut usize": ["size_t *"],
     "&mut u16": ["uint16_t *"],
+    "*mut Handle": ["lodvarn **"],
+    "*const u8": ["const char *"],
+    "*mut u8": ["char *"],
+    "*mut usize": ["size_t *"],
+    "*mut u16": ["uint16_t *"],
     "usize": ["size_t"],
     "u32": ["uint32_t"],
     "u16": ["uint16_t"],
     "u8": ["uint8_t"],
     "": ["void"],
 }
+# The same of the client for Python, where a text that is read and one that is written are of one type.
+PYTHON_IN_C = {
+    "_HANDLE": "lodvarn **",
+    "_TEXT": "char *",
+    "_TO_SIZE": "size_t *",
+    "_TO_U16": "uint16_t *",
+    "_SIZE": "size_t",
+    "_U32": "uint32_t",
+    "_U16": "uint16_t",
+    "_U8": "uint8_t",
+}
 EXPORT = re.compile(r"#\[unsafe\(no_mangle\)\]\s*pub extern \"C\" fn (\w+)\s*\(([^)]*)\)\s*(?:->\s*(\w+))?")
+FOREIGN = re.compile(r"\bpub fn (lodvarn_\w+)\(([^)]*)\)(?: -> (\w+))?;")
 DECLARATION = re.compile(r"^([a-z]\w+)\s+(\w+)\(([^)]*)\);", re.M)
 ARGUMENT = re.compile(r"(.*?[ *])(\w+)$", re.S)
 
@@ -36,16 +56,27 @@ def in_c(kind):
     return IN_C.get(kind, [f"({kind}, which C does not pass)"])
 
 
-def exports_of(source):
-    """The exports of a source, each by its name: its result and its arguments as C has them."""
+def calls_of(source, call, mark):
+    """The calls of a source that a mark is at, each by its name: its result and its arguments as C has them."""
     source = re.sub(r"//[^\n]*", "", source)
     found = {}
-    for name, given, result in EXPORT.findall(source):
+    for name, given, result in call.findall(source):
         kinds = [one.split(":", 1)[1] for one in given.split(",") if one.strip()]
         found[name] = (in_c(result)[0], [argument for kind in kinds for argument in in_c(kind)])
-    named = source.count("no_mangle")
-    if named != len(found):
-        raise ValueError(f"{named} exports are marked, and {len(found)} can be read")
+    if source.count(mark) != len(found):
+        raise ValueError(f"{source.count(mark)} calls are marked, and {len(found)} can be read")
+    return found
+
+
+def calls_of_python(source):
+    """The calls of the client for Python, in the same form: those of its tables, and close, which answers nothing."""
+    tables = {"_CALLS": "uint32_t", "_SIZES": "size_t"}
+    found = {"lodvarn_close": ("void", ["lodvarn **"])}
+    for it in ast.parse(source).body:
+        name = it.targets[0].id if isinstance(it, ast.Assign) and isinstance(it.targets[0], ast.Name) else None
+        if name in tables:
+            for call, kinds in zip(it.value.keys, it.value.values):
+                found[f"lodvarn_{call.value}"] = (tables[name], [PYTHON_IN_C[kind.id] for kind in kinds.elts])
     return found
 
 
@@ -67,22 +98,28 @@ def written(call):
     return f"{call[0]} ({', '.join(call[1])})" if call else "nothing"
 
 
-def main():
-    given = [Path(it) for it in sys.argv[1:]]
-    header = given[0] if given else TOP / "include/lodvarn.h"
-    sources = given[1] if len(given) > 1 else TOP / "crates/rl_ffi/src"
-    declared = declarations_of(header.read_text())
-    exported = {}
-    for source in sorted(sources.glob("**/*.rt")):
-        exported |= exports_of(source.read_text())
-    names = sorted(declared.keys() | exported.keys())
-    failed = [name for name in names if declared.get(name) != exported.get(name)]
+def see(where, declared, found):
+    """Compares the calls of one place with those of the header. How many are the same, and how many are not."""
+    names = sorted(declared.keys() | found.keys())
+    failed = [name for name in names if declared.get(name) != found.get(name)]
     for name in failed:
-        print(f"{name}: the header has {written(declared.get(name))}, the crate {written(exported.get(name))}")
-    if not exported:
-        print(f"no exports in {sources}")
-    print(f"{len(names) - len(failed)} passed, {len(failed)} failed")
-    return 1 if failed or not exported else 0
+        print(f"{name}: the header has {written(declared.get(name))}, {where} {written(found.get(name))}")
+    return len(names) - len(failed), len(failed)
+
+
+def main():
+    declared = declarations_of((TOP / "include/lodvarn.h").read_text())
+    alike = {call: (gives, [it.removeprefix("const ") for it in takes]) for call, (gives, takes) in declared.items()}
+    sources = "".join(source.read_text() for source in sorted((TOP / "crates/rl_ffi/src").glob("**/*.rt")))
+    rust, python = "clients/rust/src/ffi.rs", "clients/python/lodvarn.py"
+    sums = [
+        see("the crate", declared, calls_of(sources, EXPORT, "no_mangle")),
+        see(rust, declared, calls_of((TOP / rust).read_text(), FOREIGN, "pub fn")),
+        see(python, alike, calls_of_python((TOP / python).read_text())),
+    ]
+    passed, failed = (sum(counts) for counts in zip(*sums))
+    print(f"{passed} passed, {failed} failed")
+    return 1 if failed or not passed else 0
 
 
 if __name__ == "__main__":

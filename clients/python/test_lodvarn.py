@@ -1,18 +1,14 @@
 """Scripts of sessions in Python, with answers that were worked out by hand."""
 
 import copy
-import ctypes
 import gc
 import pickle
-import re
 import sys
 import unittest
-from pathlib import Path
 
 import lodvarn
 from lodvarn import Action, At, Mode, Movement, Search, Session, Word
 
-TOP = Path(__file__).resolve().parent.parent.parent
 FAMILY = "\U0001f468\u200d\U0001f469\u200d\U0001f467"
 
 
@@ -216,14 +212,6 @@ class Texts(Case):
         self.assertEqual(lodvarn.run_script(b"text ab\npos 1\nins 1 c\nundo 1\n"), wanted)
         self.assertEqual(lodvarn.run_script(b"\xff"), b"bad\n")
         self.assertEqual(lodvarn.run_script(b""), b"")
-
-
-class Calls(unittest.TestCase):
-    def test_the_calls_are_those_of_the_header(self):
-        header = re.sub(r"/\*.*?\*/", "", (TOP / "include/lodvarn.h").read_text(), flags=re.S)
-        counts = {name: given.count(",") + 1 for name, given in re.findall(r"\blodvarn_(\w+)\(([^)]*)\)", header)}
-        calls = lodvarn._CALLS | lodvarn._SIZES | {"close": [ctypes.c_void_p]}
-        self.assertEqual(counts, {name: len(takes) for name, takes in calls.items()})
 
 
 if __name__ == "__main__":
