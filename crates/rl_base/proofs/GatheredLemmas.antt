@@ -5,7 +5,6 @@ use Rattle.std.proofs.lemmas.Str.{IsCharBoundary-start, IsCharBoundary-after_asc
 use Rattle.std.proofs.Math.Seq.{take-append-add, drop-append-add}
 use Rattle.std.specs.List.{repeat, replace_range, insert_slice}
 use Rattle.rl_base.specs.Gathered.{BeginsBlank}
-use Rattle.rl_base.proofs.TextLemmas.{IsCharBoundary-at_removal, removed-is_replaced}
 
 -- each of the first n bytes is a blank
 blank-at : (text : List ℕ) (n i : ℕ) → BeginsBlank n text → i < n → (i < length text) × (get_or text i 0 ≡ 32)
@@ -26,12 +25,6 @@ boundary text n (suc i) u b l =
 -- the same of a `String`, which is UTF-8
 pub may_cut : (text : String Global) (n i : ℕ) → BeginsBlank n (string_bytes text) → i ≤ n → IsCharBoundary (string_bytes text) i
 may_cut text n i b l = boundary (string_bytes text) n i (IsUtf8-string_bytes text) b l
-
--- where the last of them were taken out, a text may go in
-pub may_go_in : (text : String Global) (n i : ℕ) → BeginsBlank n (string_bytes text) → i ≤ n → IsCharBoundary (replace_range (string_bytes text) i n []) i
-may_go_in text n i b l =
-    let bytes = string_bytes text in
-    rw (sym (removed-is_replaced bytes i n)) (IsCharBoundary-at_removal bytes i n (IsUtf8-string_bytes text) l (may_cut text n n b (omega arith)))
 
 -- fewer blanks
 fewer : (text : List ℕ) (n i : ℕ) → BeginsBlank n text → i ≤ n → BeginsBlank i text

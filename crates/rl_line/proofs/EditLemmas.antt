@@ -1,6 +1,6 @@
 -- The plans of the edits, by their cases. The lemmas name each number of the code by a variable and an
 -- equation, so that they fit what the code computed.
-use Rattle.std.proofs.Common.{◌≡◌, ◌≢◌, ◌⊎◌, inl, inr, ℕ, ◌+◌, ◌-◌, ◌*◌, ◌<◌, Bool, true, false, List, zero, suc, count_by, length, length-append, min, take, slice_range, Some, None, refl, arith, lt-ltb}
+use Rattle.std.proofs.Common.{◌≡◌, ◌⊎◌, inl, inr, ℕ, ◌+◌, ◌-◌, ◌*◌, ◌<◌, Bool, true, false, List, zero, suc, count_by, length, length-append, min, take, slice_range, Some, None, refl, arith, lt-ltb}
 use Rattle.std.proofs.lemmas.List.Sums.{count_by-le-length}
 use Rattle.std.specs.List.{repeat, remove_range}
 use Rattle.std.specs.Prelude.{encode_utf8, ◌==◌, ◌||◌}
@@ -56,8 +56,3 @@ longer_or_more (suc n) a b c d e h = inl (omega (arith, e))
 pub some_part : (s t : List ℕ) → (length s < length t) ⊎ (count_by is_newline s < count_by is_newline t) → 0 < length t
 some_part s t (inl longer) = omega (arith, longer)
 some_part s t (inr more) = omega (arith, more, count_by-le-length is_newline t)
-
--- some copies of a text that is not empty
-pub some_copies : (n : ℕ) (s : List ℕ) → 0 < length s → n ≢ 0 → 0 < length (repeat n s)
-some_copies zero s h some = absurd (some refl)
-some_copies (suc n) s h some = omega (arith, length-append s (repeat n s), h)

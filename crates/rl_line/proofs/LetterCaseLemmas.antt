@@ -50,12 +50,6 @@ ascii_or_not (c ∷ cs) = from (ltb c 128) refl (ascii_or_not cs)
     from true low (inr none) = inr (λ all. none (λ k. all (suc k)))
     from false high rest = inr (λ all. let low : c < 128 = all 0 in grind (arith, nat_tests))
 
--- nothing recased is nothing
-pub recased-nothing : (action : WordAction) → [] ≡ recased action []
-recased-nothing Uppercase = refl
-recased-nothing Lowercase = refl
-recased-nothing Capitalize = refl
-
 -- some text for a word that there was no memory to make
 pub record MadeFor (action : WordAction) (word : List ℕ) : Type 0 where
   pub made : List ℕ

@@ -185,9 +185,6 @@ module _ {L : Type 0} (step : L → Event → L) where
       cause = h.cause;
     }
 
-    pub Halted-as : {A : Type 0} (plan other : Plan A) (old new : Line) (b n : L) (r : Refusal) → Halted step refused other old new b n r → plan ≡ other → Halted step refused plan old new b n r
-    Halted-as plan other old new b n r h e = subst (λ q. Halted step refused q old new b n r) (sym e) h
-
     -- some of the first steps were taken, which are those of a plan
     pub Halted-front : {A B : Type 0} (whole : Plan A) (plan : Plan B) (more : List Step) (old new : Line) (b n : L) (r : Refusal)
         → Halted step refused plan old new b n r → whole.steps ≡ plan.steps ++ more → Halted step refused whole old new b n r

@@ -22,7 +22,7 @@ use Rattle.rl_line.specs.Undo.{cursor_after, cursor_told, place_after, line_afte
 use Rattle.rl_line.specs.declared.change.Measure.{Measure}
 use Rattle.rl_line.specs.Change.{cursor_stands, faced, text_after, text_back, size_back_over, greatest_back_over}
 use Rattle.rl_line.proofs.PlanLemmas.{Fits-from, after_step-is, standing, standing-is}
-use Rattle.rl_line.proofs.RecordLemmas.{if_some, through, value_of, IsSome-through, inverse-inverse, unwind-append}
+use Rattle.rl_line.proofs.RecordLemmas.{if_some, through, value_of, IsSome-through, inverse-inverse}
 
 -- one entry back
 abbrev back_one : Entry → Line → Option Line
@@ -328,15 +328,6 @@ line_ahead-back (e ∷ es) line =
     ap (λ l. line_back (map inverse l) line) (reverse-append (e ∷ []) es) ∙ ap (λ l. line_back l line) (map-append inverse (reverse es) (e ∷ []))
     ∙ line_back-append (map inverse (reverse es)) (inverse e ∷ []) line ∙ ap (λ f. option_and_then (line_back (map inverse (reverse es))) (line_after f line)) (inverse-inverse e)
     ∙ then-same (line_back (map inverse (reverse es))) (line_ahead es) (line_ahead-back es) (line_after e line)
-
--- and its text is that of the replay
-pub unwind-ahead : (es : List Entry) (text : List ℕ) → unwind (map inverse (reverse es)) text ≡ replay_entries es text
-unwind-ahead [] text = refl
-unwind-ahead (e ∷ es) text =
-    ap (λ l. unwind (map inverse l) text) (reverse-append (e ∷ []) es) ∙ ap (λ l. unwind l text) (map-append inverse (reverse es) (e ∷ []))
-    ∙ unwind-append (map inverse (reverse es)) (inverse e ∷ []) text
-    ∙ ap (λ f. option_and_then (unwind (map inverse (reverse es))) (apply (event_of f) text)) (inverse-inverse e)
-    ∙ then-same (unwind (map inverse (reverse es))) (replay_entries es) (unwind-ahead es) (apply (event_of e) text)
 
 -- no length on the way is past the greatest
 pub size_back_over-within : (k : Measure) (m : ℕ) (es : List Entry) (n : ℕ) → size_back_over k (drop m es) n ≤ greatest_back_over k es n
