@@ -141,7 +141,7 @@ All-reverse P xs h k d lt =
     let within : k < length xs = omega (arith, length-reverse xs) in
     subst P (sym (get_or-reverse xs k d within)) (h (length xs - 1 - k) d (omega arith))
 
-nth-is_or : (P : ℕ → Type 0) (n : ℕ) (xs : List ℕ) → P 0 → All P xs → P (unwrap_or (nth n xs) 0)
+pub nth-is_or : (P : ℕ → Type 0) (n : ℕ) (xs : List ℕ) → P 0 → All P xs → P (unwrap_or (nth n xs) 0)
 nth-is_or P zero xs h k = h
 nth-is_or P (suc n) xs h k = from_get (slice_get xs n) refl
   where

@@ -17,6 +17,7 @@ use Rattle.rl_line.specs.declared.change.Way.{Way}
 use Rattle.rl_line.specs.declared.change.Way.TheVariants.{Back, Ahead}
 use Rattle.rl_line.specs.Record.{Entry, Begin, End, Inserted, Deleted, Replaced, entry_of, event_of, inverse, new_text, old_text, unwind}
 use Rattle.rl_line.specs.Undo.{cursor_told, place_after}
+use Rattle.rl_line.proofs.RecordLemmas.{then_both, then_some}
 use Rattle.rl_line.specs.Change.{cursor_stands, faced, order, place, text_after, text_back}
 
 -- an entry's new text stands at its place, and the old one may take its place
@@ -150,17 +151,10 @@ pub record GoesOver (asks : Bool) (way : Way) (xs : List Change) (n : ℕ) (text
   pub within : n ≤ length xs
 
 text_back-append : (asks : Bool) (xs ys : List Entry) (text : List ℕ) → text_back asks (xs ++ ys) text ≡ option_and_then (text_back asks xs) (text_back asks ys text)
-text_back-append asks [] ys text = some_again (text_back asks ys text)
-  where
-    some_again : (o : Option (List ℕ)) → o ≡ option_and_then (λ t. Some t) o
-    some_again None = refl
-    some_again (Some t) = refl
+text_back-append asks [] ys text = sym (then_some (text_back asks ys text))
 text_back-append asks (x ∷ xs) ys text =
-    ap (option_and_then (text_after asks (inverse x))) (text_back-append asks xs ys text) ∙ joined (text_back asks ys text)
-  where
-    joined : (o : Option (List ℕ)) → option_and_then (text_after asks (inverse x)) (option_and_then (text_back asks xs) o) ≡ option_and_then (text_back asks (x ∷ xs)) o
-    joined None = refl
-    joined (Some t) = refl
+    ap (option_and_then (text_after asks (inverse x))) (text_back-append asks xs ys text)
+    ∙ sym (then_both (text_back asks (x ∷ xs)) (text_back asks xs) (text_after asks (inverse x)) (λ t. refl) (text_back asks ys text))
 
 last_one : (asks : Bool) (way : Way) (xs : List Change) (m : ℕ) (x : Change) (now : List ℕ) → m < length xs → x ≡ get_or xs m x
     → text_back asks (map (faced way) (take (m + 1) xs)) now ≡ option_and_then (text_back asks (map (faced way) (take m xs))) (text_after asks (inverse (faced way x)) now)
@@ -205,13 +199,9 @@ pub text_back-unwind : (es : List Entry) (text : List ℕ) → text_back false e
 text_back-unwind [] text = refl
 text_back-unwind (e ∷ es) text = ap (option_and_then (text_after false (inverse e))) (text_back-unwind es text) ∙ from (unwind es text)
   where
-    plain : (o : Option (List ℕ)) → option_and_then (λ t. Some t) o ≡ o
-    plain None = refl
-    plain (Some t) = refl
-
     from : (o : Option (List ℕ)) → option_and_then (text_after false (inverse e)) o ≡ option_and_then (apply (event_of (inverse e))) o
     from None = refl
-    from (Some t) = plain (apply (event_of (inverse e)) t)
+    from (Some t) = then_some (apply (event_of (inverse e)) t)
 
 -- the test of a cursor that was told
 pub cursor_stands-told : (asks : Bool) (e : Entry) (text : List ℕ) (cursor : ℕ) (b : Bool) → asks ≡ true → cursor_told e ≡ Some cursor

@@ -155,14 +155,14 @@ abbrev pub begins : Option Change → Bool
 begins None = false
 begins (Some x) = is_begin (entry_of x)
 
+two : (n : ℕ) → suc (suc n) - 1 ≡ suc (suc n - 1)
+two n = omega arith
+
 -- the last entry tells
 pub ends-at : (xs : List Change) (o : Option Change) → o ≡ slice_get xs (length xs - 1) → ends_in_begin (map entry_of xs) ≡ begins o
 ends-at [] o e = ap begins (sym e)
 ends-at (x ∷ []) o e = ap begins (sym e)
 ends-at (x ∷ (y ∷ ys)) o e = ends-at (y ∷ ys) o (e ∙ ap (slice_get (x ∷ (y ∷ ys))) (two (length ys)))
-  where
-    two : (n : ℕ) → suc (suc n) - 1 ≡ suc (suc n - 1)
-    two n = omega arith
 
 -- a Begin at the end goes
 takes_begin-off : (xs : List Entry) (e : Entry) → ends_in_begin (xs ++ e ∷ []) ≡ true → xs ≡ end_one (xs ++ e ∷ [])
@@ -242,9 +242,6 @@ last-split [] x e = cc
 last-split (y ∷ []) x e = ([], ap (λ z. z ∷ []) (same_Some y x (sym e)))
 last-split (y ∷ (z ∷ zs)) x e =
     let p = last-split (z ∷ zs) x (e ∙ ap (slice_get (y ∷ (z ∷ zs))) (two (length zs))) in (y ∷ p.0, ap (λ l. y ∷ l) p.1)
-  where
-    two : (n : ℕ) → suc (suc n) - 1 ≡ suc (suc n - 1)
-    two n = omega arith
 
 pub last-alone : (n : ℕ) (xs : List Change) (x : Change) → n ≤ 1 → Some x ≡ slice_get xs (length xs - 1) → is_change (entry_of x) ≡ true → last_of n (map entry_of xs) ≡ entry_of x ∷ []
 last-alone n xs x few e is =

@@ -225,7 +225,7 @@ KeepsAfter-put (n ∷ more) i q cursor old new le inside h =
       within = omega (arith, all, others.within);
     }
 
-sum-parts : (n : ℕ) → sum (parts n) ≡ n
+pub sum-parts : (n : ℕ) → sum (parts n) ≡ n
 sum-parts n = sum_by-append (λ x. x) (repeat (n / 32) (32 ∷ [])) _ ∙ (omega (arith, full (n / 32), rest (eqb (n % 32) 0) refl))
   where
     full : (q : ℕ) → sum (repeat q (32 ∷ [])) ≡ 32 * q

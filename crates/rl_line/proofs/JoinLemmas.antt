@@ -157,17 +157,18 @@ pub fresh-InsertStr-nothing : (es : List Entry) (i : ℕ) (s : List ℕ) → len
 unfolding entries_of
 fresh-InsertStr-nothing es i s e = ap (λ (t : List ℕ). freshness_of (InsertStr i t) es) (nil_from_length s e) ∙ fresh-InsertStr es i []
 
+joins-nothing : (i : ℕ) (side : Direction) (e : Entry) → joined (Delete i [] side) e ≡ None
+unfolding segments cut chars
+joins-nothing i side Begin = refl
+joins-nothing i side End = refl
+joins-nothing i side (Inserted j t ps) = refl
+joins-nothing i side (Deleted j t ps) = refl
+joins-nothing i side (Replaced j o w ps) = refl
+
 pub fresh-Delete-nothing : (es : List Entry) (i : ℕ) (s : List ℕ) (side : Direction) → length s ≡ 0 → freshness_of (Delete i s side) es ≡ Stale
-unfolding entries_of segments cut chars
+unfolding entries_of
 fresh-Delete-nothing es i s side e =
-    ap (λ (t : List ℕ). freshness_of (Delete i t side) es) (nil_from_length s e) ∙ fresh-alone (Delete i [] side) none es
-  where
-    none : (e : Entry) → joined (Delete i [] side) e ≡ None
-    none Begin = refl
-    none End = refl
-    none (Inserted j t ps) = refl
-    none (Deleted j t ps) = refl
-    none (Replaced j o w ps) = refl
+    ap (λ (t : List ℕ). freshness_of (Delete i t side) es) (nil_from_length s e) ∙ fresh-alone (Delete i [] side) (joins-nothing i side) es
 
 pub after-InsertStr : (es : List Entry) (i : ℕ) (s : List ℕ) → entries_after (InsertStr i s) es ≡ es ++ entries_of (InsertStr i s)
 after-InsertStr es i s = added (InsertStr i s) (λ e. refl) es
@@ -177,16 +178,9 @@ unfolding entries_of
 after-InsertStr-nothing es i s e = ap (λ (t : List ℕ). entries_after (InsertStr i t) es) (nil_from_length s e) ∙ after-InsertStr es i [] ∙ append-nil es
 
 pub after-Delete-nothing : (es : List Entry) (i : ℕ) (s : List ℕ) (side : Direction) → length s ≡ 0 → entries_after (Delete i s side) es ≡ es
-unfolding entries_of segments cut chars
+unfolding entries_of
 after-Delete-nothing es i s side e =
-    ap (λ (t : List ℕ). entries_after (Delete i t side) es) (nil_from_length s e) ∙ added (Delete i [] side) none es ∙ append-nil es
-  where
-    none : (e : Entry) → joined (Delete i [] side) e ≡ None
-    none Begin = refl
-    none End = refl
-    none (Inserted j t ps) = refl
-    none (Deleted j t ps) = refl
-    none (Replaced j o w ps) = refl
+    ap (λ (t : List ℕ). entries_after (Delete i t side) es) (nil_from_length s e) ∙ added (Delete i [] side) (joins-nothing i side) es ∙ append-nil es
 
 -- ---- the side from which a text is taken is not recorded
 joined-side : (i : ℕ) (s : List ℕ) (side : Direction) (e : Entry) → joined (Delete i s Forward) e ≡ joined (Delete i s side) e

@@ -5,7 +5,7 @@ use Rattle.std.proofs.lemmas.Grind.{take_at_read}
 use Rattle.std.proofs.lemmas.List.{length-map, map-append, take-append-drop, take-map}
 use Rattle.std.specs.Option.{option_map_or}
 use Rattle.std.specs.Prelude.{◌&&◌, ◌==◌, encode_utf8, max, not}
-use Rattle.rl_base.specs.Event.{Event, InsertChar, InsertStr, Delete, Replace, Start, Stop, Cursors}
+use Rattle.rl_base.specs.Event.{Event, InsertChar, Delete, Replace}
 use Rattle.rl_base.specs.Classes.{is_alphanumeric, is_word_cluster}
 use Rattle.rl_line.specs.declared.change.Change.{Change}
 use Rattle.rl_line.specs.Record.{Entry, Begin, End, Inserted, Deleted, Replaced, Record, entries_after, entries_of, entry_of, joined, record_step, recorded_after}
@@ -14,28 +14,13 @@ use Rattle.rl_line.specs.Entries.{deep}
 use Rattle.rl_line.proofs.CountLemmas.{level-counted}
 use Rattle.rl_line.proofs.EntryLemmas.{deep-append}
 use Rattle.rl_line.proofs.MatchLemmas.{AllGood-take, BothMatched-begun, BothMatched-ended, BothMatched-redone, BothMatched-step, BothMatched-truncated, BothMatched-undone, Lower-end_times, Redoes-of, length-touched, level-is, marks-last}
-use Rattle.rl_line.proofs.RecordLemmas.{if_else, if_some, unless, value_of}
+use Rattle.rl_line.proofs.RecordLemmas.{entries_of-cases, if_else, if_some, unless, value_of}
 use Rattle.rl_line.proofs.UnitLemmas.{IsMatched-front, IsMatched-together, cut_more-append, kept-last, opens-append, units-append, units-good}
 use Rattle.rl_line.proofs.ToldLemmas.{recorded-cases, last_told-deep}
 
 -- ---- an event
 deep-entries_of : (event : Event) (d : ℕ) → deep d (entries_of event) ≡ d
-unfolding entries_of
-deep-entries_of (InsertChar i c) d = refl
-deep-entries_of (InsertStr i s) d = none_or_one (length s == 0)
-  where
-    none_or_one : (b : Bool) → deep d (cond b [] (Inserted i s None ∷ [])) ≡ d
-    none_or_one true = refl
-    none_or_one false = refl
-deep-entries_of (Delete i s side) d = none_or_one (length s == 0)
-  where
-    none_or_one : (b : Bool) → deep d (cond b [] (Deleted i s None ∷ [])) ≡ d
-    none_or_one true = refl
-    none_or_one false = refl
-deep-entries_of (Replace i s t) d = refl
-deep-entries_of Start d = refl
-deep-entries_of Stop d = refl
-deep-entries_of (Cursors b a) d = refl
+deep-entries_of event d = entries_of-cases (λ es. deep d es ≡ d) event refl (λ i s. refl) (λ i s. refl) (λ i s t. refl)
 
 -- what joins is a change, and so is what it joins
 deep-joint : (event : Event) (e joint : Entry) (d : ℕ) → joined event e ≡ Some joint → deep d (joint ∷ []) ≡ deep d (e ∷ [])

@@ -8,27 +8,12 @@ use Rattle.rl_base.specs.Event.{Event, InsertChar, InsertStr, Delete, Replace, S
 use Rattle.rl_base.specs.Classes.{is_alphanumeric, is_word_cluster}
 use Rattle.rl_line.specs.Record.{Entry, Begin, End, Inserted, Deleted, Replaced, Record, entries_of, joined, entries_after, pending_after, record_step}
 use Rattle.rl_line.specs.Units.{UndoUnit, Open, Whole, units, together, opens, level, last_of, kept_of, redo_from, redo_of, end_one, end_times, begun, ended, undone, redone, truncated, touched, mark, marks, IsMatched, BothMatched}
-use Rattle.rl_line.proofs.RecordLemmas.{through, value_of, if_some, if_else, unless}
+use Rattle.rl_line.proofs.RecordLemmas.{entries_of-cases, through, value_of, if_some, if_else, unless}
 use Rattle.rl_line.proofs.UnitLemmas.{AllGood, flags_on, marks-append, IsMatched-front, IsMatched-append, IsMatched-together, AllGood-left, AllGood-right, units-good, together-units, together-append, kept-last, cut_good}
 use Rattle.rl_line.proofs.ToldLemmas.{recorded-cases, last_told-marks}
 
 entries_of-marks : (event : Event) (fs : List Bool) → IsSome (marks (entries_of event) fs)
-unfolding entries_of
-entries_of-marks (InsertChar i c) fs = refl
-entries_of-marks (InsertStr i s) fs = none_or_one (length s == 0)
-  where
-    none_or_one : (b : Bool) → IsSome (marks (cond b [] (Inserted i s None ∷ [])) fs)
-    none_or_one true = refl
-    none_or_one false = refl
-entries_of-marks (Delete i s side) fs = none_or_one (length s == 0)
-  where
-    none_or_one : (b : Bool) → IsSome (marks (cond b [] (Deleted i s None ∷ [])) fs)
-    none_or_one true = refl
-    none_or_one false = refl
-entries_of-marks (Replace i s t) fs = refl
-entries_of-marks Start fs = refl
-entries_of-marks Stop fs = refl
-entries_of-marks (Cursors b a) fs = refl
+entries_of-marks event fs = entries_of-cases (λ es. IsSome (marks es fs)) event refl (λ i s. refl) (λ i s. refl) (λ i s t. refl)
 
 -- what joins is a change
 joint_marks : (event : Event) (e joint : Entry) (fs : List Bool) → joined event e ≡ Some joint → IsSome (marks (joint ∷ []) fs)

@@ -7,7 +7,7 @@ use Rattle.std.specs.Str.{IsUtf8}
 use Rattle.rl_base.proofs.TextLemmas.{and_right}
 use Rattle.rl_base.specs.declared.listeners.Direction.TheVariants.{Forward}
 use Rattle.rl_base.specs.Event.{Event, InsertChar, InsertStr, Delete, Replace, Start, Stop, Cursors, apply}
-use Rattle.rl_base.proofs.SwapLemmas.{Swaps, Swaps-back, Swaps-nothing, Swaps-after, Swaps-before, Swaps-InsertStr, Swaps-InsertChar, Swaps-Delete, Swaps-Replace, apply-InsertStr-Swaps, apply-Delete-Swaps, apply-Replace-Swaps, apply-IsUtf8}
+use Rattle.rl_base.proofs.SwapLemmas.{Swaps-back, Swaps-nothing, Swaps-after, Swaps-before, Swaps-InsertStr, Swaps-InsertChar, Swaps-Delete, Swaps-Replace, apply-InsertStr-Swaps, apply-Delete-Swaps, apply-Replace-Swaps, apply-IsUtf8}
 use Rattle.rl_base.specs.Classes.{is_alphanumeric, is_word_cluster}
 use Rattle.rl_line.specs.Record.{Entry, Begin, End, Inserted, Deleted, Replaced, Record, entries_after, entries_of, joined, record_step, event_of, inverse, replay_entries, unwind, swapped}
 use Rattle.rl_line.proofs.ToldLemmas.{recorded-cases, last_told-unwind}
@@ -24,6 +24,17 @@ value_of (Some a) h = (a, refl)
 pub IsSome-through : {A B : Type 0} (f : A → Option B) (o : Option A) → IsSome (option_and_then f o) → IsSome o
 IsSome-through f None h = h
 IsSome-through f (Some a) h = refl
+
+-- a value that is taken as it is
+pub then_some : {A : Type 0} (o : Option A) → option_and_then (λ (a : A). Some a) o ≡ o
+then_some None = refl
+then_some (Some a) = refl
+
+-- what is made of a value in one go is made of it in two
+pub then_both : {A B C : Type 0} (f : A → Option C) (g : A → Option B) (h : B → Option C) → ((a : A) → f a ≡ option_and_then h (g a)) → (o : Option A)
+    → option_and_then f o ≡ option_and_then h (option_and_then g o)
+then_both f g h e None = refl
+then_both f g h e (Some a) = e a
 
 -- an entry is taken back by its inverse
 pub inverse-undoes : (e : Entry) (x y : List ℕ) → IsUtf8 x → apply (event_of e) x ≡ Some y → apply (event_of (inverse e)) y ≡ Some x
@@ -72,46 +83,45 @@ replay-unwind (e ∷ es) y x u h =
     ap (option_and_then (replay_entries es)) (undoes-inverse e x p.0 (unwind-IsUtf8 es y p.0 u p.1) p.2) ∙ replay-unwind es y p.0 u p.1
 
 pub unwind-append : (xs ys : List Entry) (text : List ℕ) → unwind (xs ++ ys) text ≡ option_and_then (unwind xs) (unwind ys text)
-unwind-append [] ys text = some_again (unwind ys text)
-  where
-    some_again : (o : Option (List ℕ)) → o ≡ option_and_then (λ t. Some t) o
-    some_again None = refl
-    some_again (Some t) = refl
+unwind-append [] ys text = sym (then_some (unwind ys text))
 unwind-append (x ∷ xs) ys text =
-    ap (option_and_then (apply (event_of (inverse x)))) (unwind-append xs ys text) ∙ joined (unwind ys text)
-  where
-    joined : (o : Option (List ℕ)) → option_and_then (apply (event_of (inverse x))) (option_and_then (unwind xs) o) ≡ option_and_then (unwind (x ∷ xs)) o
-    joined None = refl
-    joined (Some t) = refl
+    ap (option_and_then (apply (event_of (inverse x)))) (unwind-append xs ys text) ∙ sym (then_both (unwind (x ∷ xs)) (unwind xs) (apply (event_of (inverse x))) (λ t. refl) (unwind ys text))
 
 pub replay-append : (xs ys : List Entry) (text : List ℕ) → replay_entries (xs ++ ys) text ≡ option_and_then (replay_entries ys) (replay_entries xs text)
 replay-append [] ys text = refl
-replay-append (x ∷ xs) ys text = then-same (replay_entries (xs ++ ys)) (replay_entries xs) (replay_entries ys) (λ t. replay-append xs ys t) (apply (event_of x) text)
+replay-append (x ∷ xs) ys text = then_both (replay_entries (xs ++ ys)) (replay_entries xs) (replay_entries ys) (λ t. replay-append xs ys t) (apply (event_of x) text)
+
+-- the entries of an event are none, or one
+in_part : (P : List Entry → Type 0) (s : List ℕ) (e : Entry) → (length s ≡ 0 → P []) → P (e ∷ []) → P (cond (length s == 0) [] (e ∷ []))
+in_part P s e none one = from (length s == 0) refl
   where
-    then-same : (f g h : List ℕ → Option (List ℕ)) → ((t : List ℕ) → f t ≡ option_and_then h (g t)) → (o : Option (List ℕ)) → option_and_then f o ≡ option_and_then h (option_and_then g o)
-    then-same f g h e None = refl
-    then-same f g h e (Some t) = e t
+    from : (b : Bool) → (length s == 0) ≡ b → P (cond b [] (e ∷ []))
+    from true k = none (eqb-true (length s) 0 k)
+    from false k = one
+
+pub entries_of-cases : (P : List Entry → Type 0) (event : Event) → P [] → ((i : ℕ) (s : List ℕ) → P (Inserted i s None ∷ [])) → ((i : ℕ) (s : List ℕ) → P (Deleted i s None ∷ []))
+    → ((i : ℕ) (s t : List ℕ) → P (Replaced i s t None ∷ [])) → P (entries_of event)
+unfolding entries_of
+entries_of-cases P (InsertChar i c) none ins del rep = ins i (encode_utf8 c)
+entries_of-cases P (InsertStr i s) none ins del rep = in_part P s (Inserted i s None) (λ _. none) (ins i s)
+entries_of-cases P (Delete i s side) none ins del rep = in_part P s (Deleted i s None) (λ _. none) (del i s)
+entries_of-cases P (Replace i s t) none ins del rep = rep i s t
+entries_of-cases P Start none ins del rep = none
+entries_of-cases P Stop none ins del rep = none
+entries_of-cases P (Cursors b a) none ins del rep = none
 
 -- the entries of an event undo it
 pub entries_of-undo : (event : Event) (text now : List ℕ) → IsUtf8 text → apply event text ≡ Some now → unwind (entries_of event) now ≡ Some text
 unfolding entries_of apply
 entries_of-undo (InsertChar i c) text now u h = apply-Delete-Swaps now text i _ Forward (Swaps-back text now i [] _ (Swaps-InsertChar text now i c u h))
-entries_of-undo (InsertStr i s) text now u h = none_or_one (length s == 0) refl
-  where
-    swaps : Swaps text now i [] s
-    swaps = Swaps-InsertStr text now i s u h
-
-    none_or_one : (b : Bool) → (length s == 0) ≡ b → unwind (cond b [] (Inserted i s None ∷ [])) now ≡ Some text
-    none_or_one true e = ap Some (Swaps-nothing text now i [] s refl (eqb-true (length s) 0 e) swaps)
-    none_or_one false e = apply-Delete-Swaps now text i s Forward (Swaps-back text now i [] s swaps)
-entries_of-undo (Delete i s side) text now u h = none_or_one (length s == 0) refl
-  where
-    swaps : Swaps text now i s []
-    swaps = Swaps-Delete text now i s side u h
-
-    none_or_one : (b : Bool) → (length s == 0) ≡ b → unwind (cond b [] (Deleted i s None ∷ [])) now ≡ Some text
-    none_or_one true e = ap Some (Swaps-nothing text now i s [] (eqb-true (length s) 0 e) refl swaps)
-    none_or_one false e = apply-InsertStr-Swaps now text i s (Swaps-back text now i s [] swaps)
+entries_of-undo (InsertStr i s) text now u h =
+    let swaps = Swaps-InsertStr text now i s u h in
+    in_part (λ es. unwind es now ≡ Some text) s (Inserted i s None) (λ e. ap Some (Swaps-nothing text now i [] s refl e swaps))
+    (apply-Delete-Swaps now text i s Forward (Swaps-back text now i [] s swaps))
+entries_of-undo (Delete i s side) text now u h =
+    let swaps = Swaps-Delete text now i s side u h in
+    in_part (λ es. unwind es now ≡ Some text) s (Deleted i s None) (λ e. ap Some (Swaps-nothing text now i s [] e refl swaps))
+    (apply-InsertStr-Swaps now text i s (Swaps-back text now i s [] swaps))
 entries_of-undo (Replace i s t) text now u h = apply-Replace-Swaps now text i t s (Swaps-back text now i s t (Swaps-Replace text now i s t u h))
 entries_of-undo Start text now u h = sym h
 entries_of-undo Stop text now u h = sym h

@@ -22,7 +22,7 @@ use Rattle.rl_line.specs.Undo.{cursor_after, cursor_told, place_after, line_afte
 use Rattle.rl_line.specs.declared.change.Measure.{Measure}
 use Rattle.rl_line.specs.Change.{cursor_stands, faced, text_after, text_back, size_back_over, greatest_back_over}
 use Rattle.rl_line.proofs.PlanLemmas.{Fits-from, after_step-is, standing, standing-is}
-use Rattle.rl_line.proofs.RecordLemmas.{if_some, through, value_of, IsSome-through, inverse-inverse}
+use Rattle.rl_line.proofs.RecordLemmas.{if_some, through, value_of, IsSome-through, inverse-inverse, then_both, then_some}
 
 -- one entry back
 abbrev back_one : Entry → Line → Option Line
@@ -76,17 +76,9 @@ pub one-back : (e : Entry) (line next : Line) (text : List ℕ) → apply (event
 one-back e line next text makes is at = after_step-is (event_of (inverse e)) (cursor_after line.cursor (inverse e)) line text makes at ∙ ap Some (sym is)
 
 pub line_back-append : (xs ys : List Entry) (line : Line) → line_back (xs ++ ys) line ≡ option_and_then (line_back xs) (line_back ys line)
-line_back-append [] ys line = some_again (line_back ys line)
-  where
-    some_again : (o : Option Line) → o ≡ option_and_then (λ l. Some l) o
-    some_again None = refl
-    some_again (Some l) = refl
+line_back-append [] ys line = sym (then_some (line_back ys line))
 line_back-append (x ∷ xs) ys line =
-    ap (option_and_then (back_one x)) (line_back-append xs ys line) ∙ joined (line_back ys line)
-  where
-    joined : (o : Option Line) → option_and_then (back_one x) (option_and_then (line_back xs) o) ≡ option_and_then (line_back (x ∷ xs)) o
-    joined None = refl
-    joined (Some l) = refl
+    ap (option_and_then (back_one x)) (line_back-append xs ys line) ∙ sym (then_both (line_back (x ∷ xs)) (line_back xs) (back_one x) (λ l. refl) (line_back ys line))
 
 -- the entries from n on were taken back, which led from start to now, and those before can be
 pub record IsBack (way : Way) (xs : List Change) (n : ℕ) (start now : Line) : Type 0 where
@@ -314,12 +306,7 @@ then-same f g same (Some a) = same a
 
 pub line_ahead-append : (xs ys : List Entry) (line : Line) → line_ahead (xs ++ ys) line ≡ option_and_then (line_ahead ys) (line_ahead xs line)
 line_ahead-append [] ys line = refl
-line_ahead-append (x ∷ xs) ys line = joined (λ l. line_ahead-append xs ys l) (line_after x line)
-  where
-    joined : ((l : Line) → line_ahead (xs ++ ys) l ≡ option_and_then (line_ahead ys) (line_ahead xs l)) → (o : Option Line)
-        → option_and_then (line_ahead (xs ++ ys)) o ≡ option_and_then (line_ahead ys) (option_and_then (line_ahead xs) o)
-    joined one None = refl
-    joined one (Some l) = one l
+line_ahead-append (x ∷ xs) ys line = then_both (line_ahead (xs ++ ys)) (line_ahead xs) (line_ahead ys) (λ l. line_ahead-append xs ys l) (line_after x line)
 
 -- going ahead takes the inverses back, the first first
 pub line_ahead-back : (es : List Entry) (line : Line) → line_back (map inverse (reverse es)) line ≡ line_ahead es line

@@ -5,7 +5,7 @@ use Rattle.std.specs.Prelude.{option_and_then, IsSome, ◌||◌, max}
 use Rattle.rl_line.specs.Record.{Entry, Begin, End, Inserted, Deleted, Replaced}
 use Rattle.rl_line.specs.Units.{UndoUnit, Open, Whole, entries, close, add_entry, cut_more, units, together, opens, last_of, kept_of, redo_from, redo_of, is_change, touched, mark, marks, IsMatched}
 use Rattle.rl_line.proofs.Counts.{back_len, ahead_len}
-use Rattle.rl_line.proofs.RecordLemmas.{value_of, IsSome-through}
+use Rattle.rl_line.proofs.RecordLemmas.{value_of, IsSome-through, then_both}
 
 close-together : (inner : List Entry) (us : List UndoUnit) → together (close inner us) ≡ (together us ++ inner) ++ (End ∷ [])
 close-together inner [] = refl
@@ -56,12 +56,7 @@ cut_more-append us (x ∷ xs) ys = cut_more-append (add_entry x us) xs ys
 
 pub marks-append : (xs ys : List Entry) (flags : List Bool) → marks (xs ++ ys) flags ≡ option_and_then (marks ys) (marks xs flags)
 marks-append [] ys flags = refl
-marks-append (x ∷ xs) ys flags = through (mark x flags) (λ fs. marks-append xs ys fs)
-  where
-    through : (o : Option (List Bool)) → ((fs : List Bool) → marks (xs ++ ys) fs ≡ option_and_then (marks ys) (marks xs fs))
-        → option_and_then (marks (xs ++ ys)) o ≡ option_and_then (marks ys) (option_and_then (marks xs) o)
-    through None ih = refl
-    through (Some fs) ih = ih fs
+marks-append (x ∷ xs) ys flags = then_both (marks (xs ++ ys)) (marks xs) (marks ys) (λ fs. marks-append xs ys fs) (mark x flags)
 
 -- a beginning of a matched list is matched
 pub IsMatched-front : (xs ys : List Entry) → IsMatched (xs ++ ys) → IsMatched xs

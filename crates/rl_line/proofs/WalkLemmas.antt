@@ -1,5 +1,5 @@
 -- Entries that lead from a text to another, with their cursors: what keeps that, and where a line goes over them.
-use Rattle.std.proofs.Common.{◌≡◌, ℕ, ◌+◌, ◌⊎◌, inl, inr, Bool, true, false, ◌&&◌, zero, suc, List, [], ◌∷◌, ◌++◌, length, take, drop, take-append-drop, Option, Some, None, refl, sym, ap, subst, ◌∙◌}
+use Rattle.std.proofs.Common.{◌≡◌, ℕ, ◌+◌, ◌⊎◌, inl, inr, Bool, true, ◌&&◌, zero, suc, List, [], ◌∷◌, ◌++◌, length, take, drop, take-append-drop, Option, Some, None, refl, sym, ap, subst, ◌∙◌}
 use Rattle.std.proofs.lemmas.Option.{same_Some}
 use Rattle.std.specs.Option.{option_map, option_map_or}
 use Rattle.std.specs.Prelude.{◌==◌, not, cond, encode_utf8, IsSome, option_and_then}
@@ -23,7 +23,7 @@ use Rattle.rl_line.proofs.JoinLemmas.{record_step-Start, record_step-Stop}
 use Rattle.rl_line.proofs.MarkLemmas.{redo-parts, unwind-truncated}
 use Rattle.rl_line.proofs.MatchLemmas.{end_one-cons}
 use Rattle.rl_line.proofs.PlanLemmas.{first_step}
-use Rattle.rl_line.proofs.RecordLemmas.{entries_of-undo, if_else, if_some, inverse-undoes, redone-joined, replay-unwind, undoes-inverse, unless, unwind-replay}
+use Rattle.rl_line.proofs.RecordLemmas.{entries_of-cases, entries_of-undo, if_else, if_some, inverse-undoes, redone-joined, replay-unwind, undoes-inverse, unless, unwind-replay}
 use Rattle.rl_line.proofs.UndoLemmas.{line_after-is, line_ahead-replay, line_back-IsSome, line_back-text_back}
 use Rattle.rl_line.proofs.UnitLemmas.{kept-last}
 
@@ -86,22 +86,8 @@ told (Replaced i s t ps) x y p makes b a = record { makes = makes; before = is_b
 
 -- the entries of an event: none, or one
 pub none_or_one : (event : Event) → (entries_of event ≡ []) ⊎ ((e : Entry) × (entries_of event ≡ e ∷ []))
-unfolding entries_of
-none_or_one (InsertChar i c) = inr (_, refl)
-none_or_one (InsertStr i s) = pick (length s == 0)
-  where
-    pick : (b : Bool) → (cond b [] (Inserted i s None ∷ []) ≡ []) ⊎ ((e : Entry) × (cond b [] (Inserted i s None ∷ []) ≡ e ∷ []))
-    pick true = inl refl
-    pick false = inr (Inserted i s None, refl)
-none_or_one (Delete i s side) = pick (length s == 0)
-  where
-    pick : (b : Bool) → (cond b [] (Deleted i s None ∷ []) ≡ []) ⊎ ((e : Entry) × (cond b [] (Deleted i s None ∷ []) ≡ e ∷ []))
-    pick true = inl refl
-    pick false = inr (Deleted i s None, refl)
-none_or_one (Replace i s t) = inr (Replaced i s t None, refl)
-none_or_one Start = inl refl
-none_or_one Stop = inl refl
-none_or_one (Cursors b a) = inl refl
+none_or_one event =
+    entries_of-cases (λ es. (es ≡ []) ⊎ ((e : Entry) × (es ≡ e ∷ []))) event (inl refl) (λ i s. inr (_, refl)) (λ i s. inr (_, refl)) (λ i s t. inr (_, refl))
 
 -- an event whose entry is added
 added : (event : Event) (x y : List ℕ) (b a : ℕ) → IsUtf8 x → apply event x ≡ Some y → IsCharBoundary x b → IsCharBoundary y a
@@ -129,10 +115,9 @@ joint-untold (Replace i s t) (Replaced j o w ps) joint h =
     let b = if_some (j + length w == i) (Replaced j (o ++ s) (w ++ t) None) joint h in ap cursors_of (sym b.1)
 joint-untold event e joint h = cc
 
--- the cursor before an entry, where it was told, stands in the text before it
-before-stands : (e : Entry) (x : List ℕ) (p : ℕ × ℕ) → cursors_of e ≡ Some p → cursor_stands true (inverse e) x ≡ true → IsCharBoundary x p.0
-before-stands e x p c h =
-    is_boundary-means x p.0 (ap (λ o. option_map_or (is_boundary x) o true) (sym (turned e ∙ ap (option_map (λ (q : ℕ × ℕ). q.0)) c)) ∙ h)
+-- the cursor before an entry is told by its inverse
+pub cursor_told-back : (e : Entry) (p : ℕ × ℕ) → cursors_of e ≡ Some p → cursor_told (inverse e) ≡ Some p.0
+cursor_told-back e p c = turned e ∙ ap (option_map (λ (q : ℕ × ℕ). q.0)) c
   where
     swapped-told : (o : Option (ℕ × ℕ)) → option_map (λ (q : ℕ × ℕ). q.1) (swapped o) ≡ option_map (λ (q : ℕ × ℕ). q.0) o
     swapped-told None = refl
@@ -144,6 +129,10 @@ before-stands e x p c h =
     turned (Inserted i s ps) = swapped-told ps
     turned (Deleted i s ps) = swapped-told ps
     turned (Replaced i s t ps) = swapped-told ps
+
+-- so it stands in the text before it
+before-stands : (e : Entry) (x : List ℕ) (p : ℕ × ℕ) → cursors_of e ≡ Some p → cursor_stands true (inverse e) x ≡ true → IsCharBoundary x p.0
+before-stands e x p c h = is_boundary-means x p.0 (ap (λ o. option_map_or (is_boundary x) o true) (sym (cursor_told-back e p c)) ∙ h)
 
 -- an event that joined an entry, which keeps the cursor before it
 merged : (e joint : Entry) (x y z : List ℕ) (b a : ℕ) → apply (event_of joint) x ≡ Some z → cursors_of joint ≡ None → LeadsTo e x y → IsCharBoundary z a

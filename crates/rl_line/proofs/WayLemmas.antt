@@ -13,7 +13,7 @@ use Rattle.rl_line.specs.Line.{Line, stepped}
 use Rattle.rl_line.specs.Record.{Entry, event_of, inverse, replay_entries, unwind}
 use Rattle.rl_line.specs.Undo.{StandAfter, StandBefore, cursor_after, cursor_told, line_after, line_ahead, line_back, place_after}
 use Rattle.rl_line.proofs.PlanLemmas.{Fits-from}
-use Rattle.rl_line.proofs.RecordLemmas.{IsSome-through, replay-append, through, value_of}
+use Rattle.rl_line.proofs.RecordLemmas.{IsSome-through, replay-append, then_some, through, value_of}
 use Rattle.rl_line.proofs.UndoLemmas.{line_after-is, line_ahead-append, line_ahead-replay, line_back-append, line_back-IsSome, line_back-unwind}
 use Rattle.rl_line.proofs.WalkLemmas.{stands-on}
 
@@ -69,11 +69,7 @@ ahead-stands es line h first others e place now is told replayed =
     let next = value_of (line_after e mid.0) (IsSome-through (line_ahead others) (line_after e mid.0) rest) in
     let one : replay_entries (e ∷ []) mid.0.text ≡ Some now =
     sym (replay-append first (e ∷ []) line.text ∙ ap (option_and_then (replay_entries (e ∷ []))) (line_ahead-replay first line mid.0 mid.1)) ∙ replayed in
-    stands-over e mid.0 next.0 place now next.1 told (some_again (apply (event_of e) mid.0.text) now one)
-  where
-    some_again : (o : Option (List ℕ)) (t : List ℕ) → option_and_then (λ x. Some x) o ≡ Some t → o ≡ Some t
-    some_again None t e = cc
-    some_again (Some x) t e = e
+    stands-over e mid.0 next.0 place now next.1 told (sym (then_some (apply (event_of e) mid.0.text)) ∙ one)
 
 ahead-goes : (es : List Entry) (line : Line) (now : List ℕ) → IsUtf8 line.text → IsCharBoundary line.text line.cursor → replay_entries es line.text ≡ Some now → StandAfter es line.text
     → IsSome (line_ahead es line)

@@ -5,7 +5,7 @@ use Rattle.std.proofs.lemmas.Bool.{eqb-true}
 use Rattle.std.proofs.lemmas.Option.{same_Some}
 use Rattle.std.specs.Char.{to_ascii_lowercase, to_ascii_uppercase}
 use Rattle.std.specs.Option.{option_map}
-use Rattle.std.specs.Prelude.{◌==◌, option_and_then, unwrap_or}
+use Rattle.std.specs.Prelude.{◌==◌, unwrap_or}
 use Rattle.std.specs.declared.ops.Range.{Range}
 use Rattle.std.specs.Str.{IsCharBoundary, IsUtf8}
 use Rattle.std.specs.String.{string_bytes}
@@ -22,12 +22,13 @@ use Rattle.rl_line.specs.LetterCase.{edit_word_plan, put_for, recased, word_ahea
 use Rattle.rl_line.specs.Line.{Line}
 use Rattle.rl_line.specs.Plan.{Step as PlanStep, Plan, single, heard, heard_step, Done}
 use Rattle.rl_line.specs.Ranges.{killed, text_in}
-use Rattle.rl_line.specs.Record.{Entry, Begin, End, Inserted, Deleted, Replaced, Record, cursors_of, entries_after, entries_of, entries_told, event_of, inverse, record_step, swapped}
+use Rattle.rl_line.specs.Record.{Entry, Begin, End, Inserted, Deleted, Replaced, Record, cursors_of, entries_after, entries_of, entries_told, event_of, inverse, record_step}
 use Rattle.rl_line.specs.Undo.{cursor_after, cursor_told, line_after, line_ahead, line_back, place_after, Redone, Undone}
 use Rattle.rl_line.specs.Units.{cut_more, last_of, redo_of, together, units}
 use Rattle.rl_line.proofs.JoinLemmas.{after-Delete-nothing, after-InsertStr-nothing, fresh-Delete-nothing, fresh-InsertStr-nothing, record_step-Start, record_step-Stop}
 use Rattle.rl_line.proofs.PlanLemmas.{Fits-from}
-use Rattle.rl_line.proofs.RecordLemmas.{inverse-undoes}
+use Rattle.rl_line.proofs.RecordLemmas.{inverse-undoes, then_some}
+use Rattle.rl_line.proofs.WalkLemmas.{cursor_told-back}
 use Rattle.rl_line.proofs.UnitLemmas.{cut_more-append}
 use Rattle.rl_session.proofs.CursorLemmas.{AddedAlone, IsLone, Quiet, added-alone, ends_at, next, recorded-next}
 use Rattle.rl_session.proofs.HistoryLemmas.{redo-row, undo-row}
@@ -313,20 +314,6 @@ next-one (Inserted i s ps) p c = refl
 next-one (Deleted i s ps) p c = refl
 next-one (Replaced i s t ps) p c = refl
 
-cursor_told-back : (e : Entry) (p : ℕ × ℕ) → cursors_of e ≡ Some p → cursor_told (inverse e) ≡ Some p.0
-cursor_told-back e p c = turned e ∙ ap (option_map (λ (q : ℕ × ℕ). q.0)) c
-  where
-    swapped-told : (o : Option (ℕ × ℕ)) → option_map (λ (q : ℕ × ℕ). q.1) (swapped o) ≡ option_map (λ (q : ℕ × ℕ). q.0) o
-    swapped-told None = refl
-    swapped-told (Some q) = refl
-
-    turned : (k : Entry) → cursor_told (inverse k) ≡ option_map (λ (q : ℕ × ℕ). q.0) (cursors_of k)
-    turned Begin = refl
-    turned End = refl
-    turned (Inserted i s ps) = swapped-told ps
-    turned (Deleted i s ps) = swapped-told ps
-    turned (Replaced i s t ps) = swapped-told ps
-
 -- a line that goes over one entry
 over-one : (e : Entry) (line now : Line) (text : List ℕ) (cursor : ℕ) → apply (event_of e) line.text ≡ Some text → cursor_told e ≡ Some cursor → line_after e line ≡ Some now
     → (now.text ≡ text) × (now.cursor ≡ cursor)
@@ -400,10 +387,6 @@ redo-gives_again text pos limit ring_size mode commands replies new earlier late
     let here : Redone back.after.pair.changes again.after.pair.changes back.after.line again.after.line d.0 =
     subst (λ (s : State). Redone s.pair.changes again.after.pair.changes s.line again.after.line d.0) a.goes_on.1.0 d.1 in
     let went : line_after e back.after.line ≡ Some again.after.line =
-    only_one (line_after e back.after.line) again.after.line (ap (λ es. line_ahead es back.after.line) (sym (ap redo_of b.1 ∙ next-one e _ told)) ∙ here.line_is) in
+    sym (then_some (line_after e back.after.line)) ∙ (ap (λ es. line_ahead es back.after.line) (sym (ap redo_of b.1 ∙ next-one e _ told)) ∙ here.line_is) in
     let makes : apply (event_of e) back.after.line.text ≡ Some row.after.line.text = ap (apply (event_of e)) b.0.0 ∙ a.adds.alone.makes in
     over-one e back.after.line again.after.line row.after.line.text row.after.line.cursor makes (ap (option_map (λ (q : ℕ × ℕ). q.1)) told) went
-  where
-    only_one : (o : Option Line) (now : Line) → option_and_then (λ (l : Line). Some l) o ≡ Some now → o ≡ Some now
-    only_one None now h = cc
-    only_one (Some l) now h = h

@@ -12,7 +12,7 @@ use Rattle.rl_line.specs.Record.{Entry, Begin, End, Inserted, Deleted, Replaced,
 use Rattle.rl_line.specs.Units.{level, last_of, kept_of, redo_of, end_one, end_times, begun, ended, undone, redone, truncated}
 use Rattle.rl_line.proofs.JoinLemmas.{record_step-Start, record_step-Stop}
 use Rattle.rl_line.proofs.MatchLemmas.{IsMatched-after, BothMatched-begun, BothMatched-ended, BothMatched-undone, BothMatched-redone, BothMatched-truncated, EndsOne, end_one-cons, Redoes-of, BothMatched-step}
-use Rattle.rl_line.proofs.RecordLemmas.{through, replay-append, replay-IsUtf8, replay-unwind, unwind-replay, entries_after-unwind}
+use Rattle.rl_line.proofs.RecordLemmas.{then_some, through, replay-append, replay-IsUtf8, replay-unwind, unwind-replay, entries_after-unwind}
 use Rattle.rl_line.proofs.UnitLemmas.{kept-last}
 use Rattle.rl_session.specs.History.{StandsAfter, WasHeld, PlacedBack, Placed, History}
 use Rattle.rl_line.proofs.RoomLemmas.{texts_after-more}
@@ -89,17 +89,13 @@ Placed-mark start es e held p h =
     (l.before, l.text, l.stands, with_last_first es e start ∙ h ∙ sym (back_again es start) ∙ l.leads, l.placed)
 
 -- ---- marks of groups
-some_again : (o : Option (List ℕ)) → option_and_then (λ t. Some t) o ≡ o
-some_again None = refl
-some_again (Some t) = refl
-
 replay-begin : (es : List Entry) (start : List ℕ) → replay_entries (es ++ (Begin ∷ [])) start ≡ replay_entries es start
 unfolding apply
-replay-begin es start = replay-append es (Begin ∷ []) start ∙ some_again (replay_entries es start)
+replay-begin es start = replay-append es (Begin ∷ []) start ∙ then_some (replay_entries es start)
 
 replay-end : (es : List Entry) (start : List ℕ) → replay_entries (es ++ (End ∷ [])) start ≡ replay_entries es start
 unfolding apply
-replay-end es start = replay-append es (End ∷ []) start ∙ some_again (replay_entries es start)
+replay-end es start = replay-append es (End ∷ []) start ∙ then_some (replay_entries es start)
 
 -- an end takes off a Begin, or adds an End
 pub end_one-cases : (es : List Entry) → EndsOne es ⊎ (end_one es ≡ es ++ (End ∷ []))

@@ -1,10 +1,10 @@
 -- What the plans of the edits do with the cursor: a step that adds no entry leaves it, and a plan ends where its last step leaves it.
-use Rattle.std.proofs.Common.{◌≡◌, ℕ, ◌+◌, ◌-◌, ◌*◌, ◌==◌, ◌||◌, ◌≤◌, ◌<◌, Bool, true, false, zero, suc, List, [], ◌∷◌, ◌++◌, length, slice_range, take, drop, take_at, false-eqb, slice_get, take_all, reverse, length-append, eq-eqb, leb-true, ap₂, Option, Some, None, refl, sym, ap, subst, ◌∙◌, cond, eqb, eqb-true, arith, sum, ◌/◌, ◌%◌}
+use Rattle.std.proofs.Common.{◌≡◌, ℕ, ◌+◌, ◌-◌, ◌*◌, ◌==◌, ◌||◌, ◌≤◌, ◌<◌, Bool, true, false, zero, suc, List, [], ◌∷◌, ◌++◌, length, slice_range, take, drop, take_at, false-eqb, slice_get, take_all, reverse, length-append, eq-eqb, leb-true, ap₂, Option, Some, None, refl, sym, ap, subst, ◌∙◌, cond, eqb-true, arith, sum}
 use Rattle.std.proofs.lemmas.List.Edits.{length-between}
 use Rattle.std.proofs.lemmas.Bool.Decides.{nat_tests}
-use Rattle.rl_line.proofs.IndentLemmas.{length-spaces, pushed-none, pushed-pushed}
-use Rattle.std.proofs.lemmas.List.Sums.{sum_by-append, sum_by-cons}
-use Rattle.std.specs.Prelude.{encode_utf8, if◌then◌else◌, nat_lt, nat_le, not, ◌&&◌, option_and_then, unwrap_or}
+use Rattle.rl_line.proofs.IndentLemmas.{length-spaces, pushed-none, pushed-pushed, sum-parts}
+use Rattle.std.proofs.lemmas.List.Sums.{sum_by-cons}
+use Rattle.std.specs.Prelude.{encode_utf8, nat_lt, nat_le, not, ◌&&◌, option_and_then, unwrap_or}
 use Rattle.std.specs.List.{All, remove_range, repeat}
 use Rattle.std.specs.declared.ops.Range.{Range}
 use Rattle.rl_base.specs.Event.{Event, InsertChar, InsertStr, Delete, Replace}
@@ -33,7 +33,7 @@ use Rattle.rl_base.specs.declared.motion.At.TheVariants as stop_at
 use Rattle.rl_base.specs.declared.motion.Word.TheVariants.{Emacs}
 use Rattle.rl_base.proofs.LineLemmas.{few-from_none, IsCharBoundary-nth, place-of_nth}
 use Rattle.rl_base.proofs.ClusterLemmas.{bytes_in-append, bytes_in-clusters}
-use Rattle.rl_base.proofs.WordLemmas.{All-reverse, All-stops, IsCharBoundary-stop, nth-is, prev_word-some, start_before}
+use Rattle.rl_base.proofs.WordLemmas.{All-reverse, All-stops, IsCharBoundary-stop, nth-is_or, prev_word-some, start_before}
 use Rattle.rl_line.proofs.RecordLemmas.{through}
 use Rattle.rl_line.specs.Transpositions.{are_two, clusters_around, first_word, meeting_place, only_move, pulled_back, second_word, swap_plan, transpose_chars_plan, transpose_words_plan, word_end, word_start}
 
@@ -201,17 +201,6 @@ ends-put_spaces [] i cursor = sym (pushed-none i cursor)
 ends-put_spaces (n ∷ more) i cursor =
     ends-put_spaces more i (pushed i n cursor) ∙ pushed-pushed i n (sum more) cursor ∙ ap (λ k. pushed i k cursor) (sym (sum_by-cons (λ x. x) n more))
 
-sum-parts : (n : ℕ) → sum (parts n) ≡ n
-sum-parts n = sum_by-append (λ x. x) (repeat (n / 32) (32 ∷ [])) _ ∙ (omega (arith, full (n / 32), rest (eqb (n % 32) 0) refl))
-  where
-    full : (q : ℕ) → sum (repeat q (32 ∷ [])) ≡ 32 * q
-    full zero = refl
-    full (suc q) = sum_by-cons (λ x. x) 32 (repeat q (32 ∷ [])) ∙ (omega (arith, full q))
-
-    rest : (b : Bool) → eqb (n % 32) 0 ≡ b → sum (if b then [] else n % 32 ∷ []) ≡ n % 32
-    rest true e = sym (eqb-true (n % 32) 0 e)
-    rest false e = omega arith
-
 -- a plan from a cursor on whose steps are quiet, and that ends where they leave the cursor, even where there are none
 record Goes {A : Type 0} (cursor : ℕ) (plan : Plan A) : Type 0 where
   quiet : Quiet cursor plan.steps
@@ -349,13 +338,6 @@ Settles-transpose_chars line full u bound =
     (λ a e. let p = through (clusters_around line.text) (meeting_place line) a e in around-some line.text p.0 a (full (drop p.0 line.text)) u (IsCharBoundary-meeting line p.0 u bound p.1) p.2)
 
 -- ---- words
-nth-is_or : (P : ℕ → Type 0) (n : ℕ) (xs : List ℕ) → P 0 → All P xs → P (unwrap_or (nth n xs) 0)
-nth-is_or P n xs h k = from (nth n xs) refl
-  where
-    from : (o : Option ℕ) → nth n xs ≡ o → P (unwrap_or o 0)
-    from None e = h
-    from (Some x) e = nth-is P n x xs k e
-
 -- a word before a place starts before it
 start-below : (text : List ℕ) (pos n : ℕ) → NoneAtEnd (take pos text) → IsUtf8 text → IsCharBoundary text pos → 0 < pos → word_start text pos n < pos
 start-below text pos n full u bound some =
