@@ -46,10 +46,8 @@ impl Gathered {
                 blanks: 0,
             });
         }
-        match String::from_str(alloc, text) {
-            Ok(buf) => Ok(Gathered { buf, blanks: 0 }),
-            Err(_) => Err(Refusal::NoMemory),
-        }
+        let buf = String::from_str(alloc, text)?;
+        Ok(Gathered { buf, blanks: 0 })
     }
 
     /// The text's length in bytes.
@@ -71,10 +69,8 @@ impl Gathered {
         ensures ok { OnOk result (self.new.text ≡ self.old.text ++ part.now) }
         ensures err { IfErr result (λ r. (r ≡ NoMemory) × (self.new.text ≡ self.old.text) × (0 < length part.now)) }
     {
-        match self.buf.push_str(part) {
-            Ok(()) => Ok(()),
-            Err(_) => Err(Refusal::NoMemory),
-        }
+        self.buf.push_str(part)?;
+        Ok(())
     }
 
     /// Puts a part in front. Refused only where memory is out, and then it changes nothing. A part that fits into
@@ -121,13 +117,9 @@ fn find_blanks(buf: &mut String, blanks: usize, bytes: usize) -> Result<usize, R
         return Ok(blanks);
     }
     let more = bytes.max(buf.len());
-    let Ok(row) = " ".repeat(*buf.allocator(), more) else {
-        return Err(Refusal::NoMemory);
-    };
-    match buf.insert_str(0, row.as_str()) {
-        Ok(()) => Ok(blanks + more),
-        Err(_) => Err(Refusal::NoMemory),
-    }
+    let row = " ".repeat(*buf.allocator(), more)?;
+    buf.insert_str(0, row.as_str())?;
+    Ok(blanks + more)
 }
 
 // Replaces the last blanks before a text by a part, and answers how many are left. It takes no memory.

@@ -200,9 +200,7 @@ fn put(slots: &mut Vec<Gathered>, index: usize, text: &str) -> Result<(), Refusa
         slots[index] = slot;
         return Ok(());
     }
-    if slots.push(slot).is_err() {
-        return Err(Refusal::NoMemory);
-    }
+    slots.push(slot)?;
     Ok(())
 }
 

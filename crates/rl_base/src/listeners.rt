@@ -5,8 +5,10 @@
 ghost use Rattle.std.specs.Prelude.{◌≡◌, OnOk, IfErr};
 ghost use Rattle.rl_base.specs.Event.{Event, InsertChar, InsertStr, Delete, Replace, Start, Stop, Cursors};
 ghost use Rattle.rl_base.specs.declared.listeners.Refusal.{Refusal};
+ghost use Rattle.rl_base.specs.declared.listeners.Refusal.TheVariants.{NoMemory};
 
 pub use crate::motion::WordAction;
+use std::alloc::{AllocError, AllocFailed};
 use thiserror::Error;
 
 /// The side of the cursor from which a text is taken.
@@ -28,6 +30,22 @@ pub enum Refusal {
     /// A listener of the caller's own refused.
     #[error("the listener refused the change")]
     Listener = 2,
+}
+
+impl From<AllocError> for Refusal {
+    ghost from_gives = { λ _ r. r ≡ NoMemory };
+
+    fn from(_: AllocError) -> Self {
+        Refusal::NoMemory
+    }
+}
+
+impl<T: Drop> From<AllocFailed<T>> for Refusal {
+    ghost from_gives = { λ _ r. r ≡ NoMemory };
+
+    fn from(_: AllocFailed<T>) -> Self {
+        Refusal::NoMemory
+    }
 }
 
 // The numbers are part of the interface.

@@ -56,3 +56,8 @@ longer_or_more (suc n) a b c d e h = inl (omega (arith, e))
 pub some_part : (s t : List ℕ) → (length s < length t) ⊎ (count_by is_newline s < count_by is_newline t) → 0 < length t
 some_part s t (inl longer) = omega (arith, longer)
 some_part s t (inr more) = omega (arith, more, count_by-le-length is_newline t)
+
+-- some copies of a text that is not empty
+pub some_copies : (n : ℕ) (s : List ℕ) → 0 < length s → 0 < n → 0 < length (repeat n s)
+some_copies zero s h some = absurd (omega (arith, some))
+some_copies (suc n) s h some = omega (arith, length-append s (repeat n s), h)

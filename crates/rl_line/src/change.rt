@@ -393,9 +393,7 @@ pub(crate) fn text_over(
         if !change.fits(now.as_str(), way) {
             return Ok(None);
         }
-        if now.reserve(coming.len()).is_err() {
-            return Err(Refusal::NoMemory);
-        }
+        now.reserve(coming.len())?;
         go_over_in_text(&mut now, change, way);
         if !change.stands(now.as_str(), way, asks) {
             return Ok(None);
@@ -413,10 +411,7 @@ pub(crate) fn copied(alloc: Global, text: &str) -> Result<String, Refusal>
     if text.is_empty() {
         return Ok(String::new(alloc));
     }
-    match String::from_str(alloc, text) {
-        Ok(copy) => Ok(copy),
-        Err(_) => Err(Refusal::NoMemory),
-    }
+    Ok(String::from_str(alloc, text)?)
 }
 
 // Joining: each of these takes an event in where it joins the change, and answers what may be told of it then, or None where it
@@ -433,9 +428,7 @@ impl Change {
                 if !is_alphanumeric(c) || at.checked_add(text.len()) != Some(idx) {
                     return Ok(None);
                 }
-                if text.push(c).is_err() {
-                    return Err(Refusal::NoMemory);
-                }
+                text.push(c)?;
                 Ok(Some(Freshness::of_joined(cursors)))
             }
             Change::Begin | Change::End | Change::Delete(_, _, _) | Change::Replace(_, _, _) => Ok(
@@ -490,9 +483,8 @@ impl Change {
                 if at.checked_add(texts.after.len()) != Some(idx) {
                     return Ok(None);
                 }
-                if texts.before.reserve(old.len()).is_err() || texts.after.push_str(new).is_err() {
-                    return Err(Refusal::NoMemory);
-                }
+                texts.before.reserve(old.len())?;
+                texts.after.push_str(new)?;
                 match texts.before.push_str(old) {
                     Ok(()) => {}
                     Err(_) => unreachable!(),

@@ -46,9 +46,7 @@ fn add_char(entries: &mut Vec<Change>, recorded: usize, idx: usize, c: char) -> 
     ensures err { IfErr result (λ r. (r ≡ NoMemory) × (map entry_of entries.new.items ≡ map entry_of entries.old.items)) }
 {
     let mut text = String::new(*entries.allocator());
-    if text.push(c).is_err() {
-        return Err(Refusal::NoMemory);
-    }
+    text.push(c)?;
     add(entries, recorded, Change::Insert(None, idx, text))
 }
 
@@ -118,10 +116,8 @@ pub(crate) fn replace(
     let alloc = *entries.allocator();
     let before = copied(alloc, old)?;
     let after = copied(alloc, new)?;
-    match Box::new(alloc, Texts { before, after }) {
-        Ok(texts) => add(entries, recorded, Change::Replace(None, idx, texts))?,
-        Err(_) => return Err(Refusal::NoMemory),
-    }
+    let texts = Box::new(alloc, Texts { before, after })?;
+    add(entries, recorded, Change::Replace(None, idx, texts))?;
     Ok(Freshness::Added)
 }
 
@@ -218,10 +214,8 @@ pub(crate) fn add(entries: &mut Vec<Change>, recorded: usize, entry: Change) -> 
             Err(_) => unreachable!(),
         }
     }
-    match entries.push(entry) {
-        Ok(()) => Ok(()),
-        Err(_) => Err(Refusal::NoMemory),
-    }
+    entries.push(entry)?;
+    Ok(())
 }
 
 /// Keeps the first `len` entries. Mostly these are all, and then it costs no call.
@@ -315,10 +309,8 @@ pub(crate) fn find_ends(entries: &mut Vec<Change>, adds: bool, count: usize) -> 
     if !adds {
         return Ok(());
     }
-    match entries.reserve(count) {
-        Ok(()) => Ok(()),
-        Err(_) => Err(Refusal::NoMemory),
-    }
+    entries.reserve(count)?;
+    Ok(())
 }
 
 /// Closes `count` groups in a list that has room for as many Ends, if one is added.

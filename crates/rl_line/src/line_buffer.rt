@@ -85,16 +85,13 @@ impl LineBuffer {
         ensures ok { IfOk result (λ line. line ≡ record { text = []; cursor = 0; limit = capacity; grow = false }) }
         ensures err { IfErr result (λ r. (r ≡ NoMemory) × (0 < capacity)) }
     {
-        match String::with_capacity(alloc, capacity) {
-            Ok(buf) => Ok(LineBuffer {
-                buf,
-                starts: LineStarts::new(alloc),
-                pos: 0,
-                limit: capacity,
-                can_growth: false,
-            }),
-            Err(_) => Err(Refusal::NoMemory),
-        }
+        Ok(LineBuffer {
+            buf: String::with_capacity(alloc, capacity)?,
+            starts: LineStarts::new(alloc),
+            pos: 0,
+            limit: capacity,
+            can_growth: false,
+        })
     }
 
     /// The line, with or without leave to grow past its limit.

@@ -32,12 +32,8 @@ pub(crate) fn find_room(
     ensures table { OnOk result (vec_len starts.old.places + newlines ≤ vec_capacity starts.new.places) }
     ensures err { IfErr result (λ r. (r ≡ NoMemory) × (0 < bytes + newlines)) }
 {
-    if text.reserve(bytes).is_err() {
-        return Err(Refusal::NoMemory);
-    }
-    if starts.places.reserve(newlines).is_err() {
-        return Err(Refusal::NoMemory);
-    }
+    text.reserve(bytes)?;
+    starts.places.reserve(newlines)?;
     Ok(())
 }
 

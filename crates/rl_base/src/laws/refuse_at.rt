@@ -65,9 +65,7 @@ impl RefuseAt {
         let Some(left) = self.left.checked_sub(1) else {
             return Err(Refusal::Listener);
         };
-        if self.seen.push(event).is_err() {
-            return Err(Refusal::NoMemory);
-        }
+        self.seen.push(event)?;
         self.left = left;
         Ok(())
     }
@@ -80,10 +78,7 @@ impl RefuseAt {
         if self.left == 0 {
             return Err(Refusal::Listener);
         }
-        let Ok(copy) = String::from_str(*self.seen.allocator(), text) else {
-            return Err(Refusal::NoMemory);
-        };
-        Ok(copy)
+        Ok(String::from_str(*self.seen.allocator(), text)?)
     }
 }
 

@@ -48,10 +48,8 @@ impl LineBuffer {
         if n == 0 {
             return self.put_str(at, "", at, listener);
         }
-        match text.repeat(*self.buf.allocator(), usize::from(n)) {
-            Ok(copies) => self.put_str(at, copies.as_str(), at + copies.len(), listener),
-            Err(_) => Err(Refusal::NoMemory),
-        }
+        let copies = text.repeat(*self.buf.allocator(), usize::from(n))?;
+        self.put_str(at, copies.as_str(), at + copies.len(), listener)
     }
 
     // One step: a character at the cursor, n times.

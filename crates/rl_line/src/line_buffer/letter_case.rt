@@ -32,10 +32,7 @@ impl LineBuffer {
             return Ok(false);
         };
         let text = &self.as_str()[word.start..word.end];
-        let made = match recased(*self.buf.allocator(), text, action) {
-            Ok(made) => made,
-            Err(_) => return Err(Refusal::NoMemory),
-        };
+        let made = recased(*self.buf.allocator(), text, action)?;
         let end = word.start + made.len();
         self.exchange(word, at, made.as_str(), end, listener)?;
         Ok(true)

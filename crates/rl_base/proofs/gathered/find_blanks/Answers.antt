@@ -3,18 +3,18 @@ use Rattle.std.specs.List.{repeat, insert_slice}
 use Rattle.rl_base.proofs.GatheredLemmas.{blanker}
 use Rattle.rl_base.proofs.gathered.find_blanks.Goals as goal
 
-pub returns-in-Ok-insert_str-clause-blanks : goal.returns-in-Ok-insert_str-clause-blanks
-returns-in-Ok-insert_str-clause-blanks c =
+pub returns-clause-blanks : goal.returns-clause-blanks
+returns-clause-blanks c =
     let old = string_bytes c.args.buf.now in
     let m = c.max-more.result in
     let now = string_bytes c.insert_str.new.self in
-    let is : now ≡ insert_slice old 0 (repeat m (32 ∷ [])) = c.in-Ok-insert_str.ensures.bytes ∙ ap (insert_slice old 0) (c.as_str.ensures.value ∙ c.in-Ok.ensures.bytes) in
+    let is : now ≡ insert_slice old 0 (repeat m (32 ∷ [])) = c.in_ok-insert_str.ensures.bytes ∙ ap (insert_slice old 0) (c.as_str.ensures.value ∙ c.in_ok-row.ensures.bytes) in
     (blanker old now c.args.blanks m c.requires is).blanks
 
-pub returns-in-Ok-insert_str-clause-text : goal.returns-in-Ok-insert_str-clause-text
-returns-in-Ok-insert_str-clause-text c =
+pub returns-clause-text : goal.returns-clause-text
+returns-clause-text c =
     let old = string_bytes c.args.buf.now in
     let m = c.max-more.result in
     let now = string_bytes c.insert_str.new.self in
-    let is : now ≡ insert_slice old 0 (repeat m (32 ∷ [])) = c.in-Ok-insert_str.ensures.bytes ∙ ap (insert_slice old 0) (c.as_str.ensures.value ∙ c.in-Ok.ensures.bytes) in
+    let is : now ≡ insert_slice old 0 (repeat m (32 ∷ [])) = c.in_ok-insert_str.ensures.bytes ∙ ap (insert_slice old 0) (c.as_str.ensures.value ∙ c.in_ok-row.ensures.bytes) in
     (blanker old now c.args.blanks m c.requires is).text_is

@@ -1,4 +1,5 @@
 use Rattle.std.proofs.Common.{arith, rules, refl, ◌≡◌, ◌+◌, ◌-◌, ◌<◌, length, subst, sym, ap, Some, ◌∙◌}
+use Rattle.std.proofs.lemmas.Result.{err_from_is_err_and}
 use Rattle.std.specs.String.{string_bytes}
 use Rattle.std.specs.Str.{IsUtf8}
 use Rattle.std.specs.Prelude.{is_some}
@@ -47,9 +48,10 @@ loop-left-preserved c =
     GoesOver-next c.args.asks c.args.way (order c.args.way c.args.changes.now) (c.loop-left.left - 1) c.nth_on-change.result.now c.args.text.now (string_bytes c.loop-left.now) _ (inside d.After-fits) c.nth_on-change.ensures (over d.After-fits)
     (made d.After-stands) (stood d.After-stands ∙ c.if-not-stands.false)
 
-pub returns-then-is_err-clause-err : goal.returns-then-is_err-clause-err
-returns-then-is_err-clause-err c =
-    let d = (goal.at.returns-then-is_err-clause-err c).After-fits in
+pub returns-in_err-reserve-clause-err : goal.returns-in_err-reserve-clause-err
+returns-in_err-reserve-clause-err c =
+    let d = (goal.at.returns-in_err-reserve-clause-err c).After-fits in
+    let p = err_from_is_err_and c.from_residual-in_err-reserve.result c.from_residual-in_err-reserve.ensures.1 in
     let x = c.nth_on-change.result.now in
     let some : 0 < length (old_text (faced c.args.way x)) = subst (λ t. 0 < length t) c.texts.ensures.coming (search rules) in
-    (refl, omega (arith, bytes_back-one c.args.way (order c.args.way c.args.changes.now) (c.loop-left.left - 1) x (inside d) c.nth_on-change.ensures some))
+    rw (p.1, p.2) (refl, omega (arith, bytes_back-one c.args.way (order c.args.way c.args.changes.now) (c.loop-left.left - 1) x (inside d) c.nth_on-change.ensures some))

@@ -24,14 +24,15 @@ returns-in_default-clause-done g c =
       holds = Done-nothing _ _ c.args.self.now _ _ (edit_word_plan-nothing c.args.self.now [] c.in_default.ensures.value);
     }
 
-pub returns-in-Err-clause-halted : goal.returns-in-Err-clause-halted
-returns-in-Err-clause-halted g c =
+pub returns-in_err-made-clause-halted : goal.returns-in_err-made-clause-halted
+returns-in_err-made-clause-halted g c =
+    let p = err_from_is_err_and c.from_residual.result c.from_residual.ensures.1 in
     let some = made_for c.args.action (text_in c.args.self.now c.in-Some.word) in
     let made = some.made in
     let is : c.range-text.result.now ≡ text_in c.args.self.now c.in-Some.word =
     c.range-text.ensures.value ∙ ap (λ t. slice_range t c.in-Some.word.start c.in-Some.word.end) c.as_str.ensures in
-    let some_text : 0 < length (text_in c.args.self.now c.in-Some.word) = subst (λ t. 0 < length t) is c.in-Err.ensures.some in
-    record {
+    let some_text : 0 < length (text_in c.args.self.now c.in-Some.word) = subst (λ t. 0 < length t) is c.in_err-made.ensures.some in
+    rw (p.1, p.2) record {
       made = made;
       utf8 = some.utf8;
       ascii = recased-ascii c.args.self.now c.args.action c.in-Some.word _ made c.in-Some.ensures.value refl some.ascii;
@@ -40,7 +41,7 @@ returns-in-Err-clause-halted g c =
 
 pub returns-in_err-exchange-clause-halted : goal.returns-in_err-exchange-clause-halted
 returns-in_err-exchange-clause-halted g c =
-    let p = err_from_is_err_and c.from_residual.result c.from_residual.ensures.1 in
+    let p = err_from_is_err_and c.from_residual-in_err-exchange.result c.from_residual-in_err-exchange.ensures.1 in
     let line = c.args.self.now in
     let made = c.as_str-2.result.now in
     let plan = exchange_plan line c.in-Some.word c.pos-at.result made (c.in-Some.word.start + c.len.result) in
@@ -48,7 +49,7 @@ returns-in_err-exchange-clause-halted g c =
       made = made;
       utf8 = c.as_str-2.utf8;
       ascii = recased-ascii line c.args.action c.in-Some.word c.range-text.result.now made c.in-Some.ensures.value
-          (c.range-text.ensures.value ∙ ap (λ t. slice_range t c.in-Some.word.start c.in-Some.word.end) c.as_str.ensures) (λ a. c.as_str-2.ensures.value ∙ c.in-Ok.ensures.ascii a);
+          (c.range-text.ensures.value ∙ ap (λ t. slice_range t c.in-Some.word.start c.in-Some.word.end) c.as_str.ensures) (λ a. c.as_str-2.ensures.value ∙ c.in_ok-made.ensures.ascii a);
       holds = Stopped-as _ _ (edit_word_plan line made) plan _ _ _ _ _
           (ap (λ (q : Plan _). q.steps) (edit_word_plan-some line c.in-Some.word made c.pos-at.result (c.in-Some.word.start + c.len.result) c.in-Some.ensures.value c.pos-at.ensures.place (ap (λ n. c.in-Some.word.start + n) (search rules))))
           c.in_err-exchange.ensures.halted;
@@ -63,7 +64,7 @@ returns-clause-done g c =
       made = made;
       utf8 = c.as_str-2.utf8;
       ascii = recased-ascii line c.args.action c.in-Some.word c.range-text.result.now made c.in-Some.ensures.value
-          (c.range-text.ensures.value ∙ ap (λ t. slice_range t c.in-Some.word.start c.in-Some.word.end) c.as_str.ensures) (λ a. c.as_str-2.ensures.value ∙ c.in-Ok.ensures.ascii a);
+          (c.range-text.ensures.value ∙ ap (λ t. slice_range t c.in-Some.word.start c.in-Some.word.end) c.as_str.ensures) (λ a. c.as_str-2.ensures.value ∙ c.in_ok-made.ensures.ascii a);
       holds = Done-as _ (edit_word_plan line made) (answering true plan) _ _ _ _ _ (Done-steps _ (answering true plan) _ _ _ _ _ c.in_ok-exchange.ensures.taken refl c.in_ok-exchange.ensures.cursor)
           (edit_word_plan-some line c.in-Some.word made c.pos-at.result (c.in-Some.word.start + c.len.result) c.in-Some.ensures.value c.pos-at.ensures.place (ap (λ n. c.in-Some.word.start + n) (search rules)));
     }
@@ -79,7 +80,7 @@ returns-clause-mapped g c = λ word e n.
     let text : c.range-text.result.now ≡ text_in line word =
     c.range-text.ensures.value ∙ ap (λ t. slice_range t c.in-Some.word.start c.in-Some.word.end) c.as_str.ensures ∙ ap (text_in line) same in
     let made : c.as_str-2.result.now ≡ mapped c.args.action (text_in line word) =
-    c.as_str-2.ensures.value ∙ c.in-Ok.ensures.others (λ a. n (subst IsAscii text a)) ∙ ap (mapped c.args.action) text in
+    c.as_str-2.ensures.value ∙ c.in_ok-made.ensures.others (λ a. n (subst IsAscii text a)) ∙ ap (mapped c.args.action) text in
     c.in_ok-exchange.ensures.text
     ∙ ap (λ (w : Range ℕ). replace_range line.text w.start w.end c.as_str-2.result.now) same
     ∙ ap (replace_range line.text word.start word.end) made

@@ -1,16 +1,23 @@
-use Rattle.std.proofs.Common.{rules, ◌+◌, arith, subst}
+use Rattle.std.proofs.Common.{inl, refl, rules, ◌+◌, arith, subst}
+use Rattle.std.proofs.lemmas.Result.{err_from_is_err_and}
 use Rattle.std.specs.List.{insert_slice}
 use Rattle.std.specs.Str.{IsCharBoundary}
 use Rattle.rl_base.proofs.TextLemmas.{IsCharBoundary-past_replacement}
+use Rattle.rl_line.proofs.EditLemmas.{some_copies}
 use Rattle.rl_line.proofs.line_buffer.LineBuffer.put_copies.Goals as goal
 
 pub put_str-requires-clause-boundary : goal.put_str-requires-clause-boundary
 put_str-requires-clause-boundary g c =
     IsCharBoundary-past_replacement c.args.self.now.text c.pos-at.result c.pos-at.result c.args.text.now c.pos-at.ensures.utf8 (omega arith) c.pos-at.ensures.boundary
 
-pub put_str-requires-in-Ok-clause-boundary : goal.put_str-requires-in-Ok-clause-boundary
-put_str-requires-in-Ok-clause-boundary g c =
+pub put_str-requires-2-clause-boundary : goal.put_str-requires-2-clause-boundary
+put_str-requires-2-clause-boundary g c =
     let text = c.args.self.now.text in
     let at = c.pos-at.result in
     let copies = c.as_str.result.now in
     subst (λ n. IsCharBoundary (insert_slice text at copies) (at + n)) (search rules) (IsCharBoundary-past_replacement text at at copies c.pos-at.ensures.utf8 (omega arith) c.pos-at.ensures.boundary)
+
+pub returns-in_err-copies-clause-cause : goal.returns-in_err-copies-clause-cause
+returns-in_err-copies-clause-cause g c =
+    let p = err_from_is_err_and c.from_residual.result c.from_residual.ensures.1 in
+    rw (p.1, p.2) (inl (refl, refl, some_copies c.args.n c.args.text.now c.requires (omega (arith, c.if-n-eq0.false))))
