@@ -2,7 +2,7 @@
 use Rattle.std.proofs.Common.{arith, ◌≡◌, ◌≢◌, ℕ, ◌<◌, List, [], ◌∷◌, ◌++◌, Some, None, refl, sym, ap, subst, ◌∙◌, append_assoc, inl, inr, ◌⊎◌}
 use Rattle.std.specs.Prelude.{encode_utf8, codes}
 use Rattle.std.proofs.lemmas.Str.{encode_same, encode_ascii}
-use Rattle.rl_session.specs.Grammar.{letter_of, NamesChar, Escapes, letter, braced}
+use Rattle.rl_session.specs.Spelling.{letter_of, NamesChar, Escapes, letter, braced}
 use Rattle.rl_session.specs.Reads.{BeginsEscape, BeginsNoEscape}
 use Rattle.rl_session.proofs.PartLemmas.{Lacks, Lacks-none, same_parts}
 use Rattle.rl_session.proofs.SpellingLemmas.{digits-Lacks, letter-ascii}

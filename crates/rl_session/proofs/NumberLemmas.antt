@@ -4,7 +4,7 @@ use Rattle.std.specs.Prelude.{◌&&◌, ◌==◌, nat_lt, nat_le}
 use native.Mathlib.Nat.{pow-le-pow_right}
 use Rattle.std.proofs.lemmas.Bool.Decides.{nat_tests}
 use Rattle.std.proofs.lemmas.List.{at_drop_more}
-use Rattle.rl_session.specs.Grammar.{are_digits, value_from, number_of}
+use Rattle.rl_session.specs.Spelling.{are_digits, value_from, number_of}
 
 middle_false : (a b c : Bool) → b ≡ false → (a && (b && c)) ≡ false
 middle_false true b c h = rw h refl

@@ -3,7 +3,7 @@ use Rattle.std.specs.Prelude.{◌==◌, ◌&&◌, if◌then◌else◌}
 use Rattle.std.proofs.Common.{arith, ◌≡◌, ◌≢◌, ℕ, Bool, true, false, List, ◌<◌, [], ◌∷◌, ◌++◌, Some, refl, subst, inl, inr}
 use Rattle.std.proofs.lemmas.Bool.Decides.{eqb_tells}
 use Rattle.std.proofs.lemmas.Str.{encode_ascii}
-use Rattle.rl_session.specs.Grammar.{letter_of, Spells, letter, nothing, plain, escape}
+use Rattle.rl_session.specs.Spelling.{letter_of, Spells, letter, nothing, plain, escape}
 use Rattle.rl_session.specs.Print.{escape as escape_of, escaped}
 
 by_letter : (b c : ℕ) (bytes text : List ℕ) → c < 128 → letter_of b ≡ Some c → Spells bytes text → Spells (92 ∷ b ∷ bytes) (c ∷ text)

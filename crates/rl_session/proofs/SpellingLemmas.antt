@@ -10,7 +10,7 @@ use Rattle.std.proofs.lemmas.Str.{encode_same, encode_ascii, inside_one, length-
 use Rattle.std.proofs.lemmas.List.{append_cancel_left}
 use Rattle.rl_base.proofs.TextLemmas.{and_left}
 use Rattle.rl_session.proofs.PartLemmas.{Lacks, Lacks-by_index, same_parts}
-use Rattle.rl_session.specs.Grammar.{hex_digit, hex_from, letter_of, Escapes, Spells, SpellsChar, letter, braced, nothing, plain, escape}
+use Rattle.rl_session.specs.Spelling.{hex_digit, hex_from, letter_of, Escapes, Spells, SpellsChar, letter, braced, nothing, plain, escape}
 use Rattle.rl_session.specs.Reads.{BeginsEscape, BeginsNoEscape, Begins, BeginsChar, SpellsNothing, SpellsNoChar}
 
 -- parts that follow each other

@@ -5,7 +5,8 @@ use Rattle.std.proofs.lemmas.Bool.Decides.{nat_tests}
 use Rattle.rl_base.specs.declared.motion.WordAction.{WordAction}
 use Rattle.rl_session.specs.declared.session.Command.TheVariants.{SetPos, Move, Yank, Delete, Backspace, TransposeWords, EditWord, Kill, Copy, Undo, Truncate}
 use Rattle.rl_session.specs.declared.settings.Setting.TheVariants.{Limit, RingSize, Mode}
-use Rattle.rl_session.specs.Grammar.{NamesAction, Meaning, NewText, Set, Do, number_of, word, rest, SpellsChar, Numbered, SpellsRest, NumberedText, RangeText, Says, no_text, text, pos, move, ins, paste, yank, yankpop, update, str, rep, range, del, back, killline, killbuf, discline, discbuf, prevword, nextword, to, tchars, twords, cased, kill, copy, indent, dedent, begin, end, undo, redo, trunc, limit, ring, mode, Means, Same, same, pastes, updates, puts_in, replaces, line_place}
+use Rattle.rl_session.specs.Grammar.{NamesAction, Meaning, NewText, Set, Do, RangeText, Says, no_text, text, pos, move, ins, paste, yank, yankpop, update, str, rep, range, del, back, killline, killbuf, discline, discbuf, prevword, nextword, to, tchars, twords, cased, kill, copy, indent, dedent, begin, end, undo, redo, trunc, limit, ring, mode, Means, Same, same, pastes, updates, puts_in, replaces, line_place}
+use Rattle.rl_session.specs.Spelling.{number_of, word, rest, SpellsChar, Numbered, SpellsRest, NumberedText}
 use Rattle.rl_session.specs.Reads.{SpellsNoChar, HasNoNumber, HasNoWord, HasNoAt, HasNoSearch, HasNoMovement, NamesNoMovement, SaysNoDeletion, SaysNoCommand}
 use Rattle.rl_session.proofs.NumberLemmas.{some_same, none_holds}
 use Rattle.rl_session.proofs.PartLemmas.{Lacks}

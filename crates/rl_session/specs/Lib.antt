@@ -6,6 +6,7 @@ pub mod Commands
 pub mod Run
 pub mod KillRuns
 pub mod History
+pub mod Spelling
 pub mod Grammar
 pub mod Reads
 pub mod Lines

@@ -5,7 +5,8 @@ use Rattle.std.specs.Str.{IsUtf8}
 use Rattle.std.specs.String.{string_bytes}
 use Rattle.rl_session.specs.declared.grammar.ScriptLine.{ScriptLine}
 use Rattle.rl_session.specs.declared.grammar.ScriptLine.TheVariants as made
-use Rattle.rl_session.specs.Grammar.{Meaning, NewText, Set, Do, Escapes, Spells, SpellsChar, word, rest, Numbered, NumberedText, RangeText, CountWord, CountAtWord, CountSearch, Names, NamesMovement, AmountMovement, Says}
+use Rattle.rl_session.specs.Grammar.{Meaning, NewText, Set, Do, RangeText, CountWord, CountAtWord, CountSearch, Names, NamesMovement, AmountMovement, Says}
+use Rattle.rl_session.specs.Spelling.{Escapes, Spells, SpellsChar, word, rest, Numbered, NumberedText}
 use Rattle.rl_session.specs.declared.settings.Setting.{Setting}
 use Rattle.rl_base.specs.declared.motion.At.{At}
 use Rattle.rl_base.specs.declared.motion.CharSearch.{CharSearch}

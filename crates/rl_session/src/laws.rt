@@ -1,7 +1,8 @@
 //! Laws of scripts, which hold of the definitions alone.
 ghost use Rattle.std.specs.Prelude.{ℕ, Bool, List};
 ghost use Rattle.std.specs.Str.{IsUtf8};
-ghost use Rattle.rl_session.specs.Grammar.{Meaning, Means, Same, Spells};
+ghost use Rattle.rl_session.specs.Grammar.{Meaning, Means, Same};
+ghost use Rattle.rl_session.specs.Spelling.{Spells};
 ghost use Rattle.rl_session.specs.Print.{escaped};
 
 /// What is printed for a text, also for one that a reply hands out, is read as that text again.

@@ -10,6 +10,7 @@ mod print;
 pub mod script;
 pub mod session;
 mod settings;
+mod spelling;
 
 pub use pair::Pair;
 pub use script::{ScriptFault, run_script};

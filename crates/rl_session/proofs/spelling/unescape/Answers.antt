@@ -1,5 +1,5 @@
 use Rattle.rl_session.proofs.SpellingLemmas.{some_text}
-use Rattle.rl_session.proofs.grammar.unescape.Goals as goal
+use Rattle.rl_session.proofs.spelling.unescape.Goals as goal
 
 pub returns-then-is_well_formed-clause-err : goal.returns-then-is_well_formed-clause-err
 returns-then-is_well_formed-clause-err c =

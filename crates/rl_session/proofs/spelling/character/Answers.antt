@@ -1,7 +1,7 @@
 use Rattle.std.proofs.Common.{sym}
 use Rattle.rl_session.proofs.NumberLemmas.{is_nil, not_nil}
 use Rattle.rl_session.proofs.SpellingLemmas.{char-whole, char-more}
-use Rattle.rl_session.proofs.grammar.character.Goals as goal
+use Rattle.rl_session.proofs.spelling.character.Goals as goal
 
 pub returns-then-is_empty : goal.returns-then-is_empty
 returns-then-is_empty c =

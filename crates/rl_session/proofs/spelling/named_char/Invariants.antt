@@ -1,6 +1,6 @@
 use Rattle.std.proofs.Common.{◌≡◌, ◌<◌, ◌^◌, drop}
-use Rattle.rl_session.specs.Grammar.{hex_from}
-use Rattle.rl_session.proofs.grammar.named_char.Given as goal
+use Rattle.rl_session.specs.Spelling.{hex_from}
+use Rattle.rl_session.proofs.spelling.named_char.Given as goal
 
 abbrev pub invariant-loop-b : goal.invariant-loop-b
 invariant-loop-b l = record {

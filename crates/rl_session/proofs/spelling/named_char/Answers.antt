@@ -1,6 +1,6 @@
 use Rattle.std.proofs.Common.{arith, ap, ◌<◌, length}
 use Rattle.rl_session.proofs.NumberLemmas.{hex-small}
-use Rattle.rl_session.proofs.grammar.named_char.Goals as goal
+use Rattle.rl_session.proofs.spelling.named_char.Goals as goal
 
 pub overflow_mul-value : goal.overflow_mul-value
 overflow_mul-value c =

@@ -1,6 +1,6 @@
 use Rattle.std.proofs.Common.{◌≡◌, ◌≤◌, drop}
-use Rattle.rl_session.specs.Grammar.{value_from, are_digits}
-use Rattle.rl_session.proofs.grammar.number.Given as goal
+use Rattle.rl_session.specs.Spelling.{value_from, are_digits}
+use Rattle.rl_session.proofs.spelling.number.Given as goal
 
 abbrev pub invariant-loop-b : goal.invariant-loop-b
 invariant-loop-b l = record {

@@ -1,8 +1,8 @@
 use Rattle.std.proofs.Common.{arith, sym, ◌∙◌}
 use Rattle.std.proofs.lemmas.List.{at_drop_all}
-use Rattle.rl_session.specs.Grammar.{are_digits, value_from}
+use Rattle.rl_session.specs.Spelling.{are_digits, value_from}
 use Rattle.rl_session.proofs.NumberLemmas.{number-nothing, number-bad, number-great, number-whole, is_nil, some_length}
-use Rattle.rl_session.proofs.grammar.number.Goals as goal
+use Rattle.rl_session.proofs.spelling.number.Goals as goal
 
 pub returns-then-is_empty-clause-value : goal.returns-then-is_empty-clause-value
 returns-then-is_empty-clause-value c = number-nothing _ c.args.digits.now (is_nil c.args.digits.now (sym c.is_empty.ensures ∙ c.if-is_empty.true))

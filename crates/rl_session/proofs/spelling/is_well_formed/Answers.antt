@@ -2,7 +2,7 @@ use Rattle.std.proofs.Common.{arith, []}
 use Rattle.std.proofs.lemmas.Str.Pattern.{split_parts}
 use Rattle.rl_session.proofs.PartLemmas.{Lacks-by_index}
 use Rattle.rl_session.proofs.SpellingLemmas.{read_all, read_on, read_end, read_none}
-use Rattle.rl_session.proofs.grammar.is_well_formed.Goals as goal
+use Rattle.rl_session.proofs.spelling.is_well_formed.Goals as goal
 
 pub loop-after-init : goal.loop-after-init
 loop-after-init c = record { read = ([], read_all c.args.escaped.now); utf8 = c.utf8.escaped }
