@@ -1,7 +1,9 @@
 pub mod Buffers
 pub mod Cells
 pub mod Commands
+pub mod Handed
 pub mod Handle
 pub mod Numbers
+pub mod Opening
 pub mod Reads
 pub mod Texts

@@ -1,33 +1,26 @@
-//! The calls that open and close a session, and those that ask it for a command.
-ghost use Rattle.std.specs.Prelude.{◌≡◌, ℕ, ◌≤◌, None, Some, Ok, Err, Result, IfErr, IfOk, MatchResult, length};
-ghost use Rattle.std.specs.Option.{option_map};
-ghost use Rattle.std.specs.Str.{IsCharBoundary, IsUtf8};
-ghost use Rattle.std.specs.String.{string_bytes};
-ghost use Rattle.rl_base.specs.declared.motion.Movement.{Movement};
-ghost use Rattle.rl_line.specs.Kills.{copied};
-ghost use Rattle.rl_session.specs.State.{fresh};
+//! The calls that ask a session for a command, and answer the number of its reply.
+ghost use Rattle.std.specs.Prelude.{◌≡◌, Ok};
 ghost use Rattle.rl_session.specs.declared.session.Command.{Command};
-ghost use Rattle.rl_session.specs.declared.session.Reply.{Reply};
-ghost use Rattle.rl_ffi.specs.Numbers.{action_of, at_of, char_of, dedents_of, mode_of, movement_of, reply_number, search_of, word_of};
-ghost use Rattle.rl_ffi.specs.Commands.{Called, CalledWith, CannotOpen, CopyCalled, Copies, DeleteCalled, Deletes, Fits, HandsOut, IsTextOf, OpensAs, Replies, both_named, column_in, handed, line_in, mark_in, named, number_of, text_length};
+ghost use Rattle.rl_ffi.specs.Numbers.{action_of, at_of, char_of, dedents_of, movement_of, search_of, word_of};
+ghost use Rattle.rl_ffi.specs.Commands.{Called, CalledWith, IsTextOf, Replies, both_named, named, number_of};
 
-use crate::buffers::put;
 use crate::handle::Handle;
 use crate::numbers::{
-    CLOSED, DONE, NO_MEMORY, NO_SUCH_NUMBER, NOT_UTF8, TOO_SMALL, action_of, at_of, char_of,
-    dedents_of, fault_number, mode_of, movement_of, reply_number, search_of, word_of,
+    CLOSED, NO_MEMORY, NO_SUCH_NUMBER, NOT_UTF8, action_of, at_of, char_of, dedents_of,
+    movement_of, reply_number, search_of, word_of,
 };
-use rl_base::places::next_pos;
-use rl_base::{GraphemeClusterMode, Movement, RepeatCount};
-use rl_line::LineBuffer;
-use rl_session::{Command, Reply, Session};
+use rl_session::{Command, Reply};
 use std::alloc::Global;
 use std::mem::replace;
 
 // Applies the command to the session, unless a number says why there is none. Inlined here and below, so that each
 // call's command is known when it is compiled.
 #[inline(always)]
-fn ask(alloc: Global, s: &mut Handle, command: Result<Command, u32>) -> Result<Reply, u32>
+pub(crate) fn ask(
+    alloc: Global,
+    s: &mut Handle,
+    command: Result<Command, u32>,
+) -> Result<Reply, u32>
     ensures { Replies command s.old.value result s.new.value }
 {
     let Some(mut session) = Handle::take(replace(s, Handle::closed(alloc))) else {
@@ -42,7 +35,7 @@ fn ask(alloc: Global, s: &mut Handle, command: Result<Command, u32>) -> Result<R
 }
 
 #[inline(always)]
-fn number_of(answer: &Result<Reply, u32>) -> u32
+pub(crate) fn number_of(answer: &Result<Reply, u32>) -> u32
     ensures { result ≡ number_of answer.now }
 {
     match answer {
@@ -75,64 +68,6 @@ fn text_of(alloc: Global, bytes: &[u8]) -> Result<String, u32>
         Ok(text) => Ok(text),
         Err(_) => Err(NO_MEMORY),
     }
-}
-
-fn opened(
-    alloc: Global,
-    text: &[u8],
-    pos: usize,
-    limit: usize,
-    ring_size: usize,
-    mode: GraphemeClusterMode,
-) -> Result<Box<Session>, u32>
-    ensures ok { IfOk result (λ b. IsUtf8 text.now × IsCharBoundary text.now pos × (b.value ≡ fresh text.now pos limit ring_size mode)) }
-    ensures err { IfErr result (CannotOpen text.now pos) }
-{
-    let Ok(text) = std::str::from_utf8(text) else {
-        return Err(NOT_UTF8);
-    };
-    match Session::new(alloc, text, pos, limit, ring_size, mode) {
-        Ok(session) => match Box::new(alloc, session) {
-            Ok(session) => Ok(session),
-            Err(_) => Err(NO_MEMORY),
-        },
-        Err(fault) => Err(fault_number(fault)),
-    }
-}
-
-/// Opens a session on a text, with the cursor at the byte place `pos`, and closes the session that was there: DONE.
-/// The line's limit is `limit` bytes, or the text's length where that is greater; the ring has room for `ring_size`
-/// texts. NO_SUCH_NUMBER (of the mode), NOT_UTF8, BAD_PLACE and NO_MEMORY leave the session that was there.
-#[unsafe(no_mangle)]
-pub extern "C" fn lodvarn_open(
-    alloc: Global,
-    s: &mut Handle,
-    text: &[u8],
-    pos: usize,
-    limit: usize,
-    ring_size: usize,
-    mode: u32,
-) -> u32
-    ensures { OpensAs (mode_of mode) text.now pos limit ring_size s.old.value result s.new.value }
-{
-    let Some(mode) = mode_of(mode) else {
-        return NO_SUCH_NUMBER;
-    };
-    match opened(alloc, text, pos, limit, ring_size, mode) {
-        Ok(session) => {
-            drop(Handle::take(replace(s, Handle::of(session))));
-            DONE
-        }
-        Err(number) => number,
-    }
-}
-
-/// Closes the session, if there is one.
-#[unsafe(no_mangle)]
-pub extern "C" fn lodvarn_close(alloc: Global, s: &mut Handle)
-    ensures { s.new.value ≡ None }
-{
-    drop(Handle::take(replace(s, Handle::closed(alloc))));
 }
 
 /// Moves the cursor to a byte place: DONE. BAD_PLACE and CLOSED change nothing.
@@ -438,138 +373,4 @@ pub extern "C" fn lodvarn_truncate(alloc: Global, s: &mut Handle, entries: usize
     ensures { Called (Ok (Command.Truncate entries)) s.old.value result s.new.value }
 {
     call(alloc, s, Ok(Command::Truncate(entries)))
-}
-
-/// Opens a group of changes: MARK, with the number of entries that the record had in `mark`. NO_MEMORY and CLOSED leave
-/// record and `mark` as they were.
-#[unsafe(no_mangle)]
-pub extern "C" fn lodvarn_begin(alloc: Global, s: &mut Handle, mark: &mut usize) -> u32
-    ensures { (answer : Result Reply ℕ) × Replies (Ok Command.Begin) s.old.value answer s.new.value × (result ≡ number_of answer) × (mark.new ≡ mark_in answer mark.old) }
-{
-    let answer = ask(alloc, s, Ok(Command::Begin));
-    if let Ok(Reply::Mark(entries)) = &answer {
-        *mark = *entries;
-    }
-    number_of(&answer)
-}
-
-/// Where the cursor is: AT, with the number of its line, from 0, and the columns from the line's start written.
-/// CLOSED leaves both as they were.
-#[unsafe(no_mangle)]
-pub extern "C" fn lodvarn_line_place(
-    alloc: Global,
-    s: &mut Handle,
-    line: &mut usize,
-    column: &mut u16,
-) -> u32
-    ensures { (answer : Result Reply ℕ) × Replies (Ok Command.LinePlace) s.old.value answer s.new.value × (result ≡ number_of answer)
-        × (line.new ≡ line_in answer line.old) × (column.new ≡ column_in answer column.old) }
-{
-    let answer = ask(alloc, s, Ok(Command::LinePlace));
-    if let Ok(Reply::At(number, columns)) = &answer {
-        *line = *number;
-        *column = *columns;
-    }
-    number_of(&answer)
-}
-
-// Writes out a reply's text and its length.
-fn hand_out(reply: &Reply, out: &mut [u8], len: &mut usize) -> u32
-    requires { Fits reply.now out.old }
-    ensures number { result ≡ reply_number reply.now }
-    ensures outs { (out.new, len.new) ≡ handed reply.now (out.old, len.old) }
-{
-    if let Reply::Text(Some(text)) = reply {
-        put(text.as_bytes(), out);
-        *len = text.as_str().len();
-    }
-    reply_number(reply)
-}
-
-// How many bytes the next n clusters have.
-fn ahead_len(line: &LineBuffer, n: RepeatCount) -> usize
-    ensures { result ≡ text_length (copied line.now (Movement.ForwardChar n)) }
-{
-    let pos = line.pos();
-    match next_pos(line.as_str(), pos, n) {
-        Some(end) => end - pos,
-        None => 0,
-    }
-}
-
-fn delete(session: &mut Session, n: RepeatCount, out: &mut [u8], len: &mut usize) -> u32
-    ensures { Deletes n session.old result session.new (out.old, len.old) (out.new, len.new) }
-{
-    let ahead = ahead_len(session.line(), n);
-    if ahead > out.len() {
-        *len = ahead;
-        return TOO_SMALL;
-    }
-    let reply = session.apply(&Command::Delete(n));
-    hand_out(&reply, out, len)
-}
-
-/// Deletes n grapheme clusters after the cursor: TEXT, with the deleted text in `out` and its bytes in `len`, or NONE
-/// where there were none. TOO_SMALL writes the bytes needed to `len`, and changes nothing else; NO_MEMORY and CLOSED
-/// change no text.
-#[unsafe(no_mangle)]
-pub extern "C" fn lodvarn_delete(
-    alloc: Global,
-    s: &mut Handle,
-    n: u16,
-    out: &mut [u8],
-    len: &mut usize,
-) -> u32
-    ensures { DeleteCalled n s.old.value result s.new.value (out.old, len.old) (out.new, len.new) }
-{
-    match Handle::take(replace(s, Handle::closed(alloc))) {
-        Some(mut session) => {
-            let number = delete(&mut session, n, out, len);
-            *s = Handle::of(session);
-            number
-        }
-        None => CLOSED,
-    }
-}
-
-fn copy(session: &mut Session, movement: Movement, out: &mut [u8], len: &mut usize) -> u32
-    ensures { Copies movement session.old result session.new (out.old, len.old) (out.new, len.new) }
-{
-    let needed = match session.line().copy(&movement) {
-        Ok(Some(text)) => text.as_str().len(),
-        Ok(None) => 0,
-        Err(_) => return NO_MEMORY,
-    };
-    if needed > out.len() {
-        *len = needed;
-        return TOO_SMALL;
-    }
-    let reply = session.apply(&Command::Copy(movement));
-    hand_out(&reply, out, len)
-}
-
-/// Copies what a movement covers: TEXT, with the text in `out` and its bytes in `len`, or NONE where that is nothing.
-/// TOO_SMALL writes the bytes needed to `len`, and changes nothing else; NO_SUCH_NUMBER, NO_MEMORY and CLOSED change no
-/// text.
-#[unsafe(no_mangle)]
-pub extern "C" fn lodvarn_copy(
-    alloc: Global,
-    s: &mut Handle,
-    movement: u32,
-    n: u16,
-    c: u32,
-    out: &mut [u8],
-    len: &mut usize,
-) -> u32
-    ensures { CopyCalled (movement_of movement n c) s.old.value result s.new.value (out.old, len.old) (out.new, len.new) }
-{
-    let Some(mut session) = Handle::take(replace(s, Handle::closed(alloc))) else {
-        return CLOSED;
-    };
-    let number = match movement_of(movement, n, c) {
-        Some(movement) => copy(&mut session, movement, out, len),
-        None => NO_SUCH_NUMBER,
-    };
-    *s = Handle::of(session);
-    number
 }

@@ -5,8 +5,10 @@
 mod buffers;
 mod cells;
 mod commands;
+mod handed;
 mod handle;
 mod numbers;
+mod opening;
 mod parts;
 mod reads;
 mod texts;
