@@ -17,7 +17,7 @@ use Rattle.rl_base.specs.declared.listeners.Direction.TheVariants.{Forward}
 use Rattle.rl_base.specs.declared.motion.Movement.TheVariants.{BackwardChar, EndOfLine, EndOfBuffer, BeginningOfLine, BeginningOfBuffer, BackwardWord, ForwardWord, ViCharSearch}
 use Rattle.rl_base.specs.declared.motion.WordAction.{WordAction}
 use Rattle.rl_base.specs.declared.motion.WordAction.TheVariants.{Capitalize, Lowercase, Uppercase}
-use Rattle.rl_line.specs.Kills.{Told, is_by_characters, kill_plan, removal, side_of}
+use Rattle.rl_line.specs.Kills.{is_by_characters, kill_plan, removal, side_of}
 use Rattle.rl_line.specs.LetterCase.{edit_word_plan, put_for, recased, word_ahead}
 use Rattle.rl_line.specs.Line.{Line}
 use Rattle.rl_line.specs.Plan.{Step as PlanStep, Plan, single, heard, heard_step, Done}
@@ -25,7 +25,7 @@ use Rattle.rl_line.specs.Ranges.{killed, text_in}
 use Rattle.rl_line.specs.Record.{Entry, Begin, End, Inserted, Deleted, Replaced, Record, cursors_of, entries_after, entries_of, entries_told, event_of, inverse, record_step}
 use Rattle.rl_line.specs.Undo.{cursor_after, cursor_told, line_after, line_ahead, line_back, place_after, Redone, Undone}
 use Rattle.rl_line.specs.Units.{cut_more, last_of, redo_of, together, units}
-use Rattle.rl_line.proofs.JoinLemmas.{after-Delete-nothing, after-InsertStr-nothing, fresh-Delete-nothing, fresh-InsertStr-nothing, record_step-Start, record_step-Stop}
+use Rattle.rl_line.proofs.JoinLemmas.{after-Delete-nothing, after-InsertStr-nothing, fresh-Delete-nothing, fresh-InsertStr-nothing}
 use Rattle.rl_line.proofs.PlanLemmas.{Fits-from}
 use Rattle.rl_line.proofs.RecordLemmas.{inverse-undoes, then_some}
 use Rattle.rl_line.proofs.WalkLemmas.{cursor_told-back}
@@ -36,8 +36,8 @@ use Rattle.rl_session.proofs.PairLemmas.{Done-changes}
 use Rattle.rl_base.proofs.PieceLemmas.{clusters-some, places-before_end}
 use Rattle.rl_session.proofs.QuietLemmas.{Settles, Settles-delete, Settles-indent, Settles-insert, Settles-insert_str, Settles-nothing, Settles-replace, Settles-transpose_chars, Settles-transpose_words, Settles-update, Settles-yank, Settles-yank_pop, empty-deleted, empty-inserted, never-char, never-replaced}
 use Rattle.rl_session.proofs.RowLemmas.{Leads-split}
-use Rattle.rl_session.specs.Commands.{Takes, Asked, Telling, Tells, Edited, Edits, Others, DoesAsked, asked, edit, other, answers, inserts, hands_out, is_done, lent, lent_plan, popped, popped_plan, readied}
-use Rattle.rl_session.specs.declared.pair.Pair.{Pair}
+use Rattle.rl_session.proofs.SessionLemmas.{past_telling}
+use Rattle.rl_session.specs.Commands.{Takes, Asked, Telling, told_as, edits, tells, Came, edit_course, other_course, course_of, Does, Edited, asked, edit, other, answers, inserts, hands_out, is_done, lent, lent_plan, popped, popped_plan, readied}
 use Rattle.rl_session.specs.declared.session.Command.{Command}
 use Rattle.rl_session.specs.declared.session.Command.TheVariants as asks
 use Rattle.rl_session.specs.declared.session.Reply.{Reply}
@@ -178,7 +178,7 @@ edited-adds plan old new a e u settles d adds =
     done-adds plan old.line new.line old.pair.changes new.pair.changes a e u settles (Done-changes plan old.line new.line old.pair new.pair a d.done) adds
 
 told-adds : {A : Type 0} (telling : Telling A) (plan : Plan A) (old new : State) (reply : Reply) (e : Entry) → IsUtf8 old.line.text
-    → (AddsOne old.line old.pair.changes e plan → Settles old.line plan) → Tells telling (λ a. Edited plan old new a) reply
+    → (AddsOne old.line old.pair.changes e plan → Settles old.line plan) → Came (told_as telling (edits plan) reply) old new
     → new.pair.changes.recorded ≡ old.pair.changes.recorded ++ e ∷ [] → Adds e old.line new.line new.pair.changes
 told-adds answers plan old new (says.Answer a) e u settles t adds = edited-adds plan old new a e u settles t adds
 told-adds inserts plan old new (says.Inserted a) e u settles t adds = edited-adds plan old new a e u settles t adds
@@ -187,7 +187,7 @@ told-adds is_done plan old new says.Done e u settles t adds = edited-adds plan o
 told-adds _ plan old new _ e u settles t adds = absurd t
 
 edit-adds : {A : Type 0} (takes : Takes) (condition : Type 0) (plan : Plan A) (telling : Telling A) (old : State) (reply : Reply) (new : State) (e : Entry) → IsUtf8 old.line.text
-    → (AddsOne old.line old.pair.changes e plan → Settles old.line plan) → Edits takes condition plan telling old reply new → ¬ (WasRefused reply)
+    → (AddsOne old.line old.pair.changes e plan → Settles old.line plan) → Came (edit_course takes condition plan telling reply) old new → ¬ (WasRefused reply)
     → new.pair.changes.recorded ≡ old.pair.changes.recorded ++ e ∷ [] → Adds e old.line new.line new.pair.changes
 edit-adds takes condition plan telling old (says.Refused f) new e u settles d w adds = absurd (w tt)
 edit-adds takes condition plan telling old reply new e u settles d w adds = told-adds telling plan old new reply e u settles d.1 adds
@@ -216,31 +216,16 @@ asks-quietly line r e (asks.DeleteTo cs n) u at = removed line r e (killed line 
 asks-quietly line r e asks.TransposeChars u at = λ adds. Settles-transpose_chars line clusters-some u at
 asks-quietly line r e (asks.TransposeWords n) u at = λ adds. Settles-transpose_words line n places-before_end u at
 asks-quietly line r e (asks.Indent m amount dedent) u at = λ adds. Settles-indent line m amount dedent
-asks-quietly line r e (asks.SetPos q) u at = tt
-asks-quietly line r e (asks.Move m) u at = tt
-asks-quietly line r e (asks.Yank n) u at = tt
-asks-quietly line r e asks.YankPop u at = tt
-asks-quietly line r e (asks.EditWord action) u at = tt
-asks-quietly line r e (asks.Kill m) u at = tt
-asks-quietly line r e (asks.Copy m) u at = tt
-asks-quietly line r e asks.Begin u at = tt
-asks-quietly line r e asks.End u at = tt
-asks-quietly line r e (asks.Undo n) u at = tt
-asks-quietly line r e asks.Redo u at = tt
-asks-quietly line r e (asks.Truncate len) u at = tt
-asks-quietly line r e asks.LinePlace u at = tt
+asks-quietly line r e _ u at = tt
 
 -- a kill, whose start and end the record does not hear
-kill-adds : (b : Bool) (plan : Plan Bool) (line new : Line) (p q : Pair) (a : Bool) (e : Entry) → IsUtf8 line.text → ((r : Record) → AddsOne line r e plan → Settles line plan)
-    → Told pair_step b (λ before now. Done pair_step plan line new before now a) p q → q.changes.recorded ≡ p.changes.recorded ++ e ∷ [] → Adds e line new q.changes
-kill-adds true plan line new p q a e u settles t adds = done-adds plan line new p.changes q.changes a e u (settles p.changes) (Done-changes plan line new p q a t) adds
-kill-adds false plan line new p q a e u settles t adds =
-    let begun : (pair_step p Start).changes ≡ p.changes = record_step-Start p.changes in
-    let ended : q.changes ≡ t.last.changes = ap (λ (k : Pair). k.changes) t.ended ∙ record_step-Stop t.last.changes in
-    let more : t.last.changes.recorded ≡ (pair_step p Start).changes.recorded ++ e ∷ [] =
-    ap (λ (k : Record). k.recorded) (sym ended) ∙ adds ∙ ap (λ (k : Record). k.recorded ++ e ∷ []) (sym begun) in
-    let inside = done-adds plan line new (pair_step p Start).changes t.last.changes a e u (settles (pair_step p Start).changes) (Done-changes plan line new (pair_step p Start) t.last a t.inside) more in
-    subst (λ (k : Record). Adds e line new k) (sym ended) inside
+kill-adds : (b : Bool) (plan : Plan Bool) (old new : State) (a : Bool) (e : Entry) → IsUtf8 old.line.text → ((r : Record) → AddsOne old.line r e plan → Settles old.line plan)
+    → Came (tells b (edits plan a)) old new → new.pair.changes.recorded ≡ old.pair.changes.recorded ++ e ∷ [] → Adds e old.line new.line new.pair.changes
+kill-adds true plan old new a e u settles d adds = edited-adds plan old new a e u (settles old.pair.changes) d adds
+kill-adds false plan old new a e u settles d adds =
+    let begun = record old { pair = pair_step old.pair Start } in
+    past_telling (λ r now. now.recorded ≡ r.recorded ++ e ∷ [] → Adds e old.line new.line now) old.pair d.last new.pair d.ended
+    (edited-adds plan begun (record new { pair = d.last }) a e u (settles begun.pair.changes) d.inside) adds
 
 lent-quietly : (line : Line) (slot : Option (List ℕ)) (n : ℕ) → Settles line (lent_plan line slot n)
 lent-quietly line None n = Settles-nothing line None
@@ -251,14 +236,14 @@ popped-quietly line None within = Settles-nothing line None
 popped-quietly line (Some p) within = Settles-yank_pop line p.0 p.1 within
 
 other-adds : (old : State) (command : Command) (reply : Reply) (new : State) (e : Entry) → IsUtf8 old.line.text → IsCharBoundary old.line.text old.line.cursor
-    → IsEdit old.line command → Others old command reply new → ¬ (WasRefused reply) → new.pair.changes.recorded ≡ old.pair.changes.recorded ++ e ∷ []
+    → IsEdit old.line command → Came (other_course old command reply) old new → ¬ (WasRefused reply) → new.pair.changes.recorded ≡ old.pair.changes.recorded ++ e ∷ []
     → Adds e old.line new.line new.pair.changes
 other-adds old (asks.EditWord action) (says.Answer a) new e u at i d w adds =
     edited-adds (edit_word_plan old.line d.made) old new a e u
     (respelled old.line old.pair.changes e action (word_ahead old.line) d.made (λ word found. d.ascii word found (i word found))) d.holds adds
 other-adds old (asks.EditWord action) (says.Refused f) new e u at i d w adds = absurd (w tt)
 other-adds old (asks.Kill m) (says.Answer a) new e u at i d w adds =
-    kill-adds (is_by_characters m) (kill_plan old.line m) old.line new.line old.pair new.pair a e u (λ r. removed old.line r e (killed old.line m) (side_of m)) d.told adds
+    kill-adds (is_by_characters m) (kill_plan old.line m) old new a e u (λ r. removed old.line r e (killed old.line m) (side_of m)) d adds
 other-adds old (asks.Kill m) (says.Refused f) new e u at i d w adds = absurd (w tt)
 other-adds old (asks.Yank n) (says.Inserted a) new e u at i d w adds =
     edited-adds (lent_plan old.line (yank old.pair.ring) n) (lent old) new a e u (λ one. lent-quietly old.line (yank old.pair.ring) n) d adds
@@ -278,10 +263,19 @@ other-adds old asks.LinePlace reply new e u at i d w adds = absurd i
 other-adds old command reply new e u at i d w adds = absurd d
 
 asked-adds : (what : Asked) (old : State) (command : Command) (reply : Reply) (new : State) (e : Entry) → IsUtf8 old.line.text → IsCharBoundary old.line.text old.line.cursor
-    → AsksQuietly old.line old.pair.changes e what → IsEdit old.line command → DoesAsked what old command reply new → ¬ (WasRefused reply)
+    → AsksQuietly old.line old.pair.changes e what → IsEdit old.line command → Came (course_of what old command reply) old new → ¬ (WasRefused reply)
     → new.pair.changes.recorded ≡ old.pair.changes.recorded ++ e ∷ [] → Adds e old.line new.line new.pair.changes
 asked-adds (edit takes condition plan telling) old command reply new e u at quiet i d w adds = edit-adds takes condition plan telling old reply new e u quiet d w adds
 asked-adds other old command reply new e u at quiet i d w adds = other-adds old command reply new e u at i d w adds
+
+-- an edit goes by steps
+by_course : (old : State) (command : Command) (reply : Reply) (new : State) → IsEdit old.line command → Does old command reply new → Came (course_of (asked old.line command) old command reply) old new
+by_course old asks.Begin reply new i d = absurd i
+by_course old asks.End reply new i d = absurd i
+by_course old (asks.Undo n) reply new i d = absurd i
+by_course old asks.Redo reply new i d = absurd i
+by_course old (asks.Truncate len) reply new i d = absurd i
+by_course old command reply new i d = d
 
 -- an edit of a session, in a row
 row-adds : (row : Row) (e : Entry) → IsUtf8 row.before.line.text → IsCharBoundary row.before.line.text row.before.line.cursor → IsEdit row.before.line row.command
@@ -292,7 +286,7 @@ row-adds row e u at i w adds =
     let line : row.after.line ≡ left.line = ap (λ (s : State). s.line) row.step.settles in
     let changes : row.after.pair.changes ≡ left.pair.changes = ap (λ (s : State). s.pair.changes) row.step.settles in
     let more : left.pair.changes.recorded ≡ row.before.pair.changes.recorded ++ e ∷ [] = ap (λ (r : Record). r.recorded) (sym changes) ∙ adds in
-    let here = asked-adds (asked old.line row.command) old row.command row.reply left e u at (asks-quietly old.line old.pair.changes e row.command u at) i row.step.does w more in
+    let here = asked-adds (asked old.line row.command) old row.command row.reply left e u at (asks-quietly old.line old.pair.changes e row.command u at) i (by_course old row.command row.reply left i row.step.does) w more in
     subst (λ (l : Line). Adds e row.before.line l row.after.pair.changes) (sym line) (subst (λ (r : Record). Adds e row.before.line left.line r) (sym changes) here)
 
 -- ---- one change back, and ahead again

@@ -26,19 +26,18 @@ use Rattle.rl_base.proofs.SwapLemmas.{Swaps, Swaps-back, Swaps-Delete, Swaps-aft
 use Rattle.rl_line.specs.Line.{Line, stepped}
 use Rattle.rl_line.specs.Plan.{Step as PlanStep, Plan, nothing, single, heard as heard_steps, heard_step, Taken, Done, Halted, or_no_memory}
 use Rattle.rl_line.specs.Edits.{too_long, yank_plan}
-use Rattle.rl_line.specs.Kills.{Between, Told, removal, kill_plan, side_of, is_by_characters}
+use Rattle.rl_line.specs.Kills.{Between, Told, removal, side_of, is_by_characters}
 use Rattle.rl_line.specs.Ranges.{killed as killed_range, text_in}
 use Rattle.rl_line.proofs.EditLemmas.{yank_plan-nothing, yank_plan-some}
 use Rattle.rl_line.proofs.SideLemmas.{LiesOn, BeginningOfLine-side, EndOfLine-side, BackwardWord-side, ForwardWord-side, ViCharSearch-side, BeginningOfBuffer-side, EndOfBuffer-side}
 use Rattle.rl_session.specs.Pair.{pair_step, pair_refused}
 use Rattle.rl_session.specs.State.{State, Stands, with_ring, fresh}
-use Rattle.rl_session.specs.Commands.{Takes, nothing_more, room_by_step, a_copy, Unbegun, Asked, edit, other, asked, Telling, answers, inserts, hands_out, is_done, Tells, CutShort, Does, DoesAsked, Edited, Edits, Others, Step, is_vain_yank, lent as lent_state, lent_plan, readied}
+use Rattle.rl_session.specs.Commands.{Course, never, when, stays, goes, edits, stops, respells, lends, pops, tells, Came, Effect, by_steps, puts_begin, puts_ends, shortens, takes_back, puts_again, Became, effect, Edited, Step, is_vain_yank, lent as lent_state, lent_plan, popped, readied}
 use Rattle.rl_session.specs.KillRuns.{IsDirected, AllDirected, IsNoKill, AnyTook, NoneRefused, GivenBack}
 use Rattle.rl_session.specs.Run.{Row, Leads, Run, before_last, commands_of, replies_of}
 use Rattle.rl_session.specs.declared.pair.Pair.{Pair}
 use Rattle.rl_session.specs.declared.session.Command.{Command}
-use Rattle.rl_session.specs.declared.session.Command.TheVariants.{SetPos, Move, Yank, YankPop, EditWord, Kill, Copy, Begin, End, Undo, Redo, Truncate, LinePlace}
-use Rattle.rl_session.specs.declared.session.Fault.TheVariants.{NoMemory, BadPlace, BadYankSize, NotReplaying}
+use Rattle.rl_session.specs.declared.session.Command.TheVariants.{Yank, Kill}
 use Rattle.rl_session.specs.declared.session.Reply.{Reply}
 use Rattle.rl_session.specs.declared.session.Reply.TheVariants as says
 use Rattle.rl_session.proofs.PairLemmas.{Halted-own}
@@ -133,80 +132,28 @@ cause-size p q e w h = elim h [ inl c ↦ ap (λ (k : Pair). k.ring.size) c.1 | 
 Halted-size : {A : Type 0} (plan : Plan A) (old new : Line) (p q : Pair) (w : Refusal) → Halted pair_step (or_no_memory pair_refused) plan old new p q w → q.ring.size ≡ p.ring.size
 Halted-size plan old new p q w h = cause-size h.middle q h.next.0 w h.cause ∙ Taken-size plan old new p h.middle h.first new h.taken
 
-Told-size : (b : Bool) (P : Pair → Pair → Type 0) (p q : Pair) → ((before now : Pair) → P before now → now.ring.size ≡ before.ring.size) → Told pair_step b P p q → q.ring.size ≡ p.ring.size
-Told-size true P p q keeps t = keeps p q t
-Told-size false P p q keeps t = ap (λ (k : Pair). k.ring.size) t.ended ∙ keeps (pair_step p Start) t.last t.inside
+Came-size : (course : Course) (old new : State) → Came course old new → new.pair.ring.size ≡ old.pair.ring.size
+Came-size never old new d = absurd d
+Came-size (when condition course) old new d = Came-size course old new d.1
+Came-size stays old new d = ap (λ (s : State). s.pair.ring.size) d
+Came-size (goes place a) old new d = ap (λ (s : State). s.pair.ring.size) d.others
+Came-size (edits plan a) old new d = Done-size plan old.line new.line old.pair new.pair a d.done
+Came-size (stops unbegun takes plan) old new (inl e) = ap (λ (s : State). s.pair.ring.size) e.1
+Came-size (stops unbegun takes plan) old new (inr c) = Halted-size plan old.line new.line old.pair new.pair _ (Halted-own takes plan old.line new.line old.pair new.pair _ c.halted)
+Came-size (respells action course) old new d = Came-size (course d.made) old new d.holds
+Came-size (lends course) old new d = Came-size course (lent_state old) new d ∙ lent-size (yank old.pair.ring) old.pair.ring
+Came-size (pops course) old new d = Came-size course (popped old) new d ∙ popped-size (yank_size old.pair.ring) old.pair.ring
+Came-size (tells true course) old new d = Came-size course old new d
+Came-size (tells false course) old new d =
+    ap (λ (k : Pair). k.ring.size) d.ended ∙ Came-size course (record old { pair = pair_step old.pair Start }) (record new { pair = d.last }) d.inside
 
-same-size : (old new : State) → new ≡ old → new.pair.ring.size ≡ old.pair.ring.size
-same-size old new e = ap (λ (s : State). s.pair.ring.size) e
-
-cut-size : {A : Type 0} (takes : Takes) (plan : Plan A) (old new : State) → CutShort takes plan old new → new.pair.ring.size ≡ old.pair.ring.size
-cut-size takes plan old new c = Halted-size plan old.line new.line old.pair new.pair _ (Halted-own takes plan old.line new.line old.pair new.pair _ c.halted)
-
-stopped-size : {A : Type 0} (takes : Takes) (plan : Plan A) (old new : State) → Unbegun takes plan old new ⊎ CutShort takes plan old new → new.pair.ring.size ≡ old.pair.ring.size
-stopped-size nothing_more plan old new (inl e) = absurd e
-stopped-size room_by_step plan old new (inl e) = absurd e
-stopped-size a_copy plan old new (inl e) = same-size old new e.0
-stopped-size takes plan old new (inr c) = cut-size takes plan old new c
-
--- an edit of a text that the ring may have lent
-borrowed-size : {A X : Type 0} (plan : Plan A) (lent new : State) → (X × (new ≡ lent)) ⊎ CutShort room_by_step plan lent new → new.pair.ring.size ≡ lent.pair.ring.size
-borrowed-size plan lent new h = elim h [ inl e ↦ same-size lent new e.1 | inr c ↦ cut-size room_by_step plan lent new c ]
-
--- an edit that was told, and any edit
-told-size : {A : Type 0} (telling : Telling A) (plan : Plan A) (old new : State) (reply : Reply) → Tells telling (λ a. Edited plan old new a) reply
-    → new.pair.ring.size ≡ old.pair.ring.size
-told-size answers plan old new (says.Answer a) t = Done-size plan old.line new.line old.pair new.pair a t.done
-told-size inserts plan old new (says.Inserted a) t = Done-size plan old.line new.line old.pair new.pair a t.done
-told-size hands_out plan old new (says.Text x) t = Done-size plan old.line new.line old.pair new.pair _ t.done
-told-size is_done plan old new says.Done t = Done-size plan old.line new.line old.pair new.pair tt t.done
-told-size _ plan old new _ t = absurd t
-
-Edits-size : {A : Type 0} (takes : Takes) (condition : Type 0) (plan : Plan A) (telling : Telling A) (old : State) (reply : Reply) (new : State)
-    → Edits takes condition plan telling old reply new → new.pair.ring.size ≡ old.pair.ring.size
-Edits-size takes condition plan telling old (says.Refused BadPlace) new d = same-size old new d.1
-Edits-size takes condition plan telling old (says.Refused NoMemory) new d = stopped-size takes plan old new d.1
-Edits-size takes condition plan telling old reply new d = told-size telling plan old new reply d.1
-
-Others-size : (old : State) (command : Command) (reply : Reply) (new : State) → Others old command reply new → new.pair.ring.size ≡ old.pair.ring.size
-Others-size old (SetPos q) says.Done new s = ap (λ (n : State). n.pair.ring.size) s.1
-Others-size old (SetPos q) (says.Refused BadPlace) new s = same-size old new s.1
-Others-size old (Move m) (says.Answer a) new s = ap (λ (n : State). n.pair.ring.size) s.others
-Others-size old (Copy m) (says.Text t) new s = same-size old new s.1
-Others-size old (Copy m) (says.Refused NoMemory) new s = same-size old new s.1
-Others-size old (EditWord action) (says.Answer a) new s = Done-size _ old.line new.line old.pair new.pair a s.holds.done
-Others-size old (EditWord action) (says.Refused NoMemory) new s = stopped-size a_copy _ old new s.holds
-Others-size old (Kill m) (says.Answer a) new s =
-    Told-size (is_by_characters m) _ old.pair new.pair (λ before now d. Done-size (kill_plan old.line m) old.line new.line before now a d) s.told
-Others-size old (Kill m) (says.Refused NoMemory) new s =
-    Told-size (is_by_characters m) _ old.pair new.pair (λ before now h. Halted-size (kill_plan old.line m) old.line new.line before now _ (Halted-own nothing_more (kill_plan old.line m) old.line new.line before now _ h)) s.told
-Others-size old (Yank n) (says.Inserted a) new s =
-    Done-size _ old.line new.line _ new.pair a s.done ∙ lent-size (yank old.pair.ring) old.pair.ring
-Others-size old (Yank n) (says.Refused NoMemory) new s = borrowed-size _ _ new s ∙ lent-size (yank old.pair.ring) old.pair.ring
-Others-size old YankPop (says.Inserted a) new s =
-    Done-size _ old.line new.line _ new.pair a s.1.done ∙ popped-size (yank_size old.pair.ring) old.pair.ring
-Others-size old YankPop (says.Refused BadYankSize) new s = same-size old new s.1
-Others-size old YankPop (says.Refused NoMemory) new s = borrowed-size _ _ new s.1 ∙ popped-size (yank_size old.pair.ring) old.pair.ring
-Others-size old Begin (says.Mark n) new s = ap (λ (n : State). n.pair.ring.size) s.1
-Others-size old Begin (says.Refused NoMemory) new s = same-size old new s.1
-Others-size old End (says.Answer a) new s = ap (λ (n : State). n.pair.ring.size) s.1
-Others-size old End (says.Refused NoMemory) new s = same-size old new s.1
-Others-size old (Undo n) (says.Answer a) new s = ap (λ (n : State). n.pair.ring.size) s.others
-Others-size old (Undo n) (says.Refused NoMemory) new s = same-size old new s.1
-Others-size old Redo (says.Answer a) new s = ap (λ (n : State). n.pair.ring.size) s.others
-Others-size old Redo (says.Refused NoMemory) new s = same-size old new s.1
-Others-size old (Truncate len) says.Done new s = ap (λ (n : State). n.pair.ring.size) s.1
-Others-size old (Truncate len) (says.Refused NotReplaying) new s = same-size old new s.1
-Others-size old (Truncate len) (says.Refused NoMemory) new s = same-size old new s.2
-Others-size old LinePlace (says.At k columns) new s = same-size old new s.1
-Others-size _ _ _ _ s = absurd s
-
-Asked-size : (asks : Asked) (old : State) (command : Command) (reply : Reply) (new : State) → DoesAsked asks old command reply new → new.pair.ring.size ≡ old.pair.ring.size
-Asked-size (edit takes condition plan telling) old command reply new d = Edits-size takes condition plan telling old reply new d
-Asked-size other old command reply new d = Others-size old command reply new d
-
-Does-size : (old : State) (command : Command) (reply : Reply) (new : State) → Does old command reply new → new.pair.ring.size ≡ old.pair.ring.size
-Does-size old command reply new d = Asked-size (asked old.line command) old command reply new d
+Became-size : (effect : Effect) (old new : State) → Became effect old new → new.pair.ring.size ≡ old.pair.ring.size
+Became-size (by_steps course) old new d = Came-size course old new d
+Became-size (puts_begin n) old new d = ap (λ (s : State). s.pair.ring.size) d.1
+Became-size (puts_ends a) old new d = ap (λ (s : State). s.pair.ring.size) d.1
+Became-size (shortens len) old new d = ap (λ (s : State). s.pair.ring.size) d.1
+Became-size (takes_back n a) old new d = ap (λ (s : State). s.pair.ring.size) d.others
+Became-size (puts_again a) old new d = ap (λ (s : State). s.pair.ring.size) d.others
 
 reset-size : (b : Bool) (r : Ring) → (cond b (reset r) r).size ≡ r.size
 reset-size true r = refl
@@ -219,7 +166,7 @@ kept-size false r = refl
 Step-size : (old : State) (command : Command) (reply : Reply) (new : State) → Step old command reply new → new.pair.ring.size ≡ old.pair.ring.size
 Step-size old command reply new s =
     ap (λ (n : State). n.pair.ring.size) s.settles ∙ reset-size _ s.left.pair.ring
-    ∙ Does-size (readied command old) command reply s.left s.does ∙ kept-size _ old.pair.ring
+    ∙ Became-size (effect (readied command old) command reply) (readied command old) s.left s.does ∙ kept-size _ old.pair.ring
 
 -- a state of a session whose ring has room
 record Roomy (s : State) : Type 0 where
@@ -292,15 +239,15 @@ touches-range Backward text r pos new within e h = omega (arith, e, h.0, h.1, le
 
 -- what a removal between the start and the end of a kill did
 removed : (old new : State) (o : Option (Range ℕ)) (side : Direction) (a : Bool) → old.line.cursor ≤ length old.line.text → IfSome o (LiesOn side old.line.cursor)
-    → Between pair_step (λ before now. Done pair_step (removal old.line o side) old.line new.line before now a) old.pair new.pair → Outcome a old new
+    → Between pair_step (λ before now. Edited (removal old.line o side) (record old { pair = before }) (record new { pair = now }) a) old.pair new.pair → Outcome a old new
 removed old new None side a within h t =
-    let d = t.inside in
+    let d = t.inside.done in
     subst (λ b. Outcome b old new) (sym d.answered) (record {
       line_is = d.line ∙ ap (λ (l : Line). record l { cursor = old.line.cursor }) (sym (same_Some _ _ d.taken.line));
       ring_is = ap (λ (p : Pair). p.ring) t.ended ∙ ap (λ (p : Pair). ring_step p.ring Stop) d.taken.listener;
     })
 removed old new (Some r) side a within h t =
-    let d = t.inside in
+    let d = t.inside.done in
     let taken = text_in old.line r in
     let b = first_step (Delete r.start taken side, r.start) [] old.line d.last d.taken.line in
     let line : new.line ≡ stepped old.line b.text r.start = d.line ∙ ap (λ (l : Line). record l { cursor = r.start }) (sym (same_Some _ _ b.rest)) in
@@ -323,7 +270,7 @@ told_whole false P old new e t = t
 
 Kill-outcome : (old new : State) (m : Movement) (a : Bool) → IsDirected m → Stands old → Step old (Kill m) (says.Answer a) new → Outcome a old new
 Kill-outcome old new m a directed h s =
-    let told = told_whole (is_by_characters m) _ old s.left.pair (not_by_characters m directed) s.does.told in
+    let told = told_whole (is_by_characters m) _ old s.left.pair (not_by_characters m directed) s.does in
     subst (Outcome a old) (sym s.settles)
     (removed old s.left (killed_range old.line m) (side_of m) a h.cursor.0 (killed-side old.line m directed h.utf8 h.cursor) told)
 

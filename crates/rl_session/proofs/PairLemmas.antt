@@ -1,12 +1,11 @@
 -- What a pair of a ring and a record hears, as each of the two hears it.
-use Rattle.std.proofs.Common.{◌⊎◌, ◌≡◌, ℕ, ◌∷◌, [], Bool, true, false, List, refl, ap, inl, inr, ◌∙◌}
+use Rattle.std.proofs.Common.{◌⊎◌, ◌≡◌, ℕ, ◌∷◌, [], List, refl, ap, inl, inr, ◌∙◌}
 use Rattle.rl_base.specs.Event.{Event}
 use Rattle.rl_base.specs.KillRing.{ring_step}
 use Rattle.rl_base.specs.declared.listeners.Refusal.{Refusal}
 use Rattle.rl_base.specs.declared.listeners.Refusal.TheVariants as why
 use Rattle.rl_line.specs.Line.{Line}
 use Rattle.rl_line.specs.Plan.{Step, Plan, heard, heard_step, Taken, Done, Halted, or_no_memory, Uncopied}
-use Rattle.rl_line.specs.Kills.{Told}
 use Rattle.rl_line.specs.Record.{Record, record_step}
 use Rattle.rl_line.proofs.PlanLemmas.{Halted-caused}
 use Rattle.rl_session.specs.Commands.{Takes, nothing_more, room_by_step, a_copy, refusal_of}
@@ -72,13 +71,6 @@ pub Halted-pair : {A : Type 0} (takes : Takes) (plan : Plan A) (old new : Line) 
     → Halted pair_step (refusal_of takes) plan old new p q why.NoMemory
 Halted-pair takes plan old new p q w h =
     Halted-caused pair_step (refusal_of takes) (refusal_of takes) plan old new p q w why.NoMemory h (cause-memory takes h.middle q h.next.0 w h.cause)
-
--- a kill that the pair refused, whatever refusal was handed on
-pub Told-pair : {A : Type 0} (b : Bool) (plan : Plan A) (old new : Line) (p q : Pair) (w : Refusal)
-    → Told pair_step b (λ before now. Halted pair_step pair_refused plan old new before now w) p q
-    → Told pair_step b (λ before now. Halted pair_step pair_refused plan old new before now why.NoMemory) p q
-Told-pair true plan old new p q w t = Halted-pair nothing_more plan old new p q w t
-Told-pair false plan old new p q w t = record { last = t.last; inside = Halted-pair nothing_more plan old new _ t.last w t.inside; ended = t.ended }
 
 -- an edit was halted, or, where it copies what it moves, not begun
 abbrev pub Stopped : {A : Type 0} → Takes → Plan A → Line → Line → Pair → Pair → Refusal → Type 0

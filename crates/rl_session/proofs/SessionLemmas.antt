@@ -3,7 +3,7 @@ use Rattle.std.proofs.Common.{Bool, false, true, inr, List, [], Result, Ok, Err,
 use Rattle.std.proofs.lemmas.Str.{IsCharBoundary-start, IsUtf8-nil}
 use Rattle.std.specs.Prelude.{ℕ, Bool, true, Option, None, false, max, length, IsSome, Some, IfOk, IfErr}
 use Rattle.std.specs.Str.{IsUtf8}
-use Rattle.rl_base.specs.Event.{Event, InsertStr, Start, apply}
+use Rattle.rl_base.specs.Event.{Event, InsertStr, Start, apply, Stop}
 use Rattle.rl_base.proofs.EventLemmas.{apply-InsertStr}
 use Rattle.rl_base.specs.declared.listeners.Refusal.{Refusal}
 use Rattle.rl_base.specs.declared.listeners.Refusal.TheVariants as why
@@ -19,7 +19,6 @@ use Rattle.rl_line.specs.Record.{Record, agree, replays_to, unwind}
 use Rattle.rl_line.proofs.JoinLemmas.{record_step-Start, record_step-Stop}
 use Rattle.rl_line.specs.Undo.{Redone, Undone}
 use Rattle.rl_line.specs.Units.{adds_end, begun, ended, level}
-use Rattle.rl_line.proofs.OriginLemmas.{Kept, Kept-Done, Kept-Halted}
 use Rattle.rl_session.specs.State.{State, AtRest, Follows}
 use Rattle.rl_line.proofs.PlanLemmas.{first_step}
 use Rattle.rl_session.specs.Commands.{Takes, nothing_more, room_by_step, a_copy, Edited, lent, lent_plan, popped, popped_plan}
@@ -50,15 +49,6 @@ put_first step line new limit text b n a u e d =
     ap (λ (l : Line). stepped l text l.cursor) (sym e) ∙ ap (λ t. stepped line t line.cursor) (same_Some _ _ fits) ∙ same_Some _ _ b.rest in
     d.line ∙ ap (λ (l : Line). record l { cursor = line.cursor }) (sym same) ∙ ap (λ (l : Line). record (stepped empty text 0) { cursor = l.cursor }) e
 
-pub same_Kept : (r : Record) (line : Line) → IsUtf8 line.text → Kept r r line line
-same_Kept r line u = record { origin_is = λ start e. e; utf8 = u }
-
--- a motion leaves the text
-pub Kept-Moved : (place : Option ℕ) (r now : Record) (old new : Line) (a : Bool) → IsUtf8 old.text → now ≡ r → Moved place old new a → Kept r now old new
-Kept-Moved None r now old new a u e m = subst (λ (l : Line). Kept r now old l) (sym m.1) (subst (λ (k : Record). Kept r k old old) (sym e) (same_Kept r old u))
-Kept-Moved (Some place) r now old new a u e m =
-    subst (λ (l : Line). Kept r now old l) (sym m.1) (subst (λ (k : Record). Kept r k old (record old { cursor = place })) (sym e) (record { origin_is = λ start e. e; utf8 = u }))
-
 Walks-Moved : (place : Option ℕ) (r : Record) (old new : Line) (a : Bool) → Moved place old new a → Walks r old.text → Walks r new.text
 Walks-Moved None r old new a m w = subst (λ (l : Line). Walks r l.text) (sym m.1) w
 Walks-Moved (Some place) r old new a m w = subst (λ (l : Line). Walks r l.text) (sym m.1) w
@@ -66,15 +56,7 @@ Walks-Moved (Some place) r old new a m w = subst (λ (l : Line). Walks r l.text)
 keeps : (m : Record) (e : Event) (w : Refusal) (k : Record) → keeps_changes m e w k → k ≡ m
 keeps m e w k h = h
 
--- an edit of a line that a pair hears
-pub Kept-pair : {A : Type 0} (plan : Plan A) (p q : Pair) (old new : Line) (a : A) → IsUtf8 old.text → Done pair_step plan old new p q a → Kept p.changes q.changes old new
-Kept-pair plan p q old new a u d = Kept-Done plan p.changes q.changes old new a u (Done-changes plan old new p q a d)
-
-pub Kept-refused : {A : Type 0} (plan : Plan A) (p q : Pair) (old new : Line) (w : Refusal) → IsUtf8 old.text → Halted pair_step (or_no_memory pair_refused) plan old new p q w
-    → Kept p.changes q.changes old new
-Kept-refused plan p q old new w u h = Kept-Halted keeps_changes plan p.changes q.changes old new w keeps u (Halted-changes plan old new p q w h)
-
--- and the record leads to the text again
+-- an edit of a line that a pair hears: the record leads to the text again
 Walks-pair : {A : Type 0} (plan : Plan A) (p q : Pair) (old new : Line) (a : A) → IsCharBoundary old.text old.cursor → Done pair_step plan old new p q a → Walks p.changes old.text → Walks q.changes new.text
 Walks-pair plan p q old new a at d = Walks-Done plan p.changes q.changes old new a at (Done-changes plan old new p q a d)
 
@@ -121,21 +103,16 @@ AtRest-recased action p q old new (Ok a) at d h = AtRest-pair (edit_word_plan ol
 AtRest-recased action p q old new (Err w) at d h = AtRest-stopped a_copy (edit_word_plan old h.made) p q old new w at (NoneStarts-edit_word old h.made) h.holds
 
 -- the record hears nothing of the start and the end of a kill
-pub Kept-Told : (b : Bool) (P : Pair → Pair → Type 0) (p q : Pair) (old new : Line)
-    → ((before now : Pair) → P before now → Kept before.changes now.changes old new) → Told pair_step b P p q → Kept p.changes q.changes old new
-Kept-Told true P p q old new keeps t = keeps p q t
-Kept-Told false P p q old new keeps t =
-    let inside = keeps (pair_step p Start) t.last t.inside in
-    let ended : q.changes ≡ t.last.changes = ap (λ (k : Pair). k.changes) t.ended ∙ record_step-Stop t.last.changes in
-    subst (λ (r : Record). Kept p.changes r old new) (sym ended) (subst (λ (r : Record). Kept r t.last.changes old new) (record_step-Start p.changes) inside)
+pub past_telling : (P : Record → Record → Type 0) (before last now : Pair) → now ≡ pair_step last Stop → P (pair_step before Start).changes last.changes → P before.changes now.changes
+past_telling P before last now e inside =
+    let ended : now.changes ≡ last.changes = ap (λ (k : Pair). k.changes) e ∙ record_step-Stop last.changes in
+    subst (P before.changes) (sym ended) (subst (λ (r : Record). P r last.changes) (record_step-Start before.changes) inside)
 
 Walks-Told : (b : Bool) (P : Pair → Pair → Type 0) (p q : Pair) (old new : Line)
     → ((before now : Pair) → P before now → Walks before.changes old.text → Walks now.changes new.text) → Told pair_step b P p q → Walks p.changes old.text → Walks q.changes new.text
-Walks-Told true P p q old new keeps t f = keeps p q t f
-Walks-Told false P p q old new keeps t f =
-    let inside = keeps (pair_step p Start) t.last t.inside (subst (λ (r : Record). Walks r old.text) (sym (record_step-Start p.changes)) f) in
-    let ended : q.changes ≡ t.last.changes = ap (λ (k : Pair). k.changes) t.ended ∙ record_step-Stop t.last.changes in
-    subst (λ (r : Record). Walks r new.text) (sym ended) inside
+Walks-Told true P p q old new keeps t = keeps p q t
+Walks-Told false P p q old new keeps t =
+    past_telling (λ r now. Walks r old.text → Walks now new.text) p t.last q t.ended (keeps (pair_step p Start) t.last t.inside)
 
 pub AtRest-kill : (m : Movement) (p q : Pair) (old new : Line) (result : Result Bool Refusal) → IsCharBoundary old.text old.cursor
     → IfOk result (λ a. Told pair_step (is_by_characters m) (λ before now. Done pair_step (kill_plan old m) old new before now a) p q)

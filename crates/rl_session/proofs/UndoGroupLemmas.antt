@@ -4,7 +4,6 @@ use Rattle.std.proofs.lemmas.List.{reverse-reverse}
 use Rattle.std.specs.Prelude.{max, ◌||◌}
 use Rattle.std.specs.Str.{IsCharBoundary, IsUtf8}
 use Rattle.rl_base.specs.declared.layout.GraphemeClusterMode.{GraphemeClusterMode}
-use Rattle.rl_line.specs.Line.{Line}
 use Rattle.rl_line.specs.Plan.{Step, heard, heard_step}
 use Rattle.rl_line.specs.Record.{Begin, End, Entry, Record, record_step, replay_entries}
 use Rattle.rl_line.specs.Units.{UndoUnit, Open, Whole, IsMatched, begun, end_one, end_times, ended, has_change, kept_of, last_of, level, opens, together, units}
@@ -13,17 +12,17 @@ use Rattle.rl_line.proofs.LevelLemmas.{level-append}
 use Rattle.rl_line.proofs.MatchLemmas.{EndsOne, Lower-end_one, Lower-end_times, end_one-cons}
 use Rattle.rl_line.proofs.UndoLemmas.{line_back-unwind}
 use Rattle.rl_line.proofs.UnitLemmas.{AllGood, AllGood-reverse, Gathers, Gathers-more, Gathers-nil, Settles-group, cut_more-append, on, opens-reverse, together-reverse, together-units, units-good}
-use Rattle.rl_session.specs.Commands.{Asked, Does, DoesAsked, Others, asked, edit, other, readied, with_changes}
+use Rattle.rl_session.specs.Commands.{Effect, by_steps, puts_begin, Became, effect, Does, readied, with_changes}
 use Rattle.rl_session.specs.History.{AllStandInGroup, Holds, MayStandInGroup, WasRefused}
-use Rattle.rl_session.specs.Run.{Leads, Row, Run, held, held_by_edit, held_by_other, held_of}
+use Rattle.rl_session.specs.Run.{Leads, Row, Run, held, held_of, steps_in}
 use Rattle.rl_session.specs.State.{State, fresh}
 use Rattle.rl_session.specs.declared.session.Command.{Command}
 use Rattle.rl_session.specs.declared.session.Command.TheVariants as asks
-use Rattle.rl_session.specs.declared.session.Fault.TheVariants.{NoMemory, NotReplaying}
 use Rattle.rl_session.specs.declared.session.Reply.{Reply}
 use Rattle.rl_session.specs.declared.session.Reply.TheVariants as says
 use Rattle.rl_session.proofs.RowLemmas.{Leads-split}
-use Rattle.rl_session.proofs.HistoryLemmas.{Heard, Heard-edit, Heard-other, Holds-Leads, Holds-row, at_row, does_as, undo-row}
+use Rattle.rl_session.proofs.CourseLemmas.{Heard-Came}
+use Rattle.rl_session.proofs.HistoryLemmas.{Holds-Leads, Holds-row, at_row, does_as, undo-row}
 use Rattle.rl_session.proofs.PlaceLemmas.{end_one-cases, kept-leads}
 use Rattle.rl_base.specs.Event.{Cursors}
 
@@ -119,45 +118,34 @@ Inside-steps cursor [] front r k = k
 Inside-steps cursor (s ∷ ss) front r k =
     Inside-steps s.1 ss front (heard_step record_step cursor s r) (Inside-event (Cursors cursor s.1) front (record_step r s.0) (Inside-event s.0 front r k))
 
-Inside-Heard : (front : List Entry) (texts : List (List ℕ)) (old : Line) (r : Record) (text : List ℕ) (now : Record) → Inside front r → Heard texts old r text now → Inside front now
-Inside-Heard front texts old r text now k h = subst (λ (x : Record). Inside front x) (sym h.changes) (Inside-steps old.cursor h.steps front r k)
-
 Inside-same : (front : List Entry) (old new : State) → Inside front old.pair.changes → new ≡ old → Inside front new.pair.changes
 Inside-same front old new k e = subst (λ (s : State). Inside front s.pair.changes) (sym e) k
 
-Inside-other : (front : List Entry) (old : State) (command : Command) (reply : Reply) (new : State) → MayStandInGroup command reply → Others old command reply new
-    → Inside front old.pair.changes → Inside front new.pair.changes
-Inside-other front old asks.Begin (says.Mark n) new i d k = Inside-same front (with_changes (begun old.pair.changes) old) new (Inside-begun front old.pair.changes k) d.1
-Inside-other front old asks.Begin (says.Refused NoMemory) new i d k = Inside-same front old new k d.1
-Inside-other front old asks.Begin _ new i d k = absurd d
-Inside-other front old asks.End (says.Refused NoMemory) new i d k = Inside-same front old new k d.1
-Inside-other front old asks.End (says.Answer a) new i d k = absurd i
-Inside-other front old asks.End _ new i d k = absurd d
-Inside-other front old (asks.Undo n) (says.Refused NoMemory) new i d k = Inside-same front old new k d.1
-Inside-other front old (asks.Undo n) (says.Answer a) new i d k = absurd i
-Inside-other front old (asks.Undo n) _ new i d k = absurd d
-Inside-other front old asks.Redo (says.Refused NoMemory) new i d k = Inside-same front old new k d.1
-Inside-other front old asks.Redo (says.Answer a) new i d k = absurd i
-Inside-other front old asks.Redo _ new i d k = absurd d
-Inside-other front old (asks.Truncate len) (says.Refused NotReplaying) new i d k = Inside-same front old new k d.1
-Inside-other front old (asks.Truncate len) (says.Refused NoMemory) new i d k = Inside-same front old new k d.2
-Inside-other front old (asks.Truncate len) says.Done new i d k = absurd i
-Inside-other front old (asks.Truncate len) _ new i d k = absurd d
-Inside-other front old command reply new i d k =
-    Inside-Heard front (held_by_other old command reply new d) old.line old.pair.changes new.line.text new.pair.changes k (Heard-other old command reply new d tt)
+-- what leaves a group open
+abbrev StaysOpen : Effect → Type 0
+StaysOpen (by_steps _) = Unit {0}
+StaysOpen (puts_begin _) = Unit {0}
+StaysOpen _ = ⊥
 
-Inside-asked : (what : Asked) (front : List Entry) (old : State) (command : Command) (reply : Reply) (new : State) → MayStandInGroup command reply
-    → DoesAsked what old command reply new → Inside front old.pair.changes → Inside front new.pair.changes
-Inside-asked (edit takes condition plan telling) front old command reply new i d k =
-    Inside-Heard front (held_by_edit takes condition plan telling old reply new d) old.line old.pair.changes new.line.text new.pair.changes k
-    (Heard-edit takes condition plan telling old reply new d)
-Inside-asked other front old command reply new i d k = Inside-other front old command reply new i d k
+stays_open : (old : State) (command : Command) (reply : Reply) → MayStandInGroup command reply → StaysOpen (effect old command reply)
+stays_open old asks.End (says.Answer a) i = absurd i
+stays_open old (asks.Undo n) (says.Answer a) i = absurd i
+stays_open old asks.Redo (says.Answer a) i = absurd i
+stays_open old (asks.Truncate len) says.Done i = absurd i
+stays_open old asks.Begin (says.Mark n) i = tt
+stays_open old _ _ i = tt
+
+Inside-Became : (front : List Entry) (effect : Effect) (old new : State) → StaysOpen effect → Became effect old new → Inside front old.pair.changes → Inside front new.pair.changes
+Inside-Became front (by_steps course) old new i d k =
+    subst (λ (r : Record). Inside front r) (sym (Heard-Came course old new d).taken.listener) (Inside-steps old.line.cursor (steps_in course old new d) front old.pair.changes k)
+Inside-Became front (puts_begin n) old new i d k = Inside-same front (with_changes (begun old.pair.changes) old) new (Inside-begun front old.pair.changes k) d.1
+Inside-Became front _ old new i d k = absurd i
 
 Inside-row : (front : List Entry) (row : Row) → MayStandInGroup row.command row.reply → Inside front row.before.pair.changes → Inside front row.after.pair.changes
 Inside-row front row i k =
     let before = readied row.command row.before in
     subst (λ (s : State). Inside front s.pair.changes) (sym row.step.settles)
-    (Inside-asked (asked before.line row.command) front before row.command row.reply row.step.left i row.step.does k)
+    (Inside-Became front (effect before row.command row.reply) before row.step.left (stays_open before row.command row.reply i) row.step.does k)
 
 Inside-Leads : (front : List Entry) (rows : List Row) (old new : State) → AllStandInGroup rows → Leads old rows new → Inside front old.pair.changes → Inside front new.pair.changes
 Inside-Leads front [] old new all l k = Inside-same front old new k l

@@ -15,6 +15,7 @@ use Rattle.rl_base.specs.declared.listeners.Refusal.{Refusal}
 use Rattle.rl_base.specs.Widths.{blank_layout}
 use Rattle.rl_base.specs.Words.{next_word, prev_word}
 use Rattle.rl_base.specs.declared.motion.Movement.{Movement}
+use Rattle.rl_base.specs.declared.motion.WordAction.{WordAction}
 use Rattle.rl_base.specs.declared.motion.Movement.TheVariants.{BeginningOfLine, EndOfLine, BackwardWord, ForwardWord, ViCharSearch, BackwardChar, ForwardChar, LineUp, LineDown, BeginningOfBuffer, EndOfBuffer}
 use Rattle.rl_line.specs.Line.{Line, NeedsRoom}
 use Rattle.rl_line.specs.LineMotions.{columns_before, home, line_end, place_above, place_below}
@@ -84,20 +85,10 @@ pub record CutShort {A : Type 0} (takes : Takes) (plan : Plan A) (old new : Stat
   pub halted : Halted pair_step (refusal_of takes) plan old.line new.line old.pair new.pair why.NoMemory
   pub mode : new.mode ≡ old.mode
 
--- an edit that copies what it moves was not begun, since there was no memory for the copy
-abbrev pub Unbegun : {A : Type 0} → Takes → Plan A → State → State → Type 0
-Unbegun a_copy plan old new = (new ≡ old) × (0 < bytes_of plan.steps)
-Unbegun _ plan old new = ⊥
-
--- a kill was done, and told
-pub record Killed (mvt : Movement) (old new : State) (answer : Bool) : Type 0 where
-  pub told : Told pair_step (is_by_characters mvt) (λ before now. Done pair_step (kill_plan old.line mvt) old.line new.line before now answer) old.pair new.pair
-  pub mode : new.mode ≡ old.mode
-
--- a kill was refused, and told
-pub record KillRefused (mvt : Movement) (old new : State) : Type 0 where
-  pub told : Told pair_step (is_by_characters mvt) (λ before now. Halted pair_step pair_refused (kill_plan old.line mvt) old.line new.line before now why.NoMemory) old.pair new.pair
-  pub mode : new.mode ≡ old.mode
+-- where it may not have begun: there is something of which it makes a copy
+abbrev pub unbegun : {A : Type 0} → Takes → Plan A → Type 0
+unbegun a_copy plan = 0 < bytes_of plan.steps
+unbegun _ plan = ⊥
 
 -- a text that the ring lent is inserted n times, if it lent one
 abbrev pub lent_plan : Line → Option (List ℕ) → ℕ → Plan (Option Bool)
@@ -148,20 +139,72 @@ pub record PutAgain (old new : State) (answer : Bool) : Type 0 where
 abbrev pub with_changes : Record → State → State
 with_changes changes s = record s { pair = record s.pair { changes = changes } }
 
--- how a reply tells the answer of an edit
+-- how one state becomes another by steps of an edit, or by none
+pub data Course : Type 1 where
+  -- this never comes, or only where that holds
+  never : Course
+  when : Type 0 → Course → Course
+  -- nothing changed; the cursor went to a place, if there is one
+  stays : Course
+  goes : Option ℕ → Bool → Course
+  -- an edit was done; or it was refused, since memory is out: not begun, which comes only where that holds, or cut short
+  edits : {A : Type 0} → Plan A → A → Course
+  stops : {A : Type 0} → Type 0 → Takes → Plan A → Course
+  -- some text was made for the word ahead
+  respells : WordAction → (List ℕ → Course) → Course
+  -- the ring lent its text first, or the one before that
+  lends : Course → Course
+  pops : Course → Course
+  -- it was told from its start to its stop as a kill, but not where that is one by characters
+  tells : Bool → Course → Course
+
+-- what each of them means
+abbrev pub Came : Course → State → State → Type 0
+Came never old new = ⊥
+Came (when condition course) old new = condition × Came course old new
+Came stays old new = new ≡ old
+Came (goes place answer) old new = Went place old new answer
+Came (edits plan answer) old new = Edited plan old new answer
+Came (stops unbegun takes plan) old new = (unbegun × (new ≡ old)) ⊎ CutShort takes plan old new
+Came (respells action course) old new = Recased old.line action (λ made. Came (course made) old new)
+Came (lends course) old new = Came course (lent old) new
+Came (pops course) old new = Came course (popped old) new
+Came (tells by_characters course) old new =
+    Told pair_step by_characters (λ before now. Came course (record old { pair = before }) (record new { pair = now })) old.pair new.pair
+
+-- what a command did: a course by steps, or what one command alone does to the record, with what it answers
+pub data Effect : Type 1 where
+  by_steps : Course → Effect
+  puts_begin : ℕ → Effect
+  puts_ends : Bool → Effect
+  shortens : ℕ → Effect
+  takes_back : ℕ → Bool → Effect
+  puts_again : Bool → Effect
+
+abbrev pub Became : Effect → State → State → Type 0
+Became (by_steps course) old new = Came course old new
+Became (puts_begin n) old new = (n ≡ length old.pair.changes.recorded) × (new ≡ with_changes (begun old.pair.changes) old)
+Became (puts_ends a) old new =
+    (a ≡ adds_end (level old.pair.changes.recorded) old.pair.changes.recorded) × (new ≡ with_changes (ended old.pair.changes) old)
+Became (shortens len) old new =
+    (replays_to len old.pair.changes old.line.text ≡ true) × (new ≡ with_changes (truncated len old.pair.changes) old)
+Became (takes_back n a) old new = TookBack n old new a
+Became (puts_again a) old new = PutAgain old new a
+
+-- how the answer of an edit is told
 pub data Telling : Type 0 → Type 1 where
   answers : Telling Bool
   inserts : Telling (Option Bool)
   hands_out : Telling (Option (List ℕ))
   is_done : Telling (Unit {0})
 
--- the reply tells an answer of which P holds
-abbrev pub Tells : {A : Type 0} → Telling A → (A → Type 0) → Reply → Type 0
-Tells answers P (says.Answer a) = P a
-Tells inserts P (says.Inserted a) = P a
-Tells hands_out P (says.Text t) = P (option_map string_bytes t)
-Tells is_done P says.Done = P tt
-Tells _ P _ = ⊥
+-- the course that comes with an answer, where the reply tells one
+abbrev pub told_as : {A : Type 0} → Telling A → (A → Course) → Reply → Course
+told_as answers course (says.Answer a) = course a
+told_as inserts course (says.Inserted a) = course a
+told_as hands_out course (says.Text t) = course (option_map string_bytes t)
+told_as is_done course says.Done = course tt
+told_as _ course _ = never
 
 -- what a command asks for: an edit, with the memory that it takes, a condition on its places, its plan, and how a reply
 -- tells its answer; or something else
@@ -190,60 +233,65 @@ asked line (TransposeWords n) = edit a_copy (Unit {0}) (transpose_words_plan lin
 asked line (Indent m amount dedent) = edit room_by_step (Unit {0}) (indent_plan line m amount dedent) answers
 asked line _ = other
 
--- an edit: refused where its condition fails; otherwise done, or cut short since memory is out
-abbrev pub Edits : {A : Type 0} → Takes → Type 0 → Plan A → Telling A → State → Reply → State → Type 0
-Edits takes condition plan telling old (says.Refused BadPlace) new = (¬ condition) × (new ≡ old)
-Edits takes condition plan telling old (says.Refused NoMemory) new = condition × (Unbegun takes plan old new ⊎ CutShort takes plan old new)
-Edits takes condition plan telling old reply new = condition × Tells telling (λ a. Edited plan old new a) reply
+-- an edit: refused where its condition fails, and else done, or stopped since memory is out
+abbrev pub edit_course : {A : Type 0} → Takes → Type 0 → Plan A → Telling A → Reply → Course
+edit_course takes condition plan telling (says.Refused BadPlace) = when (¬ condition) stays
+edit_course takes condition plan telling (says.Refused NoMemory) = when condition (stops (unbegun takes plan) takes plan)
+edit_course takes condition plan telling reply = when condition (told_as telling (edits plan) reply)
 
--- Commands that are no edit, or an edit whose text the command does not tell. A command is not refused where it needs no room,
--- since there is nothing to copy, to close or to make longer.
-abbrev pub Others : State → Command → Reply → State → Type 0
-Others old (SetPos q) says.Done new = IsCharBoundary old.line.text q × (new ≡ record old { line = record old.line { cursor = q } })
-Others old (SetPos q) (says.Refused BadPlace) new = (¬ (IsCharBoundary old.line.text q)) × (new ≡ old)
-Others old (Move m) (says.Answer a) new = Went (destination old m) old new a
-Others old (Copy m) (says.Text t) new = (option_map string_bytes t ≡ copied old.line m) × (new ≡ old)
-Others old (Copy m) (says.Refused NoMemory) new = HasText (copied old.line m) × (new ≡ old)
-Others old (EditWord action) (says.Answer a) new = Recased old.line action (λ made. Edited (edit_word_plan old.line made) old new a)
-Others old (EditWord action) (says.Refused NoMemory) new = Recased old.line action (λ made. Unbegun a_copy (edit_word_plan old.line made) old new ⊎ CutShort a_copy (edit_word_plan old.line made) old new)
-Others old (Kill m) (says.Answer a) new = Killed m old new a
-Others old (Kill m) (says.Refused NoMemory) new = KillRefused m old new
--- a yanked text is copied out of the ring, which may run out of memory too, unless the text is empty
-Others old (Yank n) (says.Inserted a) new = Edited (lent_plan old.line (yank old.pair.ring) n) (lent old) new a
-Others old (Yank n) (says.Refused NoMemory) new =
-    (HasText (yank old.pair.ring) × (new ≡ lent old)) ⊎ CutShort room_by_step (lent_plan old.line (yank old.pair.ring) n) (lent old) new
-Others old YankPop (says.Inserted a) new =
-    StandsYanked (yank_size old.pair.ring) old.line × Edited (popped_plan old.line (yank_pop old.pair.ring)) (popped old) new a
-Others old YankPop (says.Refused BadYankSize) new = (¬ (StandsYanked (yank_size old.pair.ring) old.line)) × (new ≡ old)
-Others old YankPop (says.Refused NoMemory) new =
-    StandsYanked (yank_size old.pair.ring) old.line × ((HasText (option_map (λ (p : ℕ × List ℕ). p.1) (yank_pop old.pair.ring)) × (new ≡ popped old)) ⊎ CutShort room_by_step (popped_plan old.line (yank_pop old.pair.ring)) (popped old) new)
-Others old Begin (says.Mark n) new = (n ≡ length old.pair.changes.recorded) × (new ≡ with_changes (begun old.pair.changes) old)
-Others old Begin (says.Refused NoMemory) new = (old.pair.changes.pending ≡ []) × (new ≡ old)
-Others old End (says.Answer a) new =
-    (a ≡ adds_end (level old.pair.changes.recorded) old.pair.changes.recorded) × (new ≡ with_changes (ended old.pair.changes) old)
-Others old End (says.Refused NoMemory) new = (adds_end (level old.pair.changes.recorded) old.pair.changes.recorded ≡ true) × (new ≡ old)
-Others old (Undo n) (says.Answer a) new = TookBack n old new a
-Others old (Undo n) (says.Refused NoMemory) new =
-    Any (NeedsRoom old.line.text) (texts_back (last_of n old.pair.changes.recorded) old.line.text) × (new ≡ old)
-Others old Redo (says.Answer a) new = PutAgain old new a
-Others old Redo (says.Refused NoMemory) new =
-    Any (NeedsRoom old.line.text) (texts_ahead (redo_of old.pair.changes.pending) old.line.text) × (new ≡ old)
-Others old (Truncate len) says.Done new =
-    (replays_to len old.pair.changes old.line.text ≡ true) × (new ≡ with_changes (truncated len old.pair.changes) old)
-Others old (Truncate len) (says.Refused NotReplaying) new = (replays_to len old.pair.changes old.line.text ≡ false) × (new ≡ old)
-Others old (Truncate len) (says.Refused NoMemory) new =
-    (len < length old.pair.changes.recorded) × CopiesBack old.pair.changes.recorded old.line.text × (new ≡ old)
-Others old LinePlace (says.At k columns) new = ((k, columns) ≡ line_place old) × (new ≡ old)
+-- what is no edit, or one of a text that is not told by the command. What needs no room, since there is nothing to copy, to close
+-- or to make longer, is not refused.
+abbrev pub other_course : State → Command → Reply → Course
+other_course old (SetPos q) says.Done = when (IsCharBoundary old.line.text q) (goes (Some q) true)
+other_course old (SetPos q) (says.Refused BadPlace) = when (¬ (IsCharBoundary old.line.text q)) stays
+other_course old (Move m) (says.Answer a) = goes (destination old m) a
+other_course old (Copy m) (says.Text t) = when (option_map string_bytes t ≡ copied old.line m) stays
+other_course old (Copy m) (says.Refused NoMemory) = when (HasText (copied old.line m)) stays
+other_course old (EditWord action) (says.Answer a) = respells action (λ made. edits (edit_word_plan old.line made) a)
+other_course old (EditWord action) (says.Refused NoMemory) =
+    respells action (λ made. let plan = edit_word_plan old.line made in stops (unbegun a_copy plan) a_copy plan)
+other_course old (Kill m) (says.Answer a) = tells (is_by_characters m) (edits (kill_plan old.line m) a)
+other_course old (Kill m) (says.Refused NoMemory) = tells (is_by_characters m) (stops ⊥ nothing_more (kill_plan old.line m))
+-- a yanked text is copied out of the ring, for which there may be no memory either, unless it is empty
+other_course old (Yank n) (says.Inserted a) = lends (edits (lent_plan old.line (yank old.pair.ring) n) a)
+other_course old (Yank n) (says.Refused NoMemory) =
+    lends (stops (HasText (yank old.pair.ring)) room_by_step (lent_plan old.line (yank old.pair.ring) n))
+other_course old YankPop (says.Inserted a) =
+    when (StandsYanked (yank_size old.pair.ring) old.line) (pops (edits (popped_plan old.line (yank_pop old.pair.ring)) a))
+other_course old YankPop (says.Refused BadYankSize) = when (¬ (StandsYanked (yank_size old.pair.ring) old.line)) stays
+other_course old YankPop (says.Refused NoMemory) =
+    when (StandsYanked (yank_size old.pair.ring) old.line)
+    (pops (stops (HasText (option_map (λ (p : ℕ × List ℕ). p.1) (yank_pop old.pair.ring))) room_by_step (popped_plan old.line (yank_pop old.pair.ring))))
+other_course old Begin (says.Refused NoMemory) = when (old.pair.changes.pending ≡ []) stays
+other_course old End (says.Refused NoMemory) = when (adds_end (level old.pair.changes.recorded) old.pair.changes.recorded ≡ true) stays
+other_course old (Undo n) (says.Refused NoMemory) =
+    when (Any (NeedsRoom old.line.text) (texts_back (last_of n old.pair.changes.recorded) old.line.text)) stays
+other_course old Redo (says.Refused NoMemory) =
+    when (Any (NeedsRoom old.line.text) (texts_ahead (redo_of old.pair.changes.pending) old.line.text)) stays
+other_course old (Truncate len) (says.Refused NotReplaying) = when (replays_to len old.pair.changes old.line.text ≡ false) stays
+other_course old (Truncate len) (says.Refused NoMemory) =
+    when ((len < length old.pair.changes.recorded) × CopiesBack old.pair.changes.recorded old.line.text) stays
+other_course old LinePlace (says.At k columns) = when ((k, columns) ≡ line_place old) stays
 -- no other reply comes
-Others _ _ _ _ = ⊥
+other_course _ _ _ = never
 
-abbrev pub DoesAsked : Asked → State → Command → Reply → State → Type 0
-DoesAsked (edit takes condition plan telling) old command reply new = Edits takes condition plan telling old reply new
-DoesAsked other old command reply new = Others old command reply new
+-- by which course the state becomes another, where it goes by steps
+abbrev pub course_of : Asked → State → Command → Reply → Course
+course_of (edit takes condition plan telling) old command reply = edit_course takes condition plan telling reply
+course_of other old command reply = other_course old command reply
+
+-- what a command did that had this reply
+abbrev pub effect : State → Command → Reply → Effect
+effect old Begin (says.Mark n) = puts_begin n
+effect old End (says.Answer a) = puts_ends a
+effect old (Truncate len) says.Done = shortens len
+effect old (Undo n) (says.Answer a) = takes_back n a
+effect old Redo (says.Answer a) = puts_again a
+effect old command reply = by_steps (course_of (asked old.line command) old command reply)
 
 -- from old, the command may have this reply and lead to new, the ring's resets aside
 abbrev pub Does : State → Command → Reply → State → Type 0
-Does old command reply new = DoesAsked (asked old.line command) old command reply new
+Does old command reply new = Became (effect old command reply) old new
 
 -- the commands before which the ring is not reset: they go on from what it did last
 abbrev pub continues : Command → Bool
