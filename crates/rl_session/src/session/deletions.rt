@@ -1,11 +1,17 @@
 //! Deletions. What they take out does not go to the ring.
-ghost use Rattle.std.specs.Prelude.{◌≡◌, true, false};
-ghost use Rattle.rl_session.specs.Commands.{Does, IsRange};
+ghost use Rattle.std.specs.Prelude.{◌≡◌, true, false, IfOk, IfErr};
+ghost use Rattle.rl_line.specs.Kills.{kill_plan};
+ghost use Rattle.rl_line.specs.Plan.{Done, Halted};
+ghost use Rattle.rl_session.specs.Commands.{Came, Does, IsRange, answers, edit_course, nothing_more};
+ghost use Rattle.rl_session.specs.KillRuns.{IsDirected};
+ghost use Rattle.rl_session.specs.Pair.{pair_step, pair_refused};
 ghost use Rattle.rl_session.specs.declared.session.Command.{Command};
 
+use crate::pair::Pair;
 use crate::session::replies::{answered, done, handed_out};
 use crate::session::{Fault, Reply, Session};
-use rl_base::{At, CharSearch, RepeatCount, Word};
+use rl_base::{Movement, Refusal, RepeatCount};
+use rl_line::LineBuffer;
 
 impl Session {
     // Whether these are the ends of a range of the text.
@@ -41,52 +47,30 @@ impl Session {
         answered(self.line.backspace(n, &mut self.pair))
     }
 
-    pub(super) fn kill_line(&mut self) -> Reply
-        ensures { Does self.old Command.KillLine result self.new }
+    // Deletes by a movement to one side of the cursor, and tells no kill.
+    pub(super) fn delete_by(&mut self, movement: &Movement) -> Reply
+        requires { IsDirected movement.now }
+        ensures { Came (edit_course nothing_more (Unit {0}) (kill_plan self.old.line movement.now) answers result) self.old self.new }
     {
         self.stands();
-        answered(self.line.kill_line(&mut self.pair))
+        answered(delete_in(&mut self.line, movement, &mut self.pair))
     }
+}
 
-    pub(super) fn kill_buffer(&mut self) -> Reply
-        ensures { Does self.old Command.KillBuffer result self.new }
-    {
-        self.stands();
-        answered(self.line.kill_buffer(&mut self.pair))
-    }
-
-    pub(super) fn discard_line(&mut self) -> Reply
-        ensures { Does self.old Command.DiscardLine result self.new }
-    {
-        self.stands();
-        answered(self.line.discard_line(&mut self.pair))
-    }
-
-    pub(super) fn discard_buffer(&mut self) -> Reply
-        ensures { Does self.old Command.DiscardBuffer result self.new }
-    {
-        self.stands();
-        answered(self.line.discard_buffer(&mut self.pair))
-    }
-
-    pub(super) fn delete_prev_word(&mut self, word: Word, n: RepeatCount) -> Reply
-        ensures { Does self.old (Command.DeletePrevWord word n) result self.new }
-    {
-        self.stands();
-        answered(self.line.delete_prev_word(word, n, &mut self.pair))
-    }
-
-    pub(super) fn delete_word(&mut self, at: At, word: Word, n: RepeatCount) -> Reply
-        ensures { Does self.old (Command.DeleteWord at word n) result self.new }
-    {
-        self.stands();
-        answered(self.line.delete_word(at, word, n, &mut self.pair))
-    }
-
-    pub(super) fn delete_to(&mut self, cs: CharSearch, n: RepeatCount) -> Reply
-        ensures { Does self.old (Command.DeleteTo cs n) result self.new }
-    {
-        self.stands();
-        answered(self.line.delete_to(cs, n, &mut self.pair))
+// Deletes by a movement to one side of the cursor: the line has a call for each.
+fn delete_in(line: &mut LineBuffer, movement: &Movement, pair: &mut Pair) -> Result<bool, Refusal>
+    requires { IsDirected movement.now }
+    ensures done { IfOk result (λ answer. Done pair_step (kill_plan line.old movement.now) line.old line.new pair.old pair.new answer) }
+    ensures halted { IfErr result (λ r. Halted pair_step pair_refused (kill_plan line.old movement.now) line.old line.new pair.old pair.new r) }
+{
+    match movement {
+        Movement::BeginningOfLine => line.discard_line(pair),
+        Movement::EndOfLine => line.kill_line(pair),
+        Movement::BackwardWord(n, word) => line.delete_prev_word(*word, *n, pair),
+        Movement::ForwardWord(n, at, word) => line.delete_word(*at, *word, *n, pair),
+        Movement::ViCharSearch(n, cs) => line.delete_to(*cs, *n, pair),
+        Movement::BeginningOfBuffer => line.discard_buffer(pair),
+        Movement::EndOfBuffer => line.kill_buffer(pair),
+        _ => unreachable!(),
     }
 }

@@ -1,0 +1,15 @@
+use Rattle.std.proofs.Common.{refl}
+use Rattle.rl_line.specs.Kills.{kill_plan}
+use Rattle.rl_session.specs.Commands.{nothing_more, answers}
+use Rattle.rl_session.proofs.ReplyLemmas.{Edits-replied}
+use Rattle.rl_session.proofs.IdleLemmas.{NoneStarts-kill}
+use Rattle.rl_session.proofs.SessionLemmas.{AtRest-edit}
+use Rattle.rl_session.proofs.session.Session.delete_by.Goals as goal
+
+pub invariant_of-self : goal.invariant_of-self
+invariant_of-self c =
+    AtRest-edit nothing_more _ (λ a. a) c.self.inside.pair c.delete_in.new.pair c.self.inside.line c.delete_in.new.line c.delete_in.result (rw (← c.self.view_is) at c.stands.ensures.cursor) (NoneStarts-kill c.self.inside.line c.args.movement.now) c.delete_in.ensures.done c.delete_in.ensures.halted c.self.invariant
+
+pub returns : goal.returns
+returns c =
+    Edits-replied nothing_more answers (λ l. kill_plan l c.args.movement.now) c.self.view_is tt c.answered.ensures (record { mode = refl; done = c.delete_in.ensures.done; halted = c.delete_in.ensures.halted })
