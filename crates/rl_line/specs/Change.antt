@@ -1,5 +1,5 @@
 -- What the private functions of one entry say of it: joining, and going over it either way.
-use Rattle.std.specs.Prelude.{◌≡◌, ℕ, ◌+◌, ◌-◌, max, count_by, Bool, true, not, ◌||◌, List, [], ◌∷◌, length, reverse, Option, Some, None, option_and_then, if◌then◌else◌}
+use Rattle.std.specs.Prelude.{◌≡◌, ℕ, ◌+◌, ◌-◌, max, count_by, Bool, true, not, ◌||◌, List, [], ◌∷◌, length, map, reverse, Option, Some, None, option_and_then, if◌then◌else◌}
 use Rattle.std.specs.Option.{option_map_or}
 use Rattle.rl_base.specs.Event.{Event, apply}
 use Rattle.rl_base.specs.Text.{is_boundary}
@@ -50,7 +50,11 @@ abbrev pub order : Way → List Change → List Change
 order Back changes = changes
 order Ahead changes = reverse changes
 
--- the size of a text by a measure
+-- the entries that are taken back where a line goes over the changes
+abbrev pub all_faced : Way → List Change → List Entry
+all_faced way changes = map (faced way) (order way changes)
+
+-- how much a text has of what it is measured by
 abbrev pub size_of : Measure → List ℕ → ℕ
 size_of Bytes text = length text
 size_of Newlines text = count_by is_newline text

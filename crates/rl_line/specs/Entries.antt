@@ -14,9 +14,13 @@ pub record IsCutAt (n level : ℕ) (es : List Entry) (fresh : Freshness) : Type 
   pub within : n ≤ length es
   pub at_level : AtLevel level (cut_at n es fresh)
 
+-- an event makes new entries of the old ones, and this is what the last of them may be told then
+abbrev pub Records : Event → List Entry → List Entry → Freshness → Type 0
+Records event old new fresh = (new ≡ entries_after event old) × (fresh ≡ freshness_of event old)
+
 -- what a try to join an event to the last of the first n entries does: it joins, or all entries stay and the event is to be added
 abbrev pub JoinsLast : Event → ℕ → List Entry → List Entry → Option Freshness → Type 0
-JoinsLast event n old new (Some fresh) = (take n new ≡ entries_after event (take n old)) × (fresh ≡ freshness_of event (take n old))
+JoinsLast event n old new (Some fresh) = Records event (take n old) (take n new) fresh
 JoinsLast event n old new None =
     (new ≡ old) × (entries_after event (take n old) ≡ take n old ++ entries_of event) × (freshness_of event (take n old) ≡ freshness_added (entries_of event))
 

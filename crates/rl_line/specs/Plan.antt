@@ -107,3 +107,7 @@ module _ {L : Type 0} (step : L → Event → L) where
     pub middle : L
     pub taken : Taken first old new before middle
     pub cause : refused middle next.0 r now
+
+  -- the plan was halted, or not begun
+  abbrev pub Stopped : {A : Type 0} → (L → Event → Refusal → L → Type 0) → Plan A → Line → Line → L → L → Refusal → Type 0
+  Stopped refused plan old new before now r = Halted refused plan old new before now r ⊎ Uncopied plan old new before now r

@@ -1,5 +1,5 @@
 //! An entry of a record, and how a text goes over it.
-ghost use Rattle.std.specs.Prelude.{◌⊎◌, ◌≡◌, ℕ, List, None, Some, true, OnErr, OnOk, IfOk, IfErr, ◌+◌, ◌-◌, ◌^◌, ◌<◌, ◌≤◌, IsSome, IfNone, IfSome, get_or, is_some, length, map, vec_len, vec_capacity};
+ghost use Rattle.std.specs.Prelude.{◌⊎◌, ◌≡◌, ℕ, List, None, Some, true, OnErr, OnOk, IfOk, IfErr, ◌+◌, ◌-◌, ◌^◌, ◌<◌, ◌≤◌, IsSome, IfNone, IfSome, get_or, is_some, length, vec_len, vec_capacity};
 ghost use Rattle.std.specs.Option.{option_map};
 ghost use Rattle.std.specs.String.{string_bytes, string_len, string_capacity};
 ghost use Rattle.std.specs.Str.{IsCharBoundary, IsUtf8};
@@ -10,7 +10,7 @@ ghost use Rattle.rl_base.specs.declared.listeners.Refusal.TheVariants.{NoMemory}
 ghost use Rattle.rl_line.specs.Record.{bytes_back, cursors_of, entry_of, event_of, freshness_joined, inverse, new_text, old_text, with_cursors};
 ghost use Rattle.rl_line.specs.Undo.{cursor_after, cursor_told};
 ghost use Rattle.rl_line.specs.Units.{is_begin, is_change};
-ghost use Rattle.rl_line.specs.Change.{TakesIn, cursor_stands, text_back, place, faced, greatest_back_over, order, size_back, size_of};
+ghost use Rattle.rl_line.specs.Change.{TakesIn, cursor_stands, text_back, place, faced, greatest_back_over, order, size_back, size_of, all_faced};
 ghost use Rattle.rl_line.specs.declared.change.Measure.TheVariants.{Bytes, Newlines};
 ghost use Rattle.rl_line.specs.LineStarts.{IsTable};
 
@@ -328,9 +328,9 @@ pub(crate) fn find_room_over(
     ensures starts { starts.new.places.items ≡ starts.old.places.items }
     ensures border { starts.new.border ≡ starts.old.border }
     ensures count { vec_len starts.new.places ≡ vec_len starts.old.places }
-    ensures room { OnOk result (greatest_back_over Bytes (map (faced way) (order way changes.now)) (string_len text.old) ≤ string_capacity text.new) }
-    ensures table { OnOk result (greatest_back_over Newlines (map (faced way) (order way changes.now)) (vec_len starts.old.places) ≤ vec_capacity starts.new.places) }
-    ensures err { IfErr result (λ r. (r ≡ NoMemory) × ((string_len text.old < greatest_back_over Bytes (map (faced way) (order way changes.now)) (string_len text.old)) ⊎ (vec_len starts.old.places < greatest_back_over Newlines (map (faced way) (order way changes.now)) (vec_len starts.old.places)))) }
+    ensures room { OnOk result (greatest_back_over Bytes (all_faced way changes.now) (string_len text.old) ≤ string_capacity text.new) }
+    ensures table { OnOk result (greatest_back_over Newlines (all_faced way changes.now) (vec_len starts.old.places) ≤ vec_capacity starts.new.places) }
+    ensures err { IfErr result (λ r. (r ≡ NoMemory) × ((string_len text.old < greatest_back_over Bytes (all_faced way changes.now) (string_len text.old)) ⊎ (vec_len starts.old.places < greatest_back_over Newlines (all_faced way changes.now) (vec_len starts.old.places)))) }
 {
     let growth = growth_over(changes, way, text.len(), starts.places.len())?;
     find_room(text, starts, growth.bytes, growth.newlines)
@@ -345,9 +345,9 @@ fn growth_over(
     bytes: usize,
     newlines: usize,
 ) -> Result<Growth, Refusal>
-    ensures bytes { IfOk result (λ growth. bytes + growth.bytes ≡ greatest_back_over Bytes (map (faced way) (order way changes.now)) bytes) }
-    ensures newlines { IfOk result (λ growth. newlines + growth.newlines ≡ greatest_back_over Newlines (map (faced way) (order way changes.now)) newlines) }
-    ensures err { IfErr result (λ r. (r ≡ NoMemory) × ((bytes < greatest_back_over Bytes (map (faced way) (order way changes.now)) bytes) ⊎ (newlines < greatest_back_over Newlines (map (faced way) (order way changes.now)) newlines))) }
+    ensures bytes { IfOk result (λ growth. bytes + growth.bytes ≡ greatest_back_over Bytes (all_faced way changes.now) bytes) }
+    ensures newlines { IfOk result (λ growth. newlines + growth.newlines ≡ greatest_back_over Newlines (all_faced way changes.now) newlines) }
+    ensures err { IfErr result (λ r. (r ≡ NoMemory) × ((bytes < greatest_back_over Bytes (all_faced way changes.now) bytes) ⊎ (newlines < greatest_back_over Newlines (all_faced way changes.now) newlines))) }
 {
     let (mut long, mut longest) = (bytes, bytes);
     let (mut high, mut highest) = (newlines, newlines);
@@ -381,8 +381,8 @@ pub(crate) fn text_over(
     way: Way,
     asks: bool,
 ) -> Result<Option<String>, Refusal>
-    ensures ok { IfOk result (λ over. option_map string_bytes over ≡ text_back asks (map (faced way) (order way changes.now)) text.now) }
-    ensures err { IfErr result (λ r. (r ≡ NoMemory) × (0 < length text.now + bytes_back (map (faced way) (order way changes.now)))) }
+    ensures ok { IfOk result (λ over. option_map string_bytes over ≡ text_back asks (all_faced way changes.now) text.now) }
+    ensures err { IfErr result (λ r. (r ≡ NoMemory) × (0 < length text.now + bytes_back (all_faced way changes.now))) }
 {
     let mut now = copied(alloc, text)?;
     let mut left = changes.len();

@@ -8,9 +8,9 @@ ghost use Rattle.rl_base.specs.Event.{InsertChar, InsertStr, Delete, Replace};
 ghost use Rattle.rl_base.specs.Text.{HasText};
 ghost use Rattle.rl_base.specs.declared.listeners.Direction.TheVariants.{Forward};
 ghost use Rattle.rl_base.specs.declared.listeners.Refusal.TheVariants.{NoMemory};
-ghost use Rattle.rl_line.specs.Record.{Inserted, entries_after, entries_told, entry_of, freshness_of, last_insert};
+ghost use Rattle.rl_line.specs.Record.{Inserted, entries_told, entry_of, last_insert};
 ghost use Rattle.rl_line.specs.Units.{IsMatched, adds_end, end_one, end_times, ends_in_begin, has_change, is_change, last_of, level, redo_of};
-ghost use Rattle.rl_line.specs.Entries.{JoinsLast, deep};
+ghost use Rattle.rl_line.specs.Entries.{JoinsLast, deep, Records};
 
 use crate::change::{Change, Freshness, Texts, copied};
 use rl_base::{Gathered, Refusal, RepeatCount};
@@ -26,7 +26,7 @@ pub(crate) fn insert_char(
     c: char,
 ) -> Result<Freshness, Refusal>
     requires { recorded ≤ length entries.old.items }
-    ensures ok { IfOk result (λ fresh. (map entry_of entries.new.items ≡ entries_after (InsertChar idx c) (take recorded (map entry_of entries.old.items))) × (fresh ≡ freshness_of (InsertChar idx c) (take recorded (map entry_of entries.old.items)))) }
+    ensures ok { IfOk result (Records (InsertChar idx c) (take recorded (map entry_of entries.old.items)) (map entry_of entries.new.items)) }
     ensures err { IfErr result (λ r. (r ≡ NoMemory) × (map entry_of entries.new.items ≡ map entry_of entries.old.items)) }
 {
     if let Some(fresh) = join_char(entries, recorded, idx, c)? {
@@ -59,7 +59,7 @@ pub(crate) fn insert_str(
     string: &str,
 ) -> Result<Freshness, Refusal>
     requires { recorded ≤ length entries.old.items }
-    ensures ok { IfOk result (λ fresh. (map entry_of entries.new.items ≡ entries_after (InsertStr idx string.now) (take recorded (map entry_of entries.old.items))) × (fresh ≡ freshness_of (InsertStr idx string.now) (take recorded (map entry_of entries.old.items)))) }
+    ensures ok { IfOk result (Records (InsertStr idx string.now) (take recorded (map entry_of entries.old.items)) (map entry_of entries.new.items)) }
     ensures err { IfErr result (λ r. (r ≡ NoMemory) × (map entry_of entries.new.items ≡ map entry_of entries.old.items) × (0 < length string.now)) }
 {
     if string.is_empty() {
@@ -80,7 +80,7 @@ pub(crate) fn delete(
     string: &str,
 ) -> Result<Freshness, Refusal>
     requires { recorded ≤ length entries.old.items }
-    ensures ok { IfOk result (λ fresh. (map entry_of entries.new.items ≡ entries_after (Delete idx string.now Forward) (take recorded (map entry_of entries.old.items))) × (fresh ≡ freshness_of (Delete idx string.now Forward) (take recorded (map entry_of entries.old.items)))) }
+    ensures ok { IfOk result (Records (Delete idx string.now Forward) (take recorded (map entry_of entries.old.items)) (map entry_of entries.new.items)) }
     ensures err { IfErr result (λ r. (r ≡ NoMemory) × (map entry_of entries.new.items ≡ map entry_of entries.old.items) × (0 < length string.now)) }
 {
     if string.is_empty() {
@@ -106,7 +106,7 @@ pub(crate) fn replace(
     new: &str,
 ) -> Result<Freshness, Refusal>
     requires { recorded ≤ length entries.old.items }
-    ensures ok { IfOk result (λ fresh. (map entry_of entries.new.items ≡ entries_after (Replace idx old.now new.now) (take recorded (map entry_of entries.old.items))) × (fresh ≡ freshness_of (Replace idx old.now new.now) (take recorded (map entry_of entries.old.items)))) }
+    ensures ok { IfOk result (Records (Replace idx old.now new.now) (take recorded (map entry_of entries.old.items)) (map entry_of entries.new.items)) }
     ensures err { IfErr result (λ r. (r ≡ NoMemory) × (map entry_of entries.new.items ≡ map entry_of entries.old.items)) }
 {
     if let Some(fresh) = join_replacement(entries, recorded, idx, old, new)? {

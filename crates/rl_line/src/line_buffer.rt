@@ -1,5 +1,5 @@
 //! The line: its text, its cursor, and the few steps through which every change of its text goes.
-ghost use Rattle.std.specs.Prelude.{◌≡◌, ℕ, List, [], ◌∷◌, ◌+◌, ◌^◌, ◌<◌, ◌≤◌, ◌↔◌, true, false, map, length, slice_range, encode_utf8, Any, IsTrue, IsSome, Some, IfOk, IfErr, OnOk, OnErr};
+ghost use Rattle.std.specs.Prelude.{◌≡◌, ℕ, List, [], ◌∷◌, ◌+◌, ◌^◌, ◌<◌, ◌≤◌, ◌↔◌, true, false, length, slice_range, encode_utf8, Any, IsTrue, IsSome, Some, IfOk, IfErr, OnOk, OnErr};
 ghost use Rattle.std.specs.Str.{IsCharBoundary, IsUtf8};
 ghost use Rattle.std.specs.String.{string_bytes};
 ghost use Rattle.std.specs.List.{insert_slice, remove_range, replace_range};
@@ -8,7 +8,7 @@ ghost use Rattle.rl_base.specs.declared.listeners.Refusal.TheVariants.{NoMemory}
 ghost use Rattle.rl_line.specs.Line.{Line, NeedsRoom, stepped};
 ghost use Rattle.rl_line.specs.Plan.{Step, Taken, after, events_of, or_no_memory};
 ghost use Rattle.rl_line.specs.Undo.{line_back, texts_back};
-ghost use Rattle.rl_line.specs.Change.{faced, order};
+ghost use Rattle.rl_line.specs.Change.{faced, order, all_faced};
 ghost use Rattle.rl_line.specs.Record.{entry_of};
 ghost use Rattle.rl_line.specs.Units.{is_change};
 
@@ -334,9 +334,9 @@ impl LineBuffer {
     // know their way at compile time.
     #[inline(always)]
     pub(crate) fn go_over_all(&mut self, changes: &[Change], way: Way) -> Result<(), Refusal>
-        requires { IsSome (line_back (map (faced way) (order way changes.now)) self.old) }
-        ensures ok { OnOk result (line_back (map (faced way) (order way changes.now)) self.old ≡ Some self.new) }
-        ensures err { IfErr result (λ r. (r ≡ NoMemory) × (self.new ≡ self.old) × Any (NeedsRoom self.old.text) (texts_back (map (faced way) (order way changes.now)) self.old.text)) }
+        requires { IsSome (line_back (all_faced way changes.now) self.old) }
+        ensures ok { OnOk result (line_back (all_faced way changes.now) self.old ≡ Some self.new) }
+        ensures err { IfErr result (λ r. (r ≡ NoMemory) × (self.new ≡ self.old) × Any (NeedsRoom self.old.text) (texts_back (all_faced way changes.now) self.old.text)) }
     {
         // So the proof knows that this is UTF-8.
         let _text = self.buf.as_str();

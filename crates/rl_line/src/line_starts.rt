@@ -3,7 +3,7 @@ ghost use Rattle.std.specs.Prelude.{◌≡◌, ℕ, [], ◌+◌, ◌-◌, ◌^�
 ghost use Rattle.std.specs.List.{replace_range};
 ghost use Rattle.std.specs.Str.{IsCharBoundary};
 ghost use Rattle.rl_base.specs.Lines.{is_newline, line_number};
-ghost use Rattle.rl_line.specs.LineStarts.{after_newlines, line_starts, from_end, IsTable};
+ghost use Rattle.rl_line.specs.LineStarts.{after_newlines, line_starts, from_end, IsTable, count_swapped};
 
 use memchr::memchr_iter;
 use std::alloc::Global;
@@ -190,10 +190,10 @@ pub(crate) fn swap_starts(
     requires end { IsCharBoundary text.now to }
     requires table { IsTable starts.old.places.items starts.old.border text.now }
     requires come { come ≡ count_by is_newline part.now }
-    requires room { (vec_len starts.old.places - count_by is_newline (slice_range text.now from to)) + count_by is_newline part.now ≤ vec_capacity starts.old.places }
+    requires room { count_swapped (vec_len starts.old.places) text.now from to part.now ≤ vec_capacity starts.old.places }
     ensures table { IsTable starts.new.places.items starts.new.border (replace_range text.now from to part.now) }
     ensures capacity { vec_capacity starts.old.places ≤ vec_capacity starts.new.places }
-    ensures count { vec_len starts.new.places ≡ (vec_len starts.old.places - count_by is_newline (slice_range text.now from to)) + count_by is_newline part.now }
+    ensures count { vec_len starts.new.places ≡ count_swapped (vec_len starts.old.places) text.now from to part.now }
 {
     if starts.stays(text, from, to, come) {
         return;
@@ -216,10 +216,10 @@ pub(crate) fn exchange_starts(
     requires end { IsCharBoundary text.now to }
     requires table { IsTable starts.old.places.items starts.old.border text.now }
     requires come { come ≡ count_by is_newline part.now }
-    requires room { (vec_len starts.old.places - count_by is_newline (slice_range text.now from to)) + count_by is_newline part.now ≤ vec_capacity starts.old.places }
+    requires room { count_swapped (vec_len starts.old.places) text.now from to part.now ≤ vec_capacity starts.old.places }
     ensures table { IsTable starts.new.places.items starts.new.border (replace_range text.now from to part.now) }
     ensures capacity { vec_capacity starts.old.places ≤ vec_capacity starts.new.places }
-    ensures count { vec_len starts.new.places ≡ (vec_len starts.old.places - count_by is_newline (slice_range text.now from to)) + count_by is_newline part.now }
+    ensures count { vec_len starts.new.places ≡ count_swapped (vec_len starts.old.places) text.now from to part.now }
 {
     let first = starts.line_number(text, from);
     starts.move_border(text, first);

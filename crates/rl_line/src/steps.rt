@@ -1,8 +1,8 @@
 //! The steps of an edit over the parts of a line that has room for them: each reports its event, and then changes text, table and
 //! cursor, which can't fail any more. So an edit of several steps finds room for all of them before it takes the first, and then
-//! only its listener can refuse one. A line's capacity is no part of its value, so no method could promise it to the
-//! next: hence these are functions over the parts.
-ghost use Rattle.std.specs.Prelude.{◌≡◌, ◌+◌, ◌-◌, ◌≤◌, Bool, max, List, [], ◌∷◌, count_by, length, slice_range, vec_len, vec_capacity, IfErr, OnOk, OnErr};
+//! only its listener can refuse one. A line's capacity is no part of its value, and no method could hand it on to the next: hence
+//! these are functions over the parts.
+ghost use Rattle.std.specs.Prelude.{◌≡◌, ◌+◌, ◌-◌, ◌≤◌, Bool, max, [], ◌∷◌, count_by, length, slice_range, vec_len, vec_capacity, IfErr, OnOk, OnErr};
 ghost use Rattle.std.specs.String.{string_bytes, string_len, string_capacity};
 ghost use Rattle.std.specs.List.{insert_slice, remove_range, replace_range};
 ghost use Rattle.std.specs.Str.{IsCharBoundary};
@@ -10,7 +10,7 @@ ghost use Rattle.rl_base.specs.Event.{InsertStr, Delete};
 ghost use Rattle.rl_base.specs.Lines.{is_newline};
 ghost use Rattle.rl_line.specs.Edits.{exchange_plan};
 ghost use Rattle.rl_line.specs.Line.{IsLine, line_of};
-ghost use Rattle.rl_line.specs.LineStarts.{IsTable};
+ghost use Rattle.rl_line.specs.LineStarts.{IsTable, count_swapped};
 ghost use Rattle.rl_line.specs.Plan.{Taken, Halted, heard_step};
 
 use crate::line_starts::LineStarts;
@@ -114,7 +114,7 @@ pub(crate) fn exchange_steps<L: ChangeListener>(
     requires come { come ≡ count_by is_newline part.now }
     requires boundary { IsCharBoundary (replace_range (string_bytes text.old) range.start range.end part.now) cursor }
     requires room { (string_len text.old - (range.end - range.start)) + length part.now ≤ string_capacity text.old }
-    requires table_room { (vec_len starts.old.places - count_by is_newline (slice_range (string_bytes text.old) range.start range.end)) + count_by is_newline part.now ≤ vec_capacity starts.old.places }
+    requires table_room { count_swapped (vec_len starts.old.places) (string_bytes text.old) range.start range.end part.now ≤ vec_capacity starts.old.places }
     ensures line { IsLine (string_bytes text.new) starts.new.places.items starts.new.border pos.new limit.new }
     ensures taken { (grow : Bool) → let old = line_of (string_bytes text.old) pos.old limit.old grow in OnOk result (Taken L.step (exchange_plan old range between part.now cursor).steps old (line_of (string_bytes text.new) pos.new limit.new grow) listener.old listener.new) }
     ensures text { OnOk result (string_bytes text.new ≡ replace_range (string_bytes text.old) range.start range.end part.now) }
@@ -123,7 +123,7 @@ pub(crate) fn exchange_steps<L: ChangeListener>(
     ensures capacity { string_capacity text.old ≤ string_capacity text.new }
     ensures table_capacity { vec_capacity starts.old.places ≤ vec_capacity starts.new.places }
     ensures len { OnOk result (string_len text.new ≡ (string_len text.old - (range.end - range.start)) + length part.now) }
-    ensures count { OnOk result (vec_len starts.new.places ≡ (vec_len starts.old.places - count_by is_newline (slice_range (string_bytes text.old) range.start range.end)) + count_by is_newline part.now) }
+    ensures count { OnOk result (vec_len starts.new.places ≡ count_swapped (vec_len starts.old.places) (string_bytes text.old) range.start range.end part.now) }
 {
     let idx = range.start;
     deletion_step(

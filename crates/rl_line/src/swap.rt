@@ -6,7 +6,7 @@ ghost use Rattle.std.specs.Str.{IsCharBoundary};
 ghost use Rattle.rl_base.specs.Lines.{is_newline};
 ghost use Rattle.rl_base.specs.declared.listeners.Refusal.TheVariants.{NoMemory};
 ghost use Rattle.rl_base.specs.Event.{Replace};
-ghost use Rattle.rl_line.specs.LineStarts.{IsTable};
+ghost use Rattle.rl_line.specs.LineStarts.{IsTable, count_swapped};
 ghost use Rattle.rl_line.specs.Plan.{Grows};
 
 use crate::line_starts::{LineStarts, exchange_starts, newlines, newlines_of, swap_starts};
@@ -58,7 +58,7 @@ pub(crate) fn find_room_instead(
     ensures count { vec_len starts.new.places ≡ vec_len starts.old.places }
     ensures newlines { IfOk result (λ come. come ≡ count_by is_newline part.now) }
     ensures room { OnOk result ((string_len text.old - (to - from)) + length part.now ≤ string_capacity text.new) }
-    ensures table { OnOk result ((vec_len starts.old.places - count_by is_newline (slice_range (string_bytes text.old) from to)) + count_by is_newline part.now ≤ vec_capacity starts.new.places) }
+    ensures table { OnOk result (count_swapped (vec_len starts.old.places) (string_bytes text.old) from to part.now ≤ vec_capacity starts.new.places) }
     ensures err { IfErr result (λ r. (r ≡ NoMemory) × Grows (Replace from (slice_range (string_bytes text.old) from to) part.now)) }
 {
     let bytes = part.len().saturating_sub(to - from);
@@ -84,7 +84,7 @@ pub(crate) fn swap_in(
     requires table { IsTable starts.old.places.items starts.old.border (string_bytes text.old) }
     requires come { come ≡ count_by is_newline part.now }
     requires room { (string_len text.old - (to - from)) + length part.now ≤ string_capacity text.old }
-    requires table_room { (vec_len starts.old.places - count_by is_newline (slice_range (string_bytes text.old) from to)) + count_by is_newline part.now ≤ vec_capacity starts.old.places }
+    requires table_room { count_swapped (vec_len starts.old.places) (string_bytes text.old) from to part.now ≤ vec_capacity starts.old.places }
     ensures text { string_bytes text.new ≡ replace_range (string_bytes text.old) from to part.now }
     ensures table { IsTable starts.new.places.items starts.new.border (string_bytes text.new) }
     ensures end { result ≡ from + length part.now }
@@ -92,7 +92,7 @@ pub(crate) fn swap_in(
     ensures capacity { string_capacity text.old ≤ string_capacity text.new }
     ensures table_capacity { vec_capacity starts.old.places ≤ vec_capacity starts.new.places }
     ensures len { string_len text.new ≡ (string_len text.old - (to - from)) + length part.now }
-    ensures count { vec_len starts.new.places ≡ (vec_len starts.old.places - count_by is_newline (slice_range (string_bytes text.old) from to)) + count_by is_newline part.now }
+    ensures count { vec_len starts.new.places ≡ count_swapped (vec_len starts.old.places) (string_bytes text.old) from to part.now }
 {
     swap_starts(starts, text.as_str(), from, to, part, come);
     swap_text(text, from, to, part);

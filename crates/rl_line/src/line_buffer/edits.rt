@@ -1,10 +1,9 @@
 //! The edits that put a text in, or take a given range out, each generic over the listener that it tells.
-ghost use Rattle.std.specs.Prelude.{◌⊎◌, ◌≡◌, ◌+◌, ◌*◌, ◌-◌, ◌<◌, ◌≤◌, ◌∷◌, [], length, encode_utf8, IfOk, IfErr, OnOk, OnErr};
+ghost use Rattle.std.specs.Prelude.{◌≡◌, ◌+◌, ◌*◌, ◌-◌, ◌<◌, ◌≤◌, ◌∷◌, [], length, encode_utf8, IfOk, IfErr, OnOk, OnErr};
 ghost use Rattle.std.specs.Str.{IsCharBoundary};
 ghost use Rattle.std.specs.List.{insert_slice, remove_range, replace_range, repeat};
 ghost use Rattle.rl_base.specs.Event.{InsertStr};
-ghost use Rattle.rl_line.specs.Line.{stepped};
-ghost use Rattle.rl_line.specs.Plan.{Taken, Done, Halted, Uncopied, or_no_memory};
+ghost use Rattle.rl_line.specs.Plan.{Taken, Done, Halted, Stopped, or_no_memory};
 ghost use Rattle.rl_line.specs.Edits.{too_long, insert_event, insert_plan, insert_str_plan, yank_plan, yank_pop_plan, exchange_plan, cut_to_limit, update_plan, replace_plan, delete_range_plan};
 
 use crate::line_buffer::LineBuffer;
@@ -200,7 +199,7 @@ impl LineBuffer {
         ensures taken { OnOk result (Taken L.step (exchange_plan self.old range between text.now cursor).steps self.old self.new listener.old listener.new) }
         ensures text { OnOk result (self.new.text ≡ replace_range self.old.text range.start range.end text.now) }
         ensures cursor { OnOk result (self.new.cursor ≡ cursor) }
-        ensures halted { IfErr result (λ r. Halted L.step L.refused (exchange_plan self.old range between text.now cursor) self.old self.new listener.old listener.new r ⊎ Uncopied (exchange_plan self.old range between text.now cursor) self.old self.new listener.old listener.new r) }
+        ensures halted { IfErr result (λ r. Stopped L.step L.refused (exchange_plan self.old range between text.now cursor) self.old self.new listener.old listener.new r) }
     {
         let come = find_room_instead(
             &mut self.buf,

@@ -1,5 +1,5 @@
 //! Copying, deleting and killing by a movement.
-ghost use Rattle.std.specs.Prelude.{◌⊎◌, ◌≡◌, ◌<◌, ◌≤◌, ◌↔◌, length, OnErr, ◌∷◌, [], ℕ, List, true, Some, None, IfOk, IfErr, IsSome};
+ghost use Rattle.std.specs.Prelude.{◌≡◌, ◌<◌, ◌≤◌, ◌↔◌, length, OnErr, ◌∷◌, [], ℕ, List, true, Some, None, IfOk, IfErr, IsSome};
 ghost use Rattle.std.specs.Str.{IsCharBoundary};
 ghost use Rattle.std.specs.Option.{option_map};
 ghost use Rattle.std.specs.String.{string_bytes};
@@ -9,7 +9,7 @@ ghost use Rattle.rl_base.specs.declared.listeners.Refusal.TheVariants.{NoMemory}
 ghost use Rattle.rl_base.specs.declared.motion.Movement.{Movement};
 ghost use Rattle.rl_base.specs.declared.motion.Movement.TheVariants.{BeginningOfLine, EndOfLine, BackwardWord, ForwardWord, ViCharSearch, BackwardChar, BeginningOfBuffer, EndOfBuffer};
 ghost use Rattle.rl_line.specs.Line.{Line};
-ghost use Rattle.rl_line.specs.Plan.{Done, Halted, Uncopied, or_no_memory};
+ghost use Rattle.rl_line.specs.Plan.{Done, Halted, Stopped};
 ghost use Rattle.rl_line.specs.Kills.{Told, copied, delete_plan, is_by_characters, is_exact, kill_plan, side_of};
 ghost use Rattle.rl_line.specs.Ranges.{text_in};
 
@@ -52,7 +52,7 @@ impl LineBuffer {
         listener: &mut L,
     ) -> Result<Option<String>, Refusal>
         ensures done { IfOk result (λ answer. Done L.step (delete_plan self.old n) self.old self.new listener.old listener.new (option_map string_bytes answer)) }
-        ensures halted { IfErr result (λ r. Halted L.step L.refused (delete_plan self.old n) self.old self.new listener.old listener.new r ⊎ Uncopied (delete_plan self.old n) self.old self.new listener.old listener.new r) }
+        ensures halted { IfErr result (λ r. Stopped L.step L.refused (delete_plan self.old n) self.old self.new listener.old listener.new r) }
     {
         match self.covered(&Movement::ForwardChar(n)) {
             Some(range) => {

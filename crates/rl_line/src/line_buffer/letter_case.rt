@@ -1,7 +1,7 @@
 //! Editing the letters of a word.
-ghost use Rattle.std.specs.Prelude.{◌⊎◌, ◌≡◌, ◌<◌, ◌≤◌, min, length, string_bytes, IsAscii, IfSome, IfOk, IfErr, OnErr, OnOk};
+ghost use Rattle.std.specs.Prelude.{◌≡◌, ◌<◌, ◌≤◌, min, length, string_bytes, IsAscii, IfSome, IfOk, IfErr, OnErr, OnOk};
 ghost use Rattle.std.specs.Str.{IsCharBoundary};
-ghost use Rattle.rl_line.specs.Plan.{Done, Halted, Uncopied};
+ghost use Rattle.rl_line.specs.Plan.{Done, Stopped};
 ghost use Rattle.rl_base.specs.declared.motion.WordAction.TheVariants.{Capitalize};
 ghost use Rattle.rl_line.specs.LetterCase.{Maps, Recased, edit_word_plan, mapped, recased, word_ahead};
 ghost use Rattle.rl_line.specs.Transpositions.{end_of_cluster};
@@ -25,7 +25,7 @@ impl LineBuffer {
     ) -> Result<bool, Refusal>
         ensures done { IfOk result (λ answer. Recased self.old action (λ made. Done L.step (edit_word_plan self.old made) self.old self.new listener.old listener.new answer)) }
         ensures mapped { OnOk result (Maps self.old action self.new) }
-        ensures halted { IfErr result (λ r. Recased self.old action (λ made. Halted L.step L.refused (edit_word_plan self.old made) self.old self.new listener.old listener.new r ⊎ Uncopied (edit_word_plan self.old made) self.old self.new listener.old listener.new r)) }
+        ensures halted { IfErr result (λ r. Recased self.old action (λ made. Stopped L.step L.refused (edit_word_plan self.old made) self.old self.new listener.old listener.new r)) }
     {
         let at = self.pos();
         let Some(word) = self.word_ahead() else {

@@ -1,7 +1,7 @@
 //! Exchanging two clusters, and two words.
-ghost use Rattle.std.specs.Prelude.{◌⊎◌, ◌≡◌, ◌≤◌, true, option_and_then, IfSome, IfOk, IfErr, OnOk};
+ghost use Rattle.std.specs.Prelude.{◌≡◌, ◌≤◌, true, option_and_then, IfSome, IfOk, IfErr, OnOk};
 ghost use Rattle.std.specs.Str.{IsCharBoundary};
-ghost use Rattle.rl_line.specs.Plan.{Done, Halted, Uncopied};
+ghost use Rattle.rl_line.specs.Plan.{Done, Stopped};
 ghost use Rattle.rl_line.specs.Transpositions.{are_two, clusters_around, end_of_cluster, exchanged_text, first_word, meeting_place, pull_back_plan, SwapsClusters, second_word, swap_plan, transpose_chars_plan, transpose_words_plan, word_end, word_start};
 
 use crate::line_buffer::LineBuffer;
@@ -20,7 +20,7 @@ impl LineBuffer {
     /// was or without the second cluster.
     pub fn transpose_chars<L: ChangeListener>(&mut self, listener: &mut L) -> Result<bool, Refusal>
         ensures done { IfOk result (λ answer. Done L.step (transpose_chars_plan self.old) self.old self.new listener.old listener.new answer) }
-        ensures halted { IfErr result (λ r. Halted L.step L.refused (transpose_chars_plan self.old) self.old self.new listener.old listener.new r ⊎ Uncopied (transpose_chars_plan self.old) self.old self.new listener.old listener.new r) }
+        ensures halted { IfErr result (λ r. Stopped L.step L.refused (transpose_chars_plan self.old) self.old self.new listener.old listener.new r) }
         ensures swaps { IfOk result (λ answer. answer ≡ true → SwapsClusters self.old self.new) }
     {
         match self.meeting_clusters() {
@@ -45,7 +45,7 @@ impl LineBuffer {
         requires start { IsCharBoundary self.old.text after.start }
         requires end { IsCharBoundary self.old.text after.end }
         ensures done { IfOk result (λ answer. Done L.step (pull_back_plan self.old front after) self.old self.new listener.old listener.new answer) }
-        ensures halted { IfErr result (λ r. Halted L.step L.refused (pull_back_plan self.old front after) self.old self.new listener.old listener.new r ⊎ Uncopied (pull_back_plan self.old front after) self.old self.new listener.old listener.new r) }
+        ensures halted { IfErr result (λ r. Stopped L.step L.refused (pull_back_plan self.old front after) self.old self.new listener.old listener.new r) }
         ensures text { OnOk result (self.new.text ≡ exchanged_text self.old front after) }
     {
         let moved = self.text_of(&after)?;
@@ -111,7 +111,7 @@ impl LineBuffer {
         listener: &mut L,
     ) -> Result<bool, Refusal>
         ensures done { IfOk result (λ answer. Done L.step (transpose_words_plan self.old n) self.old self.new listener.old listener.new answer) }
-        ensures halted { IfErr result (λ r. Halted L.step L.refused (transpose_words_plan self.old n) self.old self.new listener.old listener.new r ⊎ Uncopied (transpose_words_plan self.old n) self.old self.new listener.old listener.new r) }
+        ensures halted { IfErr result (λ r. Stopped L.step L.refused (transpose_words_plan self.old n) self.old self.new listener.old listener.new r) }
     {
         let second = self.second_word(n);
         let first = self.first_word(second.start, n);
@@ -139,7 +139,7 @@ impl LineBuffer {
         requires second_start { IsCharBoundary self.old.text second.start }
         requires second_end { IsCharBoundary self.old.text second.end }
         ensures done { IfOk result (λ answer. Done L.step (swap_plan self.old first second) self.old self.new listener.old listener.new answer) }
-        ensures halted { IfErr result (λ r. Halted L.step L.refused (swap_plan self.old first second) self.old self.new listener.old listener.new r ⊎ Uncopied (swap_plan self.old first second) self.old self.new listener.old listener.new r) }
+        ensures halted { IfErr result (λ r. Stopped L.step L.refused (swap_plan self.old first second) self.old self.new listener.old listener.new r) }
     {
         // So the proof knows that this is UTF-8.
         let _text = self.as_str();
