@@ -1,7 +1,7 @@
 //! The steps of an edit over the parts of a line that has room for them: each reports its event, and then changes text, table and
 //! cursor, which can't fail any more. So an edit of several steps finds room for all of them before it takes the first, and then
-//! only its listener can refuse one. A line's capacity is no part of its value, and no method could hand it on to the next: hence
-//! these are functions over the parts.
+//! only its listener can refuse one. A line's capacity is no part of its value, so no method could promise it to the
+//! next: hence these are functions over the parts.
 ghost use Rattle.std.specs.Prelude.{◌≡◌, ◌+◌, ◌-◌, ◌≤◌, Bool, max, [], ◌∷◌, count_by, length, slice_range, vec_len, vec_capacity, IfErr, OnOk, OnErr};
 ghost use Rattle.std.specs.String.{string_bytes, string_len, string_capacity};
 ghost use Rattle.std.specs.List.{insert_slice, remove_range, replace_range};

@@ -111,36 +111,24 @@ pub(crate) fn swap_in_char(text: &mut String, starts: &mut LineStarts, at: usize
     ensures table { IsTable starts.new.places.items starts.new.border (string_bytes text.new) }
     ensures len { string_len text.new ≡ string_len text.old + length (encode_utf8 c) }
 {
-    let come = newlines_of(c);
-    if starts.stays(text.as_str(), at, at, come) {
-        put_char_in(text, at, c);
-        return;
+    if !starts.stays(text.as_str(), at, at, newlines_of(c)) {
+        exchange_encoded(starts, text.as_str(), at, c);
     }
-    swap_in_encoded(text, starts, at, c);
+    put_char_in(text, at, c);
 }
 
-// The same with the character encoded, for the table. Cold: mostly no newline is typed, and at the last change's place.
+// Makes the bytes of a character that goes in, for the table. Cold, since mostly no newline is typed, at the last change's place.
 #[cold]
 #[inline(never)]
-fn swap_in_encoded(text: &mut String, starts: &mut LineStarts, at: usize, c: char)
-    requires place { IsCharBoundary (string_bytes text.old) at }
-    requires table { IsTable starts.old.places.items starts.old.border (string_bytes text.old) }
-    requires room { string_len text.old + length (encode_utf8 c) ≤ string_capacity text.old }
-    requires table_room { vec_len starts.old.places + count_by is_newline (encode_utf8 c) ≤ vec_capacity starts.old.places }
-    ensures text { string_bytes text.new ≡ insert_slice (string_bytes text.old) at (encode_utf8 c) }
-    ensures table { IsTable starts.new.places.items starts.new.border (string_bytes text.new) }
-    ensures len { string_len text.new ≡ string_len text.old + length (encode_utf8 c) }
+fn exchange_encoded(starts: &mut LineStarts, text: &str, at: usize, c: char)
+    requires place { IsCharBoundary text.now at }
+    requires table { IsTable starts.old.places.items starts.old.border text.now }
+    requires room { vec_len starts.old.places + count_by is_newline (encode_utf8 c) ≤ vec_capacity starts.old.places }
+    ensures { IsTable starts.new.places.items starts.new.border (insert_slice text.now at (encode_utf8 c)) }
 {
     let mut bytes = [0; 4];
-    exchange_starts(
-        starts,
-        text.as_str(),
-        at,
-        at,
-        c.encode_utf8(&mut bytes),
-        newlines_of(c),
-    );
-    put_char_in(text, at, c);
+    let part = c.encode_utf8(&mut bytes);
+    exchange_starts(starts, text, at, at, part, newlines_of(c));
 }
 
 /// Replaces a range by a part, in a text that has room for the result.
