@@ -71,13 +71,6 @@ inserted front new rest v w =
     (ap Some (ap (λ x. (x ++ new) ++ drop (length front) (front ++ rest)) (take_at front rest (length front) refl)
     ∙ ap (λ x. (front ++ new) ++ x) (drop_at front rest (length front) refl) ∙ append_assoc front new rest))
 
-pub deleted : (front old rest : List ℕ) (side : Direction) → IsUtf8 old → IsUtf8 rest → apply (Delete (length front) old side) (front ++ (old ++ rest)) ≡ Some (front ++ rest)
-unfolding apply
-deleted front old rest side u w =
-    rw (stands front old rest u w)
-    (ap Some (ap (λ x. x ++ drop (length front + length old) (front ++ (old ++ rest))) (take_at front (old ++ rest) (length front) refl)
-    ∙ ap (λ x. front ++ x) (past front old rest)))
-
 -- an event that was applied swaps
 pub some_is : {A : Type 0} (o : Option A) (a : A) → o ≡ Some a → IsSome o
 some_is None a h = cc
@@ -148,11 +141,6 @@ apply-InsertStr-Swaps text after i s p =
     ap (λ k. apply (InsertStr k s) text) (sym p.place) ∙ ap (apply (InsertStr (length p.front) s)) p.text_is
     ∙ inserted p.front s p.rest p.new_utf8 p.rest_utf8 ∙ ap Some (sym p.after_is)
 
-pub apply-Delete-Swaps : (text after : List ℕ) (i : ℕ) (s : List ℕ) (side : Direction) → Swaps text after i s [] → apply (Delete i s side) text ≡ Some after
-apply-Delete-Swaps text after i s side p =
-    ap (λ k. apply (Delete k s side) text) (sym p.place) ∙ ap (apply (Delete (length p.front) s side)) p.text_is
-    ∙ deleted p.front s p.rest side p.old_utf8 p.rest_utf8 ∙ ap Some (sym p.after_is)
-
 pub apply-Replace-Swaps : (text after : List ℕ) (i : ℕ) (s t : List ℕ) → Swaps text after i s t → apply (Replace i s t) text ≡ Some after
 apply-Replace-Swaps text after i s t p =
     ap (λ k. apply (Replace k s t) text) (sym p.place) ∙ ap (apply (Replace (length p.front) s t)) p.text_is
@@ -202,20 +190,19 @@ Swaps-after x y z j i o w s t p q h =
       new_utf8 = IsUtf8-append w t p.new_utf8 q.new_utf8;
     }
 
--- a second deletion right before the first
-pub Swaps-before : (x y z : List ℕ) (j i : ℕ) (t s : List ℕ) → Swaps x y j t [] → Swaps y z i s [] → i + length s ≡ j → Swaps x z i (s ++ t) []
-Swaps-before x y z j i t s p q h =
+-- a deletion right before what the first put in
+pub Swaps-before : (x y z : List ℕ) (j i : ℕ) (o w s : List ℕ) → Swaps x y j o w → Swaps y z i s [] → i + length s ≡ j → Swaps x z i (s ++ o) w
+Swaps-before x y z j i o w s p q h =
     let n : length (q.front ++ s) ≡ length p.front = length-append q.front s ∙ ap (λ k. k + length s) q.place ∙ h ∙ sym p.place in
-    let both = cut_alike (q.front ++ s) q.rest p.front p.rest (append_assoc q.front s q.rest ∙ sym q.text_is ∙ p.after_is) n in
+    let both = cut_alike (q.front ++ s) q.rest p.front (w ++ p.rest) (append_assoc q.front s q.rest ∙ sym q.text_is ∙ p.after_is) n in
     record {
       front = q.front;
-      rest = q.rest;
-      text_is = p.text_is ∙ ap (λ f. f ++ (t ++ p.rest)) (sym both.0) ∙ ap (λ r. (q.front ++ s) ++ (t ++ r)) (sym both.1)
-          ∙ append_assoc q.front s (t ++ q.rest) ∙ ap (λ r. q.front ++ r) (sym (append_assoc s t q.rest));
-      after_is = q.after_is;
+      rest = p.rest;
+      text_is = p.text_is ∙ ap (λ f. f ++ (o ++ p.rest)) (sym both.0) ∙ append_assoc q.front s (o ++ p.rest) ∙ ap (λ r. q.front ++ r) (sym (append_assoc s o p.rest));
+      after_is = q.after_is ∙ ap (λ r. q.front ++ r) both.1;
       place = q.place;
       front_utf8 = q.front_utf8;
-      rest_utf8 = q.rest_utf8;
-      old_utf8 = IsUtf8-append s t q.old_utf8 p.old_utf8;
-      new_utf8 = q.new_utf8;
+      rest_utf8 = p.rest_utf8;
+      old_utf8 = IsUtf8-append s o q.old_utf8 p.old_utf8;
+      new_utf8 = p.new_utf8;
     }

@@ -1,21 +1,20 @@
 -- What stands in a text where it can go over an entry.
-use Rattle.std.proofs.Common.{◌≡◌, ℕ, ◌+◌, ◌-◌, ◌<◌, ◌≤◌, Bool, true, false, List, [], ◌∷◌, ◌++◌, length, take, drop, get_or, map, reverse, slice_range, Option, Some, None, refl, sym, ap, subst, ◌∙◌, arith, append-nil}
+use Rattle.std.proofs.Common.{◌≡◌, ℕ, ◌+◌, ◌<◌, ◌≤◌, Bool, true, false, List, [], ◌∷◌, ◌++◌, length, take, get_or, map, reverse, slice_range, Option, Some, None, refl, sym, ap, subst, ◌∙◌, arith}
 use Rattle.std.proofs.lemmas.Grind.{take_at_read}
 use Rattle.std.proofs.lemmas.List.{length-reverse, map-append, reverse-append}
-use Rattle.std.proofs.lemmas.Str.{IsUtf8-nil, is_utf8-from_IsUtf8}
+use Rattle.std.proofs.lemmas.Str.{is_utf8-from_IsUtf8}
 use Rattle.std.specs.Prelude.{◌&&◌, IsSome, cond, is_some, option_and_then}
 use Rattle.std.specs.List.{replace_range}
 use Rattle.std.specs.Option.{option_map_or}
 use Rattle.std.specs.Str.{IsCharBoundary, IsUtf8, bytes_eq, is_utf8}
-use Rattle.rl_base.specs.declared.listeners.Direction.TheVariants.{Forward}
 use Rattle.rl_base.specs.Event.{apply}
 use Rattle.rl_base.specs.Text.{fits_at, is_boundary, stands_at}
 use Rattle.rl_base.proofs.TextLemmas.{is_boundary-means, is_boundary-true, stands_at-means}
-use Rattle.rl_base.proofs.EventLemmas.{Deletes-from_IsSome, Inserts-from_IsSome, Replaces-from_IsSome}
+use Rattle.rl_base.proofs.EventLemmas.{Replaces-from_IsSome}
 use Rattle.rl_line.specs.declared.change.Change.{Change}
 use Rattle.rl_line.specs.declared.change.Way.{Way}
 use Rattle.rl_line.specs.declared.change.Way.TheVariants.{Back, Ahead}
-use Rattle.rl_line.specs.Record.{Entry, Begin, End, Inserted, Deleted, Replaced, entry_of, event_of, inverse, new_text, old_text, unwind}
+use Rattle.rl_line.specs.Record.{Entry, Begin, End, Changed, entry_of, event_of, inverse, new_text, old_text, unwind}
 use Rattle.rl_line.specs.Undo.{cursor_told, place_after}
 use Rattle.rl_line.proofs.RecordLemmas.{then_both, then_some}
 use Rattle.rl_line.specs.Change.{cursor_stands, faced, order, place, text_after, text_back}
@@ -30,46 +29,28 @@ pub record StandsNew (e : Entry) (text : List ℕ) (at : ℕ) : Type 0 where
 pub StandsNew-from_IsSome : (e : Entry) (text : List ℕ) (at : ℕ) → place e ≡ Some at → IsSome (apply (event_of (inverse e)) text) → StandsNew e text at
 StandsNew-from_IsSome Begin text at p h = cc
 StandsNew-from_IsSome End text at p h = cc
-StandsNew-from_IsSome (Inserted i s ps) text at p h =
-    let same : i ≡ at = cc in
-    let d = Deletes-from_IsSome text i s Forward h in
-    subst (λ k. StandsNew (Inserted i s ps) text k) same
-    (record { start = d.stands.start; end = d.stands.end; bytes = d.stands.bytes; makes = d.makes ∙ ap (λ x. Some (x ++ drop (i + length s) text)) (sym (append-nil (take i text))) })
-StandsNew-from_IsSome (Deleted i s ps) text at p h =
-    let same : i ≡ at = cc in
-    let d = Inserts-from_IsSome text i s h in
-    let here : i ≡ i + 0 = omega arith in
-    let none : i + 0 - i ≡ 0 = omega arith in
-    subst (λ k. StandsNew (Deleted i s ps) text k) same
-    (record { start = d.fits.place; end = subst (IsCharBoundary text) here d.fits.place; bytes = ap (λ n. take n (drop i text)) none; makes = d.makes ∙ ap (λ k. Some ((take i text ++ s) ++ drop k text)) here })
-StandsNew-from_IsSome (Replaced i s t ps) text at p h =
-    let same : i ≡ at = cc in
-    let d = Replaces-from_IsSome text i t s h in
-    subst (λ k. StandsNew (Replaced i s t ps) text k) same (record { start = d.stands.start; end = d.stands.end; bytes = d.stands.bytes; makes = d.makes })
+StandsNew-from_IsSome (Changed k c) text at p h =
+    let same : c.place ≡ at = cc in
+    let d = Replaces-from_IsSome text c.place c.new c.old h in
+    subst (λ j. StandsNew (Changed k c) text j) same (record { start = d.stands.start; end = d.stands.end; bytes = d.stands.bytes; makes = d.makes })
 
 -- a mark leaves the text
 pub mark-leaves : (e : Entry) (text : List ℕ) → place e ≡ None → apply (event_of (inverse e)) text ≡ Some text
 unfolding apply
 mark-leaves Begin text p = refl
 mark-leaves End text p = refl
-mark-leaves (Inserted i s ps) text p = cc
-mark-leaves (Deleted i s ps) text p = cc
-mark-leaves (Replaced i s t ps) text p = cc
+mark-leaves (Changed k c) text p = cc
 
 place-inverse : (e : Entry) → place (inverse e) ≡ place e
 place-inverse Begin = refl
 place-inverse End = refl
-place-inverse (Inserted i s ps) = refl
-place-inverse (Deleted i s ps) = refl
-place-inverse (Replaced i s t ps) = refl
+place-inverse (Changed k c) = refl
 
 -- where the cursor goes where an entry is taken back, if it was not told
 pub place_after-is : (e : Entry) (at cursor : ℕ) → place e ≡ Some at → place_after cursor (inverse e) ≡ at + length (old_text e)
 place_after-is Begin at cursor p = cc
 place_after-is End at cursor p = cc
-place_after-is (Inserted i s ps) at cursor p = let same : i ≡ at = cc in omega arith
-place_after-is (Deleted i s ps) at cursor p = let same : i ≡ at = cc in ap (λ k. k + length s) same
-place_after-is (Replaced i s t ps) at cursor p = let same : i ≡ at = cc in ap (λ k. k + length s) same
+place_after-is (Changed k c) at cursor p = let same : c.place ≡ at = cc in ap (λ j. j + length c.old) same
 
 -- both ways the place is the same
 pub place-faced : (way : Way) (change : Change) → place (faced way change) ≡ place (entry_of change)
@@ -85,33 +66,14 @@ right_true : (a b : Bool) → b ≡ true → (a && b) ≡ a
 right_true true b e = e
 right_true false b e = refl
 
-nothing-stands : (text : List ℕ) (i : ℕ) → stands_at text i [] ≡ is_boundary text i
-unfolding stands_at
-nothing-stands text i =
-    let here : i + 0 ≡ i = omega arith in
-    let none : i - i ≡ 0 = omega arith in
-    ap (λ b. b && (is_boundary text i && (is_boundary text (i + 0) && bytes_eq (slice_range text i (i + 0)) []))) (is_utf8-from_IsUtf8 [] IsUtf8-nil)
-    ∙ ap (λ k. is_boundary text i && (is_boundary text k && bytes_eq (slice_range text i k) [])) here
-    ∙ ap (λ k. is_boundary text i && (is_boundary text i && bytes_eq (take k (drop i text)) [])) none ∙ twice (is_boundary text i)
-  where
-    twice : (b : Bool) → (b && (b && true)) ≡ b
-    twice true = refl
-    twice false = refl
-
 -- it can where the new text stands at the place
 pub fits-is : (e : Entry) (text : List ℕ) (at : ℕ) → place e ≡ Some at → IsUtf8 (old_text e) → is_some (apply (event_of (inverse e)) text) ≡ stands_at text at (new_text e)
 unfolding apply fits_at
 fits-is Begin text at p u = cc
 fits-is End text at p u = cc
-fits-is (Inserted i s ps) text at p u =
-    let same : i ≡ at = cc in
-    tested (stands_at text i s) _ ∙ ap (λ k. stands_at text k s) same
-fits-is (Deleted i s ps) text at p u =
-    let same : i ≡ at = cc in
-    tested (fits_at text i s) _ ∙ ap (λ b. b && is_boundary text i) (is_utf8-from_IsUtf8 s u) ∙ sym (nothing-stands text i) ∙ ap (λ k. stands_at text k []) same
-fits-is (Replaced i s t ps) text at p u =
-    let same : i ≡ at = cc in
-    tested (stands_at text i t && is_utf8 s) _ ∙ right_true (stands_at text i t) (is_utf8 s) (is_utf8-from_IsUtf8 s u) ∙ ap (λ k. stands_at text k t) same
+fits-is (Changed k c) text at p u =
+    let same : c.place ≡ at = cc in
+    tested (stands_at text c.place c.new && is_utf8 c.old) _ ∙ right_true (stands_at text c.place c.new) (is_utf8 c.old) (is_utf8-from_IsUtf8 c.old u) ∙ ap (λ j. stands_at text j c.new) same
 
 -- what stands between two boundaries is told by its bytes
 pub stands_at-is : (text : List ℕ) (i : ℕ) (s : List ℕ) → IsUtf8 s → IsCharBoundary text i → IsCharBoundary text (i + length s) → stands_at text i s ≡ bytes_eq (slice_range text i (i + length s)) s

@@ -2,7 +2,7 @@
 use Rattle.std.proofs.Common.{◌≡◌, ℕ, ◌+◌, ◌-◌, suc, arith, Bool, true, false, List, [], ◌∷◌, length, length-append, take, reverse, Some, refl, sym, ap, subst, ◌∙◌}
 use Rattle.std.proofs.lemmas.List.{reverse-append, reverse-reverse}
 use Rattle.std.specs.Prelude.{zero, max}
-use Rattle.rl_line.specs.Record.{Entry, Begin, End, Inserted, Deleted, Replaced}
+use Rattle.rl_line.specs.Record.{Entry, Begin, End, Changed}
 use Rattle.rl_line.specs.Units.{UndoUnit, Open, Whole, units, together, level, last_of, redo_from, redo_of, touched, marks, IsMatched}
 use Rattle.rl_line.specs.Entries.{deep}
 use Rattle.rl_line.proofs.Counts.{back_len, ahead_len}
@@ -57,9 +57,7 @@ marks-deep (End ∷ es) (false ∷ fs) gs h = cc
 marks-deep (End ∷ es) (true ∷ fs) gs h =
     let one : length (touched fs) ≡ suc (length fs) - 1 = length-touched fs ∙ (omega arith) in
     marks-deep es (touched fs) gs h ∙ ap (λ d. deep d es) one
-marks-deep (Inserted i s ps ∷ es) fs gs h = marks-deep es (touched fs) gs h ∙ ap (λ d. deep d es) (length-touched fs)
-marks-deep (Deleted i s ps ∷ es) fs gs h = marks-deep es (touched fs) gs h ∙ ap (λ d. deep d es) (length-touched fs)
-marks-deep (Replaced i s t ps ∷ es) fs gs h = marks-deep es (touched fs) gs h ∙ ap (λ d. deep d es) (length-touched fs)
+marks-deep (Changed k c ∷ es) fs gs h = marks-deep es (touched fs) gs h ∙ ap (λ d. deep d es) (length-touched fs)
 
 -- the level counts the groups that are opened and not closed
 pub level-counted : (es : List Entry) → IsMatched es → level es ≡ deep 0 es

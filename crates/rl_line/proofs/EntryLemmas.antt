@@ -5,7 +5,7 @@ use Rattle.std.proofs.lemmas.List.{map-append, reverse-append, drop_all}
 use Rattle.std.specs.Prelude.{zero, max, slice_get, cond, IsSome, Bool, true, false, not, ◌||◌, Option, Some, None}
 use Rattle.std.specs.Option.{option_to_list}
 use Rattle.rl_line.specs.declared.change.Change.{Change}
-use Rattle.rl_line.specs.Record.{Entry, Begin, End, Inserted, Deleted, Replaced, entry_of}
+use Rattle.rl_line.specs.Record.{Entry, Begin, End, Changed, entry_of}
 use Rattle.rl_line.specs.Units.{last_of, redo_of, adds_end, end_one, end_times, ends_in_begin, is_begin, is_change, IsMatched}
 use Rattle.rl_line.specs.Entries.{deep}
 use Rattle.rl_line.proofs.Counts.{ahead_len, back_len}
@@ -74,9 +74,7 @@ pub deep-append : (d : ℕ) (xs ys : List Entry) → deep d (xs ++ ys) ≡ deep 
 deep-append d [] ys = refl
 deep-append d (Begin ∷ xs) ys = deep-append (suc d) xs ys
 deep-append d (End ∷ xs) ys = deep-append (d - 1) xs ys
-deep-append d (Inserted i s ps ∷ xs) ys = deep-append d xs ys
-deep-append d (Deleted i s ps ∷ xs) ys = deep-append d xs ys
-deep-append d (Replaced i s t ps ∷ xs) ys = deep-append d xs ys
+deep-append d (Changed k c ∷ xs) ys = deep-append d xs ys
 
 -- with the entry at i
 pub deep-next : (xs : List Change) (i n : ℕ) (x : Change) → i < length xs → x ≡ get_or xs i x → n ≡ deep 0 (map entry_of (take i xs))
@@ -98,12 +96,8 @@ ahead-step (suc d) Begin rs = refl
 ahead-step zero End rs = refl
 ahead-step (suc zero) End rs = refl
 ahead-step (suc (suc d)) End rs = let one : suc d ≡ suc (suc d) - 1 = omega arith in ap (λ k. suc (rest_len k rs)) one
-ahead-step zero (Inserted i s ps) rs = refl
-ahead-step (suc d) (Inserted i s ps) rs = refl
-ahead-step zero (Deleted i s ps) rs = refl
-ahead-step (suc d) (Deleted i s ps) rs = refl
-ahead-step zero (Replaced i s t ps) rs = refl
-ahead-step (suc d) (Replaced i s t ps) rs = refl
+ahead-step zero (Changed k c) rs = refl
+ahead-step (suc d) (Changed k c) rs = refl
 
 -- the first `at` entries were counted: so many groups are open after them, and the whole unit has as many entries as these and what is left of it
 pub record Counted (xs : List Change) (at d : ℕ) : Type 0 where

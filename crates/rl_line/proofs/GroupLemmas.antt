@@ -2,7 +2,7 @@
 use Rattle.std.proofs.Common.{◌≡◌, ℕ, ◌+◌, suc, Bool, true, false, List, [], ◌∷◌, ◌++◌, length, drop, Some, refl, sym, ap, subst, ◌∙◌, arith, append-nil, append_assoc, add-zero}
 use Rattle.std.specs.Prelude.{IsSome, zero, not, ◌||◌}
 use Rattle.rl_base.specs.Event.{Event, InsertChar, InsertStr, Delete, Replace, Start, Stop, Cursors}
-use Rattle.rl_line.specs.Record.{Entry, Begin, End, Inserted, Deleted, Replaced, Record, entries_after, record_step, last_told}
+use Rattle.rl_line.specs.Record.{Entry, Begin, End, Changed, Record, entries_after, record_step, last_told}
 use Rattle.rl_line.specs.Units.{UndoUnit, Open, Whole, close, units, together, opens, level, has_change, is_change, end_one, end_times, ends_in_begin, adds_end, begun, ended, marks, mark, IsMatched, GroupAt, InGroup, Hears, Begins, after_in_group}
 use Rattle.rl_line.proofs.RecordLemmas.{value_of}
 use Rattle.rl_line.proofs.UnitLemmas.{AllGood, AllGood-left, or_true, together-append, Settles, flags_on, cut_good, cut_more-append, good_cuts, units-good, together-units, IsMatched-front, IsMatched-together}
@@ -29,9 +29,7 @@ stays_quiet (Begin ∷ es) fs gs c q h = stays_quiet es (false ∷ fs) gs c q h
 stays_quiet (End ∷ es) [] gs c q h = cc
 stays_quiet (End ∷ es) (false ∷ fs) gs c q h = cc
 stays_quiet (End ∷ es) (true ∷ fs) gs c q h = cc
-stays_quiet (Inserted i s ps ∷ es) fs gs c q h = cc
-stays_quiet (Deleted i s ps ∷ es) fs gs c q h = cc
-stays_quiet (Replaced i s t ps ∷ es) fs gs c q h = cc
+stays_quiet (Changed k s ∷ es) fs gs c q h = cc
 
 Settles-change : (es : List Entry) → Settles es → has_change es ≡ true
 unfolding quiet
@@ -115,9 +113,7 @@ all_begins (Begin ∷ es) fs c q h = ap (λ x. Begin ∷ x) (all_begins es (fals
 all_begins (End ∷ es) [] c q h = cc
 all_begins (End ∷ es) (false ∷ fs) c q h = cc
 all_begins (End ∷ es) (true ∷ fs) c q h = cc
-all_begins (Inserted i s ps ∷ es) fs c q h = cc
-all_begins (Deleted i s ps ∷ es) fs c q h = cc
-all_begins (Replaced i s t ps ∷ es) fs c q h = cc
+all_begins (Changed k s ∷ es) fs c q h = cc
 
 -- a Begin at the end is what an end takes off
 end_one-begin : (es : List Entry) → end_one (es ++ Begin ∷ []) ≡ es
@@ -129,14 +125,10 @@ ends_in_begin-begin : (es : List Entry) → ends_in_begin (es ++ Begin ∷ []) �
 ends_in_begin-begin [] = refl
 ends_in_begin-begin (Begin ∷ []) = refl
 ends_in_begin-begin (End ∷ []) = refl
-ends_in_begin-begin (Inserted i s ps ∷ []) = refl
-ends_in_begin-begin (Deleted i s ps ∷ []) = refl
-ends_in_begin-begin (Replaced i s t ps ∷ []) = refl
+ends_in_begin-begin (Changed k c ∷ []) = refl
 ends_in_begin-begin (Begin ∷ (d ∷ ds)) = ends_in_begin-begin (d ∷ ds)
 ends_in_begin-begin (End ∷ (d ∷ ds)) = ends_in_begin-begin (d ∷ ds)
-ends_in_begin-begin (Inserted i s ps ∷ (d ∷ ds)) = ends_in_begin-begin (d ∷ ds)
-ends_in_begin-begin (Deleted i s ps ∷ (d ∷ ds)) = ends_in_begin-begin (d ∷ ds)
-ends_in_begin-begin (Replaced i s t ps ∷ (d ∷ ds)) = ends_in_begin-begin (d ∷ ds)
+ends_in_begin-begin (Changed k c ∷ (d ∷ ds)) = ends_in_begin-begin (d ∷ ds)
 
 -- groups opened after entries: how many are open, and what their ends do
 record OpenAfter (es : List Entry) (n : ℕ) (all : List Entry) : Type 0 where

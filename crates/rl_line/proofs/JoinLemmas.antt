@@ -13,7 +13,7 @@ use Rattle.rl_base.specs.declared.listeners.Direction.TheVariants.{Forward}
 use Rattle.rl_base.specs.declared.listeners.Refusal.{Refusal}
 use Rattle.rl_base.specs.declared.listeners.Refusal.TheVariants.{NoMemory}
 use Rattle.rl_line.specs.declared.change.Change.{Change}
-use Rattle.rl_line.specs.Record.{Entry, Begin, End, Inserted, Deleted, Replaced, Record, cursors_of, entries_after, entries_of, entry_of, freshness_added, freshness_joined, freshness_of, joined, last_told, record_step, with_cursors}
+use Rattle.rl_line.specs.Record.{Insertion, Deletion, Replacement, Entry, Begin, End, Changed, Record, cursors_of, entries_after, entries_of, entry_of, freshness_added, freshness_joined, freshness_of, joined, last_told, record_step, with_cursors}
 use Rattle.rl_line.specs.declared.change.Freshness.{Freshness}
 use Rattle.rl_line.specs.declared.change.Freshness.TheVariants.{Stale}
 use Rattle.rl_line.specs.Change.{TakesIn}
@@ -157,18 +157,18 @@ pub fresh-InsertStr-nothing : (es : List Entry) (i : ℕ) (s : List ℕ) → len
 unfolding entries_of
 fresh-InsertStr-nothing es i s e = ap (λ (t : List ℕ). freshness_of (InsertStr i t) es) (nil_from_length s e) ∙ fresh-InsertStr es i []
 
-joins-nothing : (i : ℕ) (side : Direction) (e : Entry) → joined (Delete i [] side) e ≡ None
+joined-nothing : (i : ℕ) (side : Direction) (e : Entry) → joined (Delete i [] side) e ≡ None
 unfolding segments cut chars
-joins-nothing i side Begin = refl
-joins-nothing i side End = refl
-joins-nothing i side (Inserted j t ps) = refl
-joins-nothing i side (Deleted j t ps) = refl
-joins-nothing i side (Replaced j o w ps) = refl
+joined-nothing i side Begin = refl
+joined-nothing i side End = refl
+joined-nothing i side (Changed Insertion c) = refl
+joined-nothing i side (Changed Deletion c) = refl
+joined-nothing i side (Changed Replacement c) = refl
 
 pub fresh-Delete-nothing : (es : List Entry) (i : ℕ) (s : List ℕ) (side : Direction) → length s ≡ 0 → freshness_of (Delete i s side) es ≡ Stale
 unfolding entries_of
 fresh-Delete-nothing es i s side e =
-    ap (λ (t : List ℕ). freshness_of (Delete i t side) es) (nil_from_length s e) ∙ fresh-alone (Delete i [] side) (joins-nothing i side) es
+    ap (λ (t : List ℕ). freshness_of (Delete i t side) es) (nil_from_length s e) ∙ fresh-alone (Delete i [] side) (joined-nothing i side) es
 
 pub after-InsertStr : (es : List Entry) (i : ℕ) (s : List ℕ) → entries_after (InsertStr i s) es ≡ es ++ entries_of (InsertStr i s)
 after-InsertStr es i s = added (InsertStr i s) (λ e. refl) es
@@ -180,15 +180,11 @@ after-InsertStr-nothing es i s e = ap (λ (t : List ℕ). entries_after (InsertS
 pub after-Delete-nothing : (es : List Entry) (i : ℕ) (s : List ℕ) (side : Direction) → length s ≡ 0 → entries_after (Delete i s side) es ≡ es
 unfolding entries_of
 after-Delete-nothing es i s side e =
-    ap (λ (t : List ℕ). entries_after (Delete i t side) es) (nil_from_length s e) ∙ added (Delete i [] side) (joins-nothing i side) es ∙ append-nil es
+    ap (λ (t : List ℕ). entries_after (Delete i t side) es) (nil_from_length s e) ∙ added (Delete i [] side) (joined-nothing i side) es ∙ append-nil es
 
 -- ---- the side from which a text is taken is not recorded
 joined-side : (i : ℕ) (s : List ℕ) (side : Direction) (e : Entry) → joined (Delete i s Forward) e ≡ joined (Delete i s side) e
-joined-side i s side Begin = refl
-joined-side i s side End = refl
-joined-side i s side (Inserted j t ps) = refl
-joined-side i s side (Deleted j t ps) = refl
-joined-side i s side (Replaced j o w ps) = refl
+joined-side i s side e = refl
 
 after-side : (i : ℕ) (s : List ℕ) (side : Direction) (es : List Entry) → entries_after (Delete i s Forward) es ≡ entries_after (Delete i s side) es
 unfolding entries_of

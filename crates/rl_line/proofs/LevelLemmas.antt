@@ -1,42 +1,25 @@
 -- The level: how many groups are open after each call, counted over the entries that it moves or drops alone.
-use Rattle.std.proofs.Common.{◌≡◌, ℕ, ◌+◌, ◌-◌, ◌<◌, ◌≤◌, suc, arith, Bool, true, false, cond, List, [], ◌∷◌, ◌++◌, length, take, drop, take_all, get_or, map, Option, Some, None, refl, sym, ap, subst, ◌∙◌, leb, inl, inr, length-take}
+use Rattle.std.proofs.Common.{◌≡◌, ℕ, ◌+◌, ◌-◌, ◌<◌, ◌≤◌, suc, arith, Bool, true, false, List, [], ◌∷◌, ◌++◌, length, take, drop, take_all, get_or, map, Option, Some, None, refl, sym, ap, subst, ◌∙◌, leb, inl, inr, length-take}
 use Rattle.std.proofs.lemmas.Bool.{leb-true, leb-false}
 use Rattle.std.proofs.lemmas.Grind.{take_at_read}
 use Rattle.std.proofs.lemmas.List.{length-map, map-append, take-append-drop, take-map}
 use Rattle.std.specs.Option.{option_map_or}
-use Rattle.std.specs.Prelude.{◌&&◌, ◌==◌, encode_utf8, max, not}
-use Rattle.rl_base.specs.Event.{Event, InsertChar, Delete, Replace}
-use Rattle.rl_base.specs.Classes.{is_alphanumeric, is_word_cluster}
+use Rattle.std.specs.Prelude.{max}
+use Rattle.rl_base.specs.Event.{Event}
 use Rattle.rl_line.specs.declared.change.Change.{Change}
-use Rattle.rl_line.specs.Record.{Entry, Begin, End, Inserted, Deleted, Replaced, Record, entries_after, entries_of, entry_of, joined, record_step, recorded_after}
+use Rattle.rl_line.specs.Record.{Entry, Begin, End, Changed, Record, entries_after, entries_of, entry_of, joined, record_step, recorded_after}
 use Rattle.rl_line.specs.Units.{AtLevel, IsMatched, begun, ended, is_change, kept_of, last_of, level, mark, marks, opens, redo_of, redone, touched, truncated, undone, units}
 use Rattle.rl_line.specs.Entries.{deep}
 use Rattle.rl_line.proofs.CountLemmas.{level-counted}
 use Rattle.rl_line.proofs.EntryLemmas.{deep-append}
 use Rattle.rl_line.proofs.MatchLemmas.{AllGood-take, BothMatched-begun, BothMatched-ended, BothMatched-redone, BothMatched-step, BothMatched-truncated, BothMatched-undone, Lower-end_times, Redoes-of, length-touched, level-is, marks-last}
-use Rattle.rl_line.proofs.RecordLemmas.{entries_of-cases, if_else, if_some, unless, value_of}
+use Rattle.rl_line.proofs.RecordLemmas.{joins, none_or_one, value_of}
 use Rattle.rl_line.proofs.UnitLemmas.{IsMatched-front, IsMatched-together, cut_more-append, kept-last, opens-append, units-append, units-good}
 use Rattle.rl_line.proofs.ToldLemmas.{recorded-cases, last_told-deep}
 
 -- ---- an event
 deep-entries_of : (event : Event) (d : ℕ) → deep d (entries_of event) ≡ d
-deep-entries_of event d = entries_of-cases (λ es. deep d es ≡ d) event refl (λ i s. refl) (λ i s. refl) (λ i s t. refl)
-
--- what joins is a change, and so is what it joins
-deep-joint : (event : Event) (e joint : Entry) (d : ℕ) → joined event e ≡ Some joint → deep d (joint ∷ []) ≡ deep d (e ∷ [])
-deep-joint (InsertChar i c) (Inserted j s ps) joint d h =
-    let b = if_some (is_alphanumeric c && (j + length s == i)) (Inserted j (s ++ encode_utf8 c) None) joint h in
-    subst (λ k. deep d (k ∷ []) ≡ d) b.1 refl
-deep-joint (Delete i s side) (Deleted j t ps) joint d h =
-    let before = cond (i + length s == j) (Some (Deleted i (s ++ t) None)) None in
-    elim (if_else (j == i) (Deleted i (t ++ s) None) joint before (unless (not (is_word_cluster s)) joint (cond (j == i) (Some (Deleted i (t ++ s) None)) before) h)) [
-      | inl b ↦ subst (λ k. deep d (k ∷ []) ≡ d) b.1 refl
-      | inr k ↦ subst (λ k. deep d (k ∷ []) ≡ d) (if_some (i + length s == j) (Deleted i (s ++ t) None) joint k).1 refl
-    ]
-deep-joint (Replace i s t) (Replaced j o w ps) joint d h =
-    let b = if_some (j + length w == i) (Replaced j (o ++ s) (w ++ t) None) joint h in
-    subst (λ k. deep d (k ∷ []) ≡ d) b.1 refl
-deep-joint event e joint d h = cc
+deep-entries_of event d = elim (none_or_one event) [ inl none ↦ ap (deep d) none | inr (k, c, one) ↦ ap (deep d) one ]
 
 -- no event is a mark
 deep-after : (event : Event) (es : List Entry) (d : ℕ) → deep d (entries_after event es) ≡ deep d es
@@ -45,7 +28,7 @@ deep-after event (e ∷ []) d = from (joined event e) refl
   where
     from : (o : Option Entry) → joined event e ≡ o → deep d (option_map_or (λ joint. joint ∷ []) o (e ∷ entries_of event)) ≡ deep d (e ∷ [])
     from None j = deep-append d (e ∷ []) (entries_of event) ∙ deep-entries_of event (deep d (e ∷ []))
-    from (Some joint) j = deep-joint event e joint d j
+    from (Some joint) j = let b = joins event e joint j in subst (λ k. deep d (k ∷ []) ≡ deep d (e ∷ [])) b.is (ap (λ k. deep d (k ∷ [])) (sym b.was))
 deep-after event (e ∷ (f ∷ fs)) d =
     deep-append d (e ∷ []) (entries_after event (f ∷ fs)) ∙ deep-after event (f ∷ fs) (deep d (e ∷ [])) ∙ sym (deep-append d (e ∷ []) (f ∷ fs))
 
@@ -77,9 +60,7 @@ deep-within : (d : ℕ) (es : List Entry) → deep d es ≤ d + length es
 deep-within d [] = omega arith
 deep-within d (Begin ∷ es) = omega (arith, deep-within (suc d) es)
 deep-within d (End ∷ es) = omega (arith, deep-within (d - 1) es)
-deep-within d (Inserted i s ps ∷ es) = omega (arith, deep-within d es)
-deep-within d (Deleted i s ps ∷ es) = omega (arith, deep-within d es)
-deep-within d (Replaced i s t ps ∷ es) = omega (arith, deep-within d es)
+deep-within d (Changed k c ∷ es) = omega (arith, deep-within d es)
 
 -- no more groups are open than there are entries
 pub level-within : (es : List Entry) → IsMatched es → level es ≤ length es
@@ -172,9 +153,7 @@ LevelAt-end xs len at n z x m lt e b l =
 pub level-change : (es : List Entry) (e : Entry) → is_change e ≡ true → level (es ++ e ∷ []) ≡ level es
 level-change es Begin h = cc
 level-change es End h = cc
-level-change es (Inserted i s ps) h = ap opens (cut_more-append [] es (Inserted i s ps ∷ []))
-level-change es (Deleted i s ps) h = ap opens (cut_more-append [] es (Deleted i s ps ∷ []))
-level-change es (Replaced i s t ps) h = ap opens (cut_more-append [] es (Replaced i s t ps ∷ []))
+level-change es (Changed k c) h = ap opens (cut_more-append [] es (Changed k c ∷ []))
 
 pub LevelAt-change : (xs : List Change) (len at n : ℕ) (z x : Change) → len < at → get_or xs (at - 1) z ≡ x → is_change (entry_of x) ≡ true → LevelAt xs len at n
     → LevelAt xs len (at - 1) n

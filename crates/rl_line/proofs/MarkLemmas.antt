@@ -6,7 +6,7 @@ use Rattle.std.specs.Prelude.{option_and_then}
 use Rattle.std.specs.Str.{IsUtf8}
 use Rattle.rl_base.specs.Event.{apply}
 use Rattle.rl_line.specs.Line.{Line}
-use Rattle.rl_line.specs.Record.{Entry, Begin, End, Inserted, Deleted, Replaced, Record, event_of, inverse, agree, replays_to, unwind}
+use Rattle.rl_line.specs.Record.{Entry, Begin, End, Changed, Record, event_of, inverse, agree, replays_to, unwind}
 use Rattle.rl_line.specs.Undo.{Redone}
 use Rattle.rl_line.specs.Units.{UndoUnit, Open, Whole, units, together, level, begun, end_one, end_times, ended, redo_from, redo_of, truncated}
 use Rattle.rl_line.proofs.OriginLemmas.{Kept}
@@ -24,9 +24,7 @@ unfolding apply
 unwind-end_one [] text = refl
 unwind-end_one (Begin ∷ []) text = refl
 unwind-end_one (End ∷ []) text = refl
-unwind-end_one (Inserted i s ps ∷ []) text = refl
-unwind-end_one (Deleted i s ps ∷ []) text = refl
-unwind-end_one (Replaced i s t ps ∷ []) text = refl
+unwind-end_one (Changed k c ∷ []) text = refl
 unwind-end_one (e ∷ (d ∷ ds)) text = ap (option_and_then (apply (event_of (inverse e)))) (unwind-end_one (d ∷ ds) text)
 
 unwind-end_times : (n : ℕ) (es : List Entry) (text : List ℕ) → unwind (end_times n es) text ≡ unwind es text

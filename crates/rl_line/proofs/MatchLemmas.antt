@@ -1,35 +1,18 @@
 -- Every operation keeps the marks matched, and a change in each closed group.
-use Rattle.std.proofs.Common.{◌≡◌, ℕ, ◌+◌, suc, arith, Bool, true, false, cond, List, [], ◌∷◌, ◌++◌, length, take, drop, reverse, Option, Some, None, refl, sym, ap, subst, ◌∙◌, ◌⊎◌, inl, inr, append-nil, drop_at}
+use Rattle.std.proofs.Common.{◌≡◌, ℕ, suc, arith, Bool, true, false, List, [], ◌∷◌, ◌++◌, length, take, drop, reverse, Option, Some, None, refl, sym, ap, subst, ◌∙◌, ◌⊎◌, inl, inr, append-nil, drop_at}
 use Rattle.std.proofs.lemmas.List.{take-append-drop, reverse-append, reverse-reverse}
 use Rattle.std.specs.Option.{option_map_or}
-use Rattle.std.specs.Prelude.{option_and_then, IsSome, zero, max, ◌&&◌, ◌==◌, not, encode_utf8}
+use Rattle.std.specs.Prelude.{option_and_then, IsSome, zero, max}
 use Rattle.rl_base.proofs.SwapLemmas.{some_is}
 use Rattle.rl_base.specs.Event.{Event, InsertChar, InsertStr, Delete, Replace, Start, Stop, Cursors}
-use Rattle.rl_base.specs.Classes.{is_alphanumeric, is_word_cluster}
-use Rattle.rl_line.specs.Record.{Entry, Begin, End, Inserted, Deleted, Replaced, Record, entries_of, joined, entries_after, pending_after, record_step}
+use Rattle.rl_line.specs.Record.{Entry, Begin, End, Changed, Record, entries_of, joined, entries_after, pending_after, record_step}
 use Rattle.rl_line.specs.Units.{UndoUnit, Open, Whole, units, together, opens, level, last_of, kept_of, redo_from, redo_of, end_one, end_times, begun, ended, undone, redone, truncated, touched, mark, marks, IsMatched, BothMatched}
-use Rattle.rl_line.proofs.RecordLemmas.{entries_of-cases, through, value_of, if_some, if_else, unless}
+use Rattle.rl_line.proofs.RecordLemmas.{joins, none_or_one, through, value_of}
 use Rattle.rl_line.proofs.UnitLemmas.{AllGood, flags_on, marks-append, IsMatched-front, IsMatched-append, IsMatched-together, AllGood-left, AllGood-right, units-good, together-units, together-append, kept-last, cut_good}
 use Rattle.rl_line.proofs.ToldLemmas.{recorded-cases, last_told-marks}
 
 entries_of-marks : (event : Event) (fs : List Bool) → IsSome (marks (entries_of event) fs)
-entries_of-marks event fs = entries_of-cases (λ es. IsSome (marks es fs)) event refl (λ i s. refl) (λ i s. refl) (λ i s t. refl)
-
--- what joins is a change
-joint_marks : (event : Event) (e joint : Entry) (fs : List Bool) → joined event e ≡ Some joint → IsSome (marks (joint ∷ []) fs)
-joint_marks (InsertChar i c) (Inserted j s ps) joint fs h =
-    let b = if_some (is_alphanumeric c && (j + length s == i)) (Inserted j (s ++ encode_utf8 c) None) joint h in
-    subst (λ k. IsSome (marks (k ∷ []) fs)) b.1 refl
-joint_marks (Delete i s side) (Deleted j t ps) joint fs h =
-    let before = cond (i + length s == j) (Some (Deleted i (s ++ t) None)) None in
-    elim (if_else (j == i) (Deleted i (t ++ s) None) joint before (unless (not (is_word_cluster s)) joint (cond (j == i) (Some (Deleted i (t ++ s) None)) before) h)) [
-      | inl b ↦ subst (λ k. IsSome (marks (k ∷ []) fs)) b.1 refl
-      | inr k ↦ subst (λ k. IsSome (marks (k ∷ []) fs)) (if_some (i + length s == j) (Deleted i (s ++ t) None) joint k).1 refl
-    ]
-joint_marks (Replace i s t) (Replaced j o w ps) joint fs h =
-    let b = if_some (j + length w == i) (Replaced j (o ++ s) (w ++ t) None) joint h in
-    subst (λ k. IsSome (marks (k ∷ []) fs)) b.1 refl
-joint_marks event e joint fs h = cc
+entries_of-marks event fs = elim (none_or_one event) [ inl none ↦ rw none refl | inr (k, c, one) ↦ rw one refl ]
 
 -- what the marks take in place of other entries, they take after the same entries too
 after : (o : Option (List Bool)) (xs ys : List Entry) → ((fs : List Bool) → IsSome (marks xs fs) → IsSome (marks ys fs))
@@ -43,7 +26,7 @@ marks-after event (e ∷ []) fs h = from (joined event e) refl
   where
     from : (o : Option Entry) → joined event e ≡ o → IsSome (marks (option_map_or (λ joint. joint ∷ []) o (e ∷ entries_of event)) fs)
     from None j = after (mark e fs) [] (entries_of event) (λ gs k. entries_of-marks event gs) h
-    from (Some joint) j = joint_marks event e joint fs j
+    from (Some joint) j = subst (λ k. IsSome (marks (k ∷ []) fs)) (joins event e joint j).is refl
 marks-after event (e ∷ (d ∷ ds)) fs h = after (mark e fs) (d ∷ ds) (entries_after event (d ∷ ds)) (λ gs k. marks-after event (d ∷ ds) gs k) h
 
 pub IsMatched-after : (event : Event) (es : List Entry) → IsMatched es → IsMatched (entries_after event es)
@@ -83,9 +66,7 @@ level-flags (Whole es ∷ us) = level-flags us ∙ sym (length-touched (flags_on
 pub end_one-cons : (e d : Entry) (ds : List Entry) → end_one (e ∷ (d ∷ ds)) ≡ e ∷ end_one (d ∷ ds)
 end_one-cons Begin d ds = refl
 end_one-cons End d ds = refl
-end_one-cons (Inserted i s ps) d ds = refl
-end_one-cons (Deleted i s ps) d ds = refl
-end_one-cons (Replaced i s t ps) d ds = refl
+end_one-cons (Changed k c) d ds = refl
 
 -- an End that is added closes a group with a change, since something other than a Begin stands before it
 pub record EndsOne (es : List Entry) : Type 0 where
@@ -103,9 +84,7 @@ pub record AddsEnd (es : List Entry) : Type 0 where
 end_one-cases : (e : Entry) (es : List Entry) → EndsOne (e ∷ es) ⊎ AddsEnd (e ∷ es)
 end_one-cases Begin [] = inl (record { front = []; list_is = refl; after_is = refl })
 end_one-cases End [] = inr (record { front = []; last = End; other = λ h. cc; list_is = refl; after_is = refl })
-end_one-cases (Inserted i s ps) [] = inr (record { front = []; last = Inserted i s ps; other = λ h. cc; list_is = refl; after_is = refl })
-end_one-cases (Deleted i s ps) [] = inr (record { front = []; last = Deleted i s ps; other = λ h. cc; list_is = refl; after_is = refl })
-end_one-cases (Replaced i s t ps) [] = inr (record { front = []; last = Replaced i s t ps; other = λ h. cc; list_is = refl; after_is = refl })
+end_one-cases (Changed k c) [] = inr (record { front = []; last = Changed k c; other = λ h. cc; list_is = refl; after_is = refl })
 end_one-cases e (d ∷ ds) =
     elim (end_one-cases d ds) [
       | inl h ↦ inl (record { front = e ∷ h.front; list_is = ap (λ x. e ∷ x) h.list_is; after_is = end_one-cons e d ds ∙ ap (λ x. e ∷ x) h.after_is })
@@ -128,9 +107,7 @@ mark_other Begin fs gs other h = absurd (other refl)
 mark_other End [] gs other h = cc
 mark_other End (false ∷ fs) gs other h = cc
 mark_other End (true ∷ fs) gs other h = touched_is fs gs cc
-mark_other (Inserted i s ps) fs gs other h = touched_is fs gs cc
-mark_other (Deleted i s ps) fs gs other h = touched_is fs gs cc
-mark_other (Replaced i s t ps) fs gs other h = touched_is fs gs cc
+mark_other (Changed k c) fs gs other h = touched_is fs gs cc
 
 pub level-is : (es : List Entry) (fs : List Bool) → marks es [] ≡ Some fs → level es ≡ length fs
 level-is es fs h = level-flags (units es) ∙ ap length (cut_good es [] fs tt h).1

@@ -1,14 +1,16 @@
 -- The record that the code's list of entries stands for, and what an event, an undo and a redo make of it.
 use Rattle.std.proofs.Common.{◌≡◌, ℕ, zero, suc, ◌+◌, ◌-◌, ◌≤◌, min, leb, arith, Option, None, String, Global, string_bytes, option_map, take_all, List, [], ◌∷◌, ◌++◌, append_assoc, length, length-append, take, drop, take_at, drop_at, map, reverse, Bool, true, false, Some, refl, sym, ap, subst, ◌∙◌}
 use Rattle.std.proofs.lemmas.Bool.{leb-true, leb-false}
+use Rattle.std.proofs.lemmas.List.Elements.{All-drop, All-map, All-take}
 use Rattle.std.proofs.lemmas.List.{drop-map, drop_all, length-map, length-take-le, take-map, take-append-drop, take_rest}
-use Rattle.std.specs.Prelude.{IsSome, is_some}
+use Rattle.std.specs.Prelude.{All, IsSome, get_or, is_some}
 use Rattle.std.specs.Str.{IsCharBoundary, IsUtf8}
 use Rattle.rl_base.specs.Event.{Event, InsertChar, InsertStr, Delete, Replace, Cursors}
 use Rattle.rl_line.specs.declared.change.Change.{Change}
+use Rattle.rl_line.specs.declared.change.Change.TheVariants as made
 use Rattle.rl_line.specs.declared.change.Way.TheVariants.{Ahead}
 use Rattle.rl_line.specs.Line.{Line}
-use Rattle.rl_line.specs.Record.{Entry, Record, entries_after, entry_of, inverse, record_step, entries_told, freshness_of}
+use Rattle.rl_line.specs.Record.{Entry, IsOfKind, Record, entries_after, entry_of, inverse, record_step, entries_told, freshness_of}
 use Rattle.rl_line.specs.Undo.{line_ahead, line_back}
 use Rattle.rl_line.specs.Units.{AtLevel, IsMatched, kept_of, last_of, redo_of, redone, undone}
 use Rattle.rl_line.specs.Change.{faced, order, text_back}
@@ -37,6 +39,19 @@ within-list n level xs fresh c = omega (arith, c.within, length-map xs entry_of)
 
 pub count-is : (n level : ℕ) (es : List Entry) (fresh : Freshness) (r : Record) → IsCutAt n level es fresh → cut_at n es fresh ≡ r → n ≡ length r.recorded
 count-is n level es fresh r c v = sym (length-take-le n es c.within) ∙ ap (λ (s : Record). length s.recorded) v
+
+-- each entry is of its kind
+of_kind : (x : Change) → IsOfKind (entry_of x)
+of_kind made.Begin = tt
+of_kind made.End = tt
+of_kind (made.Insert cursors i s) = refl
+of_kind (made.Delete cursors i gathered) = refl
+of_kind (made.Replace cursors i texts) = tt
+
+pub kinds-are : (n : ℕ) (xs : List Change) (fresh : Freshness) (r : Record) → cut_at n (map entry_of xs) fresh ≡ r → All IsOfKind r.recorded × All IsOfKind r.pending
+kinds-are n xs fresh r v =
+    let all = All-map IsOfKind entry_of xs (λ k d lt. of_kind (get_or xs k d)) in
+    subst (λ (s : Record). All IsOfKind s.recorded × All IsOfKind s.pending) v (All-take IsOfKind n (map entry_of xs) all, All-drop IsOfKind n (map entry_of xs) all)
 
 -- what was recorded changed, and nothing waits to be redone
 pub dropped-view : (f : List Entry → List Entry) (r : Record) (n k : ℕ) (es now : List Entry) (fresh now_fresh : Freshness) → cut_at n es fresh ≡ r

@@ -1,15 +1,15 @@
 -- The entries of a record lead from text to text and back.
-use Rattle.std.proofs.Common.{◌≡◌, ℕ, Bool, true, false, List, [], ◌∷◌, ◌++◌, length, Option, Some, None, refl, sym, ap, subst, ◌∙◌, ◌+◌, ◌⊎◌, inl, inr, arith}
+use Rattle.std.proofs.Common.{◌≡◌, ℕ, Bool, true, false, List, [], ◌∷◌, ◌++◌, length, Option, Some, None, refl, sym, ap, subst, ◌∙◌, ◌+◌, ◌⊎◌, inl, inr}
 use Rattle.std.proofs.lemmas.Bool.{eqb-true}
 use Rattle.std.specs.Option.{option_map_or}
 use Rattle.std.specs.Prelude.{option_and_then, encode_utf8, IsSome, ◌==◌, ◌&&◌, cond, not}
 use Rattle.std.specs.Str.{IsUtf8}
 use Rattle.rl_base.proofs.TextLemmas.{and_right}
-use Rattle.rl_base.specs.declared.listeners.Direction.TheVariants.{Forward}
+use Rattle.rl_base.specs.declared.listeners.Direction.{Direction}
 use Rattle.rl_base.specs.Event.{Event, InsertChar, InsertStr, Delete, Replace, Start, Stop, Cursors, apply}
-use Rattle.rl_base.proofs.SwapLemmas.{Swaps-back, Swaps-nothing, Swaps-after, Swaps-before, Swaps-InsertStr, Swaps-InsertChar, Swaps-Delete, Swaps-Replace, apply-InsertStr-Swaps, apply-Delete-Swaps, apply-Replace-Swaps, apply-IsUtf8}
+use Rattle.rl_base.proofs.SwapLemmas.{Swaps, Swaps-back, Swaps-nothing, Swaps-after, Swaps-before, Swaps-InsertStr, Swaps-InsertChar, Swaps-Delete, Swaps-Replace, apply-Replace-Swaps, apply-IsUtf8}
 use Rattle.rl_base.specs.Classes.{is_alphanumeric, is_word_cluster}
-use Rattle.rl_line.specs.Record.{Entry, Begin, End, Inserted, Deleted, Replaced, Record, entries_after, entries_of, joined, record_step, event_of, inverse, replay_entries, unwind, swapped}
+use Rattle.rl_line.specs.Record.{Kind, Insertion, Deletion, Replacement, Swap, Entry, Begin, End, Changed, Record, entries_after, entries_of, joined, record_step, event_of, inverse, replay_entries, unwind, swapped, followed, opposite, past, untold}
 use Rattle.rl_line.proofs.ToldLemmas.{recorded-cases, last_told-unwind}
 
 -- what was made of a value that is there
@@ -41,20 +41,21 @@ pub inverse-undoes : (e : Entry) (x y : List ℕ) → IsUtf8 x → apply (event_
 unfolding apply
 inverse-undoes Begin x y u h = sym h
 inverse-undoes End x y u h = sym h
-inverse-undoes (Inserted i s ps) x y u h = apply-Delete-Swaps y x i s Forward (Swaps-back x y i [] s (Swaps-InsertStr x y i s u h))
-inverse-undoes (Deleted i s ps) x y u h = apply-InsertStr-Swaps y x i s (Swaps-back x y i s [] (Swaps-Delete x y i s Forward u h))
-inverse-undoes (Replaced i s t ps) x y u h = apply-Replace-Swaps y x i t s (Swaps-back x y i s t (Swaps-Replace x y i s t u h))
+inverse-undoes (Changed k c) x y u h = apply-Replace-Swaps y x c.place c.new c.old (Swaps-back x y c.place c.old c.new (Swaps-Replace x y c.place c.old c.new u h))
 
 swapped-swapped : (ps : Option (ℕ × ℕ)) → swapped (swapped ps) ≡ ps
 swapped-swapped None = refl
 swapped-swapped (Some p) = refl
 
+opposite-opposite : (k : Kind) → opposite (opposite k) ≡ k
+opposite-opposite Insertion = refl
+opposite-opposite Deletion = refl
+opposite-opposite Replacement = refl
+
 pub inverse-inverse : (e : Entry) → inverse (inverse e) ≡ e
 inverse-inverse Begin = refl
 inverse-inverse End = refl
-inverse-inverse (Inserted i s ps) = ap (Inserted i s) (swapped-swapped ps)
-inverse-inverse (Deleted i s ps) = ap (Deleted i s) (swapped-swapped ps)
-inverse-inverse (Replaced i s t ps) = ap (Replaced i s t) (swapped-swapped ps)
+inverse-inverse (Changed k c) = rw (opposite-opposite k, swapped-swapped c.cursors) refl
 
 pub undoes-inverse : (e : Entry) (x y : List ℕ) → IsUtf8 y → apply (event_of (inverse e)) y ≡ Some x → apply (event_of e) x ≡ Some y
 undoes-inverse e x y u h = ap (λ k. apply (event_of k) x) (sym (inverse-inverse e)) ∙ inverse-undoes (inverse e) y x u h
@@ -91,84 +92,114 @@ pub replay-append : (xs ys : List Entry) (text : List ℕ) → replay_entries (x
 replay-append [] ys text = refl
 replay-append (x ∷ xs) ys text = then_both (replay_entries (xs ++ ys)) (replay_entries xs) (replay_entries ys) (λ t. replay-append xs ys t) (apply (event_of x) text)
 
--- the entries of an event are none, or one
-in_part : (P : List Entry → Type 0) (s : List ℕ) (e : Entry) → (length s ≡ 0 → P []) → P (e ∷ []) → P (cond (length s == 0) [] (e ∷ []))
-in_part P s e none one = from (length s == 0) refl
-  where
-    from : (b : Bool) → (length s == 0) ≡ b → P (cond b [] (e ∷ []))
-    from true k = none (eqb-true (length s) 0 k)
-    from false k = one
-
-pub entries_of-cases : (P : List Entry → Type 0) (event : Event) → P [] → ((i : ℕ) (s : List ℕ) → P (Inserted i s None ∷ [])) → ((i : ℕ) (s : List ℕ) → P (Deleted i s None ∷ []))
-    → ((i : ℕ) (s t : List ℕ) → P (Replaced i s t None ∷ [])) → P (entries_of event)
-unfolding entries_of
-entries_of-cases P (InsertChar i c) none ins del rep = ins i (encode_utf8 c)
-entries_of-cases P (InsertStr i s) none ins del rep = in_part P s (Inserted i s None) (λ _. none) (ins i s)
-entries_of-cases P (Delete i s side) none ins del rep = in_part P s (Deleted i s None) (λ _. none) (del i s)
-entries_of-cases P (Replace i s t) none ins del rep = rep i s t
-entries_of-cases P Start none ins del rep = none
-entries_of-cases P Stop none ins del rep = none
-entries_of-cases P (Cursors b a) none ins del rep = none
-
 -- the entries of an event undo it
+undoes : (k : Kind) (i : ℕ) (s t text now : List ℕ) → Swaps text now i s t → unwind (Changed k (untold i s t) ∷ []) now ≡ Some text
+unfolding apply
+undoes k i s t text now swaps = apply-Replace-Swaps now text i t s (Swaps-back text now i s t swaps)
+
+undoes-unless : (k : Kind) (i : ℕ) (s t text now : List ℕ) (b : Bool) → (b ≡ true → (length s ≡ 0) × (length t ≡ 0)) → Swaps text now i s t
+    → unwind (cond b [] (Changed k (untold i s t) ∷ [])) now ≡ Some text
+undoes-unless k i s t text now true none swaps = let e = none refl in ap Some (Swaps-nothing text now i s t e.0 e.1 swaps)
+undoes-unless k i s t text now false none swaps = undoes k i s t text now swaps
+
 pub entries_of-undo : (event : Event) (text now : List ℕ) → IsUtf8 text → apply event text ≡ Some now → unwind (entries_of event) now ≡ Some text
 unfolding entries_of apply
-entries_of-undo (InsertChar i c) text now u h = apply-Delete-Swaps now text i _ Forward (Swaps-back text now i [] _ (Swaps-InsertChar text now i c u h))
-entries_of-undo (InsertStr i s) text now u h =
-    let swaps = Swaps-InsertStr text now i s u h in
-    in_part (λ es. unwind es now ≡ Some text) s (Inserted i s None) (λ e. ap Some (Swaps-nothing text now i [] s refl e swaps))
-    (apply-Delete-Swaps now text i s Forward (Swaps-back text now i [] s swaps))
-entries_of-undo (Delete i s side) text now u h =
-    let swaps = Swaps-Delete text now i s side u h in
-    in_part (λ es. unwind es now ≡ Some text) s (Deleted i s None) (λ e. ap Some (Swaps-nothing text now i s [] e refl swaps))
-    (apply-InsertStr-Swaps now text i s (Swaps-back text now i s [] swaps))
-entries_of-undo (Replace i s t) text now u h = apply-Replace-Swaps now text i t s (Swaps-back text now i s t (Swaps-Replace text now i s t u h))
+entries_of-undo (InsertChar i c) text now u h = undoes Insertion i [] _ text now (Swaps-InsertChar text now i c u h)
+entries_of-undo (InsertStr i s) text now u h = undoes-unless Insertion i [] s text now (length s == 0) (λ e. (refl, eqb-true (length s) 0 e)) (Swaps-InsertStr text now i s u h)
+entries_of-undo (Delete i s side) text now u h = undoes-unless Deletion i s [] text now (length s == 0) (λ e. (eqb-true (length s) 0 e, refl)) (Swaps-Delete text now i s side u h)
+entries_of-undo (Replace i s t) text now u h = undoes Replacement i s t text now (Swaps-Replace text now i s t u h)
 entries_of-undo Start text now u h = sym h
 entries_of-undo Stop text now u h = sym h
 entries_of-undo (Cursors b a) text now u h = sym h
+
+unless_nothing : (kind : Kind) (swap : Swap) (b : Bool)
+    → (cond b [] (Changed kind swap ∷ []) ≡ []) ⊎ ((k : Kind) × (c : Swap) × (cond b [] (Changed kind swap ∷ []) ≡ Changed k c ∷ []))
+unless_nothing kind swap true = inl refl
+unless_nothing kind swap false = inr (kind, swap, refl)
+
+-- an event adds nothing, or one change
+pub none_or_one : (event : Event) → (entries_of event ≡ []) ⊎ ((k : Kind) × (c : Swap) × (entries_of event ≡ Changed k c ∷ []))
+unfolding entries_of
+none_or_one (InsertChar i c) = inr (_, _, refl)
+none_or_one (InsertStr i s) = unless_nothing _ _ (length s == 0)
+none_or_one (Delete i s side) = unless_nothing _ _ (length s == 0)
+none_or_one (Replace i s t) = inr (_, _, refl)
+none_or_one Start = inl refl
+none_or_one Stop = inl refl
+none_or_one (Cursors b a) = inl refl
 
 -- ---- joining
 pub if_some : {A : Type 0} (b : Bool) (a c : A) → cond b (Some a) None ≡ Some c → (b ≡ true) × (a ≡ c)
 if_some true a c h = (refl, cc)
 if_some false a c h = cc
 
-pub if_else : {A : Type 0} (b : Bool) (a c : A) (o : Option A) → cond b (Some a) o ≡ Some c → ((b ≡ true) × (a ≡ c)) ⊎ (o ≡ Some c)
+if_else : {A : Type 0} (b : Bool) (a c : A) (o : Option A) → cond b (Some a) o ≡ Some c → ((b ≡ true) × (a ≡ c)) ⊎ (o ≡ Some c)
 if_else true a c o h = inl (refl, cc)
 if_else false a c o h = inr h
 
-pub unless : {A : Type 0} (b : Bool) (c : A) (o : Option A) → cond b None o ≡ Some c → o ≡ Some c
+unless : {A : Type 0} (b : Bool) (c : A) (o : Option A) → cond b None o ≡ Some c → o ≡ Some c
 unless true c o h = cc
 unless false c o h = h
 
--- the joint entry does what the entry and the event do
+-- where an event joins a change, and the change that is one for both
+pub char-joined : (i c : ℕ) (l : Swap) (joint : Entry) → joined (InsertChar i c) (Changed Insertion l) ≡ Some joint
+    → (past l ≡ i) × (Changed Insertion (followed l [] (encode_utf8 c)) ≡ joint)
+char-joined i c l joint h =
+    let b = if_some (is_alphanumeric c && (past l == i)) _ joint h in (eqb-true (past l) i (and_right (is_alphanumeric c) (past l == i) b.0), b.1)
+
+pub deletion-joined : (i : ℕ) (s : List ℕ) (side : Direction) (l : Swap) (joint : Entry) → joined (Delete i s side) (Changed Deletion l) ≡ Some joint
+    → ((past l ≡ i) × (Changed Deletion (followed l s []) ≡ joint)) ⊎ ((i + length s ≡ l.place) × (Changed Deletion (untold i (s ++ l.old) l.new) ≡ joint))
+deletion-joined i s side l joint h =
+    elim (if_else (past l == i) _ joint _ (unless (not (is_word_cluster s)) joint _ h)) [
+      | inl b ↦ inl (eqb-true (past l) i b.0, b.1)
+      | inr k ↦ let b = if_some (i + length s == l.place) _ joint k in inr (eqb-true (i + length s) l.place b.0, b.1)
+    ]
+
+pub replacement-joined : (i : ℕ) (s t : List ℕ) (l : Swap) (joint : Entry) → joined (Replace i s t) (Changed Replacement l) ≡ Some joint
+    → (past l ≡ i) × (Changed Replacement (followed l s t) ≡ joint)
+replacement-joined i s t l joint h = let b = if_some (past l == i) _ joint h in (eqb-true (past l) i b.0, b.1)
+
+-- what an event joins is a change, and so is the one for both, which has no cursors yet
+pub record Joins (e joint : Entry) : Type 0 where
+  pub kind : Kind
+  pub last : Swap
+  pub now : Swap
+  pub was : e ≡ Changed kind last
+  pub is : Changed kind now ≡ joint
+  pub none : now.cursors ≡ None
+
+pub joins : (event : Event) (e joint : Entry) → joined event e ≡ Some joint → Joins e joint
+joins (InsertChar i c) (Changed Insertion l) joint h = record { kind = Insertion; last = l; now = _; was = refl; is = (char-joined i c l joint h).1; none = refl }
+joins (Delete i s side) (Changed Deletion l) joint h =
+    elim (deletion-joined i s side l joint h) [
+      | inl b ↦ record { kind = Deletion; last = l; now = _; was = refl; is = b.1; none = refl }
+      | inr b ↦ record { kind = Deletion; last = l; now = _; was = refl; is = b.1; none = refl }
+    ]
+joins (Replace i s t) (Changed Replacement l) joint h = record { kind = Replacement; last = l; now = _; was = refl; is = (replacement-joined i s t l joint h).1; none = refl }
+joins event e joint h = cc
+
+-- and it does what the change and the event do
+redone-after : (l : Swap) (i : ℕ) (s t x y z : List ℕ) → past l ≡ i → IsUtf8 x → apply (Replace l.place l.old l.new) x ≡ Some y → Swaps y z i s t
+    → apply (Replace l.place (l.old ++ s) (l.new ++ t)) x ≡ Some z
+redone-after l i s t x y z at u p q =
+    apply-Replace-Swaps x z l.place (l.old ++ s) (l.new ++ t) (Swaps-after x y z l.place i l.old l.new s t (Swaps-Replace x y l.place l.old l.new u p) q at)
+
 pub redone-joined : (event : Event) (e joint : Entry) (x y z : List ℕ) → joined event e ≡ Some joint → IsUtf8 x → apply (event_of e) x ≡ Some y → apply event y ≡ Some z
     → apply (event_of joint) x ≡ Some z
-redone-joined (InsertChar i c) (Inserted j s ps) joint x y z h u p q =
-    let b = if_some (is_alphanumeric c && (j + length s == i)) (Inserted j (s ++ encode_utf8 c) None) joint h in
-    let at = eqb-true (j + length s) i (and_right (is_alphanumeric c) (j + length s == i) b.0) in
-    ap (λ k. apply (event_of k) x) (sym b.1)
-    ∙ apply-InsertStr-Swaps x z j (s ++ encode_utf8 c)
-    (Swaps-after x y z j i [] s [] (encode_utf8 c) (Swaps-InsertStr x y j s u p) (Swaps-InsertChar y z i c (apply-IsUtf8 (InsertStr j s) x y u p) q) at)
-redone-joined (Delete i s side) (Deleted j t ps) joint x y z h u p q =
-    let first = Swaps-Delete x y j t Forward u p in
-    let second = Swaps-Delete y z i s side (apply-IsUtf8 (Delete j t Forward) x y u p) q in
-    let before = cond (i + length s == j) (Some (Deleted i (s ++ t) None)) None in
-    elim (if_else (j == i) (Deleted i (t ++ s) None) joint before (unless (not (is_word_cluster s)) joint (cond (j == i) (Some (Deleted i (t ++ s) None)) before) h)) [
-      | inl b ↦
-          let at : j ≡ i = eqb-true j i b.0 in
-          ap (λ k. apply (event_of k) x) (sym b.1) ∙ ap (λ k. apply (Delete k (t ++ s) Forward) x) (sym at)
-          ∙ apply-Delete-Swaps x z j (t ++ s) Forward (Swaps-after x y z j i t [] s [] first second (omega arith))
-      | inr k ↦
-          let b = if_some (i + length s == j) (Deleted i (s ++ t) None) joint k in
-          let at = eqb-true (i + length s) j b.0 in
-          ap (λ k. apply (event_of k) x) (sym b.1) ∙ apply-Delete-Swaps x z i (s ++ t) Forward (Swaps-before x y z j i t s first second at)
+redone-joined (InsertChar i c) (Changed Insertion l) joint x y z h u p q =
+    let b = char-joined i c l joint h in
+    subst (λ k. apply (event_of k) x ≡ Some z) b.1 (redone-after l i [] (encode_utf8 c) x y z b.0 u p (Swaps-InsertChar y z i c (apply-IsUtf8 _ x y u p) q))
+redone-joined (Delete i s side) (Changed Deletion l) joint x y z h u p q =
+    let second = Swaps-Delete y z i s side (apply-IsUtf8 _ x y u p) q in
+    elim (deletion-joined i s side l joint h) [
+      | inl b ↦ subst (λ k. apply (event_of k) x ≡ Some z) b.1 (redone-after l i s [] x y z b.0 u p second)
+      | inr b ↦
+          let one = Swaps-before x y z l.place i l.old l.new s (Swaps-Replace x y l.place l.old l.new u p) second b.0 in
+          subst (λ k. apply (event_of k) x ≡ Some z) b.1 (apply-Replace-Swaps x z i (s ++ l.old) l.new one)
     ]
-redone-joined (Replace i s t) (Replaced j o w ps) joint x y z h u p q =
-    let b = if_some (j + length w == i) (Replaced j (o ++ s) (w ++ t) None) joint h in
-    let at = eqb-true (j + length w) i b.0 in
-    ap (λ k. apply (event_of k) x) (sym b.1)
-    ∙ apply-Replace-Swaps x z j (o ++ s) (w ++ t)
-    (Swaps-after x y z j i o w s t (Swaps-Replace x y j o w u p) (Swaps-Replace y z i s t (apply-IsUtf8 (Replace j o w) x y u p) q) at)
+redone-joined (Replace i s t) (Changed Replacement l) joint x y z h u p q =
+    let b = replacement-joined i s t l joint h in
+    subst (λ k. apply (event_of k) x ≡ Some z) b.1 (redone-after l i s t x y z b.0 u p (Swaps-Replace y z i s t (apply-IsUtf8 _ x y u p) q))
 redone-joined event e joint x y z h u p q = cc
 
 -- the text from which entries came stays, whatever event came

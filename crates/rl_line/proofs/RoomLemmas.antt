@@ -6,17 +6,16 @@ use Rattle.std.proofs.lemmas.List.{drop-map, map-append, reverse-append}
 use Rattle.std.proofs.lemmas.List.Quantifiers.{Any-push}
 use Rattle.std.specs.Prelude.{Any, IsSome, get_or, nat_lt, option_and_then}
 use Rattle.std.specs.Str.{IsUtf8}
-use Rattle.rl_base.proofs.SwapLemmas.{Swaps, Swaps-Delete, Swaps-InsertStr, Swaps-Replace}
+use Rattle.rl_base.proofs.SwapLemmas.{Swaps, Swaps-Replace}
 use Rattle.rl_base.specs.Event.{Event, apply, replay}
 use Rattle.rl_base.specs.Lines.{is_newline}
-use Rattle.rl_base.specs.declared.listeners.Direction.TheVariants.{Forward}
 use Rattle.rl_line.specs.declared.change.Change.{Change}
 use Rattle.rl_line.specs.declared.change.Measure.{Measure}
 use Rattle.rl_line.specs.declared.change.Measure.TheVariants.{Bytes, Newlines}
 use Rattle.rl_line.specs.declared.change.Way.{Way}
 use Rattle.rl_line.specs.Change.{faced, greatest_back_over, size_back, size_back_over, size_of}
 use Rattle.rl_line.specs.Line.{Line, NeedsRoom}
-use Rattle.rl_line.specs.Record.{Entry, Begin, End, Inserted, Deleted, Replaced, bytes_ahead, bytes_back, event_of, inverse, new_text, old_text, unwind}
+use Rattle.rl_line.specs.Record.{Entry, Begin, End, Changed, bytes_ahead, bytes_back, event_of, inverse, new_text, old_text, unwind}
 use Rattle.rl_line.specs.Undo.{line_back, texts_after, texts_ahead, texts_back}
 use Rattle.rl_line.proofs.LineStartLemmas.{newlines-append}
 use Rattle.rl_line.proofs.RecordLemmas.{inverse-inverse, through, unwind-IsUtf8, value_of}
@@ -43,9 +42,7 @@ size_back-is : (k : Measure) (e : Entry) (text now : List ℕ) → IsUtf8 text �
 unfolding apply
 size_back-is k Begin text now u h = let e : text ≡ now = cc in ap (size_of k) (sym e) ∙ size-nothing k (size_of k text)
 size_back-is k End text now u h = let e : text ≡ now = cc in ap (size_of k) (sym e) ∙ size-nothing k (size_of k text)
-size_back-is k (Inserted i s ps) text now u h = size-swapped k text now i s [] (Swaps-Delete text now i s Forward u h)
-size_back-is k (Deleted i s ps) text now u h = size-swapped k text now i [] s (Swaps-InsertStr text now i s u h)
-size_back-is k (Replaced i s t ps) text now u h = size-swapped k text now i t s (Swaps-Replace text now i t s u h)
+size_back-is k (Changed j c) text now u h = size-swapped k text now c.place c.new c.old (Swaps-Replace text now c.place c.new c.old u h)
 
 size_back_over-is : (k : Measure) (es : List Entry) (text now : List ℕ) → IsUtf8 text → unwind es text ≡ Some now → size_of k now ≡ size_back_over k es (size_of k text)
 size_back_over-is k [] text now u h = let e : text ≡ now = cc in ap (size_of k) (sym e)
@@ -167,9 +164,7 @@ bytes_back-append (x ∷ xs) ys = omega (arith, bytes_back-append xs ys)
 old_text-inverse : (e : Entry) → length (old_text (inverse e)) ≡ bytes_ahead (e ∷ [])
 old_text-inverse Begin = refl
 old_text-inverse End = refl
-old_text-inverse (Inserted i s ps) = omega arith
-old_text-inverse (Deleted i s ps) = refl
-old_text-inverse (Replaced i s t ps) = omega arith
+old_text-inverse (Changed k c) = omega arith
 
 pub bytes_ahead-back : (es : List Entry) → bytes_back (map inverse (reverse es)) ≡ bytes_ahead es
 bytes_ahead-back [] = refl

@@ -4,7 +4,7 @@ use Rattle.std.specs.Prelude.{option_and_then}
 use Rattle.rl_base.specs.Event.{Event, InsertChar, InsertStr, Delete, Replace, Start, Stop, Cursors, apply}
 use Rattle.rl_line.specs.declared.change.Freshness.{Freshness}
 use Rattle.rl_line.specs.declared.change.Freshness.TheVariants as is
-use Rattle.rl_line.specs.Record.{Entry, Begin, End, Inserted, Deleted, Replaced, Record, entries_after, entries_of, entries_told, event_of, inverse, last_told, recorded_after, unwind, with_cursors}
+use Rattle.rl_line.specs.Record.{Entry, Begin, End, Changed, Record, entries_after, entries_of, entries_told, event_of, inverse, last_told, recorded_after, unwind, with_cursors}
 use Rattle.rl_line.specs.Units.{mark, marks}
 use Rattle.rl_line.specs.Entries.{deep}
 
@@ -41,16 +41,12 @@ recorded-cases P (Cursors before after) r h told =
 pub same-event : (cursors : ℕ × ℕ) (e : Entry) → event_of (with_cursors cursors e) ≡ event_of e
 same-event cursors Begin = refl
 same-event cursors End = refl
-same-event cursors (Inserted i s ps) = refl
-same-event cursors (Deleted i s ps) = refl
-same-event cursors (Replaced i s t ps) = refl
+same-event cursors (Changed k c) = refl
 
 same-inverse : (cursors : ℕ × ℕ) (e : Entry) → event_of (inverse (with_cursors cursors e)) ≡ event_of (inverse e)
 same-inverse cursors Begin = refl
 same-inverse cursors End = refl
-same-inverse cursors (Inserted i s ps) = refl
-same-inverse cursors (Deleted i s ps) = refl
-same-inverse cursors (Replaced i s t ps) = refl
+same-inverse cursors (Changed k c) = refl
 
 pub last_told-unwind : (cursors : ℕ × ℕ) (es : List Entry) (text : List ℕ) → unwind (last_told cursors es) text ≡ unwind es text
 last_told-unwind cursors [] text = refl
@@ -61,9 +57,7 @@ last_told-unwind cursors (e ∷ (d ∷ ds)) text = ap (option_and_then (apply (e
 same-mark : (cursors : ℕ × ℕ) (e : Entry) (fs : List Bool) → mark (with_cursors cursors e) fs ≡ mark e fs
 same-mark cursors Begin fs = refl
 same-mark cursors End fs = refl
-same-mark cursors (Inserted i s ps) fs = refl
-same-mark cursors (Deleted i s ps) fs = refl
-same-mark cursors (Replaced i s t ps) fs = refl
+same-mark cursors (Changed k c) fs = refl
 
 pub last_told-marks : (cursors : ℕ × ℕ) (es : List Entry) (fs : List Bool) → marks (last_told cursors es) fs ≡ marks es fs
 last_told-marks cursors [] fs = refl
@@ -78,18 +72,14 @@ last_told-marks cursors (e ∷ (d ∷ ds)) fs = after (λ gs. last_told-marks cu
 same-deep : (cursors : ℕ × ℕ) (e : Entry) (n : ℕ) (es : List Entry) → deep n (with_cursors cursors e ∷ es) ≡ deep n (e ∷ es)
 same-deep cursors Begin n es = refl
 same-deep cursors End n es = refl
-same-deep cursors (Inserted i s ps) n es = refl
-same-deep cursors (Deleted i s ps) n es = refl
-same-deep cursors (Replaced i s t ps) n es = refl
+same-deep cursors (Changed k c) n es = refl
 
 pub last_told-deep : (cursors : ℕ × ℕ) (es : List Entry) (n : ℕ) → deep n (last_told cursors es) ≡ deep n es
 last_told-deep cursors [] n = refl
 last_told-deep cursors (e ∷ []) n = same-deep cursors e n []
 last_told-deep cursors (Begin ∷ (d ∷ ds)) n = last_told-deep cursors (d ∷ ds) _
 last_told-deep cursors (End ∷ (d ∷ ds)) n = last_told-deep cursors (d ∷ ds) _
-last_told-deep cursors (Inserted i s ps ∷ (d ∷ ds)) n = last_told-deep cursors (d ∷ ds) n
-last_told-deep cursors (Deleted i s ps ∷ (d ∷ ds)) n = last_told-deep cursors (d ∷ ds) n
-last_told-deep cursors (Replaced i s t ps ∷ (d ∷ ds)) n = last_told-deep cursors (d ∷ ds) n
+last_told-deep cursors (Changed k c ∷ (d ∷ ds)) n = last_told-deep cursors (d ∷ ds) n
 
 -- the last entry stands after a Begin where any does
 pub last_told-begin : (cursors : ℕ × ℕ) (xs ys : List Entry) → last_told cursors (xs ++ Begin ∷ ys) ≡ xs ++ Begin ∷ last_told cursors ys

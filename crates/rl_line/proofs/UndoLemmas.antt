@@ -8,14 +8,13 @@ use Rattle.std.specs.Prelude.{option_and_then, IsSome, is_some, cond, unwrap_or}
 use Rattle.std.specs.Option.{option_map_or}
 use Rattle.std.proofs.lemmas.Option.{same_Some}
 use Rattle.std.specs.Str.{IsCharBoundary, IsUtf8}
-use Rattle.rl_base.proofs.SwapLemmas.{apply-IsUtf8, Swaps, Swaps-Delete, Swaps-InsertStr, Swaps-Replace}
-use Rattle.rl_base.specs.declared.listeners.Direction.TheVariants.{Forward}
+use Rattle.rl_base.proofs.SwapLemmas.{apply-IsUtf8, Swaps, Swaps-Replace}
 use Rattle.rl_base.specs.Event.{apply}
 use Rattle.rl_base.specs.Text.{is_boundary}
 use Rattle.rl_base.proofs.TextLemmas.{is_boundary-means, is_boundary-true}
 use Rattle.rl_line.specs.declared.change.Change.{Change}
 use Rattle.rl_line.specs.Line.{Line, stepped, if_standing}
-use Rattle.rl_line.specs.Record.{Entry, Begin, End, Inserted, Deleted, Replaced, agree, event_of, inverse, replay_entries, unwind}
+use Rattle.rl_line.specs.Record.{Entry, Begin, End, Changed, agree, event_of, inverse, replay_entries, unwind}
 use Rattle.rl_line.specs.declared.change.Way.{Way}
 use Rattle.rl_line.specs.Units.{has_change}
 use Rattle.rl_line.specs.Undo.{cursor_after, cursor_told, place_after, line_after, line_ahead, line_back}
@@ -38,9 +37,7 @@ place_after-stands : (e : Entry) (text now : List ℕ) (cursor : ℕ) → IsUtf8
 unfolding apply
 place_after-stands Begin text now cursor u at h = let e : text ≡ now = cc in subst (λ t. IsCharBoundary t cursor) e at
 place_after-stands End text now cursor u at h = let e : text ≡ now = cc in subst (λ t. IsCharBoundary t cursor) e at
-place_after-stands (Inserted i s ps) text now cursor u at h = Swaps-past text now i [] s (Swaps-InsertStr text now i s u h)
-place_after-stands (Deleted i s ps) text now cursor u at h = subst (IsCharBoundary now) (omega arith) (Swaps-past text now i s [] (Swaps-Delete text now i s Forward u h))
-place_after-stands (Replaced i s t ps) text now cursor u at h = Swaps-past text now i s t (Swaps-Replace text now i s t u h)
+place_after-stands (Changed k c) text now cursor u at h = Swaps-past text now c.place c.old c.new (Swaps-Replace text now c.place c.old c.new u h)
 
 -- what a text that goes on with its cursor is
 text_after-means : (e : Entry) (text now : List ℕ) → text_after true e text ≡ Some now → (apply (event_of e) text ≡ Some now) × (cursor_stands true e now ≡ true)
@@ -226,9 +223,7 @@ line_back-marks (Begin ∷ es) line now none is =
     let p = through (line_after Begin) (line_back es line) now is in left_by_a_mark line p.0 now (line_back-marks es line p.0 none p.1) p.2
 line_back-marks (End ∷ es) line now none is =
     let p = through (line_after End) (line_back es line) now is in left_by_a_mark line p.0 now (line_back-marks es line p.0 none p.1) p.2
-line_back-marks (Inserted i s ps ∷ es) line now none is = cc
-line_back-marks (Deleted i s ps ∷ es) line now none is = cc
-line_back-marks (Replaced i s t ps ∷ es) line now none is = cc
+line_back-marks (Changed k c ∷ es) line now none is = cc
 
 pub line_ahead-marks : (es : List Entry) (line now : Line) → has_change es ≡ false → line_ahead es line ≡ Some now → (now.text ≡ line.text) × (now.cursor ≡ line.cursor)
 unfolding apply
@@ -243,9 +238,7 @@ line_ahead-marks (End ∷ es) line now none is =
     let p = through (line_ahead es) (line_after End line) now is in
     let mark = left_by_a_mark line line p.0 (refl, refl) p.1 in
     let rest = line_ahead-marks es p.0 now none p.2 in (rest.0 ∙ mark.0, rest.1 ∙ mark.1)
-line_ahead-marks (Inserted i s ps ∷ es) line now none is = cc
-line_ahead-marks (Deleted i s ps ∷ es) line now none is = cc
-line_ahead-marks (Replaced i s t ps ∷ es) line now none is = cc
+line_ahead-marks (Changed k c ∷ es) line now none is = cc
 
 past_a_mark : (es : List Entry) (line : Line) → has_change es ≡ false → IsCharBoundary line.text line.cursor → IsSome (line_back es line)
     → IsSome (option_and_then (λ (mid : Line). if_standing (stepped mid mid.text mid.cursor)) (line_back es line))
@@ -262,9 +255,7 @@ unfolding apply
 marks-back [] line none at = refl
 marks-back (Begin ∷ es) line none at = past_a_mark es line none at (marks-back es line none at)
 marks-back (End ∷ es) line none at = past_a_mark es line none at (marks-back es line none at)
-marks-back (Inserted i s ps ∷ es) line none at = cc
-marks-back (Deleted i s ps ∷ es) line none at = cc
-marks-back (Replaced i s t ps ∷ es) line none at = cc
+marks-back (Changed k c ∷ es) line none at = cc
 
 pub marks-ahead : (es : List Entry) (line : Line) → has_change es ≡ false → IsCharBoundary line.text line.cursor → IsSome (line_ahead es line)
 unfolding apply
@@ -273,27 +264,21 @@ marks-ahead (Begin ∷ es) line none at =
     let now = stepped line line.text line.cursor in subst (λ o. IsSome (option_and_then (line_ahead es) o)) (sym (standing now at)) (marks-ahead es now none at)
 marks-ahead (End ∷ es) line none at =
     let now = stepped line line.text line.cursor in subst (λ o. IsSome (option_and_then (line_ahead es) o)) (sym (standing now at)) (marks-ahead es now none at)
-marks-ahead (Inserted i s ps ∷ es) line none at = cc
-marks-ahead (Deleted i s ps ∷ es) line none at = cc
-marks-ahead (Replaced i s t ps ∷ es) line none at = cc
+marks-ahead (Changed k c ∷ es) line none at = cc
 
 marks-unwind : (es : List Entry) (text : List ℕ) → has_change es ≡ false → unwind es text ≡ Some text
 unfolding apply
 marks-unwind [] text none = refl
 marks-unwind (Begin ∷ es) text none = ap (option_and_then (λ t. Some t)) (marks-unwind es text none)
 marks-unwind (End ∷ es) text none = ap (option_and_then (λ t. Some t)) (marks-unwind es text none)
-marks-unwind (Inserted i s ps ∷ es) text none = cc
-marks-unwind (Deleted i s ps ∷ es) text none = cc
-marks-unwind (Replaced i s t ps ∷ es) text none = cc
+marks-unwind (Changed k c ∷ es) text none = cc
 
 marks-take : (len : ℕ) (es : List Entry) → has_change es ≡ false → has_change (take len es) ≡ false
 marks-take zero es none = refl
 marks-take (suc len) [] none = refl
 marks-take (suc len) (Begin ∷ es) none = marks-take len es none
 marks-take (suc len) (End ∷ es) none = marks-take len es none
-marks-take (suc len) (Inserted i s ps ∷ es) none = cc
-marks-take (suc len) (Deleted i s ps ∷ es) none = cc
-marks-take (suc len) (Replaced i s t ps ∷ es) none = cc
+marks-take (suc len) (Changed k c ∷ es) none = cc
 
 -- and the first entries lead to the text as all do
 pub marks-replay : (len : ℕ) (es : List Entry) (text : List ℕ) → has_change es ≡ false → agree (unwind es text) (unwind (take len es) text) ≡ true

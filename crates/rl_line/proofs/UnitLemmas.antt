@@ -2,7 +2,7 @@
 use Rattle.std.proofs.Common.{◌≡◌, ℕ, ◌+◌, ◌≤◌, suc, zero-add, add-zero, length-append, reverse, Bool, true, false, cond, List, [], ◌∷◌, ◌++◌, length, take, drop, Option, Some, None, refl, sym, ap, subst, ◌∙◌, arith, append_assoc, append-nil}
 use Rattle.std.proofs.lemmas.List.{take-append-drop, reverse-append}
 use Rattle.std.specs.Prelude.{option_and_then, IsSome, ◌||◌, max}
-use Rattle.rl_line.specs.Record.{Entry, Begin, End, Inserted, Deleted, Replaced}
+use Rattle.rl_line.specs.Record.{Entry, Begin, End, Changed}
 use Rattle.rl_line.specs.Units.{UndoUnit, Open, Whole, entries, close, add_entry, cut_more, units, together, opens, last_of, kept_of, redo_from, redo_of, is_change, touched, mark, marks, IsMatched}
 use Rattle.rl_line.proofs.Counts.{back_len, ahead_len}
 use Rattle.rl_line.proofs.RecordLemmas.{value_of, IsSome-through, then_both}
@@ -15,9 +15,7 @@ close-together inner (Whole es ∷ us) = close-together (es ++ inner) us ∙ sim
 add-together : (e : Entry) (us : List UndoUnit) → together (add_entry e us) ≡ together us ++ (e ∷ [])
 add-together Begin us = refl
 add-together End us = close-together [] us ∙ ap (λ x. x ++ (End ∷ [])) (append-nil (together us))
-add-together (Inserted i s ps) us = refl
-add-together (Deleted i s ps) us = refl
-add-together (Replaced i s t ps) us = refl
+add-together (Changed k c) us = refl
 
 cut-together : (es : List Entry) (us : List UndoUnit) → together (cut_more us es) ≡ together us ++ es
 cut-together [] us = sym (append-nil (together us))
@@ -177,35 +175,7 @@ one_more n = omega arith
 add_good : (e : Entry) (us : List UndoUnit) (t : List Bool) → AllGood us → mark e (flags_on us []) ≡ Some t
     → AllGood (add_entry e us) × (flags_on (add_entry e us) [] ≡ t)
 add_good Begin us t good h = ((tt, good), cc)
-add_good (Inserted i s ps) us t good h = (
-  (
-    record {
-      flags = λ fs. refl;
-      cuts = λ us. refl;
-      back = λ k rs. one_more (back_len 0 k rs);
-      back_within = λ k d rs. one_more (back_len (suc d) k rs);
-      ahead = λ rs. refl;
-      ahead_within = λ d rs. one_more (ahead_len (suc d) rs);
-    },
-    good,
-  ),
-  cc,
-)
-add_good (Deleted i s ps) us t good h = (
-  (
-    record {
-      flags = λ fs. refl;
-      cuts = λ us. refl;
-      back = λ k rs. one_more (back_len 0 k rs);
-      back_within = λ k d rs. one_more (back_len (suc d) k rs);
-      ahead = λ rs. refl;
-      ahead_within = λ d rs. one_more (ahead_len (suc d) rs);
-    },
-    good,
-  ),
-  cc,
-)
-add_good (Replaced i s w ps) us t good h = (
+add_good (Changed k c) us t good h = (
   (
     record {
       flags = λ fs. refl;
@@ -309,9 +279,7 @@ newest n e es few one =
 pub last_of-change : (n : ℕ) (e : Entry) (es : List Entry) → n ≤ 1 → is_change e ≡ true → last_of n (es ++ e ∷ []) ≡ e ∷ []
 last_of-change n Begin es few is = cc
 last_of-change n End es few is = cc
-last_of-change n (Inserted i s ps) es few is = newest n (Inserted i s ps) es few refl
-last_of-change n (Deleted i s ps) es few is = newest n (Deleted i s ps) es few refl
-last_of-change n (Replaced i s t ps) es few is = newest n (Replaced i s t ps) es few refl
+last_of-change n (Changed k c) es few is = newest n (Changed k c) es few refl
 
 oldest : (e : Entry) (es : List Entry) → units (e ∷ []) ≡ Whole (e ∷ []) ∷ [] → IsMatched es → redo_of (e ∷ es) ≡ e ∷ []
 oldest e es one m =
@@ -321,6 +289,4 @@ oldest e es one m =
 pub redo_of-change : (e : Entry) (es : List Entry) → is_change e ≡ true → IsMatched (e ∷ es) → redo_of (e ∷ es) ≡ e ∷ []
 redo_of-change Begin es is m = cc
 redo_of-change End es is m = cc
-redo_of-change (Inserted i s ps) es is m = oldest (Inserted i s ps) es refl m
-redo_of-change (Deleted i s ps) es is m = oldest (Deleted i s ps) es refl m
-redo_of-change (Replaced i s t ps) es is m = oldest (Replaced i s t ps) es refl m
+redo_of-change (Changed k c) es is m = oldest (Changed k c) es refl m

@@ -1,10 +1,9 @@
 -- Entries that lead from a text to another, with their cursors: what keeps that, and where a line goes over them.
-use Rattle.std.proofs.Common.{◌≡◌, ℕ, ◌+◌, ◌⊎◌, inl, inr, Bool, true, ◌&&◌, zero, suc, List, [], ◌∷◌, ◌++◌, length, take, drop, take-append-drop, Option, Some, None, refl, sym, ap, subst, ◌∙◌}
+use Rattle.std.proofs.Common.{◌≡◌, ℕ, ◌⊎◌, inl, inr, Bool, true, zero, suc, List, [], ◌∷◌, ◌++◌, length, take, drop, take-append-drop, Option, Some, None, refl, sym, ap, subst, ◌∙◌}
 use Rattle.std.proofs.lemmas.Option.{same_Some}
 use Rattle.std.specs.Option.{option_map, option_map_or}
-use Rattle.std.specs.Prelude.{◌==◌, not, cond, encode_utf8, IsSome, option_and_then}
+use Rattle.std.specs.Prelude.{cond, IsSome, option_and_then}
 use Rattle.std.specs.Str.{IsCharBoundary, IsUtf8}
-use Rattle.rl_base.specs.Classes.{is_alphanumeric, is_word_cluster}
 use Rattle.rl_base.specs.declared.listeners.Refusal.{Refusal}
 use Rattle.rl_base.specs.Event.{Event, InsertChar, InsertStr, Delete, Replace, Start, Stop, Cursors, apply}
 use Rattle.rl_base.specs.Text.{is_boundary}
@@ -15,7 +14,7 @@ use Rattle.rl_line.specs.declared.change.Freshness.TheVariants as is
 use Rattle.rl_line.specs.Change.{cursor_stands, text_after, text_back}
 use Rattle.rl_line.specs.Line.{Line, stepped}
 use Rattle.rl_line.specs.Plan.{Step, Plan, after, heard, heard_step, Taken, Done, Halted}
-use Rattle.rl_line.specs.Record.{Entry, Begin, End, Inserted, Deleted, Replaced, Record, cursors_of, entries_after, entries_of, entries_told, event_of, freshness_added, freshness_joined, freshness_of, inverse, joined, record_step, replay_entries, replays_to, swapped, unwind, with_cursors}
+use Rattle.rl_line.specs.Record.{Kind, Swap, Entry, Begin, End, Changed, Record, cursors_of, entries_after, entries_of, entries_told, event_of, freshness_added, freshness_joined, freshness_of, inverse, joined, record_step, replay_entries, replays_to, swapped, unwind, with_cursors}
 use Rattle.rl_line.specs.Undo.{cursor_after, cursor_told, line_ahead, line_back, Redone, Undone}
 use Rattle.rl_line.specs.Units.{begun, end_one, end_times, ended, kept_of, last_of, level, redo_of, truncated}
 use Rattle.rl_line.specs.Walk.{LeadsTo, Walk, Walks}
@@ -23,7 +22,7 @@ use Rattle.rl_line.proofs.JoinLemmas.{record_step-Start, record_step-Stop}
 use Rattle.rl_line.proofs.MarkLemmas.{redo-parts, unwind-truncated}
 use Rattle.rl_line.proofs.MatchLemmas.{end_one-cons}
 use Rattle.rl_line.proofs.PlanLemmas.{first_step}
-use Rattle.rl_line.proofs.RecordLemmas.{entries_of-cases, entries_of-undo, if_else, if_some, inverse-undoes, redone-joined, replay-unwind, undoes-inverse, unless, unwind-replay}
+use Rattle.rl_line.proofs.RecordLemmas.{entries_of-undo, inverse-undoes, joins, none_or_one, redone-joined, replay-unwind, undoes-inverse, unwind-replay}
 use Rattle.rl_line.proofs.UndoLemmas.{line_after-is, line_ahead-replay, line_back-IsSome, line_back-text_back}
 use Rattle.rl_line.proofs.UnitLemmas.{kept-last}
 
@@ -69,51 +68,29 @@ Walk-line_ahead (e ∷ es) line y u w at =
 untold : (e : Entry) (x y : List ℕ) → apply (event_of e) x ≡ Some y → cursors_of e ≡ None → LeadsTo e x y
 untold Begin x y makes none = record { makes = makes; before = refl; after = refl }
 untold End x y makes none = record { makes = makes; before = refl; after = refl }
-untold (Inserted i s None) x y makes none = record { makes = makes; before = refl; after = refl }
-untold (Inserted i s (Some p)) x y makes none = cc
-untold (Deleted i s None) x y makes none = record { makes = makes; before = refl; after = refl }
-untold (Deleted i s (Some p)) x y makes none = cc
-untold (Replaced i s t None) x y makes none = record { makes = makes; before = refl; after = refl }
-untold (Replaced i s t (Some p)) x y makes none = cc
+untold (Changed k c) x y makes none = record { makes = makes; before = rw none refl; after = rw none refl }
 
 -- one that was told them
 told : (e : Entry) (x y : List ℕ) (p : ℕ × ℕ) → apply (event_of e) x ≡ Some y → IsCharBoundary x p.0 → IsCharBoundary y p.1 → LeadsTo (with_cursors p e) x y
 told Begin x y p makes b a = record { makes = makes; before = refl; after = refl }
 told End x y p makes b a = record { makes = makes; before = refl; after = refl }
-told (Inserted i s ps) x y p makes b a = record { makes = makes; before = is_boundary-true x p.0 b; after = is_boundary-true y p.1 a }
-told (Deleted i s ps) x y p makes b a = record { makes = makes; before = is_boundary-true x p.0 b; after = is_boundary-true y p.1 a }
-told (Replaced i s t ps) x y p makes b a = record { makes = makes; before = is_boundary-true x p.0 b; after = is_boundary-true y p.1 a }
-
--- the entries of an event: none, or one
-pub none_or_one : (event : Event) → (entries_of event ≡ []) ⊎ ((e : Entry) × (entries_of event ≡ e ∷ []))
-none_or_one event =
-    entries_of-cases (λ es. (es ≡ []) ⊎ ((e : Entry) × (es ≡ e ∷ []))) event (inl refl) (λ i s. inr (_, refl)) (λ i s. inr (_, refl)) (λ i s t. inr (_, refl))
+told (Changed k c) x y p makes b a = record { makes = makes; before = is_boundary-true x p.0 b; after = is_boundary-true y p.1 a }
 
 -- an event whose entry is added
 added : (event : Event) (x y : List ℕ) (b a : ℕ) → IsUtf8 x → apply event x ≡ Some y → IsCharBoundary x b → IsCharBoundary y a
     → Walk (entries_told (freshness_added (entries_of event)) b a (entries_of event)) x y
 added event x y b a u h before after = from (entries_of event) (entries_of-undo event x y u h) (none_or_one event)
   where
-    from : (es : List Entry) → unwind es y ≡ Some x → (es ≡ []) ⊎ ((e : Entry) × (es ≡ e ∷ [])) → Walk (entries_told (freshness_added es) b a es) x y
+    from : (es : List Entry) → unwind es y ≡ Some x → (es ≡ []) ⊎ ((k : Kind) × (c : Swap) × (es ≡ Changed k c ∷ [])) → Walk (entries_told (freshness_added es) b a es) x y
     from es back (inl none) =
         subst (λ ks. Walk (entries_told (freshness_added ks) b a ks) x y) (sym none) (same_Some _ _ (sym (ap (λ ks. unwind ks y) (sym none) ∙ back)))
-    from es back (inr (e, one)) =
-        let makes = undoes-inverse e x y (apply-IsUtf8 event x y u h) (ap (λ ks. unwind ks y) (sym one) ∙ back) in
-        subst (λ ks. Walk (entries_told (freshness_added ks) b a ks) x y) (sym one) (y, told e x y (b, a) makes before after, refl)
+    from es back (inr (k, c, one)) =
+        let makes = undoes-inverse (Changed k c) x y (apply-IsUtf8 event x y u h) (ap (λ ks. unwind ks y) (sym one) ∙ back) in
+        subst (λ ks. Walk (entries_told (freshness_added ks) b a ks) x y) (sym one) (y, told (Changed k c) x y (b, a) makes before after, refl)
 
 -- the one entry that stands for two was told no cursors
 joint-untold : (event : Event) (e joint : Entry) → joined event e ≡ Some joint → cursors_of joint ≡ None
-joint-untold (InsertChar i c) (Inserted j s ps) joint h =
-    let b = if_some (is_alphanumeric c && (j + length s == i)) (Inserted j (s ++ encode_utf8 c) None) joint h in ap cursors_of (sym b.1)
-joint-untold (Delete i s side) (Deleted j t ps) joint h =
-    let before = cond (i + length s == j) (Some (Deleted i (s ++ t) None)) None in
-    elim (if_else (j == i) (Deleted i (t ++ s) None) joint before (unless (not (is_word_cluster s)) joint (cond (j == i) (Some (Deleted i (t ++ s) None)) before) h)) [
-      | inl b ↦ ap cursors_of (sym b.1)
-      | inr k ↦ ap cursors_of (sym (if_some (i + length s == j) (Deleted i (s ++ t) None) joint k).1)
-    ]
-joint-untold (Replace i s t) (Replaced j o w ps) joint h =
-    let b = if_some (j + length w == i) (Replaced j (o ++ s) (w ++ t) None) joint h in ap cursors_of (sym b.1)
-joint-untold event e joint h = cc
+joint-untold event e joint h = let j = joins event e joint h in ap cursors_of (sym j.is) ∙ j.none
 
 -- the cursor before an entry is told by its inverse
 pub cursor_told-back : (e : Entry) (p : ℕ × ℕ) → cursors_of e ≡ Some p → cursor_told (inverse e) ≡ Some p.0
@@ -126,9 +103,7 @@ cursor_told-back e p c = turned e ∙ ap (option_map (λ (q : ℕ × ℕ). q.0))
     turned : (k : Entry) → cursor_told (inverse k) ≡ option_map (λ (q : ℕ × ℕ). q.0) (cursors_of k)
     turned Begin = refl
     turned End = refl
-    turned (Inserted i s ps) = swapped-told ps
-    turned (Deleted i s ps) = swapped-told ps
-    turned (Replaced i s t ps) = swapped-told ps
+    turned (Changed k c) = swapped-told c.cursors
 
 -- so it stands in the text before it
 before-stands : (e : Entry) (x : List ℕ) (p : ℕ × ℕ) → cursors_of e ≡ Some p → cursor_stands true (inverse e) x ≡ true → IsCharBoundary x p.0
@@ -289,9 +264,7 @@ unfolding apply
 Walk-end_one [] x y e = (x, (mark-leads x).1, e)
 Walk-end_one (Begin ∷ []) x y w = same_Some _ _ w.1.makes ∙ w.2
 Walk-end_one (End ∷ []) x y w = (w.0, w.1, (w.0, (mark-leads w.0).1, w.2))
-Walk-end_one (Inserted i s ps ∷ []) x y w = (w.0, w.1, (w.0, (mark-leads w.0).1, w.2))
-Walk-end_one (Deleted i s ps ∷ []) x y w = (w.0, w.1, (w.0, (mark-leads w.0).1, w.2))
-Walk-end_one (Replaced i s t ps ∷ []) x y w = (w.0, w.1, (w.0, (mark-leads w.0).1, w.2))
+Walk-end_one (Changed k c ∷ []) x y w = (w.0, w.1, (w.0, (mark-leads w.0).1, w.2))
 Walk-end_one (e ∷ (d ∷ ds)) x y w = subst (λ es. Walk es x y) (sym (end_one-cons e d ds)) (w.0, w.1, Walk-end_one (d ∷ ds) w.0 y w.2)
 
 Walk-end_times : (n : ℕ) (es : List Entry) (x y : List ℕ) → Walk es x y → Walk (end_times n es) x y

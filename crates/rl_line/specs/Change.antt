@@ -9,7 +9,7 @@ use Rattle.rl_line.specs.declared.change.Measure.{Measure}
 use Rattle.rl_line.specs.declared.change.Measure.TheVariants.{Bytes, Newlines}
 use Rattle.rl_line.specs.declared.change.Way.{Way}
 use Rattle.rl_line.specs.declared.change.Way.TheVariants.{Back, Ahead}
-use Rattle.rl_line.specs.Record.{Entry, Begin, End, Inserted, Deleted, Replaced, cursors_of, entry_of, event_of, freshness_joined, inverse, joined, new_text, old_text}
+use Rattle.rl_line.specs.Record.{Entry, Changed, cursors_of, entry_of, event_of, freshness_joined, inverse, joined, new_text, old_text}
 use Rattle.rl_line.specs.declared.change.Freshness.{Freshness}
 use Rattle.rl_line.specs.Undo.{cursor_told}
 
@@ -34,11 +34,8 @@ text_back asks (e ∷ es) text = option_and_then (text_after asks (inverse e)) (
 
 -- the byte place of a change; a mark has none
 abbrev pub place : Entry → Option ℕ
-place Begin = None
-place End = None
-place (Inserted i s cursors) = Some i
-place (Deleted i s cursors) = Some i
-place (Replaced i s t cursors) = Some i
+place (Changed kind swap) = Some swap.place
+place _ = None
 
 -- the entry that is taken back where a line goes over a change: going ahead, its inverse
 abbrev pub faced : Way → Change → Entry

@@ -1,4 +1,4 @@
--- The table of a line's text: where its lines begin, but for the first.
+-- The table of a line's text: where its lines begin, except the first.
 use Rattle.std.specs.Prelude.{◌≡◌, ℕ, ◌+◌, ◌-◌, ◌≤◌, List, ◌++◌, count_by, map, filter, take, drop, length, slice_range}
 use Rattle.std.specs.List.{enumerate_from}
 use Rattle.rl_base.specs.Lines.{is_newline}

@@ -3,7 +3,6 @@ use Rattle.std.specs.Prelude.{◌≡◌, Bool, false, ℕ, ◌+◌, not, ◌==�
 use Rattle.std.specs.Option.{option_map_or}
 use Rattle.std.specs.Str.{bytes_eq}
 use Rattle.std.specs.String.{string_bytes}
-use Rattle.rl_base.specs.declared.listeners.Direction.TheVariants.{Forward}
 use Rattle.rl_base.specs.declared.listeners.Refusal.{Refusal}
 use Rattle.rl_base.specs.declared.listeners.Refusal.TheVariants.{NoMemory}
 use Rattle.rl_base.specs.Event.{Event, InsertChar, InsertStr, Delete, Replace, Start, Stop, Cursors, apply, replay}
@@ -13,21 +12,39 @@ use Rattle.rl_line.specs.declared.change.Change.TheVariants as made
 use Rattle.rl_line.specs.declared.change.Freshness.{Freshness}
 use Rattle.rl_line.specs.declared.change.Freshness.TheVariants as is
 
--- the marks of a group's begin and end, and the changes, each with the cursor's places before it and after it where these were told
+-- the kinds of changes, which differ in what joins them
+pub data Kind : Type 0 where
+  Insertion : Kind
+  Deletion : Kind
+  Replacement : Kind
+
+-- what a change does: at a place, one text gives way to another; and the cursor's places before and after it, where these were told
+pub record Swap : Type 0 where
+  pub place : ℕ
+  pub old : List ℕ
+  pub new : List ℕ
+  pub cursors : Option (ℕ × ℕ)
+
+-- the marks of a group's begin and end, and the changes
 pub data Entry : Type 0 where
   Begin : Entry
   End : Entry
-  Inserted : (place : ℕ) (text : List ℕ) (cursors : Option (ℕ × ℕ)) → Entry
-  Deleted : (place : ℕ) (text : List ℕ) (cursors : Option (ℕ × ℕ)) → Entry
-  Replaced : (place : ℕ) (before after : List ℕ) (cursors : Option (ℕ × ℕ)) → Entry
+  Changed : (kind : Kind) (swap : Swap) → Entry
 
 -- the entry that a change of the code stands for
 abbrev pub entry_of : Change → Entry
 entry_of made.Begin = Begin
 entry_of made.End = End
-entry_of (made.Insert cursors i s) = Inserted i (string_bytes s) cursors
-entry_of (made.Delete cursors i gathered) = Deleted i gathered.text cursors
-entry_of (made.Replace cursors i texts) = Replaced i (string_bytes texts.value.before) (string_bytes texts.value.after) cursors
+entry_of (made.Insert cursors i s) = Changed Insertion (record { place = i; old = []; new = string_bytes s; cursors = cursors })
+entry_of (made.Delete cursors i gathered) = Changed Deletion (record { place = i; old = gathered.text; new = []; cursors = cursors })
+entry_of (made.Replace cursors i texts) =
+    Changed Replacement (record { place = i; old = string_bytes texts.value.before; new = string_bytes texts.value.after; cursors = cursors })
+
+-- an insertion takes nothing out, and a deletion puts nothing in
+abbrev pub IsOfKind : Entry → Type 0
+IsOfKind (Changed Insertion swap) = swap.old ≡ []
+IsOfKind (Changed Deletion swap) = swap.new ≡ []
+IsOfKind _ = Unit {0}
 
 -- what was recorded, the oldest first; what was undone and waits to be redone, in the order in which it was made; and whether
 -- the cursors of the last recorded change may still be told
@@ -36,28 +53,40 @@ pub record Record : Type 0 where
   pub pending : List Entry
   pub fresh : Freshness
 
+-- a change that has no cursors yet
+abbrev pub untold : ℕ → List ℕ → List ℕ → Swap
+untold i old new = record { place = i; old = old; new = new; cursors = None }
+
 -- the entries that an event adds: nothing for an empty text, unless it replaces one
 unfoldable pub entries_of : Event → List Entry
-entries_of (InsertChar i c) = Inserted i (encode_utf8 c) None ∷ []
-entries_of (InsertStr i s) = if length s == 0 then [] else Inserted i s None ∷ []
-entries_of (Delete i s _) = if length s == 0 then [] else Deleted i s None ∷ []
-entries_of (Replace i s t) = Replaced i s t None ∷ []
+entries_of (InsertChar i c) = Changed Insertion (untold i [] (encode_utf8 c)) ∷ []
+entries_of (InsertStr i s) = if length s == 0 then [] else Changed Insertion (untold i [] s) ∷ []
+entries_of (Delete i s _) = if length s == 0 then [] else Changed Deletion (untold i s []) ∷ []
+entries_of (Replace i s t) = Changed Replacement (untold i s t) ∷ []
 entries_of Start = []
 entries_of Stop = []
 entries_of (Cursors _ _) = []
+
+-- the place right after what a change put in
+abbrev pub past : Swap → ℕ
+past swap = swap.place + length swap.new
+
+-- one change for two: at the place right after the first, the second makes s give way to t
+abbrev pub followed : Swap → List ℕ → List ℕ → Swap
+followed swap s t = untold swap.place (swap.old ++ s) (swap.new ++ t)
 
 -- the one entry that stands for an entry and an event that joins it: an alphanumeric character right after what
 -- was inserted, an alphanumeric cluster that stood right after what was deleted, or before it, and a replacement
 -- right after what was put in. The one entry has no cursors yet
 abbrev pub joined : Event → Entry → Option Entry
-joined (InsertChar i c) (Inserted j s _) =
-    if is_alphanumeric c && (j + length s == i) then Some (Inserted j (s ++ encode_utf8 c) None) else None
-joined (Delete i s _) (Deleted j t _) =
+joined (InsertChar i c) (Changed Insertion last) =
+    if is_alphanumeric c && (past last == i) then Some (Changed Insertion (followed last [] (encode_utf8 c))) else None
+joined (Delete i s _) (Changed Deletion last) =
     if not (is_word_cluster s) then None
-    else if j == i then Some (Deleted i (t ++ s) None)
-    else if i + length s == j then Some (Deleted i (s ++ t) None)
+    else if past last == i then Some (Changed Deletion (followed last s []))
+    else if i + length s == last.place then Some (Changed Deletion (untold i (s ++ last.old) last.new))
     else None
-joined (Replace i s t) (Replaced j o w _) = if j + length w == i then Some (Replaced j (o ++ s) (w ++ t) None) else None
+joined (Replace i s t) (Changed Replacement last) = if past last == i then Some (Changed Replacement (followed last s t)) else None
 joined _ _ = None
 
 -- an entry and an event that comes after it
@@ -74,9 +103,7 @@ entries_after event (e ∷ (d ∷ ds)) = e ∷ entries_after event (d ∷ ds)
 abbrev pub cursors_of : Entry → Option (ℕ × ℕ)
 cursors_of Begin = None
 cursors_of End = None
-cursors_of (Inserted i s cursors) = cursors
-cursors_of (Deleted i s cursors) = cursors
-cursors_of (Replaced i s t cursors) = cursors
+cursors_of (Changed kind swap) = swap.cursors
 
 -- a change that an event joined has kept the cursor before it where its cursors were told, and else can't be told cursors
 abbrev pub freshness_joined : Option (ℕ × ℕ) → Freshness
@@ -105,9 +132,7 @@ freshness_after event r = freshness_of event r.recorded
 abbrev pub with_cursors : ℕ × ℕ → Entry → Entry
 with_cursors cursors Begin = Begin
 with_cursors cursors End = End
-with_cursors cursors (Inserted i s _) = Inserted i s (Some cursors)
-with_cursors cursors (Deleted i s _) = Deleted i s (Some cursors)
-with_cursors cursors (Replaced i s t _) = Replaced i s t (Some cursors)
+with_cursors cursors (Changed kind swap) = Changed kind (record swap { cursors = Some cursors })
 
 -- the entries, of which the last is told its cursors
 abbrev pub last_told : ℕ × ℕ → List Entry → List Entry
@@ -152,36 +177,37 @@ IsRecorded (Cursors _ _) = ⊥
 abbrev pub record_refused : Record → Event → Refusal → Record → Type 0
 record_refused old event why now = (why ≡ NoMemory) × (now ≡ old) × IsRecorded event
 
--- the event that redoes an entry; a mark changes nothing
+-- the event that redoes an entry: an insertion replaces nothing, and a deletion replaces by nothing; a mark changes nothing
 abbrev pub event_of : Entry → Event
 event_of Begin = Start
 event_of End = Stop
-event_of (Inserted i s _) = InsertStr i s
-event_of (Deleted i s _) = Delete i s Forward
-event_of (Replaced i s t _) = Replace i s t
+event_of (Changed kind swap) = Replace swap.place swap.old swap.new
 
 -- the same places the other way round
 abbrev pub swapped : Option (ℕ × ℕ) → Option (ℕ × ℕ)
 swapped None = None
 swapped (Some cursors) = Some (cursors.1, cursors.0)
 
+-- the kind of what takes a change back
+abbrev pub opposite : Kind → Kind
+opposite Insertion = Deletion
+opposite Deletion = Insertion
+opposite Replacement = Replacement
+
 -- the entry that takes an entry back
 abbrev pub inverse : Entry → Entry
 inverse Begin = Begin
 inverse End = End
-inverse (Inserted i s cursors) = Deleted i s (swapped cursors)
-inverse (Deleted i s cursors) = Inserted i s (swapped cursors)
-inverse (Replaced i s t cursors) = Replaced i t s (swapped cursors)
+inverse (Changed kind swap) =
+    Changed (opposite kind) (record { place = swap.place; old = swap.new; new = swap.old; cursors = swapped swap.cursors })
 
 -- the text that stood at a change's place before it, and the one that stood there after it
 abbrev pub old_text : Entry → List ℕ
-old_text (Deleted i s cursors) = s
-old_text (Replaced i s t cursors) = s
+old_text (Changed kind swap) = swap.old
 old_text _ = []
 
 abbrev pub new_text : Entry → List ℕ
-new_text (Inserted i s cursors) = s
-new_text (Replaced i s t cursors) = t
+new_text (Changed kind swap) = swap.new
 new_text _ = []
 
 -- how many bytes come where the entries are taken back, and where they are made again
@@ -214,8 +240,8 @@ replays_to len r text = agree (unwind r.recorded text) (unwind (take len r.recor
 -- what the first entry that is not an End put in, where entries are listed the last first
 abbrev pub put_in_first : List Entry → Option (List ℕ)
 put_in_first (End ∷ es) = put_in_first es
-put_in_first (Inserted i s _ ∷ es) = Some s
-put_in_first (Replaced i s t _ ∷ es) = Some t
+put_in_first (Changed Insertion swap ∷ es) = Some swap.new
+put_in_first (Changed Replacement swap ∷ es) = Some swap.new
 put_in_first _ = None
 
 -- what the last entry put in, Ends passed over

@@ -4,7 +4,7 @@ use Rattle.std.specs.Option.{option_map}
 use Rattle.std.specs.Str.{IsCharBoundary}
 use Rattle.rl_base.specs.Event.{Event, apply}
 use Rattle.rl_line.specs.Line.{Line, after_step}
-use Rattle.rl_line.specs.Record.{Entry, Begin, End, Inserted, Deleted, Replaced, Record, bytes_ahead, bytes_back, cursors_of, event_of, inverse, replay_entries, unwind}
+use Rattle.rl_line.specs.Record.{Entry, Begin, End, Changed, Record, bytes_ahead, bytes_back, cursors_of, event_of, inverse, past, replay_entries, unwind}
 use Rattle.rl_line.specs.Units.{last_of, redo_of, has_change, undone, redone}
 
 -- the cursor after an entry was made, where that was told
@@ -15,9 +15,7 @@ cursor_told e = option_map (λ (cursors : ℕ × ℕ). cursors.1) (cursors_of e)
 abbrev pub place_after : ℕ → Entry → ℕ
 place_after cursor Begin = cursor
 place_after cursor End = cursor
-place_after cursor (Inserted i s _) = i + length s
-place_after cursor (Deleted i s _) = i
-place_after cursor (Replaced i s t _) = i + length t
+place_after cursor (Changed kind swap) = past swap
 
 -- the cursor after an entry was made
 abbrev pub cursor_after : ℕ → Entry → ℕ

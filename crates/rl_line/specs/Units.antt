@@ -2,7 +2,7 @@
 use Rattle.std.specs.Prelude.{◌≡◌, ℕ, zero, suc, max, not, ◌||◌, Bool, true, false, List, [], ◌∷◌, ◌++◌, length, take, drop, reverse, Option, Some, None, IsSome, IsTrue, option_and_then, if◌then◌else◌}
 use Rattle.rl_base.specs.Event.{Event}
 use Rattle.rl_line.specs.declared.change.Freshness.TheVariants.{Stale}
-use Rattle.rl_line.specs.Record.{Entry, Begin, End, Inserted, Deleted, Replaced, Record, record_step}
+use Rattle.rl_line.specs.Record.{Entry, Begin, End, Changed, Record, record_step}
 
 -- a unit: the Begin of an open group, or entries that come and go as one, which are a change or a closed group
 pub data UndoUnit : Type 0 where
@@ -23,9 +23,7 @@ close inner (Whole es ∷ us) = close (es ++ inner) us
 abbrev pub add_entry : Entry → List UndoUnit → List UndoUnit
 add_entry Begin us = Open ∷ us
 add_entry End us = close [] us
-add_entry (Inserted i s cursors) us = Whole (Inserted i s cursors ∷ []) ∷ us
-add_entry (Deleted i s cursors) us = Whole (Deleted i s cursors ∷ []) ∷ us
-add_entry (Replaced i s t cursors) us = Whole (Replaced i s t cursors ∷ []) ∷ us
+add_entry (Changed kind swap) us = Whole (Changed kind swap ∷ []) ∷ us
 
 abbrev pub cut_more : List UndoUnit → List Entry → List UndoUnit
 cut_more us [] = us
@@ -71,9 +69,8 @@ abbrev pub redo_of : List Entry → List Entry
 redo_of es = redo_from es (reverse (units es))
 
 abbrev pub is_change : Entry → Bool
-is_change Begin = false
-is_change End = false
-is_change _ = true
+is_change (Changed kind swap) = true
+is_change _ = false
 
 abbrev pub has_change : List Entry → Bool
 has_change [] = false
@@ -131,9 +128,7 @@ mark Begin flags = Some (false ∷ flags)
 mark End [] = None
 mark End (false ∷ flags) = None
 mark End (true ∷ flags) = Some (touched flags)
-mark (Inserted i s cursors) flags = Some (touched flags)
-mark (Deleted i s cursors) flags = Some (touched flags)
-mark (Replaced i s t cursors) flags = Some (touched flags)
+mark (Changed kind swap) flags = Some (touched flags)
 
 abbrev pub marks : List Entry → List Bool → Option (List Bool)
 marks [] flags = Some flags

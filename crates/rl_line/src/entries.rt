@@ -8,7 +8,7 @@ ghost use Rattle.rl_base.specs.Event.{InsertChar, InsertStr, Delete, Replace};
 ghost use Rattle.rl_base.specs.Text.{HasText};
 ghost use Rattle.rl_base.specs.declared.listeners.Direction.TheVariants.{Forward};
 ghost use Rattle.rl_base.specs.declared.listeners.Refusal.TheVariants.{NoMemory};
-ghost use Rattle.rl_line.specs.Record.{Inserted, entries_told, entry_of, last_insert};
+ghost use Rattle.rl_line.specs.Record.{Changed, Insertion, untold, entries_told, entry_of, last_insert};
 ghost use Rattle.rl_line.specs.Units.{IsMatched, adds_end, end_one, end_times, ends_in_begin, has_change, is_change, last_of, level, redo_of};
 ghost use Rattle.rl_line.specs.Entries.{JoinsLast, deep, Records};
 
@@ -42,7 +42,7 @@ pub(crate) fn insert_char(
 #[inline(never)]
 fn add_char(entries: &mut Vec<Change>, recorded: usize, idx: usize, c: char) -> Result<(), Refusal>
     requires { recorded ≤ length entries.old.items }
-    ensures ok { OnOk result (map entry_of entries.new.items ≡ take recorded (map entry_of entries.old.items) ++ Inserted idx (encode_utf8 c) None ∷ []) }
+    ensures ok { OnOk result (map entry_of entries.new.items ≡ take recorded (map entry_of entries.old.items) ++ Changed Insertion (untold idx [] (encode_utf8 c)) ∷ []) }
     ensures err { IfErr result (λ r. (r ≡ NoMemory) × (map entry_of entries.new.items ≡ map entry_of entries.old.items)) }
 {
     let mut text = String::new(*entries.allocator());

@@ -1,11 +1,10 @@
 -- An edit that adds one entry: its cursors are where the cursor was before the edit, and where its last step left it.
-use Rattle.std.proofs.Common.{◌≡◌, ℕ, ◌+◌, ◌<◌, ◌≤◌, ◌⊎◌, inl, inr, Bool, true, false, ◌&&◌, List, [], ◌∷◌, ◌++◌, length, length-append, append-nil, Option, Some, None, refl, sym, ap, subst, ◌∙◌, arith}
+use Rattle.std.proofs.Common.{◌≡◌, ℕ, ◌+◌, ◌<◌, ◌≤◌, ◌⊎◌, inl, inr, List, [], ◌∷◌, ◌++◌, length, length-append, append-nil, Option, Some, None, refl, sym, ap, subst, ◌∙◌, arith}
 use Rattle.std.proofs.lemmas.Option.{same_Some}
 use Rattle.std.proofs.lemmas.Str.{length-encode, len_utf8_bounds}
 use Rattle.std.specs.Option.{option_map_or}
-use Rattle.std.specs.Prelude.{◌==◌, not, cond, encode_utf8}
+use Rattle.std.specs.Prelude.{encode_utf8}
 use Rattle.std.specs.Str.{IsUtf8}
-use Rattle.rl_base.specs.Classes.{is_alphanumeric, is_word_cluster}
 use Rattle.rl_base.specs.declared.listeners.Direction.{Direction}
 use Rattle.rl_base.specs.Event.{Event, InsertChar, InsertStr, Delete, Replace, Start, Stop, Cursors, apply}
 use Rattle.rl_base.proofs.SwapLemmas.{apply-IsUtf8}
@@ -13,12 +12,12 @@ use Rattle.rl_line.specs.declared.change.Freshness.{Freshness}
 use Rattle.rl_line.specs.declared.change.Freshness.TheVariants as is
 use Rattle.rl_line.specs.Line.{Line, stepped}
 use Rattle.rl_line.specs.Plan.{Step, after, heard, heard_step}
-use Rattle.rl_line.specs.Record.{Entry, Begin, End, Inserted, Deleted, Replaced, Record, cursors_of, entries_after, entries_of, entries_told, event_of, freshness_added, freshness_joined, freshness_of, joined, last_told, record_step, unwind, with_cursors}
+use Rattle.rl_line.specs.Record.{Kind, Insertion, Deletion, Replacement, Swap, Entry, Begin, End, Changed, Record, cursors_of, entries_after, entries_of, entries_told, event_of, freshness_added, freshness_joined, freshness_of, joined, last_told, record_step, unwind, with_cursors}
 use Rattle.rl_line.proofs.JoinLemmas.{fresh-Delete-nothing}
 use Rattle.rl_line.proofs.PlanLemmas.{first_step}
-use Rattle.rl_line.proofs.RecordLemmas.{entries_of-undo, if_else, if_some, redone-joined, undoes-inverse, unless}
+use Rattle.rl_line.proofs.RecordLemmas.{char-joined, deletion-joined, entries_of-undo, joins, none_or_one, redone-joined, replacement-joined, undoes-inverse}
 use Rattle.rl_line.proofs.ToldLemmas.{same-event, told-cases}
-use Rattle.rl_line.proofs.WalkLemmas.{after-some, none_or_one, told-added, told-after}
+use Rattle.rl_line.proofs.WalkLemmas.{after-some, told-added, told-after}
 
 -- an event of a text, which is the last one where it is a replacement
 abbrev pub IsLone : Event → List Step → Type 0
@@ -133,16 +132,12 @@ told-one es k b a h = ap (λ (ks : List Entry). entries_told (freshness_added ks
 abbrev weight : Entry → ℕ
 weight Begin = 0
 weight End = 0
-weight (Inserted i s ps) = length s
-weight (Deleted i s ps) = length s
-weight (Replaced i s t ps) = length s + length t
+weight (Changed k c) = length c.old + length c.new
 
 same-weight : (p : ℕ × ℕ) (e : Entry) → weight (with_cursors p e) ≡ weight e
 same-weight p Begin = refl
 same-weight p End = refl
-same-weight p (Inserted i s ps) = refl
-same-weight p (Deleted i s ps) = refl
-same-weight p (Replaced i s t ps) = refl
+same-weight p (Changed k c) = refl
 
 -- at each place an entry that is no lighter, and perhaps more entries after these
 abbrev Grows : List Entry → List Entry → Type 0
@@ -171,32 +166,27 @@ Grows-last_told p (e ∷ []) = let same = same-weight p e in (omega (arith, same
 Grows-last_told p (e ∷ (d ∷ ds)) = (omega arith, Grows-last_told p (d ∷ ds))
 
 -- a text that was taken out and joins another is not empty
-cut-some : (i : ℕ) (s : List ℕ) (side : Direction) (k : ℕ) (t : List ℕ) (ps : Option (ℕ × ℕ)) (j : Entry) → joined (Delete i s side) (Deleted k t ps) ≡ Some j → 0 < length s
-cut-some i [] side k t ps j h =
-    let stale = fresh-Delete-nothing (Deleted k t (Some (0, 0)) ∷ []) i [] side refl in
+cut-some : (i : ℕ) (s : List ℕ) (side : Direction) (c : Swap) (j : Entry) → joined (Delete i s side) (Changed Deletion c) ≡ Some j → 0 < length s
+cut-some i [] side c j h =
+    let last = Changed Deletion (record c { cursors = Some (0, 0) }) in
+    let stale = fresh-Delete-nothing (last ∷ []) i [] side refl in
     let told : is.Joined 0 ≡ is.Stale = ap (λ o. option_map_or (λ _. freshness_joined (Some (0, 0))) o (freshness_added (entries_of (Delete i [] side)))) (sym h) ∙ stale in
     cc
-cut-some i (x ∷ s) side k t ps j h = omega arith
+cut-some i (x ∷ s) side c j h = omega arith
 
 -- an entry that an event joins is heavier then, but for a replacement, which may be of nothing
 heavier : (event : Event) (e j : Entry) (ss : List Step) → joined event e ≡ Some j → IsLone event ss → (weight e < weight j) ⊎ ((weight e ≤ weight j) × (ss ≡ []))
-heavier (InsertChar i c) (Inserted k s ps) j ss h lone =
-    let b = if_some (is_alphanumeric c && (k + length s == i)) (Inserted k (s ++ encode_utf8 c) None) j h in
-    let least : length s < length (s ++ encode_utf8 c) = omega (arith, length-append s (encode_utf8 c), length-encode c, (len_utf8_bounds c).0) in
-    inl (subst (λ n. length s < n) (ap weight b.1) least)
-heavier (Delete i s side) (Deleted k t ps) j ss h lone =
-    let rest = cond (i + length s == k) (Some (Deleted i (s ++ t) None)) None in
-    let some = cut-some i s side k t ps j h in
-    let after : length t < length (t ++ s) = omega (arith, some, length-append t s) in
-    let before : length t < length (s ++ t) = omega (arith, some, length-append s t) in
-    elim (if_else (k == i) (Deleted i (t ++ s) None) j rest (unless (not (is_word_cluster s)) j (cond (k == i) (Some (Deleted i (t ++ s) None)) rest) h)) [
-      | inl b ↦ inl (subst (λ n. length t < n) (ap weight b.1) after)
-      | inr q ↦ inl (subst (λ n. length t < n) (ap weight (if_some (i + length s == k) (Deleted i (s ++ t) None) j q).1) before)
+heavier (InsertChar i c) (Changed Insertion l) j ss h lone =
+    let some : 0 < length (encode_utf8 c) = omega (arith, length-encode c, (len_utf8_bounds c).0) in
+    inl (subst (λ k. weight (Changed Insertion l) < weight k) (char-joined i c l j h).1 (omega (arith, some, length-append l.old [], length-append l.new (encode_utf8 c))))
+heavier (Delete i s side) (Changed Deletion l) j ss h lone =
+    let some = cut-some i s side l j h in
+    elim (deletion-joined i s side l j h) [
+      | inl b ↦ inl (subst (λ k. weight (Changed Deletion l) < weight k) b.1 (omega (arith, some, length-append l.old s, length-append l.new [])))
+      | inr b ↦ inl (subst (λ k. weight (Changed Deletion l) < weight k) b.1 (omega (arith, some, length-append s l.old)))
     ]
-heavier (Replace i s t) (Replaced k o w ps) j ss h lone =
-    let b = if_some (k + length w == i) (Replaced k (o ++ s) (w ++ t) None) j h in
-    let least : length o + length w ≤ length (o ++ s) + length (w ++ t) = omega (arith, length-append o s, length-append w t) in
-    inr (subst (λ n. length o + length w ≤ n) (ap weight b.1) least, lone)
+heavier (Replace i s t) (Changed Replacement l) j ss h lone =
+    inr (subst (λ k. weight (Changed Replacement l) ≤ weight k) (replacement-joined i s t l j h).1 (omega (arith, length-append l.old s, length-append l.new t)), lone)
 heavier event e j ss h lone = cc
 
 Grows-after : (event : Event) (es : List Entry) (ss : List Step) → IsLone event ss → Grows es (entries_after event es)
@@ -223,34 +213,17 @@ Grows-heard b (s ∷ ss) r q =
     Grows-on es k.recorded (heard record_step s.1 ss k).recorded (subst (Grows es) (sym (recorded-next b s.0 s.1 ss r q.1)) first) (Grows-heard s.1 ss k q.2)
 
 -- ---- one entry is there, and stays the only one
-only_else : (b : Bool) (k e : Entry) → cond b [] (k ∷ []) ≡ e ∷ [] → k ≡ e
-only_else true k e h = cc
-only_else false k e h = cc
-
 -- the entry that an event adds is told its cursors
 added-cursors : (event : Event) (e : Entry) (p : ℕ × ℕ) → entries_of event ≡ e ∷ [] → cursors_of (with_cursors p e) ≡ Some p
-unfolding entries_of
-added-cursors (InsertChar i c) e p h = let same : Inserted i (encode_utf8 c) None ≡ e = cc in ap (λ (q : Entry). cursors_of (with_cursors p q)) (sym same)
-added-cursors (InsertStr i s) e p h = let same = only_else (length s == 0) (Inserted i s None) e h in ap (λ (q : Entry). cursors_of (with_cursors p q)) (sym same)
-added-cursors (Delete i s side) e p h = let same = only_else (length s == 0) (Deleted i s None) e h in ap (λ (q : Entry). cursors_of (with_cursors p q)) (sym same)
-added-cursors (Replace i s t) e p h = let same : Replaced i s t None ≡ e = cc in ap (λ (q : Entry). cursors_of (with_cursors p q)) (sym same)
-added-cursors Start e p h = cc
-added-cursors Stop e p h = cc
-added-cursors (Cursors b a) e p h = cc
+added-cursors event e p h =
+    elim (none_or_one event) [
+      | inl none ↦ let no : [] ≡ e ∷ [] = sym none ∙ h in cc
+      | inr (k, c, one) ↦ let both : Changed k c ∷ [] ≡ e ∷ [] = sym one ∙ h in let same : Changed k c ≡ e = cc in ap (λ (q : Entry). cursors_of (with_cursors p q)) (sym same)
+    ]
 
 -- and so is one that an event joined
 joint-cursors : (event : Event) (e joint : Entry) (p : ℕ × ℕ) → joined event e ≡ Some joint → cursors_of (with_cursors p joint) ≡ Some p
-joint-cursors (InsertChar i c) (Inserted k s ps) joint p h =
-    let b = if_some (is_alphanumeric c && (k + length s == i)) (Inserted k (s ++ encode_utf8 c) None) joint h in ap (λ (q : Entry). cursors_of (with_cursors p q)) (sym b.1)
-joint-cursors (Delete i s side) (Deleted k t ps) joint p h =
-    let rest = cond (i + length s == k) (Some (Deleted i (s ++ t) None)) None in
-    elim (if_else (k == i) (Deleted i (t ++ s) None) joint rest (unless (not (is_word_cluster s)) joint (cond (k == i) (Some (Deleted i (t ++ s) None)) rest) h)) [
-      | inl b ↦ ap (λ (q : Entry). cursors_of (with_cursors p q)) (sym b.1)
-      | inr q ↦ ap (λ (q : Entry). cursors_of (with_cursors p q)) (sym (if_some (i + length s == k) (Deleted i (s ++ t) None) joint q).1)
-    ]
-joint-cursors (Replace i s t) (Replaced k o w ps) joint p h =
-    let b = if_some (k + length w == i) (Replaced k (o ++ s) (w ++ t) None) joint h in ap (λ (q : Entry). cursors_of (with_cursors p q)) (sym b.1)
-joint-cursors event e joint p h = cc
+joint-cursors event e joint p h = ap (λ (q : Entry). cursors_of (with_cursors p q)) (sym (joins event e joint h).is)
 
 -- an event that adds no entry leaves the text
 text-same : (event : Event) (x y : List ℕ) → IsUtf8 x → apply event x ≡ Some y → entries_of event ≡ [] → y ≡ x
@@ -275,7 +248,7 @@ one-more event x text now k first b a u alone h quiet = from (joined event k) re
     v : IsUtf8 text
     v = apply-IsUtf8 (event_of k) x text u alone.makes
 
-    apart : joined event k ≡ None → (entries_of event ≡ []) ⊎ ((d : Entry) × (entries_of event ≡ d ∷ []))
+    apart : joined event k ≡ None → (entries_of event ≡ []) ⊎ ((kind : Kind) × (swap : Swap) × (entries_of event ≡ Changed kind swap ∷ []))
         → StaysOne event x now k first b a ⊎ ((d : Entry) × (next event (k ∷ []) b a ≡ k ∷ (d ∷ [])))
     apart j (inl none) = inl (record {
       entry = k;
@@ -285,7 +258,9 @@ one-more event x text now k first b a u alone h quiet = from (joined event k) re
         makes = alone.makes ∙ ap (λ t. Some t) (sym (text-same event text now v h none));
       };
     })
-    apart j (inr (d, one)) = inr (with_cursors (b, a) d, next-apart event k b a j ∙ ap (λ es. k ∷ es) (told-one (entries_of event) d b a one))
+    apart j (inr (kind, swap, one)) =
+        let d = Changed kind swap in
+        inr (with_cursors (b, a) d, next-apart event k b a j ∙ ap (λ es. k ∷ es) (told-one (entries_of event) d b a one))
 
     from : (o : Option Entry) → joined event k ≡ o → StaysOne event x now k first b a ⊎ ((d : Entry) × (next event (k ∷ []) b a ≡ k ∷ (d ∷ [])))
     from None j = apart j (none_or_one event)
@@ -387,7 +362,8 @@ added-alone (s ∷ ss) r old new e u h q end =
             let text : b.text ≡ old.text = text-same s.0 old.text b.text u b.makes none in
             let rest = added-alone ss now line new e (apply-IsUtf8 s.0 old.text b.text u b.makes) b.rest q.2 (end ∙ ap (λ ks. ks ++ e ∷ []) (sym kept)) in
             subst (λ t. AddedAlone e t new.text c (ends_at s.1 ss)) text (subst (λ n. AddedAlone e b.text new.text n (ends_at s.1 ss)) (q.0 none) rest)
-        | inr (k, one) ↦
+        | inr (kind, swap, one) ↦
+            let k = Changed kind swap in
             let p : ℕ × ℕ = (c, s.1) in
             let grown : now.recorded ≡ es ++ with_cursors p k ∷ [] = is ∙ apart ∙ ap (λ ks. es ++ ks) (told-one (entries_of s.0) k c s.1 one) in
             let makes : apply (event_of (with_cursors p k)) old.text ≡ Some b.text =

@@ -22,7 +22,7 @@ use Rattle.rl_line.specs.LetterCase.{edit_word_plan, put_for, recased, word_ahea
 use Rattle.rl_line.specs.Line.{Line}
 use Rattle.rl_line.specs.Plan.{Step as PlanStep, Plan, single, heard, heard_step, Done}
 use Rattle.rl_line.specs.Ranges.{killed, text_in}
-use Rattle.rl_line.specs.Record.{Entry, Begin, End, Inserted, Deleted, Replaced, Record, cursors_of, entries_after, entries_of, entries_told, event_of, inverse, record_step}
+use Rattle.rl_line.specs.Record.{Entry, Begin, End, Changed, Record, cursors_of, entries_after, entries_of, entries_told, event_of, inverse, record_step}
 use Rattle.rl_line.specs.Undo.{cursor_after, cursor_told, line_after, line_ahead, line_back, place_after, Redone, Undone}
 use Rattle.rl_line.specs.Units.{cut_more, last_of, redo_of, together, units}
 use Rattle.rl_line.proofs.JoinLemmas.{after-Delete-nothing, after-InsertStr-nothing, fresh-Delete-nothing, fresh-InsertStr-nothing}
@@ -297,16 +297,12 @@ last-one es e p told = ap (λ us. together (take 1 us)) (cut_more-append [] es (
     of_one : (k : Entry) → cursors_of k ≡ Some p → together (take 1 (cut_more (units es) (k ∷ []))) ≡ k ∷ []
     of_one Begin c = cc
     of_one End c = cc
-    of_one (Inserted i s ps) c = refl
-    of_one (Deleted i s ps) c = refl
-    of_one (Replaced i s t ps) c = refl
+    of_one (Changed k s) c = refl
 
 next-one : (e : Entry) (p : ℕ × ℕ) → cursors_of e ≡ Some p → redo_of (e ∷ []) ≡ e ∷ []
 next-one Begin p c = cc
 next-one End p c = cc
-next-one (Inserted i s ps) p c = refl
-next-one (Deleted i s ps) p c = refl
-next-one (Replaced i s t ps) p c = refl
+next-one (Changed k s) p c = refl
 
 -- a line that goes over one entry
 over-one : (e : Entry) (line now : Line) (text : List ℕ) (cursor : ℕ) → apply (event_of e) line.text ≡ Some text → cursor_told e ≡ Some cursor → line_after e line ≡ Some now

@@ -303,7 +303,7 @@ took-joins : (side : Direction) (start old new slot taken : List ℕ) (i j : ℕ
     → Touches side (length taken) i j → Swaps start new j (joined (side_mode side) slot taken) []
 took-joins Forward start old new slot taken i j p q t =
     subst (λ k. Swaps start new k (slot ++ taken) []) (sym t) (Swaps-after start old new i j slot [] taken [] p q (omega arith))
-took-joins Backward start old new slot taken i j p q t = Swaps-before start old new i j slot taken p q t
+took-joins Backward start old new slot taken i j p q t = Swaps-before start old new i j slot [] taken p q t
 
 Missing-took : (start : List ℕ) (old new : State) → Roomy new → Missing start old → Took old new → Missing start new
 Missing-took start old new roomy m t = record {

@@ -8,18 +8,17 @@ use Rattle.rl_base.specs.Event.{Event, InsertChar, InsertStr, Delete, Replace, S
 use Rattle.rl_base.proofs.SwapLemmas.{apply-IsUtf8}
 use Rattle.rl_line.specs.Line.{Line, stepped}
 use Rattle.rl_line.specs.Plan.{Step, after, heard, heard_step}
-use Rattle.rl_line.specs.Record.{Entry, Begin, End, Inserted, Deleted, Replaced, Record, entries_of, entries_after, joined, record_step, replay_entries, unwind, event_of, entries_told, last_told, freshness_of}
+use Rattle.rl_line.specs.Record.{Entry, Begin, End, Changed, Record, entries_of, entries_after, joined, record_step, replay_entries, unwind, event_of, entries_told, last_told, freshness_of}
 use Rattle.rl_line.specs.Units.{level, last_of, kept_of, redo_of, end_one, end_times, begun, ended, undone, redone, truncated}
 use Rattle.rl_line.proofs.JoinLemmas.{record_step-Start, record_step-Stop}
 use Rattle.rl_line.proofs.MatchLemmas.{IsMatched-after, BothMatched-begun, BothMatched-ended, BothMatched-undone, BothMatched-redone, BothMatched-truncated, EndsOne, end_one-cons, Redoes-of, BothMatched-step}
-use Rattle.rl_line.proofs.RecordLemmas.{then_some, through, replay-append, replay-IsUtf8, replay-unwind, unwind-replay, entries_after-unwind}
+use Rattle.rl_line.proofs.RecordLemmas.{none_or_one, then_some, through, replay-append, replay-IsUtf8, replay-unwind, unwind-replay, entries_after-unwind}
 use Rattle.rl_line.proofs.UnitLemmas.{kept-last}
 use Rattle.rl_session.specs.History.{StandsAfter, WasHeld, PlacedBack, Placed, History}
 use Rattle.rl_line.proofs.RoomLemmas.{texts_after-more}
 use Rattle.rl_session.specs.Run.{texts_of_steps}
 use Rattle.rl_line.proofs.PlanLemmas.{first_step}
 use Rattle.rl_line.proofs.ToldLemmas.{same-event, told-cases}
-use Rattle.rl_line.proofs.WalkLemmas.{none_or_one}
 
 extend : (start : List ℕ) (es : List Entry) (held more : List (List ℕ)) → PlacedBack start es held → PlacedBack start es (held ++ more)
 extend start [] held more p =
@@ -102,9 +101,7 @@ pub end_one-cases : (es : List Entry) → EndsOne es ⊎ (end_one es ≡ es ++ (
 end_one-cases [] = inr refl
 end_one-cases (Begin ∷ []) = inl (record { front = []; list_is = refl; after_is = refl })
 end_one-cases (End ∷ []) = inr refl
-end_one-cases (Inserted i s ps ∷ []) = inr refl
-end_one-cases (Deleted i s ps ∷ []) = inr refl
-end_one-cases (Replaced i s t ps ∷ []) = inr refl
+end_one-cases (Changed k c ∷ []) = inr refl
 end_one-cases (e ∷ (d ∷ ds)) =
     elim (end_one-cases (d ∷ ds)) [
       | inl c ↦ inl (record { front = e ∷ c.front; list_is = ap (λ x. e ∷ x) c.list_is; after_is = end_one-cons e d ds ∙ ap (λ x. e ∷ x) c.after_is })
@@ -170,9 +167,9 @@ Placed-after event es start y held p leads =
     elim (entries_after-cases event es) [
       | inl e ↦ elim (none_or_one event) [
         | inl n ↦ subst (λ l. Placed start l (held ++ (y ∷ []))) (sym (e ∙ ap (λ l. es ++ l) n ∙ append-nil es)) (Placed-more start es held (y ∷ []) p)
-        | inr o ↦
-            let is : entries_after event es ≡ es ++ (o.0 ∷ []) = e ∙ ap (λ l. es ++ l) o.1 in
-            subst (λ l. Placed start l (held ++ (y ∷ []))) (sym is) (Placed-add start es o.0 held y p (ap (λ l. replay_entries l start) (sym is) ∙ leads))
+        | inr (k, c, one) ↦
+            let is : entries_after event es ≡ es ++ (Changed k c ∷ []) = e ∙ ap (λ l. es ++ l) one in
+            subst (λ l. Placed start l (held ++ (y ∷ []))) (sym is) (Placed-add start es (Changed k c) held y p (ap (λ l. replay_entries l start) (sym is) ∙ leads))
       ]
       | inr j ↦
           subst (λ l. Placed start l (held ++ (y ∷ []))) (sym j.after_is)

@@ -20,7 +20,7 @@ use Rattle.rl_session.proofs.CursorLemmas.{IsLone, Quiet, ends_at}
 use Rattle.rl_line.specs.Line.{Line, between, stepped}
 use Rattle.rl_line.specs.Plan.{Step, Plan, answering, nothing, single}
 use Rattle.rl_line.specs.Ranges.{killed, text_in, to_place}
-use Rattle.rl_line.specs.Record.{Inserted, Deleted, entries_of}
+use Rattle.rl_line.specs.Record.{Insertion, Deletion, Changed, entries_of, untold}
 use Rattle.std.proofs.lemmas.List.{length_push, reverse-append, reverse-reverse, length-take-le, length-drop}
 use Rattle.std.proofs.lemmas.List.Elements.{All-head, All-weaker}
 use Rattle.std.proofs.lemmas.Option.{same_Some}
@@ -47,7 +47,7 @@ pub empty-inserted : (i : ℕ) (s : List ℕ) → entries_of (InsertStr i s) ≡
 unfolding entries_of
 empty-inserted i s e = from (length s == 0) refl e
   where
-    from : (b : Bool) → (length s == 0) ≡ b → cond b [] (Inserted i s None ∷ []) ≡ [] → length s ≡ 0
+    from : (b : Bool) → (length s == 0) ≡ b → cond b [] (Changed Insertion (untold i [] s) ∷ []) ≡ [] → length s ≡ 0
     from true h k = eqb-true (length s) 0 h
     from false h k = cc
 
@@ -55,7 +55,7 @@ pub empty-deleted : (i : ℕ) (s : List ℕ) (side : Direction) → entries_of (
 unfolding entries_of
 empty-deleted i s side e = from (length s == 0) refl e
   where
-    from : (b : Bool) → (length s == 0) ≡ b → cond b [] (Deleted i s None ∷ []) ≡ [] → length s ≡ 0
+    from : (b : Bool) → (length s == 0) ≡ b → cond b [] (Changed Deletion (untold i s []) ∷ []) ≡ [] → length s ≡ 0
     from true h k = eqb-true (length s) 0 h
     from false h k = cc
 
