@@ -36,7 +36,7 @@ Heard-Came never old new d = absurd d
 Heard-Came (when condition course) old new d = Heard-Came course old new d.1
 Heard-Came stays old new d = Heard-same old new d
 Heard-Came (goes place a) old new d =
-    Heard-nothing old.line old.pair.changes new.line.text new.pair.changes (Moved-text place old.line new.line a d.moved) (ap (λ (s : State). s.pair.changes) d.others)
+    Heard-nothing old.line old.pair.changes new.line.text new.pair.changes (Moved-text place old.line new.line a d.0) (ap (λ (s : State). s.pair.changes) d.1)
 Heard-Came (edits plan a) old new d =
     let c = Done-changes plan old.line new.line old.pair new.pair a d.done in record { last = c.last; taken = c.taken; text_is = ap (λ (l : Line). l.text) c.line }
 Heard-Came (stops unbegun takes plan) old new (inl e) = Heard-same old new e.1

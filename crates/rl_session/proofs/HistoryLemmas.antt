@@ -66,8 +66,8 @@ Holds-Became start held (shortens len) old new d h =
     let r = old.pair.changes in
     let same = agree-same (unwind r.recorded old.line.text) (unwind (take len r.recorded) old.line.text) d.0 in
     History-changes start held new (with_changes (truncated len r) old) (History-truncated len start held old.line.text r h same) d.1
-Holds-Became start held (takes_back n a) old new d h = History-TookBack _ start held _ old new a h d.undone
-Holds-Became start held (puts_again a) old new d h = History-PutAgain start held _ old new a h d.redone
+Holds-Became start held (takes_back n a) old new d h = History-TookBack _ start held _ old new a h d.0
+Holds-Became start held (puts_again a) old new d h = History-PutAgain start held _ old new a h d.0
 
 -- a row adds its texts to those that were held
 pub Holds-row : (start : List ℕ) (texts : List (List ℕ)) (row : Row) → Holds start texts row.before → Holds start (texts ++ held row) row.after
@@ -116,7 +116,7 @@ does_as row command e =
 
 -- an undo that was not refused
 Undo-done : (n : ℕ) (old left : State) (reply : Reply) → Does old (Undo n) reply left → ¬ (WasRefused reply) → (a : Bool) × Undone n old.pair.changes left.pair.changes old.line left.line a
-Undo-done n old left (says.Answer a) d w = (a, d.undone)
+Undo-done n old left (says.Answer a) d w = (a, d.0)
 Undo-done n old left (says.Refused f) d w = absurd (w tt)
 Undo-done n old left _ d w = absurd d
 
@@ -149,7 +149,7 @@ undo-drops row n is_undo done =
 
 -- a redo that was not refused
 Redo-done : (old left : State) (reply : Reply) → Does old Redo reply left → ¬ (WasRefused reply) → (a : Bool) × Redone old.pair.changes left.pair.changes old.line left.line a
-Redo-done old left (says.Answer a) d w = (a, d.redone)
+Redo-done old left (says.Answer a) d w = (a, d.0)
 Redo-done old left (says.Refused f) d w = absurd (w tt)
 Redo-done old left _ d w = absurd d
 

@@ -136,7 +136,7 @@ Came-size : (course : Course) (old new : State) → Came course old new → new.
 Came-size never old new d = absurd d
 Came-size (when condition course) old new d = Came-size course old new d.1
 Came-size stays old new d = ap (λ (s : State). s.pair.ring.size) d
-Came-size (goes place a) old new d = ap (λ (s : State). s.pair.ring.size) d.others
+Came-size (goes place a) old new d = ap (λ (s : State). s.pair.ring.size) d.1
 Came-size (edits plan a) old new d = Done-size plan old.line new.line old.pair new.pair a d.done
 Came-size (stops unbegun takes plan) old new (inl e) = ap (λ (s : State). s.pair.ring.size) e.1
 Came-size (stops unbegun takes plan) old new (inr c) = Halted-size plan old.line new.line old.pair new.pair _ (Halted-own takes plan old.line new.line old.pair new.pair _ c.halted)
@@ -152,8 +152,8 @@ Became-size (by_steps course) old new d = Came-size course old new d
 Became-size (puts_begin n) old new d = ap (λ (s : State). s.pair.ring.size) d.1
 Became-size (puts_ends a) old new d = ap (λ (s : State). s.pair.ring.size) d.1
 Became-size (shortens len) old new d = ap (λ (s : State). s.pair.ring.size) d.1
-Became-size (takes_back n a) old new d = ap (λ (s : State). s.pair.ring.size) d.others
-Became-size (puts_again a) old new d = ap (λ (s : State). s.pair.ring.size) d.others
+Became-size (takes_back n a) old new d = ap (λ (s : State). s.pair.ring.size) d.1
+Became-size (puts_again a) old new d = ap (λ (s : State). s.pair.ring.size) d.1
 
 reset-size : (b : Bool) (r : Ring) → (cond b (reset r) r).size ≡ r.size
 reset-size true r = refl

@@ -124,5 +124,5 @@ same_state old new k r l =
 pub Undo-replied : (n : ℕ) {inside old : State} (new : State) (outcome : Result Bool Refusal) {reply : Reply} → inside ≡ old → reply ≡ replied says.Answer outcome → KeepsRing inside new
     → IfOk outcome (λ a. Undone n inside.pair.changes new.pair.changes inside.line new.line a)
     → IfErr outcome (λ w. (w ≡ why.NoMemory) × (new.pair.changes ≡ inside.pair.changes) × (new.line ≡ inside.line) × Any (NeedsRoom inside.line.text) (texts_back (last_of n inside.pair.changes.recorded) inside.line.text)) → Does old (Undo n) reply new
-Undo-replied n {inside} new (Ok a) v e k d h = carried (λ s r. Does s (Undo n) r new) v e (record { undone = d; others = k })
+Undo-replied n {inside} new (Ok a) v e k d h = carried (λ s r. Does s (Undo n) r new) v e (d, k)
 Undo-replied n {inside} new (Err w) v e k d h = carried (λ s r. Does s (Undo n) r new) v e (h.3, same_state inside new k h.1 h.2)

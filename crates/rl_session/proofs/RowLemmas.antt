@@ -30,8 +30,8 @@ Kept-Became (by_steps course) old new u d = Kept-Heard (steps_in course old new 
 Kept-Became (puts_begin n) old new u d = subst (KeepsOrigin old) (sym d.1) (Kept-begun old.pair.changes old.line u)
 Kept-Became (puts_ends a) old new u d = subst (KeepsOrigin old) (sym d.1) (Kept-ended old.pair.changes old.line u)
 Kept-Became (shortens len) old new u d = subst (KeepsOrigin old) (sym d.1) (Kept-truncated len old.pair.changes old.line u d.0)
-Kept-Became (takes_back n a) old new u d = Kept-Undone _ old.pair.changes new.pair.changes old.line new.line a u d.undone
-Kept-Became (puts_again a) old new u d = Kept-Redone old.pair.changes new.pair.changes old.line new.line a u d.redone
+Kept-Became (takes_back n a) old new u d = Kept-Undone _ old.pair.changes new.pair.changes old.line new.line a u d.0
+Kept-Became (puts_again a) old new u d = Kept-Redone old.pair.changes new.pair.changes old.line new.line a u d.0
 
 -- each row keeps the text from which the record came: the ring's resets touch neither line nor record
 Kept-Step : (old : State) (command : Command) (reply : Reply) (new : State) → Step old command reply new → IsUtf8 old.line.text → KeepsOrigin old new

@@ -53,11 +53,6 @@ destination s BeginningOfBuffer = unless_there s.line 0
 destination s EndOfBuffer = unless_there s.line (length s.line.text)
 destination s _ = None
 
--- the cursor went to a place, if there is one
-pub record Went (place : Option ℕ) (old new : State) (answer : Bool) : Type 0 where
-  pub moved : Moved place old.line new.line answer
-  pub others : new ≡ record old { line = new.line }
-
 -- where the cursor stands: the number of its line, from 0, and the columns from that line's start
 abbrev pub line_place : State → ℕ × ℕ
 line_place s = (line_number s.line.text s.line.cursor, columns_before (blank_layout s.mode) s.line.text s.line.cursor)
@@ -125,17 +120,7 @@ CanGoIn line i s = IsCharBoundary line.text i × IsCharBoundary (insert_slice li
 abbrev pub KeepsRing : State → State → Type 0
 KeepsRing old new = new ≡ record old { line = new.line; pair = record old.pair { changes = new.pair.changes } }
 
--- an undo was done
-pub record TookBack (n : ℕ) (old new : State) (answer : Bool) : Type 0 where
-  pub undone : Undone n old.pair.changes new.pair.changes old.line new.line answer
-  pub others : KeepsRing old new
-
--- a redo was done
-pub record PutAgain (old new : State) (answer : Bool) : Type 0 where
-  pub redone : Redone old.pair.changes new.pair.changes old.line new.line answer
-  pub others : KeepsRing old new
-
--- the record was replaced by another, and nothing else changed
+-- the record became another, and nothing else changed
 abbrev pub with_changes : Record → State → State
 with_changes changes s = record s { pair = record s.pair { changes = changes } }
 
@@ -163,7 +148,7 @@ abbrev pub Came : Course → State → State → Type 0
 Came never old new = ⊥
 Came (when condition course) old new = condition × Came course old new
 Came stays old new = new ≡ old
-Came (goes place answer) old new = Went place old new answer
+Came (goes place answer) old new = Moved place old.line new.line answer × (new ≡ record old { line = new.line })
 Came (edits plan answer) old new = Edited plan old new answer
 Came (stops unbegun takes plan) old new = (unbegun × (new ≡ old)) ⊎ CutShort takes plan old new
 Came (respells action course) old new = Recased old.line action (λ made. Came (course made) old new)
@@ -188,8 +173,8 @@ Became (puts_ends a) old new =
     (a ≡ adds_end (level old.pair.changes.recorded) old.pair.changes.recorded) × (new ≡ with_changes (ended old.pair.changes) old)
 Became (shortens len) old new =
     (replays_to len old.pair.changes old.line.text ≡ true) × (new ≡ with_changes (truncated len old.pair.changes) old)
-Became (takes_back n a) old new = TookBack n old new a
-Became (puts_again a) old new = PutAgain old new a
+Became (takes_back n a) old new = Undone n old.pair.changes new.pair.changes old.line new.line a × KeepsRing old new
+Became (puts_again a) old new = Redone old.pair.changes new.pair.changes old.line new.line a × KeepsRing old new
 
 -- how the answer of an edit is told
 pub data Telling : Type 0 → Type 1 where
