@@ -8,9 +8,10 @@ ghost use Rattle.rl_base.specs.declared.listeners.Refusal.TheVariants.{NoMemory}
 ghost use Rattle.rl_line.specs.Line.{Line, NeedsRoom, stepped};
 ghost use Rattle.rl_line.specs.Plan.{Step, Taken, after, events_of, or_no_memory};
 ghost use Rattle.rl_line.specs.Undo.{line_back, texts_back};
-ghost use Rattle.rl_line.specs.Change.{faced, order, all_faced};
+ghost use Rattle.rl_line.specs.Change.{faced, all_faced};
 ghost use Rattle.rl_line.specs.Record.{entry_of};
 ghost use Rattle.rl_line.specs.Units.{is_change};
+ghost use Rattle.rl_line.specs.LineRanges.{IsRange};
 
 mod edits;
 mod indents;
@@ -239,9 +240,7 @@ impl LineBuffer {
         text: &str,
         listener: &mut L,
     ) -> Result<(), Refusal>
-        requires order { range.start ≤ range.end }
-        requires start { IsCharBoundary self.old.text range.start }
-        requires end { IsCharBoundary self.old.text range.end }
+        requires { IsRange self.old.text range.start range.end }
         ensures taken { OnOk result (Taken L.step ((Replace range.start (slice_range self.old.text range.start range.end) text.now, range.start + length text.now) ∷ []) self.old self.new listener.old listener.new) }
         ensures line { OnOk result (self.new ≡ stepped self.old (replace_range self.old.text range.start range.end text.now) (range.start + length text.now)) }
         ensures kept { OnErr result (self.new ≡ self.old) }
@@ -263,9 +262,7 @@ impl LineBuffer {
         dir: Direction,
         listener: &mut L,
     ) -> Result<(), Refusal>
-        requires order { range.start ≤ range.end }
-        requires start { IsCharBoundary self.old.text range.start }
-        requires end { IsCharBoundary self.old.text range.end }
+        requires { IsRange self.old.text range.start range.end }
         ensures taken { OnOk result (Taken L.step ((Delete range.start (slice_range self.old.text range.start range.end) dir, range.start) ∷ []) self.old self.new listener.old listener.new) }
         ensures line { OnOk result (self.new ≡ stepped self.old (remove_range self.old.text range.start range.end) range.start) }
         ensures kept { OnErr result (self.new ≡ self.old) }
@@ -285,9 +282,7 @@ impl LineBuffer {
         cursor: usize,
         listener: &mut L,
     ) -> Result<(), Refusal>
-        requires order { range.start ≤ range.end }
-        requires start { IsCharBoundary self.old.text range.start }
-        requires end { IsCharBoundary self.old.text range.end }
+        requires range { IsRange self.old.text range.start range.end }
         requires boundary { IsCharBoundary (remove_range self.old.text range.start range.end) cursor }
         ensures taken { OnOk result (Taken L.step ((Delete range.start (slice_range self.old.text range.start range.end) dir, cursor) ∷ []) self.old self.new listener.old listener.new) }
         ensures line { OnOk result (self.new ≡ stepped self.old (remove_range self.old.text range.start range.end) cursor) }

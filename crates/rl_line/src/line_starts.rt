@@ -1,9 +1,9 @@
 //! The table of a line's text: the places right after its newlines, in order, where its lines begin except the first.
 ghost use Rattle.std.specs.Prelude.{◌≡◌, ℕ, [], ◌+◌, ◌-◌, ◌^◌, ◌<◌, ◌≤◌, ◌++◌, ◌==◌, ◌&&◌, nat_le, All, map, take, drop, get_or, length, count_by, encode_utf8, slice_range, vec_len, vec_capacity};
 ghost use Rattle.std.specs.List.{replace_range};
-ghost use Rattle.std.specs.Str.{IsCharBoundary};
 ghost use Rattle.rl_base.specs.Lines.{is_newline, line_number};
 ghost use Rattle.rl_line.specs.LineStarts.{after_newlines, line_starts, from_end, IsTable, count_swapped};
+ghost use Rattle.rl_line.specs.LineRanges.{IsRange};
 
 use memchr::memchr_iter;
 use std::alloc::Global;
@@ -185,9 +185,7 @@ pub(crate) fn swap_starts(
     part: &str,
     come: usize,
 )
-    requires order { from ≤ to }
-    requires start { IsCharBoundary text.now from }
-    requires end { IsCharBoundary text.now to }
+    requires range { IsRange text.now from to }
     requires table { IsTable starts.old.places.items starts.old.border text.now }
     requires come { come ≡ count_by is_newline part.now }
     requires room { count_swapped (vec_len starts.old.places) text.now from to part.now ≤ vec_capacity starts.old.places }
@@ -211,9 +209,7 @@ pub(crate) fn exchange_starts(
     part: &str,
     come: usize,
 )
-    requires order { from ≤ to }
-    requires start { IsCharBoundary text.now from }
-    requires end { IsCharBoundary text.now to }
+    requires range { IsRange text.now from to }
     requires table { IsTable starts.old.places.items starts.old.border text.now }
     requires come { come ≡ count_by is_newline part.now }
     requires room { count_swapped (vec_len starts.old.places) text.now from to part.now ≤ vec_capacity starts.old.places }

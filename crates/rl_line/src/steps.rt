@@ -12,6 +12,7 @@ ghost use Rattle.rl_line.specs.Edits.{exchange_plan};
 ghost use Rattle.rl_line.specs.Line.{IsLine, line_of};
 ghost use Rattle.rl_line.specs.LineStarts.{IsTable, count_swapped};
 ghost use Rattle.rl_line.specs.Plan.{Taken, Halted, heard_step};
+ghost use Rattle.rl_line.specs.LineRanges.{IsRange};
 
 use crate::line_starts::LineStarts;
 use crate::swap::swap_in;
@@ -68,9 +69,7 @@ pub(crate) fn deletion_step<L: DeleteListener>(
     cursor: usize,
     listener: &mut L,
 ) -> Result<(), Refusal>
-    requires order { range.start ≤ range.end }
-    requires start { IsCharBoundary (string_bytes text.old) range.start }
-    requires end { IsCharBoundary (string_bytes text.old) range.end }
+    requires range { IsRange (string_bytes text.old) range.start range.end }
     requires boundary { IsCharBoundary (remove_range (string_bytes text.old) range.start range.end) cursor }
     requires table { IsTable starts.old.places.items starts.old.border (string_bytes text.old) }
     ensures heard { OnOk result (listener.new ≡ heard_step L.step pos.old (Delete range.start (slice_range (string_bytes text.old) range.start range.end) dir, cursor) listener.old) }
@@ -107,9 +106,7 @@ pub(crate) fn exchange_steps<L: ChangeListener>(
     listener: &mut L,
 ) -> Result<(), Refusal>
     requires line { IsLine (string_bytes text.old) starts.old.places.items starts.old.border pos.old limit.old }
-    requires order { range.start ≤ range.end }
-    requires start { IsCharBoundary (string_bytes text.old) range.start }
-    requires end { IsCharBoundary (string_bytes text.old) range.end }
+    requires range { IsRange (string_bytes text.old) range.start range.end }
     requires between { IsCharBoundary (remove_range (string_bytes text.old) range.start range.end) between }
     requires come { come ≡ count_by is_newline part.now }
     requires boundary { IsCharBoundary (replace_range (string_bytes text.old) range.start range.end part.now) cursor }

@@ -8,6 +8,7 @@ ghost use Rattle.rl_base.specs.declared.listeners.Refusal.TheVariants.{NoMemory}
 ghost use Rattle.rl_base.specs.Event.{Replace};
 ghost use Rattle.rl_line.specs.LineStarts.{IsTable, count_swapped};
 ghost use Rattle.rl_line.specs.Plan.{Grows};
+ghost use Rattle.rl_line.specs.LineRanges.{IsRange};
 
 use crate::line_starts::{LineStarts, exchange_starts, newlines, newlines_of, swap_starts};
 use crate::tails::swap_bytes;
@@ -47,9 +48,7 @@ pub(crate) fn find_room_instead(
     to: usize,
     part: &str,
 ) -> Result<usize, Refusal>
-    requires order { from ≤ to }
-    requires start { IsCharBoundary (string_bytes text.old) from }
-    requires end { IsCharBoundary (string_bytes text.old) to }
+    requires range { IsRange (string_bytes text.old) from to }
     requires table { IsTable starts.old.places.items starts.old.border (string_bytes text.old) }
     ensures text { string_bytes text.new ≡ string_bytes text.old }
     ensures len { string_len text.new ≡ string_len text.old }
@@ -78,9 +77,7 @@ pub(crate) fn swap_in(
     part: &str,
     come: usize,
 ) -> usize
-    requires order { from ≤ to }
-    requires start { IsCharBoundary (string_bytes text.old) from }
-    requires end { IsCharBoundary (string_bytes text.old) to }
+    requires range { IsRange (string_bytes text.old) from to }
     requires table { IsTable starts.old.places.items starts.old.border (string_bytes text.old) }
     requires come { come ≡ count_by is_newline part.now }
     requires room { (string_len text.old - (to - from)) + length part.now ≤ string_capacity text.old }
@@ -133,9 +130,7 @@ fn exchange_encoded(starts: &mut LineStarts, text: &str, at: usize, c: char)
 
 /// Replaces a range by a part, in a text that has room for the result.
 pub(crate) fn swap_text(text: &mut String, from: usize, to: usize, part: &str)
-    requires order { from ≤ to }
-    requires start { IsCharBoundary (string_bytes text.old) from }
-    requires end { IsCharBoundary (string_bytes text.old) to }
+    requires range { IsRange (string_bytes text.old) from to }
     requires room { (string_len text.old - (to - from)) + length part.now ≤ string_capacity text.old }
     ensures text { string_bytes text.new ≡ replace_range (string_bytes text.old) from to part.now }
     ensures boundary { IsCharBoundary (string_bytes text.new) (from + length part.now) }
@@ -181,9 +176,7 @@ fn append(text: &mut String, part: &str)
 
 // As `swap_text`, where something stands after the range: that moves once, as bytes.
 fn swap_within(text: &mut String, from: usize, to: usize, part: &str)
-    requires order { from ≤ to }
-    requires start { IsCharBoundary (string_bytes text.old) from }
-    requires end { IsCharBoundary (string_bytes text.old) to }
+    requires range { IsRange (string_bytes text.old) from to }
     requires room { (string_len text.old - (to - from)) + length part.now ≤ string_capacity text.old }
     ensures text { string_bytes text.new ≡ replace_range (string_bytes text.old) from to part.now }
     ensures capacity { string_capacity text.old ≤ string_capacity text.new }

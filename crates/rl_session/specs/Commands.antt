@@ -17,6 +17,7 @@ use Rattle.rl_base.specs.Words.{next_word, prev_word}
 use Rattle.rl_base.specs.declared.motion.Movement.{Movement}
 use Rattle.rl_base.specs.declared.motion.WordAction.{WordAction}
 use Rattle.rl_base.specs.declared.motion.Movement.TheVariants.{BeginningOfLine, EndOfLine, BackwardWord, ForwardWord, ViCharSearch, BackwardChar, ForwardChar, LineUp, LineDown, BeginningOfBuffer, EndOfBuffer}
+use Rattle.rl_line.specs.LineRanges.{IsRange}
 use Rattle.rl_line.specs.Line.{Line, NeedsRoom}
 use Rattle.rl_line.specs.LineMotions.{columns_before, home, line_end, place_above, place_below}
 use Rattle.rl_line.specs.Motions.{Moved, unless_there}
@@ -107,10 +108,6 @@ lent s = with_ring (yanked s.pair.ring) s
 -- the same with the text before it in the ring
 abbrev pub popped : State → State
 popped s = with_ring (yank_popped s.pair.ring) s
-
--- these are the ends of a range of the text
-abbrev pub IsRange : List ℕ → ℕ → ℕ → Type 0
-IsRange text i j = (i ≤ j) × IsCharBoundary text i × IsCharBoundary text j
 
 -- a text can be inserted at a place, and the cursor stays where it is
 abbrev pub CanGoIn : Line → ℕ → List ℕ → Type 0

@@ -5,6 +5,7 @@ ghost use Rattle.std.specs.List.{insert_slice, remove_range, replace_range, repe
 ghost use Rattle.rl_base.specs.Event.{InsertStr};
 ghost use Rattle.rl_line.specs.Plan.{Taken, Done, Halted, Stopped, or_no_memory};
 ghost use Rattle.rl_line.specs.Edits.{too_long, insert_event, insert_plan, insert_str_plan, yank_plan, yank_pop_plan, exchange_plan, cut_to_limit, update_plan, replace_plan, delete_range_plan};
+ghost use Rattle.rl_line.specs.LineRanges.{IsRange};
 
 use crate::line_buffer::LineBuffer;
 use crate::steps::exchange_steps;
@@ -191,9 +192,7 @@ impl LineBuffer {
         cursor: usize,
         listener: &mut L,
     ) -> Result<(), Refusal>
-        requires order { range.start ≤ range.end }
-        requires start { IsCharBoundary self.old.text range.start }
-        requires end { IsCharBoundary self.old.text range.end }
+        requires range { IsRange self.old.text range.start range.end }
         requires between { IsCharBoundary (remove_range self.old.text range.start range.end) between }
         requires boundary { IsCharBoundary (replace_range self.old.text range.start range.end text.now) cursor }
         ensures taken { OnOk result (Taken L.step (exchange_plan self.old range between text.now cursor).steps self.old self.new listener.old listener.new) }

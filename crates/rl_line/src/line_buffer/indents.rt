@@ -1,9 +1,10 @@
 //! Indenting and dedenting the lines of a range.
-ghost use Rattle.std.specs.Prelude.{◌≡◌, ◌+◌, ◌^◌, ◌<◌, ◌≤◌, true, false, not, IfErr, IfOk, OnOk};
+ghost use Rattle.std.specs.Prelude.{◌≡◌, ◌+◌, ◌^◌, ◌<◌, true, false, not, IfErr, IfOk, OnOk};
 ghost use Rattle.std.specs.Str.{IsCharBoundary};
 ghost use Rattle.rl_line.specs.Indents.{indent_plan, line_plan, pulled, pushed};
 ghost use Rattle.rl_line.specs.Plan.{Completed, Done, Halted, or_no_memory};
 ghost use Rattle.rl_line.specs.Ranges.{text_in};
+ghost use Rattle.rl_line.specs.LineRanges.{IsRange};
 
 use crate::line_buffer::LineBuffer;
 use rl_base::{ChangeListener, DeleteListener, Direction, Movement, Refusal};
@@ -47,9 +48,7 @@ impl LineBuffer {
         dedent: bool,
         listener: &mut L,
     ) -> Result<(), Refusal>
-        requires order { line.start ≤ line.end }
-        requires start { IsCharBoundary self.old.text line.start }
-        requires end { IsCharBoundary self.old.text line.end }
+        requires { IsRange self.old.text line.start line.end }
         ensures done { OnOk result (Completed L.step (line_plan dedent amount (text_in self.old line) line.start self.old.cursor) self.old self.new listener.old listener.new) }
         ensures halted { IfErr result (λ r. Halted L.step (or_no_memory L.refused) (line_plan dedent amount (text_in self.old line) line.start self.old.cursor) self.old self.new listener.old listener.new r) }
     {
@@ -87,9 +86,7 @@ impl LineBuffer {
         amount: u8,
         listener: &mut L,
     ) -> Result<(), Refusal>
-        requires order { line.start ≤ line.end }
-        requires start { IsCharBoundary self.old.text line.start }
-        requires end { IsCharBoundary self.old.text line.end }
+        requires { IsRange self.old.text line.start line.end }
         ensures done { OnOk result (Completed L.step (line_plan true amount (text_in self.old line) line.start self.old.cursor) self.old self.new listener.old listener.new) }
         ensures halted { IfErr result (λ r. Halted L.step (or_no_memory L.refused) (line_plan true amount (text_in self.old line) line.start self.old.cursor) self.old self.new listener.old listener.new r) }
     {

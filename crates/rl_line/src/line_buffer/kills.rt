@@ -1,6 +1,5 @@
 //! Copying, deleting and killing by a movement.
-ghost use Rattle.std.specs.Prelude.{◌≡◌, ◌<◌, ◌≤◌, ◌↔◌, length, OnErr, ◌∷◌, [], ℕ, List, true, Some, None, IfOk, IfErr, IsSome};
-ghost use Rattle.std.specs.Str.{IsCharBoundary};
+ghost use Rattle.std.specs.Prelude.{◌≡◌, ◌<◌, ◌↔◌, length, OnErr, ◌∷◌, [], ℕ, List, true, Some, None, IfOk, IfErr, IsSome};
 ghost use Rattle.std.specs.Option.{option_map};
 ghost use Rattle.std.specs.String.{string_bytes};
 ghost use Rattle.rl_base.specs.Event.{Delete};
@@ -12,6 +11,7 @@ ghost use Rattle.rl_line.specs.Line.{Line};
 ghost use Rattle.rl_line.specs.Plan.{Done, Halted, Stopped};
 ghost use Rattle.rl_line.specs.Kills.{Told, copied, delete_plan, is_by_characters, is_exact, kill_plan, side_of};
 ghost use Rattle.rl_line.specs.Ranges.{text_in};
+ghost use Rattle.rl_line.specs.LineRanges.{IsRange};
 
 use crate::change::copied;
 use crate::line_buffer::LineBuffer;
@@ -32,9 +32,7 @@ impl LineBuffer {
 
     // A copy of the text of a range.
     pub(super) fn text_of(&self, range: &Range<usize>) -> Result<String, Refusal>
-        requires order { range.now.start ≤ range.now.end }
-        requires start { IsCharBoundary self.now.text range.now.start }
-        requires end { IsCharBoundary self.now.text range.now.end }
+        requires { IsRange self.now.text range.now.start range.now.end }
         ensures ok { IfOk result (λ copy. string_bytes copy ≡ text_in self.now range.now) }
         ensures err { IfErr result (λ r. r ≡ NoMemory) }
         ensures some { OnErr result (0 < length (text_in self.now range.now)) }

@@ -1,8 +1,9 @@
 //! Deletions. What they take out does not go to the ring.
 ghost use Rattle.std.specs.Prelude.{◌≡◌, true, false, IfOk, IfErr};
 ghost use Rattle.rl_line.specs.Kills.{kill_plan};
+ghost use Rattle.rl_line.specs.LineRanges.{IsRange};
 ghost use Rattle.rl_line.specs.Plan.{Done, Halted};
-ghost use Rattle.rl_session.specs.Commands.{Came, Does, IsRange, answers, edit_course, nothing_more};
+ghost use Rattle.rl_session.specs.Commands.{Came, Does, answers, edit_course, nothing_more};
 ghost use Rattle.rl_session.specs.KillRuns.{IsDirected};
 ghost use Rattle.rl_session.specs.Pair.{pair_step, pair_refused};
 ghost use Rattle.rl_session.specs.declared.session.Command.{Command};

@@ -18,11 +18,8 @@ pub overflow_add-at : goal.overflow_add-at
 overflow_add-at c =
     omega (arith, (stands (goal.at.overflow_add-at c).In-Some).end.0, ap length c.texts.ensures.going, c.args.text.now.bytes.ok.0, c.args.text.now.bytes.ok.1, c.args.text.now.bytes.small)
 
-pub swap_in-after-requires-clause-start : goal.swap_in-after-requires-clause-start
-swap_in-after-requires-clause-start c = (stands (goal.at.swap_in-after-requires-clause-start c).In-Some).start
-
-pub swap_in-after-requires-clause-end : goal.swap_in-after-requires-clause-end
-swap_in-after-requires-clause-end c = rw c.texts.ensures.going (stands (goal.at.swap_in-after-requires-clause-end c).In-Some).end
+pub swap_in-after-requires-clause-range : goal.swap_in-after-requires-clause-range
+swap_in-after-requires-clause-range c = let d = stands (goal.at.swap_in-after-requires-clause-range c).In-Some in (omega arith, d.start, rw c.texts.ensures.going d.end)
 
 pub swap_in-after-requires-clause-table_room : goal.swap_in-after-requires-clause-table_room
 swap_in-after-requires-clause-table_room c =

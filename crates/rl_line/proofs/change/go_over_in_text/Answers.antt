@@ -13,11 +13,8 @@ pub overflow_add-at : goal.overflow_add-at
 overflow_add-at c =
     omega (arith, (stands (goal.at.overflow_add-at c).In-Some).end.0, ap length c.texts.ensures.going, c.args.text.now.bytes.ok.0, c.args.text.now.bytes.ok.1, c.args.text.now.bytes.small)
 
-pub swap_text-requires-clause-start : goal.swap_text-requires-clause-start
-swap_text-requires-clause-start c = (stands (goal.at.swap_text-requires-clause-start c).In-Some).start
-
-pub swap_text-requires-clause-end : goal.swap_text-requires-clause-end
-swap_text-requires-clause-end c = rw c.texts.ensures.going (stands (goal.at.swap_text-requires-clause-end c).In-Some).end
+pub swap_text-requires-clause-range : goal.swap_text-requires-clause-range
+swap_text-requires-clause-range c = let d = stands (goal.at.swap_text-requires-clause-range c).In-Some in (omega arith, d.start, rw c.texts.ensures.going d.end)
 
 pub returns-in-Some : goal.returns-in-Some
 returns-in-Some c =

@@ -9,7 +9,7 @@ use Rattle.rl_line.proofs.line_starts.exchange_starts.Goals.{After-line_number, 
 
 -- the starts that go with the range
 gone : (c : After-line_number) → c.line_number.result ≡ c.line_number-first.result + count_by is_newline (slice_range c.args.text.now c.args.from c.args.to)
-gone c = omega (arith, c.line_number-first.ensures, c.line_number.ensures, newlines-front c.args.text.now c.args.from c.args.to c.requires.order)
+gone c = omega (arith, c.line_number-first.ensures, c.line_number.ensures, newlines-front c.args.text.now c.args.from c.args.to c.requires.range.0)
 
 within : (c : After-line_number) → c.line_number.result ≤ vec_len c.args.starts.now.places
 within c = omega (arith, c.line_number.ensures, newlines-take c.args.text.now c.args.to, length-table _ _ c.args.text.now c.requires.table, c.args.starts.now.places.ok.0)
@@ -24,7 +24,7 @@ move_border-requires-clause-within c =
 -- the table is that of the new text too, where only the border had to move
 stays : (c : Then-stays) → IsTable c.move_border.new.self.places.items c.move_border.new.self.border (replace_range c.args.text.now c.args.from c.args.to c.args.part.now)
 stays c =
-    IsTable-stays _ c.args.text.now c.args.part.now c.args.from c.args.to _ _ c.move_border.ensures.table c.requires.order c.requires.end.0 c.requires.come (sym c.stays.ensures ∙ c.if-stays.true)
+    IsTable-stays _ c.args.text.now c.args.part.now c.args.from c.args.to _ _ c.move_border.ensures.table c.requires.range.0 c.requires.range.2.0 c.requires.come (sym c.stays.ensures ∙ c.if-stays.true)
 
 pub returns-then-stays-clause-table : goal.returns-then-stays-clause-table
 returns-then-stays-clause-table c = stays c
@@ -38,7 +38,7 @@ returns-then-stays-clause-count c =
       c.move_border.ensures.count,
       c.move_border.new.self.places.ok.0,
       length-table _ _ _ (stays c),
-      newlines-replaced c.args.text.now c.args.part.now c.args.from c.args.to c.requires.order,
+      newlines-replaced c.args.text.now c.args.part.now c.args.from c.args.to c.requires.range.0,
     )
 
 pub open_gap-requires-clause-within : goal.open_gap-requires-clause-within
@@ -85,7 +85,7 @@ returns-clause-table c =
     let is = ap (λ l. take first old ++ l) (c.put_after_newlines.ensures ∙ ap (λ l. after_newlines (c.args.from + 1) part ++ drop (count_by is_newline part) l) rest)
     ∙ ap₂ (λ l r. l ++ (after_newlines (c.args.from + 1) part ++ r)) front back in
     let table = subst (λ n. IsTable places n text) c.move_border.ensures.border c.move_border.ensures.table in
-    let made = IsTable-replaced places text part c.args.from c.args.to first (c.line_number.result - first) table c.requires.order c.requires.end.0 c.line_number-first.ensures (omega (arith, gone d)) in
+    let made = IsTable-replaced places text part c.args.from c.args.to first (c.line_number.result - first) table c.requires.range.0 c.requires.range.2.0 c.line_number-first.ensures (omega (arith, gone d)) in
     let all = take first places ++ (after_newlines (c.args.from + 1) part ++ drop (first + (c.line_number.result - first)) places) in
     IsTable-written first c.open_gap.new.places.len (first + c.args.come) old c.put_after_newlines.new.places _ all (replace_range text c.args.from c.args.to part) c.deref_mut.ensures.len many size is
     (subst (λ n. IsTable all (first + n) (replace_range text c.args.from c.args.to part)) (sym c.requires.come) made)

@@ -28,7 +28,7 @@ returns-in_err-insertion_step-clause-halted g c = λ grow.
     let mid = line_of (string_bytes c.deletion_step.new.text) c.deletion_step.new.pos c.args.limit.now grow in
     rw (p.1, p.2) (Halted-after _ _ (exchange_plan old c.args.range c.args.between c.args.part.now c.args.cursor) (_ ∷ []) [] (_, c.args.cursor) old mid _ _ _ _ _ e.cause
     (line_of-kept _ _ _ _ _ _ grow e.kept.0 e.kept.1 e.kept.2)
-    (Taken-deletion _ text _ c.args.range.start c.args.range.end c.args.pos.now c.args.between _ c.args.limit.now Forward grow _ _ (IsUtf8-string_bytes c.args.text.now) c.requires.order c.requires.start c.requires.end
+    (Taken-deletion _ text _ c.args.range.start c.args.range.end c.args.pos.now c.args.between _ c.args.limit.now Forward grow _ _ (IsUtf8-string_bytes c.args.text.now) c.requires.range.0 c.requires.range.1 c.requires.range.2
     c.requires.between d.text d.cursor (omega (arith, d.len, c.deletion_step.new.text.bytes.ok.0, c.args.text.now.bytes.ok.0, c.requires.line.within)) d.heard)
     refl)
 
@@ -41,8 +41,8 @@ returns-clause-taken g c = λ grow.
     let old = line_of text c.args.pos.now c.args.limit.now grow in
     let mid = line_of left c.deletion_step.new.pos c.args.limit.now grow in
     let place : IsCharBoundary left c.args.range.start =
-    subst (λ t. IsCharBoundary t c.args.range.start) (sym d.text) (IsCharBoundary-at_removal text c.args.range.start c.args.range.end (IsUtf8-string_bytes c.args.text.now) c.requires.order c.requires.end) in
+    subst (λ t. IsCharBoundary t c.args.range.start) (sym d.text) (IsCharBoundary-at_removal text c.args.range.start c.args.range.end (IsUtf8-string_bytes c.args.text.now) c.requires.range.0 c.requires.range.2) in
     Taken-append _ (_ ∷ []) (_ ∷ []) old mid _ _ _ _
-    (Taken-deletion _ text _ c.args.range.start c.args.range.end c.args.pos.now c.args.between _ c.args.limit.now Forward grow _ _ (IsUtf8-string_bytes c.args.text.now) c.requires.order c.requires.start c.requires.end
+    (Taken-deletion _ text _ c.args.range.start c.args.range.end c.args.pos.now c.args.between _ c.args.limit.now Forward grow _ _ (IsUtf8-string_bytes c.args.text.now) c.requires.range.0 c.requires.range.1 c.requires.range.2
     c.requires.between d.text d.cursor (omega (arith, d.len, c.deletion_step.new.text.bytes.ok.0, c.args.text.now.bytes.ok.0, c.requires.line.within)) d.heard)
     (Taken-insertion _ left _ c.args.part.now c.args.range.start c.deletion_step.new.pos c.args.cursor _ c.args.limit.now _ grow _ _ c.utf8.part place (search rules) e.text e.cursor e.limit e.heard)

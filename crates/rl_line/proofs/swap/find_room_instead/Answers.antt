@@ -29,6 +29,6 @@ returns-in_err-find_room-clause-err c =
     rw (p.1, p.2) (
       e.0,
       longer_or_more c.saturating_sub-bytes.result _ _ _ _
-          (omega (arith, c.saturating_sub-bytes.ensures, length-between text c.args.from c.args.to c.requires.end.0))
+          (omega (arith, c.saturating_sub-bytes.ensures, length-between text c.args.from c.args.to c.requires.range.2.0))
           (omega (arith, e.1, c.more_than-lines.ensures, ap (λ t. count_by is_newline (slice_range t c.args.from c.args.to)) c.as_str.ensures.value, c.newlines-come.ensures)),
     )

@@ -13,4 +13,4 @@ from_utf8_unchecked-requires c =
     let was : c.into_bytes-bytes.result.items ≡ old = ap (λ v. v.items) c.into_bytes-bytes.ensures.value ∙ ap string_bytes c.replace.ensures.value in
     let now : c.swap_bytes.new.text.items ≡ swapped old c.args.part.now =
     c.swap_bytes.ensures.items ∙ ap (λ (l : List ℕ). swapped l c.as_bytes.result.now) was ∙ ap (swapped old) c.as_bytes.ensures.value in
-    subst IsUtf8 (sym now) (IsUtf8-replaced old c.args.from c.args.to c.args.part.now (IsUtf8-string_bytes c.args.text.now) c.utf8.part c.requires.start c.requires.end)
+    subst IsUtf8 (sym now) (IsUtf8-replaced old c.args.from c.args.to c.args.part.now (IsUtf8-string_bytes c.args.text.now) c.utf8.part c.requires.range.1 c.requires.range.2)

@@ -36,20 +36,16 @@ overflow_add-to c =
     let buf = c.self.inside.buf in
     omega (arith, (stands (goal.at.overflow_add-to c).After-texts).end.0, ap length c.texts.ensures.going, buf.bytes.ok.0, buf.bytes.ok.1, buf.bytes.small)
 
-pub find_room_instead-requires-clause-start : goal.find_room_instead-requires-clause-start
-find_room_instead-requires-clause-start c = (stands (goal.at.find_room_instead-requires-clause-start c).After-texts).start
-
 end : (c : After-texts) → IsCharBoundary (string_bytes c.self.inside.buf) (c.in-Some.at + length c.texts.result.0.now)
 end c = rw c.texts.ensures.going (stands c).end
 
-pub find_room_instead-requires-clause-end : goal.find_room_instead-requires-clause-end
-find_room_instead-requires-clause-end c = end (goal.at.find_room_instead-requires-clause-end c).After-texts
+pub find_room_instead-requires-clause-range : goal.find_room_instead-requires-clause-range
+find_room_instead-requires-clause-range c = let d = (goal.at.find_room_instead-requires-clause-range c).After-texts in (omega arith, (stands d).start, end d)
 
-pub swap_in-after-requires-clause-start : goal.swap_in-after-requires-clause-start
-swap_in-after-requires-clause-start c = rw c.find_room_instead.ensures.text (stands (goal.at.swap_in-after-requires-clause-start c).After-texts).start
-
-pub swap_in-after-requires-clause-end : goal.swap_in-after-requires-clause-end
-swap_in-after-requires-clause-end c = rw c.find_room_instead.ensures.text (end (goal.at.swap_in-after-requires-clause-end c).After-texts)
+pub swap_in-after-requires-clause-range : goal.swap_in-after-requires-clause-range
+swap_in-after-requires-clause-range c =
+    let d = (goal.at.swap_in-after-requires-clause-range c).After-texts in
+    rw c.find_room_instead.ensures.text (omega arith, (stands d).start, end d)
 
 pub returns-in_err-come-clause-err : goal.returns-in_err-come-clause-err
 returns-in_err-come-clause-err c =

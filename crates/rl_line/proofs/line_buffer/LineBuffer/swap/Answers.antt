@@ -53,8 +53,8 @@ returns-in_err-exchange_steps-clause-halted g c =
     rw (p.1, p.2) (inl (Halted-front _ _ (swap_plan line first second) (exchange_plan line second first.end x first.end) (last_steps line first second) _ _ _ _ _
     (Halted-from _ _ (λ (l : Line). exchange_plan l second first.end x first.end) _ _ _ _ _ _ same (c.in_err-exchange_steps.ensures.halted inside.can_growth)) (swap-front line first second x x_is)))
 
-pub exchange_steps-requires-2-clause-start : goal.exchange_steps-requires-2-clause-start
-exchange_steps-requires-2-clause-start g c =
+pub exchange_steps-requires-2-clause-range : goal.exchange_steps-requires-2-clause-range
+exchange_steps-requires-2-clause-range g c =
     let inside = c.self.inside in
     let line = c.args.self.now in
     let first = c.args.first in
@@ -70,26 +70,7 @@ exchange_steps-requires-2-clause-start g c =
     let is : mid.text ≡ replace_range line.text second.start second.end x = e.text ∙ ap (λ (l : Line). replace_range l.text second.start second.end x) same in
     let at = places line mid first second x y x_is y_is is (subst IsUtf8 c.as_str-text.ensures c.as_str-text.utf8) c.as_str-2.utf8 c.requires.first c.requires.second c.requires.apart
     c.requires.first_start c.requires.first_end c.requires.second_start c.requires.second_end in
-    at.start
-
-pub exchange_steps-requires-2-clause-end : goal.exchange_steps-requires-2-clause-end
-exchange_steps-requires-2-clause-end g c =
-    let inside = c.self.inside in
-    let line = c.args.self.now in
-    let first = c.args.first in
-    let second = c.args.second in
-    let same : line_of (string_bytes c.find_room_instead.new.text) inside.pos inside.limit inside.can_growth ≡ line =
-    ap (λ (t : List ℕ). line_of t inside.pos inside.limit inside.can_growth) c.find_room_instead.ensures.text ∙ c.self.view_is in
-    let x = c.as_str-2.result.now in
-    let x_is : x ≡ text_in line first = c.as_str-2.ensures.value ∙ c.in_ok-first_text.ensures.ok in
-    let y = c.as_str-3.result.now in
-    let y_is : y ≡ text_in line second = c.as_str-3.ensures.value ∙ c.in_ok-second_text.ensures.ok in
-    let e = c.in_ok-exchange_steps.ensures in
-    let mid = line_of (string_bytes c.exchange_steps.new.text) c.exchange_steps.new.pos c.exchange_steps.new.limit inside.can_growth in
-    let is : mid.text ≡ replace_range line.text second.start second.end x = e.text ∙ ap (λ (l : Line). replace_range l.text second.start second.end x) same in
-    let at = places line mid first second x y x_is y_is is (subst IsUtf8 c.as_str-text.ensures c.as_str-text.utf8) c.as_str-2.utf8 c.requires.first c.requires.second c.requires.apart
-    c.requires.first_start c.requires.first_end c.requires.second_start c.requires.second_end in
-    at.stop
+    (c.requires.first, at.start, at.stop)
 
 pub exchange_steps-requires-2-clause-between : goal.exchange_steps-requires-2-clause-between
 exchange_steps-requires-2-clause-between g c =

@@ -7,11 +7,11 @@ use Rattle.rl_line.proofs.IndentLemmas.{line_plan-dedent, IsCharBoundary-from_pa
 use Rattle.rl_line.proofs.PlanLemmas.{Completed-single, Halted-single}
 use Rattle.rl_line.proofs.line_buffer.LineBuffer.take_blanks.Goals as goal
 
-pub take_out_before-requires-clause-end : goal.take_out_before-requires-clause-end
-take_out_before-requires-clause-end g c =
+pub take_out_before-requires-clause-range : goal.take_out_before-requires-clause-range
+take_out_before-requires-clause-range g c =
     let gone = c.floor_char_boundary-gone in
     let part = c.range-text.ensures.value ∙ ap (λ t. slice_range t c.args.line.start c.args.line.end) c.as_str.ensures in
-    IsCharBoundary-from_part c.args.self.now.text c.args.line.start c.args.line.end gone.result c.requires.order c.requires.end (subst (λ t. IsCharBoundary t gone.result) part gone.ensures.boundary)
+    (omega arith, c.requires.1, IsCharBoundary-from_part c.args.self.now.text c.args.line.start c.args.line.end gone.result c.requires.0 c.requires.2 (subst (λ t. IsCharBoundary t gone.result) part gone.ensures.boundary))
 
 pub take_out_before-requires-clause-boundary : goal.take_out_before-requires-clause-boundary
 take_out_before-requires-clause-boundary g c =
@@ -19,9 +19,9 @@ take_out_before-requires-clause-boundary g c =
     let start = c.args.line.start in
     let gone = c.floor_char_boundary-gone in
     let part = c.range-text.ensures.value ∙ ap (λ t. slice_range t start c.args.line.end) c.as_str.ensures in
-    let stop = IsCharBoundary-from_part text start c.args.line.end gone.result c.requires.order c.requires.end (subst (λ t. IsCharBoundary t gone.result) part gone.ensures.boundary) in
+    let stop = IsCharBoundary-from_part text start c.args.line.end gone.result c.requires.0 c.requires.2 (subst (λ t. IsCharBoundary t gone.result) part gone.ensures.boundary) in
     subst (IsCharBoundary (remove_range text start (start + gone.result))) (sym c.pulled-cursor.ensures)
-    (IsCharBoundary-pulled text start (start + gone.result) gone.result c.pos.result c.pos.ensures.utf8 (omega arith) (omega arith) c.requires.start stop c.pos.ensures.boundary)
+    (IsCharBoundary-pulled text start (start + gone.result) gone.result c.pos.result c.pos.ensures.utf8 (omega arith) (omega arith) c.requires.1 stop c.pos.ensures.boundary)
 
 pub returns-in_err-take_out_before-clause-halted :
     goal.returns-in_err-take_out_before-clause-halted
@@ -29,12 +29,12 @@ returns-in_err-take_out_before-clause-halted g c =
     let p = err_from_is_err_and c.from_residual.result c.from_residual.ensures.1 in
     let gone = c.floor_char_boundary-gone in
     let plan = line_plan-dedent c.args.self.now.text c.args.line.start c.args.line.end c.args.amount c.min.result gone.result c.args.self.now.cursor c.pulled-cursor.result c.range-text.result.now c.trim_start.result.now
-    c.requires.order c.requires.end.0 (search rules) c.trim_start.ensures.trim (search rules) gone.ensures.bound gone.ensures.boundary gone.ensures.nearest (search rules) in
+    c.requires.0 c.requires.2.0 (search rules) c.trim_start.ensures.trim (search rules) gone.ensures.bound gone.ensures.boundary gone.ensures.nearest (search rules) in
     rw (p.1, p.2) (Halted-single _ _ _ _ _ _ _ _ _ _ _ (inr c.in_err-take_out_before.ensures.cause) c.in_err-take_out_before.ensures.kept plan)
 
 pub returns-clause-done : goal.returns-clause-done
 returns-clause-done g c =
     let gone = c.floor_char_boundary-gone in
     let plan = line_plan-dedent c.args.self.now.text c.args.line.start c.args.line.end c.args.amount c.min.result gone.result c.args.self.now.cursor c.pulled-cursor.result c.range-text.result.now c.trim_start.result.now
-    c.requires.order c.requires.end.0 (search rules) c.trim_start.ensures.trim (search rules) gone.ensures.bound gone.ensures.boundary gone.ensures.nearest (search rules) in
+    c.requires.0 c.requires.2.0 (search rules) c.trim_start.ensures.trim (search rules) gone.ensures.bound gone.ensures.boundary gone.ensures.nearest (search rules) in
     Completed-single _ _ _ _ _ _ _ _ _ c.in_ok-take_out_before.ensures.taken (ap (λ (l : Line). l.cursor) c.in_ok-take_out_before.ensures.line) plan

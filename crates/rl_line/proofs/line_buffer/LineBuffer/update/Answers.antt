@@ -1,4 +1,4 @@
-use Rattle.std.proofs.Common.{rules, refl, inr, ap, length}
+use Rattle.std.proofs.Common.{arith, rules, refl, inr, ap, length}
 use Rattle.std.proofs.lemmas.Result.{err_from_is_err_and}
 use Rattle.std.proofs.lemmas.Str.{IsCharBoundary-start}
 use Rattle.rl_line.specs.Line.{Line}
@@ -6,8 +6,8 @@ use Rattle.rl_line.proofs.EditLemmas.{update_plan-is}
 use Rattle.rl_line.proofs.PlanLemmas.{Done-followed, Done-single, Halted-before, Halted-followed, Halted-single}
 use Rattle.rl_line.proofs.line_buffer.LineBuffer.update.Goals as goal
 
-pub take_out-requires-clause-start : goal.take_out-requires-clause-start
-take_out-requires-clause-start g c = rw (← c.as_str.ensures) (IsCharBoundary-start _ c.as_str.utf8)
+pub take_out-requires : goal.take_out-requires
+take_out-requires g c = (omega arith, rw (← c.as_str.ensures) (IsCharBoundary-start _ c.as_str.utf8), search rules)
 
 pub returns-in_err-take_out-clause-halted : goal.returns-in_err-take_out-clause-halted
 returns-in_err-take_out-clause-halted g c =
