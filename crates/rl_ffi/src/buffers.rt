@@ -10,10 +10,12 @@ pub(crate) fn put(text: &[u8], out: &mut [u8])
     out[..text.len()].copy_from_slice(text);
 }
 
-// Writes as much of the text as fits.
-pub(crate) fn write(text: &[u8], out: &mut [u8])
-    ensures { out.new ≡ written text.now out.old }
+// Writes as much of the text as fits, and answers how long the whole is.
+pub(crate) fn write(text: &[u8], out: &mut [u8]) -> usize
+    ensures copied { out.new ≡ written text.now out.old }
+    ensures length { result ≡ length text.now }
 {
     let count = text.len().min(out.len());
     put(&text[..count], out);
+    text.len()
 }

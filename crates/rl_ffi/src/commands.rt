@@ -4,14 +4,13 @@ ghost use Rattle.rl_session.specs.declared.session.Command.{Command};
 ghost use Rattle.rl_ffi.specs.Numbers.{action_of, at_of, char_of, dedents_of, movement_of, search_of, word_of};
 ghost use Rattle.rl_ffi.specs.Commands.{Called, CalledWith, IsTextOf, Replies, both_named, named, number_of};
 
-use crate::handle::Handle;
+use crate::handle::{Handle, of_session};
 use crate::numbers::{
     CLOSED, NO_MEMORY, NO_SUCH_NUMBER, NOT_UTF8, action_of, at_of, char_of, dedents_of,
     movement_of, reply_number, search_of, word_of,
 };
 use rl_session::{Command, Reply};
 use std::alloc::Global;
-use std::mem::replace;
 
 // Applies the command to the session, unless a number says why there is none. Inlined here and below, so that each
 // call's command is known when it is compiled.
@@ -23,15 +22,10 @@ pub(crate) fn ask(
 ) -> Result<Reply, u32>
     ensures { Replies command s.old.value result s.new.value }
 {
-    let Some(mut session) = Handle::take(replace(s, Handle::closed(alloc))) else {
-        return Err(CLOSED);
-    };
-    let answer = match command {
+    of_session!(s, alloc, session => match command {
         Ok(command) => Ok(session.apply(&command)),
         Err(number) => Err(number),
-    };
-    *s = Handle::of(session);
-    answer
+    }, Err(CLOSED))
 }
 
 #[inline(always)]

@@ -11,14 +11,13 @@ ghost use Rattle.rl_ffi.specs.Handed.{CopyCalled, Copies, DeleteCalled, Deletes,
 
 use crate::buffers::put;
 use crate::commands::{ask, number_of};
-use crate::handle::Handle;
+use crate::handle::{Handle, of_session};
 use crate::numbers::{CLOSED, NO_MEMORY, NO_SUCH_NUMBER, TOO_SMALL, movement_of, reply_number};
 use rl_base::places::next_pos;
 use rl_base::{Movement, RepeatCount};
 use rl_line::LineBuffer;
 use rl_session::{Command, Reply, Session};
 use std::alloc::Global;
-use std::mem::replace;
 
 /// Opens a group of changes: MARK, with the number of entries that the record had in `mark`. NO_MEMORY and CLOSED leave
 /// record and `mark` as they were.
@@ -102,14 +101,7 @@ pub extern "C" fn lodvarn_delete(
 ) -> u32
     ensures { DeleteCalled n s.old.value result s.new.value (out.old, len.old) (out.new, len.new) }
 {
-    match Handle::take(replace(s, Handle::closed(alloc))) {
-        Some(mut session) => {
-            let number = delete(&mut session, n, out, len);
-            *s = Handle::of(session);
-            number
-        }
-        None => CLOSED,
-    }
+    of_session!(s, alloc, session => delete(&mut session, n, out, len), CLOSED)
 }
 
 fn copy(session: &mut Session, movement: Movement, out: &mut [u8], len: &mut usize) -> u32
@@ -143,13 +135,8 @@ pub extern "C" fn lodvarn_copy(
 ) -> u32
     ensures { CopyCalled (movement_of movement n c) s.old.value result s.new.value (out.old, len.old) (out.new, len.new) }
 {
-    let Some(mut session) = Handle::take(replace(s, Handle::closed(alloc))) else {
-        return CLOSED;
-    };
-    let number = match movement_of(movement, n, c) {
+    of_session!(s, alloc, session => match movement_of(movement, n, c) {
         Some(movement) => copy(&mut session, movement, out, len),
         None => NO_SUCH_NUMBER,
-    };
-    *s = Handle::of(session);
-    number
+    }, CLOSED)
 }

@@ -7,6 +7,7 @@ use crate::parts::Parts;
 use rl_session::Session;
 use std::alloc::Global;
 use std::marker::Model;
+use std::mem::replace;
 
 /// What C holds of a session. It is null where there is none.
 #[repr(C)]
@@ -67,14 +68,32 @@ impl Handle {
         Handle::of_parts(Parts::of(session))
     }
 
-    /// The session, if there is one.
+    /// Gives the session out, if there is one, and holds none.
     #[inline(always)]
-    pub fn take(self) -> Option<Box<Session>>
-        ensures { option_map (λ b. b.value) result ≡ self.value }
+    pub fn take(&mut self, alloc: Global) -> Option<Box<Session>>
+        ensures session { option_map (λ b. b.value) result ≡ self.old.value }
+        ensures left { self.new.value ≡ None }
     {
-        match self.into_parts() {
+        match replace(self, Handle::closed(alloc)).into_parts() {
             Some(parts) => Some(parts.into_box()),
             None => None,
         }
     }
 }
+
+// What an expression answers of the handle's session, which is out of the handle meanwhile; the last expression where there is
+// none. A macro, so that each call is inlined, and proved as it stands.
+macro_rules! of_session {
+    ($handle:ident, $alloc:ident, $session:ident => $answer:expr, $closed:expr) => {
+        match $handle.take($alloc) {
+            Some(mut $session) => {
+                let answer = $answer;
+                *$handle = Handle::of($session);
+                answer
+            }
+            None => $closed,
+        }
+    };
+}
+
+pub(crate) use of_session;

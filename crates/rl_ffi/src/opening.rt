@@ -10,7 +10,6 @@ use crate::numbers::{DONE, NO_MEMORY, NO_SUCH_NUMBER, NOT_UTF8, fault_number, mo
 use rl_base::GraphemeClusterMode;
 use rl_session::Session;
 use std::alloc::Global;
-use std::mem::replace;
 
 fn opened(
     alloc: Global,
@@ -55,7 +54,8 @@ pub extern "C" fn lodvarn_open(
     };
     match opened(alloc, text, pos, limit, ring_size, mode) {
         Ok(session) => {
-            drop(Handle::take(replace(s, Handle::of(session))));
+            drop(s.take(alloc));
+            *s = Handle::of(session);
             DONE
         }
         Err(number) => number,
@@ -67,5 +67,5 @@ pub extern "C" fn lodvarn_open(
 pub extern "C" fn lodvarn_close(alloc: Global, s: &mut Handle)
     ensures { s.new.value ≡ None }
 {
-    drop(Handle::take(replace(s, Handle::closed(alloc))));
+    drop(s.take(alloc));
 }

@@ -5,11 +5,10 @@ ghost use Rattle.rl_ffi.specs.Reads.{text_of, pos_of, line_number_of, line_count
 ghost use Rattle.rl_line.specs.LineRanges.{range_of_line};
 
 use crate::buffers::write;
-use crate::handle::Handle;
+use crate::handle::{Handle, of_session};
 use crate::numbers::{CLOSED, DONE, NONE, truth_number};
 use rl_line::LineBuffer;
 use std::alloc::Global;
-use std::mem::replace;
 
 /// Copies as many bytes of the text as fit, and answers how long the whole is, in bytes; 0 for a closed
 /// session.
@@ -19,16 +18,7 @@ pub extern "C" fn lodvarn_text(alloc: Global, s: &mut Handle, out: &mut [u8]) ->
     ensures copied { out.new ≡ written (text_of s.old.value) out.old }
     ensures kept { s.new.value ≡ s.old.value }
 {
-    match Handle::take(replace(s, Handle::closed(alloc))) {
-        Some(session) => {
-            let text = session.line().as_str().as_bytes();
-            write(text, out);
-            let len = text.len();
-            *s = Handle::of(session);
-            len
-        }
-        None => 0,
-    }
+    of_session!(s, alloc, session => write(session.line().as_str().as_bytes(), out), 0)
 }
 
 /// The cursor's place, in bytes; 0 for a closed session.
@@ -37,14 +27,7 @@ pub extern "C" fn lodvarn_pos(alloc: Global, s: &mut Handle) -> usize
     ensures value { result ≡ pos_of s.old.value }
     ensures kept { s.new.value ≡ s.old.value }
 {
-    match Handle::take(replace(s, Handle::closed(alloc))) {
-        Some(session) => {
-            let pos = session.line().pos();
-            *s = Handle::of(session);
-            pos
-        }
-        None => 0,
-    }
+    of_session!(s, alloc, session => session.line().pos(), 0)
 }
 
 /// The number of the cursor's line, from 0; 0 for a closed session.
@@ -53,14 +36,7 @@ pub extern "C" fn lodvarn_line_number(alloc: Global, s: &mut Handle) -> usize
     ensures value { result ≡ line_number_of s.old.value }
     ensures kept { s.new.value ≡ s.old.value }
 {
-    match Handle::take(replace(s, Handle::closed(alloc))) {
-        Some(session) => {
-            let number = session.line().line_number();
-            *s = Handle::of(session);
-            number
-        }
-        None => 0,
-    }
+    of_session!(s, alloc, session => session.line().line_number(), 0)
 }
 
 /// How many lines the text has, at least one; 0 for a closed session.
@@ -69,14 +45,7 @@ pub extern "C" fn lodvarn_line_count(alloc: Global, s: &mut Handle) -> usize
     ensures value { result ≡ line_count_of s.old.value }
     ensures kept { s.new.value ≡ s.old.value }
 {
-    match Handle::take(replace(s, Handle::closed(alloc))) {
-        Some(session) => {
-            let count = session.line().line_count();
-            *s = Handle::of(session);
-            count
-        }
-        None => 0,
-    }
+    of_session!(s, alloc, session => session.line().line_count(), 0)
 }
 
 /// The limit on the text's length, in bytes; 0 for a closed session.
@@ -85,14 +54,7 @@ pub extern "C" fn lodvarn_limit(alloc: Global, s: &mut Handle) -> usize
     ensures value { result ≡ limit_of s.old.value }
     ensures kept { s.new.value ≡ s.old.value }
 {
-    match Handle::take(replace(s, Handle::closed(alloc))) {
-        Some(session) => {
-            let limit = session.line().limit();
-            *s = Handle::of(session);
-            limit
-        }
-        None => 0,
-    }
+    of_session!(s, alloc, session => session.line().limit(), 0)
 }
 
 /// How many entries the record has; 0 for a closed session.
@@ -101,14 +63,7 @@ pub extern "C" fn lodvarn_entries(alloc: Global, s: &mut Handle) -> usize
     ensures value { result ≡ entries_of s.old.value }
     ensures kept { s.new.value ≡ s.old.value }
 {
-    match Handle::take(replace(s, Handle::closed(alloc))) {
-        Some(session) => {
-            let len = session.record().len();
-            *s = Handle::of(session);
-            len
-        }
-        None => 0,
-    }
+    of_session!(s, alloc, session => session.record().len(), 0)
 }
 
 /// Whether the last action of the ring was a yank or a yank-pop, also with count 0: TRUE or FALSE, or CLOSED.
@@ -117,14 +72,7 @@ pub extern "C" fn lodvarn_last_was_yank(alloc: Global, s: &mut Handle) -> u32
     ensures value { result ≡ last_was_yank_of s.old.value }
     ensures kept { s.new.value ≡ s.old.value }
 {
-    match Handle::take(replace(s, Handle::closed(alloc))) {
-        Some(session) => {
-            let number = truth_number(session.ring().yank_size().is_some());
-            *s = Handle::of(session);
-            number
-        }
-        None => CLOSED,
-    }
+    of_session!(s, alloc, session => truth_number(session.ring().yank_size().is_some()), CLOSED)
 }
 
 // Writes where a line's text begins and ends, if there is such a line.
@@ -154,12 +102,5 @@ pub extern "C" fn lodvarn_line_range(
     ensures value { RangeRead s.old.value line result (start.old, end.old) (start.new, end.new) }
     ensures kept { s.new.value ≡ s.old.value }
 {
-    match Handle::take(replace(s, Handle::closed(alloc))) {
-        Some(session) => {
-            let number = range_in(session.line(), line, start, end);
-            *s = Handle::of(session);
-            number
-        }
-        None => CLOSED,
-    }
+    of_session!(s, alloc, session => range_in(session.line(), line, start, end), CLOSED)
 }

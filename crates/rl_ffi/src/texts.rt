@@ -31,8 +31,7 @@ pub extern "C" fn lodvarn_script(
         Ok(()) => DONE,
         Err(_) => NO_MEMORY,
     };
-    write(printed.as_slice(), out);
-    *len = printed.len();
+    *len = write(printed.as_slice(), out);
     number
 }
 

@@ -117,7 +117,7 @@ CanGoIn line i s = IsCharBoundary line.text i × IsCharBoundary (insert_slice li
 abbrev pub KeepsRing : State → State → Type 0
 KeepsRing old new = new ≡ record old { line = new.line; pair = record old.pair { changes = new.pair.changes } }
 
--- the record became another, and nothing else changed
+-- the record was replaced by another, and nothing else changed
 abbrev pub with_changes : Record → State → State
 with_changes changes s = record s { pair = record s.pair { changes = changes } }
 
