@@ -271,22 +271,17 @@ AllGood-reverse [] g = tt
 AllGood-reverse (u ∷ us) g = subst AllGood (sym (reverse-append (u ∷ []) us)) (AllGood-append (reverse us) (u ∷ []) (AllGood-reverse us g.1) (g.0, tt))
 
 -- a change at the end is the last unit, and one in front is the unit that is redone next
-newest : (n : ℕ) (e : Entry) (es : List Entry) → n ≤ 1 → add_entry e (units es) ≡ Whole (e ∷ []) ∷ units es → last_of n (es ++ e ∷ []) ≡ e ∷ []
-newest n e es few one =
-    let single : max n 1 ≡ 1 = omega (arith, few) in
-    ap (λ us. together (take (max n 1) us)) (cut_more-append [] es (e ∷ []) ∙ one) ∙ ap (λ k. together (take k (Whole (e ∷ []) ∷ units es))) single
-
 pub last_of-change : (n : ℕ) (e : Entry) (es : List Entry) → n ≤ 1 → is_change e ≡ true → last_of n (es ++ e ∷ []) ≡ e ∷ []
 last_of-change n Begin es few is = cc
 last_of-change n End es few is = cc
-last_of-change n (Changed k c) es few is = newest n (Changed k c) es few refl
-
-oldest : (e : Entry) (es : List Entry) → units (e ∷ []) ≡ Whole (e ∷ []) ∷ [] → IsMatched es → redo_of (e ∷ es) ≡ e ∷ []
-oldest e es one m =
-    ap (λ us. redo_from (e ∷ es) (reverse us)) (units-append (e ∷ []) es m ∙ ap (λ us. units es ++ us) one)
-    ∙ ap (redo_from (e ∷ es)) (reverse-append (units es) (Whole (e ∷ []) ∷ []))
+last_of-change n (Changed k c) es few is =
+    let e = Changed k c in
+    let single : max n 1 ≡ 1 = omega (arith, few) in
+    ap (λ us. together (take (max n 1) us)) (cut_more-append [] es (e ∷ [])) ∙ ap (λ j. together (take j (Whole (e ∷ []) ∷ units es))) single
 
 pub redo_of-change : (e : Entry) (es : List Entry) → is_change e ≡ true → IsMatched (e ∷ es) → redo_of (e ∷ es) ≡ e ∷ []
 redo_of-change Begin es is m = cc
 redo_of-change End es is m = cc
-redo_of-change (Changed k c) es is m = oldest (Changed k c) es refl m
+redo_of-change (Changed k c) es is m =
+    let e = Changed k c in
+    ap (λ us. redo_from (e ∷ es) (reverse us)) (units-append (e ∷ []) es m) ∙ ap (redo_from (e ∷ es)) (reverse-append (units es) (Whole (e ∷ []) ∷ []))

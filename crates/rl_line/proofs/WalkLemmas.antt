@@ -1,7 +1,7 @@
 -- Entries that lead from a text to another, with their cursors: what keeps that, and where a line goes over them.
 use Rattle.std.proofs.Common.{◌≡◌, ℕ, ◌⊎◌, inl, inr, Bool, true, zero, suc, List, [], ◌∷◌, ◌++◌, length, take, drop, take-append-drop, Option, Some, None, refl, sym, ap, subst, ◌∙◌}
 use Rattle.std.proofs.lemmas.Option.{same_Some}
-use Rattle.std.specs.Option.{option_map, option_map_or}
+use Rattle.std.specs.Option.{option_map_or}
 use Rattle.std.specs.Prelude.{cond, IsSome, option_and_then}
 use Rattle.std.specs.Str.{IsCharBoundary, IsUtf8}
 use Rattle.rl_base.specs.declared.listeners.Refusal.{Refusal}
@@ -14,7 +14,7 @@ use Rattle.rl_line.specs.declared.change.Freshness.TheVariants as is
 use Rattle.rl_line.specs.Change.{cursor_stands, text_after, text_back}
 use Rattle.rl_line.specs.Line.{Line, stepped}
 use Rattle.rl_line.specs.Plan.{Step, Plan, after, heard, heard_step, Taken, Done, Halted}
-use Rattle.rl_line.specs.Record.{Kind, Swap, Entry, Begin, End, Changed, Record, cursors_of, entries_after, entries_of, entries_told, event_of, freshness_added, freshness_joined, freshness_of, inverse, joined, record_step, replay_entries, replays_to, swapped, unwind, with_cursors}
+use Rattle.rl_line.specs.Record.{Kind, Swap, Entry, Begin, End, Changed, Record, cursors_of, entries_after, entries_of, entries_told, event_of, freshness_added, freshness_joined, freshness_of, inverse, joined, record_step, replay_entries, replays_to, unwind, with_cursors}
 use Rattle.rl_line.specs.Undo.{cursor_after, cursor_told, line_ahead, line_back, Redone, Undone}
 use Rattle.rl_line.specs.Units.{begun, end_one, end_times, ended, kept_of, last_of, level, redo_of, truncated}
 use Rattle.rl_line.specs.Walk.{LeadsTo, Walk, Walks}
@@ -92,20 +92,13 @@ added event x y b a u h before after = from (entries_of event) (entries_of-undo 
 joint-untold : (event : Event) (e joint : Entry) → joined event e ≡ Some joint → cursors_of joint ≡ None
 joint-untold event e joint h = let j = joins event e joint h in ap cursors_of (sym j.is) ∙ j.none
 
--- the cursor before an entry is told by its inverse
+-- the cursor before an entry, where it was told
 pub cursor_told-back : (e : Entry) (p : ℕ × ℕ) → cursors_of e ≡ Some p → cursor_told (inverse e) ≡ Some p.0
-cursor_told-back e p c = turned e ∙ ap (option_map (λ (q : ℕ × ℕ). q.0)) c
-  where
-    swapped-told : (o : Option (ℕ × ℕ)) → option_map (λ (q : ℕ × ℕ). q.1) (swapped o) ≡ option_map (λ (q : ℕ × ℕ). q.0) o
-    swapped-told None = refl
-    swapped-told (Some q) = refl
+cursor_told-back Begin p c = cc
+cursor_told-back End p c = cc
+cursor_told-back (Changed k s) p c = rw c refl
 
-    turned : (k : Entry) → cursor_told (inverse k) ≡ option_map (λ (q : ℕ × ℕ). q.0) (cursors_of k)
-    turned Begin = refl
-    turned End = refl
-    turned (Changed k c) = swapped-told c.cursors
-
--- so it stands in the text before it
+-- it stands in the text before it
 before-stands : (e : Entry) (x : List ℕ) (p : ℕ × ℕ) → cursors_of e ≡ Some p → cursor_stands true (inverse e) x ≡ true → IsCharBoundary x p.0
 before-stands e x p c h = is_boundary-means x p.0 (ap (λ o. option_map_or (is_boundary x) o true) (sym (cursor_told-back e p c)) ∙ h)
 

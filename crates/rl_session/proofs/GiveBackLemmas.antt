@@ -24,12 +24,12 @@ use Rattle.rl_line.specs.Plan.{Step as PlanStep, Plan, single, heard, heard_step
 use Rattle.rl_line.specs.Ranges.{killed, text_in}
 use Rattle.rl_line.specs.Record.{Entry, Begin, End, Changed, Record, cursors_of, entries_after, entries_of, entries_told, event_of, inverse, record_step}
 use Rattle.rl_line.specs.Undo.{cursor_after, cursor_told, line_after, line_ahead, line_back, place_after, Redone, Undone}
-use Rattle.rl_line.specs.Units.{cut_more, last_of, redo_of, together, units}
+use Rattle.rl_line.specs.Units.{is_change, last_of, redo_of}
 use Rattle.rl_line.proofs.JoinLemmas.{after-Delete-nothing, after-InsertStr-nothing, fresh-Delete-nothing, fresh-InsertStr-nothing}
 use Rattle.rl_line.proofs.PlanLemmas.{Fits-from}
 use Rattle.rl_line.proofs.RecordLemmas.{inverse-undoes, then_some}
+use Rattle.rl_line.proofs.UnitLemmas.{last_of-change}
 use Rattle.rl_line.proofs.WalkLemmas.{cursor_told-back}
-use Rattle.rl_line.proofs.UnitLemmas.{cut_more-append}
 use Rattle.rl_session.proofs.CursorLemmas.{AddedAlone, IsLone, Quiet, added-alone, ends_at, next, recorded-next}
 use Rattle.rl_session.proofs.HistoryLemmas.{redo-row, undo-row}
 use Rattle.rl_session.proofs.PairLemmas.{Done-changes}
@@ -291,13 +291,13 @@ row-adds row e u at i w adds =
 
 -- ---- one change back, and ahead again
 -- an entry that was told its cursors is a unit of its own
+told-change : (e : Entry) (p : ℕ × ℕ) → cursors_of e ≡ Some p → is_change e ≡ true
+told-change Begin p c = cc
+told-change End p c = cc
+told-change (Changed k s) p c = refl
+
 last-one : (es : List Entry) (e : Entry) (p : ℕ × ℕ) → cursors_of e ≡ Some p → last_of 1 (es ++ e ∷ []) ≡ e ∷ []
-last-one es e p told = ap (λ us. together (take 1 us)) (cut_more-append [] es (e ∷ [])) ∙ of_one e told
-  where
-    of_one : (k : Entry) → cursors_of k ≡ Some p → together (take 1 (cut_more (units es) (k ∷ []))) ≡ k ∷ []
-    of_one Begin c = cc
-    of_one End c = cc
-    of_one (Changed k s) c = refl
+last-one es e p told = last_of-change 1 e es (omega arith) (told-change e p told)
 
 next-one : (e : Entry) (p : ℕ × ℕ) → cursors_of e ≡ Some p → redo_of (e ∷ []) ≡ e ∷ []
 next-one Begin p c = cc
