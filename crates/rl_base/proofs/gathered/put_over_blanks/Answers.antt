@@ -1,7 +1,7 @@
 use Rattle.std.proofs.Common.{arith, length, ◌-◌, subst, sym}
 use Rattle.std.specs.String.{string_bytes}
 use Rattle.rl_base.specs.Gathered.{BeginsBlank}
-use Rattle.rl_base.proofs.GatheredLemmas.{fronted, may_cut}
+use Rattle.rl_base.proofs.Texts.GatheredLemmas.{fronted, may_cut}
 use Rattle.rl_base.proofs.gathered.put_over_blanks.Goals as goal
 
 pub replace_range-requires-clause-start_boundary : goal.replace_range-requires-clause-start_boundary

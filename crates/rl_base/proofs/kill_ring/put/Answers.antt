@@ -1,7 +1,7 @@
 use Rattle.std.proofs.Common.{◌<◌, List, ℕ, length, ap, sym, ◌∙◌, arith, slice_set}
 use Rattle.std.proofs.lemmas.List.{length-map, map-set}
 use Rattle.rl_base.specs.Gathered.{Gathering, texts}
-use Rattle.rl_base.proofs.SlotLemmas.{put-over}
+use Rattle.rl_base.proofs.Ring.SlotLemmas.{put-over}
 use Rattle.rl_base.proofs.kill_ring.put.Goals as goal
 
 pub returns-then-index-len-clause-ok : goal.returns-then-index-len-clause-ok

@@ -1,5 +1,5 @@
 use Rattle.ucd_props.proofs.StdLemmas.{is_white_space-std}
-use Rattle.rl_base.proofs.BlankLemmas.{trim_start-blanks, trim_end-blanks}
+use Rattle.rl_base.proofs.Texts.BlankLemmas.{trim_start-blanks, trim_end-blanks}
 use Rattle.rl_base.proofs.laws.blanks_are_white_space.Goals as goal
 
 pub returns-clause-same : goal.returns-clause-same

@@ -1,4 +1,4 @@
-use Rattle.rl_base.proofs.KillGroupLemmas.{ring-holds, ring-newest, ring-empty, groups-are-runs}
+use Rattle.rl_base.proofs.Ring.KillGroupLemmas.{ring-holds, ring-newest, ring-empty, groups-are-runs}
 use Rattle.rl_base.proofs.laws.ring_holds_groups.Goals as goal
 
 pub returns-clause-last : goal.returns-clause-last

@@ -1,6 +1,6 @@
 use Rattle.std.proofs.Common.{arith}
 use Rattle.std.proofs.lemmas.Str.{IsUtf8-past_char}
-use Rattle.rl_base.proofs.WidthLemmas.{columns-char, columns-none}
+use Rattle.rl_base.proofs.Clusters.WidthLemmas.{columns-char, columns-none}
 use Rattle.rl_base.proofs.layout.width_of_chars.Goals as goal
 
 pub loop-c-preserved : goal.loop-c-preserved

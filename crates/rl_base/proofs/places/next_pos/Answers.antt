@@ -3,7 +3,7 @@ use Rattle.std.proofs.lemmas.List.Folds.{concat-append}
 use Rattle.std.specs.List.{concat}
 use Rattle.unicode_segmentation.specs.Iter.{graphemes_left}
 use Rattle.rl_base.specs.Clusters.{clusters, bytes_in}
-use Rattle.rl_base.proofs.ClusterLemmas.{shown_after_nth, pieces_past, concat-clusters, next_pos-some, IsCharBoundary-before_rest}
+use Rattle.rl_base.proofs.Clusters.ClusterLemmas.{shown_after_nth, pieces_past, concat-clusters, next_pos-some, IsCharBoundary-before_rest}
 use Rattle.rl_base.proofs.places.next_pos.Goals as goal
 
 -- what stands from the place on is the clusters that the iterator passed, and what it has left

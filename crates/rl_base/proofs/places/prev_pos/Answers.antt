@@ -5,8 +5,8 @@ use Rattle.std.specs.List.{concat}
 use Rattle.std.specs.Str.{IsUtf8}
 use Rattle.unicode_segmentation.specs.Iter.{graphemes_left}
 use Rattle.rl_base.specs.Clusters.{clusters, bytes_in}
-use Rattle.rl_base.proofs.ClusterLemmas.{shown_after_nth, first_from_last, front_of_pieces, bytes_in-reverse, concat-clusters, prev_pos-some, slice_range-front}
-use Rattle.rl_base.proofs.TextLemmas.{IsCharBoundary-in_front}
+use Rattle.rl_base.proofs.Clusters.ClusterLemmas.{shown_after_nth, first_from_last, front_of_pieces, bytes_in-reverse, concat-clusters, prev_pos-some, slice_range-front}
+use Rattle.rl_base.proofs.Texts.TextLemmas.{IsCharBoundary-in_front}
 use Rattle.rl_base.proofs.places.prev_pos.Goals as goal
 
 -- what stands before the place is what the iterator has left, and the clusters that it passed

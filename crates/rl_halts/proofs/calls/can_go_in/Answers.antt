@@ -1,5 +1,5 @@
 use Rattle.std.proofs.Common.{refl}
-use Rattle.rl_base.proofs.TextLemmas.{IsCharBoundary-before}
+use Rattle.rl_base.proofs.Texts.TextLemmas.{IsCharBoundary-before}
 use Rattle.rl_halts.proofs.calls.can_go_in.Goals as goal
 
 pub returns-then-pos-idx-clause-stays : goal.returns-then-pos-idx-clause-stays

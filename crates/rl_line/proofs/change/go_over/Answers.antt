@@ -6,7 +6,7 @@ use Rattle.rl_base.specs.Event.{apply}
 use Rattle.rl_line.specs.Record.{event_of, inverse}
 use Rattle.rl_line.specs.Undo.{cursor_after, cursor_told, place_after}
 use Rattle.rl_line.specs.Change.{faced, place}
-use Rattle.rl_line.proofs.ChangeLemmas.{StandsNew, StandsNew-from_IsSome, mark-leaves, place-faced, place_after-is}
+use Rattle.rl_line.proofs.Records.ChangeLemmas.{StandsNew, StandsNew-from_IsSome, mark-leaves, place-faced, place_after-is}
 use Rattle.rl_line.proofs.change.go_over.Goals as goal
 use Rattle.rl_line.proofs.change.go_over.Goals.{After-unwrap_or, In-Some}
 

@@ -1,7 +1,7 @@
 use Rattle.std.proofs.Common.{arith, ◌∙◌, length, refl, sym, ap}
 use Rattle.std.specs.String.{string_bytes}
 use Rattle.rl_line.specs.Change.{faced}
-use Rattle.rl_line.proofs.ChangeLemmas.{StandsNew, StandsNew-from_IsSome, mark-leaves, place-faced}
+use Rattle.rl_line.proofs.Records.ChangeLemmas.{StandsNew, StandsNew-from_IsSome, mark-leaves, place-faced}
 use Rattle.rl_line.proofs.change.go_over_in_text.Goals as goal
 use Rattle.rl_line.proofs.change.go_over_in_text.Goals.{In-Some}
 

@@ -2,8 +2,8 @@ use Rattle.std.proofs.Common.{arith, inl, inr, refl, ◌-◌, ◌≤◌, ◌<◌
 use Rattle.rl_line.specs.Change.{faced, order, size_back, size_back_over, size_of}
 use Rattle.rl_line.specs.declared.change.Measure.{Measure}
 use Rattle.rl_line.specs.declared.change.Measure.TheVariants.{Bytes, Newlines}
-use Rattle.rl_line.proofs.ChangeLemmas.{length-order}
-use Rattle.rl_line.proofs.RoomLemmas.{past_a_usize}
+use Rattle.rl_line.proofs.Records.ChangeLemmas.{length-order}
+use Rattle.rl_line.proofs.Records.RoomLemmas.{past_a_usize}
 use Rattle.rl_line.proofs.change.growth_over.Goals as goal
 use Rattle.rl_line.proofs.change.growth_over.Goals.{After-texts}
 

@@ -1,6 +1,6 @@
 use Rattle.std.specs.String.{string_bytes}
 use Rattle.rl_line.specs.Change.{order}
-use Rattle.rl_line.proofs.ChangeLemmas.{GoesOver}
+use Rattle.rl_line.proofs.Records.ChangeLemmas.{GoesOver}
 use Rattle.rl_line.proofs.change.text_over.Given as goal
 
 abbrev pub invariant-loop-left : goal.invariant-loop-left

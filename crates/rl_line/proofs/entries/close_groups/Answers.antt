@@ -1,6 +1,6 @@
 use Rattle.std.proofs.Common.{arith, map}
 use Rattle.rl_line.specs.Record.{entry_of}
-use Rattle.rl_line.proofs.EntryLemmas.{adds-here, adds-more, closes-next}
+use Rattle.rl_line.proofs.Records.EntryLemmas.{adds-here, adds-more, closes-next}
 use Rattle.rl_line.proofs.entries.close_groups.Goals as goal
 
 pub close_last-requires : goal.close_last-requires

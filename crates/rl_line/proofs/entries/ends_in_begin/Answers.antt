@@ -1,6 +1,6 @@
 use Rattle.std.proofs.Common.{ap, sym, ◌∙◌, Some, None}
 use Rattle.std.specs.Option.{option_copied}
-use Rattle.rl_line.proofs.EntryLemmas.{ends-at}
+use Rattle.rl_line.proofs.Records.EntryLemmas.{ends-at}
 use Rattle.rl_line.proofs.entries.ends_in_begin.Goals as goal
 
 pub returns-in-Some : goal.returns-in-Some

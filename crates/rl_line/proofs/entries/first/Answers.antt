@@ -1,4 +1,4 @@
-use Rattle.rl_line.proofs.MoveLemmas.{first-view}
+use Rattle.rl_line.proofs.Records.MoveLemmas.{first-view}
 use Rattle.rl_line.proofs.entries.first.Goals as goal
 
 pub returns : goal.returns

@@ -1,6 +1,6 @@
 use Rattle.std.proofs.Common.{arith}
 use Rattle.rl_base.specs.Event.{InsertChar}
-use Rattle.rl_line.proofs.JoinLemmas.{joins_last-err, joins_last-nothing, joins_last-ok}
+use Rattle.rl_line.proofs.Records.JoinLemmas.{joins_last-err, joins_last-nothing, joins_last-ok}
 use Rattle.rl_line.proofs.entries.join_char.Goals as goal
 
 pub returns-then-recorded-eq0-clause-ok : goal.returns-then-recorded-eq0-clause-ok

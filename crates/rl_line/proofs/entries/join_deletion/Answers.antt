@@ -1,7 +1,7 @@
 use Rattle.std.proofs.Common.{arith}
 use Rattle.rl_base.specs.Event.{Delete}
 use Rattle.rl_base.specs.declared.listeners.Direction.TheVariants.{Forward}
-use Rattle.rl_line.proofs.JoinLemmas.{joins_last-err, joins_last-nothing, joins_last-ok}
+use Rattle.rl_line.proofs.Records.JoinLemmas.{joins_last-err, joins_last-nothing, joins_last-ok}
 use Rattle.rl_line.proofs.entries.join_deletion.Goals as goal
 
 pub returns-then-recorded-eq0-clause-ok : goal.returns-then-recorded-eq0-clause-ok

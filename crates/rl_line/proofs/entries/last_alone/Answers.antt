@@ -1,5 +1,5 @@
 use Rattle.std.proofs.Common.{arith, sym, ◌∙◌}
-use Rattle.rl_line.proofs.EntryLemmas.{last-alone}
+use Rattle.rl_line.proofs.Records.EntryLemmas.{last-alone}
 use Rattle.rl_line.proofs.entries.last_alone.Goals as goal
 
 pub returns-then-is_change : goal.returns-then-is_change

@@ -1,5 +1,5 @@
 use Rattle.std.proofs.Common.{arith, inl, inr, refl}
-use Rattle.rl_line.proofs.LevelLemmas.{LevelAt-begin, LevelAt-change, LevelAt-done, LevelAt-end, LevelAt-small, opened-before}
+use Rattle.rl_line.proofs.Records.LevelLemmas.{LevelAt-begin, LevelAt-change, LevelAt-done, LevelAt-end, LevelAt-small, opened-before}
 use Rattle.rl_line.proofs.entries.level_at.Goals as goal
 
 pub overflow_sub-level : goal.overflow_sub-level

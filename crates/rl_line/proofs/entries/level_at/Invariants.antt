@@ -1,5 +1,5 @@
 use Rattle.std.proofs.Common.{◌-◌}
-use Rattle.rl_line.proofs.LevelLemmas.{LevelAt}
+use Rattle.rl_line.proofs.Records.LevelLemmas.{LevelAt}
 use Rattle.rl_line.proofs.entries.level_at.Given as goal
 
 abbrev pub invariant-loop-at : goal.invariant-loop-at

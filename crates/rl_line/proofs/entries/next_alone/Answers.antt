@@ -1,5 +1,5 @@
 use Rattle.std.proofs.Common.{sym, ◌∙◌}
-use Rattle.rl_line.proofs.EntryLemmas.{next-alone}
+use Rattle.rl_line.proofs.Records.EntryLemmas.{next-alone}
 use Rattle.rl_line.proofs.entries.next_alone.Goals as goal
 
 pub returns-then-is_change : goal.returns-then-is_change

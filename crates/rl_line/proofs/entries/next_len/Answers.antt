@@ -1,5 +1,5 @@
 use Rattle.std.proofs.Common.{arith, sym, ◌∙◌}
-use Rattle.rl_line.proofs.EntryLemmas.{Counted-all, Counted-end, Counted-next}
+use Rattle.rl_line.proofs.Records.EntryLemmas.{Counted-all, Counted-end, Counted-next}
 use Rattle.rl_line.proofs.entries.next_len.Goals as goal
 
 pub returns-then-level-eq0 : goal.returns-then-level-eq0

@@ -1,4 +1,4 @@
-use Rattle.rl_line.proofs.EntryLemmas.{Counted}
+use Rattle.rl_line.proofs.Records.EntryLemmas.{Counted}
 use Rattle.std.proofs.Common.{length, ◌-◌}
 use Rattle.rl_line.proofs.entries.next_len.Given as goal
 

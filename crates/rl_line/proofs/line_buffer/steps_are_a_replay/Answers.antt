@@ -1,4 +1,4 @@
-use Rattle.rl_line.proofs.PlanLemmas.{after-replay}
+use Rattle.rl_line.proofs.Plans.PlanLemmas.{after-replay}
 use Rattle.rl_line.proofs.line_buffer.steps_are_a_replay.Goals as goal
 
 pub returns-clause-steps : goal.returns-clause-steps

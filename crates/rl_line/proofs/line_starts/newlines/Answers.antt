@@ -1,7 +1,7 @@
 use Rattle.std.proofs.Common.{◌+◌, length, count_by, slice_range, ap, le_refl, arith}
 use Rattle.std.proofs.lemmas.List.{take_all}
 use Rattle.rl_base.specs.Lines.{is_newline}
-use Rattle.rl_line.proofs.LineStartLemmas.{newlines-front}
+use Rattle.rl_line.proofs.Lines.LineStartLemmas.{newlines-front}
 use Rattle.rl_line.proofs.line_starts.newlines.Goals as goal
 
 pub loop-at-preserved : goal.loop-at-preserved

@@ -3,7 +3,7 @@ use Rattle.std.specs.List.{insert_slice}
 use Rattle.std.specs.Prelude.{encode_utf8}
 use Rattle.std.specs.Str.{IsCharBoundary}
 use Rattle.rl_line.specs.LineStarts.{IsTable}
-use Rattle.rl_line.proofs.LineStartLemmas.{IsTable-stays}
+use Rattle.rl_line.proofs.Lines.LineStartLemmas.{IsTable-stays}
 use Rattle.rl_line.proofs.swap.swap_in_char.Goals as goal
 use Rattle.rl_line.proofs.swap.swap_in_char.Goals.{then-not-stays, else-not-stays}
 

@@ -3,7 +3,7 @@ use Rattle.std.proofs.lemmas.Str.{IsUtf8-string_bytes}
 use Rattle.std.specs.List.{replace_range}
 use Rattle.std.specs.Str.{IsUtf8}
 use Rattle.std.specs.String.{string_bytes}
-use Rattle.rl_base.proofs.TextLemmas.{IsUtf8-replaced}
+use Rattle.rl_base.proofs.Texts.TextLemmas.{IsUtf8-replaced}
 use Rattle.rl_line.proofs.swap.swap_within.Goals as goal
 
 pub from_utf8_unchecked-requires : goal.from_utf8_unchecked-requires

@@ -1,4 +1,4 @@
-use Rattle.rl_line.proofs.TailLemmas.{closed}
+use Rattle.rl_line.proofs.Lines.TailLemmas.{closed}
 use Rattle.rl_line.proofs.tails.close_up.Goals as goal
 
 pub returns : goal.returns

@@ -1,4 +1,4 @@
-use Rattle.rl_line.proofs.TailLemmas.{opened}
+use Rattle.rl_line.proofs.Lines.TailLemmas.{opened}
 use Rattle.rl_line.proofs.tails.open_up.Goals as goal
 
 pub returns : goal.returns

@@ -1,4 +1,4 @@
-use Rattle.rl_line.proofs.WayLemmas.{ways-ahead, ways-back}
+use Rattle.rl_line.proofs.Records.WayLemmas.{ways-ahead, ways-back}
 use Rattle.rl_line.proofs.undo.conditions_are_of_the_text.Goals as goal
 
 pub returns-clause-back : goal.returns-clause-back

@@ -1,4 +1,4 @@
-use Rattle.rl_line.proofs.GroupLemmas.{group-empty, group-empty-end}
+use Rattle.rl_line.proofs.Records.GroupLemmas.{group-empty, group-empty-end}
 use Rattle.rl_line.proofs.undo.empty_group_leaves_the_record.Goals as goal
 
 pub returns-clause-recorded : goal.returns-clause-recorded

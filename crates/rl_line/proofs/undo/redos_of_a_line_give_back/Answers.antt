@@ -1,4 +1,4 @@
-use Rattle.rl_line.proofs.RedoLemmas.{redos-give-back}
+use Rattle.rl_line.proofs.Records.RedoLemmas.{redos-give-back}
 use Rattle.rl_line.proofs.undo.redos_of_a_line_give_back.Goals as goal
 
 pub returns : goal.returns

@@ -1,5 +1,5 @@
 use Rattle.rl_line.specs.Units.{last_of, redo_of}
-use Rattle.rl_line.proofs.UndoLemmas.{line_ahead-replay, line_back-unwind}
+use Rattle.rl_line.proofs.Records.UndoLemmas.{line_ahead-replay, line_back-unwind}
 use Rattle.rl_line.proofs.undo.undo_unwinds_and_redo_replays.Goals as goal
 
 pub returns-clause-undone : goal.returns-clause-undone

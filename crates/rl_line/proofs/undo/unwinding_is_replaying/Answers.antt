@@ -1,4 +1,4 @@
-use Rattle.rl_line.proofs.RecordLemmas.{unwind-replay, replay-unwind}
+use Rattle.rl_line.proofs.Records.RecordLemmas.{unwind-replay, replay-unwind}
 use Rattle.rl_line.proofs.undo.unwinding_is_replaying.Goals as goal
 
 pub returns-clause-unwound : goal.returns-clause-unwound

@@ -1,4 +1,4 @@
-use Rattle.rl_session.proofs.MovementLemmas.{no_kind}
+use Rattle.rl_session.proofs.Scripts.MovementLemmas.{no_kind}
 use Rattle.rl_session.proofs.grammar.count_and_search.Goals as goal
 
 pub returns-in_err-named_search : goal.returns-in_err-named_search

@@ -1,6 +1,6 @@
 use Rattle.std.proofs.Common.{◌≡◌, ℕ, true, List, Some, refl, sym}
 use Rattle.rl_session.specs.Grammar.{Says, Do, pos, move, ins, paste, yank, update, str, rep, range, del, back, prevword, nextword, to, twords, cased, kill, copy, indent, dedent, undo, trunc}
-use Rattle.rl_session.proofs.WordLemmas.{no-del, no-back, no-prevword, no-nextword, no-to}
+use Rattle.rl_session.proofs.Scripts.WordLemmas.{no-del, no-back, no-prevword, no-nextword, no-to}
 use Rattle.rl_session.specs.Reads.{deletes}
 use Rattle.rl_session.specs.declared.session.Command.{Command}
 use Rattle.rl_session.proofs.grammar.deletion.Goals as goal

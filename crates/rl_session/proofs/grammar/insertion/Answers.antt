@@ -1,5 +1,5 @@
 use Rattle.rl_session.specs.Grammar.{ins}
-use Rattle.rl_session.proofs.WordLemmas.{ins-no_count, ins-no_char}
+use Rattle.rl_session.proofs.Scripts.WordLemmas.{ins-no_count, ins-no_char}
 use Rattle.rl_session.proofs.grammar.insertion.Goals as goal
 
 pub returns-in_err-n : goal.returns-in_err-n

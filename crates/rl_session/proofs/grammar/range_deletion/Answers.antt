@@ -1,6 +1,6 @@
 use Rattle.std.proofs.Common.{sym}
 use Rattle.rl_session.specs.Grammar.{range}
-use Rattle.rl_session.proofs.WordLemmas.{range-no_start, range-no_end}
+use Rattle.rl_session.proofs.Scripts.WordLemmas.{range-no_start, range-no_end}
 use Rattle.rl_session.proofs.grammar.range_deletion.Goals as goal
 
 pub returns-in_err-start : goal.returns-in_err-start

@@ -1,4 +1,4 @@
-use Rattle.rl_session.proofs.UndoGroupLemmas.{group-in_run}
+use Rattle.rl_session.proofs.Runs.UndoGroupLemmas.{group-in_run}
 use Rattle.rl_session.proofs.history.group_is_undone_at_once.Goals as goal
 
 pub returns : goal.returns

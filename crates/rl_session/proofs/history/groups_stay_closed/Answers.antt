@@ -1,4 +1,4 @@
-use Rattle.rl_session.proofs.HistoryLemmas.{Holds-run}
+use Rattle.rl_session.proofs.Runs.HistoryLemmas.{Holds-run}
 use Rattle.rl_session.proofs.history.groups_stay_closed.Goals as goal
 
 pub returns : goal.returns

@@ -1,7 +1,7 @@
 use Rattle.std.specs.Prelude.{◌∷◌}
 use Rattle.rl_session.specs.Run.{held_of}
-use Rattle.rl_session.proofs.HistoryLemmas.{Holds-run, Holds-Leads}
-use Rattle.rl_session.proofs.PlaceLemmas.{pending-leads}
+use Rattle.rl_session.proofs.Runs.HistoryLemmas.{Holds-run, Holds-Leads}
+use Rattle.rl_session.proofs.Runs.PlaceLemmas.{pending-leads}
 use Rattle.rl_session.proofs.history.record_is_placed.Goals as goal
 
 pub returns-clause-placed : goal.returns-clause-placed

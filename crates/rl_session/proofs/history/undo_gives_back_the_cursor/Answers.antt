@@ -1,4 +1,4 @@
-use Rattle.rl_session.proofs.GiveBackLemmas.{redo-gives_again, undo-gives_back}
+use Rattle.rl_session.proofs.Runs.GiveBackLemmas.{redo-gives_again, undo-gives_back}
 use Rattle.rl_session.proofs.history.undo_gives_back_the_cursor.Goals as goal
 
 pub returns-clause-undone : goal.returns-clause-undone

@@ -1,4 +1,4 @@
-use Rattle.rl_session.proofs.HistoryLemmas.{undo-in_run, undo-drops}
+use Rattle.rl_session.proofs.Runs.HistoryLemmas.{undo-in_run, undo-drops}
 use Rattle.rl_session.proofs.history.undo_leaves_a_held_text.Goals as goal
 
 pub returns-clause-held : goal.returns-clause-held

@@ -1,4 +1,4 @@
-use Rattle.rl_session.proofs.PrintLemmas.{escaped-read}
+use Rattle.rl_session.proofs.Scripts.PrintLemmas.{escaped-read}
 use Rattle.rl_session.proofs.laws.escapes_are_read.Goals as goal
 
 pub returns : goal.returns

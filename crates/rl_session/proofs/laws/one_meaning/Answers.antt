@@ -1,4 +1,4 @@
-use Rattle.rl_session.proofs.WordLemmas.{Means-one}
+use Rattle.rl_session.proofs.Scripts.WordLemmas.{Means-one}
 use Rattle.rl_session.proofs.laws.one_meaning.Goals as goal
 
 pub returns : goal.returns

@@ -1,5 +1,5 @@
 use Rattle.std.proofs.Common.{◌≤◌, arith}
-use Rattle.rl_session.proofs.LaneLemmas.{plain-front, ArePlain-both}
+use Rattle.rl_session.proofs.Scripts.LaneLemmas.{plain-front, ArePlain-both}
 use Rattle.rl_session.proofs.print.plain_len.Goals as goal
 
 pub returns-then-text-lt-LANES-clause-plain : goal.returns-then-text-lt-LANES-clause-plain

@@ -1,5 +1,5 @@
 use Rattle.std.proofs.Common.{sym, ◌∙◌}
-use Rattle.rl_session.proofs.LaneLemmas.{ArePlain-more}
+use Rattle.rl_session.proofs.Scripts.LaneLemmas.{ArePlain-more}
 use Rattle.rl_session.proofs.print.plain_len_of_few.Goals as goal
 
 pub loop-i-preserved : goal.loop-i-preserved

@@ -1,8 +1,8 @@
 use Rattle.std.proofs.Common.{arith, ◌≤◌, length, take, length-take, refl, sym, ◌∙◌}
 use Rattle.std.proofs.lemmas.Result.{on_ok_weaker, err_from_is_err_and, IfErr-weaker}
-use Rattle.rl_session.proofs.LineLemmas.{Runs-more, Ran-end, Ran-last, is_nil, not_nil}
+use Rattle.rl_session.proofs.Scripts.LineLemmas.{Runs-more, Ran-end, Ran-last, is_nil, not_nil}
 use Rattle.std.proofs.KnownBytes.{Keeps-refl}
-use Rattle.rl_session.proofs.FaultLemmas.{StoppedBy-halts, StoppedBy-last, StoppedBy-read, Stopped-by, Stopped-at}
+use Rattle.rl_session.proofs.Scripts.FaultLemmas.{StoppedBy-halts, StoppedBy-last, StoppedBy-read, Stopped-by, Stopped-at}
 use Rattle.rl_session.proofs.script.run_blocks.Goals as goal
 
 pub returns-then-is_empty : goal.returns-then-is_empty

@@ -1,6 +1,6 @@
 use Rattle.std.proofs.Common.{add-one}
 use Rattle.std.proofs.lemmas.List.{take_rest}
-use Rattle.rl_session.proofs.LineLemmas.{HasNoNewline-nowhere, parted}
+use Rattle.rl_session.proofs.Scripts.LineLemmas.{HasNoNewline-nowhere, parted}
 use Rattle.rl_session.proofs.script.split_line.Goals as goal
 
 pub returns-in_err-end : goal.returns-in_err-end

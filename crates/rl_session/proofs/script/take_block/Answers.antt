@@ -1,7 +1,7 @@
 use Rattle.std.proofs.Common.{◌<◌, ◌++◌, ◌∷◌, [], arith, length}
 use Rattle.std.proofs.lemmas.Result.{err_from_is_err_and}
-use Rattle.rl_session.proofs.LineLemmas.{longer_front, HasNoNewline-append, Took-trans, Took-part}
-use Rattle.rl_session.proofs.FaultLemmas.{Halts-none, Halts-after, Halts-longer}
+use Rattle.rl_session.proofs.Scripts.LineLemmas.{longer_front, HasNoNewline-append, Took-trans, Took-part}
+use Rattle.rl_session.proofs.Scripts.FaultLemmas.{Halts-none, Halts-after, Halts-longer}
 use Rattle.rl_session.proofs.script.take_block.Goals as goal
 
 pub loop-end-preserved : goal.loop-end-preserved

@@ -1,4 +1,4 @@
-use Rattle.rl_session.proofs.RowLemmas.{each_row}
+use Rattle.rl_session.proofs.Runs.RowLemmas.{each_row}
 use Rattle.rl_session.proofs.session.each_row_replays.Goals as goal
 
 pub returns : goal.returns

@@ -3,7 +3,7 @@ use Rattle.std.specs.List.{insert_slice}
 use Rattle.std.specs.Str.{IsCharBoundary}
 use Rattle.std.proofs.lemmas.Str.{IsCharBoundary-start}
 use Rattle.rl_line.specs.Line.{Line}
-use Rattle.rl_session.proofs.SessionLemmas.{put_first}
+use Rattle.rl_session.proofs.Sessions.SessionLemmas.{put_first}
 use Rattle.rl_session.proofs.session.line_of.Goals as goal
 
 pub insert_str-requires-clause-stays : goal.insert_str-requires-clause-stays

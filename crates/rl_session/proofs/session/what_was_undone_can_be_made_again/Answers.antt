@@ -1,9 +1,9 @@
 use Rattle.std.proofs.Common.{refl, subst, sym}
 use Rattle.std.specs.Prelude.{IsSome}
 use Rattle.rl_line.specs.Undo.{line_ahead}
-use Rattle.rl_line.proofs.RecordLemmas.{value_of}
-use Rattle.rl_line.proofs.UndoLemmas.{line_ahead-replay}
-use Rattle.rl_session.proofs.SessionLemmas.{Follows-unwind}
+use Rattle.rl_line.proofs.Records.RecordLemmas.{value_of}
+use Rattle.rl_line.proofs.Records.UndoLemmas.{line_ahead-replay}
+use Rattle.rl_session.proofs.Sessions.SessionLemmas.{Follows-unwind}
 use Rattle.rl_session.proofs.session.what_was_undone_can_be_made_again.Goals as goal
 
 pub returns-clause-recorded : goal.returns-clause-recorded

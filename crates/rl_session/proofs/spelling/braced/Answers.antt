@@ -1,7 +1,7 @@
 use Rattle.std.proofs.Common.{arith}
 use Rattle.std.proofs.lemmas.Str.Pattern.{strip_prefix_char, split_parts}
-use Rattle.rl_session.proofs.PartLemmas.{Lacks-by_index}
-use Rattle.rl_session.proofs.EscapeLemmas.{braces, no_brace, not_closed, not_named}
+use Rattle.rl_session.proofs.Scripts.PartLemmas.{Lacks-by_index}
+use Rattle.rl_session.proofs.Scripts.EscapeLemmas.{braces, no_brace, not_closed, not_named}
 use Rattle.rl_session.proofs.spelling.braced.Goals as goal
 
 pub returns-in_err-strip_prefix-clause-cases : goal.returns-in_err-strip_prefix-clause-cases

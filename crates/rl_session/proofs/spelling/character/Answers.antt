@@ -1,6 +1,6 @@
 use Rattle.std.proofs.Common.{sym}
-use Rattle.rl_session.proofs.NumberLemmas.{is_nil, not_nil}
-use Rattle.rl_session.proofs.SpellingLemmas.{char-whole, char-more}
+use Rattle.rl_session.proofs.Scripts.NumberLemmas.{is_nil, not_nil}
+use Rattle.rl_session.proofs.Scripts.SpellingLemmas.{char-whole, char-more}
 use Rattle.rl_session.proofs.spelling.character.Goals as goal
 
 pub returns-then-is_empty : goal.returns-then-is_empty

@@ -1,5 +1,5 @@
 use Rattle.std.proofs.Common.{sym, ◌∙◌}
-use Rattle.rl_session.proofs.EscapeLemmas.{after_u, by_letter, no_letter}
+use Rattle.rl_session.proofs.Scripts.EscapeLemmas.{after_u, by_letter, no_letter}
 use Rattle.rl_session.proofs.spelling.escape.Goals as goal
 
 pub returns-in_err-letter_of-clause-cases : goal.returns-in_err-letter_of-clause-cases

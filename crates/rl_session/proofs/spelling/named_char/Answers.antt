@@ -1,5 +1,5 @@
 use Rattle.std.proofs.Common.{arith, ap, ◌<◌, length}
-use Rattle.rl_session.proofs.NumberLemmas.{hex-small}
+use Rattle.rl_session.proofs.Scripts.NumberLemmas.{hex-small}
 use Rattle.rl_session.proofs.spelling.named_char.Goals as goal
 
 pub overflow_mul-value : goal.overflow_mul-value

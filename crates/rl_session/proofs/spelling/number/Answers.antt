@@ -1,7 +1,7 @@
 use Rattle.std.proofs.Common.{arith, sym, ◌∙◌}
 use Rattle.std.proofs.lemmas.List.{at_drop_all}
 use Rattle.rl_session.specs.Spelling.{are_digits, value_from}
-use Rattle.rl_session.proofs.NumberLemmas.{number-nothing, number-bad, number-great, number-whole, is_nil, some_length}
+use Rattle.rl_session.proofs.Scripts.NumberLemmas.{number-nothing, number-bad, number-great, number-whole, is_nil, some_length}
 use Rattle.rl_session.proofs.spelling.number.Goals as goal
 
 pub returns-then-is_empty-clause-value : goal.returns-then-is_empty-clause-value

@@ -1,4 +1,4 @@
-use Rattle.rl_session.proofs.SpellingLemmas.{some_text}
+use Rattle.rl_session.proofs.Scripts.SpellingLemmas.{some_text}
 use Rattle.rl_session.proofs.spelling.unescape.Goals as goal
 
 pub returns-then-is_well_formed-clause-err : goal.returns-then-is_well_formed-clause-err

@@ -1,5 +1,5 @@
 use Rattle.rl_line.specs.Kills.{is_by_characters}
-use Rattle.rl_line.proofs.KillLemmas.{Told-never}
+use Rattle.rl_line.proofs.Plans.KillLemmas.{Told-never}
 use Rattle.rl_tests.proofs.kills.kill_unheard.Goals as goal
 
 pub unreachable-requires : goal.unreachable-requires

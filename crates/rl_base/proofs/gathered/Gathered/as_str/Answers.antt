@@ -1,5 +1,5 @@
 use Rattle.std.proofs.Common.{arith}
-use Rattle.rl_base.proofs.GatheredLemmas.{may_cut}
+use Rattle.rl_base.proofs.Texts.GatheredLemmas.{may_cut}
 use Rattle.rl_base.proofs.gathered.Gathered.as_str.Goals as goal
 
 pub range_from-requires : goal.range_from-requires

@@ -1,5 +1,5 @@
 use Rattle.std.proofs.Common.{arith}
-use Rattle.rl_base.proofs.GatheredLemmas.{may_cut}
+use Rattle.rl_base.proofs.Texts.GatheredLemmas.{may_cut}
 use Rattle.rl_base.proofs.gathered.Gathered.pack.Goals as goal
 
 pub replace_range-requires-clause-end_boundary : goal.replace_range-requires-clause-end_boundary

@@ -1,6 +1,6 @@
 use Rattle.std.proofs.Common.{rules, ◌≡◌, List, ℕ, length, ap, ◌∙◌}
 use Rattle.rl_base.specs.Gathered.{texts}
-use Rattle.rl_base.proofs.RingLemmas.{length-join}
+use Rattle.rl_base.proofs.Ring.RingLemmas.{length-join}
 use Rattle.rl_base.proofs.kill_ring.KillRing.kill.Goals as goal
 
 pub invariant_of-self-in-Kill : goal.invariant_of-self-in-Kill

@@ -1,6 +1,6 @@
 use Rattle.std.proofs.Common.{◌∙◌, arith, sym, ap, ltb-true}
 use Rattle.rl_base.specs.Classes.{all_alphanumeric}
-use Rattle.rl_base.proofs.ClassLemmas.{all_alphanumeric-lone}
+use Rattle.rl_base.proofs.Clusters.ClassLemmas.{all_alphanumeric-lone}
 use Rattle.rl_base.proofs.places.classes.all_alphanumeric.Goals as goal
 
 pub returns-in-len1 : goal.returns-in-len1

@@ -1,5 +1,5 @@
 use Rattle.std.proofs.Common.{sym, ◌∙◌, ltb-true}
-use Rattle.rl_base.proofs.ClassLemmas.{is_alphanumeric-ascii}
+use Rattle.rl_base.proofs.Clusters.ClassLemmas.{is_alphanumeric-ascii}
 use Rattle.rl_base.proofs.places.classes.is_alphanumeric.Goals as goal
 
 pub returns-then-is_ascii : goal.returns-then-is_ascii

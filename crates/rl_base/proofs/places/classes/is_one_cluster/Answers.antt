@@ -1,5 +1,5 @@
 use Rattle.std.proofs.Common.{arith, eq-eqb, sym}
-use Rattle.rl_base.proofs.PieceLemmas.{clusters-lone}
+use Rattle.rl_base.proofs.Clusters.PieceLemmas.{clusters-lone}
 use Rattle.rl_base.proofs.places.classes.is_one_cluster.Goals as goal
 
 pub returns-then-text-eq1 : goal.returns-then-text-eq1

@@ -1,6 +1,6 @@
 use Rattle.std.proofs.Common.{◌<◌, ◌+◌, sym, ◌∙◌, arith}
 use Rattle.std.proofs.lemmas.Str.{IsUtf8-past_char}
-use Rattle.rl_base.proofs.SearchLemmas.{left_within, char_places-first_at, search-hit, search-miss, nothing_left}
+use Rattle.rl_base.proofs.Clusters.SearchLemmas.{left_within, char_places-first_at, search-hit, search-miss, nothing_left}
 use Rattle.rl_base.proofs.places.hits.nth_hit.Goals as goal
 
 pub overflow_add-hit : goal.overflow_add-hit

@@ -1,6 +1,6 @@
 use Rattle.std.proofs.Common.{◌≡◌, rules}
 use Rattle.rl_base.specs.Search.{chosen_hit}
-use Rattle.rl_base.proofs.SearchLemmas.{IsFound, IsFound-chosen}
+use Rattle.rl_base.proofs.Clusters.SearchLemmas.{IsFound, IsFound-chosen}
 use Rattle.rl_base.proofs.places.hits.search.Goals as goal
 
 forward : (c : goal.After-search_ahead) → IsFound c.args.text.now c.args.pos c.args.cs c.search_ahead.result

@@ -4,8 +4,8 @@ use Rattle.std.specs.Option.{IfSome}
 use Rattle.std.specs.Str.{IsCharBoundary}
 use Rattle.unicode_segmentation.specs.Iter.{grapheme_indices_left}
 use Rattle.rl_base.specs.Words.{PlacedCluster}
-use Rattle.rl_base.proofs.ClusterLemmas.{shown_past_first}
-use Rattle.rl_base.proofs.WordLemmas.{last_or-push, IsCharBoundary-last_place}
+use Rattle.rl_base.proofs.Clusters.ClusterLemmas.{shown_past_first}
+use Rattle.rl_base.proofs.Clusters.WordLemmas.{last_or-push, IsCharBoundary-last_place}
 use Rattle.rl_base.proofs.places.words.last_place.Goals as goal
 
 pub returns-clause-value : goal.returns-clause-value

@@ -1,5 +1,5 @@
 use Rattle.std.proofs.Common.{◌<◌, sym, ◌∙◌, arith, rules}
-use Rattle.rl_base.proofs.WordLemmas.{nth-past_stop}
+use Rattle.rl_base.proofs.Clusters.WordLemmas.{nth-past_stop}
 use Rattle.rl_base.proofs.places.words.nth_stop.Goals as goal
 
 pub loop-start-preserved-else-left-eq1 : goal.loop-start-preserved-else-left-eq1

@@ -3,7 +3,7 @@ use Rattle.std.specs.Iterator.Adapters.{rev_source}
 use Rattle.rl_base.specs.ClusterClass.{class_of}
 use Rattle.unicode_segmentation.specs.Iter.{grapheme_indices_left}
 use Rattle.rl_base.specs.Words.{placed_clusters}
-use Rattle.rl_base.proofs.WordLemmas.{start_before}
+use Rattle.rl_base.proofs.Clusters.WordLemmas.{start_before}
 use Rattle.rl_base.proofs.places.words.prev_word.Given as goal
 
 -- the start that is wanted among the clusters that are left is the one that was asked for

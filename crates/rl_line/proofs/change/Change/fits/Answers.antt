@@ -2,7 +2,7 @@ use Rattle.std.proofs.Common.{sym, ap, ◌∙◌}
 use Rattle.std.specs.Prelude.{is_some}
 use Rattle.rl_base.specs.Text.{stands_at}
 use Rattle.rl_line.specs.Change.{faced}
-use Rattle.rl_line.proofs.ChangeLemmas.{fits-is, mark-leaves, place-faced}
+use Rattle.rl_line.proofs.Records.ChangeLemmas.{fits-is, mark-leaves, place-faced}
 use Rattle.rl_line.proofs.change.Change.fits.Goals as goal
 
 pub returns-in-Some : goal.returns-in-Some

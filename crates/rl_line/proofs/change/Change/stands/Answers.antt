@@ -1,7 +1,7 @@
 use Rattle.std.proofs.Common.{sym, ◌∙◌}
 use Rattle.rl_line.specs.Change.{faced}
 use Rattle.rl_line.specs.Record.{inverse}
-use Rattle.rl_line.proofs.ChangeLemmas.{cursor_stands-told}
+use Rattle.rl_line.proofs.Records.ChangeLemmas.{cursor_stands-told}
 use Rattle.rl_line.proofs.change.Change.stands.Goals as goal
 
 pub returns-in-Some : goal.returns-in-Some

@@ -1,7 +1,7 @@
 use Rattle.std.proofs.Common.{rules, sym, ◌∙◌}
-use Rattle.rl_base.proofs.ClusterLemmas.{slice_range-front}
-use Rattle.rl_base.proofs.TextLemmas.{greatest_boundary-is}
-use Rattle.rl_line.proofs.EditLemmas.{cut_to_limit-past}
+use Rattle.rl_base.proofs.Clusters.ClusterLemmas.{slice_range-front}
+use Rattle.rl_base.proofs.Texts.TextLemmas.{greatest_boundary-is}
+use Rattle.rl_line.proofs.Plans.EditLemmas.{cut_to_limit-past}
 use Rattle.rl_line.proofs.line_buffer.LineBuffer.cut_to_limit.Goals as goal
 
 pub returns : goal.returns

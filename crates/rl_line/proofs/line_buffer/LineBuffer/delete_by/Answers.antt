@@ -1,7 +1,7 @@
 use Rattle.std.proofs.Common.{rules}
 use Rattle.std.proofs.lemmas.Result.{err_from_is_err_and}
-use Rattle.rl_line.proofs.KillLemmas.{kill_plan-nothing, kill_plan-some}
-use Rattle.rl_line.proofs.PlanLemmas.{Done-nothing, Done-single, Halted-single}
+use Rattle.rl_line.proofs.Plans.KillLemmas.{kill_plan-nothing, kill_plan-some}
+use Rattle.rl_line.proofs.Plans.PlanLemmas.{Done-nothing, Done-single, Halted-single}
 use Rattle.rl_line.proofs.line_buffer.LineBuffer.delete_by.Goals as goal
 
 pub returns-in_err-take_out-in-Some-clause-halted : goal.returns-in_err-take_out-in-Some-clause-halted

@@ -6,13 +6,13 @@ use Rattle.std.specs.Prelude.{IsAscii}
 use Rattle.std.specs.Str.{IsCharBoundary}
 use Rattle.std.specs.declared.ops.Range.{Range}
 use Rattle.std.proofs.lemmas.Result.{err_from_is_err_and}
-use Rattle.rl_base.proofs.TextLemmas.{IsCharBoundary-before_removal, IsCharBoundary-past_replacement}
+use Rattle.rl_base.proofs.Texts.TextLemmas.{IsCharBoundary-before_removal, IsCharBoundary-past_replacement}
 use Rattle.rl_line.specs.Edits.{exchange_plan}
 use Rattle.rl_line.specs.LetterCase.{edit_word_plan, mapped}
 use Rattle.rl_line.specs.Plan.{Plan, answering, bytes_of}
 use Rattle.rl_line.specs.Ranges.{text_in}
-use Rattle.rl_line.proofs.LetterCaseLemmas.{edit_word_plan-nothing, edit_word_plan-some, made_for, recased-ascii}
-use Rattle.rl_line.proofs.PlanLemmas.{Done-as, Done-nothing, Done-steps, Stopped-as}
+use Rattle.rl_line.proofs.Plans.LetterCaseLemmas.{edit_word_plan-nothing, edit_word_plan-some, made_for, recased-ascii}
+use Rattle.rl_line.proofs.Plans.PlanLemmas.{Done-as, Done-nothing, Done-steps, Stopped-as}
 use Rattle.rl_line.proofs.line_buffer.LineBuffer.edit_word.Goals as goal
 
 pub returns-in_default-clause-done : goal.returns-in_default-clause-done

@@ -3,8 +3,8 @@ use Rattle.std.proofs.lemmas.Result.{err_from_is_err_and}
 use Rattle.std.specs.String.{string_bytes}
 use Rattle.rl_line.specs.Edits.{exchange_plan}
 use Rattle.rl_line.specs.Line.{Line, line_of}
-use Rattle.rl_line.proofs.EditLemmas.{some_part}
-use Rattle.rl_line.proofs.StepLemmas.{Halted-from, Taken-from}
+use Rattle.rl_line.proofs.Plans.EditLemmas.{some_part}
+use Rattle.rl_line.proofs.Plans.StepLemmas.{Halted-from, Taken-from}
 use Rattle.rl_line.proofs.line_buffer.LineBuffer.exchange.Goals as goal
 
 pub returns-in_err-come-clause-halted : goal.returns-in_err-come-clause-halted

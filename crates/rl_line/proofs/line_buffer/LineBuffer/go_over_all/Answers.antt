@@ -9,11 +9,11 @@ use Rattle.rl_line.specs.declared.change.Measure.{Measure}
 use Rattle.rl_line.specs.declared.change.Measure.TheVariants.{Bytes, Newlines}
 use Rattle.rl_line.specs.Change.{faced, size_back, size_back_over, greatest_back_over, order}
 use Rattle.std.proofs.lemmas.List.{drop-map, drop_all}
-use Rattle.rl_line.proofs.ChangeLemmas.{length-order}
-use Rattle.rl_line.proofs.LineStartLemmas.{IsTable-same, length-table}
-use Rattle.rl_line.proofs.UndoLemmas.{IsBack, IsBack-none, IsBack-fits, IsBack-next, entries_from, one-fits, one-stands, size_back_over-within}
+use Rattle.rl_line.proofs.Records.ChangeLemmas.{length-order}
+use Rattle.rl_line.proofs.Lines.LineStartLemmas.{IsTable-same, length-table}
+use Rattle.rl_line.proofs.Records.UndoLemmas.{IsBack, IsBack-none, IsBack-fits, IsBack-next, entries_from, one-fits, one-stands, size_back_over-within}
 use Rattle.std.proofs.lemmas.Result.{err_from_is_err_and}
-use Rattle.rl_line.proofs.RoomLemmas.{NeedsRoom-line}
+use Rattle.rl_line.proofs.Records.RoomLemmas.{NeedsRoom-line}
 use Rattle.rl_line.proofs.line_buffer.LineBuffer.go_over_all.Goals as goal
 use Rattle.rl_line.proofs.line_buffer.LineBuffer.go_over_all.Goals.{After-nth_on}
 

@@ -4,7 +4,7 @@ use Rattle.rl_base.specs.Lines.{is_newline}
 use Rattle.rl_line.specs.Line.{IsLine}
 use Rattle.rl_line.specs.declared.change.Measure.TheVariants.{Bytes, Newlines}
 use Rattle.rl_line.specs.Change.{faced, size_back_over, greatest_back_over, order}
-use Rattle.rl_line.proofs.UndoLemmas.{IsBack}
+use Rattle.rl_line.proofs.Records.UndoLemmas.{IsBack}
 use Rattle.rl_line.proofs.line_buffer.LineBuffer.go_over_all.Given as goal
 
 abbrev pub invariant-loop-left : goal.invariant-loop-left

@@ -8,10 +8,10 @@ use Rattle.rl_line.specs.Change.{faced, place}
 use Rattle.rl_line.specs.Line.{Line, NeedsRoom}
 use Rattle.rl_line.specs.Record.{event_of, inverse, new_text, old_text}
 use Rattle.rl_line.specs.Undo.{cursor_after, cursor_told, line_back, place_after, texts_back}
-use Rattle.rl_line.proofs.ChangeLemmas.{StandsNew, StandsNew-from_IsSome, place-faced, place_after-is}
-use Rattle.rl_line.proofs.RecordLemmas.{value_of}
-use Rattle.rl_line.proofs.RoomLemmas.{NeedsRoom-one}
-use Rattle.rl_line.proofs.UndoLemmas.{one-back, one-fits, one-stands}
+use Rattle.rl_line.proofs.Records.ChangeLemmas.{StandsNew, StandsNew-from_IsSome, place-faced, place_after-is}
+use Rattle.rl_line.proofs.Records.RecordLemmas.{value_of}
+use Rattle.rl_line.proofs.Records.RoomLemmas.{NeedsRoom-one}
+use Rattle.rl_line.proofs.Records.UndoLemmas.{one-back, one-fits, one-stands}
 use Rattle.rl_line.proofs.line_buffer.LineBuffer.go_over_one.Goals as goal
 use Rattle.rl_line.proofs.line_buffer.LineBuffer.go_over_one.Goals.{After-max-self-inside, After-texts}
 

@@ -1,5 +1,5 @@
 use Rattle.rl_line.specs.Indents.{indent_plan}
-use Rattle.rl_line.proofs.IndentLemmas.{LinesDone}
+use Rattle.rl_line.proofs.Plans.IndentLemmas.{LinesDone}
 use Rattle.rl_line.proofs.line_buffer.LineBuffer.indent.Given as goal
 
 abbrev pub invariant-loop-k : goal.invariant-loop-k

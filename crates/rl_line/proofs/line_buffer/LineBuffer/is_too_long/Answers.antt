@@ -1,5 +1,5 @@
 use Rattle.std.proofs.Common.{rules, sym}
-use Rattle.rl_line.proofs.EditLemmas.{too_long-past}
+use Rattle.rl_line.proofs.Plans.EditLemmas.{too_long-past}
 use Rattle.rl_line.proofs.line_buffer.LineBuffer.is_too_long.Goals as goal
 
 pub returns-in-None : goal.returns-in-None

@@ -1,6 +1,6 @@
 use Rattle.std.proofs.Common.{rules}
 use Rattle.rl_line.specs.Kills.{is_by_characters}
-use Rattle.rl_line.proofs.KillLemmas.{Told-ok, Told-err}
+use Rattle.rl_line.proofs.Plans.KillLemmas.{Told-ok, Told-err}
 use Rattle.rl_line.proofs.line_buffer.LineBuffer.kill.Goals as goal
 
 pub returns-clause-done : goal.returns-clause-done

@@ -1,7 +1,7 @@
 use Rattle.std.proofs.Common.{ap, ◌∙◌}
 use Rattle.rl_base.specs.Lines.{last_line}
 use Rattle.rl_line.specs.Line.{Line}
-use Rattle.rl_line.proofs.LineStartLemmas.{length-table}
+use Rattle.rl_line.proofs.Lines.LineStartLemmas.{length-table}
 use Rattle.rl_line.proofs.line_buffer.LineBuffer.last_line.Goals as goal
 
 pub returns : goal.returns

@@ -1,6 +1,6 @@
 use Rattle.std.proofs.Common.{rules, ◌≡◌, arith}
 use Rattle.rl_line.specs.LineMotions.{line_end}
-use Rattle.rl_base.proofs.LineLemmas.{end-after}
+use Rattle.rl_base.proofs.Texts.LineLemmas.{end-after}
 use Rattle.rl_line.proofs.line_buffer.LineBuffer.line_end.Goals as goal
 
 pub returns-clause-after : goal.returns-clause-after

@@ -1,6 +1,6 @@
 use Rattle.std.proofs.Common.{arith}
-use Rattle.rl_base.proofs.LineLemmas.{count_of_lines, text-between}
-use Rattle.rl_line.proofs.LineReadLemmas.{range-is, range-past}
+use Rattle.rl_base.proofs.Texts.LineLemmas.{count_of_lines, text-between}
+use Rattle.rl_line.proofs.Lines.LineReadLemmas.{range-is, range-past}
 use Rattle.rl_line.proofs.line_buffer.LineBuffer.line_range.Goals as goal
 
 pub returns-then-i-last_line-clause-value : goal.returns-then-i-last_line-clause-value

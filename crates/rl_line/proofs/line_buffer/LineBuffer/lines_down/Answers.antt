@@ -1,7 +1,7 @@
 use Rattle.std.proofs.Common.{rules, refl, ◌≡◌, arith}
 use Rattle.rl_base.specs.Lines.{line_number}
-use Rattle.rl_base.proofs.LineLemmas.{start-mono}
-use Rattle.rl_line.proofs.LineReadLemmas.{none_below, some_below}
+use Rattle.rl_base.proofs.Texts.LineLemmas.{start-mono}
+use Rattle.rl_line.proofs.Lines.LineReadLemmas.{none_below, some_below}
 use Rattle.rl_line.proofs.line_buffer.LineBuffer.lines_down.Goals as goal
 
 pub returns-then-k-last-clause-value : goal.returns-then-k-last-clause-value

@@ -1,5 +1,5 @@
 use Rattle.std.proofs.Common.{arith}
-use Rattle.rl_base.proofs.LineLemmas.{start-mono}
+use Rattle.rl_base.proofs.Texts.LineLemmas.{start-mono}
 use Rattle.rl_line.proofs.line_buffer.LineBuffer.lines_up.Goals as goal
 
 pub returns-clause-order : goal.returns-clause-order

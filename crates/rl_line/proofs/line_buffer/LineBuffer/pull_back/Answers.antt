@@ -4,7 +4,7 @@ use Rattle.std.proofs.lemmas.Str.{IsUtf8-string_bytes}
 use Rattle.std.specs.List.{insert_slice, remove_range}
 use Rattle.std.specs.Str.{IsCharBoundary}
 use Rattle.std.specs.String.{string_bytes}
-use Rattle.rl_base.proofs.TextLemmas.{IsCharBoundary-at_removal, IsCharBoundary-before_removal, IsCharBoundary-after}
+use Rattle.rl_base.proofs.Texts.TextLemmas.{IsCharBoundary-at_removal, IsCharBoundary-before_removal, IsCharBoundary-after}
 use Rattle.rl_base.specs.Event.{InsertStr}
 use Rattle.rl_base.specs.Lines.{is_newline}
 use Rattle.rl_base.specs.declared.listeners.Direction.TheVariants.{Forward}
@@ -12,10 +12,10 @@ use Rattle.rl_line.specs.Line.{Line, line_of}
 use Rattle.rl_line.specs.Ranges.{text_in}
 use Rattle.rl_line.specs.Plan.{Plan}
 use Rattle.rl_line.specs.Transpositions.{end_of_cluster, pull_back_plan}
-use Rattle.rl_line.proofs.LineStartLemmas.{length-table, newlines-slice}
-use Rattle.rl_line.proofs.PlanLemmas.{Done-followed, Done-single, Halted-after, Halted-at_first}
-use Rattle.rl_line.proofs.StepLemmas.{line_of-kept, Done-from, Halted-from, Taken-deletion, Taken-insertion}
-use Rattle.rl_line.proofs.TranspositionLemmas.{exchanged, pull_back_plan-is}
+use Rattle.rl_line.proofs.Lines.LineStartLemmas.{length-table, newlines-slice}
+use Rattle.rl_line.proofs.Plans.PlanLemmas.{Done-followed, Done-single, Halted-after, Halted-at_first}
+use Rattle.rl_line.proofs.Plans.StepLemmas.{line_of-kept, Done-from, Halted-from, Taken-deletion, Taken-insertion}
+use Rattle.rl_line.proofs.Plans.TranspositionLemmas.{exchanged, pull_back_plan-is}
 use Rattle.rl_line.proofs.line_buffer.LineBuffer.pull_back.Goals as goal
 
 pub returns-in_err-moved-clause-halted : goal.returns-in_err-moved-clause-halted

@@ -1,5 +1,5 @@
 use Rattle.std.proofs.Common.{rules, arith}
-use Rattle.rl_base.proofs.EventLemmas.{fitting}
+use Rattle.rl_base.proofs.Texts.EventLemmas.{fitting}
 use Rattle.rl_line.proofs.line_buffer.LineBuffer.put_instead.Goals as goal
 
 pub returns-clause-taken : goal.returns-clause-taken

@@ -1,5 +1,5 @@
 use Rattle.std.proofs.Common.{rules}
-use Rattle.rl_line.proofs.PlanLemmas.{Halted-at_first}
+use Rattle.rl_line.proofs.Plans.PlanLemmas.{Halted-at_first}
 use Rattle.rl_line.proofs.line_buffer.LineBuffer.replace.Goals as goal
 
 pub returns-clause-halted : goal.returns-clause-halted

@@ -4,7 +4,7 @@ use Rattle.std.specs.Str.{IsUtf8}
 use Rattle.rl_base.specs.Lines.{is_newline}
 use Rattle.rl_line.specs.Line.{Line}
 use Rattle.rl_line.specs.LineStarts.{line_starts, IsTable}
-use Rattle.rl_line.proofs.LineStartLemmas.{length-table}
+use Rattle.rl_line.proofs.Lines.LineStartLemmas.{length-table}
 use Rattle.rl_line.proofs.line_buffer.LineBuffer.start.Goals as goal
 
 pub start-requires-clause-table : goal.start-requires-clause-table

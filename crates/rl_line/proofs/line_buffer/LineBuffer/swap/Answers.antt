@@ -3,17 +3,17 @@ use Rattle.std.proofs.lemmas.Result.{err_from_is_err_and}
 use Rattle.std.specs.List.{replace_range}
 use Rattle.std.specs.Str.{IsCharBoundary, IsUtf8}
 use Rattle.std.specs.String.{string_bytes}
-use Rattle.rl_base.proofs.TextLemmas.{IsCharBoundary-before, slice-before}
+use Rattle.rl_base.proofs.Texts.TextLemmas.{IsCharBoundary-before, slice-before}
 use Rattle.rl_base.specs.Lines.{is_newline}
 use Rattle.rl_line.specs.Edits.{exchange_plan}
 use Rattle.rl_line.specs.Line.{Line, line_of}
 use Rattle.rl_line.specs.Ranges.{text_in}
 use Rattle.rl_line.specs.Transpositions.{swap_plan}
-use Rattle.rl_line.proofs.EditLemmas.{some_part}
-use Rattle.rl_line.proofs.LineStartLemmas.{length-table, newlines-slice}
-use Rattle.rl_line.proofs.PlanLemmas.{Done-steps, Taken-append, Halted-front, Halted-back}
-use Rattle.rl_line.proofs.StepLemmas.{Halted-from, Taken-from}
-use Rattle.rl_line.proofs.TranspositionLemmas.{last_steps, swap-front, swap-halves, places}
+use Rattle.rl_line.proofs.Plans.EditLemmas.{some_part}
+use Rattle.rl_line.proofs.Lines.LineStartLemmas.{length-table, newlines-slice}
+use Rattle.rl_line.proofs.Plans.PlanLemmas.{Done-steps, Taken-append, Halted-front, Halted-back}
+use Rattle.rl_line.proofs.Plans.StepLemmas.{Halted-from, Taken-from}
+use Rattle.rl_line.proofs.Plans.TranspositionLemmas.{last_steps, swap-front, swap-halves, places}
 use Rattle.rl_line.proofs.line_buffer.LineBuffer.swap.Goals as goal
 
 pub returns-in_err-first_text-clause-halted : goal.returns-in_err-first_text-clause-halted

@@ -3,8 +3,8 @@ use Rattle.std.proofs.lemmas.Result.{err_from_is_err_and}
 use Rattle.std.specs.List.{remove_range}
 use Rattle.std.specs.Str.{IsCharBoundary}
 use Rattle.rl_line.specs.Line.{Line}
-use Rattle.rl_line.proofs.IndentLemmas.{line_plan-dedent, IsCharBoundary-from_part, IsCharBoundary-pulled}
-use Rattle.rl_line.proofs.PlanLemmas.{Completed-single, Halted-single}
+use Rattle.rl_line.proofs.Plans.IndentLemmas.{line_plan-dedent, IsCharBoundary-from_part, IsCharBoundary-pulled}
+use Rattle.rl_line.proofs.Plans.PlanLemmas.{Completed-single, Halted-single}
 use Rattle.rl_line.proofs.line_buffer.LineBuffer.take_blanks.Goals as goal
 
 pub take_out_before-requires-clause-range : goal.take_out_before-requires-clause-range

@@ -1,5 +1,5 @@
-use Rattle.rl_line.proofs.PlanLemmas.{Done-nothing}
-use Rattle.rl_line.proofs.TranspositionLemmas.{transpose_chars-nothing}
+use Rattle.rl_line.proofs.Plans.PlanLemmas.{Done-nothing}
+use Rattle.rl_line.proofs.Plans.TranspositionLemmas.{transpose_chars-nothing}
 use Rattle.rl_line.proofs.line_buffer.LineBuffer.transpose_chars.Goals as goal
 
 pub returns-in-None-clause-done : goal.returns-in-None-clause-done

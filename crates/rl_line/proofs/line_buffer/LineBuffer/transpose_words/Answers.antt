@@ -1,6 +1,6 @@
 use Rattle.std.proofs.Common.{rules}
-use Rattle.rl_line.proofs.PlanLemmas.{Done-moved}
-use Rattle.rl_line.proofs.TranspositionLemmas.{transpose-stays}
+use Rattle.rl_line.proofs.Plans.PlanLemmas.{Done-moved}
+use Rattle.rl_line.proofs.Plans.TranspositionLemmas.{transpose-stays}
 use Rattle.rl_line.proofs.line_buffer.LineBuffer.transpose_words.Goals as goal
 
 pub returns-then-not-are_two-clause-done : goal.returns-then-not-are_two-clause-done

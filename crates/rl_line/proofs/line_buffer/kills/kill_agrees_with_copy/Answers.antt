@@ -1,4 +1,4 @@
-use Rattle.rl_line.proofs.KillLemmas.{killed-exact, removal-text}
+use Rattle.rl_line.proofs.Plans.KillLemmas.{killed-exact, removal-text}
 use Rattle.rl_line.specs.Ranges.{covered}
 use Rattle.rl_line.specs.Kills.{side_of}
 use Rattle.rl_line.proofs.line_buffer.kills.kill_agrees_with_copy.Goals as goal

@@ -1,7 +1,7 @@
 use Rattle.std.proofs.Common.{◌++◌, ap, ◌∙◌}
 use Rattle.std.specs.String.{string_bytes}
-use Rattle.rl_base.proofs.ClusterLemmas.{slice_range-front}
-use Rattle.rl_line.proofs.LetterCaseLemmas.{capitalized-ascii}
+use Rattle.rl_base.proofs.Clusters.ClusterLemmas.{slice_range-front}
+use Rattle.rl_line.proofs.Plans.LetterCaseLemmas.{capitalized-ascii}
 use Rattle.rl_line.proofs.line_buffer.letter_case.capitalized.Goals as goal
 
 pub returns-clause-ascii : goal.returns-clause-ascii

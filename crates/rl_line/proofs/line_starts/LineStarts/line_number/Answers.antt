@@ -1,7 +1,7 @@
 use Rattle.std.proofs.Common.{◌-◌, length, leb, leb-true, leb-false, subst, sym, ◌∙◌, rules}
 use Rattle.std.proofs.lemmas.List.Sorted.{IsPartitionPoint-from_clause}
 use Rattle.rl_line.specs.LineStarts.{IsTable}
-use Rattle.rl_line.proofs.LineReadLemmas.{IsPartitionedBy-before, IsPartitionedBy-from, number-before, number-from}
+use Rattle.rl_line.proofs.Lines.LineReadLemmas.{IsPartitionedBy-before, IsPartitionedBy-from, number-before, number-from}
 use Rattle.rl_line.proofs.line_starts.LineStarts.line_number.Goals as goal
 
 pub returns-then-border_by : goal.returns-then-border_by

@@ -1,5 +1,5 @@
 use Rattle.std.proofs.Common.{arith}
-use Rattle.rl_line.proofs.LineStartLemmas.{newlines-front}
+use Rattle.rl_line.proofs.Lines.LineStartLemmas.{newlines-front}
 use Rattle.rl_line.proofs.line_starts.LineStarts.more_than.Goals as goal
 
 pub overflow_sub-gone : goal.overflow_sub-gone

@@ -1,6 +1,6 @@
 use Rattle.std.proofs.Common.{◌<◌, length, arith}
 use Rattle.std.proofs.lemmas.List.{get_or_read}
-use Rattle.rl_line.proofs.LineStartLemmas.{read-from, read-within}
+use Rattle.rl_line.proofs.Lines.LineStartLemmas.{read-from, read-within}
 use Rattle.rl_line.proofs.line_starts.LineStarts.start.Goals as goal
 
 pub overflow_sub-result : goal.overflow_sub-result

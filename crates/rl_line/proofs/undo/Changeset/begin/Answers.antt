@@ -4,8 +4,8 @@ use Rattle.rl_line.specs.Record.{Begin, entry_of}
 use Rattle.rl_line.specs.declared.change.Freshness.TheVariants.{Stale}
 use Rattle.rl_line.specs.Entries.{cut_at}
 use Rattle.rl_line.specs.Units.{AtLevel, begun}
-use Rattle.rl_line.proofs.LevelLemmas.{AtLevel-begun, level-within}
-use Rattle.rl_line.proofs.MoveLemmas.{IsCutAt-of, count-is, dropped-view, within-list}
+use Rattle.rl_line.proofs.Records.LevelLemmas.{AtLevel-begun, level-within}
+use Rattle.rl_line.proofs.Records.MoveLemmas.{IsCutAt-of, count-is, dropped-view, within-list}
 use Rattle.rl_line.proofs.undo.Changeset.begin.Goals as goal
 use Rattle.rl_line.proofs.undo.Changeset.begin.Goals.{In_ok-add}
 

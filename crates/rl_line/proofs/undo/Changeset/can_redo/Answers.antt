@@ -7,10 +7,10 @@ use Rattle.rl_line.specs.Change.{faced, order, text_back}
 use Rattle.rl_line.specs.Record.{Record, bytes_ahead, bytes_back, entry_of}
 use Rattle.rl_line.specs.Units.{has_change}
 use Rattle.rl_line.specs.Undo.{line_ahead}
-use Rattle.rl_line.proofs.ChangeLemmas.{ahead-inverse}
-use Rattle.rl_line.proofs.RoomLemmas.{bytes_ahead-back}
-use Rattle.rl_line.proofs.UndoLemmas.{marks-ahead}
-use Rattle.rl_line.proofs.MoveLemmas.{all-ahead, pending-part, some-map}
+use Rattle.rl_line.proofs.Records.ChangeLemmas.{ahead-inverse}
+use Rattle.rl_line.proofs.Records.RoomLemmas.{bytes_ahead-back}
+use Rattle.rl_line.proofs.Records.UndoLemmas.{marks-ahead}
+use Rattle.rl_line.proofs.Records.MoveLemmas.{all-ahead, pending-part, some-map}
 use Rattle.rl_line.proofs.undo.Changeset.can_redo.Goals as goal
 use Rattle.rl_line.proofs.undo.Changeset.can_redo.Goals.{After-deref}
 

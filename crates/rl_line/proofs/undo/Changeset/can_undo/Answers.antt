@@ -6,8 +6,8 @@ use Rattle.rl_line.specs.Record.{Record, bytes_back, entry_of}
 use Rattle.rl_line.specs.Units.{has_change}
 use Rattle.rl_line.specs.Change.{text_back}
 use Rattle.rl_line.specs.Undo.{line_back}
-use Rattle.rl_line.proofs.MoveLemmas.{recorded-part, some-map}
-use Rattle.rl_line.proofs.UndoLemmas.{line_back-is_some, marks-back}
+use Rattle.rl_line.proofs.Records.MoveLemmas.{recorded-part, some-map}
+use Rattle.rl_line.proofs.Records.UndoLemmas.{line_back-is_some, marks-back}
 use Rattle.rl_line.proofs.undo.Changeset.can_undo.Goals as goal
 use Rattle.rl_line.proofs.undo.Changeset.can_undo.Goals.{After-deref}
 

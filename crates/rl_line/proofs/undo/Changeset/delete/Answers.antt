@@ -5,8 +5,8 @@ use Rattle.rl_base.specs.declared.listeners.Direction.TheVariants.{Forward}
 use Rattle.rl_line.specs.Record.{entry_of, record_step}
 use Rattle.rl_line.specs.Entries.{cut_at}
 use Rattle.rl_line.specs.Units.{AtLevel}
-use Rattle.rl_line.proofs.LevelLemmas.{AtLevel-step}
-use Rattle.rl_line.proofs.MoveLemmas.{IsCutAt-of, hears, step-Delete, within-list}
+use Rattle.rl_line.proofs.Records.LevelLemmas.{AtLevel-step}
+use Rattle.rl_line.proofs.Records.MoveLemmas.{IsCutAt-of, hears, step-Delete, within-list}
 use Rattle.rl_line.proofs.undo.Changeset.delete.Goals as goal
 use Rattle.rl_line.proofs.undo.Changeset.delete.Goals.{After-len-self-inside}
 

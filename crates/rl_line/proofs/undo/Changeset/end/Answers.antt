@@ -5,8 +5,8 @@ use Rattle.rl_line.specs.Record.{Record, entry_of}
 use Rattle.rl_line.specs.declared.change.Freshness.TheVariants.{Stale}
 use Rattle.rl_line.specs.Entries.{cut_at}
 use Rattle.rl_line.specs.Units.{AtLevel, adds_end, end_times, ended, level}
-use Rattle.rl_line.proofs.LevelLemmas.{AtLevel-ended}
-use Rattle.rl_line.proofs.MoveLemmas.{IsCutAt-of, dropped-view, recorded-part}
+use Rattle.rl_line.proofs.Records.LevelLemmas.{AtLevel-ended}
+use Rattle.rl_line.proofs.Records.MoveLemmas.{IsCutAt-of, dropped-view, recorded-part}
 use Rattle.rl_line.proofs.undo.Changeset.end.Goals as goal
 use Rattle.rl_line.proofs.undo.Changeset.end.Goals.{After-find_ends, After-keep, After-len-self-inside}
 

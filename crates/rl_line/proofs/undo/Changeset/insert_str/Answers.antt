@@ -4,8 +4,8 @@ use Rattle.rl_base.specs.Event.{InsertStr}
 use Rattle.rl_line.specs.Record.{entry_of, record_step}
 use Rattle.rl_line.specs.Entries.{cut_at}
 use Rattle.rl_line.specs.Units.{AtLevel}
-use Rattle.rl_line.proofs.LevelLemmas.{AtLevel-step}
-use Rattle.rl_line.proofs.MoveLemmas.{IsCutAt-of, hears, step-InsertStr, within-list}
+use Rattle.rl_line.proofs.Records.LevelLemmas.{AtLevel-step}
+use Rattle.rl_line.proofs.Records.MoveLemmas.{IsCutAt-of, hears, step-InsertStr, within-list}
 use Rattle.rl_line.proofs.undo.Changeset.insert_str.Goals as goal
 use Rattle.rl_line.proofs.undo.Changeset.insert_str.Goals.{After-len-self-inside}
 

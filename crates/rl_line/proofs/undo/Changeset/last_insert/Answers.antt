@@ -5,7 +5,7 @@ use Rattle.std.specs.String.{string_bytes}
 use Rattle.rl_base.specs.Text.{HasText}
 use Rattle.rl_base.specs.declared.listeners.Refusal.TheVariants.{NoMemory}
 use Rattle.rl_line.specs.Record.{Record, entry_of, last_insert}
-use Rattle.rl_line.proofs.MoveLemmas.{recorded-part}
+use Rattle.rl_line.proofs.Records.MoveLemmas.{recorded-part}
 use Rattle.rl_line.proofs.undo.Changeset.last_insert.Goals as goal
 use Rattle.rl_line.proofs.undo.Changeset.last_insert.Goals.{After-deref}
 

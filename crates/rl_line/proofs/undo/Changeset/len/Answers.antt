@@ -1,4 +1,4 @@
-use Rattle.rl_line.proofs.MoveLemmas.{count-is}
+use Rattle.rl_line.proofs.Records.MoveLemmas.{count-is}
 use Rattle.rl_line.proofs.undo.Changeset.len.Goals as goal
 
 pub returns : goal.returns

@@ -1,4 +1,4 @@
-use Rattle.rl_line.proofs.MoveLemmas.{kinds-are}
+use Rattle.rl_line.proofs.Records.MoveLemmas.{kinds-are}
 use Rattle.rl_line.proofs.undo.Changeset.level.Goals as goal
 
 pub returns-clause-kinds : goal.returns-clause-kinds

@@ -7,9 +7,9 @@ use Rattle.rl_line.specs.Record.{Record, entry_of}
 use Rattle.rl_line.specs.Undo.{texts_ahead}
 use Rattle.rl_line.specs.Units.{AtLevel, IsMatched, has_change, level, redo_of, redone}
 use Rattle.rl_line.specs.declared.change.Freshness.TheVariants.{Stale}
-use Rattle.rl_line.proofs.LevelLemmas.{AtLevel-redone, level-change}
-use Rattle.rl_line.proofs.MoveLemmas.{IsCutAt-of, RedoesTo, RedoesTo-of, ahead-line, pending-part, redo-fits, redone-view}
-use Rattle.rl_line.proofs.RoomLemmas.{texts_ahead-back}
+use Rattle.rl_line.proofs.Records.LevelLemmas.{AtLevel-redone, level-change}
+use Rattle.rl_line.proofs.Records.MoveLemmas.{IsCutAt-of, RedoesTo, RedoesTo-of, ahead-line, pending-part, redo-fits, redone-view}
+use Rattle.rl_line.proofs.Records.RoomLemmas.{texts_ahead-back}
 use Rattle.rl_line.proofs.undo.Changeset.redo.Goals as goal
 use Rattle.rl_line.proofs.undo.Changeset.redo.Goals.{In-Some}
 

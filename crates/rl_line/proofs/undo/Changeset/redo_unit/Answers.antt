@@ -6,18 +6,18 @@ use Rattle.rl_line.specs.Undo.{Redone}
 use Rattle.rl_line.specs.declared.change.Freshness.TheVariants.{Stale}
 use Rattle.rl_line.specs.Entries.{cut_at}
 use Rattle.rl_line.specs.Units.{AtLevel, IsMatched, has_change, level, redo_of, redone}
-use Rattle.rl_line.proofs.LevelLemmas.{AtLevel-redone, level-within}
-use Rattle.rl_line.proofs.MatchLemmas.{Redoes-of}
-use Rattle.rl_line.proofs.MoveLemmas.{IsCutAt-of, RedoesTo, RedoesTo-of, ahead-line, pending-part, redo-fits, redone-view, unit-part}
-use Rattle.rl_line.proofs.UndoLemmas.{line_ahead-marks}
+use Rattle.rl_line.proofs.Records.LevelLemmas.{AtLevel-redone, level-within}
+use Rattle.rl_line.proofs.Records.MatchLemmas.{Redoes-of}
+use Rattle.rl_line.proofs.Records.MoveLemmas.{IsCutAt-of, RedoesTo, RedoesTo-of, ahead-line, pending-part, redo-fits, redone-view, unit-part}
+use Rattle.rl_line.proofs.Records.UndoLemmas.{line_ahead-marks}
 use Rattle.rl_line.proofs.undo.Changeset.redo_unit.Goals as goal
 use Rattle.rl_line.proofs.undo.Changeset.redo_unit.Goals.{After-deref-2, After-level-opened, After-next_len-count}
 use Rattle.std.proofs.lemmas.Result.{err_from_is_err_and}
 use Rattle.std.specs.Prelude.{Any, reverse}
 use Rattle.rl_line.specs.Line.{NeedsRoom}
 use Rattle.rl_line.specs.Undo.{texts_back}
-use Rattle.rl_line.proofs.ChangeLemmas.{ahead-inverse}
-use Rattle.rl_line.proofs.RoomLemmas.{texts_ahead-back}
+use Rattle.rl_line.proofs.Records.ChangeLemmas.{ahead-inverse}
+use Rattle.rl_line.proofs.Records.RoomLemmas.{texts_ahead-back}
 use Rattle.rl_line.specs.Record.{inverse}
 
 pub next_len-count-requires : goal.next_len-count-requires

@@ -2,10 +2,10 @@ use Rattle.std.proofs.lemmas.Result.{err_from_is_err_and}
 use Rattle.std.proofs.Common.{arith, length, ◌≡◌, None, ap, bytes_eq, map, option_map, string_bytes, sym, take, Some, ◌∙◌}
 use Rattle.rl_line.specs.Record.{Record, agree, bytes_back, entry_of, unwind}
 use Rattle.rl_line.specs.Units.{has_change}
-use Rattle.rl_line.proofs.ChangeLemmas.{text_back-unwind}
-use Rattle.rl_line.proofs.MoveLemmas.{recorded-part}
-use Rattle.rl_line.proofs.RoomLemmas.{bytes_back-first}
-use Rattle.rl_line.proofs.UndoLemmas.{marks-replay}
+use Rattle.rl_line.proofs.Records.ChangeLemmas.{text_back-unwind}
+use Rattle.rl_line.proofs.Records.MoveLemmas.{recorded-part}
+use Rattle.rl_line.proofs.Records.RoomLemmas.{bytes_back-first}
+use Rattle.rl_line.proofs.Records.UndoLemmas.{marks-replay}
 use Rattle.rl_line.proofs.undo.Changeset.replays_to.Goals as goal
 use Rattle.rl_line.proofs.undo.Changeset.replays_to.Goals.{After-deref, In_ok-some}
 

@@ -4,8 +4,8 @@ use Rattle.rl_line.specs.Record.{Record, entry_of}
 use Rattle.rl_line.specs.declared.change.Freshness.TheVariants.{Stale}
 use Rattle.rl_line.specs.Entries.{cut_at}
 use Rattle.rl_line.specs.Units.{AtLevel, IsMatched, level, truncated}
-use Rattle.rl_line.proofs.LevelLemmas.{AtLevel-truncated}
-use Rattle.rl_line.proofs.MoveLemmas.{IsCutAt-of, dropped-view, recorded-part, take-both}
+use Rattle.rl_line.proofs.Records.LevelLemmas.{AtLevel-truncated}
+use Rattle.rl_line.proofs.Records.MoveLemmas.{IsCutAt-of, dropped-view, recorded-part, take-both}
 use Rattle.rl_line.proofs.undo.Changeset.truncate.Goals as goal
 use Rattle.rl_line.proofs.undo.Changeset.truncate.Goals.{After-deref, After-len-self-inside}
 

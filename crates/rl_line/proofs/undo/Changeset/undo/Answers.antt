@@ -7,8 +7,8 @@ use Rattle.rl_line.specs.Record.{Record, entry_of}
 use Rattle.rl_line.specs.Undo.{line_back, texts_back}
 use Rattle.rl_line.specs.Units.{AtLevel, has_change, last_of, level, undone}
 use Rattle.rl_line.specs.declared.change.Freshness.TheVariants.{Stale}
-use Rattle.rl_line.proofs.LevelLemmas.{AtLevel-undone, level-change}
-use Rattle.rl_line.proofs.MoveLemmas.{IsCutAt-of, Undoes, Undoes-of, recorded-part, undo-fits, undone-view}
+use Rattle.rl_line.proofs.Records.LevelLemmas.{AtLevel-undone, level-change}
+use Rattle.rl_line.proofs.Records.MoveLemmas.{IsCutAt-of, Undoes, Undoes-of, recorded-part, undo-fits, undone-view}
 use Rattle.rl_line.proofs.undo.Changeset.undo.Goals as goal
 use Rattle.rl_line.proofs.undo.Changeset.undo.Goals.{In-Some}
 

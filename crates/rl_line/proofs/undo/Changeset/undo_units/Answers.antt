@@ -5,9 +5,9 @@ use Rattle.rl_line.specs.Undo.{Undone, line_back}
 use Rattle.rl_line.specs.declared.change.Freshness.TheVariants.{Stale}
 use Rattle.rl_line.specs.Entries.{cut_at}
 use Rattle.rl_line.specs.Units.{AtLevel, IsMatched, has_change, last_of, level, undone}
-use Rattle.rl_line.proofs.LevelLemmas.{AtLevel-undone, IsMatched-last, undone-within}
-use Rattle.rl_line.proofs.MoveLemmas.{IsCutAt-of, Undoes, Undoes-of, recorded-part, undo-count, undo-fits, undone-view, unit-part}
-use Rattle.rl_line.proofs.UndoLemmas.{line_back-marks}
+use Rattle.rl_line.proofs.Records.LevelLemmas.{AtLevel-undone, IsMatched-last, undone-within}
+use Rattle.rl_line.proofs.Records.MoveLemmas.{IsCutAt-of, Undoes, Undoes-of, recorded-part, undo-count, undo-fits, undone-view, unit-part}
+use Rattle.rl_line.proofs.Records.UndoLemmas.{line_back-marks}
 use Rattle.rl_line.proofs.undo.Changeset.undo_units.Goals as goal
 use Rattle.rl_line.proofs.undo.Changeset.undo_units.Goals.{After-deref-2, After-last_len-count, After-level-opened}
 use Rattle.std.proofs.lemmas.Result.{err_from_is_err_and}

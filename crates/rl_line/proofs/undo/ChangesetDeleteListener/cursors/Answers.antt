@@ -5,8 +5,8 @@ use Rattle.rl_line.specs.declared.change.Freshness.TheVariants.{Stale}
 use Rattle.rl_line.specs.Record.{entry_of, record_step}
 use Rattle.rl_line.specs.Entries.{cut_at}
 use Rattle.rl_line.specs.Units.{AtLevel}
-use Rattle.rl_line.proofs.LevelLemmas.{AtLevel-step}
-use Rattle.rl_line.proofs.MoveLemmas.{IsCutAt-of, hears-Cursors, within-list}
+use Rattle.rl_line.proofs.Records.LevelLemmas.{AtLevel-step}
+use Rattle.rl_line.proofs.Records.MoveLemmas.{IsCutAt-of, hears-Cursors, within-list}
 use Rattle.rl_line.proofs.undo.ChangesetDeleteListener.cursors.Goals as goal
 use Rattle.rl_line.proofs.undo.ChangesetDeleteListener.cursors.Goals.{After-tell}
 

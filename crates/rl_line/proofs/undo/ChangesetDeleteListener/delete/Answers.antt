@@ -1,4 +1,4 @@
-use Rattle.rl_line.proofs.JoinLemmas.{record_step-side}
+use Rattle.rl_line.proofs.Records.JoinLemmas.{record_step-side}
 use Rattle.rl_line.proofs.undo.ChangesetDeleteListener.delete.Goals as goal
 
 pub returns-clause-done : goal.returns-clause-done

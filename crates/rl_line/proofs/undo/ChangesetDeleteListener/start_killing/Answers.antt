@@ -1,5 +1,5 @@
 use Rattle.std.proofs.Common.{sym}
-use Rattle.rl_line.proofs.JoinLemmas.{record_step-Start}
+use Rattle.rl_line.proofs.Records.JoinLemmas.{record_step-Start}
 use Rattle.rl_line.proofs.undo.ChangesetDeleteListener.start_killing.Goals as goal
 
 pub returns : goal.returns

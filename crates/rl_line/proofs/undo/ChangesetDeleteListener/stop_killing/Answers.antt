@@ -1,5 +1,5 @@
 use Rattle.std.proofs.Common.{sym}
-use Rattle.rl_line.proofs.JoinLemmas.{record_step-Stop}
+use Rattle.rl_line.proofs.Records.JoinLemmas.{record_step-Stop}
 use Rattle.rl_line.proofs.undo.ChangesetDeleteListener.stop_killing.Goals as goal
 
 pub returns : goal.returns

@@ -1,5 +1,5 @@
-use Rattle.rl_session.proofs.RowLemmas.{step_origin, step_replays}
-use Rattle.rl_session.proofs.SessionLemmas.{Follows-unwind}
+use Rattle.rl_session.proofs.Runs.RowLemmas.{step_origin, step_replays}
+use Rattle.rl_session.proofs.Sessions.SessionLemmas.{Follows-unwind}
 use Rattle.rl_session.proofs.session.Session.apply.Goals as goal
 
 pub returns-clause-step : goal.returns-clause-step

@@ -1,5 +1,5 @@
 use Rattle.std.proofs.Common.{rules}
-use Rattle.rl_session.proofs.SessionLemmas.{Walks-begin}
+use Rattle.rl_session.proofs.Sessions.SessionLemmas.{Walks-begin}
 use Rattle.rl_session.proofs.session.Session.begin.Goals as goal
 
 pub invariant_of-self : goal.invariant_of-self

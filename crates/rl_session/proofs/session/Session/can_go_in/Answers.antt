@@ -1,5 +1,5 @@
 use Rattle.std.proofs.Common.{refl}
-use Rattle.rl_base.proofs.TextLemmas.{IsCharBoundary-before}
+use Rattle.rl_base.proofs.Texts.TextLemmas.{IsCharBoundary-before}
 use Rattle.rl_session.proofs.session.Session.can_go_in.Goals as goal
 
 pub returns-then-pos-idx-clause-yes : goal.returns-then-pos-idx-clause-yes

@@ -1,4 +1,4 @@
-use Rattle.rl_session.proofs.ReplyLemmas.{Copy-replied}
+use Rattle.rl_session.proofs.Sessions.ReplyLemmas.{Copy-replied}
 use Rattle.rl_session.proofs.session.Session.copy.Goals as goal
 
 pub returns : goal.returns

@@ -1,8 +1,8 @@
 use Rattle.std.proofs.Common.{refl}
 use Rattle.rl_line.specs.Edits.{delete_range_plan}
 use Rattle.rl_session.specs.Commands.{nothing_more, is_done}
-use Rattle.rl_session.proofs.ReplyLemmas.{Edits-replied}
-use Rattle.rl_session.proofs.SessionLemmas.{AtRest-edit}
+use Rattle.rl_session.proofs.Sessions.ReplyLemmas.{Edits-replied}
+use Rattle.rl_session.proofs.Sessions.SessionLemmas.{AtRest-edit}
 use Rattle.rl_session.proofs.session.Session.delete_range.Goals as goal
 
 pub invariant_of-self : goal.invariant_of-self

@@ -1,6 +1,6 @@
 use Rattle.std.proofs.Common.{refl}
-use Rattle.rl_session.proofs.ReplyLemmas.{EditWord-replied}
-use Rattle.rl_session.proofs.SessionLemmas.{AtRest-recased}
+use Rattle.rl_session.proofs.Sessions.ReplyLemmas.{EditWord-replied}
+use Rattle.rl_session.proofs.Sessions.SessionLemmas.{AtRest-recased}
 use Rattle.rl_session.proofs.session.Session.edit_word.Goals as goal
 
 pub invariant_of-self : goal.invariant_of-self

@@ -1,4 +1,4 @@
-use Rattle.rl_session.proofs.SessionLemmas.{Walks-end}
+use Rattle.rl_session.proofs.Sessions.SessionLemmas.{Walks-end}
 use Rattle.rl_session.proofs.session.Session.end.Goals as goal
 
 pub invariant_of-self : goal.invariant_of-self

@@ -1,6 +1,6 @@
 use Rattle.std.proofs.Common.{refl}
-use Rattle.rl_session.proofs.ReplyLemmas.{Kill-replied}
-use Rattle.rl_session.proofs.SessionLemmas.{AtRest-kill}
+use Rattle.rl_session.proofs.Sessions.ReplyLemmas.{Kill-replied}
+use Rattle.rl_session.proofs.Sessions.SessionLemmas.{AtRest-kill}
 use Rattle.rl_session.proofs.session.Session.kill.Goals as goal
 
 pub invariant_of-self : goal.invariant_of-self

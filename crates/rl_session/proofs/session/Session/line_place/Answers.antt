@@ -1,5 +1,5 @@
 use Rattle.std.proofs.Common.{sym, ◌∙◌, rules}
-use Rattle.rl_line.proofs.LineReadLemmas.{range-before, range-some}
+use Rattle.rl_line.proofs.Lines.LineReadLemmas.{range-before, range-some}
 use Rattle.rl_session.proofs.session.Session.line_place.Goals as goal
 
 pub range-before-requires-clause-start_le_end : goal.range-before-requires-clause-start_le_end

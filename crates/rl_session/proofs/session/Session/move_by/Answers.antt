@@ -1,5 +1,5 @@
 use Rattle.std.proofs.Common.{rules}
-use Rattle.rl_session.proofs.SessionLemmas.{AtRest-Moved}
+use Rattle.rl_session.proofs.Sessions.SessionLemmas.{AtRest-Moved}
 use Rattle.rl_session.proofs.session.Session.move_by.Goals.{in-BeginningOfLine, in-EndOfLine, in-BackwardWord, in-ForwardWord, in-ViCharSearch, in-BackwardChar, in-ForwardChar, in-LineUp, in-LineDown, in-BeginningOfBuffer, in-EndOfBuffer, in-WholeLine, in-WholeLine-2, in-WholeLine-3}
 use Rattle.rl_session.proofs.session.Session.move_by.Goals as goal
 

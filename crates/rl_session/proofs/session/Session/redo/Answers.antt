@@ -1,5 +1,5 @@
-use Rattle.rl_session.proofs.SessionLemmas.{Walks-redo}
-use Rattle.rl_line.proofs.WalkLemmas.{Walks-ahead}
+use Rattle.rl_session.proofs.Sessions.SessionLemmas.{Walks-redo}
+use Rattle.rl_line.proofs.Records.WalkLemmas.{Walks-ahead}
 use Rattle.rl_session.proofs.session.Session.redo.Goals as goal
 
 pub invariant_of-self : goal.invariant_of-self

@@ -1,7 +1,7 @@
 use Rattle.std.proofs.Common.{arith, ◌≡◌, ◌+◌, ◌∙◌, ◌++◌, ◌∷◌, [], true, ap, sym, take}
 use Rattle.std.proofs.lemmas.Grind.{take_at_read}
 use Rattle.std.specs.Prelude.{is_ok}
-use Rattle.rl_session.proofs.RowLemmas.{Run-more, run_replays}
+use Rattle.rl_session.proofs.Runs.RowLemmas.{Run-more, run_replays}
 use Rattle.rl_session.proofs.session.Session.run.Goals as goal
 
 pub loop-command-preserved : goal.loop-command-preserved

@@ -1,9 +1,9 @@
 use Rattle.std.proofs.Common.{refl}
 use Rattle.rl_line.specs.Transpositions.{transpose_chars_plan}
 use Rattle.rl_session.specs.Commands.{a_copy, answers}
-use Rattle.rl_session.proofs.ReplyLemmas.{Edits-replied}
-use Rattle.rl_session.proofs.IdleLemmas.{NoneStarts-transpose_chars}
-use Rattle.rl_session.proofs.SessionLemmas.{AtRest-edit}
+use Rattle.rl_session.proofs.Sessions.ReplyLemmas.{Edits-replied}
+use Rattle.rl_session.proofs.Sessions.IdleLemmas.{NoneStarts-transpose_chars}
+use Rattle.rl_session.proofs.Sessions.SessionLemmas.{AtRest-edit}
 use Rattle.rl_session.proofs.session.Session.transpose_chars.Goals as goal
 
 pub invariant_of-self : goal.invariant_of-self

@@ -1,8 +1,8 @@
 use Rattle.std.proofs.Common.{arith, rules, true, ◌≡◌, subst, sym, ◌∙◌}
 use Rattle.rl_line.specs.Record.{Record, replays_to}
 use Rattle.rl_line.specs.Walk.{Walks}
-use Rattle.rl_line.proofs.WalkLemmas.{Walks-truncated}
-use Rattle.rl_session.proofs.SessionLemmas.{replays-all}
+use Rattle.rl_line.proofs.Records.WalkLemmas.{Walks-truncated}
+use Rattle.rl_session.proofs.Sessions.SessionLemmas.{replays-all}
 use Rattle.rl_session.proofs.session.Session.truncate.Goals as goal
 use Rattle.rl_session.proofs.session.Session.truncate.Goals.{After-truncate}
 

@@ -1,7 +1,7 @@
 use Rattle.std.proofs.Common.{refl}
-use Rattle.rl_session.proofs.ReplyLemmas.{Undo-replied}
-use Rattle.rl_session.proofs.SessionLemmas.{Walks-undo}
-use Rattle.rl_line.proofs.WalkLemmas.{Walks-back}
+use Rattle.rl_session.proofs.Sessions.ReplyLemmas.{Undo-replied}
+use Rattle.rl_session.proofs.Sessions.SessionLemmas.{Walks-undo}
+use Rattle.rl_line.proofs.Records.WalkLemmas.{Walks-back}
 use Rattle.rl_session.proofs.session.Session.undo.Goals as goal
 
 pub invariant_of-self : goal.invariant_of-self

@@ -1,6 +1,6 @@
 use Rattle.std.proofs.Common.{rules, inl, refl, sym}
-use Rattle.rl_session.proofs.IdleLemmas.{NoneStarts-yank, idle-yanked}
-use Rattle.rl_session.proofs.SessionLemmas.{AtRest-edit, nothing_lent}
+use Rattle.rl_session.proofs.Sessions.IdleLemmas.{NoneStarts-yank, idle-yanked}
+use Rattle.rl_session.proofs.Sessions.SessionLemmas.{AtRest-edit, nothing_lent}
 use Rattle.rl_session.specs.Commands.{room_by_step}
 use Rattle.rl_session.proofs.session.Session.yank.Goals as goal
 

@@ -1,6 +1,6 @@
 use Rattle.std.proofs.Common.{rules, inl, refl, sym}
-use Rattle.rl_session.proofs.IdleLemmas.{NoneStarts-yank_pop, idle-popped}
-use Rattle.rl_session.proofs.SessionLemmas.{AtRest-edit, nothing_popped}
+use Rattle.rl_session.proofs.Sessions.IdleLemmas.{NoneStarts-yank_pop, idle-popped}
+use Rattle.rl_session.proofs.Sessions.SessionLemmas.{AtRest-edit, nothing_popped}
 use Rattle.rl_session.specs.Commands.{room_by_step}
 use Rattle.rl_session.proofs.session.Session.yank_pop.Goals as goal
 

@@ -1,0 +1,4 @@
+-- The kill ring.
+pub mod SlotLemmas
+pub mod RingLemmas
+pub mod KillGroupLemmas

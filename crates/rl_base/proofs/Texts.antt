@@ -1,0 +1,7 @@
+-- Texts, what changes one, and their lines.
+pub mod TextLemmas
+pub mod EventLemmas
+pub mod SwapLemmas
+pub mod GatheredLemmas
+pub mod BlankLemmas
+pub mod LineLemmas

@@ -1,0 +1,208 @@
+-- Each change of a text replaces one part by another, so it can be taken back.
+use Rattle.std.proofs.Common.{◌≡◌, ℕ, ◌+◌, ◌-◌, true, List, [], ◌++◌, length, take, drop, slice_range, Option, Some, None, refl, sym, ap, subst, ◌∙◌, arith, append_assoc, length-append, take_at, drop_at}
+use Rattle.std.proofs.lemmas.List.{length-take-le, take-append-drop, nil_from_length}
+use Rattle.std.proofs.lemmas.List.Folds.{drop_split}
+use Rattle.std.proofs.lemmas.Str.{IsUtf8-nil, IsUtf8-append, IsUtf8-take, IsUtf8-drop, IsCharBoundary-at_seam, is_utf8-from_IsUtf8}
+use Rattle.std.specs.Prelude.{IsSome, encode_utf8}
+use Rattle.std.specs.List.{insert_slice, remove_range, replace_range}
+use Rattle.std.specs.Str.{IsCharBoundary, IsUtf8}
+use Rattle.rl_base.specs.declared.listeners.Direction.{Direction}
+use Rattle.rl_base.specs.Event.{Event, InsertChar, InsertStr, Delete, Replace, Start, Stop, Cursors, apply}
+use Rattle.rl_base.specs.Text.{stands_at}
+use Rattle.rl_base.proofs.Texts.EventLemmas.{Deletes-from_IsSome, Inserts-from_IsSome, Replaces-from_IsSome}
+use Rattle.rl_base.proofs.Texts.TextLemmas.{fits_at-true, stands_at-true}
+
+-- at i, old gives way to new
+pub record Swaps (text after : List ℕ) (i : ℕ) (old new : List ℕ) : Type 0 where
+  pub front : List ℕ
+  pub rest : List ℕ
+  pub text_is : text ≡ front ++ (old ++ rest)
+  pub after_is : after ≡ front ++ (new ++ rest)
+  pub place : length front ≡ i
+  pub front_utf8 : IsUtf8 front
+  pub rest_utf8 : IsUtf8 rest
+  pub old_utf8 : IsUtf8 old
+  pub new_utf8 : IsUtf8 new
+
+-- and back again
+pub Swaps-back : (text after : List ℕ) (i : ℕ) (old new : List ℕ) → Swaps text after i old new → Swaps after text i new old
+Swaps-back text after i old new s = record {
+  front = s.front;
+  rest = s.rest;
+  text_is = s.after_is;
+  after_is = s.text_is;
+  place = s.place;
+  front_utf8 = s.front_utf8;
+  rest_utf8 = s.rest_utf8;
+  old_utf8 = s.new_utf8;
+  new_utf8 = s.old_utf8;
+}
+
+boundary : (front rest : List ℕ) → IsUtf8 rest → IsCharBoundary (front ++ rest) (length front)
+boundary front rest u = IsCharBoundary-at_seam (front ++ rest) front rest refl u
+
+boundary_past : (front old rest : List ℕ) → IsUtf8 rest → IsCharBoundary (front ++ (old ++ rest)) (length front + length old)
+boundary_past front old rest u =
+    subst (λ k. IsCharBoundary (front ++ (old ++ rest)) k) (length-append front old)
+    (IsCharBoundary-at_seam (front ++ (old ++ rest)) (front ++ old) rest (sym (append_assoc front old rest)) u)
+
+stands : (front old rest : List ℕ) → IsUtf8 old → IsUtf8 rest → stands_at (front ++ (old ++ rest)) (length front) old ≡ true
+stands front old rest u v =
+    let n : (length front + length old) - length front ≡ length old = omega arith in
+    stands_at-true (front ++ (old ++ rest)) (length front) old u (boundary front (old ++ rest) (IsUtf8-append old rest u v)) (boundary_past front old rest v)
+    (ap (λ k. take k (drop (length front) (front ++ (old ++ rest)))) n ∙ ap (take (length old)) (drop_at front (old ++ rest) (length front) refl) ∙ take_at old rest (length old) refl)
+
+past : (front old rest : List ℕ) → drop (length front + length old) (front ++ (old ++ rest)) ≡ rest
+past front old rest =
+    ap (drop (length front + length old)) (sym (append_assoc front old rest)) ∙ drop_at (front ++ old) rest (length front + length old) (length-append front old)
+
+pub replaced : (front old new rest : List ℕ) → IsUtf8 old → IsUtf8 new → IsUtf8 rest
+    → apply (Replace (length front) old new) (front ++ (old ++ rest)) ≡ Some (front ++ (new ++ rest))
+unfolding apply
+replaced front old new rest u v w =
+    rw (stands front old rest u w, is_utf8-from_IsUtf8 new v)
+    (ap Some (ap (λ x. (x ++ new) ++ drop (length front + length old) (front ++ (old ++ rest))) (take_at front (old ++ rest) (length front) refl)
+    ∙ ap (λ x. (front ++ new) ++ x) (past front old rest) ∙ append_assoc front new rest))
+
+pub inserted : (front new rest : List ℕ) → IsUtf8 new → IsUtf8 rest → apply (InsertStr (length front) new) (front ++ rest) ≡ Some (front ++ (new ++ rest))
+unfolding apply
+inserted front new rest v w =
+    rw (fits_at-true (front ++ rest) (length front) new v (boundary front rest w))
+    (ap Some (ap (λ x. (x ++ new) ++ drop (length front) (front ++ rest)) (take_at front rest (length front) refl)
+    ∙ ap (λ x. (front ++ new) ++ x) (drop_at front rest (length front) refl) ∙ append_assoc front new rest))
+
+-- an event that was applied swaps
+pub some_is : {A : Type 0} (o : Option A) (a : A) → o ≡ Some a → IsSome o
+some_is None a h = cc
+some_is (Some b) a h = refl
+
+pub Swaps-InsertStr : (text after : List ℕ) (i : ℕ) (s : List ℕ) → IsUtf8 text → apply (InsertStr i s) text ≡ Some after → Swaps text after i [] s
+Swaps-InsertStr text after i s u h =
+    let d = Inserts-from_IsSome text i s (some_is (apply (InsertStr i s) text) after h) in
+    let e : Some (insert_slice text i s) ≡ Some after = sym d.makes ∙ h in
+    let same : insert_slice text i s ≡ after = cc in
+    record {
+      front = take i text;
+      rest = drop i text;
+      text_is = sym (take-append-drop i text);
+      after_is = sym same ∙ append_assoc (take i text) s (drop i text);
+      place = length-take-le i text d.fits.place.0;
+      front_utf8 = IsUtf8-take text i u d.fits.place;
+      rest_utf8 = IsUtf8-drop text i u d.fits.place;
+      old_utf8 = IsUtf8-nil;
+      new_utf8 = d.fits.utf8;
+    }
+
+split_at : (text : List ℕ) (i : ℕ) (s : List ℕ) → slice_range text i (i + length s) ≡ s → text ≡ take i text ++ (s ++ drop (i + length s) text)
+split_at text i s e =
+    sym (take-append-drop i text) ∙ ap (λ x. take i text ++ x) (drop_split text i (i + length s) (omega arith) ∙ ap (λ x. x ++ drop (i + length s) text) e)
+
+pub Swaps-Delete : (text after : List ℕ) (i : ℕ) (s : List ℕ) (side : Direction) → IsUtf8 text → apply (Delete i s side) text ≡ Some after → Swaps text after i s []
+Swaps-Delete text after i s side u h =
+    let d = Deletes-from_IsSome text i s side (some_is (apply (Delete i s side) text) after h) in
+    let e : Some (remove_range text i (i + length s)) ≡ Some after = sym d.makes ∙ h in
+    let same : remove_range text i (i + length s) ≡ after = cc in
+    record {
+      front = take i text;
+      rest = drop (i + length s) text;
+      text_is = split_at text i s d.stands.bytes;
+      after_is = sym same;
+      place = length-take-le i text d.stands.start.0;
+      front_utf8 = IsUtf8-take text i u d.stands.start;
+      rest_utf8 = IsUtf8-drop text (i + length s) u d.stands.end;
+      old_utf8 = d.stands.utf8;
+      new_utf8 = IsUtf8-nil;
+    }
+
+pub Swaps-Replace : (text after : List ℕ) (i : ℕ) (s t : List ℕ) → IsUtf8 text → apply (Replace i s t) text ≡ Some after → Swaps text after i s t
+Swaps-Replace text after i s t u h =
+    let d = Replaces-from_IsSome text i s t (some_is (apply (Replace i s t) text) after h) in
+    let e : Some (replace_range text i (i + length s) t) ≡ Some after = sym d.makes ∙ h in
+    let same : replace_range text i (i + length s) t ≡ after = cc in
+    record {
+      front = take i text;
+      rest = drop (i + length s) text;
+      text_is = split_at text i s d.stands.bytes;
+      after_is = sym same ∙ append_assoc (take i text) t (drop (i + length s) text);
+      place = length-take-le i text d.stands.start.0;
+      front_utf8 = IsUtf8-take text i u d.stands.start;
+      rest_utf8 = IsUtf8-drop text (i + length s) u d.stands.end;
+      old_utf8 = d.stands.utf8;
+      new_utf8 = d.utf8;
+    }
+
+pub Swaps-InsertChar : (text after : List ℕ) (i c : ℕ) → IsUtf8 text → apply (InsertChar i c) text ≡ Some after → Swaps text after i [] (encode_utf8 c)
+unfolding apply
+Swaps-InsertChar text after i c u h = Swaps-InsertStr text after i (encode_utf8 c) u h
+
+-- what swaps can be done
+pub apply-InsertStr-Swaps : (text after : List ℕ) (i : ℕ) (s : List ℕ) → Swaps text after i [] s → apply (InsertStr i s) text ≡ Some after
+apply-InsertStr-Swaps text after i s p =
+    ap (λ k. apply (InsertStr k s) text) (sym p.place) ∙ ap (apply (InsertStr (length p.front) s)) p.text_is
+    ∙ inserted p.front s p.rest p.new_utf8 p.rest_utf8 ∙ ap Some (sym p.after_is)
+
+pub apply-Replace-Swaps : (text after : List ℕ) (i : ℕ) (s t : List ℕ) → Swaps text after i s t → apply (Replace i s t) text ≡ Some after
+apply-Replace-Swaps text after i s t p =
+    ap (λ k. apply (Replace k s t) text) (sym p.place) ∙ ap (apply (Replace (length p.front) s t)) p.text_is
+    ∙ replaced p.front s t p.rest p.old_utf8 p.new_utf8 p.rest_utf8 ∙ ap Some (sym p.after_is)
+
+-- a text stays a text
+pub Swaps-IsUtf8 : (text after : List ℕ) (i : ℕ) (old new : List ℕ) → Swaps text after i old new → IsUtf8 after
+Swaps-IsUtf8 text after i old new s =
+    subst IsUtf8 (sym s.after_is) (IsUtf8-append s.front (new ++ s.rest) s.front_utf8 (IsUtf8-append new s.rest s.new_utf8 s.rest_utf8))
+
+pub apply-IsUtf8 : (event : Event) (text after : List ℕ) → IsUtf8 text → apply event text ≡ Some after → IsUtf8 after
+unfolding apply
+apply-IsUtf8 (InsertChar i c) text after u h = Swaps-IsUtf8 _ _ _ _ _ (Swaps-InsertChar text after i c u h)
+apply-IsUtf8 (InsertStr i s) text after u h = Swaps-IsUtf8 _ _ _ _ _ (Swaps-InsertStr text after i s u h)
+apply-IsUtf8 (Delete i s side) text after u h = Swaps-IsUtf8 _ _ _ _ _ (Swaps-Delete text after i s side u h)
+apply-IsUtf8 (Replace i s t) text after u h = Swaps-IsUtf8 _ _ _ _ _ (Swaps-Replace text after i s t u h)
+apply-IsUtf8 Start text after u h = let e : text ≡ after = cc in subst IsUtf8 e u
+apply-IsUtf8 Stop text after u h = let e : text ≡ after = cc in subst IsUtf8 e u
+apply-IsUtf8 (Cursors b a) text after u h = let e : text ≡ after = cc in subst IsUtf8 e u
+
+-- nothing gave way to nothing
+pub Swaps-nothing : (text after : List ℕ) (i : ℕ) (old new : List ℕ) → length old ≡ 0 → length new ≡ 0 → Swaps text after i old new → after ≡ text
+Swaps-nothing text after i old new e f s =
+    s.after_is ∙ ap (λ x. s.front ++ (x ++ s.rest)) (nil_from_length new f ∙ sym (nil_from_length old e)) ∙ sym s.text_is
+
+-- ---- two that meet
+cut_alike : (a b c d : List ℕ) → a ++ b ≡ c ++ d → length a ≡ length c → (a ≡ c) × (b ≡ d)
+cut_alike a b c d e n = (
+  sym (take_at a b (length c) n) ∙ ap (take (length c)) e ∙ take_at c d (length c) refl,
+  sym (drop_at a b (length c) n) ∙ ap (drop (length c)) e ∙ drop_at c d (length c) refl,
+)
+
+-- a second swap right after what the first put in
+pub Swaps-after : (x y z : List ℕ) (j i : ℕ) (o w s t : List ℕ) → Swaps x y j o w → Swaps y z i s t → j + length w ≡ i → Swaps x z j (o ++ s) (w ++ t)
+Swaps-after x y z j i o w s t p q h =
+    let n : length (p.front ++ w) ≡ length q.front = length-append p.front w ∙ ap (λ k. k + length w) p.place ∙ h ∙ sym q.place in
+    let both = cut_alike (p.front ++ w) p.rest q.front (s ++ q.rest) (append_assoc p.front w p.rest ∙ sym p.after_is ∙ q.text_is) n in
+    record {
+      front = p.front;
+      rest = q.rest;
+      text_is = p.text_is ∙ ap (λ r. p.front ++ (o ++ r)) both.1 ∙ ap (λ r. p.front ++ r) (sym (append_assoc o s q.rest));
+      after_is = q.after_is ∙ ap (λ f. f ++ (t ++ q.rest)) (sym both.0) ∙ append_assoc p.front w (t ++ q.rest) ∙ ap (λ r. p.front ++ r) (sym (append_assoc w t q.rest));
+      place = p.place;
+      front_utf8 = p.front_utf8;
+      rest_utf8 = q.rest_utf8;
+      old_utf8 = IsUtf8-append o s p.old_utf8 q.old_utf8;
+      new_utf8 = IsUtf8-append w t p.new_utf8 q.new_utf8;
+    }
+
+-- a deletion right before what the first put in
+pub Swaps-before : (x y z : List ℕ) (j i : ℕ) (o w s : List ℕ) → Swaps x y j o w → Swaps y z i s [] → i + length s ≡ j → Swaps x z i (s ++ o) w
+Swaps-before x y z j i o w s p q h =
+    let n : length (q.front ++ s) ≡ length p.front = length-append q.front s ∙ ap (λ k. k + length s) q.place ∙ h ∙ sym p.place in
+    let both = cut_alike (q.front ++ s) q.rest p.front (w ++ p.rest) (append_assoc q.front s q.rest ∙ sym q.text_is ∙ p.after_is) n in
+    record {
+      front = q.front;
+      rest = p.rest;
+      text_is = p.text_is ∙ ap (λ f. f ++ (o ++ p.rest)) (sym both.0) ∙ append_assoc q.front s (o ++ p.rest) ∙ ap (λ r. q.front ++ r) (sym (append_assoc s o p.rest));
+      after_is = q.after_is ∙ ap (λ r. q.front ++ r) both.1;
+      place = q.place;
+      front_utf8 = q.front_utf8;
+      rest_utf8 = p.rest_utf8;
+      old_utf8 = IsUtf8-append s o q.old_utf8 p.old_utf8;
+      new_utf8 = p.new_utf8;
+    }

@@ -1,0 +1,4 @@
+-- The text of a line, and the table of its line starts.
+pub mod TailLemmas
+pub mod LineStartLemmas
+pub mod LineReadLemmas

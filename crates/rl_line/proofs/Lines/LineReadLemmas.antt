@@ -1,0 +1,243 @@
+-- What the table of line starts says of the lines of its text.
+use Rattle.std.proofs.Common.{◌≡◌, ℕ, zero, suc, ◌+◌, ◌-◌, ◌<◌, ◌≤◌, Bool, true, false, cond, List, [], ◌∷◌, length, get_or, take, drop, min, All, refl, sym, ap, subst, ◌∙◌, arith, count_by, eqb, eqb-true, ne_eqb, leb, ltb, le_refl, length-append, slice_range, ⊎_elim, Some, None, ap₂}
+use Rattle.std.proofs.lemmas.Bool.{both_ways, cases_lt, le-leb, lt-leb, le-ltb, lt-ltb}
+use Rattle.std.proofs.lemmas.List.{length-take-le, get_or_append_left, get_or-append_right, get_or-take, get_or_default}
+use Rattle.std.proofs.lemmas.List.Edits.{length-between, get_or-between}
+use Rattle.std.proofs.lemmas.List.Elements.{All-nil, All-cons, All-get_or, All-weaker}
+use Rattle.std.proofs.lemmas.Str.{IsCharBoundary-before_ascii, IsCharBoundary-after_ascii}
+use Rattle.std.proofs.lemmas.Option.{same_Some, slice_get_past, slice_get-get_or}
+use Rattle.std.specs.List.{onto_first}
+use Rattle.std.specs.Option.{option_map}
+use Rattle.std.specs.declared.ops.Range.{Range}
+use Rattle.std.specs.List.Sorted.{IsPartitionedBy, IsPartitionPoint}
+use Rattle.std.specs.Str.{IsCharBoundary, IsUtf8}
+use Rattle.rl_base.specs.Lines.{is_newline, lines, bytes_of, last_line, line_number, start_of_line, end_of_line}
+use Rattle.rl_base.proofs.Texts.LineLemmas.{count-parts, lines_some, count_of_lines, start-before, start-next, end-last}
+use Rattle.rl_line.specs.Line.{between}
+use Rattle.rl_line.specs.LineRanges.{range_of_line}
+use Rattle.rl_line.specs.LineStarts.{after_newlines, line_starts, from_end, IsTable}
+use Rattle.rl_line.proofs.Lines.LineStartLemmas.{after_newlines-cons, after_newlines-within, length-line_starts, length-table, newlines-take, parts, read-before, read-from, read-within}
+
+-- ---- the places where lines begin: the table, with the start of the text before it
+-- where lines begin, the first of which begins at `from`
+abbrev places : ℕ → List (List ℕ) → List ℕ
+places from [] = []
+places from (line ∷ more) = from ∷ places (from + length line + 1) more
+
+places-lines : (from : ℕ) (text : List ℕ) → places from (lines text) ≡ from ∷ after_newlines (from + 1) text
+places-lines from [] = refl
+places-lines from (b ∷ bs) =
+    let some = lines_some bs in
+    one (places-lines (from + 1) bs) (is_newline b) some.0 some.1 some.2 ∙ ap (λ l. from ∷ l) (sym (after_newlines-cons (from + 1) b bs))
+  where
+    one : places (from + 1) (lines bs) ≡ (from + 1) ∷ after_newlines (from + 1 + 1) bs → (is : Bool) (line : List ℕ) (more : List (List ℕ)) → lines bs ≡ line ∷ more
+        → places from (cond is ([] ∷ lines bs) (onto_first b (lines bs))) ≡ from ∷ cond is ((from + 1) ∷ after_newlines (from + 1 + 1) bs) (after_newlines (from + 1 + 1) bs)
+    one later true line more e =
+        let same : from + 0 + 1 ≡ from + 1 = omega arith in
+        ap (λ l. from ∷ l) (ap (λ n. places n (lines bs)) same ∙ later)
+    one later false line more e =
+        let same : from + suc (length line) + 1 ≡ from + 1 + length line + 1 = omega arith in
+        ap (λ l. places from (onto_first b l)) e ∙ ap (λ n. from ∷ places n more) same
+        ∙ ap (λ l. from ∷ drop 1 l) (ap (places (from + 1)) (sym e) ∙ later)
+
+get_or-places : (from : ℕ) (ls : List (List ℕ)) (k : ℕ) → k < length ls → get_or (places from ls) k 0 ≡ from + bytes_of (take k ls)
+get_or-places from [] k h = absurd (omega arith)
+get_or-places from (line ∷ more) zero h = omega arith
+get_or-places from (line ∷ more) (suc k) h = get_or-places (from + length line + 1) more k (omega arith) ∙ (omega arith)
+
+start-from_table : (text : List ℕ) (k : ℕ) → k < length (lines text) → get_or (0 ∷ line_starts text) k 0 ≡ start_of_line text k
+start-from_table text k h = ap (λ l. get_or l k 0) (sym (places-lines 0 text)) ∙ get_or-places 0 (lines text) k h ∙ (omega arith)
+
+-- a newline stands before each place
+newline-before : (n : ℕ) (text : List ℕ) → All (λ s. (n ≤ s) × (get_or text (s - n) 0 ≡ 10)) (after_newlines n text)
+newline-before n [] = All-nil _
+newline-before n (b ∷ bs) =
+    let P : ℕ → Type 0 = λ s. (n ≤ s) × (get_or (b ∷ bs) (s - n) 0 ≡ 10) in
+    let later : All P (after_newlines (n + 1) bs) =
+    All-weaker (λ s. (n + 1 ≤ s) × (get_or bs (s - (n + 1)) 0 ≡ 10)) P (λ s h. (omega arith, let next : s - n ≡ suc (s - (n + 1)) = omega arith in ap (λ i. get_or (b ∷ bs) i 0) next ∙ h.1)) _ (newline-before (n + 1) bs) in
+    rw (after_newlines-cons n b bs) (one (is_newline b) refl (after_newlines (n + 1) bs) later)
+  where
+    one : (is : Bool) → is_newline b ≡ is → (l : List ℕ) → All (λ s. (n ≤ s) × (get_or (b ∷ bs) (s - n) 0 ≡ 10)) l → All (λ s. (n ≤ s) × (get_or (b ∷ bs) (s - n) 0 ≡ 10)) (cond is (n ∷ l) l)
+    one true e l h = All-cons (λ s. (n ≤ s) × (get_or (b ∷ bs) (s - n) 0 ≡ 10)) n l (omega arith, let here : n - n ≡ 0 = omega arith in ap (λ i. get_or (b ∷ bs) i 0) here ∙ eqb-true b 10 e) h
+    one false e l h = h
+
+-- ---- the place in the table with the number of a line: its newline ends there
+pub record EndsAt (text : List ℕ) (k next : ℕ) : Type 0 where
+  pub start : next ≡ start_of_line text (k + 1)
+  pub stop : next ≡ end_of_line text k + 1
+  pub within : next ≤ length text
+  pub newline : get_or text (next - 1) 0 ≡ 10
+
+pub ends_at : (text : List ℕ) (k next : ℕ) → k < last_line text → next ≡ get_or (line_starts text) k 0 → EndsAt text k next
+ends_at text k next small is =
+    let some : k < length (line_starts text) = omega (arith, length-line_starts text) in
+    let one : suc k ≡ k + 1 = omega arith in
+    let start : next ≡ start_of_line text (k + 1) = is ∙ start-from_table text (suc k) (omega (arith, count_of_lines text)) ∙ ap (start_of_line text) one in
+    let here : (1 ≤ next) × (next < 1 + length text) =
+    subst (λ s. (1 ≤ s) × (s < 1 + length text)) (sym is) (All-get_or (λ s. (1 ≤ s) × (s < 1 + length text)) (line_starts text) k 0 some (after_newlines-within 1 text)) in
+    record {
+      start = start;
+      stop = start ∙ start-next text k (omega (arith, count_of_lines text));
+      within = omega (arith, here.1);
+      newline = (subst (λ s. (1 ≤ s) × (get_or text (s - 1) 0 ≡ 10)) (sym is) (All-get_or (λ s. (1 ≤ s) × (get_or text (s - 1) 0 ≡ 10)) (line_starts text) k 0 some (newline-before 1 text))).1;
+    }
+
+-- only the last line ends at none
+pub last-ends : (text : List ℕ) (k : ℕ) → k ≡ last_line text → end_of_line text k ≡ length text
+last-ends text k last = ap (end_of_line text) last ∙ end-last text
+
+module _ (text : List ℕ) (k next : ℕ) (h : EndsAt text k next) where
+  pub EndsAt-stop : IsCharBoundary text (next - 1)
+  EndsAt-stop = IsCharBoundary-before_ascii text (next - 1) (omega (arith, h.stop, h.within)) (omega (arith, h.newline))
+
+  pub EndsAt-start : IsUtf8 text → IsCharBoundary text next
+  EndsAt-start u =
+      subst (IsCharBoundary text) (omega (arith, h.stop)) (IsCharBoundary-after_ascii text (next - 1) u (omega (arith, h.stop, h.within)) (omega (arith, h.newline)))
+
+  pub EndsAt-after : next ≡ min (end_of_line text k + 1) (length text)
+  EndsAt-after = omega (arith, h.stop, h.within)
+
+-- ---- the line that a place lies in: where the starts pass the place
+module _ (text : List ℕ) (pos : ℕ) (within : pos ≤ length text) where
+  abbrev front : List ℕ
+  front = line_starts (take pos text)
+
+  abbrev back : List ℕ
+  back = after_newlines (pos + 1) (drop pos text)
+
+  count : length front ≡ line_number text pos
+  count = length-line_starts (take pos text)
+
+  total : length (line_starts text) ≡ length front + length back
+  total = ap length (parts text pos within) ∙ length-append front back
+
+  pub started : (k : ℕ) → k < line_number text pos → get_or (line_starts text) k 0 ≤ pos
+  started k less =
+      let early : k < length front = omega (arith, count) in
+      let at : get_or (line_starts text) k 0 ≡ get_or front k 0 = ap (λ t. get_or t k 0) (parts text pos within) ∙ get_or_append_left front back 0 k early in
+      omega (arith, at, length-take-le pos text within, All-get_or (λ s. (1 ≤ s) × (s < 1 + length (take pos text))) front k 0 early (after_newlines-within 1 (take pos text)))
+
+  pub not_started : (k : ℕ) → line_number text pos ≤ k → k < length (line_starts text) → pos < get_or (line_starts text) k 0
+  not_started k past some =
+      let P : ℕ → Type 0 = λ s. (pos + 1 ≤ s) × (s < pos + 1 + length (drop pos text)) in
+      let late : length front ≤ k = omega (arith, count) in
+      let at : get_or (line_starts text) k 0 ≡ get_or back (k - length front) 0 = ap (λ t. get_or t k 0) (parts text pos within) ∙ get_or-append_right front back (length front) k 0 refl late in
+      omega (arith, at, All-get_or P back (k - length front) 0 (omega (arith, total, late)) (after_newlines-within (pos + 1) (drop pos text)))
+
+  -- a start is at the place or before it where its number is less than that of the place's line
+  pub leb-started : (k : ℕ) → k < length (line_starts text) → leb (get_or (line_starts text) k 0) pos ≡ leb (k + 1) (line_number text pos)
+  leb-started k some =
+      ⊎_elim (λ less. le-leb _ pos (started k less) ∙ sym (le-leb (k + 1) _ (omega (arith, less))))
+      (λ past. lt-leb _ pos (not_started k past some) ∙ sym (lt-leb (k + 1) _ (omega (arith, past)))) (cases_lt k (line_number text pos))
+
+  pub ltb-not_started : (k : ℕ) → k < length (line_starts text) → ltb pos (get_or (line_starts text) k 0) ≡ leb (line_number text pos) k
+  ltb-not_started k some =
+      ⊎_elim (λ less. le-ltb pos _ (started k less) ∙ sym (lt-leb _ k less)) (λ past. lt-ltb pos _ (not_started k past some) ∙ sym (le-leb _ k past)) (cases_lt k (line_number text pos))
+
+-- ---- a list whose elements pass a test up to number m
+module _ (test : ℕ → Bool) (xs : List ℕ) (m : ℕ) (some : m ≤ length xs) (low : (i : ℕ) → i < m → test (get_or xs i 0) ≡ true)
+    (high : (i : ℕ) → m ≤ i → i < length xs → test (get_or xs i 0) ≡ false) where
+  pub IsPartitionedBy-at : IsPartitionedBy test xs
+  IsPartitionedBy-at i j d le l passes =
+      let at : (k : ℕ) → k < length xs → test (get_or xs k d) ≡ test (get_or xs k 0) = λ k less. ap test (get_or_default xs k d 0 less) in
+      ⊎_elim (λ less. at i (omega arith) ∙ low i (omega arith)) (λ past. absurd (both_ways _ (high j past l) (sym (at j l) ∙ passes))) (cases_lt j m)
+
+  pub partition_point-is : (k : ℕ) → k ≤ length xs → IsPartitionPoint (λ s. test s ≡ true) (λ s. test s ≡ false) xs k → k ≡ m
+  partition_point-is k small at =
+      let not_less : k < m → k ≡ m = λ less. absurd (both_ways _ (at.1 k 0 (le_refl k) (omega arith)) (low k less)) in
+      let not_more : m < k → k ≡ m = λ more. absurd (both_ways _ (high m (le_refl m) (omega arith)) (at.0 m 0 (omega arith) more)) in
+      ⊎_elim not_less (λ a. ⊎_elim not_more (λ b. omega arith) (cases_lt m k)) (cases_lt k m)
+
+-- ---- the two parts of a table, in which the line of a place is looked up
+module _ (places text : List ℕ) (border pos : ℕ) (h : IsTable places border text) (within : pos ≤ length text) where
+  many : length (line_starts text) ≡ length places
+  many = length-line_starts text ∙ sym (length-table places border text h)
+
+  -- before the border
+  module _ (early : line_number text pos < border) where
+    abbrev start : List ℕ
+    start = take border places
+
+    start-size : length start ≡ border
+    start-size = length-take-le border places h.within
+
+    read : (i : ℕ) → i < border → get_or start i 0 ≡ get_or (line_starts text) i 0
+    read i less = get_or-take border places i 0 less ∙ read-before places text border i h (omega (arith, h.within)) less
+
+    low : (i : ℕ) → i < line_number text pos → leb (get_or start i 0) pos ≡ true
+    low i less = le-leb _ pos (omega (arith, read i (omega arith), started text pos within i less))
+
+    high : (i : ℕ) → line_number text pos ≤ i → i < length start → leb (get_or start i 0) pos ≡ false
+    high i past some =
+        let less : i < border = omega (arith, start-size) in
+        lt-leb _ pos (omega (arith, read i less, not_started text pos within i past (omega (arith, many, h.within))))
+
+    pub IsPartitionedBy-before : IsPartitionedBy (λ s. leb s pos) (take border places)
+    IsPartitionedBy-before = IsPartitionedBy-at (λ s. leb s pos) start (line_number text pos) (omega (arith, start-size)) low high
+
+    pub number-before : (k : ℕ) → k ≤ length (take border places) → IsPartitionPoint (λ s. leb s pos ≡ true) (λ s. leb s pos ≡ false) (take border places) k → k ≡ line_number text pos
+    number-before = partition_point-is (λ s. leb s pos) start (line_number text pos) (omega (arith, start-size)) low high
+
+  -- from it on
+  module _ (late : border ≤ line_number text pos) where
+    abbrev rest : List ℕ
+    rest = slice_range places border (length places)
+
+    rest-size : length rest ≡ length places - border
+    rest-size = length-between places border (length places) (le_refl (length places))
+
+    abbrev left : ℕ
+    left = length text - pos
+
+    abbrev here : ℕ
+    here = line_number text pos - border
+
+    fits : line_number text pos ≤ length places
+    fits = omega (arith, many, length-line_starts text, newlines-take text pos)
+
+    read_rest : (i : ℕ) → i < length rest → get_or rest i 0 ≡ from_end (length text) (get_or (line_starts text) (border + i) 0)
+    read_rest i some =
+        get_or-between places border (length places) i 0 (omega (arith, rest-size)) ∙ read-from places text border (border + i) h (omega (arith, rest-size)) (omega arith)
+
+    low_rest : (i : ℕ) → i < here → leb left (get_or rest i 0) ≡ true
+    low_rest i less = le-leb left _ (omega (arith, read_rest i (omega (arith, rest-size, fits)), started text pos within (border + i) (omega arith)))
+
+    high_rest : (i : ℕ) → here ≤ i → i < length rest → leb left (get_or rest i 0) ≡ false
+    high_rest i past some =
+        let inside : border + i < length places = omega (arith, rest-size) in
+        lt-leb left _ (omega (arith, read_rest i some, not_started text pos within (border + i) (omega arith) (omega (arith, many)), read-within places text border (border + i) h inside))
+
+    pub IsPartitionedBy-from : IsPartitionedBy (λ s. leb (length text - pos) s) (slice_range places border (length places))
+    IsPartitionedBy-from = IsPartitionedBy-at (λ s. leb left s) rest here (omega (arith, rest-size, fits)) low_rest high_rest
+
+    pub number-from : (k : ℕ) → k ≤ length (slice_range places border (length places))
+        → IsPartitionPoint (λ s. leb (length text - pos) s ≡ true) (λ s. leb (length text - pos) s ≡ false) (slice_range places border (length places)) k → border + k ≡ line_number text pos
+    number-from k small at = omega (arith, partition_point-is (λ s. leb left s) rest here (omega (arith, rest-size, fits)) low_rest high_rest k small at)
+
+-- ---- whether a line follows that of a place
+pub none_below : (text : List ℕ) (pos : ℕ) → line_number text pos ≡ last_line text → eqb (count_by is_newline (drop pos text)) 0 ≡ true
+none_below text pos last = let none : count_by is_newline (drop pos text) ≡ 0 = omega (arith, count-parts text pos) in ap (λ (n : ℕ). eqb n 0) none
+
+pub some_below : (text : List ℕ) (pos : ℕ) → (line_number text pos ≡ last_line text → ⊥) → eqb (count_by is_newline (drop pos text)) 0 ≡ false
+some_below text pos more = ne_eqb _ 0 (λ none. more (omega (arith, count-parts text pos)))
+
+-- ---- where the text of a line stands
+pub range-past : (text : List ℕ) (k : ℕ) → last_line text < k → None ≡ range_of_line text k
+range-past text k past = sym (ap (option_map (λ line. between (start_of_line text k) (start_of_line text k + length line))) (slice_get_past (lines text) k (omega (arith, count_of_lines text))))
+
+pub range-is : (text : List ℕ) (k start stop : ℕ) → k ≤ last_line text → start ≡ start_of_line text k → stop ≡ end_of_line text k → Some (between start stop) ≡ range_of_line text k
+range-is text k start stop within e f =
+    ap₂ (λ i j. Some (between i j)) e f
+    ∙ sym (ap (option_map (λ line. between (start_of_line text k) (start_of_line text k + length line))) (slice_get-get_or (lines text) k [] (omega (arith, count_of_lines text))))
+
+-- a line that is there has a range, and the line of a place begins there or before
+pub range-some : (text : List ℕ) (k : ℕ) → k ≤ last_line text → range_of_line text k ≡ None → ⊥
+range-some text k within none =
+    let is : Some (between (start_of_line text k) (end_of_line text k)) ≡ None = range-is text k _ _ within refl refl ∙ none in
+    absurd (cc is)
+
+pub range-before : (text : List ℕ) (pos k : ℕ) (r : Range ℕ) → pos ≤ length text → k ≡ line_number text pos → range_of_line text k ≡ Some r → r.start ≤ pos
+range-before text pos k r within e some =
+    let at = range-is text k _ _ (omega (arith, e, count-parts text pos)) refl refl ∙ some in
+    let start : start_of_line text k ≡ r.start = ap (λ (x : Range ℕ). x.start) (same_Some _ _ at) in
+    omega (arith, start, ap (start_of_line text) e, start-before text pos within)

@@ -1,0 +1,9 @@
+-- The plans of the edits, and their steps.
+pub mod PlanLemmas
+pub mod StepLemmas
+pub mod SideLemmas
+pub mod EditLemmas
+pub mod KillLemmas
+pub mod TranspositionLemmas
+pub mod LetterCaseLemmas
+pub mod IndentLemmas

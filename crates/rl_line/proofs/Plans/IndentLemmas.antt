@@ -1,0 +1,341 @@
+-- The steps of an indent: the parts that spaces go in by, the places after a change at the start of a line, and the
+-- lines that are left.
+use Rattle.std.proofs.Common.{Some, ◌≡◌, ℕ, zero, suc, ◌+◌, ◌-◌, ◌*◌, sum, length-append, ◌/◌, ◌%◌, ◌<◌, ◌≤◌, Bool, true, false, List, [], ◌∷◌, ◌++◌, length, take, drop, slice_range, min, max, refl, sym, ap, ap₂, subst, ◌∙◌, arith, append_assoc, ltb-true, ltb-false, eqb, eqb-true, ne_eqb, get_or, drop-cons}
+use Rattle.std.specs.Prelude.{◌==◌, nat_lt, if◌then◌else◌}
+use Rattle.std.specs.List.{repeat, insert_slice, remove_range}
+use Rattle.std.specs.Option.{is_some}
+use Rattle.std.specs.Str.{IsAscii, IsCharBoundary, IsUtf8, trim_start}
+use Rattle.std.proofs.lemmas.Bool.Decides.{nat_tests}
+use Rattle.std.proofs.lemmas.List.{length-take-le, drop-drop, append-nil, get_or-drop, get_or-take, take-append-drop, take-take, length-drop}
+use Rattle.std.proofs.lemmas.List.Sums.{sum_by-append, sum_by-cons}
+use Rattle.std.proofs.lemmas.List.Edits.{length-between}
+use Rattle.std.proofs.lemmas.Str.Ascii.{IsAscii-nil, IsAscii-cons}
+use Rattle.std.proofs.lemmas.Option.{same_Some}
+use Rattle.rl_base.specs.Event.{Event, InsertStr, Delete, apply}
+use Rattle.rl_base.specs.declared.listeners.Direction.{Direction}
+use Rattle.rl_base.specs.Lines.{lines, last_line, line_number, text_of_line, start_of_line, end_of_line}
+use Rattle.rl_base.specs.Text.{greatest_boundary}
+use Rattle.rl_base.specs.declared.listeners.Direction.TheVariants.{Forward}
+use Rattle.rl_base.specs.declared.listeners.Refusal.{Refusal}
+use Rattle.rl_base.proofs.Texts.LineLemmas.{count_of_lines, count-parts, end-from, lies, lines-after, lines_some, newlines-line, start-next, text-between}
+use Rattle.rl_base.proofs.Texts.TextLemmas.{drop-after, IsCharBoundary-before, IsCharBoundary-after, IsCharBoundary-before_removal, IsCharBoundary-at_removal, removed-is_replaced, greatest_boundary-is}
+use Rattle.rl_line.specs.Indents.{blanks, line_plan, lines_plan, spaces, parts, put_spaces, pushed, pulled}
+use Rattle.rl_line.specs.Plan.{Plan, Step, after, Taken, Completed, Done, Halted, after_steps, single}
+use Rattle.rl_line.specs.Line.{Line, stepped}
+use Rattle.rl_base.proofs.Texts.EventLemmas.{Deletes-from_IsSome, Inserts-from_IsSome}
+use Rattle.rl_line.proofs.Lines.LineStartLemmas.{newlines-append}
+use Rattle.rl_line.proofs.Plans.EditLemmas.{length-repeat}
+use Rattle.rl_line.proofs.Plans.PlanLemmas.{first_step, Halted-back, Halted-front, Taken-append, Taken-nil}
+
+-- ---- parts of at most 32
+abbrev turns : ℕ → ℕ → List ℕ
+turns q r = repeat q (32 ∷ []) ++ (if r == 0 then [] else r ∷ [])
+
+parts-next : (n : ℕ) → 0 < n → parts n ≡ min n 32 ∷ parts (n - min n 32)
+parts-next n some = from (nat_lt n 32) refl
+  where
+    from : (b : Bool) → nat_lt n 32 ≡ b → parts n ≡ min n 32 ∷ parts (n - min n 32)
+    from true e =
+        let short : n < 32 = ltb-true n 32 e in
+        let none : n / 32 ≡ 0 = omega arith in
+        let all : n % 32 ≡ n = omega arith in
+        let least : n ≡ min n 32 = omega arith in
+        let rest : 0 ≡ n - min n 32 = omega arith in
+        ap₂ turns none all ∙ ap (λ (b : Bool). if b then [] else n ∷ []) (ne_eqb n 0 (λ z. absurd (omega arith))) ∙ ap₂ (λ (k m : ℕ). k ∷ parts m) least rest
+    from false e =
+        let long : 32 ≤ n = ltb-false n 32 e in
+        let once : n / 32 ≡ suc ((n - 32) / 32) = omega arith in
+        let left : n % 32 ≡ (n - 32) % 32 = omega arith in
+        let least : 32 ≡ min n 32 = omega arith in
+        let rest : n - 32 ≡ n - min n 32 = omega arith in
+        ap₂ turns once left ∙ ap₂ (λ (k m : ℕ). k ∷ parts m) least rest
+
+pub take-spaces : (k n : ℕ) → k ≤ n → take k (spaces n) ≡ spaces k
+take-spaces zero n le = refl
+take-spaces (suc k) zero le = absurd (omega arith)
+take-spaces (suc k) (suc n) le = ap (λ s. 32 ∷ s) (take-spaces k n (omega arith))
+
+pub length-spaces : (n : ℕ) → length (spaces n) ≡ n
+length-spaces n = length-repeat n (32 ∷ []) ∙ (omega arith)
+
+-- the next step, where `place` is the cursor after it
+pub put_spaces-next : (left i cursor place : ℕ) (part : List ℕ) → 0 < left → part ≡ spaces (min left 32) → place ≡ pushed i (length part) cursor
+    → put_spaces (parts left) i cursor ≡ (InsertStr i part, place) ∷ put_spaces (parts (left - length part)) i place
+put_spaces-next left i cursor place part some is at =
+    let len : length part ≡ min left 32 = ap length is ∙ length-spaces (min left 32) in
+    ap (λ ps. put_spaces ps i cursor) (parts-next left some)
+    ∙ ap₂ (λ (s : List ℕ) (k : ℕ). (InsertStr i s, pushed i k cursor) ∷ put_spaces (parts (left - k)) i (pushed i k cursor)) (sym is) (sym len)
+    ∙ ap (λ (k : ℕ). (InsertStr i part, k) ∷ put_spaces (parts (left - length part)) i k) (sym at)
+
+pub IsAscii-spaces : (n : ℕ) → IsAscii (spaces n)
+IsAscii-spaces zero = IsAscii-nil
+IsAscii-spaces (suc n) = IsAscii-cons 32 (spaces n) (omega arith) (IsAscii-spaces n)
+
+pub pushed-pushed : (i m n cursor : ℕ) → pushed i n (pushed i m cursor) ≡ pushed i (m + n) cursor
+pushed-pushed i m n cursor = grind (arith, nat_tests)
+
+pub pushed-none : (i cursor : ℕ) → pushed i 0 cursor ≡ cursor
+pushed-none i cursor = grind (arith, nat_tests)
+
+-- ---- what stands after a change
+pub drop-after_removal : (text : List ℕ) (i j q k : ℕ) → i ≤ length text → j ≤ q → k ≡ i + (q - j) → drop k (remove_range text i j) ≡ drop q text
+drop-after_removal text i j q k within le e = ap (drop k) (removed-is_replaced text i j) ∙ drop-after text i j q k [] within le (omega (arith, e))
+
+pub IsCharBoundary-pushed : (text : List ℕ) (i cursor : ℕ) (s : List ℕ) → IsUtf8 text → IsUtf8 s → IsCharBoundary text i → IsCharBoundary text cursor
+    → IsCharBoundary (insert_slice text i s) (pushed i (length s) cursor)
+IsCharBoundary-pushed text i cursor s u v start at = from (nat_lt cursor i) refl
+  where
+    from : (b : Bool) → nat_lt cursor i ≡ b → IsCharBoundary (insert_slice text i s) (if b then cursor else cursor + length s)
+    from true e = IsCharBoundary-before text i i cursor s u v start start at (let l = ltb-true cursor i e in omega arith)
+    from false e = let l : i ≤ cursor = ltb-false cursor i e in IsCharBoundary-after text i i cursor (cursor + length s) s u start.0 at l (omega arith)
+
+-- a boundary of a part of a text is one of the text, where the part ends at one
+pub IsCharBoundary-from_part : (text : List ℕ) (i j k : ℕ) → i ≤ j → IsCharBoundary text j → IsCharBoundary (slice_range text i j) k → IsCharBoundary text (i + k)
+IsCharBoundary-from_part text i j k le end at = from (nat_lt k (j - i)) refl
+  where
+    from : (b : Bool) → nat_lt k (j - i) ≡ b → IsCharBoundary text (i + k)
+    from true e =
+        let inside : k < j - i = ltb-true k (j - i) e in
+        let width = length-between text i j end.0 in
+        let byte : get_or (slice_range text i j) k 0 ≡ get_or text (i + k) 0 = get_or-take (j - i) (drop i text) k 0 inside ∙ get_or-drop i text k 0 in
+        (omega (arith, end.0), λ l a. let m = at.1 (omega (arith, width)) (omega (arith, byte)) in omega (arith, byte))
+    from false e =
+        let past : j - i ≤ k = ltb-false k (j - i) e in
+        let width = length-between text i j end.0 in
+        subst (IsCharBoundary text) (omega (arith, at.0, width)) end
+
+pub IsCharBoundary-pulled : (text : List ℕ) (i j n cursor : ℕ) → IsUtf8 text → i ≤ j → n ≡ j - i → IsCharBoundary text i → IsCharBoundary text j → IsCharBoundary text cursor
+    → IsCharBoundary (remove_range text i j) (pulled i n cursor)
+IsCharBoundary-pulled text i j n cursor u le is start end at = from (nat_lt cursor i) (nat_lt cursor j) refl refl
+  where
+    from : (b c : Bool) → nat_lt cursor i ≡ b → nat_lt cursor j ≡ c → IsCharBoundary (remove_range text i j) (if b then cursor else max i (cursor - n))
+    from true c e f = IsCharBoundary-before_removal text i j cursor u start end at (let l = ltb-true cursor i e in omega arith)
+    from false true e f =
+        let l = ltb-false cursor i e in
+        let m = ltb-true cursor j f in
+        subst (IsCharBoundary (remove_range text i j)) (omega arith) (IsCharBoundary-at_removal text i j u le end)
+    from false false e f =
+        let l = ltb-false cursor i e in
+        let m = ltb-false cursor j f in
+        subst (λ t. IsCharBoundary t (max i (cursor - n))) (sym (removed-is_replaced text i j)) (IsCharBoundary-after text i j cursor (max i (cursor - n)) [] u start.0 at m (omega arith))
+
+-- ---- the blanks at the start of a line's text
+front-between : (text : List ℕ) (i j n : ℕ) → n ≤ j - i → take n (slice_range text i j) ≡ slice_range text i (i + n)
+front-between text i j n le = take-take n (j - i) (drop i text) le ∙ ap (λ m. take m (drop i text)) (omega arith)
+
+-- the plan of a dedent, where `part` is the line's text, `rest` what follows its blanks, and `gone` the greatest boundary within `least`
+pub line_plan-dedent : (text : List ℕ) (i j n least gone cursor place : ℕ) (part rest : List ℕ) → i ≤ j → j ≤ length text → part ≡ slice_range text i j → rest ≡ trim_start part
+    → least ≡ min n (length part - length rest) → gone ≤ least → IsCharBoundary part gone → ((k : ℕ) → gone < k → k ≤ least → ¬ (IsCharBoundary part k))
+    → place ≡ pulled i gone cursor → line_plan true n (slice_range text i j) i cursor ≡ single (Delete i (slice_range text i (i + gone)) Forward) place (j - gone)
+line_plan-dedent text i j n least gone cursor place part rest order within part_is rest_is least_is le at last place_is =
+    let width : length part ≡ j - i = ap length part_is ∙ length-between text i j within in
+    let short : gone ≤ j - i = omega arith in
+    let found : greatest_boundary part (min n (length part - length (trim_start part))) ≡ gone =
+    ap (λ (r : List ℕ). greatest_boundary part (min n (length part - length r))) (sym rest_is) ∙ ap (greatest_boundary part) (sym least_is) ∙ greatest_boundary-is part least gone le at last in
+    let is : blanks n part ≡ slice_range text i (i + gone) = ap (λ k. take k part) found ∙ ap (take gone) part_is ∙ front-between text i j gone short in
+    let len : length (slice_range text i (i + gone)) ≡ gone = length-between text i (i + gone) (omega arith) ∙ (omega arith) in
+    let stop : i + length part - gone ≡ j - gone = omega (arith, width) in
+    ap (λ s. line_plan true n s i cursor) (sym part_is)
+    ∙ ap (λ (s : List ℕ). single (Delete i s Forward) (pulled i (length s) cursor) (i + length part - length s)) is
+    ∙ ap₂ (λ (k : ℕ) (stop : ℕ). single (Delete i (slice_range text i (i + gone)) Forward) (pulled i k cursor) stop) len (ap (λ k. i + length part - k) len ∙ stop)
+    ∙ ap (λ k. single (Delete i (slice_range text i (i + gone)) Forward) k (j - gone)) (sym place_is)
+
+-- ---- what a shift of a line leaves: as many newlines, and after k what stood after q
+record KeepsAfter (old new : List ℕ) (q k : ℕ) : Type 0 where
+  count : last_line new ≡ last_line old
+  rest : drop k new ≡ drop q old
+  within : k ≤ length new
+
+newlines-spaces : (n : ℕ) → last_line (spaces n) ≡ 0
+newlines-spaces zero = refl
+newlines-spaces (suc n) = newlines-append (32 ∷ []) (spaces n) ∙ (omega (arith, newlines-spaces n))
+
+KeepsAfter-InsertStr : (text after : List ℕ) (i n q : ℕ) → i ≤ q → q ≤ length text → apply (InsertStr i (spaces n)) text ≡ Some after → KeepsAfter text after q (q + n)
+KeepsAfter-InsertStr text after i n q le inside h =
+    let s = spaces n in
+    let is : insert_slice text i s ≡ after = same_Some _ _ (sym (Inserts-from_IsSome text i s (ap is_some h)).makes ∙ h) in
+    let front = take i text ++ s in
+    record {
+      count = omega (
+        arith,
+        ap last_line (sym is),
+        newlines-append front (drop i text),
+        newlines-append (take i text) s,
+        newlines-spaces n,
+        newlines-append (take i text) (drop i text),
+        ap last_line (take-append-drop i text),
+      );
+      rest = ap (drop (q + n)) (sym is) ∙ drop-after text i i q (q + n) s (omega arith) le (omega (arith, length-spaces n));
+      within = omega (
+        arith,
+        ap length (sym is),
+        length-append front (drop i text),
+        length-append (take i text) s,
+        length-take-le i text (omega arith),
+        length-drop i text,
+        length-spaces n,
+      );
+    }
+
+KeepsAfter-Delete : (text after : List ℕ) (i q : ℕ) (s : List ℕ) (side : Direction) → i + length s ≤ q → q ≤ length text → last_line s ≡ 0 → apply (Delete i s side) text ≡ Some after
+    → KeepsAfter text after q (q - length s)
+KeepsAfter-Delete text after i q s side le inside none h =
+    let d = Deletes-from_IsSome text i s side (ap is_some h) in
+    let j = i + length s in
+    let is : remove_range text i j ≡ after = same_Some _ _ (sym d.makes ∙ h) in
+    let width : j - i ≡ length s = omega arith in
+    let bytes : take (length s) (drop i text) ≡ s = ap (λ n. take n (drop i text)) (sym width) ∙ d.stands.bytes in
+    record {
+      count = omega (
+        arith,
+        ap last_line (sym is),
+        newlines-append (take i text) (drop j text),
+        newlines-append (take i text) (drop i text),
+        ap last_line (take-append-drop i text),
+        newlines-append (take (length s) (drop i text)) (drop (length s) (drop i text)),
+        ap last_line (take-append-drop (length s) (drop i text)),
+        ap last_line bytes,
+        none,
+        ap last_line (drop-drop (length s) i text),
+      );
+      rest = ap (drop (q - length s)) (sym is) ∙ drop-after_removal text i j q (q - length s) (omega arith) le (omega arith);
+      within = omega (
+        arith,
+        ap length (sym is),
+        length-append (take i text) (drop j text),
+        length-take-le i text (omega arith),
+        length-drop j text,
+      );
+    }
+
+KeepsAfter-put : (ps : List ℕ) (i q cursor : ℕ) (old new : Line) → i ≤ q → q ≤ length old.text → after (put_spaces ps i cursor) old ≡ Some new → KeepsAfter old.text new.text q (q + sum ps)
+KeepsAfter-put [] i q cursor old new le inside h =
+    let is : old.text ≡ new.text = ap (λ (l : Line). l.text) (same_Some _ _ h) in
+    let none : q + 0 ≡ q = omega arith in
+    record { count = ap last_line (sym is); rest = ap₂ drop none (sym is); within = omega (arith, ap length is) }
+KeepsAfter-put (n ∷ more) i q cursor old new le inside h =
+    let at = pushed i n cursor in
+    let b = first_step (InsertStr i (spaces n), at) (put_spaces more i at) old new h in
+    let one : KeepsAfter old.text b.text q (q + n) = KeepsAfter-InsertStr old.text b.text i n q le inside b.makes in
+    let others : KeepsAfter b.text new.text (q + n) (q + n + sum more) = KeepsAfter-put more i (q + n) at (stepped old b.text at) new (omega arith) one.within b.rest in
+    let all : q + sum (n ∷ more) ≡ q + n + sum more = omega (arith, sum_by-cons (λ x. x) n more) in
+    record {
+      count = others.count ∙ one.count;
+      rest = ap (λ k. drop k new.text) all ∙ others.rest ∙ one.rest;
+      within = omega (arith, all, others.within);
+    }
+
+pub sum-parts : (n : ℕ) → sum (parts n) ≡ n
+sum-parts n = sum_by-append (λ x. x) (repeat (n / 32) (32 ∷ [])) _ ∙ (omega (arith, full (n / 32), rest (eqb (n % 32) 0) refl))
+  where
+    full : (q : ℕ) → sum (repeat q (32 ∷ [])) ≡ 32 * q
+    full zero = refl
+    full (suc q) = sum_by-cons (λ x. x) 32 (repeat q (32 ∷ [])) ∙ (omega (arith, full q))
+
+    rest : (b : Bool) → eqb (n % 32) 0 ≡ b → sum (if b then [] else n % 32 ∷ []) ≡ n % 32
+    rest true e = sym (eqb-true (n % 32) 0 e)
+    rest false e = omega arith
+
+-- the plan's answer is the place where the line's text ends then
+KeepsAfter-line_plan : (dedent : Bool) (n : ℕ) (part : List ℕ) (i q cursor : ℕ) (old new : Line) → q ≡ i + length part → q ≤ length old.text → last_line part ≡ 0
+    → after (line_plan dedent n part i cursor).steps old ≡ Some new → KeepsAfter old.text new.text q (line_plan dedent n part i cursor).answer
+KeepsAfter-line_plan false n part i q cursor old new is inside none h =
+    let answer : q + sum (parts n) ≡ i + length part + n = omega (arith, sum-parts n) in
+    subst (KeepsAfter old.text new.text q) answer (KeepsAfter-put (parts n) i q cursor old new (omega arith) inside h)
+KeepsAfter-line_plan true n part i q cursor old new is inside none h =
+    let most = greatest_boundary part (min n (length part - length (trim_start part))) in
+    let gone = blanks n part in
+    let b = first_step (Delete i gone Forward, pulled i (length gone) cursor) [] old new h in
+    let text : b.text ≡ new.text = ap (λ (l : Line). l.text) (same_Some _ _ b.rest) in
+    let short : length gone ≤ length part = omega (arith, length-append (take most part) (drop most part), ap length (take-append-drop most part)) in
+    let blank : last_line gone ≡ 0 = omega (arith, newlines-append (take most part) (drop most part), ap last_line (take-append-drop most part)) in
+    subst (KeepsAfter old.text new.text q) (omega arith) (subst (λ t. KeepsAfter old.text t q (q - length gone)) text (KeepsAfter-Delete old.text b.text i q gone Forward (omega arith) inside blank b.makes))
+
+-- ---- from line to line
+-- the lines before line k are done: those that are left are as they were, from where line k begins now
+pub record LinesDone {L : Type 0} (step : L → Event → L) (dedent : Bool) (n : ℕ) (plan : Plan Bool) (old now : Line) (before here : L) (k final : ℕ) : Type 0 where
+  pub done : List Step
+  pub taken : Taken step done old now before here
+  pub left : plan ≡ after_steps done (lines_plan dedent n (slice_range (lines old.text) k (final + 1)) (start_of_line now.text k) now.cursor)
+  pub rest : drop k (lines now.text) ≡ drop k (lines old.text)
+  pub count : last_line now.text ≡ last_line old.text
+
+-- a text whose line k ends at `stop`, and in which the later lines are those of another
+record EndsLine (text other : List ℕ) (k stop : ℕ) : Type 0 where
+  start : start_of_line text (k + 1) ≡ stop + 1
+  rest : drop (k + 1) (lines text) ≡ drop (k + 1) (lines other)
+
+ends_line : (old new : List ℕ) (k stop : ℕ) → k < length (lines old) → KeepsAfter old new (end_of_line old k) stop → EndsLine new old k stop
+ends_line old new k stop l kept =
+    let e = end_of_line old k in
+    let at = lies old k l in
+    let some = lines_some (drop e old) in
+    let number : line_number new stop ≡ k = omega (arith, count-parts new stop, count-parts old e, at.number_stop, ap last_line kept.rest, kept.count) in
+    let none : length some.0 ≡ 0 = omega (arith, end-from old e some.0 some.1 at.within some.2, ap (end_of_line old) at.number_stop) in
+    let end : end_of_line new k ≡ stop = ap (end_of_line new) (sym number) ∙ end-from new stop some.0 some.1 kept.within (ap lines kept.rest ∙ some.2) ∙ (omega (arith, none)) in
+    record {
+      start = omega (arith, end, start-next new k (omega (arith, count_of_lines new, count_of_lines old, kept.count, l)));
+      rest = ap (λ j. drop (j + 1) (lines new)) (sym number) ∙ lines-after new stop ∙ ap (λ t. drop 1 (lines t)) kept.rest ∙ sym (lines-after old e) ∙ ap (λ j. drop (j + 1) (lines old)) at.number_stop;
+    }
+
+module _ {L : Type 0} (step : L → Event → L) (dedent : Bool) (n : ℕ) where
+  pub LinesDone-none : (plan : Plan Bool) (line : Line) (before : L) (first final : ℕ)
+      → plan ≡ lines_plan dedent n (slice_range (lines line.text) first (final + 1)) (start_of_line line.text first) line.cursor
+      → LinesDone step dedent n plan line line before before first final
+  LinesDone-none plan line before first final e = record { done = []; taken = Taken-nil step line before; left = e; rest = refl; count = refl }
+
+  module _ (plan : Plan Bool) (old now : Line) (before here : L) (k final : ℕ) (h : LinesDone step dedent n plan old now before here k final) where
+    -- the last is done
+    pub LinesDone-all : final < k → Done step plan old now before here true
+    LinesDone-all past =
+        let none : final + 1 - k ≡ 0 = omega arith in
+        let all : plan ≡ after_steps h.done (lines_plan dedent n [] (start_of_line now.text k) now.cursor) =
+        h.left ∙ ap (λ m. after_steps h.done (lines_plan dedent n (take m (drop k (lines old.text))) (start_of_line now.text k) now.cursor)) none in
+        record {
+          last = now;
+          taken = subst (λ ss. Taken step ss old now before here) (sym (ap (λ (p : Plan Bool). p.steps) all ∙ append-nil h.done)) h.taken;
+          line = ap (λ c. record now { cursor = c }) (sym (ap (λ (p : Plan Bool). p.cursor) all));
+          answered = sym (ap (λ (p : Plan Bool). p.answer) all);
+        }
+
+    module _ (start stop : ℕ) (start_is : start ≡ start_of_line now.text k) (stop_is : stop ≡ end_of_line now.text k) (more : k ≤ final) (small : k < length (lines now.text)) where
+      -- what is left, by the next line
+      next : plan ≡ after_steps h.done (lines_plan dedent n (slice_range now.text start stop ∷ slice_range (lines old.text) (k + 1) (final + 1)) start now.cursor)
+      next =
+          let all = lines old.text in
+          let part = slice_range now.text start stop in
+          let one : suc k ≡ k + 1 = omega arith in
+          let later : drop (k + 1) (lines now.text) ≡ drop (k + 1) all = sym (drop-drop 1 k (lines now.text)) ∙ ap (drop 1) h.rest ∙ drop-drop 1 k all in
+          let from : drop k all ≡ part ∷ drop (k + 1) all =
+          sym h.rest ∙ drop-cons (lines now.text) k [] small ∙ ap (λ j. text_of_line now.text k ∷ drop j (lines now.text)) one
+          ∙ ap₂ (λ t ls. t ∷ ls) (sym (text-between now.text k start stop small start_is stop_is)) later in
+          let count : final + 1 - k ≡ suc (final + 1 - (k + 1)) = omega arith in
+          h.left ∙ ap₂ (λ ls i. after_steps h.done (lines_plan dedent n ls i now.cursor)) (ap₂ (λ m ls. take m ls) count from) (sym start_is)
+
+      pub LinesDone-halted : (refused : L → Event → Refusal → L → Type 0) (new : Line) (there : L) (r : Refusal)
+          → Halted step refused (line_plan dedent n (slice_range now.text start stop) start now.cursor) now new here there r → Halted step refused plan old new before there r
+      LinesDone-halted refused new there r halted =
+          let one = line_plan dedent n (slice_range now.text start stop) start now.cursor in
+          let others = lines_plan dedent n (slice_range (lines old.text) (k + 1) (final + 1)) (one.answer + 1) one.cursor in
+          Halted-back step refused plan (after_steps one.steps others) h.done old now new before here there r h.taken
+          (Halted-front step refused (after_steps one.steps others) one others.steps now new here there r halted refl) (ap (λ (p : Plan Bool). p.steps) next)
+
+      pub LinesDone-more : (new : Line) (there : L) → Completed step (line_plan dedent n (slice_range now.text start stop) start now.cursor) now new here there
+          → LinesDone step dedent n plan old new before there (k + 1) final
+      LinesDone-more new there one =
+          let part = slice_range now.text start stop in
+          let here_plan = line_plan dedent n part start now.cursor in
+          let line : part ≡ text_of_line now.text k = text-between now.text k start stop small start_is stop_is in
+          let after : KeepsAfter now.text new.text stop here_plan.answer =
+          KeepsAfter-line_plan dedent n part start stop now.cursor now new (omega (arith, ap length line)) (omega (arith, (lies now.text k small).within)) (ap last_line line ∙ newlines-line now.text k small) one.taken.line in
+          let ends : EndsLine new.text now.text k here_plan.answer = ends_line now.text new.text k here_plan.answer small (subst (λ q. KeepsAfter now.text new.text q here_plan.answer) stop_is after) in
+          let later = slice_range (lines old.text) (k + 1) (final + 1) in
+          let others_plan = lines_plan dedent n later (here_plan.answer + 1) here_plan.cursor in
+          record {
+            done = h.done ++ here_plan.steps;
+            taken = Taken-append step h.done here_plan.steps old now new before here there h.taken one.taken;
+            left = next ∙ ap (λ ss. record others_plan { steps = ss }) (sym (append_assoc h.done here_plan.steps others_plan.steps))
+                ∙ ap₂ (λ i c. after_steps (h.done ++ here_plan.steps) (lines_plan dedent n later i c)) (sym ends.start) (sym one.cursor);
+            rest = ends.rest ∙ sym (drop-drop 1 k (lines now.text)) ∙ ap (drop 1) h.rest ∙ drop-drop 1 k (lines old.text);
+            count = after.count ∙ h.count;
+          }

@@ -1,0 +1,95 @@
+-- What a kill by a movement takes begins at the cursor, or ends there.
+use Rattle.std.proofs.Common.{◌≡◌, ℕ, ◌+◌, ◌≤◌, Bool, true, false, cond, length, Option, Some, None, refl, sym, arith}
+use Rattle.std.proofs.lemmas.Bool.{eqb-true}
+use Rattle.std.specs.Option.{option_map, option_or}
+use Rattle.std.specs.Prelude.{IfSome, List, ◌==◌}
+use Rattle.std.specs.Str.{IsCharBoundary, IsUtf8}
+use Rattle.std.specs.declared.ops.Range.{Range}
+use Rattle.rl_base.specs.Clusters.{prev_pos}
+use Rattle.rl_base.specs.Search.{HitLies, chosen_hit}
+use Rattle.rl_base.specs.Words.{prev_word}
+use Rattle.rl_base.specs.declared.listeners.Direction.{Direction}
+use Rattle.rl_base.specs.declared.listeners.Direction.TheVariants.{Forward, Backward}
+use Rattle.rl_base.specs.declared.motion.At.{At}
+use Rattle.rl_base.specs.declared.motion.CharSearch.{CharSearch}
+use Rattle.rl_base.specs.declared.motion.CharSearch.TheVariants as to
+use Rattle.rl_base.specs.declared.motion.Movement.TheVariants.{BeginningOfLine, EndOfLine, BackwardWord, ForwardWord, ViCharSearch, BeginningOfBuffer, EndOfBuffer}
+use Rattle.rl_base.specs.declared.motion.Word.{Word}
+use Rattle.rl_base.proofs.Texts.LineLemmas.{start-before}
+use Rattle.rl_base.proofs.Clusters.SearchLemmas.{IsHitOf, chosen_hit-is}
+use Rattle.rl_base.proofs.Clusters.WordLemmas.{IsBefore-start_before}
+use Rattle.rl_line.specs.Kills.{side_of_search}
+use Rattle.rl_line.specs.Line.{Line, between}
+use Rattle.rl_line.specs.LineMotions.{home, line_end}
+use Rattle.rl_line.specs.Ranges.{from_place, killed, newline_at, to_hit, to_place, unless_empty}
+
+-- the range lies on that side of the place, and touches it
+abbrev pub LiesOn : Direction → ℕ → Range ℕ → Type 0
+LiesOn Forward pos r = r.start ≡ pos
+LiesOn Backward pos r = (r.end ≡ pos) × (r.start ≤ pos)
+
+unless : {A : Type 0} (P : A → Type 0) (b : Bool) (x : A) → P x → IfSome (cond b None (Some x)) P
+unless P true x h = tt
+unless P false x h = h
+
+mapped : {A B : Type 0} (P : A → Type 0) (Q : B → Type 0) (f : A → B) (o : Option A) → ((x : A) → P x → Q (f x)) → IfSome o P → IfSome (option_map f o) Q
+mapped P Q f None h k = tt
+mapped P Q f (Some x) h k = h x k
+
+or_else : {A : Type 0} (P : A → Type 0) (o p : Option A) → IfSome o P → IfSome p P → IfSome (option_or o p) P
+or_else P None p h k = k
+or_else P (Some x) p h k = h
+
+from_place-side : (line : Line) (o : Option ℕ) → IfSome o (λ q. q ≤ line.cursor) → IfSome (from_place line o) (LiesOn Backward line.cursor)
+from_place-side line o h = mapped (λ q. q ≤ line.cursor) (LiesOn Backward line.cursor) (λ q. between q line.cursor) o (λ q k. (refl, k)) h
+
+to_place-side : (line : Line) (o : Option ℕ) → IfSome (to_place line o) (LiesOn Forward line.cursor)
+to_place-side line None = tt
+to_place-side line (Some q) = refl
+
+-- where these places are not past the cursor
+prev_pos-before : (text : List ℕ) (pos n : ℕ) → IfSome (prev_pos text pos n) (λ q. q ≤ pos)
+prev_pos-before text pos n = unless (λ q. q ≤ pos) _ _ (omega arith)
+
+prev_word-before : (text : List ℕ) (pos : ℕ) (word : Word) (n : ℕ) → IsUtf8 text → IsCharBoundary text pos → IfSome (prev_word text pos word n) (λ q. q ≤ pos)
+prev_word-before text pos word n u at = unless (λ q. q ≤ pos) (pos == 0) _ (IsBefore-start_before text pos word n u at).before
+
+hit-side : (cs : CharSearch) (pos hit : ℕ) → HitLies cs pos hit → LiesOn (side_of_search cs) pos (to_hit cs pos hit)
+hit-side (to.Forward c) pos hit h = refl
+hit-side (to.ForwardBefore c) pos hit h = refl
+hit-side (to.Backward c) pos hit h = (refl, omega arith)
+hit-side (to.BackwardAfter c) pos hit h = (refl, h)
+
+-- the range of each movement
+pub BeginningOfLine-side : (line : Line) → line.cursor ≤ length line.text → IfSome (killed line BeginningOfLine) (LiesOn Backward line.cursor)
+BeginningOfLine-side line within =
+    or_else (LiesOn Backward line.cursor) (unless_empty (home line) line.cursor) (from_place line (prev_pos line.text line.cursor 1))
+    (unless (LiesOn Backward line.cursor) (home line == line.cursor) (between (home line) line.cursor) (refl, start-before line.text line.cursor within))
+    (from_place-side line (prev_pos line.text line.cursor 1) (prev_pos-before line.text line.cursor 1))
+
+pub EndOfLine-side : (line : Line) → IfSome (killed line EndOfLine) (LiesOn Forward line.cursor)
+EndOfLine-side line = from (line.cursor == line_end line) refl
+  where
+    from : (b : Bool) → (line.cursor == line_end line) ≡ b
+        → IfSome (option_or (cond b None (Some (between line.cursor (line_end line)))) (newline_at line.text (line_end line))) (LiesOn Forward line.cursor)
+    from true e = unless (LiesOn Forward line.cursor) _ (between (line_end line) (line_end line + 1)) (sym (eqb-true line.cursor (line_end line) e))
+    from false e = refl
+
+pub BackwardWord-side : (line : Line) (n : ℕ) (word : Word) → IsUtf8 line.text → IsCharBoundary line.text line.cursor
+    → IfSome (killed line (BackwardWord n word)) (LiesOn Backward line.cursor)
+BackwardWord-side line n word u at = from_place-side line (prev_word line.text line.cursor word n) (prev_word-before line.text line.cursor word n u at)
+
+pub ForwardWord-side : (line : Line) (n : ℕ) (at : At) (word : Word) → IfSome (killed line (ForwardWord n at word)) (LiesOn Forward line.cursor)
+ForwardWord-side line n at word = to_place-side line _
+
+pub ViCharSearch-side : (line : Line) (n : ℕ) (cs : CharSearch) → IsUtf8 line.text → IsCharBoundary line.text line.cursor
+    → IfSome (killed line (ViCharSearch n cs)) (LiesOn (side_of_search cs) line.cursor)
+ViCharSearch-side line n cs u at =
+    mapped (IsHitOf line.text line.cursor cs) (LiesOn (side_of_search cs) line.cursor) (to_hit cs line.cursor) (chosen_hit line.text line.cursor cs n)
+    (λ hit h. hit-side cs line.cursor hit h.side) (chosen_hit-is line.text line.cursor cs n u at)
+
+pub BeginningOfBuffer-side : (line : Line) → IfSome (killed line BeginningOfBuffer) (LiesOn Backward line.cursor)
+BeginningOfBuffer-side line = unless (LiesOn Backward line.cursor) (0 == line.cursor) (between 0 line.cursor) (refl, omega arith)
+
+pub EndOfBuffer-side : (line : Line) → IfSome (killed line EndOfBuffer) (LiesOn Forward line.cursor)
+EndOfBuffer-side line = unless (LiesOn Forward line.cursor) (line.cursor == length line.text) (between line.cursor (length line.text)) refl

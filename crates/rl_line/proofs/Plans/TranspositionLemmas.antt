@@ -1,0 +1,93 @@
+-- Exchanging two ranges: the plan by its halves, and the places between them.
+use Rattle.std.proofs.Common.{◌≡◌, ℕ, ◌+◌, ◌-◌, ◌≤◌, [], ◌∷◌, ◌++◌, List, length, take, drop, append_assoc, None, Bool, cond, true, false, slice_range, sym, ap, ap₂, subst, ◌∙◌, arith}
+use Rattle.std.proofs.lemmas.List.Edits.{length-between}
+use Rattle.std.specs.Prelude.{option_and_then}
+use Rattle.std.proofs.lemmas.List.{length-take-le, drop-take, drop-append-le}
+use Rattle.std.specs.List.{insert_slice, remove_range, replace_range}
+use Rattle.std.specs.Str.{IsCharBoundary, IsUtf8}
+use Rattle.std.specs.declared.ops.Range.{Range}
+use Rattle.rl_base.proofs.Texts.TextLemmas.{slice-before, take-before, removed-is_replaced, IsCharBoundary-before, IsCharBoundary-at_removal, IsCharBoundary-past_replacement, IsCharBoundary-after, IsUtf8-replaced}
+use Rattle.rl_base.specs.declared.listeners.Direction.TheVariants.{Forward}
+use Rattle.rl_base.specs.Event.{InsertStr, Delete}
+use Rattle.rl_line.specs.Line.{Line}
+use Rattle.rl_line.specs.Plan.{Plan, Step, nothing, single, followed_by, answering}
+use Rattle.rl_line.specs.Edits.{exchange_plan}
+use Rattle.rl_line.specs.Ranges.{text_in}
+use Rattle.rl_line.specs.Transpositions.{are_two, clusters_around, end_of_cluster, exchanged_text, first_word, meeting_place, second_word, only_move, pull_back_plan, pulled_back, swap_plan, transpose_chars_plan, transpose_words_plan}
+
+-- the steps of the second exchange
+abbrev pub last_steps : Line → Range ℕ → Range ℕ → List Step
+last_steps line first second = (Delete first.start (text_in line first) Forward, first.start) ∷ (InsertStr first.start (text_in line second), second.end) ∷ []
+
+pub swap-front : (line : Line) (first second : Range ℕ) (x : List ℕ) → x ≡ text_in line first
+    → (swap_plan line first second).steps ≡ (exchange_plan line second first.end x first.end).steps ++ last_steps line first second
+swap-front line first second x e =
+    ap (λ t. (Delete second.start (text_in line second) Forward, first.end) ∷ (InsertStr second.start t, first.end) ∷ last_steps line first second) (sym e)
+
+pub swap-halves : (old mid : Line) (first second : Range ℕ) (x y : List ℕ) → x ≡ text_in old first → y ≡ text_in old second
+    → mid.text ≡ replace_range old.text second.start second.end x → second.start ≤ length old.text → first.start ≤ first.end → first.end ≤ second.start
+    → (swap_plan old first second).steps ≡ (exchange_plan old second first.end x first.end).steps ++ (exchange_plan mid first first.start y second.end).steps
+swap-halves old mid first second x y e f is within order apart =
+    let same : text_in mid first ≡ text_in old first =
+    ap (λ t. slice_range t first.start first.end) is ∙ slice-before old.text second.start second.end first.start first.end x within order apart in
+    swap-front old first second x e
+    ∙ ap₂ (λ t u. (exchange_plan old second first.end x first.end).steps ++ ((Delete first.start t Forward, first.start) ∷ (InsertStr first.start u, second.end) ∷ [])) (sym same) (sym f)
+
+-- the places of the second exchange, in the text after the first
+pub record Places (mid : List ℕ) (first second : Range ℕ) (y : List ℕ) : Type 0 where
+  pub start : IsCharBoundary mid first.start
+  pub stop : IsCharBoundary mid first.end
+  pub gap : IsCharBoundary (remove_range mid first.start first.end) first.start
+  pub last : IsCharBoundary (replace_range mid first.start first.end y) second.end
+
+pub places : (old mid : Line) (first second : Range ℕ) (x y : List ℕ) → x ≡ text_in old first → y ≡ text_in old second → mid.text ≡ replace_range old.text second.start second.end x
+    → IsUtf8 old.text → IsUtf8 x → first.start ≤ first.end → second.start ≤ second.end → first.end ≤ second.start
+    → IsCharBoundary old.text first.start → IsCharBoundary old.text first.end → IsCharBoundary old.text second.start → IsCharBoundary old.text second.end → Places mid.text first second y
+places old mid first second x y e f is u v fo so apart fs fe ss se =
+    let text = old.text in
+    let made = replace_range text second.start second.end x in
+    let utf8 = IsUtf8-replaced text second.start second.end x u v ss se in
+    let start : IsCharBoundary made first.start = IsCharBoundary-before text second.start second.end first.start x u v ss se fs (omega arith) in
+    let stop : IsCharBoundary made first.end = IsCharBoundary-before text second.start second.end first.end x u v ss se fe apart in
+    let wide : length x ≡ first.end - first.start = ap length e ∙ length-between text first.start first.end fe.0 in
+    let wide' : length y ≡ second.end - second.start = ap length f ∙ length-between text second.start second.end se.0 in
+    let past = IsCharBoundary-past_replacement text second.start second.end x u so se in
+    subst (λ t. Places t first second y) (sym is) (record {
+      start = start;
+      stop = stop;
+      gap = IsCharBoundary-at_removal made first.start first.end utf8 fo stop;
+      last = IsCharBoundary-after made first.start first.end (second.start + length x) second.end y utf8 start.0 past (omega arith) (omega arith);
+    })
+
+pub pull_back_plan-is : (line : Line) (front : ℕ) (after : Range ℕ) (x : List ℕ) (stop : ℕ) → x ≡ text_in line after
+    → stop ≡ length x + end_of_cluster (remove_range line.text after.start after.end) front
+    → pull_back_plan line front after ≡ followed_by (Delete after.start (text_in line after) Forward) after.start (single (InsertStr front x) stop tt)
+pull_back_plan-is line front after x stop e f =
+    ap₂ (λ (t : List ℕ) (k : ℕ). followed_by (Delete after.start (text_in line after) Forward) after.start (single (InsertStr front t) k tt)) (sym e)
+    (sym (f ∙ ap (λ t. length t + end_of_cluster (remove_range line.text after.start after.end) front) e))
+
+pub exchanged : (line : Line) (front : ℕ) (after : Range ℕ) (x : List ℕ) → x ≡ text_in line after → front ≤ after.start → after.start ≤ length line.text
+    → insert_slice (remove_range line.text after.start after.end) front x ≡ exchanged_text line front after
+exchanged line front after x e le within =
+    let text = line.text in
+    let left = remove_range text after.start after.end in
+    let front_is : take front left ≡ take front text =
+    ap (take front) (removed-is_replaced text after.start after.end) ∙ take-before text after.start after.end front [] within le in
+    let to : front + (after.start - front) ≡ after.start = omega arith in
+    let middle : drop front (take after.start text) ≡ slice_range text front after.start =
+    ap (λ n. drop front (take n text)) (sym to) ∙ drop-take front (after.start - front) text in
+    let rest : drop front left ≡ slice_range text front after.start ++ drop after.end text =
+    drop-append-le front (take after.start text) (drop after.end text) (omega (arith, length-take-le after.start text within)) ∙ ap (λ l. l ++ drop after.end text) middle in
+    ap₂ (λ f r. (f ++ x) ++ r) front_is rest ∙ append_assoc (take front text) x (slice_range text front after.start ++ drop after.end text)
+    ∙ ap (λ t. take front text ++ (t ++ (slice_range text front after.start ++ drop after.end text))) e
+
+pub transpose_chars-nothing : (line : Line) → None ≡ option_and_then (clusters_around line.text) (meeting_place line) → transpose_chars_plan line ≡ nothing line false
+transpose_chars-nothing line e = ap (pulled_back line) (sym e)
+
+abbrev transposed : Line → Range ℕ → Range ℕ → Plan Bool
+transposed line first second = cond (are_two first second) (answering true (swap_plan line first second)) (only_move first.end)
+
+pub transpose-stays : (line : Line) (n : ℕ) (first second : Range ℕ) → first ≡ first_word line n → second ≡ second_word line n → are_two first second ≡ false
+    → transpose_words_plan line n ≡ only_move first.end
+transpose-stays line n first second e f apart =
+    sym (ap₂ (transposed line) e f) ∙ ap (λ b. cond b (answering true (swap_plan line first second)) (only_move first.end)) apart

@@ -1,0 +1,20 @@
+-- The record: its entries and groups, and how a line goes over them.
+pub mod RecordLemmas
+pub mod EntryLemmas
+pub mod JoinLemmas
+pub mod ToldLemmas
+pub mod Counts
+pub mod CountLemmas
+pub mod UnitLemmas
+pub mod MatchLemmas
+pub mod MarkLemmas
+pub mod LevelLemmas
+pub mod GroupLemmas
+pub mod MoveLemmas
+pub mod OriginLemmas
+pub mod ChangeLemmas
+pub mod RoomLemmas
+pub mod UndoLemmas
+pub mod WayLemmas
+pub mod WalkLemmas
+pub mod RedoLemmas

@@ -1,0 +1,180 @@
+-- What stands in a text where it can go over an entry.
+use Rattle.std.proofs.Common.{◌≡◌, ℕ, ◌+◌, ◌<◌, ◌≤◌, Bool, true, false, List, [], ◌∷◌, ◌++◌, length, take, get_or, map, reverse, slice_range, Option, Some, None, refl, sym, ap, subst, ◌∙◌, arith}
+use Rattle.std.proofs.lemmas.Grind.{take_at_read}
+use Rattle.std.proofs.lemmas.List.{length-reverse, map-append, reverse-append}
+use Rattle.std.proofs.lemmas.Str.{is_utf8-from_IsUtf8}
+use Rattle.std.specs.Prelude.{◌&&◌, IsSome, cond, is_some, option_and_then}
+use Rattle.std.specs.List.{replace_range}
+use Rattle.std.specs.Option.{option_map_or}
+use Rattle.std.specs.Str.{IsCharBoundary, IsUtf8, bytes_eq, is_utf8}
+use Rattle.rl_base.specs.Event.{apply}
+use Rattle.rl_base.specs.Text.{fits_at, is_boundary, stands_at}
+use Rattle.rl_base.proofs.Texts.TextLemmas.{is_boundary-means, is_boundary-true, stands_at-means}
+use Rattle.rl_base.proofs.Texts.EventLemmas.{Replaces-from_IsSome}
+use Rattle.rl_line.specs.declared.change.Change.{Change}
+use Rattle.rl_line.specs.declared.change.Way.{Way}
+use Rattle.rl_line.specs.declared.change.Way.TheVariants.{Back, Ahead}
+use Rattle.rl_line.specs.Record.{Entry, Begin, End, Changed, entry_of, event_of, inverse, new_text, old_text, unwind}
+use Rattle.rl_line.specs.Undo.{cursor_told, place_after}
+use Rattle.rl_line.proofs.Records.RecordLemmas.{then_both, then_some}
+use Rattle.rl_line.specs.Change.{cursor_stands, faced, order, place, text_after, text_back}
+
+-- an entry's new text stands at its place, and the old one may take its place
+pub record StandsNew (e : Entry) (text : List ℕ) (at : ℕ) : Type 0 where
+  pub start : IsCharBoundary text at
+  pub end : IsCharBoundary text (at + length (new_text e))
+  pub bytes : slice_range text at (at + length (new_text e)) ≡ new_text e
+  pub makes : apply (event_of (inverse e)) text ≡ Some (replace_range text at (at + length (new_text e)) (old_text e))
+
+pub StandsNew-from_IsSome : (e : Entry) (text : List ℕ) (at : ℕ) → place e ≡ Some at → IsSome (apply (event_of (inverse e)) text) → StandsNew e text at
+StandsNew-from_IsSome Begin text at p h = cc
+StandsNew-from_IsSome End text at p h = cc
+StandsNew-from_IsSome (Changed k c) text at p h =
+    let same : c.place ≡ at = cc in
+    let d = Replaces-from_IsSome text c.place c.new c.old h in
+    subst (λ j. StandsNew (Changed k c) text j) same (record { start = d.stands.start; end = d.stands.end; bytes = d.stands.bytes; makes = d.makes })
+
+-- a mark leaves the text
+pub mark-leaves : (e : Entry) (text : List ℕ) → place e ≡ None → apply (event_of (inverse e)) text ≡ Some text
+unfolding apply
+mark-leaves Begin text p = refl
+mark-leaves End text p = refl
+mark-leaves (Changed k c) text p = cc
+
+place-inverse : (e : Entry) → place (inverse e) ≡ place e
+place-inverse Begin = refl
+place-inverse End = refl
+place-inverse (Changed k c) = refl
+
+-- where the cursor goes where an entry is taken back, if it was not told
+pub place_after-is : (e : Entry) (at cursor : ℕ) → place e ≡ Some at → place_after cursor (inverse e) ≡ at + length (old_text e)
+place_after-is Begin at cursor p = cc
+place_after-is End at cursor p = cc
+place_after-is (Changed k c) at cursor p = let same : c.place ≡ at = cc in ap (λ j. j + length c.old) same
+
+-- both ways the place is the same
+pub place-faced : (way : Way) (change : Change) → place (faced way change) ≡ place (entry_of change)
+place-faced Back change = refl
+place-faced Ahead change = place-inverse (entry_of change)
+
+-- ---- whether a text can go over an entry
+tested : {A : Type 0} (b : Bool) (a : A) → is_some (cond b (Some a) None) ≡ b
+tested true a = refl
+tested false a = refl
+
+right_true : (a b : Bool) → b ≡ true → (a && b) ≡ a
+right_true true b e = e
+right_true false b e = refl
+
+-- it can where the new text stands at the place
+pub fits-is : (e : Entry) (text : List ℕ) (at : ℕ) → place e ≡ Some at → IsUtf8 (old_text e) → is_some (apply (event_of (inverse e)) text) ≡ stands_at text at (new_text e)
+unfolding apply fits_at
+fits-is Begin text at p u = cc
+fits-is End text at p u = cc
+fits-is (Changed k c) text at p u =
+    let same : c.place ≡ at = cc in
+    tested (stands_at text c.place c.new && is_utf8 c.old) _ ∙ right_true (stands_at text c.place c.new) (is_utf8 c.old) (is_utf8-from_IsUtf8 c.old u) ∙ ap (λ j. stands_at text j c.new) same
+
+-- what stands between two boundaries is told by its bytes
+pub stands_at-is : (text : List ℕ) (i : ℕ) (s : List ℕ) → IsUtf8 s → IsCharBoundary text i → IsCharBoundary text (i + length s) → stands_at text i s ≡ bytes_eq (slice_range text i (i + length s)) s
+unfolding stands_at
+stands_at-is text i s u b e = rw (is_utf8-from_IsUtf8 s u, is_boundary-true text i b, is_boundary-true text (i + length s) e) refl
+
+pub stands_at-not : (text : List ℕ) (i : ℕ) (s : List ℕ) → (IsCharBoundary text i → IsCharBoundary text (i + length s) → ⊥) → false ≡ stands_at text i s
+stands_at-not text i s h = from (stands_at text i s) refl
+  where
+    from : (b : Bool) → stands_at text i s ≡ b → false ≡ b
+    from false e = refl
+    from true e = let m = stands_at-means text i s e in absurd (h m.start m.end)
+
+-- ---- the order in which changes are gone over
+pub length-order : (way : Way) (xs : List Change) → length (order way xs) ≡ length xs
+length-order Back xs = refl
+length-order Ahead xs = length-reverse xs
+
+map-reverse : (xs : List Change) → map entry_of (reverse xs) ≡ reverse (map entry_of xs)
+map-reverse [] = refl
+map-reverse (x ∷ xs) =
+    ap (map entry_of) (reverse-append (x ∷ []) xs) ∙ map-append entry_of (reverse xs) (x ∷ []) ∙ ap (λ l. l ++ entry_of x ∷ []) (map-reverse xs)
+    ∙ sym (reverse-append (entry_of x ∷ []) (map entry_of xs))
+
+-- going ahead takes the inverses back
+pub ahead-inverse : (xs : List Change) → map (faced Ahead) (order Ahead xs) ≡ map inverse (reverse (map entry_of xs))
+ahead-inverse xs = each (reverse xs) ∙ ap (map inverse) (map-reverse xs)
+  where
+    each : (ys : List Change) → map (faced Ahead) ys ≡ map inverse (map entry_of ys)
+    each [] = refl
+    each (y ∷ ys) = ap (λ l. inverse (entry_of y) ∷ l) (each ys)
+
+-- ---- a text that goes over changes, the last first
+-- those before n are left, and lead from the text now to where all lead from the text at first
+pub record GoesOver (asks : Bool) (way : Way) (xs : List Change) (n : ℕ) (text now : List ℕ) : Type 0 where
+  pub rest : text_back asks (map (faced way) (take n xs)) now ≡ text_back asks (map (faced way) xs) text
+  pub within : n ≤ length xs
+
+text_back-append : (asks : Bool) (xs ys : List Entry) (text : List ℕ) → text_back asks (xs ++ ys) text ≡ option_and_then (text_back asks xs) (text_back asks ys text)
+text_back-append asks [] ys text = sym (then_some (text_back asks ys text))
+text_back-append asks (x ∷ xs) ys text =
+    ap (option_and_then (text_after asks (inverse x))) (text_back-append asks xs ys text)
+    ∙ sym (then_both (text_back asks (x ∷ xs)) (text_back asks xs) (text_after asks (inverse x)) (λ t. refl) (text_back asks ys text))
+
+last_one : (asks : Bool) (way : Way) (xs : List Change) (m : ℕ) (x : Change) (now : List ℕ) → m < length xs → x ≡ get_or xs m x
+    → text_back asks (map (faced way) (take (m + 1) xs)) now ≡ option_and_then (text_back asks (map (faced way) (take m xs))) (text_after asks (inverse (faced way x)) now)
+last_one asks way xs m x now lt e =
+    ap (λ ys. text_back asks (map (faced way) ys) now) ((take_at_read xs m x lt).1 ∙ ap (λ y. take m xs ++ y ∷ []) (sym e))
+    ∙ ap (λ es. text_back asks es now) (map-append (faced way) (take m xs) (x ∷ []))
+    ∙ text_back-append asks (map (faced way) (take m xs)) (faced way x ∷ []) now
+
+pub GoesOver-next : (asks : Bool) (way : Way) (xs : List Change) (m : ℕ) (x : Change) (text now next : List ℕ) → m < length xs → x ≡ get_or xs m x → GoesOver asks way xs (m + 1) text now
+    → apply (event_of (inverse (faced way x))) now ≡ Some next → cursor_stands asks (inverse (faced way x)) next ≡ true → GoesOver asks way xs m text next
+GoesOver-next asks way xs m x text now next lt e g h stands = record {
+  rest =
+      let one : text_after asks (inverse (faced way x)) now ≡ Some next =
+      ap (option_and_then (λ t. cond (cursor_stands asks (inverse (faced way x)) t) (Some t) None)) h ∙ ap (λ b. cond b (Some next) None) stands in
+      sym (last_one asks way xs m x now lt e ∙ ap (option_and_then (text_back asks (map (faced way) (take m xs)))) one) ∙ g.rest;
+  within = omega arith;
+}
+
+-- one that does not fit, or whose cursor would not stand
+goes_not : (asks : Bool) (way : Way) (xs : List Change) (m : ℕ) (x : Change) (text now : List ℕ) → m < length xs → x ≡ get_or xs m x → GoesOver asks way xs (m + 1) text now
+    → text_after asks (inverse (faced way x)) now ≡ None → None ≡ text_back asks (map (faced way) xs) text
+goes_not asks way xs m x text now lt e g h =
+    sym (ap (option_and_then (text_back asks (map (faced way) (take m xs)))) h) ∙ sym (last_one asks way xs m x now lt e) ∙ g.rest
+
+pub GoesOver-not : (asks : Bool) (way : Way) (xs : List Change) (m : ℕ) (x : Change) (text now : List ℕ) → m < length xs → x ≡ get_or xs m x → GoesOver asks way xs (m + 1) text now
+    → is_some (apply (event_of (inverse (faced way x))) now) ≡ false → None ≡ text_back asks (map (faced way) xs) text
+GoesOver-not asks way xs m x text now lt e g h =
+    goes_not asks way xs m x text now lt e g (none (apply (event_of (inverse (faced way x))) now) h)
+  where
+    none : (o : Option (List ℕ)) → is_some o ≡ false → option_and_then (λ t. cond (cursor_stands asks (inverse (faced way x)) t) (Some t) None) o ≡ None
+    none None h = refl
+    none (Some t) h = cc
+
+pub GoesOver-astray : (asks : Bool) (way : Way) (xs : List Change) (m : ℕ) (x : Change) (text now next : List ℕ) → m < length xs → x ≡ get_or xs m x → GoesOver asks way xs (m + 1) text now
+    → apply (event_of (inverse (faced way x))) now ≡ Some next → cursor_stands asks (inverse (faced way x)) next ≡ false → None ≡ text_back asks (map (faced way) xs) text
+GoesOver-astray asks way xs m x text now next lt e g h astray =
+    goes_not asks way xs m x text now lt e g
+    (ap (option_and_then (λ t. cond (cursor_stands asks (inverse (faced way x)) t) (Some t) None)) h ∙ ap (λ b. cond b (Some next) None) astray)
+
+-- where no cursor is asked for, that is unwinding
+pub text_back-unwind : (es : List Entry) (text : List ℕ) → text_back false es text ≡ unwind es text
+text_back-unwind [] text = refl
+text_back-unwind (e ∷ es) text = ap (option_and_then (text_after false (inverse e))) (text_back-unwind es text) ∙ from (unwind es text)
+  where
+    from : (o : Option (List ℕ)) → option_and_then (text_after false (inverse e)) o ≡ option_and_then (apply (event_of (inverse e))) o
+    from None = refl
+    from (Some t) = then_some (apply (event_of (inverse e)) t)
+
+-- the test of a cursor that was told
+pub cursor_stands-told : (asks : Bool) (e : Entry) (text : List ℕ) (cursor : ℕ) (b : Bool) → asks ≡ true → cursor_told e ≡ Some cursor
+    → (b ≡ true → IsCharBoundary text cursor) × (IsCharBoundary text cursor → b ≡ true) → b ≡ cursor_stands asks e text
+cursor_stands-told false e text cursor b asked told test = cc
+cursor_stands-told true e text cursor b asked told test = from b refl ∙ ap (λ o. option_map_or (is_boundary text) o true) (sym told)
+  where
+    from : (c : Bool) → b ≡ c → b ≡ is_boundary text cursor
+    from true is = is ∙ sym (is_boundary-true text cursor (test.0 is))
+    from false is = is ∙ no (is_boundary text cursor) refl
+      where
+        no : (d : Bool) → is_boundary text cursor ≡ d → false ≡ d
+        no false k = refl
+        no true k = let t = test.1 (is_boundary-means text cursor k) in cc

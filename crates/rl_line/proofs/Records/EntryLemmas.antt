@@ -1,0 +1,249 @@
+-- Entries in the list of the code: counting them, and closing groups.
+use Rattle.std.proofs.Common.{◌≡◌, ℕ, ◌+◌, ◌-◌, ◌<◌, ◌≤◌, arith, suc, List, [], ◌∷◌, ◌++◌, length, take, drop, add-one, drop-cons, get_or, map, reverse, refl, sym, ap, ◌∙◌, ◌⊎◌, inl, inr}
+use Rattle.std.proofs.lemmas.Grind.{take_at_read}
+use Rattle.std.proofs.lemmas.List.{map-append, reverse-append, drop_all}
+use Rattle.std.specs.Prelude.{zero, max, slice_get, cond, IsSome, Bool, true, false, not, ◌||◌, Option, Some, None}
+use Rattle.std.specs.Option.{option_to_list}
+use Rattle.rl_line.specs.declared.change.Change.{Change}
+use Rattle.rl_line.specs.Record.{Entry, Begin, End, Changed, entry_of}
+use Rattle.rl_line.specs.Units.{last_of, redo_of, adds_end, end_one, end_times, ends_in_begin, is_begin, is_change, IsMatched}
+use Rattle.rl_line.specs.Entries.{deep}
+use Rattle.rl_line.proofs.Records.Counts.{ahead_len, back_len}
+use Rattle.rl_line.proofs.Records.CountLemmas.{last-counted, redo-counted}
+use Rattle.rl_line.proofs.Records.RecordLemmas.{value_of}
+use Rattle.rl_line.proofs.Records.UnitLemmas.{last_of-change, redo_of-change}
+use Rattle.std.proofs.lemmas.Option.{same_Some}
+
+-- the entries before a place, the last first, with one entry more
+back-read : (xs : List Change) (m : ℕ) (z x : Change) → m < length xs → get_or xs m z ≡ x
+    → reverse (map entry_of (take (m + 1) xs)) ≡ entry_of x ∷ reverse (map entry_of (take m xs))
+back-read xs m z x lt e =
+    ap (λ ys. reverse (map entry_of ys)) ((take_at_read xs m z lt).1 ∙ ap (λ y. take m xs ++ y ∷ []) e)
+    ∙ ap reverse (map-append entry_of (take m xs) (x ∷ []))
+    ∙ reverse-append (map entry_of (take m xs)) (entry_of x ∷ [])
+
+pub back_len-nil : (d k : ℕ) → back_len d k [] ≡ 0
+back_len-nil zero zero = refl
+back_len-nil zero (suc k) = refl
+back_len-nil (suc d) k = refl
+
+-- one entry less to go
+pub count-step : (xs : List Change) (at d k d' k' total : ℕ) (z x : Change) → 0 < at → at ≤ length xs → get_or xs (at - 1) z ≡ x
+    → ((rs : List Entry) → back_len d k (entry_of x ∷ rs) ≡ suc (back_len d' k' rs))
+    → (length xs - at) + back_len d k (reverse (map entry_of (take at xs))) ≡ total
+    → (length xs - (at - 1)) + back_len d' k' (reverse (map entry_of (take (at - 1) xs))) ≡ total
+count-step xs at d k d' k' total z x pos le e step h =
+    let m : (at - 1) + 1 ≡ at = omega arith in
+    let lt : at - 1 < length xs = omega arith in
+    let read : reverse (map entry_of (take at xs)) ≡ entry_of x ∷ reverse (map entry_of (take (at - 1) xs)) =
+    ap (λ n. reverse (map entry_of (take n xs))) (sym m) ∙ back-read xs (at - 1) z x lt e in
+    let one : back_len d k (reverse (map entry_of (take at xs))) ≡ suc (back_len d' k' (reverse (map entry_of (take (at - 1) xs)))) =
+    ap (back_len d k) read ∙ step (reverse (map entry_of (take (at - 1) xs))) in
+    omega arith
+
+pub step-end0 : (d k : ℕ) (rs : List Entry) → d ≡ 0 → 0 < k → back_len d k (End ∷ rs) ≡ suc (back_len (d + 1) (k - 1) rs)
+step-end0 zero zero rs e lt = absurd (omega arith)
+step-end0 zero (suc k) rs e lt = let same : k ≡ suc k - 1 = omega arith in ap (λ n. suc (back_len 1 n rs)) same
+step-end0 (suc d) k rs e lt = absurd (omega arith)
+
+pub step-end : (d k : ℕ) (rs : List Entry) → 0 < d → back_len d k (End ∷ rs) ≡ suc (back_len (d + 1) k rs)
+step-end zero k rs lt = absurd (omega arith)
+step-end (suc d) k rs lt = let same : suc (suc d) ≡ suc d + 1 = omega arith in ap (λ n. suc (back_len n k rs)) same
+
+pub step-begin : (d k : ℕ) (rs : List Entry) → 0 < d → back_len d k (Begin ∷ rs) ≡ suc (back_len (d - 1) k rs)
+step-begin zero k rs lt = absurd (omega arith)
+step-begin (suc d) k rs lt = let same : d ≡ suc d - 1 = omega arith in ap (λ n. suc (back_len n k rs)) same
+
+-- nothing is left to count
+pub count-end : (xs : List Change) (at d k n : ℕ) → IsMatched (map entry_of xs) → (at ≡ 0) ⊎ ((d ≡ 0) × (k ≡ 0))
+    → (length xs - at) + back_len d k (reverse (map entry_of (take at xs))) ≡ back_len 0 (max n 1) (reverse (map entry_of xs))
+    → length xs - at ≡ length (last_of n (map entry_of xs))
+count-end xs at d k n m done h =
+    let none : back_len d k (reverse (map entry_of (take at xs))) ≡ 0 = elim done [ inl e ↦ at_start e | inr e ↦ all_taken e.0 e.1 ] in
+    let all : length xs - at ≡ back_len 0 (max n 1) (reverse (map entry_of xs)) = (omega arith) in
+    all ∙ last-counted n (map entry_of xs) m
+  where
+    at_start : at ≡ 0 → back_len d k (reverse (map entry_of (take at xs))) ≡ 0
+    at_start e = ap (λ a. back_len d k (reverse (map entry_of (take a xs)))) e ∙ back_len-nil d k
+
+    all_taken : d ≡ 0 → k ≡ 0 → back_len d k (reverse (map entry_of (take at xs))) ≡ 0
+    all_taken e f = ap (λ a. back_len a k (reverse (map entry_of (take at xs)))) e ∙ ap (λ a. back_len 0 a (reverse (map entry_of (take at xs)))) f
+
+-- ---- counting what is open
+pub deep-append : (d : ℕ) (xs ys : List Entry) → deep d (xs ++ ys) ≡ deep (deep d xs) ys
+deep-append d [] ys = refl
+deep-append d (Begin ∷ xs) ys = deep-append (suc d) xs ys
+deep-append d (End ∷ xs) ys = deep-append (d - 1) xs ys
+deep-append d (Changed k c ∷ xs) ys = deep-append d xs ys
+
+-- with the entry at i
+pub deep-next : (xs : List Change) (i n : ℕ) (x : Change) → i < length xs → x ≡ get_or xs i x → n ≡ deep 0 (map entry_of (take i xs))
+    → deep 0 (map entry_of (take (i + 1) xs)) ≡ deep n (entry_of x ∷ [])
+deep-next xs i n x lt is e =
+    ap (λ ys. deep 0 (map entry_of ys)) ((take_at_read xs i x lt).1 ∙ ap (λ y. take i xs ++ y ∷ []) (sym is))
+    ∙ ap (deep 0) (map-append entry_of (take i xs) (x ∷ []))
+    ∙ deep-append 0 (map entry_of (take i xs)) (entry_of x ∷ []) ∙ ap (λ d. deep d (entry_of x ∷ [])) (sym e)
+
+-- ---- counting ahead
+-- what is left to count where d groups are open: nothing where none is
+abbrev pub rest_len : ℕ → List Entry → ℕ
+rest_len zero rs = 0
+rest_len (suc d) rs = ahead_len (suc d) rs
+
+ahead-step : (d : ℕ) (e : Entry) (rs : List Entry) → ahead_len d (e ∷ rs) ≡ suc (rest_len (deep d (e ∷ [])) rs)
+ahead-step zero Begin rs = refl
+ahead-step (suc d) Begin rs = refl
+ahead-step zero End rs = refl
+ahead-step (suc zero) End rs = refl
+ahead-step (suc (suc d)) End rs = let one : suc d ≡ suc (suc d) - 1 = omega arith in ap (λ k. suc (rest_len k rs)) one
+ahead-step zero (Changed k c) rs = refl
+ahead-step (suc d) (Changed k c) rs = refl
+
+-- the first `at` entries were counted: so many groups are open after them, and the whole unit has as many entries as these and what is left of it
+pub record Counted (xs : List Change) (at d : ℕ) : Type 0 where
+  pub within : at ≤ length xs
+  pub small : d ≤ at
+  pub unit : at + ahead_len d (map entry_of (drop at xs)) ≡ ahead_len 0 (map entry_of xs)
+
+-- the entries from `at` on are the one there and those after it
+front-read : (xs : List Change) (at : ℕ) (x : Change) → at < length xs → x ≡ get_or xs at x → map entry_of (drop at xs) ≡ entry_of x ∷ map entry_of (drop (at + 1) xs)
+front-read xs at x lt is =
+    ap (map entry_of) (drop-cons xs at x lt) ∙ ap (λ (y : Change). entry_of y ∷ map entry_of (drop (suc at) xs)) (sym is)
+    ∙ ap (λ k. entry_of x ∷ map entry_of (drop k xs)) (sym (add-one at))
+
+next-unit : (xs : List Change) (at d : ℕ) (x : Change) → at < length xs → x ≡ get_or xs at x → Counted xs at d
+    → (at + 1) + rest_len (deep d (entry_of x ∷ [])) (map entry_of (drop (at + 1) xs)) ≡ ahead_len 0 (map entry_of xs)
+next-unit xs at d x lt is c =
+    let rest = map entry_of (drop (at + 1) xs) in
+    let one : ahead_len d (map entry_of (drop at xs)) ≡ suc (rest_len (deep d (entry_of x ∷ [])) rest) = ap (ahead_len d) (front-read xs at x lt is) ∙ ahead-step d (entry_of x) rest in
+    omega (arith, one, c.unit)
+
+-- one entry more, where groups are open after it
+pub Counted-next : (xs : List Change) (at d n : ℕ) (x : Change) → at < length xs → x ≡ get_or xs at x → Counted xs at d
+    → n ≡ deep d (entry_of x ∷ []) → n ≤ d + 1 → 0 < n → Counted xs (at + 1) n
+Counted-next xs at d zero x lt is c e small some = absurd (omega arith)
+Counted-next xs at d (suc n) x lt is c e small some = record {
+  within = omega arith;
+  small = omega (arith, c.small);
+  unit = ap (λ k. (at + 1) + rest_len k (map entry_of (drop (at + 1) xs))) e ∙ next-unit xs at d x lt is c;
+}
+
+-- the unit ends where no group is open after an entry, or where no entry is left
+pub Counted-end : (xs : List Change) (at d : ℕ) (x : Change) → IsMatched (map entry_of xs) → at < length xs → x ≡ get_or xs at x → Counted xs at d
+    → 0 ≡ deep d (entry_of x ∷ []) → at + 1 ≡ length (redo_of (map entry_of xs))
+Counted-end xs at d x m lt is c e =
+    let all = ap (λ k. (at + 1) + rest_len k (map entry_of (drop (at + 1) xs))) e ∙ next-unit xs at d x lt is c in
+    (omega arith) ∙ all ∙ redo-counted (map entry_of xs) m
+
+pub Counted-all : (xs : List Change) (at d : ℕ) → length xs ≤ at → IsMatched (map entry_of xs) → Counted xs at d → at ≡ length (redo_of (map entry_of xs))
+Counted-all xs at d past m c =
+    let none : ahead_len d (map entry_of (drop at xs)) ≡ 0 = ap (λ ys. ahead_len d (map entry_of ys)) (drop_all at xs past) ∙ nothing d in
+    omega (arith, none, c.unit, redo-counted (map entry_of xs) m)
+  where
+    nothing : (d : ℕ) → ahead_len d [] ≡ 0
+    nothing zero = refl
+    nothing (suc d) = refl
+
+-- ---- closing groups
+abbrev pub begins : Option Change → Bool
+begins None = false
+begins (Some x) = is_begin (entry_of x)
+
+two : (n : ℕ) → suc (suc n) - 1 ≡ suc (suc n - 1)
+two n = omega arith
+
+-- the last entry tells
+pub ends-at : (xs : List Change) (o : Option Change) → o ≡ slice_get xs (length xs - 1) → ends_in_begin (map entry_of xs) ≡ begins o
+ends-at [] o e = ap begins (sym e)
+ends-at (x ∷ []) o e = ap begins (sym e)
+ends-at (x ∷ (y ∷ ys)) o e = ends-at (y ∷ ys) o (e ∙ ap (slice_get (x ∷ (y ∷ ys))) (two (length ys)))
+
+-- a Begin at the end goes
+takes_begin-off : (xs : List Entry) (e : Entry) → ends_in_begin (xs ++ e ∷ []) ≡ true → xs ≡ end_one (xs ++ e ∷ [])
+takes_begin-off [] e h = sym (ap (λ b. cond b [] (e ∷ (End ∷ []))) h)
+takes_begin-off (x ∷ []) e h = ap (λ l. x ∷ l) (takes_begin-off [] e h)
+takes_begin-off (x ∷ (y ∷ ys)) e h = ap (λ l. x ∷ l) (takes_begin-off (y ∷ ys) e h)
+
+-- after another entry comes an End
+adds_end-after : (xs : List Entry) → ends_in_begin xs ≡ false → xs ++ End ∷ [] ≡ end_one xs
+adds_end-after [] h = refl
+adds_end-after (x ∷ []) h = sym (ap (λ b. cond b [] (x ∷ (End ∷ []))) h)
+adds_end-after (x ∷ (y ∷ ys)) h = ap (λ l. x ∷ l) (adds_end-after (y ∷ ys) h)
+
+-- a Begin that is popped, and an End that is pushed
+pub end_one-popped : (xs ys : List Change) (o : Option Change) → xs ≡ ys ++ option_to_list o → (0 < length xs → IsSome o) → ends_in_begin (map entry_of xs) ≡ true
+    → map entry_of ys ≡ end_one (map entry_of xs)
+end_one-popped [] ys o e some h = cc
+end_one-popped (x ∷ xs) ys o e some h =
+    let y = value_of o (some (omega arith)) in
+    let last : map entry_of (x ∷ xs) ≡ map entry_of ys ++ entry_of y.0 ∷ [] = ap (map entry_of) (e ∙ ap (λ p. ys ++ option_to_list p) y.1) ∙ map-append entry_of ys (y.0 ∷ []) in
+    takes_begin-off (map entry_of ys) (entry_of y.0) (ap ends_in_begin (sym last) ∙ h) ∙ ap end_one (sym last)
+
+pub end_one-pushed : (xs ys : List Change) (x : Change) → ys ≡ xs ++ x ∷ [] → entry_of x ≡ End → ends_in_begin (map entry_of xs) ≡ false → map entry_of ys ≡ end_one (map entry_of xs)
+end_one-pushed xs ys x e end h =
+    ap (map entry_of) e ∙ map-append entry_of xs (x ∷ []) ∙ ap (λ (y : Entry). map entry_of xs ++ y ∷ []) end ∙ adds_end-after (map entry_of xs) h
+
+-- one group less to close
+pub closes-next : (count i : ℕ) (es next all : List Entry) → i < count → next ≡ end_one es → end_times (count - i) es ≡ all → end_times (count - (i + 1)) next ≡ all
+closes-next count i es next all lt e h =
+    let k : suc (count - (i + 1)) ≡ count - i = omega arith in
+    ap (end_times (count - (i + 1))) e ∙ ap (λ n. end_times n es) k ∙ h
+
+-- where closing fewer groups adds an End, closing all does
+pub adds-more : (count i : ℕ) (es next : List Entry) → i < count → next ≡ end_one es → adds_end (count - (i + 1)) next ≡ true → adds_end (count - i) es ≡ true
+adds-more count i es next lt e h =
+    let k : suc (count - (i + 1)) ≡ count - i = omega arith in
+    ap (λ n. adds_end n es) (sym k) ∙ ap (λ l. not (ends_in_begin es) || adds_end (count - (i + 1)) l) (sym e) ∙ ap (λ b. not (ends_in_begin es) || b) h ∙ or-true (not (ends_in_begin es))
+  where
+    or-true : (b : Bool) → (b || true) ≡ true
+    or-true true = refl
+    or-true false = refl
+
+-- so does closing one that is not empty
+pub adds-here : (n : ℕ) (es : List Entry) → 0 < n → ends_in_begin es ≡ false → adds_end n es ≡ true
+adds-here zero es some h = absurd (omega (arith, some))
+adds-here (suc n) es some h = ap (λ b. not b || adds_end n (end_one es)) h
+
+ends_in-last : (ys : List Entry) (e : Entry) → ends_in_begin (ys ++ e ∷ []) ≡ is_begin e
+ends_in-last [] e = refl
+ends_in-last (x ∷ []) e = refl
+ends_in-last (x ∷ (y ∷ ys)) e = ends_in-last (y ∷ ys) e
+
+take-last : (xs : List Change) (m : ℕ) (x : Change) → m < length xs → x ≡ get_or xs m x → map entry_of (take (m + 1) xs) ≡ map entry_of (take m xs) ++ entry_of x ∷ []
+take-last xs m x lt e =
+    ap (map entry_of) ((take_at_read xs m x lt).1 ∙ ap (λ y. take m xs ++ y ∷ []) (sym e)) ∙ map-append entry_of (take m xs) (x ∷ [])
+
+-- a Begin before a place leaves one group less to close, and any other entry gets an End
+pub adds-off : (xs : List Change) (m n : ℕ) (x : Change) → m < length xs → x ≡ get_or xs m x → 0 < n → is_begin (entry_of x) ≡ true
+    → adds_end n (map entry_of (take (m + 1) xs)) ≡ adds_end (n - 1) (map entry_of (take m xs))
+adds-off xs m zero x lt e some h = absurd (omega (arith, some))
+adds-off xs m (suc n) x lt e some h =
+    let k : suc n - 1 ≡ n = omega arith in
+    let ys = map entry_of (take m xs) in
+    let last = ends_in-last ys (entry_of x) ∙ h in
+    ap (adds_end (suc n)) (take-last xs m x lt e) ∙ ap (λ b. not b || adds_end n (end_one (ys ++ entry_of x ∷ []))) last
+    ∙ ap (adds_end n) (sym (takes_begin-off ys (entry_of x) last)) ∙ ap (λ j. adds_end j ys) (sym k)
+
+pub adds-before : (xs : List Change) (m n : ℕ) (x : Change) → m < length xs → x ≡ get_or xs m x → 0 < n → is_begin (entry_of x) ≡ false
+    → adds_end n (map entry_of (take (m + 1) xs)) ≡ true
+adds-before xs m n x lt e some h =
+    adds-here n _ some (ap ends_in_begin (take-last xs m x lt e) ∙ ends_in-last (map entry_of (take m xs)) (entry_of x) ∙ h)
+
+-- ---- one change alone
+-- the last entry of the list
+last-split : (xs : List Change) (x : Change) → Some x ≡ slice_get xs (length xs - 1) → (front : List Change) × (xs ≡ front ++ x ∷ [])
+last-split [] x e = cc
+last-split (y ∷ []) x e = ([], ap (λ z. z ∷ []) (same_Some y x (sym e)))
+last-split (y ∷ (z ∷ zs)) x e =
+    let p = last-split (z ∷ zs) x (e ∙ ap (slice_get (y ∷ (z ∷ zs))) (two (length zs))) in (y ∷ p.0, ap (λ l. y ∷ l) p.1)
+
+pub last-alone : (n : ℕ) (xs : List Change) (x : Change) → n ≤ 1 → Some x ≡ slice_get xs (length xs - 1) → is_change (entry_of x) ≡ true → last_of n (map entry_of xs) ≡ entry_of x ∷ []
+last-alone n xs x few e is =
+    let p = last-split xs x e in
+    ap (λ ys. last_of n (map entry_of ys)) p.1 ∙ ap (last_of n) (map-append entry_of p.0 (x ∷ [])) ∙ last_of-change n (entry_of x) (map entry_of p.0) few is
+
+pub next-alone : (xs : List Change) (x : Change) → Some x ≡ slice_get xs 0 → is_change (entry_of x) ≡ true → IsMatched (map entry_of xs) → redo_of (map entry_of xs) ≡ entry_of x ∷ []
+next-alone [] x e is m = cc
+next-alone (y ∷ ys) x e is m =
+    let same : x ≡ y = same_Some x y e in
+    redo_of-change (entry_of y) (map entry_of ys) (ap (λ z. is_change (entry_of z)) (sym same) ∙ is) m ∙ ap (λ z. entry_of z ∷ []) (sym same)

@@ -1,0 +1,232 @@
+-- Groups: where an End stands its group stands before it, and a group without a change leaves no trace.
+use Rattle.std.proofs.Common.{◌≡◌, ℕ, ◌+◌, suc, Bool, true, false, List, [], ◌∷◌, ◌++◌, length, drop, Some, refl, sym, ap, subst, ◌∙◌, arith, append-nil, append_assoc, add-zero}
+use Rattle.std.specs.Prelude.{IsSome, zero, not, ◌||◌}
+use Rattle.rl_base.specs.Event.{Event, InsertChar, InsertStr, Delete, Replace, Start, Stop, Cursors}
+use Rattle.rl_line.specs.Record.{Entry, Begin, End, Changed, Record, entries_after, record_step, last_told}
+use Rattle.rl_line.specs.Units.{UndoUnit, Open, Whole, close, units, together, opens, level, has_change, is_change, end_one, end_times, ends_in_begin, adds_end, begun, ended, marks, mark, IsMatched, GroupAt, InGroup, Hears, Begins, after_in_group}
+use Rattle.rl_line.proofs.Records.RecordLemmas.{value_of}
+use Rattle.rl_line.proofs.Records.UnitLemmas.{AllGood, AllGood-left, or_true, together-append, Settles, flags_on, cut_good, cut_more-append, good_cuts, units-good, together-units, IsMatched-front, IsMatched-together}
+use Rattle.rl_line.proofs.Records.MatchLemmas.{marks-last, level-is, end_one-cons, IsMatched-after, IsMatched-begin}
+use Rattle.rl_line.proofs.Records.ToldLemmas.{recorded-cases, last_told-marks, last_told-begin}
+
+pub has_change-append : (xs ys : List Entry) → has_change (xs ++ ys) ≡ has_change xs || has_change ys
+has_change-append [] ys = refl
+has_change-append (x ∷ xs) ys = ap (λ b. is_change x || b) (has_change-append xs ys) ∙ or_assoc (is_change x) (has_change xs) (has_change ys)
+  where
+    or_assoc : (a b c : Bool) → (a || (b || c)) ≡ ((a || b) || c)
+    or_assoc true b c = refl
+    or_assoc false b c = refl
+
+-- without a change no group holds one
+quiet : List Bool → Bool
+quiet [] = false
+quiet (b ∷ bs) = b || quiet bs
+
+stays_quiet : (es : List Entry) (fs gs : List Bool) → has_change es ≡ false → quiet fs ≡ false → marks es fs ≡ Some gs → quiet gs ≡ false
+unfolding quiet
+stays_quiet [] fs gs c q h = let e : fs ≡ gs = cc in ap quiet (sym e) ∙ q
+stays_quiet (Begin ∷ es) fs gs c q h = stays_quiet es (false ∷ fs) gs c q h
+stays_quiet (End ∷ es) [] gs c q h = cc
+stays_quiet (End ∷ es) (false ∷ fs) gs c q h = cc
+stays_quiet (End ∷ es) (true ∷ fs) gs c q h = cc
+stays_quiet (Changed k s ∷ es) fs gs c q h = cc
+
+Settles-change : (es : List Entry) → Settles es → has_change es ≡ true
+unfolding quiet
+Settles-change es s = go (has_change es) refl
+  where
+    go : (b : Bool) → has_change es ≡ b → has_change es ≡ true
+    go true e = e
+    go false e = let q = stays_quiet es (false ∷ []) (true ∷ []) e refl (s.flags (false ∷ [])) in cc
+
+-- what a close makes: whole units stand between the Begin and the End
+pub record Closes (us : List UndoUnit) (inner : List Entry) : Type 0 where
+  pub within : List UndoUnit
+  pub others : List UndoUnit
+  pub units_are : us ≡ within ++ (Open ∷ others)
+  pub whole : opens within ≡ 0
+  pub is : close inner us ≡ Whole (Begin ∷ ((together within ++ inner) ++ (End ∷ []))) ∷ others
+
+closes : (us : List UndoUnit) (inner : List Entry) (n : ℕ) → opens us ≡ suc n → Closes us inner
+closes [] inner n h = absurd (omega arith)
+closes (Open ∷ us) inner n h = record { within = []; others = us; units_are = refl; whole = refl; is = refl }
+closes (Whole es ∷ us) inner n h =
+    let r = closes us (es ++ inner) n h in
+    record {
+      within = Whole es ∷ r.within;
+      others = r.others;
+      units_are = ap (λ x. Whole es ∷ x) r.units_are;
+      whole = r.whole;
+      is = r.is ∙ ap (λ x. Whole (Begin ∷ (x ++ (End ∷ []))) ∷ r.others) (sym (append_assoc (together r.within) es inner));
+    }
+
+-- where an End may stand, a group with a change stands before it
+pub group_at : (xs : List Entry) → IsMatched (xs ++ (End ∷ [])) → GroupAt xs
+group_at xs h =
+    let s = value_of (marks (xs ++ (End ∷ [])) []) h in
+    let l = marks-last xs End s.0 s.1 in
+    top l.0 s.0 l.1 l.2
+  where
+    good : AllGood (units xs)
+    good = units-good xs (IsMatched-front xs (End ∷ []) h)
+
+    changes : (within others : List UndoUnit) (fs : List Bool) → AllGood within → opens within ≡ 0 → flags_on (within ++ (Open ∷ others)) [] ≡ true ∷ fs → has_change (together within) ≡ true
+    changes [] others fs g o e = cc
+    changes (Open ∷ ws) others fs g o e = absurd (omega arith)
+    changes (Whole es ∷ ws) others fs g o e =
+        has_change-append (together ws) es ∙ ap (λ b. has_change (together ws) || b) (Settles-change es g.0) ∙ or_true (has_change (together ws))
+
+    made : (fs : List Bool) → flags_on (units xs) [] ≡ true ∷ fs → Closes (units xs) [] → GroupAt xs
+    made fs e r =
+        let pieces = subst AllGood r.units_are good in
+        let inside = AllGood-left r.within (Open ∷ r.others) pieces in
+        record {
+          before = together r.others;
+          inner = together r.within;
+          is = sym (together-units xs) ∙ ap together r.units_are ∙ together-append r.within (Open ∷ r.others) ∙ append_assoc (together r.others) (Begin ∷ []) (together r.within);
+          matched = IsMatched-together r.within inside;
+          closed = ap opens (good_cuts r.within [] inside ∙ append-nil r.within) ∙ r.whole;
+          changed = changes r.within r.others fs inside r.whole (ap (λ us. flags_on us []) (sym r.units_are) ∙ e);
+        }
+
+    top : (fs gs : List Bool) → marks xs [] ≡ Some fs → mark End fs ≡ Some gs → GroupAt xs
+    top [] gs k j = cc
+    top (false ∷ fs) gs k j = cc
+    top (true ∷ fs) gs k j =
+        made fs (cut_good xs [] (true ∷ fs) tt k).1 (closes (units xs) [] (length fs) (level-is xs (true ∷ fs) k ∙ (omega arith)))
+
+-- ---- a group without a change
+-- n groups, opened one after another
+begins : ℕ → List Entry
+begins zero = []
+begins (suc n) = Begin ∷ begins n
+
+begins-last : (n : ℕ) → begins (suc n) ≡ begins n ++ Begin ∷ []
+unfolding begins
+begins-last zero = refl
+begins-last (suc n) = ap (λ x. Begin ∷ x) (begins-last n)
+
+all_begins : (es : List Entry) (fs : List Bool) → has_change es ≡ false → quiet fs ≡ false → IsSome (marks es fs) → es ≡ begins (length es)
+unfolding begins quiet
+all_begins [] fs c q h = refl
+all_begins (Begin ∷ es) fs c q h = ap (λ x. Begin ∷ x) (all_begins es (false ∷ fs) c q h)
+all_begins (End ∷ es) [] c q h = cc
+all_begins (End ∷ es) (false ∷ fs) c q h = cc
+all_begins (End ∷ es) (true ∷ fs) c q h = cc
+all_begins (Changed k s ∷ es) fs c q h = cc
+
+-- a Begin at the end is what an end takes off
+end_one-begin : (es : List Entry) → end_one (es ++ Begin ∷ []) ≡ es
+end_one-begin [] = refl
+end_one-begin (e ∷ []) = end_one-cons e Begin []
+end_one-begin (e ∷ (d ∷ ds)) = end_one-cons e d (ds ++ Begin ∷ []) ∙ ap (λ x. e ∷ x) (end_one-begin (d ∷ ds))
+
+ends_in_begin-begin : (es : List Entry) → ends_in_begin (es ++ Begin ∷ []) ≡ true
+ends_in_begin-begin [] = refl
+ends_in_begin-begin (Begin ∷ []) = refl
+ends_in_begin-begin (End ∷ []) = refl
+ends_in_begin-begin (Changed k c ∷ []) = refl
+ends_in_begin-begin (Begin ∷ (d ∷ ds)) = ends_in_begin-begin (d ∷ ds)
+ends_in_begin-begin (End ∷ (d ∷ ds)) = ends_in_begin-begin (d ∷ ds)
+ends_in_begin-begin (Changed k c ∷ (d ∷ ds)) = ends_in_begin-begin (d ∷ ds)
+
+-- groups opened after entries: how many are open, and what their ends do
+record OpenAfter (es : List Entry) (n : ℕ) (all : List Entry) : Type 0 where
+  level_is : level all ≡ n + level es
+  ends : end_times n all ≡ es
+  adds : adds_end n all ≡ false
+
+open_after : (es : List Entry) (n : ℕ) → OpenAfter es n (es ++ begins n)
+unfolding begins
+open_after es zero = subst (OpenAfter es 0) (sym (append-nil es)) (record { level_is = omega arith; ends = refl; adds = refl })
+open_after es (suc n) =
+    let b = open_after es n in
+    let last : es ++ begins (suc n) ≡ (es ++ begins n) ++ Begin ∷ [] = ap (λ x. es ++ x) (begins-last n) ∙ sym (append_assoc es (begins n) (Begin ∷ [])) in
+    let up : level ((es ++ begins n) ++ Begin ∷ []) ≡ suc (level (es ++ begins n)) = ap opens (cut_more-append [] (es ++ begins n) (Begin ∷ [])) in
+    subst (OpenAfter es (suc n)) (sym last)
+    (record {
+      level_is = up ∙ ap suc b.level_is ∙ (omega arith);
+      ends = ap (end_times n) (end_one-begin (es ++ begins n)) ∙ b.ends;
+      adds = ap (λ x. not x || adds_end n (end_one ((es ++ begins n) ++ Begin ∷ []))) (ends_in_begin-begin (es ++ begins n)) ∙ ap (adds_end n) (end_one-begin (es ++ begins n)) ∙ b.adds;
+    })
+
+-- what happens after a Begin happens to what stands after it
+entries_after-begin : (event : Event) (ys : List Entry) → entries_after event (Begin ∷ ys) ≡ Begin ∷ entries_after event ys
+entries_after-begin (InsertChar i c) [] = refl
+entries_after-begin (InsertStr i s) [] = refl
+entries_after-begin (Delete i s side) [] = refl
+entries_after-begin (Replace i s t) [] = refl
+entries_after-begin Start [] = refl
+entries_after-begin Stop [] = refl
+entries_after-begin (Cursors b a) [] = refl
+entries_after-begin event (y ∷ ys) = refl
+
+entries_after-inside : (event : Event) (xs ys : List Entry) → entries_after event (xs ++ Begin ∷ ys) ≡ xs ++ Begin ∷ entries_after event ys
+entries_after-inside event [] ys = entries_after-begin event ys
+entries_after-inside event (x ∷ []) ys = ap (λ l. x ∷ l) (entries_after-begin event ys)
+entries_after-inside event (x ∷ (z ∷ zs)) ys = ap (λ l. x ∷ l) (entries_after-inside event (z ∷ zs) ys)
+
+-- what stands in the record after the Begin of an open group
+pub record InsideOf (front es : List Entry) : Type 0 where
+  pub inner : List Entry
+  pub is : es ≡ front ++ Begin ∷ inner
+  pub matched : IsMatched inner
+
+abbrev pub Inside : List Entry → Record → Type 0
+Inside front r = InsideOf front r.recorded
+
+pub Inside-event : (event : Event) (front : List Entry) (r : Record) → Inside front r → Inside front (record_step r event)
+unfolding record_step
+Inside-event event front r k =
+    recorded-cases (λ es. InsideOf front es) event r
+    (record {
+      inner = entries_after event k.inner;
+      is = ap (entries_after event) k.is ∙ entries_after-inside event front k.inner;
+      matched = IsMatched-after event k.inner k.matched;
+    })
+    (λ es p i. record {
+      inner = last_told p i.inner;
+      is = ap (last_told p) i.is ∙ last_told-begin p front i.inner;
+      matched = subst IsSome (sym (last_told-marks p i.inner [])) i.matched;
+    })
+
+pub Inside-begun : (front : List Entry) (r : Record) → Inside front r → Inside front (begun r)
+Inside-begun front r k = record {
+  inner = k.inner ++ Begin ∷ [];
+  is = ap (λ x. x ++ Begin ∷ []) k.is ∙ append_assoc front (Begin ∷ k.inner) (Begin ∷ []);
+  matched = IsMatched-begin k.inner k.matched;
+}
+
+Inside-steps : (steps : List InGroup) (front : List Entry) (r : Record) → Inside front r → Inside front (after_in_group steps r)
+Inside-steps [] front r k = k
+Inside-steps (Hears event ∷ steps) front r k = Inside-steps steps front (record_step r event) (Inside-event event front r k)
+Inside-steps (Begins ∷ steps) front r k = Inside-steps steps front (begun r) (Inside-begun front r k)
+
+pub past_begin : (xs ys : List Entry) → drop (suc (length xs)) (xs ++ Begin ∷ ys) ≡ ys
+past_begin [] ys = refl
+past_begin (x ∷ xs) ys = past_begin xs ys
+
+-- where no change was recorded after the begin, all that stands there is a Begin
+open_groups : (r : Record) (steps : List InGroup) → level r.recorded ≡ 0
+    → has_change (drop (suc (length r.recorded)) (after_in_group steps (begun r)).recorded) ≡ false
+    → OpenAfter r.recorded (level (after_in_group steps (begun r)).recorded) (after_in_group steps (begun r)).recorded
+unfolding begins quiet
+open_groups r steps none c =
+    let k = Inside-steps steps r.recorded (begun r) (record { inner = []; is = refl; matched = refl }) in
+    let inner_is : drop (suc (length r.recorded)) (after_in_group steps (begun r)).recorded ≡ k.inner = ap (drop (suc (length r.recorded))) k.is ∙ past_begin r.recorded k.inner in
+    let all = all_begins k.inner [] (ap has_change (sym inner_is) ∙ c) refl k.matched in
+    let n = suc (length k.inner) in
+    let is : r.recorded ++ begins n ≡ (after_in_group steps (begun r)).recorded = sym (k.is ∙ ap (λ x. r.recorded ++ Begin ∷ x) all) in
+    let o = subst (OpenAfter r.recorded n) is (open_after r.recorded n) in
+    subst (λ m. OpenAfter r.recorded m (after_in_group steps (begun r)).recorded) (sym (o.level_is ∙ ap (λ m. n + m) none ∙ add-zero n)) o
+
+-- its end leaves what was recorded before its begin, and adds no End
+pub group-empty : (r : Record) (steps : List InGroup) → level r.recorded ≡ 0
+    → has_change (drop (suc (length r.recorded)) (after_in_group steps (begun r)).recorded) ≡ false
+    → (ended (after_in_group steps (begun r))).recorded ≡ r.recorded
+group-empty r steps none c = (open_groups r steps none c).ends
+
+pub group-empty-end : (r : Record) (steps : List InGroup) → level r.recorded ≡ 0
+    → has_change (drop (suc (length r.recorded)) (after_in_group steps (begun r)).recorded) ≡ false
+    → adds_end (level (after_in_group steps (begun r)).recorded) (after_in_group steps (begun r)).recorded ≡ false
+group-empty-end r steps none c = (open_groups r steps none c).adds

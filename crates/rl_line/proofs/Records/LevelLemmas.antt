@@ -1,0 +1,178 @@
+-- The level: how many groups are open after each call, counted over the entries that it moves or drops alone.
+use Rattle.std.proofs.Common.{◌≡◌, ℕ, ◌+◌, ◌-◌, ◌<◌, ◌≤◌, suc, arith, Bool, true, false, List, [], ◌∷◌, ◌++◌, length, take, drop, take_all, get_or, map, Option, Some, None, refl, sym, ap, subst, ◌∙◌, leb, inl, inr, length-take}
+use Rattle.std.proofs.lemmas.Bool.{leb-true, leb-false}
+use Rattle.std.proofs.lemmas.Grind.{take_at_read}
+use Rattle.std.proofs.lemmas.List.{length-map, map-append, take-append-drop, take-map}
+use Rattle.std.specs.Option.{option_map_or}
+use Rattle.std.specs.Prelude.{max}
+use Rattle.rl_base.specs.Event.{Event}
+use Rattle.rl_line.specs.declared.change.Change.{Change}
+use Rattle.rl_line.specs.Record.{Entry, Begin, End, Changed, Record, entries_after, entries_of, entry_of, joined, record_step, recorded_after}
+use Rattle.rl_line.specs.Units.{AtLevel, IsMatched, begun, ended, is_change, kept_of, last_of, level, mark, marks, opens, redo_of, redone, touched, truncated, undone, units}
+use Rattle.rl_line.specs.Entries.{deep}
+use Rattle.rl_line.proofs.Records.CountLemmas.{level-counted}
+use Rattle.rl_line.proofs.Records.EntryLemmas.{deep-append}
+use Rattle.rl_line.proofs.Records.MatchLemmas.{AllGood-take, BothMatched-begun, BothMatched-ended, BothMatched-redone, BothMatched-step, BothMatched-truncated, BothMatched-undone, Lower-end_times, Redoes-of, length-touched, level-is, marks-last}
+use Rattle.rl_line.proofs.Records.RecordLemmas.{joins, none_or_one, value_of}
+use Rattle.rl_line.proofs.Records.UnitLemmas.{IsMatched-front, IsMatched-together, cut_more-append, kept-last, opens-append, units-append, units-good}
+use Rattle.rl_line.proofs.Records.ToldLemmas.{recorded-cases, last_told-deep}
+
+-- ---- an event
+deep-entries_of : (event : Event) (d : ℕ) → deep d (entries_of event) ≡ d
+deep-entries_of event d = elim (none_or_one event) [ inl none ↦ ap (deep d) none | inr (k, c, one) ↦ ap (deep d) one ]
+
+-- no event is a mark
+deep-after : (event : Event) (es : List Entry) (d : ℕ) → deep d (entries_after event es) ≡ deep d es
+deep-after event [] d = deep-entries_of event d
+deep-after event (e ∷ []) d = from (joined event e) refl
+  where
+    from : (o : Option Entry) → joined event e ≡ o → deep d (option_map_or (λ joint. joint ∷ []) o (e ∷ entries_of event)) ≡ deep d (e ∷ [])
+    from None j = deep-append d (e ∷ []) (entries_of event) ∙ deep-entries_of event (deep d (e ∷ []))
+    from (Some joint) j = let b = joins event e joint j in subst (λ k. deep d (k ∷ []) ≡ deep d (e ∷ [])) b.is (ap (λ k. deep d (k ∷ [])) (sym b.was))
+deep-after event (e ∷ (f ∷ fs)) d =
+    deep-append d (e ∷ []) (entries_after event (f ∷ fs)) ∙ deep-after event (f ∷ fs) (deep d (e ∷ [])) ∙ sym (deep-append d (e ∷ []) (f ∷ fs))
+
+pub AtLevel-step : (event : Event) (n : ℕ) (r : Record) → AtLevel n r → AtLevel n (record_step r event)
+unfolding record_step
+AtLevel-step event n r a = record {
+  matched = BothMatched-step r event a.matched;
+  level =
+      let counted = recorded-cases (λ es. deep 0 es ≡ deep 0 r.recorded) event r (deep-after event r.recorded 0) (λ es p e. last_told-deep p es 0 ∙ e) in
+      a.level ∙ level-counted r.recorded a.matched.recorded ∙ sym counted ∙ sym (level-counted (recorded_after event r) (BothMatched-step r event a.matched).recorded);
+}
+
+-- ---- marks at the end
+pub level-begin : (es : List Entry) → level (es ++ Begin ∷ []) ≡ suc (level es)
+level-begin es = ap opens (cut_more-append [] es (Begin ∷ []))
+
+pub level-end : (es : List Entry) → IsMatched (es ++ End ∷ []) → level es ≡ suc (level (es ++ End ∷ []))
+level-end es h =
+    let s = value_of (marks (es ++ End ∷ []) []) h in
+    let l = marks-last es End s.0 s.1 in
+    level-is es l.0 l.1 ∙ one_less l.0 s.0 l.2 ∙ ap suc (sym (level-is (es ++ End ∷ []) s.0 s.1))
+  where
+    one_less : (fs gs : List Bool) → mark End fs ≡ Some gs → length fs ≡ suc (length gs)
+    one_less [] gs k = cc
+    one_less (false ∷ fs) gs k = cc
+    one_less (true ∷ fs) gs k = let same : touched fs ≡ gs = cc in ap suc (sym (length-touched fs) ∙ ap length same)
+
+deep-within : (d : ℕ) (es : List Entry) → deep d es ≤ d + length es
+deep-within d [] = omega arith
+deep-within d (Begin ∷ es) = omega (arith, deep-within (suc d) es)
+deep-within d (End ∷ es) = omega (arith, deep-within (d - 1) es)
+deep-within d (Changed k c ∷ es) = omega (arith, deep-within d es)
+
+-- no more groups are open than there are entries
+pub level-within : (es : List Entry) → IsMatched es → level es ≤ length es
+level-within es h = omega (arith, level-counted es h, deep-within 0 es)
+
+pub AtLevel-begun : (n : ℕ) (r : Record) → AtLevel n r → AtLevel (n + 1) (begun r)
+AtLevel-begun n r a = record { matched = BothMatched-begun r a.matched; level = omega (arith, a.level, level-begin r.recorded) }
+
+pub AtLevel-ended : (n : ℕ) (r : Record) → AtLevel n r → AtLevel 0 (ended r)
+AtLevel-ended n r a = record {
+  matched = BothMatched-ended r a.matched;
+  level = sym (Lower-end_times (level r.recorded) r.recorded a.matched.recorded refl).level_is;
+}
+
+-- ---- units that are moved
+pub level-append : (xs ys : List Entry) → IsMatched ys → level (xs ++ ys) ≡ level ys + level xs
+level-append xs ys h = ap opens (units-append xs ys h) ∙ opens-append (units ys) (units xs)
+
+pub IsMatched-last : (k : ℕ) (es : List Entry) → IsMatched es → IsMatched (last_of k es)
+IsMatched-last k es h = IsMatched-together (take (max k 1) (units es)) (AllGood-take (max k 1) (units es) (units-good es h))
+
+-- an undo takes off the groups that its units open
+level-last : (k : ℕ) (es : List Entry) → IsMatched es → level es ≡ level (last_of k es) + level (kept_of k es)
+level-last k es h = ap level (sym (kept-last k es)) ∙ level-append (kept_of k es) (last_of k es) (IsMatched-last k es h)
+
+pub AtLevel-undone : (k n opened : ℕ) (r : Record) → opened ≡ level (last_of k r.recorded) → AtLevel n r → AtLevel (n - opened) (undone k r)
+AtLevel-undone k n opened r e a = record {
+  matched = BothMatched-undone k r a.matched;
+  level = omega (arith, e, a.level, level-last k r.recorded a.matched.recorded);
+}
+
+pub undone-within : (k n opened : ℕ) (r : Record) → opened ≡ level (last_of k r.recorded) → AtLevel n r → opened ≤ n
+undone-within k n opened r e a = omega (arith, e, a.level, level-last k r.recorded a.matched.recorded)
+
+pub AtLevel-redone : (n opened : ℕ) (r : Record) → opened ≡ level (redo_of r.pending) → AtLevel n r → AtLevel (n + opened) (redone r)
+AtLevel-redone n opened r e a = record {
+  matched = BothMatched-redone r a.matched;
+  level = omega (arith, e, a.level, level-append r.recorded (redo_of r.pending) (Redoes-of r.pending a.matched.pending).unit_matched);
+}
+
+-- ---- entries that are dropped
+pub AtLevel-truncated : (len m n : ℕ) (r : Record) → m ≡ level (take len r.recorded) → AtLevel n r → AtLevel m (truncated len r)
+AtLevel-truncated len m n r e a = record { matched = BothMatched-truncated len r a.matched; level = e }
+
+-- the entries with the one at `at`
+read-front : (xs : List Change) (at : ℕ) (z x : Change) → at < length xs → get_or xs at z ≡ x → map entry_of (take (at + 1) xs) ≡ map entry_of (take at xs) ++ entry_of x ∷ []
+read-front xs at z x lt e = ap (map entry_of) ((take_at_read xs at z lt).1 ∙ ap (λ y. take at xs ++ y ∷ []) e) ∙ map-append entry_of (take at xs) (x ∷ [])
+
+pub front-matched : (xs : List Change) (at : ℕ) → IsMatched (map entry_of xs) → IsMatched (map entry_of (take at xs))
+front-matched xs at h =
+    IsMatched-front (map entry_of (take at xs)) (map entry_of (drop at xs))
+    (subst IsMatched (ap (map entry_of) (sym (take-append-drop at xs)) ∙ map-append entry_of (take at xs) (drop at xs)) h)
+
+-- n groups are open after the first `at` entries
+pub record LevelAt (xs : List Change) (len at n : ℕ) : Type 0 where
+  pub within : at ≤ length xs
+  pub cut : length xs - at ≤ length xs - len
+  pub level : n ≡ level (map entry_of (take at xs))
+
+-- the entries after which the count stands are those before the last of them, and that one
+front-last : (xs : List Change) (len at : ℕ) (z x : Change) → len < at → at ≤ length xs → get_or xs (at - 1) z ≡ x
+    → map entry_of (take at xs) ≡ map entry_of (take (at - 1) xs) ++ entry_of x ∷ []
+front-last xs len at z x lt within e =
+    let k : at ≡ (at - 1) + 1 = omega arith in
+    ap (λ m. map entry_of (take m xs)) k ∙ read-front xs (at - 1) z x (omega arith) e
+
+pub opened-before : (xs : List Change) (len at n : ℕ) (z x : Change) → len < at → get_or xs (at - 1) z ≡ x → entry_of x ≡ Begin → LevelAt xs len at n
+    → n ≡ suc (level (map entry_of (take (at - 1) xs)))
+opened-before xs len at n z x lt e b l =
+    l.level ∙ ap level (front-last xs len at z x lt l.within e ∙ ap (λ f. map entry_of (take (at - 1) xs) ++ f ∷ []) b) ∙ level-begin (map entry_of (take (at - 1) xs))
+
+pub LevelAt-begin : (xs : List Change) (len at n : ℕ) (z x : Change) → len < at → get_or xs (at - 1) z ≡ x → entry_of x ≡ Begin → LevelAt xs len at n → LevelAt xs len (at - 1) (n - 1)
+LevelAt-begin xs len at n z x lt e b l = record {
+  within = omega (arith, l.within);
+  cut = omega (arith, l.within, lt);
+  level = omega (arith, opened-before xs len at n z x lt e b l);
+}
+
+pub LevelAt-end : (xs : List Change) (len at n : ℕ) (z x : Change) → IsMatched (map entry_of xs) → len < at → get_or xs (at - 1) z ≡ x → entry_of x ≡ End → LevelAt xs len at n
+    → LevelAt xs len (at - 1) (n + 1)
+LevelAt-end xs len at n z x m lt e b l =
+    let is = front-last xs len at z x lt l.within e ∙ ap (λ f. map entry_of (take (at - 1) xs) ++ f ∷ []) b in
+    let one = level-end (map entry_of (take (at - 1) xs)) (subst IsMatched is (front-matched xs at m)) in
+    record {
+      within = omega (arith, l.within);
+      cut = omega (arith, l.within, lt);
+      level = omega (arith, l.level, ap level is, one);
+    }
+
+pub level-change : (es : List Entry) (e : Entry) → is_change e ≡ true → level (es ++ e ∷ []) ≡ level es
+level-change es Begin h = cc
+level-change es End h = cc
+level-change es (Changed k c) h = ap opens (cut_more-append [] es (Changed k c ∷ []))
+
+pub LevelAt-change : (xs : List Change) (len at n : ℕ) (z x : Change) → len < at → get_or xs (at - 1) z ≡ x → is_change (entry_of x) ≡ true → LevelAt xs len at n
+    → LevelAt xs len (at - 1) n
+LevelAt-change xs len at n z x lt e b l = record {
+  within = omega (arith, l.within);
+  cut = omega (arith, l.within, lt);
+  level = l.level ∙ ap level (front-last xs len at z x lt l.within e) ∙ level-change (map entry_of (take (at - 1) xs)) (entry_of x) b;
+}
+
+-- no count is past the list's length
+pub LevelAt-small : (xs : List Change) (len at n : ℕ) → IsMatched (map entry_of xs) → LevelAt xs len at n → n ≤ at
+LevelAt-small xs len at n m l =
+    omega (arith, l.level, level-within (map entry_of (take at xs)) (front-matched xs at m), length-map (take at xs) entry_of, length-take at xs)
+
+pub LevelAt-done : (xs : List Change) (len at n : ℕ) → at ≤ len → LevelAt xs len at n → n ≡ level (take len (map entry_of xs))
+LevelAt-done xs len at n le l = l.level ∙ ap level (sym (take-map entry_of at xs) ∙ from (leb len (length xs)) refl)
+  where
+    from : (b : Bool) → leb len (length xs) ≡ b → take at (map entry_of xs) ≡ take len (map entry_of xs)
+    from true h = let same : at ≡ len = omega (arith, leb-true len (length xs) h, l.within, l.cut) in ap (λ k. take k (map entry_of xs)) same
+    from false h =
+        let past = leb-false len (length xs) h in
+        take_all at (map entry_of xs) (omega (arith, past, l.cut, length-map xs entry_of)) ∙ sym (take_all len (map entry_of xs) (omega (arith, past, length-map xs entry_of)))

@@ -1,0 +1,219 @@
+-- Every operation keeps the marks matched, and a change in each closed group.
+use Rattle.std.proofs.Common.{◌≡◌, ℕ, suc, arith, Bool, true, false, List, [], ◌∷◌, ◌++◌, length, take, drop, reverse, Option, Some, None, refl, sym, ap, subst, ◌∙◌, ◌⊎◌, inl, inr, append-nil, drop_at}
+use Rattle.std.proofs.lemmas.List.{take-append-drop, reverse-append, reverse-reverse}
+use Rattle.std.specs.Option.{option_map_or}
+use Rattle.std.specs.Prelude.{option_and_then, IsSome, zero, max}
+use Rattle.rl_base.proofs.Texts.SwapLemmas.{some_is}
+use Rattle.rl_base.specs.Event.{Event, InsertChar, InsertStr, Delete, Replace, Start, Stop, Cursors}
+use Rattle.rl_line.specs.Record.{Entry, Begin, End, Changed, Record, entries_of, joined, entries_after, pending_after, record_step}
+use Rattle.rl_line.specs.Units.{UndoUnit, Open, Whole, units, together, opens, level, last_of, kept_of, redo_from, redo_of, end_one, end_times, begun, ended, undone, redone, truncated, touched, mark, marks, IsMatched, BothMatched}
+use Rattle.rl_line.proofs.Records.RecordLemmas.{joins, none_or_one, through, value_of}
+use Rattle.rl_line.proofs.Records.UnitLemmas.{AllGood, flags_on, marks-append, IsMatched-front, IsMatched-append, IsMatched-together, AllGood-left, AllGood-right, units-good, together-units, together-append, kept-last, cut_good}
+use Rattle.rl_line.proofs.Records.ToldLemmas.{recorded-cases, last_told-marks}
+
+entries_of-marks : (event : Event) (fs : List Bool) → IsSome (marks (entries_of event) fs)
+entries_of-marks event fs = elim (none_or_one event) [ inl none ↦ rw none refl | inr (k, c, one) ↦ rw one refl ]
+
+-- what the marks take in place of other entries, they take after the same entries too
+after : (o : Option (List Bool)) (xs ys : List Entry) → ((fs : List Bool) → IsSome (marks xs fs) → IsSome (marks ys fs))
+    → IsSome (option_and_then (marks xs) o) → IsSome (option_and_then (marks ys) o)
+after None xs ys f h = h
+after (Some fs) xs ys f h = f fs h
+
+marks-after : (event : Event) (es : List Entry) (fs : List Bool) → IsSome (marks es fs) → IsSome (marks (entries_after event es) fs)
+marks-after event [] fs h = entries_of-marks event fs
+marks-after event (e ∷ []) fs h = from (joined event e) refl
+  where
+    from : (o : Option Entry) → joined event e ≡ o → IsSome (marks (option_map_or (λ joint. joint ∷ []) o (e ∷ entries_of event)) fs)
+    from None j = after (mark e fs) [] (entries_of event) (λ gs k. entries_of-marks event gs) h
+    from (Some joint) j = subst (λ k. IsSome (marks (k ∷ []) fs)) (joins event e joint j).is refl
+marks-after event (e ∷ (d ∷ ds)) fs h = after (mark e fs) (d ∷ ds) (entries_after event (d ∷ ds)) (λ gs k. marks-after event (d ∷ ds) gs k) h
+
+pub IsMatched-after : (event : Event) (es : List Entry) → IsMatched es → IsMatched (entries_after event es)
+IsMatched-after event es h = marks-after event es [] h
+
+pending-matched : (event : Event) (es : List Entry) → IsMatched es → IsMatched (pending_after event es)
+pending-matched (InsertChar i c) es h = refl
+pending-matched (InsertStr i s) es h = refl
+pending-matched (Delete i s side) es h = refl
+pending-matched (Replace i s t) es h = refl
+pending-matched Start es h = h
+pending-matched Stop es h = h
+pending-matched (Cursors b a) es h = h
+
+pub BothMatched-step : (r : Record) (event : Event) → BothMatched r → BothMatched (record_step r event)
+unfolding record_step
+BothMatched-step r event b = record { recorded = recorded-cases IsMatched event r (IsMatched-after event r.recorded b.recorded) (λ es p m. subst IsSome (sym (last_told-marks p es [])) m); pending = pending-matched event r.pending b.pending }
+
+-- a Begin may be added anywhere
+pub IsMatched-begin : (es : List Entry) → IsMatched es → IsMatched (es ++ Begin ∷ [])
+IsMatched-begin es h = IsMatched-append es (Begin ∷ []) h refl
+
+pub BothMatched-begun : (r : Record) → BothMatched r → BothMatched (begun r)
+BothMatched-begun r b = record { recorded = IsMatched-begin r.recorded b.recorded; pending = refl }
+
+pub length-touched : (fs : List Bool) → length (touched fs) ≡ length fs
+length-touched [] = refl
+length-touched (f ∷ fs) = refl
+
+-- the level is the number of open groups
+level-flags : (us : List UndoUnit) → opens us ≡ length (flags_on us [])
+level-flags [] = refl
+level-flags (Open ∷ us) = ap suc (level-flags us)
+level-flags (Whole es ∷ us) = level-flags us ∙ sym (length-touched (flags_on us []))
+
+-- an end passes all entries but the last
+pub end_one-cons : (e d : Entry) (ds : List Entry) → end_one (e ∷ (d ∷ ds)) ≡ e ∷ end_one (d ∷ ds)
+end_one-cons Begin d ds = refl
+end_one-cons End d ds = refl
+end_one-cons (Changed k c) d ds = refl
+
+-- an End that is added closes a group with a change, since something other than a Begin stands before it
+pub record EndsOne (es : List Entry) : Type 0 where
+  pub front : List Entry
+  pub list_is : es ≡ front ++ (Begin ∷ [])
+  pub after_is : end_one es ≡ front
+
+pub record AddsEnd (es : List Entry) : Type 0 where
+  pub front : List Entry
+  pub last : Entry
+  pub other : last ≡ Begin → ⊥
+  pub list_is : es ≡ front ++ (last ∷ [])
+  pub after_is : end_one es ≡ es ++ (End ∷ [])
+
+end_one-cases : (e : Entry) (es : List Entry) → EndsOne (e ∷ es) ⊎ AddsEnd (e ∷ es)
+end_one-cases Begin [] = inl (record { front = []; list_is = refl; after_is = refl })
+end_one-cases End [] = inr (record { front = []; last = End; other = λ h. cc; list_is = refl; after_is = refl })
+end_one-cases (Changed k c) [] = inr (record { front = []; last = Changed k c; other = λ h. cc; list_is = refl; after_is = refl })
+end_one-cases e (d ∷ ds) =
+    elim (end_one-cases d ds) [
+      | inl h ↦ inl (record { front = e ∷ h.front; list_is = ap (λ x. e ∷ x) h.list_is; after_is = end_one-cons e d ds ∙ ap (λ x. e ∷ x) h.after_is })
+      | inr h ↦ inr (record {
+        front = e ∷ h.front;
+        last = h.last;
+        other = h.other;
+        list_is = ap (λ x. e ∷ x) h.list_is;
+        after_is = end_one-cons e d ds ∙ ap (λ x. e ∷ x) h.after_is;
+      })
+    ]
+
+touched_is : (fs gs : List Bool) → touched fs ≡ gs → gs ≡ touched gs
+touched_is [] gs e = sym e ∙ ap touched e
+touched_is (f ∷ fs) gs e = sym e ∙ ap touched e
+
+-- after an entry other than a Begin, the group opened last holds a change
+mark_other : (e : Entry) (fs gs : List Bool) → (e ≡ Begin → ⊥) → mark e fs ≡ Some gs → gs ≡ touched gs
+mark_other Begin fs gs other h = absurd (other refl)
+mark_other End [] gs other h = cc
+mark_other End (false ∷ fs) gs other h = cc
+mark_other End (true ∷ fs) gs other h = touched_is fs gs cc
+mark_other (Changed k c) fs gs other h = touched_is fs gs cc
+
+pub level-is : (es : List Entry) (fs : List Bool) → marks es [] ≡ Some fs → level es ≡ length fs
+level-is es fs h = level-flags (units es) ∙ ap length (cut_good es [] fs tt h).1
+
+-- what stands before the last entry, and what it makes of the marks
+pub marks-last : (front : List Entry) (e : Entry) (fs : List Bool) → marks (front ++ (e ∷ [])) [] ≡ Some fs
+    → (gs : List Bool) × (marks front [] ≡ Some gs) × (mark e gs ≡ Some fs)
+marks-last front e fs h =
+    let p = through (marks (e ∷ [])) (marks front []) fs (sym (marks-append front (e ∷ []) []) ∙ h) in
+    let q = through (marks []) (mark e p.0) fs p.2 in
+    let same : q.0 ≡ fs = let k = q.2 in cc in
+    (p.0, p.1, q.1 ∙ ap Some same)
+
+-- one step of an end keeps the marks matched, and closes one group
+pub record Lower (es : List Entry) (n : ℕ) : Type 0 where
+  pub matched : IsMatched es
+  pub level_is : level es ≡ n
+
+pub Lower-end_one : (es : List Entry) (n : ℕ) → IsMatched es → level es ≡ suc n → Lower (end_one es) n
+Lower-end_one [] n h k = absurd (omega arith)
+Lower-end_one (e ∷ es) n h k =
+    let s = value_of (marks (e ∷ es) []) h in
+    let long : length s.0 ≡ suc n = sym (level-is (e ∷ es) s.0 s.1) ∙ k in
+    elim (end_one-cases e es) [
+      | inl c ↦ ends c s.0 s.1 long
+      | inr c ↦ adds c s.0 s.1 long
+    ]
+  where
+    ends : EndsOne (e ∷ es) → (fs : List Bool) → marks (e ∷ es) [] ≡ Some fs → length fs ≡ suc n → Lower (end_one (e ∷ es)) n
+    ends c fs j long =
+        let l = marks-last c.front Begin fs (ap (λ x. marks x []) (sym c.list_is) ∙ j) in
+        let front = l.1 in
+        let top : false ∷ l.0 ≡ fs = let q = l.2 in cc in
+        let n_is : suc (length l.0) ≡ suc n = ap length top ∙ long in
+        record {
+          matched = subst IsMatched (sym c.after_is) (some_is (marks c.front []) l.0 front);
+          level_is = ap level c.after_is ∙ level-is c.front l.0 front ∙ (omega arith);
+        }
+
+    closes : (fs : List Bool) → marks (e ∷ es) [] ≡ Some fs → length fs ≡ suc n → fs ≡ touched fs → Lower ((e ∷ es) ++ (End ∷ [])) n
+    closes [] j long same = absurd (omega arith)
+    closes (false ∷ fs) j long same = cc
+    closes (true ∷ fs) j long same =
+        let all : marks ((e ∷ es) ++ (End ∷ [])) [] ≡ Some (touched fs) = marks-append (e ∷ es) (End ∷ []) [] ∙ ap (option_and_then (marks (End ∷ []))) j in
+        record {
+          matched = some_is (marks ((e ∷ es) ++ (End ∷ [])) []) (touched fs) all;
+          level_is = level-is ((e ∷ es) ++ (End ∷ [])) (touched fs) all ∙ length-touched fs ∙ (omega arith);
+        }
+
+    adds : AddsEnd (e ∷ es) → (fs : List Bool) → marks (e ∷ es) [] ≡ Some fs → length fs ≡ suc n → Lower (end_one (e ∷ es)) n
+    adds c fs j long =
+        let l = marks-last c.front c.last fs (ap (λ x. marks x []) (sym c.list_is) ∙ j) in
+        subst (λ x. Lower x n) (sym c.after_is) (closes fs j long (mark_other c.last l.0 fs c.other l.2))
+
+pub Lower-end_times : (n : ℕ) (es : List Entry) → IsMatched es → level es ≡ n → Lower (end_times n es) 0
+Lower-end_times zero es h k = record { matched = h; level_is = k }
+Lower-end_times (suc n) es h k = let l = Lower-end_one es n h k in Lower-end_times n (end_one es) l.matched l.level_is
+
+-- an end closes all groups
+pub BothMatched-ended : (r : Record) → BothMatched r → BothMatched (ended r)
+BothMatched-ended r b = record { recorded = (Lower-end_times (level r.recorded) r.recorded b.recorded refl).matched; pending = refl }
+
+pub AllGood-take : (n : ℕ) (us : List UndoUnit) → AllGood us → AllGood (take n us)
+AllGood-take n us g = AllGood-left (take n us) (drop n us) (subst AllGood (sym (take-append-drop n us)) g)
+
+pub BothMatched-undone : (n : ℕ) (r : Record) → BothMatched r → BothMatched (undone n r)
+BothMatched-undone n r b = record {
+  recorded = IsMatched-front (kept_of n r.recorded) (last_of n r.recorded) (subst IsMatched (sym (kept-last n r.recorded)) b.recorded);
+  pending = IsMatched-append (last_of n r.recorded) r.pending
+      (IsMatched-together (take (max n 1) (units r.recorded)) (AllGood-take (max n 1) (units r.recorded) (units-good r.recorded b.recorded))) b.pending;
+}
+
+-- the entries that a redo puts back stand at the front, and both parts are matched
+pub record Redoes (es : List Entry) (unit rest : List Entry) : Type 0 where
+  pub list_is : unit ++ rest ≡ es
+  pub unit_matched : IsMatched unit
+  pub rest_matched : IsMatched rest
+
+pub Redoes-of : (es : List Entry) → IsMatched es → Redoes es (redo_of es) (drop (length (redo_of es)) es)
+Redoes-of es h = go (reverse (units es)) refl
+  where
+    pieces : (rs : List UndoUnit) → reverse (units es) ≡ rs → units es ≡ reverse rs
+    pieces rs e = sym (reverse-reverse (units es)) ∙ ap reverse e
+
+    go : (rs : List UndoUnit) → reverse (units es) ≡ rs → Redoes es (redo_from es rs) (drop (length (redo_from es rs)) es)
+    go [] e = record { list_is = refl; unit_matched = refl; rest_matched = h }
+    go (Open ∷ rs) e =
+        let none : drop (length es) es ≡ [] = ap (drop (length es)) (sym (append-nil es)) ∙ drop_at es [] (length es) refl in
+        record { list_is = ap (λ x. es ++ x) none ∙ append-nil es; unit_matched = h; rest_matched = subst IsMatched (sym none) refl }
+    go (Whole inner ∷ rs) e =
+        let us : units es ≡ reverse rs ++ (Whole inner ∷ []) = pieces (Whole inner ∷ rs) e ∙ reverse-append (Whole inner ∷ []) rs in
+        let good = subst AllGood us (units-good es h) in
+        let all : inner ++ together (reverse rs) ≡ es = sym (together-append (reverse rs) (Whole inner ∷ [])) ∙ ap together (sym us) ∙ together-units es in
+        let rest : drop (length inner) es ≡ together (reverse rs) = ap (drop (length inner)) (sym all) ∙ drop_at inner (together (reverse rs)) (length inner) refl in
+        record {
+          list_is = ap (λ x. inner ++ x) rest ∙ all;
+          unit_matched = IsMatched-together (Whole inner ∷ []) (AllGood-right (reverse rs) (Whole inner ∷ []) good);
+          rest_matched = subst IsMatched (sym rest) (IsMatched-together (reverse rs) (AllGood-left (reverse rs) (Whole inner ∷ []) good));
+        }
+
+pub BothMatched-redone : (r : Record) → BothMatched r → BothMatched (redone r)
+BothMatched-redone r b = let d = Redoes-of r.pending b.pending in
+    record { recorded = IsMatched-append r.recorded (redo_of r.pending) b.recorded d.unit_matched; pending = d.rest_matched }
+
+pub BothMatched-truncated : (n : ℕ) (r : Record) → BothMatched r → BothMatched (truncated n r)
+BothMatched-truncated n r b = record {
+  recorded = IsMatched-front (take n r.recorded) (drop n r.recorded) (subst IsMatched (sym (take-append-drop n r.recorded)) b.recorded);
+  pending = refl;
+}

@@ -1,0 +1,69 @@
+-- The record of a line leads back to the same text, whatever was done.
+use Rattle.std.proofs.Common.{◌≡◌, ℕ, Bool, List, [], ◌∷◌, Option, Some, sym, ap, subst, ◌∙◌}
+use Rattle.std.specs.Prelude.{option_and_then}
+use Rattle.std.specs.Str.{IsUtf8}
+use Rattle.rl_base.specs.declared.listeners.Refusal.{Refusal}
+use Rattle.rl_base.specs.Event.{Event, Cursors}
+use Rattle.rl_base.proofs.Texts.SwapLemmas.{apply-IsUtf8}
+use Rattle.rl_line.specs.Line.{Line, stepped}
+use Rattle.rl_line.specs.Plan.{Step, Plan, after, heard, heard_step, Taken, Done, Halted}
+use Rattle.rl_line.specs.Record.{Record, record_step, unwind}
+use Rattle.rl_line.specs.Undo.{Undone}
+use Rattle.rl_line.specs.Units.{kept_of, last_of}
+use Rattle.rl_line.proofs.Records.ToldLemmas.{apply-Cursors}
+use Rattle.rl_line.proofs.Plans.PlanLemmas.{first_step}
+use Rattle.rl_line.proofs.Records.RecordLemmas.{record_step-unwind, unwind-append, unwind-IsUtf8}
+use Rattle.rl_line.proofs.Records.UndoLemmas.{line_back-unwind}
+use Rattle.rl_line.proofs.Records.UnitLemmas.{kept-last}
+
+-- the text from which the record came
+abbrev pub origin : Record → List ℕ → Option (List ℕ)
+origin r text = unwind r.recorded text
+
+-- what the steps that were taken leave: a text, and a record that came from where it came from
+pub record Kept (r now : Record) (old new : Line) : Type 0 where
+  pub origin_is : (start : List ℕ) → origin r old.text ≡ Some start → origin now new.text ≡ Some start
+  pub utf8 : IsUtf8 new.text
+
+Kept-after : (steps : List Step) (r : Record) (old new : Line) → IsUtf8 old.text → after steps old ≡ Some new → Kept r (heard record_step old.cursor steps r) old new
+Kept-after [] r old new u h =
+    let e : old ≡ new = cc in record { origin_is = λ start k. ap (λ (l : Line). origin r l.text) (sym e) ∙ k; utf8 = subst (λ (l : Line). IsUtf8 l.text) e u }
+Kept-after (s ∷ ss) r old new u h =
+    let b = first_step s ss old new h in
+    let here : Line = stepped old b.text s.1 in
+    let here_utf8 = apply-IsUtf8 s.0 old.text b.text u b.makes in
+    let more = Kept-after ss (heard_step record_step old.cursor s r) here new here_utf8 b.rest in
+    record {
+      origin_is = λ start k.
+          more.origin_is start
+          (record_step-unwind (record_step r s.0) (Cursors old.cursor s.1) b.text b.text start here_utf8 (apply-Cursors old.cursor s.1 b.text)
+          (record_step-unwind r s.0 old.text b.text start u b.makes k));
+      utf8 = more.utf8;
+    }
+
+Kept-Taken : (steps : List Step) (r now : Record) (old new : Line) → IsUtf8 old.text → Taken record_step steps old new r now → Kept r now old new
+Kept-Taken steps r now old new u t = subst (λ (k : Record). Kept r k old new) (sym t.listener) (Kept-after steps r old new u t.line)
+
+pub Kept-Done : {A : Type 0} (plan : Plan A) (r now : Record) (old new : Line) (a : A) → IsUtf8 old.text → Done record_step plan old new r now a → Kept r now old new
+Kept-Done plan r now old new a u d =
+    let k = Kept-Taken plan.steps r now old d.last u d.taken in
+    record { origin_is = λ start e. ap (λ (l : Line). origin now l.text) d.line ∙ k.origin_is start e; utf8 = subst (λ (l : Line). IsUtf8 l.text) (sym d.line) k.utf8 }
+
+-- where a refusal leaves the record as it was, so does a plan that halted
+pub Kept-Halted : {A : Type 0} (refused : Record → Event → Refusal → Record → Type 0) (plan : Plan A) (r now : Record) (old new : Line) (why : Refusal)
+    → ((m : Record) (e : Event) (w : Refusal) (k : Record) → refused m e w k → k ≡ m) → IsUtf8 old.text
+    → Halted record_step refused plan old new r now why → Kept r now old new
+Kept-Halted refused plan r now old new why stays u h =
+    subst (λ (k : Record). Kept r k old new) (sym (stays h.middle h.next.0 why now h.cause)) (Kept-Taken h.first r h.middle old new u h.taken)
+
+pub Kept-Undone : (n : ℕ) (r now : Record) (old new : Line) (a : Bool) → IsUtf8 old.text → Undone n r now old new a → Kept r now old new
+Kept-Undone n r now old new a u d =
+    let kept = kept_of n r.recorded in
+    let last = last_of n r.recorded in
+    let back : unwind last old.text ≡ Some new.text = line_back-unwind last old new d.line_is in
+    let all : origin r old.text ≡ unwind kept new.text =
+    ap (λ es. unwind es old.text) (sym (kept-last n r.recorded)) ∙ unwind-append kept last old.text ∙ ap (option_and_then (unwind kept)) back in
+    record {
+      origin_is = λ start e. ap (λ (m : Record). unwind m.recorded new.text) d.record_is ∙ sym all ∙ e;
+      utf8 = unwind-IsUtf8 last old.text new.text u back;
+    }

@@ -1,0 +1,224 @@
+-- The entries of a record lead from text to text and back.
+use Rattle.std.proofs.Common.{◌≡◌, ℕ, Bool, true, false, List, [], ◌∷◌, ◌++◌, length, Option, Some, None, refl, sym, ap, subst, ◌∙◌, ◌+◌, ◌⊎◌, inl, inr}
+use Rattle.std.proofs.lemmas.Bool.{eqb-true}
+use Rattle.std.specs.Option.{option_map_or}
+use Rattle.std.specs.Prelude.{option_and_then, encode_utf8, IsSome, ◌==◌, ◌&&◌, cond, not}
+use Rattle.std.specs.Str.{IsUtf8}
+use Rattle.rl_base.proofs.Texts.TextLemmas.{and_right}
+use Rattle.rl_base.specs.declared.listeners.Direction.{Direction}
+use Rattle.rl_base.specs.Event.{Event, InsertChar, InsertStr, Delete, Replace, Start, Stop, Cursors, apply}
+use Rattle.rl_base.proofs.Texts.SwapLemmas.{Swaps, Swaps-back, Swaps-nothing, Swaps-after, Swaps-before, Swaps-InsertStr, Swaps-InsertChar, Swaps-Delete, Swaps-Replace, apply-Replace-Swaps, apply-IsUtf8}
+use Rattle.rl_base.specs.Classes.{is_alphanumeric, is_word_cluster}
+use Rattle.rl_line.specs.Record.{Kind, Insertion, Deletion, Replacement, Swap, Entry, Begin, End, Changed, Record, entries_after, entries_of, joined, record_step, event_of, inverse, replay_entries, unwind, swapped, followed, opposite, past, untold}
+use Rattle.rl_line.proofs.Records.ToldLemmas.{recorded-cases, last_told-unwind}
+
+-- what was made of a value that is there
+pub through : {A B : Type 0} (f : A → Option B) (o : Option A) (b : B) → option_and_then f o ≡ Some b → (a : A) × (o ≡ Some a) × (f a ≡ Some b)
+through f None b h = cc
+through f (Some a) b h = (a, refl, h)
+
+pub value_of : {A : Type 0} (o : Option A) → IsSome o → (a : A) × (o ≡ Some a)
+value_of None h = cc
+value_of (Some a) h = (a, refl)
+
+pub IsSome-through : {A B : Type 0} (f : A → Option B) (o : Option A) → IsSome (option_and_then f o) → IsSome o
+IsSome-through f None h = h
+IsSome-through f (Some a) h = refl
+
+-- a value that is taken as it is
+pub then_some : {A : Type 0} (o : Option A) → option_and_then (λ (a : A). Some a) o ≡ o
+then_some None = refl
+then_some (Some a) = refl
+
+-- what is made of a value in one go is made of it in two
+pub then_both : {A B C : Type 0} (f : A → Option C) (g : A → Option B) (h : B → Option C) → ((a : A) → f a ≡ option_and_then h (g a)) → (o : Option A)
+    → option_and_then f o ≡ option_and_then h (option_and_then g o)
+then_both f g h e None = refl
+then_both f g h e (Some a) = e a
+
+-- an entry is taken back by its inverse
+pub inverse-undoes : (e : Entry) (x y : List ℕ) → IsUtf8 x → apply (event_of e) x ≡ Some y → apply (event_of (inverse e)) y ≡ Some x
+unfolding apply
+inverse-undoes Begin x y u h = sym h
+inverse-undoes End x y u h = sym h
+inverse-undoes (Changed k c) x y u h = apply-Replace-Swaps y x c.place c.new c.old (Swaps-back x y c.place c.old c.new (Swaps-Replace x y c.place c.old c.new u h))
+
+swapped-swapped : (ps : Option (ℕ × ℕ)) → swapped (swapped ps) ≡ ps
+swapped-swapped None = refl
+swapped-swapped (Some p) = refl
+
+opposite-opposite : (k : Kind) → opposite (opposite k) ≡ k
+opposite-opposite Insertion = refl
+opposite-opposite Deletion = refl
+opposite-opposite Replacement = refl
+
+pub inverse-inverse : (e : Entry) → inverse (inverse e) ≡ e
+inverse-inverse Begin = refl
+inverse-inverse End = refl
+inverse-inverse (Changed k c) = rw (opposite-opposite k, swapped-swapped c.cursors) refl
+
+pub undoes-inverse : (e : Entry) (x y : List ℕ) → IsUtf8 y → apply (event_of (inverse e)) y ≡ Some x → apply (event_of e) x ≡ Some y
+undoes-inverse e x y u h = ap (λ k. apply (event_of k) x) (sym (inverse-inverse e)) ∙ inverse-undoes (inverse e) y x u h
+
+pub replay-IsUtf8 : (es : List Entry) (x y : List ℕ) → IsUtf8 x → replay_entries es x ≡ Some y → IsUtf8 y
+replay-IsUtf8 [] x y u h = let e : x ≡ y = cc in subst IsUtf8 e u
+replay-IsUtf8 (e ∷ es) x y u h = let p = through (replay_entries es) (apply (event_of e) x) y h in replay-IsUtf8 es p.0 y (apply-IsUtf8 (event_of e) x p.0 u p.1) p.2
+
+pub unwind-IsUtf8 : (es : List Entry) (y x : List ℕ) → IsUtf8 y → unwind es y ≡ Some x → IsUtf8 x
+unwind-IsUtf8 [] y x u h = let e : y ≡ x = cc in subst IsUtf8 e u
+unwind-IsUtf8 (e ∷ es) y x u h =
+    let p = through (apply (event_of (inverse e))) (unwind es y) x h in apply-IsUtf8 (event_of (inverse e)) p.0 x (unwind-IsUtf8 es y p.0 u p.1) p.2
+
+-- entries that lead from x to y are unwound from y to x
+pub unwind-replay : (es : List Entry) (x y : List ℕ) → IsUtf8 x → replay_entries es x ≡ Some y → unwind es y ≡ Some x
+unwind-replay [] x y u h = sym h
+unwind-replay (e ∷ es) x y u h =
+    let p = through (replay_entries es) (apply (event_of e) x) y h in
+    ap (option_and_then (apply (event_of (inverse e)))) (unwind-replay es p.0 y (apply-IsUtf8 (event_of e) x p.0 u p.1) p.2) ∙ inverse-undoes e x p.0 u p.1
+
+-- and the other way
+pub replay-unwind : (es : List Entry) (y x : List ℕ) → IsUtf8 y → unwind es y ≡ Some x → replay_entries es x ≡ Some y
+replay-unwind [] y x u h = sym h
+replay-unwind (e ∷ es) y x u h =
+    let p = through (apply (event_of (inverse e))) (unwind es y) x h in
+    ap (option_and_then (replay_entries es)) (undoes-inverse e x p.0 (unwind-IsUtf8 es y p.0 u p.1) p.2) ∙ replay-unwind es y p.0 u p.1
+
+pub unwind-append : (xs ys : List Entry) (text : List ℕ) → unwind (xs ++ ys) text ≡ option_and_then (unwind xs) (unwind ys text)
+unwind-append [] ys text = sym (then_some (unwind ys text))
+unwind-append (x ∷ xs) ys text =
+    ap (option_and_then (apply (event_of (inverse x)))) (unwind-append xs ys text) ∙ sym (then_both (unwind (x ∷ xs)) (unwind xs) (apply (event_of (inverse x))) (λ t. refl) (unwind ys text))
+
+pub replay-append : (xs ys : List Entry) (text : List ℕ) → replay_entries (xs ++ ys) text ≡ option_and_then (replay_entries ys) (replay_entries xs text)
+replay-append [] ys text = refl
+replay-append (x ∷ xs) ys text = then_both (replay_entries (xs ++ ys)) (replay_entries xs) (replay_entries ys) (λ t. replay-append xs ys t) (apply (event_of x) text)
+
+-- the entries of an event undo it
+undoes : (k : Kind) (i : ℕ) (s t text now : List ℕ) → Swaps text now i s t → unwind (Changed k (untold i s t) ∷ []) now ≡ Some text
+unfolding apply
+undoes k i s t text now swaps = apply-Replace-Swaps now text i t s (Swaps-back text now i s t swaps)
+
+undoes-unless : (k : Kind) (i : ℕ) (s t text now : List ℕ) (b : Bool) → (b ≡ true → (length s ≡ 0) × (length t ≡ 0)) → Swaps text now i s t
+    → unwind (cond b [] (Changed k (untold i s t) ∷ [])) now ≡ Some text
+undoes-unless k i s t text now true none swaps = let e = none refl in ap Some (Swaps-nothing text now i s t e.0 e.1 swaps)
+undoes-unless k i s t text now false none swaps = undoes k i s t text now swaps
+
+pub entries_of-undo : (event : Event) (text now : List ℕ) → IsUtf8 text → apply event text ≡ Some now → unwind (entries_of event) now ≡ Some text
+unfolding entries_of apply
+entries_of-undo (InsertChar i c) text now u h = undoes Insertion i [] _ text now (Swaps-InsertChar text now i c u h)
+entries_of-undo (InsertStr i s) text now u h = undoes-unless Insertion i [] s text now (length s == 0) (λ e. (refl, eqb-true (length s) 0 e)) (Swaps-InsertStr text now i s u h)
+entries_of-undo (Delete i s side) text now u h = undoes-unless Deletion i s [] text now (length s == 0) (λ e. (eqb-true (length s) 0 e, refl)) (Swaps-Delete text now i s side u h)
+entries_of-undo (Replace i s t) text now u h = undoes Replacement i s t text now (Swaps-Replace text now i s t u h)
+entries_of-undo Start text now u h = sym h
+entries_of-undo Stop text now u h = sym h
+entries_of-undo (Cursors b a) text now u h = sym h
+
+unless_nothing : (kind : Kind) (swap : Swap) (b : Bool)
+    → (cond b [] (Changed kind swap ∷ []) ≡ []) ⊎ ((k : Kind) × (c : Swap) × (cond b [] (Changed kind swap ∷ []) ≡ Changed k c ∷ []))
+unless_nothing kind swap true = inl refl
+unless_nothing kind swap false = inr (kind, swap, refl)
+
+-- an event adds nothing, or one change
+pub none_or_one : (event : Event) → (entries_of event ≡ []) ⊎ ((k : Kind) × (c : Swap) × (entries_of event ≡ Changed k c ∷ []))
+unfolding entries_of
+none_or_one (InsertChar i c) = inr (_, _, refl)
+none_or_one (InsertStr i s) = unless_nothing _ _ (length s == 0)
+none_or_one (Delete i s side) = unless_nothing _ _ (length s == 0)
+none_or_one (Replace i s t) = inr (_, _, refl)
+none_or_one Start = inl refl
+none_or_one Stop = inl refl
+none_or_one (Cursors b a) = inl refl
+
+-- ---- joining
+pub if_some : {A : Type 0} (b : Bool) (a c : A) → cond b (Some a) None ≡ Some c → (b ≡ true) × (a ≡ c)
+if_some true a c h = (refl, cc)
+if_some false a c h = cc
+
+if_else : {A : Type 0} (b : Bool) (a c : A) (o : Option A) → cond b (Some a) o ≡ Some c → ((b ≡ true) × (a ≡ c)) ⊎ (o ≡ Some c)
+if_else true a c o h = inl (refl, cc)
+if_else false a c o h = inr h
+
+unless : {A : Type 0} (b : Bool) (c : A) (o : Option A) → cond b None o ≡ Some c → o ≡ Some c
+unless true c o h = cc
+unless false c o h = h
+
+-- where an event joins a change, and the change that is one for both
+pub char-joined : (i c : ℕ) (l : Swap) (joint : Entry) → joined (InsertChar i c) (Changed Insertion l) ≡ Some joint
+    → (past l ≡ i) × (Changed Insertion (followed l [] (encode_utf8 c)) ≡ joint)
+char-joined i c l joint h =
+    let b = if_some (is_alphanumeric c && (past l == i)) _ joint h in (eqb-true (past l) i (and_right (is_alphanumeric c) (past l == i) b.0), b.1)
+
+pub deletion-joined : (i : ℕ) (s : List ℕ) (side : Direction) (l : Swap) (joint : Entry) → joined (Delete i s side) (Changed Deletion l) ≡ Some joint
+    → ((past l ≡ i) × (Changed Deletion (followed l s []) ≡ joint)) ⊎ ((i + length s ≡ l.place) × (Changed Deletion (untold i (s ++ l.old) l.new) ≡ joint))
+deletion-joined i s side l joint h =
+    elim (if_else (past l == i) _ joint _ (unless (not (is_word_cluster s)) joint _ h)) [
+      | inl b ↦ inl (eqb-true (past l) i b.0, b.1)
+      | inr k ↦ let b = if_some (i + length s == l.place) _ joint k in inr (eqb-true (i + length s) l.place b.0, b.1)
+    ]
+
+pub replacement-joined : (i : ℕ) (s t : List ℕ) (l : Swap) (joint : Entry) → joined (Replace i s t) (Changed Replacement l) ≡ Some joint
+    → (past l ≡ i) × (Changed Replacement (followed l s t) ≡ joint)
+replacement-joined i s t l joint h = let b = if_some (past l == i) _ joint h in (eqb-true (past l) i b.0, b.1)
+
+-- what an event joins is a change, and so is the one for both, which has no cursors yet
+pub record Joins (e joint : Entry) : Type 0 where
+  pub kind : Kind
+  pub last : Swap
+  pub now : Swap
+  pub was : e ≡ Changed kind last
+  pub is : Changed kind now ≡ joint
+  pub none : now.cursors ≡ None
+
+pub joins : (event : Event) (e joint : Entry) → joined event e ≡ Some joint → Joins e joint
+joins (InsertChar i c) (Changed Insertion l) joint h = record { kind = Insertion; last = l; now = _; was = refl; is = (char-joined i c l joint h).1; none = refl }
+joins (Delete i s side) (Changed Deletion l) joint h =
+    elim (deletion-joined i s side l joint h) [
+      | inl b ↦ record { kind = Deletion; last = l; now = _; was = refl; is = b.1; none = refl }
+      | inr b ↦ record { kind = Deletion; last = l; now = _; was = refl; is = b.1; none = refl }
+    ]
+joins (Replace i s t) (Changed Replacement l) joint h = record { kind = Replacement; last = l; now = _; was = refl; is = (replacement-joined i s t l joint h).1; none = refl }
+joins event e joint h = cc
+
+-- and it does what the change and the event do
+redone-after : (l : Swap) (i : ℕ) (s t x y z : List ℕ) → past l ≡ i → IsUtf8 x → apply (Replace l.place l.old l.new) x ≡ Some y → Swaps y z i s t
+    → apply (Replace l.place (l.old ++ s) (l.new ++ t)) x ≡ Some z
+redone-after l i s t x y z at u p q =
+    apply-Replace-Swaps x z l.place (l.old ++ s) (l.new ++ t) (Swaps-after x y z l.place i l.old l.new s t (Swaps-Replace x y l.place l.old l.new u p) q at)
+
+pub redone-joined : (event : Event) (e joint : Entry) (x y z : List ℕ) → joined event e ≡ Some joint → IsUtf8 x → apply (event_of e) x ≡ Some y → apply event y ≡ Some z
+    → apply (event_of joint) x ≡ Some z
+redone-joined (InsertChar i c) (Changed Insertion l) joint x y z h u p q =
+    let b = char-joined i c l joint h in
+    subst (λ k. apply (event_of k) x ≡ Some z) b.1 (redone-after l i [] (encode_utf8 c) x y z b.0 u p (Swaps-InsertChar y z i c (apply-IsUtf8 _ x y u p) q))
+redone-joined (Delete i s side) (Changed Deletion l) joint x y z h u p q =
+    let second = Swaps-Delete y z i s side (apply-IsUtf8 _ x y u p) q in
+    elim (deletion-joined i s side l joint h) [
+      | inl b ↦ subst (λ k. apply (event_of k) x ≡ Some z) b.1 (redone-after l i s [] x y z b.0 u p second)
+      | inr b ↦
+          let one = Swaps-before x y z l.place i l.old l.new s (Swaps-Replace x y l.place l.old l.new u p) second b.0 in
+          subst (λ k. apply (event_of k) x ≡ Some z) b.1 (apply-Replace-Swaps x z i (s ++ l.old) l.new one)
+    ]
+redone-joined (Replace i s t) (Changed Replacement l) joint x y z h u p q =
+    let b = replacement-joined i s t l joint h in
+    subst (λ k. apply (event_of k) x ≡ Some z) b.1 (redone-after l i s t x y z b.0 u p (Swaps-Replace y z i s t (apply-IsUtf8 _ x y u p) q))
+redone-joined event e joint x y z h u p q = cc
+
+-- the text from which entries came stays, whatever event came
+pub entries_after-unwind : (event : Event) (es : List Entry) (text now start : List ℕ) → IsUtf8 text → apply event text ≡ Some now → unwind es text ≡ Some start
+    → unwind (entries_after event es) now ≡ Some start
+entries_after-unwind event [] text now start u h k = entries_of-undo event text now u h ∙ k
+entries_after-unwind event (e ∷ []) text now start u h k = from (joined event e) refl
+  where
+    from : (o : Option Entry) → joined event e ≡ o → unwind (option_map_or (λ joint. joint ∷ []) o (e ∷ entries_of event)) now ≡ Some start
+    from None j = ap (option_and_then (apply (event_of (inverse e)))) (entries_of-undo event text now u h) ∙ k
+    from (Some joint) j =
+        let v = apply-IsUtf8 (event_of (inverse e)) text start u k in
+        inverse-undoes joint start now v (redone-joined event e joint start text now j v (undoes-inverse e start text u k) h)
+entries_after-unwind event (e ∷ (d ∷ ds)) text now start u h k =
+    let p = through (apply (event_of (inverse e))) (unwind (d ∷ ds) text) start k in
+    ap (option_and_then (apply (event_of (inverse e)))) (entries_after-unwind event (d ∷ ds) text now p.0 u h p.1) ∙ p.2
+
+pub record_step-unwind : (r : Record) (event : Event) (text now start : List ℕ) → IsUtf8 text → apply event text ≡ Some now → unwind r.recorded text ≡ Some start
+    → unwind (record_step r event).recorded now ≡ Some start
+unfolding record_step
+record_step-unwind r event text now start u h k =
+    recorded-cases (λ es. unwind es now ≡ Some start) event r (entries_after-unwind event r.recorded text now start u h k) (λ es p e. last_told-unwind p es now ∙ e)

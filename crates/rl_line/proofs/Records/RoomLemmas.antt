@@ -1,0 +1,175 @@
+-- Going over a record needs room only where a text on the way needs more than the first.
+use Rattle.std.proofs.Common.{◌≡◌, ℕ, ◌+◌, ◌-◌, ◌^◌, ◌<◌, ◌≤◌, Bool, true, false, zero, suc, max, List, [], ◌∷◌, ◌++◌, length, length-append, count_by, map, drop, take, reverse, Option, Some, None, ◌⊎◌, inl, inr, refl, sym, ap, subst, ◌∙◌, arith}
+use Rattle.std.proofs.lemmas.Bool.Decides.{nat_tests}
+use Rattle.std.proofs.Math.ListN.{get_or-append}
+use Rattle.std.proofs.lemmas.List.{drop-map, map-append, reverse-append}
+use Rattle.std.proofs.lemmas.List.Quantifiers.{Any-push}
+use Rattle.std.specs.Prelude.{Any, IsSome, get_or, nat_lt, option_and_then}
+use Rattle.std.specs.Str.{IsUtf8}
+use Rattle.rl_base.proofs.Texts.SwapLemmas.{Swaps, Swaps-Replace}
+use Rattle.rl_base.specs.Event.{Event, apply, replay}
+use Rattle.rl_base.specs.Lines.{is_newline}
+use Rattle.rl_line.specs.declared.change.Change.{Change}
+use Rattle.rl_line.specs.declared.change.Measure.{Measure}
+use Rattle.rl_line.specs.declared.change.Measure.TheVariants.{Bytes, Newlines}
+use Rattle.rl_line.specs.declared.change.Way.{Way}
+use Rattle.rl_line.specs.Change.{faced, greatest_back_over, size_back, size_back_over, size_of}
+use Rattle.rl_line.specs.Line.{Line, NeedsRoom}
+use Rattle.rl_line.specs.Record.{Entry, Begin, End, Changed, bytes_ahead, bytes_back, event_of, inverse, new_text, old_text, unwind}
+use Rattle.rl_line.specs.Undo.{line_back, texts_after, texts_ahead, texts_back}
+use Rattle.rl_line.proofs.Lines.LineStartLemmas.{newlines-append}
+use Rattle.rl_line.proofs.Records.RecordLemmas.{inverse-inverse, through, unwind-IsUtf8, value_of}
+use Rattle.rl_line.proofs.Records.UndoLemmas.{entries_from, line_back-unwind, size_back_over-within}
+
+size-append : (k : Measure) (xs ys : List ℕ) → size_of k (xs ++ ys) ≡ size_of k xs + size_of k ys
+size-append Bytes xs ys = length-append xs ys
+size-append Newlines xs ys = newlines-append xs ys
+
+size-swapped : (k : Measure) (text after : List ℕ) (i : ℕ) (old new : List ℕ) → Swaps text after i old new → size_of k after ≡ (size_of k text - size_of k old) + size_of k new
+size-swapped k text after i old new s =
+    let was : size_of k text ≡ size_of k s.front + (size_of k old + size_of k s.rest) =
+    ap (size_of k) s.text_is ∙ size-append k s.front (old ++ s.rest) ∙ ap (λ n. size_of k s.front + n) (size-append k old s.rest) in
+    let is : size_of k after ≡ size_of k s.front + (size_of k new + size_of k s.rest) =
+    ap (size_of k) s.after_is ∙ size-append k s.front (new ++ s.rest) ∙ ap (λ n. size_of k s.front + n) (size-append k new s.rest) in
+    omega (arith, was, is)
+
+size-nothing : (k : Measure) (n : ℕ) → n ≡ (n - size_of k []) + size_of k []
+size-nothing Bytes n = omega arith
+size-nothing Newlines n = omega arith
+
+-- the size of the text before an entry
+size_back-is : (k : Measure) (e : Entry) (text now : List ℕ) → IsUtf8 text → apply (event_of (inverse e)) text ≡ Some now → size_of k now ≡ size_back k e (size_of k text)
+unfolding apply
+size_back-is k Begin text now u h = let e : text ≡ now = cc in ap (size_of k) (sym e) ∙ size-nothing k (size_of k text)
+size_back-is k End text now u h = let e : text ≡ now = cc in ap (size_of k) (sym e) ∙ size-nothing k (size_of k text)
+size_back-is k (Changed j c) text now u h = size-swapped k text now c.place c.new c.old (Swaps-Replace text now c.place c.new c.old u h)
+
+size_back_over-is : (k : Measure) (es : List Entry) (text now : List ℕ) → IsUtf8 text → unwind es text ≡ Some now → size_of k now ≡ size_back_over k es (size_of k text)
+size_back_over-is k [] text now u h = let e : text ≡ now = cc in ap (size_of k) (sym e)
+size_back_over-is k (e ∷ es) text now u h =
+    let p = through (apply (event_of (inverse e))) (unwind es text) now h in
+    size_back-is k e p.0 now (unwind-IsUtf8 es text p.0 u p.1) p.2 ∙ ap (size_back k e) (size_back_over-is k es text p.0 u p.1)
+
+pub texts_after-more : (x : Event) (xs : List Event) (text next : List ℕ) → apply x text ≡ Some next → texts_after (x ∷ xs) text ≡ next ∷ texts_after xs next
+texts_after-more x xs text next h = ap (λ (o : Option (List ℕ)). elim o [ None ↦ [] | Some t ↦ t ∷ texts_after xs t ]) h
+
+texts_after-append : (xs ys : List Event) (text mid : List ℕ) → replay xs text ≡ Some mid → texts_after (xs ++ ys) text ≡ texts_after xs text ++ texts_after ys mid
+texts_after-append [] ys text mid h = let e : text ≡ mid = cc in ap (texts_after ys) e
+texts_after-append (x ∷ xs) ys text mid h =
+    let p = through (replay xs) (apply x text) mid h in
+    texts_after-more x (xs ++ ys) text p.0 p.1 ∙ ap (λ l. p.0 ∷ l) (texts_after-append xs ys p.0 mid p.2) ∙ ap (λ l. l ++ texts_after ys mid) (sym (texts_after-more x xs text p.0 p.1))
+
+-- the event that takes an entry back
+abbrev taking_back : Entry → Event
+taking_back e = event_of (inverse e)
+
+replay-append : (xs ys : List Event) (text mid : List ℕ) → replay xs text ≡ Some mid → replay (xs ++ ys) text ≡ replay ys mid
+replay-append [] ys text mid h = let e : text ≡ mid = cc in ap (replay ys) e
+replay-append (x ∷ xs) ys text mid h =
+    let p = through (replay xs) (apply x text) mid h in
+    ap (option_and_then (replay (xs ++ ys))) p.1 ∙ replay-append xs ys p.0 mid p.2
+
+back-more : (e : Entry) (es : List Entry) → map taking_back (reverse (e ∷ es)) ≡ map taking_back (reverse es) ++ taking_back e ∷ []
+back-more e es = ap (map taking_back) (reverse-append (e ∷ []) es) ∙ map-append taking_back (reverse es) (e ∷ [])
+
+unwind-events : (es : List Entry) (text now : List ℕ) → unwind es text ≡ Some now → replay (map taking_back (reverse es)) text ≡ Some now
+unwind-events [] text now h = h
+unwind-events (e ∷ es) text now h =
+    let p = through (apply (taking_back e)) (unwind es text) now h in
+    ap (λ l. replay l text) (back-more e es) ∙ replay-append (map taking_back (reverse es)) (taking_back e ∷ []) text p.0 (unwind-events es text p.0 p.1)
+    ∙ ap (option_and_then (replay [])) p.2
+
+texts_back-more : (e : Entry) (es : List Entry) (text mid now : List ℕ) → unwind es text ≡ Some mid → apply (taking_back e) mid ≡ Some now → texts_back (e ∷ es) text ≡ texts_back es text ++ now ∷ []
+texts_back-more e es text mid now h makes =
+    ap (λ l. texts_after l text) (back-more e es)
+    ∙ texts_after-append (map taking_back (reverse es)) (taking_back e ∷ []) text mid (unwind-events es text mid h)
+    ∙ ap (λ (o : Option (List ℕ)). texts_back es text ++ elim o [ None ↦ [] | Some next ↦ next ∷ [] ]) makes
+
+Any-left : {X : Type 0} → (P : X → Type 0) (xs ys : List X) → Any P xs → Any P (xs ++ ys)
+Any-left P xs ys (k, x, lt, at, p) = (k, x, omega (arith, length-append xs ys, lt), get_or-append xs ys x k lt ∙ at, p)
+
+needs_room : (k : Measure) (text other : List ℕ) → size_of k text < size_of k other → NeedsRoom text other
+needs_room Bytes text other h = inl h
+needs_room Newlines text other h = inr h
+
+-- where the greatest size on the way is more than the first, a text on the way needs room
+pub NeedsRoom-back : (k : Measure) (es : List Entry) (text now : List ℕ) → IsUtf8 text → unwind es text ≡ Some now → size_of k text < greatest_back_over k es (size_of k text)
+    → Any (NeedsRoom text) (texts_back es text)
+NeedsRoom-back k [] text now u h more = absurd (omega (arith, more))
+NeedsRoom-back k (e ∷ es) text now u h more =
+    let p = through (apply (taking_back e)) (unwind es text) now h in
+    let size : size_of k now ≡ size_back_over k (e ∷ es) (size_of k text) = size_back_over-is k (e ∷ es) text now u h in
+    subst (Any (NeedsRoom text)) (sym (texts_back-more e es text p.0 now p.1 p.2))
+    (by (greatest_back_over k es (size_of k text)) (size_back_over k (e ∷ es) (size_of k text)) (texts_back es text) size more (NeedsRoom-back k es text p.0 u p.1)
+    (nat_lt (size_of k text) (greatest_back_over k es (size_of k text))) refl)
+  where
+    by : (before here : ℕ) (texts : List (List ℕ)) → size_of k now ≡ here → size_of k text < max before here → (size_of k text < before → Any (NeedsRoom text) texts)
+        → (b : Bool) → nat_lt (size_of k text) before ≡ b → Any (NeedsRoom text) (texts ++ now ∷ [])
+    by before here texts size more among true is = Any-left (NeedsRoom text) texts (now ∷ []) (among (grind (arith, nat_tests)))
+    by before here texts size more among false is =
+        let low : before ≤ size_of k text = grind (arith, nat_tests) in
+        Any-push (NeedsRoom text) texts now (needs_room k text now (omega (arith, size, more, low)))
+
+pub NeedsRoom-line : (es : List Entry) (line : Line) → IsUtf8 line.text → IsSome (line_back es line)
+    → (length line.text < greatest_back_over Bytes es (length line.text)) ⊎ (count_by is_newline line.text < greatest_back_over Newlines es (count_by is_newline line.text))
+    → Any (NeedsRoom line.text) (texts_back es line.text)
+NeedsRoom-line es line u h (inl more) = let p = value_of (line_back es line) h in NeedsRoom-back Bytes es line.text p.0.text u (line_back-unwind es line p.0 p.1) more
+NeedsRoom-line es line u h (inr more) = let p = value_of (line_back es line) h in NeedsRoom-back Newlines es line.text p.0.text u (line_back-unwind es line p.0 p.1) more
+
+-- one entry needs room where the text that comes needs more than the one that goes
+pub NeedsRoom-one : (e : Entry) (text now : List ℕ) → IsUtf8 text → apply (taking_back e) text ≡ Some now → NeedsRoom (new_text e) (old_text e) → Any (NeedsRoom text) (texts_back (e ∷ []) text)
+NeedsRoom-one e text now u makes more =
+    subst (Any (NeedsRoom text)) (sym (texts_back-more e [] text text now refl makes)) (Any-push (NeedsRoom text) [] now (needs more))
+  where
+    needs : NeedsRoom (new_text e) (old_text e) → NeedsRoom text now
+    needs (inl long) = inl (omega (arith, size_back-is Bytes e text now u makes, long))
+    needs (inr high) = inr (omega (arith, size_back-is Newlines e text now u makes, high))
+
+-- a size past what a usize holds is more than the first
+pub past_a_usize : (k : Measure) (way : Way) (xs : List Change) (m n size : ℕ) (x : Change) → m < length xs → x ≡ get_or xs m x → size ≡ size_back_over k (map (faced way) (drop (m + 1) xs)) n
+    → n < 2 ^ 64 → 2 ^ 64 ≤ size_back k (faced way x) size → n < greatest_back_over k (map (faced way) xs) n
+past_a_usize k way xs m n size x lt e is fits past =
+    let same : size_back_over k (drop m (map (faced way) xs)) n ≡ size_back k (faced way x) size =
+    ap (λ es. size_back_over k es n) (drop-map (faced way) m xs ∙ entries_from way xs m x lt e) ∙ ap (size_back k (faced way x)) (sym is) in
+    omega (arith, size_back_over-within k m (map (faced way) xs) n, same, fits, past)
+
+-- the texts on the way ahead are those on the way back over the inverses, the last first
+pub texts_ahead-back : (es : List Entry) (text : List ℕ) → texts_back (map inverse (reverse es)) text ≡ texts_ahead es text
+texts_ahead-back es text = ap (λ l. texts_after l text) (each es)
+  where
+    each : (es : List Entry) → map taking_back (reverse (map inverse (reverse es))) ≡ map event_of es
+    each [] = refl
+    each (e ∷ es) =
+        ap (λ l. map taking_back (reverse (map inverse l))) (reverse-append (e ∷ []) es)
+        ∙ ap (λ l. map taking_back (reverse l)) (map-append inverse (reverse es) (e ∷ []))
+        ∙ ap (map taking_back) (reverse-append (map inverse (reverse es)) (inverse e ∷ []))
+        ∙ ap (λ f. event_of f ∷ map taking_back (reverse (map inverse (reverse es)))) (inverse-inverse e)
+        ∙ ap (λ l. event_of e ∷ l) (each es)
+
+-- what comes with one of the changes is no more than what comes with all
+pub bytes_back-one : (way : Way) (xs : List Change) (m : ℕ) (x : Change) → m < length xs → x ≡ get_or xs m x → 0 < length (old_text (faced way x)) → 0 < bytes_back (map (faced way) xs)
+bytes_back-one way [] m x lt e h = absurd (omega (arith, lt))
+bytes_back-one way (y ∷ ys) zero x lt e h = let t = subst (λ z. 0 < length (old_text (faced way z))) e h in omega (arith, t)
+bytes_back-one way (y ∷ ys) (suc m) x lt e h = omega (arith, bytes_back-one way ys m x (omega (arith, lt)) e h)
+
+pub bytes_back-first : (len : ℕ) (es : List Entry) → bytes_back (take len es) ≤ bytes_back es
+bytes_back-first zero es = omega arith
+bytes_back-first (suc len) [] = omega arith
+bytes_back-first (suc len) (e ∷ es) = omega (arith, bytes_back-first len es)
+
+bytes_back-append : (xs ys : List Entry) → bytes_back (xs ++ ys) ≡ bytes_back xs + bytes_back ys
+bytes_back-append [] ys = omega arith
+bytes_back-append (x ∷ xs) ys = omega (arith, bytes_back-append xs ys)
+
+old_text-inverse : (e : Entry) → length (old_text (inverse e)) ≡ bytes_ahead (e ∷ [])
+old_text-inverse Begin = refl
+old_text-inverse End = refl
+old_text-inverse (Changed k c) = omega arith
+
+pub bytes_ahead-back : (es : List Entry) → bytes_back (map inverse (reverse es)) ≡ bytes_ahead es
+bytes_ahead-back [] = refl
+bytes_ahead-back (e ∷ es) =
+    let turned : bytes_back (map inverse (reverse (e ∷ es))) ≡ bytes_back (map inverse (reverse es)) + bytes_back (inverse e ∷ []) =
+    ap (λ l. bytes_back (map inverse l)) (reverse-append (e ∷ []) es) ∙ ap bytes_back (map-append inverse (reverse es) (e ∷ []))
+    ∙ bytes_back-append (map inverse (reverse es)) (inverse e ∷ []) in
+    omega (arith, turned, bytes_ahead-back es, old_text-inverse e)

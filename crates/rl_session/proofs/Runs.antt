@@ -1,0 +1,8 @@
+-- Runs of a session, and the laws that hold over them.
+pub mod RowLemmas
+pub mod PlaceLemmas
+pub mod HistoryLemmas
+pub mod UndoGroupLemmas
+pub mod CursorLemmas
+pub mod GiveBackLemmas
+pub mod KillRunLemmas

@@ -1,0 +1,373 @@
+-- An edit that adds one entry: its cursors are where the cursor was before the edit, and where its last step left it.
+use Rattle.std.proofs.Common.{◌≡◌, ℕ, ◌+◌, ◌<◌, ◌≤◌, ◌⊎◌, inl, inr, List, [], ◌∷◌, ◌++◌, length, length-append, append-nil, Option, Some, None, refl, sym, ap, subst, ◌∙◌, arith}
+use Rattle.std.proofs.lemmas.Option.{same_Some}
+use Rattle.std.proofs.lemmas.Str.{length-encode, len_utf8_bounds}
+use Rattle.std.specs.Option.{option_map_or}
+use Rattle.std.specs.Prelude.{encode_utf8}
+use Rattle.std.specs.Str.{IsUtf8}
+use Rattle.rl_base.specs.declared.listeners.Direction.{Direction}
+use Rattle.rl_base.specs.Event.{Event, InsertChar, InsertStr, Delete, Replace, Start, Stop, Cursors, apply}
+use Rattle.rl_base.proofs.Texts.SwapLemmas.{apply-IsUtf8}
+use Rattle.rl_line.specs.declared.change.Freshness.{Freshness}
+use Rattle.rl_line.specs.declared.change.Freshness.TheVariants as is
+use Rattle.rl_line.specs.Line.{Line, stepped}
+use Rattle.rl_line.specs.Plan.{Step, after, heard, heard_step}
+use Rattle.rl_line.specs.Record.{Kind, Insertion, Deletion, Replacement, Swap, Entry, Begin, End, Changed, Record, cursors_of, entries_after, entries_of, entries_told, event_of, freshness_added, freshness_joined, freshness_of, joined, last_told, record_step, unwind, with_cursors}
+use Rattle.rl_line.proofs.Records.JoinLemmas.{fresh-Delete-nothing}
+use Rattle.rl_line.proofs.Plans.PlanLemmas.{first_step}
+use Rattle.rl_line.proofs.Records.RecordLemmas.{char-joined, deletion-joined, entries_of-undo, joins, none_or_one, redone-joined, replacement-joined, undoes-inverse}
+use Rattle.rl_line.proofs.Records.ToldLemmas.{same-event, told-cases}
+use Rattle.rl_line.proofs.Records.WalkLemmas.{after-some, told-added, told-after}
+
+-- an event of a text, which is the last one where it is a replacement
+abbrev pub IsLone : Event → List Step → Type 0
+IsLone (InsertChar i c) ss = Unit {0}
+IsLone (InsertStr i s) ss = Unit {0}
+IsLone (Delete i s side) ss = Unit {0}
+IsLone (Replace i s t) ss = ss ≡ []
+IsLone Start ss = ⊥
+IsLone Stop ss = ⊥
+IsLone (Cursors b a) ss = ⊥
+
+-- a step whose event adds no entry leaves the cursor, and a replacement is the last step
+abbrev pub Quiet : ℕ → List Step → Type 0
+Quiet cursor [] = Unit {0}
+Quiet cursor (s ∷ ss) = (entries_of s.0 ≡ [] → s.1 ≡ cursor) × IsLone s.0 ss × Quiet s.1 ss
+
+-- the cursor after the steps
+abbrev pub ends_at : ℕ → List Step → ℕ
+ends_at cursor [] = cursor
+ends_at cursor (s ∷ ss) = ends_at s.1 ss
+
+-- an entry that makes the text of another, and was told both cursors
+pub record AddedAlone (e : Entry) (text now : List ℕ) (before after : ℕ) : Type 0 where
+  pub cursors : cursors_of e ≡ Some (before, after)
+  pub makes : apply (event_of e) text ≡ Some now
+
+-- ---- what a step makes of the entries
+-- the entries after an event of a text and the cursors after it
+abbrev pub next : Event → List Entry → ℕ → ℕ → List Entry
+next event es b a = entries_told (freshness_of event es) b a (entries_after event es)
+
+pub recorded-next : (b : ℕ) (event : Event) (a : ℕ) (ss : List Step) (r : Record) → IsLone event ss
+    → (heard_step record_step b (event, a) r).recorded ≡ next event r.recorded b a
+unfolding record_step
+recorded-next b (InsertChar i c) a ss r h = refl
+recorded-next b (InsertStr i s) a ss r h = refl
+recorded-next b (Delete i s side) a ss r h = refl
+recorded-next b (Replace i s t) a ss r h = refl
+recorded-next b Start a ss r h = absurd h
+recorded-next b Stop a ss r h = absurd h
+recorded-next b (Cursors b' a') a ss r h = absurd h
+
+-- only the last entry may change
+next-cons : (event : Event) (e d : Entry) (ds : List Entry) (b a : ℕ) → next event (e ∷ (d ∷ ds)) b a ≡ e ∷ next event (d ∷ ds) b a
+next-cons event e d ds b a =
+    let (y, ys, some) = after-some event d ds in
+    let fresh = freshness_of event (d ∷ ds) in
+    ap (λ l. entries_told fresh b a (e ∷ l)) some ∙ told-after fresh b a e y ys ∙ ap (λ l. e ∷ entries_told fresh b a l) (sym some)
+
+next-front : (event : Event) (front : List Entry) (l : Entry) (b a : ℕ) → next event (front ++ l ∷ []) b a ≡ front ++ next event (l ∷ []) b a
+next-front event [] l b a = refl
+next-front event (x ∷ []) l b a = next-cons event x l [] b a
+next-front event (x ∷ (z ∷ zs)) l b a = next-cons event x z (zs ++ l ∷ []) b a ∙ ap (λ es. x ∷ es) (next-front event (z ∷ zs) l b a)
+
+-- what becomes of the last entry, by the one that stands for it and the event
+abbrev last_next : Event → Entry → ℕ → ℕ → Option Entry → List Entry
+last_next event l b a o =
+    let fresh = option_map_or (λ _. freshness_joined (cursors_of l)) o (freshness_added (entries_of event)) in
+    entries_told fresh b a (option_map_or (λ joint. joint ∷ []) o (l ∷ entries_of event))
+
+-- the last entry, where the event joins it and where it does not
+next-joined : (event : Event) (l j : Entry) (b a : ℕ) → joined event l ≡ Some j
+    → next event (l ∷ []) b a ≡ entries_told (freshness_joined (cursors_of l)) b a (j ∷ [])
+next-joined event l j b a h = ap (last_next event l b a) h
+
+next-apart : (event : Event) (l : Entry) (b a : ℕ) → joined event l ≡ None
+    → next event (l ∷ []) b a ≡ l ∷ entries_told (freshness_added (entries_of event)) b a (entries_of event)
+next-apart event l b a h = ap (last_next event l b a) h ∙ told-added l (entries_of event) b a
+
+-- the last entry that an event joined
+record JoinsOne (event : Event) (es : List Entry) (b a : ℕ) : Type 0 where
+  pub front : List Entry
+  pub last : Entry
+  pub joint : Entry
+  pub split : es ≡ front ++ last ∷ []
+  pub joins : joined event last ≡ Some joint
+  pub makes : next event es b a ≡ front ++ entries_told (freshness_joined (cursors_of last)) b a (joint ∷ [])
+
+next-cases : (event : Event) (es : List Entry) (b a : ℕ)
+    → (next event es b a ≡ es ++ entries_told (freshness_added (entries_of event)) b a (entries_of event)) ⊎ JoinsOne event es b a
+next-cases event [] b a = inl refl
+next-cases event (l ∷ []) b a = from (joined event l) refl
+  where
+    from : (o : Option Entry) → joined event l ≡ o
+        → (next event (l ∷ []) b a ≡ l ∷ entries_told (freshness_added (entries_of event)) b a (entries_of event)) ⊎ JoinsOne event (l ∷ []) b a
+    from None h = inl (next-apart event l b a h)
+    from (Some j) h = inr (record { front = []; last = l; joint = j; split = refl; joins = h; makes = next-joined event l j b a h })
+next-cases event (e ∷ (d ∷ ds)) b a =
+    let turn = next-cons event e d ds b a in
+    let rest = next-cases event (d ∷ ds) b a in
+    elim rest [
+      | inl h ↦ inl (turn ∙ ap (λ es. e ∷ es) h)
+      | inr j ↦ inr (record {
+        front = e ∷ j.front;
+        last = j.last;
+        joint = j.joint;
+        split = ap (λ es. e ∷ es) j.split;
+        joins = j.joins;
+        makes = turn ∙ ap (λ es. e ∷ es) j.makes;
+      })
+    ]
+
+-- the entries that an event adds, told their cursors
+told-none : (es : List Entry) (b a : ℕ) → es ≡ [] → entries_told (freshness_added es) b a es ≡ []
+told-none es b a h = ap (λ (ks : List Entry). entries_told (freshness_added ks) b a ks) h
+
+told-one : (es : List Entry) (k : Entry) (b a : ℕ) → es ≡ k ∷ [] → entries_told (freshness_added es) b a es ≡ with_cursors (b, a) k ∷ []
+told-one es k b a h = ap (λ (ks : List Entry). entries_told (freshness_added ks) b a ks) h
+
+-- ---- entries grow
+-- the length of what an entry puts in and takes out
+abbrev weight : Entry → ℕ
+weight Begin = 0
+weight End = 0
+weight (Changed k c) = length c.old + length c.new
+
+same-weight : (p : ℕ × ℕ) (e : Entry) → weight (with_cursors p e) ≡ weight e
+same-weight p Begin = refl
+same-weight p End = refl
+same-weight p (Changed k c) = refl
+
+-- at each place an entry that is no lighter, and perhaps more entries after these
+abbrev Grows : List Entry → List Entry → Type 0
+Grows [] ys = Unit {0}
+Grows (x ∷ xs) [] = ⊥
+Grows (x ∷ xs) (y ∷ ys) = (weight x ≤ weight y) × Grows xs ys
+
+Grows-same : (es : List Entry) → Grows es es
+Grows-same [] = tt
+Grows-same (e ∷ es) = (omega arith, Grows-same es)
+
+Grows-on : (xs ys zs : List Entry) → Grows xs ys → Grows ys zs → Grows xs zs
+Grows-on [] ys zs g h = tt
+Grows-on (x ∷ xs) [] zs g h = absurd g
+Grows-on (x ∷ xs) (y ∷ ys) [] g h = absurd h
+Grows-on (x ∷ xs) (y ∷ ys) (z ∷ zs) g h = (omega (arith, g.0, h.0), Grows-on xs ys zs g.1 h.1)
+
+Grows-length : (xs ys : List Entry) → Grows xs ys → length xs ≤ length ys
+Grows-length [] ys g = omega arith
+Grows-length (x ∷ xs) [] g = absurd g
+Grows-length (x ∷ xs) (y ∷ ys) g = let rest = Grows-length xs ys g.1 in omega (arith, rest)
+
+Grows-last_told : (p : ℕ × ℕ) (es : List Entry) → Grows es (last_told p es)
+Grows-last_told p [] = tt
+Grows-last_told p (e ∷ []) = let same = same-weight p e in (omega (arith, same), tt)
+Grows-last_told p (e ∷ (d ∷ ds)) = (omega arith, Grows-last_told p (d ∷ ds))
+
+-- a text that was taken out and joins another is not empty
+cut-some : (i : ℕ) (s : List ℕ) (side : Direction) (c : Swap) (j : Entry) → joined (Delete i s side) (Changed Deletion c) ≡ Some j → 0 < length s
+cut-some i [] side c j h =
+    let last = Changed Deletion (record c { cursors = Some (0, 0) }) in
+    let stale = fresh-Delete-nothing (last ∷ []) i [] side refl in
+    let told : is.Joined 0 ≡ is.Stale = ap (λ o. option_map_or (λ _. freshness_joined (Some (0, 0))) o (freshness_added (entries_of (Delete i [] side)))) (sym h) ∙ stale in
+    cc
+cut-some i (x ∷ s) side c j h = omega arith
+
+-- an entry that an event joins is heavier then, but for a replacement, which may be of nothing
+heavier : (event : Event) (e j : Entry) (ss : List Step) → joined event e ≡ Some j → IsLone event ss → (weight e < weight j) ⊎ ((weight e ≤ weight j) × (ss ≡ []))
+heavier (InsertChar i c) (Changed Insertion l) j ss h lone =
+    let some : 0 < length (encode_utf8 c) = omega (arith, length-encode c, (len_utf8_bounds c).0) in
+    inl (subst (λ k. weight (Changed Insertion l) < weight k) (char-joined i c l j h).1 (omega (arith, some, length-append l.old [], length-append l.new (encode_utf8 c))))
+heavier (Delete i s side) (Changed Deletion l) j ss h lone =
+    let some = cut-some i s side l j h in
+    elim (deletion-joined i s side l j h) [
+      | inl b ↦ inl (subst (λ k. weight (Changed Deletion l) < weight k) b.1 (omega (arith, some, length-append l.old s, length-append l.new [])))
+      | inr b ↦ inl (subst (λ k. weight (Changed Deletion l) < weight k) b.1 (omega (arith, some, length-append s l.old)))
+    ]
+heavier (Replace i s t) (Changed Replacement l) j ss h lone =
+    inr (subst (λ k. weight (Changed Replacement l) ≤ weight k) (replacement-joined i s t l j h).1 (omega (arith, length-append l.old s, length-append l.new t)), lone)
+heavier event e j ss h lone = cc
+
+Grows-after : (event : Event) (es : List Entry) (ss : List Step) → IsLone event ss → Grows es (entries_after event es)
+Grows-after event [] ss lone = tt
+Grows-after event (e ∷ []) ss lone = from (joined event e) refl
+  where
+    from : (o : Option Entry) → joined event e ≡ o → Grows (e ∷ []) (option_map_or (λ joint. joint ∷ []) o (e ∷ entries_of event))
+    from None h = (omega arith, tt)
+    from (Some j) h = elim (heavier event e j ss h lone) [ inl more ↦ (omega (arith, more), tt) | inr p ↦ (p.0, tt) ]
+Grows-after event (e ∷ (d ∷ ds)) ss lone = (omega arith, Grows-after event (d ∷ ds) ss lone)
+
+Grows-told : (fresh : Freshness) (b a : ℕ) (es : List Entry) → Grows es (entries_told fresh b a es)
+Grows-told fresh b a es = told-cases (λ ks. Grows es ks) fresh b a es (Grows-same es) (λ p. Grows-last_told p es)
+
+-- what is recorded grows with every step
+Grows-heard : (b : ℕ) (steps : List Step) (r : Record) → Quiet b steps → Grows r.recorded (heard record_step b steps r).recorded
+Grows-heard b [] r q = Grows-same r.recorded
+Grows-heard b (s ∷ ss) r q =
+    let k = heard_step record_step b s r in
+    let es = r.recorded in
+    let after = entries_after s.0 es in
+    let told = Grows-told (freshness_of s.0 es) b s.1 after in
+    let first : Grows es (next s.0 es b s.1) = Grows-on es after (next s.0 es b s.1) (Grows-after s.0 es ss q.1) told in
+    Grows-on es k.recorded (heard record_step s.1 ss k).recorded (subst (Grows es) (sym (recorded-next b s.0 s.1 ss r q.1)) first) (Grows-heard s.1 ss k q.2)
+
+-- ---- one entry is there, and stays the only one
+-- the entry that an event adds is told its cursors
+added-cursors : (event : Event) (e : Entry) (p : ℕ × ℕ) → entries_of event ≡ e ∷ [] → cursors_of (with_cursors p e) ≡ Some p
+added-cursors event e p h =
+    elim (none_or_one event) [
+      | inl none ↦ let no : [] ≡ e ∷ [] = sym none ∙ h in cc
+      | inr (k, c, one) ↦ let both : Changed k c ∷ [] ≡ e ∷ [] = sym one ∙ h in let same : Changed k c ≡ e = cc in ap (λ (q : Entry). cursors_of (with_cursors p q)) (sym same)
+    ]
+
+-- and so is one that an event joined
+joint-cursors : (event : Event) (e joint : Entry) (p : ℕ × ℕ) → joined event e ≡ Some joint → cursors_of (with_cursors p joint) ≡ Some p
+joint-cursors event e joint p h = ap (λ (q : Entry). cursors_of (with_cursors p q)) (sym (joins event e joint h).is)
+
+-- an event that adds no entry leaves the text
+text-same : (event : Event) (x y : List ℕ) → IsUtf8 x → apply event x ≡ Some y → entries_of event ≡ [] → y ≡ x
+text-same event x y u h none = same_Some _ _ (ap (λ ks. unwind ks y) (sym none) ∙ entries_of-undo event x y u h)
+
+-- the one that it adds makes the new text
+added-makes : (event : Event) (x y : List ℕ) (k : Entry) → IsUtf8 x → apply event x ≡ Some y → entries_of event ≡ k ∷ [] → apply (event_of k) x ≡ Some y
+added-makes event x y k u h one =
+    undoes-inverse k x y (apply-IsUtf8 event x y u h) (ap (λ ks. unwind ks y) (sym one) ∙ entries_of-undo event x y u h)
+
+-- what an event makes of one entry that was added: one again, or two
+record StaysOne (event : Event) (x now : List ℕ) (k : Entry) (first b a : ℕ) : Type 0 where
+  pub entry : Entry
+  pub is : next event (k ∷ []) b a ≡ entry ∷ []
+  pub alone : AddedAlone entry x now first a
+
+one-more : (event : Event) (x text now : List ℕ) (k : Entry) (first b a : ℕ) → IsUtf8 x
+    → AddedAlone k x text first b → apply event text ≡ Some now → (entries_of event ≡ [] → a ≡ b)
+    → StaysOne event x now k first b a ⊎ ((d : Entry) × (next event (k ∷ []) b a ≡ k ∷ (d ∷ [])))
+one-more event x text now k first b a u alone h quiet = from (joined event k) refl
+  where
+    v : IsUtf8 text
+    v = apply-IsUtf8 (event_of k) x text u alone.makes
+
+    apart : joined event k ≡ None → (entries_of event ≡ []) ⊎ ((kind : Kind) × (swap : Swap) × (entries_of event ≡ Changed kind swap ∷ []))
+        → StaysOne event x now k first b a ⊎ ((d : Entry) × (next event (k ∷ []) b a ≡ k ∷ (d ∷ [])))
+    apart j (inl none) = inl (record {
+      entry = k;
+      is = next-apart event k b a j ∙ ap (λ es. k ∷ es) (told-none (entries_of event) b a none);
+      alone = record {
+        cursors = alone.cursors ∙ ap (λ n. Some (first, n)) (sym (quiet none));
+        makes = alone.makes ∙ ap (λ t. Some t) (sym (text-same event text now v h none));
+      };
+    })
+    apart j (inr (kind, swap, one)) =
+        let d = Changed kind swap in
+        inr (with_cursors (b, a) d, next-apart event k b a j ∙ ap (λ es. k ∷ es) (told-one (entries_of event) d b a one))
+
+    from : (o : Option Entry) → joined event k ≡ o → StaysOne event x now k first b a ⊎ ((d : Entry) × (next event (k ∷ []) b a ≡ k ∷ (d ∷ [])))
+    from None j = apart j (none_or_one event)
+    from (Some joint) j = inl (record {
+      entry = with_cursors (first, a) joint;
+      is = next-joined event k joint b a j ∙ ap (λ o. entries_told (freshness_joined o) b a (joint ∷ [])) alone.cursors;
+      alone = record {
+        cursors = joint-cursors event k joint (first, a) j;
+        makes = ap (λ q. apply q x) (same-event (first, a) joint) ∙ redone-joined event k joint x text now j u alone.makes h;
+      };
+    })
+
+-- the same last entry
+last-same : (xs : List Entry) (k e : Entry) → xs ++ k ∷ [] ≡ xs ++ e ∷ [] → k ≡ e
+last-same [] k e h = cc
+last-same (x ∷ xs) k e h = let rest : xs ++ k ∷ [] ≡ xs ++ e ∷ [] = cc in last-same xs k e rest
+
+-- the steps after the one that added the entry
+after-added : (steps : List Step) (r : Record) (x : List ℕ) (first : ℕ) (line new : Line) (base : List Entry) (k e : Entry)
+    → IsUtf8 x → after steps line ≡ Some new → Quiet line.cursor steps
+    → r.recorded ≡ base ++ k ∷ [] → AddedAlone k x line.text first line.cursor → (heard record_step line.cursor steps r).recorded ≡ base ++ e ∷ []
+    → AddedAlone e x new.text first (ends_at line.cursor steps)
+after-added [] r x first line new base k e u h q is alone end =
+    let same : line ≡ new = cc in
+    let one = last-same base k e (sym is ∙ end) in
+    subst (λ d. AddedAlone d x new.text first line.cursor) one (subst (λ (l : Line). AddedAlone k x l.text first line.cursor) same alone)
+after-added (s ∷ ss) r x first line new base k e u h q is alone end =
+    let b = first_step s ss line new h in
+    let c = line.cursor in
+    let now = heard_step record_step c s r in
+    let made : now.recorded ≡ base ++ next s.0 (k ∷ []) c s.1 =
+    recorded-next c s.0 s.1 ss r q.1 ∙ ap (λ es. next s.0 es c s.1) is ∙ next-front s.0 base k c s.1 in
+    elim (one-more s.0 x line.text b.text k first c s.1 u alone b.makes q.0) [
+      | inl t ↦ after-added ss now x first (stepped line b.text s.1) new base t.entry e u b.rest q.2 (made ∙ ap (λ es. base ++ es) t.is) t.alone end
+      | inr t ↦
+          let more = Grows-length now.recorded (heard record_step s.1 ss now).recorded (Grows-heard s.1 ss now q.2) in
+          let two : length now.recorded ≡ length base + 2 = ap length (made ∙ ap (λ es. base ++ es) t.1) ∙ length-append base (k ∷ (t.0 ∷ [])) in
+          let last : length (heard record_step s.1 ss now).recorded ≡ length base + 1 = ap length end ∙ length-append base (e ∷ []) in
+          absurd (omega (arith, more, two, last))
+    ]
+
+-- ---- no entry is there yet
+told-weight : (fresh : Freshness) (b a : ℕ) (j : Entry) → (y : Entry) × (entries_told fresh b a (j ∷ []) ≡ y ∷ []) × (weight y ≡ weight j)
+told-weight is.Stale b a j = (j, refl, refl)
+told-weight is.Added b a j = (with_cursors (b, a) j, refl, same-weight (b, a) j)
+told-weight (is.Joined p) b a j = (with_cursors (p, a) j, refl, same-weight (p, a) j)
+
+Grows-at : (front : List Entry) (y l e : Entry) → Grows (front ++ y ∷ []) ((front ++ l ∷ []) ++ e ∷ []) → weight y ≤ weight l
+Grows-at [] y l e g = g.0
+Grows-at (x ∷ xs) y l e g = Grows-at xs y l e g.1
+
+-- where the first event of steps joins the last entry, they add none
+joined-adds-none : (s : Step) (ss : List Step) (b : ℕ) (r : Record) (e : Entry) → Quiet b (s ∷ ss) → JoinsOne s.0 r.recorded b s.1
+    → (heard record_step b (s ∷ ss) r).recorded ≡ r.recorded ++ e ∷ [] → ⊥
+joined-adds-none s ss b r e q j end = elim (heavier s.0 j.last j.joint ss j.joins q.1) [ inl more ↦ by_weight more | inr p ↦ by_length p.1 ]
+  where
+    now : Record
+    now = heard_step record_step b s r
+
+    y : (d : Entry) × (entries_told (freshness_joined (cursors_of j.last)) b s.1 (j.joint ∷ []) ≡ d ∷ []) × (weight d ≡ weight j.joint)
+    y = told-weight (freshness_joined (cursors_of j.last)) b s.1 j.joint
+
+    made : now.recorded ≡ j.front ++ y.0 ∷ []
+    made = recorded-next b s.0 s.1 ss r q.1 ∙ j.makes ∙ ap (λ es. j.front ++ es) y.1
+
+    by_weight : weight j.last < weight j.joint → ⊥
+    by_weight more =
+        let g = Grows-heard s.1 ss now q.2 in
+        let from_made = subst (λ es. Grows es (heard record_step s.1 ss now).recorded) made g in
+        let to_end = subst (Grows (j.front ++ y.0 ∷ [])) (end ∙ ap (λ es. es ++ e ∷ []) j.split) from_made in
+        let least = Grows-at j.front y.0 j.last e to_end in
+        let same = y.2 in
+        omega (arith, more, least, same)
+
+    by_length : ss ≡ [] → ⊥
+    by_length nil =
+        let last : now.recorded ≡ r.recorded ++ e ∷ [] = ap (λ ts. (heard record_step s.1 ts now).recorded) (sym nil) ∙ end in
+        let short : length now.recorded ≡ length j.front + 1 = ap length made ∙ length-append j.front (y.0 ∷ []) in
+        let old : length r.recorded ≡ length j.front + 1 = ap length j.split ∙ length-append j.front (j.last ∷ []) in
+        let long : length now.recorded ≡ length r.recorded + 1 = ap length last ∙ length-append r.recorded (e ∷ []) in
+        omega (arith, short, old, long)
+
+-- steps that add one entry alone: it makes their text, and was told the cursor before them and the one that they left
+pub added-alone : (steps : List Step) (r : Record) (old new : Line) (e : Entry) → IsUtf8 old.text → after steps old ≡ Some new → Quiet old.cursor steps
+    → (heard record_step old.cursor steps r).recorded ≡ r.recorded ++ e ∷ [] → AddedAlone e old.text new.text old.cursor (ends_at old.cursor steps)
+added-alone [] r old new e u h q end = let more = ap length end ∙ length-append r.recorded (e ∷ []) in absurd (omega (arith, more))
+added-alone (s ∷ ss) r old new e u h q end =
+    let b = first_step s ss old new h in
+    let c = old.cursor in
+    let es = r.recorded in
+    let now = heard_step record_step c s r in
+    let line = stepped old b.text s.1 in
+    let is = recorded-next c s.0 s.1 ss r q.1 in
+    elim (next-cases s.0 es c s.1) [
+      | inr j ↦ absurd (joined-adds-none s ss c r e q j end)
+      | inl apart ↦ elim (none_or_one s.0) [
+        | inl none ↦
+            let kept : now.recorded ≡ es = is ∙ apart ∙ ap (λ ks. es ++ ks) (told-none (entries_of s.0) c s.1 none) ∙ append-nil es in
+            let text : b.text ≡ old.text = text-same s.0 old.text b.text u b.makes none in
+            let rest = added-alone ss now line new e (apply-IsUtf8 s.0 old.text b.text u b.makes) b.rest q.2 (end ∙ ap (λ ks. ks ++ e ∷ []) (sym kept)) in
+            subst (λ t. AddedAlone e t new.text c (ends_at s.1 ss)) text (subst (λ n. AddedAlone e b.text new.text n (ends_at s.1 ss)) (q.0 none) rest)
+        | inr (kind, swap, one) ↦
+            let k = Changed kind swap in
+            let p : ℕ × ℕ = (c, s.1) in
+            let grown : now.recorded ≡ es ++ with_cursors p k ∷ [] = is ∙ apart ∙ ap (λ ks. es ++ ks) (told-one (entries_of s.0) k c s.1 one) in
+            let makes : apply (event_of (with_cursors p k)) old.text ≡ Some b.text =
+            ap (λ v. apply v old.text) (same-event p k) ∙ added-makes s.0 old.text b.text k u b.makes one in
+            after-added ss now old.text c line new es (with_cursors p k) e u b.rest q.2 grown (record { cursors = added-cursors s.0 k p one; makes = makes }) end
+      ]
+    ]

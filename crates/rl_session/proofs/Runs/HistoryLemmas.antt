@@ -1,0 +1,186 @@
+-- Rows of a session: what they make of its history, and what undos and redos among them do.
+use Rattle.std.proofs.Common.{◌≡◌, ℕ, Bool, true, suc, List, [], ◌∷◌, ◌++◌, length, take, Option, Some, None, refl, sym, ap, subst, ◌∙◌, append-nil, append_assoc}
+use Rattle.std.proofs.lemmas.Slice.Eq.{bytes_eq-Decides}
+use Rattle.std.specs.Str.{IsCharBoundary, IsUtf8}
+use Rattle.rl_base.specs.declared.layout.GraphemeClusterMode.{GraphemeClusterMode}
+use Rattle.rl_line.specs.Line.{Line}
+use Rattle.rl_line.specs.Plan.{Step as PlanStep, heard}
+use Rattle.rl_line.specs.Record.{Record, agree, record_step, unwind}
+use Rattle.rl_line.specs.Undo.{Undone, Redone, Redos}
+use Rattle.rl_line.specs.Units.{begun, ended, last_of, last_units, opens, redo_of, truncated, undone}
+use Rattle.rl_line.proofs.Records.RecordLemmas.{replay-IsUtf8}
+use Rattle.rl_line.proofs.Records.RedoLemmas.{redos-give-back}
+use Rattle.rl_line.proofs.Records.UndoLemmas.{line_ahead-replay, line_back-unwind}
+use Rattle.rl_line.proofs.Records.UnitLemmas.{kept-last}
+use Rattle.rl_session.specs.Commands.{Effect, by_steps, puts_begin, puts_ends, shortens, takes_back, puts_again, Became, effect, Step, Does, readied, with_changes}
+use Rattle.rl_session.specs.History.{AllRedone, History, Holds, WasHeld, WasRefused}
+use Rattle.rl_session.specs.Run.{Row, Leads, Run, held, held_by, held_of, steps_in, texts_of_steps}
+use Rattle.rl_session.specs.State.{State, fresh}
+use Rattle.rl_session.specs.declared.session.Command.{Command}
+use Rattle.rl_session.specs.declared.session.Command.TheVariants.{Undo, Redo}
+use Rattle.rl_session.specs.declared.session.Reply.{Reply}
+use Rattle.rl_session.specs.declared.session.Reply.TheVariants as says
+use Rattle.rl_session.proofs.Sessions.CourseLemmas.{Heard, Heard-Came}
+use Rattle.rl_session.proofs.Runs.RowLemmas.{Leads-split}
+use Rattle.rl_session.proofs.Runs.PlaceLemmas.{History-more, History-steps, History-begun, History-ended, History-undone, History-redone, History-truncated, undo-held}
+
+-- ---- the history
+History-Heard : (start : List ℕ) (held : List (List ℕ)) (steps : List PlanStep) (old : Line) (r : Record) (text : List ℕ) (now : Record) → History start held old.text r
+    → Heard steps old r text now → History start (held ++ texts_of_steps steps old.text) text now
+History-Heard start held steps old r text now h k =
+    subst (λ (x : Record). History start (held ++ texts_of_steps steps old.text) text x) (sym k.taken.listener)
+    (subst (λ t. History start (held ++ texts_of_steps steps old.text) t (heard record_step old.cursor steps r)) (sym k.text_is)
+    (History-steps steps start held old k.last r h k.taken.line))
+
+-- no text was held, and the record became another
+History-changes : (start : List ℕ) (held : List (List ℕ)) (new made : State) → Holds start held made → new ≡ made → Holds start (held ++ []) new
+History-changes start held new made h e = subst (λ k. Holds start k new) (sym (append-nil held)) (subst (λ s. Holds start held s) (sym e) h)
+
+agree-same : (a b : Option (List ℕ)) → agree a b ≡ true → b ≡ a
+agree-same (Some a) (Some b) h = ap (λ t. Some t) (sym ((bytes_eq-Decides a b).0 h))
+agree-same (Some a) None h = cc
+agree-same None (Some b) h = cc
+agree-same None None h = refl
+
+History-TookBack : (n : ℕ) (start : List ℕ) (held more : List (List ℕ)) (old new : State) (a : Bool) → Holds start held old
+    → Undone n old.pair.changes new.pair.changes old.line new.line a → Holds start (held ++ more) new
+History-TookBack n start held more old new a h d =
+    let k = History-undone n start held old.line.text new.line.text old.pair.changes h (line_back-unwind (last_of n old.pair.changes.recorded) old.line new.line d.line_is) in
+    History-more start held more new.line.text new.pair.changes (subst (λ (r : Record). History start held new.line.text r) (sym d.record_is) k)
+
+History-PutAgain : (start : List ℕ) (held more : List (List ℕ)) (old new : State) (a : Bool) → Holds start held old
+    → Redone old.pair.changes new.pair.changes old.line new.line a → Holds start (held ++ more) new
+History-PutAgain start held more old new a h d =
+    let k = History-redone start held old.line.text new.line.text old.pair.changes h (line_ahead-replay (redo_of old.pair.changes.pending) old.line new.line d.line_is) in
+    History-more start held more new.line.text new.pair.changes (subst (λ (r : Record). History start held new.line.text r) (sym d.record_is) k)
+
+Holds-Became : (start : List ℕ) (held : List (List ℕ)) (effect : Effect) (old new : State) (d : Became effect old new) → Holds start held old
+    → Holds start (held ++ held_by effect old new d) new
+Holds-Became start held (by_steps course) old new d h =
+    History-Heard start held (steps_in course old new d) old.line old.pair.changes new.line.text new.pair.changes h (Heard-Came course old new d)
+Holds-Became start held (puts_begin n) old new d h =
+    History-changes start held new (with_changes (begun old.pair.changes) old) (History-begun start held old.line.text old.pair.changes h) d.1
+Holds-Became start held (puts_ends a) old new d h =
+    History-changes start held new (with_changes (ended old.pair.changes) old) (History-ended start held old.line.text old.pair.changes h) d.1
+Holds-Became start held (shortens len) old new d h =
+    let r = old.pair.changes in
+    let same = agree-same (unwind r.recorded old.line.text) (unwind (take len r.recorded) old.line.text) d.0 in
+    History-changes start held new (with_changes (truncated len r) old) (History-truncated len start held old.line.text r h same) d.1
+Holds-Became start held (takes_back n a) old new d h = History-TookBack _ start held _ old new a h d.0
+Holds-Became start held (puts_again a) old new d h = History-PutAgain start held _ old new a h d.0
+
+-- a row adds its texts to those that were held
+pub Holds-row : (start : List ℕ) (texts : List (List ℕ)) (row : Row) → Holds start texts row.before → Holds start (texts ++ held row) row.after
+Holds-row start texts row h =
+    let before = readied row.command row.before in
+    subst (λ s. Holds start (texts ++ held row) s) (sym row.step.settles)
+    (Holds-Became start texts (effect before row.command row.reply) before row.step.left row.step.does h)
+
+pub Holds-Leads : (start : List ℕ) (rows : List Row) (texts : List (List ℕ)) (old new : State) → Holds start texts old → Leads old rows new
+    → Holds start (texts ++ held_of rows) new
+Holds-Leads start [] texts old new h l = subst (λ k. Holds start k new) (sym (append-nil texts)) (subst (λ s. Holds start texts s) (sym l) h)
+Holds-Leads start (row ∷ rows) texts old new h l =
+    subst (λ k. Holds start k new) (append_assoc texts (held row) (held_of rows))
+    (Holds-Leads start rows (texts ++ held row) row.after new (Holds-row start texts row (subst (λ s. Holds start texts s) (sym l.0) h)) l.1)
+
+pub Holds-fresh : (text : List ℕ) (pos limit ring_size : ℕ) (mode : GraphemeClusterMode) → IsUtf8 text → Holds text (text ∷ []) (fresh text pos limit ring_size mode)
+Holds-fresh text pos limit ring_size mode u =
+    record { is_text = u; leads = refl; placed = ([], record { rest = []; is = refl }); matched = record { recorded = refl; pending = refl } }
+
+-- what holds at the end of a run of a new session
+pub Holds-run : (text : List ℕ) (pos limit ring_size : ℕ) (mode : GraphemeClusterMode) (commands : List Command) (replies : List Reply) (new : State) → IsUtf8 text
+    → (run : Run (fresh text pos limit ring_size mode) commands replies new) → Holds text (text ∷ held_of run.rows) new
+Holds-run text pos limit ring_size mode commands replies new u run =
+    Holds-Leads text run.rows (text ∷ []) (fresh text pos limit ring_size mode) new (Holds-fresh text pos limit ring_size mode u) run.leads
+
+-- ---- rows in a run
+-- what holds before a row of a run, and that the later rows go on from it
+pub record At (text : List ℕ) (earlier later : List Row) (row : Row) (new : State) : Type 0 where
+  pub holds : Holds text (text ∷ held_of earlier) row.before
+  pub goes_on : Leads row.after later new
+
+pub at_row : (text : List ℕ) (pos limit ring_size : ℕ) (mode : GraphemeClusterMode) (commands : List Command) (replies : List Reply) (new : State)
+    (earlier later : List Row) (row : Row) → IsUtf8 text → (run : Run (fresh text pos limit ring_size mode) commands replies new)
+    → run.rows ≡ earlier ++ (row ∷ later) → At text earlier later row new
+at_row text pos limit ring_size mode commands replies new earlier later row u run e =
+    let first = fresh text pos limit ring_size mode in
+    let p = Leads-split earlier (row ∷ later) first new (subst (λ rows. Leads first rows new) e run.leads) in
+    let before = Holds-Leads text earlier (text ∷ []) first p.0 (Holds-fresh text pos limit ring_size mode u) p.1 in
+    record { holds = subst (λ s. Holds text (text ∷ held_of earlier) s) (sym p.2.0) before; goes_on = p.2.1 }
+
+-- what a row did, where its command is known
+pub does_as : (row : Row) (command : Command) → row.command ≡ command → (left : State) × Does (readied command row.before) command row.reply left × (row.after.line ≡ left.line) × (row.after.pair.changes ≡ left.pair.changes)
+does_as row command e =
+    let s = subst (λ c. Step row.before c row.reply row.after) e row.step in
+    (s.left, s.does, ap (λ (x : State). x.line) s.settles, ap (λ (x : State). x.pair.changes) s.settles)
+
+-- an undo that was not refused
+Undo-done : (n : ℕ) (old left : State) (reply : Reply) → Does old (Undo n) reply left → ¬ (WasRefused reply) → (a : Bool) × Undone n old.pair.changes left.pair.changes old.line left.line a
+Undo-done n old left (says.Answer a) d w = (a, d.0)
+Undo-done n old left (says.Refused f) d w = absurd (w tt)
+Undo-done n old left _ d w = absurd d
+
+pub undo-row : (row : Row) (n : ℕ) → row.command ≡ Undo n → ¬ (WasRefused row.reply)
+    → (a : Bool) × Undone n row.before.pair.changes row.after.pair.changes row.before.line row.after.line a
+undo-row row n e w =
+    let d = does_as row (Undo n) e in
+    let u = Undo-done n (readied (Undo n) row.before) d.0 row.reply d.1 w in (
+      u.0,
+      subst (λ l. Undone n row.before.pair.changes row.after.pair.changes row.before.line l u.0) (sym d.2)
+          (subst (λ (k : Record). Undone n row.before.pair.changes k row.before.line d.0.line u.0) (sym d.3) u.1),
+    )
+
+pub undo-in_run : (text : List ℕ) (pos limit ring_size : ℕ) (mode : GraphemeClusterMode) (commands : List Command) (replies : List Reply) (new : State)
+    (earlier later : List Row) (row : Row) (n : ℕ) → IsUtf8 text → IsCharBoundary text pos → (run : Run (fresh text pos limit ring_size mode) commands replies new)
+    → run.rows ≡ earlier ++ (row ∷ later) → row.command ≡ Undo n → ¬ (WasRefused row.reply) → WasHeld row.after.line.text (text ∷ held_of earlier)
+undo-in_run text pos limit ring_size mode commands replies new earlier later row n u b run e is_undo done =
+    let at = at_row text pos limit ring_size mode commands replies new earlier later row u run e in
+    let d = undo-row row n is_undo done in
+    let r = row.before.pair.changes in
+    undo-held n text (text ∷ held_of earlier) row.before.line.text row.after.line.text r at.holds (line_back-unwind (last_of n r.recorded) row.before.line row.after.line d.1.line_is)
+
+pub undo-drops : (row : Row) (n : ℕ) → row.command ≡ Undo n → ¬ (WasRefused row.reply)
+    → (row.after.pair.changes ≡ undone n row.before.pair.changes)
+    × (row.before.pair.changes.recorded ≡ row.after.pair.changes.recorded ++ last_of n row.before.pair.changes.recorded)
+undo-drops row n is_undo done =
+    let d = undo-row row n is_undo done in
+    let es = row.before.pair.changes.recorded in
+    (d.1.record_is, sym (kept-last n es) ∙ ap (λ (r : Record). r.recorded ++ last_of n es) (sym d.1.record_is))
+
+-- a redo that was not refused
+Redo-done : (old left : State) (reply : Reply) → Does old Redo reply left → ¬ (WasRefused reply) → (a : Bool) × Redone old.pair.changes left.pair.changes old.line left.line a
+Redo-done old left (says.Answer a) d w = (a, d.0)
+Redo-done old left (says.Refused f) d w = absurd (w tt)
+Redo-done old left _ d w = absurd d
+
+pub redo-row : (row : Row) → row.command ≡ Redo → ¬ (WasRefused row.reply) → (a : Bool) × Redone row.before.pair.changes row.after.pair.changes row.before.line row.after.line a
+redo-row row e w =
+    let d = does_as row Redo e in
+    let u = Redo-done (readied Redo row.before) d.0 row.reply d.1 w in (
+      u.0,
+      subst (λ l. Redone row.before.pair.changes row.after.pair.changes row.before.line l u.0) (sym d.2)
+          (subst (λ (k : Record). Redone row.before.pair.changes k row.before.line d.0.line u.0) (sym d.3) u.1),
+    )
+
+redo-rows : (rows : List Row) (old new : State) → AllRedone rows → Leads old rows new → Redos (length rows) old.pair.changes new.pair.changes old.line new.line
+redo-rows [] old new all l = (ap (λ (s : State). s.pair.changes) l, ap (λ (s : State). s.line) l)
+redo-rows (row ∷ rows) old new all l =
+    let first = redo-row row all.0 all.1 in
+    let others = redo-rows rows row.after new all.2 l.1 in
+    subst (λ (s : State). Redos (suc (length rows)) s.pair.changes new.pair.changes s.line new.line) l.0
+    (row.after.pair.changes, row.after.line, first.0, first.1, others)
+
+pub redo-in_run : (text : List ℕ) (pos limit ring_size : ℕ) (mode : GraphemeClusterMode) (commands : List Command) (replies : List Reply) (new : State)
+    (earlier redos : List Row) (row : Row) (n : ℕ) → IsUtf8 text → IsCharBoundary text pos → (run : Run (fresh text pos limit ring_size mode) commands replies new)
+    → run.rows ≡ earlier ++ (row ∷ redos) → row.command ≡ Undo n → ¬ (WasRefused row.reply) → opens (last_units n row.before.pair.changes.recorded) ≡ 0
+    → AllRedone redos → length redos ≡ length (last_units n row.before.pair.changes.recorded)
+    → (new.line.text ≡ row.before.line.text) × (new.pair.changes.recorded ≡ row.before.pair.changes.recorded)
+    × (new.pair.changes.pending ≡ row.before.pair.changes.pending)
+redo-in_run text pos limit ring_size mode commands replies new earlier redos row n u b run e is_undo done whole all long =
+    let at = at_row text pos limit ring_size mode commands replies new earlier redos row u run e in
+    let d = undo-row row n is_undo done in
+    let r = row.before.pair.changes in
+    let again = subst (λ k. Redos k row.after.pair.changes new.pair.changes row.after.line new.line) long (redo-rows redos row.after new all at.goes_on) in
+    let text_of = replay-IsUtf8 r.recorded text row.before.line.text u at.holds.leads in
+    let back = redos-give-back n r row.after.pair.changes new.pair.changes row.before.line row.after.line new.line d.0 text_of at.holds.matched whole d.1 again in
+    (back.2, back.0, back.1)

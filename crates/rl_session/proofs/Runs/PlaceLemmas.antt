@@ -1,0 +1,359 @@
+-- A record is placed among the texts that were held, whatever it hears.
+use Rattle.std.proofs.Common.{◌≡◌, ℕ, zero, suc, List, [], ◌∷◌, ◌++◌, length, take, drop, map, reverse, Option, Some, None, refl, sym, ap, subst, ◌∙◌, ◌⊎◌, inl, inr, append-nil, append_assoc}
+use Rattle.std.proofs.lemmas.List.{take-append-drop, reverse-append, reverse-reverse, map-append}
+use Rattle.std.specs.Option.{option_map_or}
+use Rattle.std.specs.Prelude.{option_and_then, IsSome}
+use Rattle.std.specs.Str.{IsUtf8}
+use Rattle.rl_base.specs.Event.{Event, InsertChar, InsertStr, Delete, Replace, Start, Stop, apply, Cursors, replay}
+use Rattle.rl_base.proofs.Texts.SwapLemmas.{apply-IsUtf8}
+use Rattle.rl_line.specs.Line.{Line, stepped}
+use Rattle.rl_line.specs.Plan.{Step, after, heard, heard_step}
+use Rattle.rl_line.specs.Record.{Entry, Begin, End, Changed, Record, entries_of, entries_after, joined, record_step, replay_entries, unwind, event_of, entries_told, last_told, freshness_of}
+use Rattle.rl_line.specs.Units.{level, last_of, kept_of, redo_of, end_one, end_times, begun, ended, undone, redone, truncated}
+use Rattle.rl_line.proofs.Records.JoinLemmas.{record_step-Start, record_step-Stop}
+use Rattle.rl_line.proofs.Records.MatchLemmas.{IsMatched-after, BothMatched-begun, BothMatched-ended, BothMatched-undone, BothMatched-redone, BothMatched-truncated, EndsOne, end_one-cons, Redoes-of, BothMatched-step}
+use Rattle.rl_line.proofs.Records.RecordLemmas.{none_or_one, then_some, through, replay-append, replay-IsUtf8, replay-unwind, unwind-replay, entries_after-unwind}
+use Rattle.rl_line.proofs.Records.UnitLemmas.{kept-last}
+use Rattle.rl_session.specs.History.{StandsAfter, WasHeld, PlacedBack, Placed, History}
+use Rattle.rl_line.proofs.Records.RoomLemmas.{texts_after-more}
+use Rattle.rl_session.specs.Run.{texts_of_steps}
+use Rattle.rl_line.proofs.Plans.PlanLemmas.{first_step}
+use Rattle.rl_line.proofs.Records.ToldLemmas.{same-event, told-cases}
+
+extend : (start : List ℕ) (es : List Entry) (held more : List (List ℕ)) → PlacedBack start es held → PlacedBack start es (held ++ more)
+extend start [] held more p =
+    (p.0, record { rest = p.1.rest ++ more; is = ap (λ h. h ++ more) p.1.is ∙ append_assoc p.0 (start ∷ p.1.rest) more })
+extend start (e ∷ es) held more p =
+    (p.0, p.1, record { rest = p.2.rest ++ more; is = ap (λ h. h ++ more) p.2.is ∙ append_assoc p.0 (p.1 ∷ p.2.rest) more }, p.3, p.4)
+
+but_first : (start : List ℕ) (e : Entry) (es : List Entry) (held : List (List ℕ)) → PlacedBack start (e ∷ es) held → PlacedBack start es held
+but_first start e es held p =
+    subst (PlacedBack start es) (append_assoc p.0 (p.1 ∷ []) p.2.rest ∙ sym p.2.is) (extend start es (p.0 ++ (p.1 ∷ [])) p.2.rest p.4)
+
+but_front : (start : List ℕ) (xs es : List Entry) (held : List (List ℕ)) → PlacedBack start (xs ++ es) held → PlacedBack start es held
+but_front start [] es held p = p
+but_front start (x ∷ xs) es held p = but_front start xs es held (but_first start x (xs ++ es) held p)
+
+-- more texts are held
+pub Placed-more : (start : List ℕ) (es : List Entry) (held more : List (List ℕ)) → Placed start es held → Placed start es (held ++ more)
+Placed-more start es held more p = extend start (reverse es) held more p
+
+-- the first entries are placed where all are
+pub Placed-front : (start : List ℕ) (xs ys : List Entry) (held : List (List ℕ)) → Placed start (xs ++ ys) held → Placed start xs held
+Placed-front start xs ys held p = but_front start (reverse ys) (reverse xs) held (subst (λ r. PlacedBack start r held) (reverse-append xs ys) p)
+
+-- the text of the last place, and the beginning that ends with it
+record Lands (start : List ℕ) (es : List Entry) (held : List (List ℕ)) : Type 0 where
+  before : List (List ℕ)
+  text : List ℕ
+  stands : StandsAfter before text held
+  leads : replay_entries (reverse es) start ≡ Some text
+  placed : PlacedBack start es (before ++ (text ∷ []))
+
+lands : (start : List ℕ) (es : List Entry) (held : List (List ℕ)) → PlacedBack start es held → Lands start es held
+lands start [] held p = record { before = p.0; text = start; stands = p.1; leads = refl; placed = (p.0, record { rest = []; is = refl }) }
+lands start (e ∷ es) held p =
+    record { before = p.0; text = p.1; stands = p.2; leads = p.3; placed = (p.0, p.1, record { rest = []; is = refl }, p.3, p.4) }
+
+back_again : (es : List Entry) (start : List ℕ) → replay_entries (reverse (reverse es)) start ≡ replay_entries es start
+back_again es start = ap (λ x. replay_entries x start) (reverse-reverse es)
+
+-- entries that are placed lead to a held text
+pub Placed-held : (start : List ℕ) (es : List Entry) (held : List (List ℕ)) (text : List ℕ) → Placed start es held → replay_entries es start ≡ Some text → WasHeld text held
+Placed-held start es held text p h =
+    let l = lands start (reverse es) held p in
+    let both : Some l.text ≡ Some text = sym l.leads ∙ back_again es start ∙ h in
+    let same : l.text ≡ text = cc in
+    (l.before, subst (λ t. StandsAfter l.before t held) same l.stands)
+
+pub Placed-leads : (start : List ℕ) (es : List Entry) (held : List (List ℕ)) → Placed start es held → (text : List ℕ) × (replay_entries es start ≡ Some text)
+Placed-leads start es held p = let l = lands start (reverse es) held p in (l.text, sym (back_again es start) ∙ l.leads)
+
+with_last_first : (es : List Entry) (e : Entry) (start : List ℕ) → replay_entries (reverse (e ∷ reverse es)) start ≡ replay_entries (es ++ (e ∷ [])) start
+with_last_first es e start = ap (λ x. replay_entries (reverse x) start) (sym (reverse-append es (e ∷ []))) ∙ back_again (es ++ (e ∷ [])) start
+
+-- one entry more, with its text after all held texts
+Placed-add : (start : List ℕ) (es : List Entry) (e : Entry) (held : List (List ℕ)) (text : List ℕ) → Placed start es held
+    → replay_entries (es ++ (e ∷ [])) start ≡ Some text → Placed start (es ++ (e ∷ [])) (held ++ (text ∷ []))
+Placed-add start es e held text p h =
+    subst (λ r. PlacedBack start r (held ++ (text ∷ []))) (sym (reverse-append es (e ∷ [])))
+    (held, text, record { rest = []; is = refl }, with_last_first es e start ∙ h, extend start (reverse es) held (text ∷ []) p)
+
+-- one entry more that leaves the text: at the place of the entries before
+Placed-mark : (start : List ℕ) (es : List Entry) (e : Entry) (held : List (List ℕ)) → Placed start es held
+    → replay_entries (es ++ (e ∷ [])) start ≡ replay_entries es start → Placed start (es ++ (e ∷ [])) held
+Placed-mark start es e held p h =
+    let l = lands start (reverse es) held p in
+    subst (λ r. PlacedBack start r held) (sym (reverse-append es (e ∷ [])))
+    (l.before, l.text, l.stands, with_last_first es e start ∙ h ∙ sym (back_again es start) ∙ l.leads, l.placed)
+
+-- ---- marks of groups
+replay-begin : (es : List Entry) (start : List ℕ) → replay_entries (es ++ (Begin ∷ [])) start ≡ replay_entries es start
+unfolding apply
+replay-begin es start = replay-append es (Begin ∷ []) start ∙ then_some (replay_entries es start)
+
+replay-end : (es : List Entry) (start : List ℕ) → replay_entries (es ++ (End ∷ [])) start ≡ replay_entries es start
+unfolding apply
+replay-end es start = replay-append es (End ∷ []) start ∙ then_some (replay_entries es start)
+
+-- an end takes off a Begin, or adds an End
+pub end_one-cases : (es : List Entry) → EndsOne es ⊎ (end_one es ≡ es ++ (End ∷ []))
+end_one-cases [] = inr refl
+end_one-cases (Begin ∷ []) = inl (record { front = []; list_is = refl; after_is = refl })
+end_one-cases (End ∷ []) = inr refl
+end_one-cases (Changed k c ∷ []) = inr refl
+end_one-cases (e ∷ (d ∷ ds)) =
+    elim (end_one-cases (d ∷ ds)) [
+      | inl c ↦ inl (record { front = e ∷ c.front; list_is = ap (λ x. e ∷ x) c.list_is; after_is = end_one-cons e d ds ∙ ap (λ x. e ∷ x) c.after_is })
+      | inr c ↦ inr (end_one-cons e d ds ∙ ap (λ x. e ∷ x) c)
+    ]
+
+-- either keeps where the entries lead, and their place
+replay-end_one : (es : List Entry) (start : List ℕ) → replay_entries (end_one es) start ≡ replay_entries es start
+replay-end_one es start =
+    elim (end_one-cases es) [
+      | inl c ↦ ap (λ x. replay_entries x start) c.after_is ∙ sym (replay-begin c.front start) ∙ ap (λ x. replay_entries x start) (sym c.list_is)
+      | inr c ↦ ap (λ x. replay_entries x start) c ∙ replay-end es start
+    ]
+
+replay-end_times : (n : ℕ) (es : List Entry) (start : List ℕ) → replay_entries (end_times n es) start ≡ replay_entries es start
+replay-end_times zero es start = refl
+replay-end_times (suc n) es start = replay-end_times n (end_one es) start ∙ replay-end_one es start
+
+Placed-end_one : (es : List Entry) (start : List ℕ) (held : List (List ℕ)) → Placed start es held → Placed start (end_one es) held
+Placed-end_one es start held p =
+    elim (end_one-cases es) [
+      | inl c ↦ subst (λ x. Placed start x held) (sym c.after_is) (Placed-front start c.front (Begin ∷ []) held (subst (λ x. Placed start x held) c.list_is p))
+      | inr c ↦ subst (λ x. Placed start x held) (sym c) (Placed-mark start es End held p (replay-end es start))
+    ]
+
+Placed-end_times : (n : ℕ) (es : List Entry) (start : List ℕ) (held : List (List ℕ)) → Placed start es held → Placed start (end_times n es) held
+Placed-end_times zero es start held p = p
+Placed-end_times (suc n) es start held p = Placed-end_times n (end_one es) start held (Placed-end_one es start held p)
+
+-- ---- an event
+-- an event joins the last entry
+record IsJoint (event : Event) (es : List Entry) : Type 0 where
+  front : List Entry
+  last : Entry
+  joint : Entry
+  list_is : es ≡ front ++ (last ∷ [])
+  after_is : entries_after event es ≡ front ++ (joint ∷ [])
+
+entries_after-cases : (event : Event) (es : List Entry) → (entries_after event es ≡ es ++ entries_of event) ⊎ IsJoint event es
+entries_after-cases event [] = inl refl
+entries_after-cases event (e ∷ []) = by_join (joined event e) refl
+  where
+    by_join : (o : Option Entry) → joined event e ≡ o → (entries_after event (e ∷ []) ≡ e ∷ entries_of event) ⊎ IsJoint event (e ∷ [])
+    by_join None h = inl (ap (λ x. option_map_or (λ joint. joint ∷ []) x (e ∷ entries_of event)) h)
+    by_join (Some l) h =
+        inr (record { front = []; last = e; joint = l; list_is = refl; after_is = ap (λ x. option_map_or (λ joint. joint ∷ []) x (e ∷ entries_of event)) h })
+entries_after-cases event (e ∷ (d ∷ ds)) =
+    elim (entries_after-cases event (d ∷ ds)) [
+      | inl h ↦ inl (ap (λ x. e ∷ x) h)
+      | inr j ↦ inr (record { front = e ∷ j.front; last = j.last; joint = j.joint; list_is = ap (λ x. e ∷ x) j.list_is; after_is = ap (λ x. e ∷ x) j.after_is })
+    ]
+
+after-leads : (event : Event) (es : List Entry) (start x y : List ℕ) → IsUtf8 start → replay_entries es start ≡ Some x → apply event x ≡ Some y
+    → replay_entries (entries_after event es) start ≡ Some y
+after-leads event es start x y u h k =
+    let v = replay-IsUtf8 es start x u h in
+    replay-unwind (entries_after event es) y start (apply-IsUtf8 event x y v k) (entries_after-unwind event es x y start v k (unwind-replay es start x u h))
+
+-- the entries after an event are placed among the texts held before and the one after it
+Placed-after : (event : Event) (es : List Entry) (start y : List ℕ) (held : List (List ℕ)) → Placed start es held
+    → replay_entries (entries_after event es) start ≡ Some y → Placed start (entries_after event es) (held ++ (y ∷ []))
+Placed-after event es start y held p leads =
+    elim (entries_after-cases event es) [
+      | inl e ↦ elim (none_or_one event) [
+        | inl n ↦ subst (λ l. Placed start l (held ++ (y ∷ []))) (sym (e ∙ ap (λ l. es ++ l) n ∙ append-nil es)) (Placed-more start es held (y ∷ []) p)
+        | inr (k, c, one) ↦
+            let is : entries_after event es ≡ es ++ (Changed k c ∷ []) = e ∙ ap (λ l. es ++ l) one in
+            subst (λ l. Placed start l (held ++ (y ∷ []))) (sym is) (Placed-add start es (Changed k c) held y p (ap (λ l. replay_entries l start) (sym is) ∙ leads))
+      ]
+      | inr j ↦
+          subst (λ l. Placed start l (held ++ (y ∷ []))) (sym j.after_is)
+          (Placed-add start j.front j.joint held y
+          (Placed-front start j.front (j.last ∷ []) held (subst (λ l. Placed start l held) j.list_is p))
+          (ap (λ l. replay_entries l start) (sym j.after_is) ∙ leads))
+    ]
+
+-- ---- the history
+pub History-more : (start : List ℕ) (held more : List (List ℕ)) (text : List ℕ) (r : Record) → History start held text r → History start (held ++ more) text r
+History-more start held more text r h =
+    record { is_text = h.is_text; leads = h.leads; placed = Placed-more start (r.recorded ++ r.pending) held more h.placed; matched = h.matched }
+
+recorded-placed : (start : List ℕ) (held : List (List ℕ)) (text : List ℕ) (r : Record) → History start held text r → Placed start r.recorded held
+recorded-placed start held text r h = Placed-front start r.recorded r.pending held h.placed
+
+alone : (start : List ℕ) (es : List Entry) (held : List (List ℕ)) → Placed start es held → Placed start (es ++ []) held
+alone start es held p = subst (λ l. Placed start l held) (sym (append-nil es)) p
+
+-- an event that drops what was undone
+History-change : (event : Event) (start : List ℕ) (held : List (List ℕ)) (text next : List ℕ) (r : Record) → History start held text r → apply event text ≡ Some next
+    → History start (held ++ (next ∷ [])) next (record { recorded = entries_after event r.recorded; pending = []; fresh = freshness_of event r.recorded })
+History-change event start held text next r h k =
+    let leads = after-leads event r.recorded start text next h.is_text h.leads k in
+    record {
+      is_text = h.is_text;
+      leads = leads;
+      placed = alone start (entries_after event r.recorded) (held ++ (next ∷ []))
+          (Placed-after event r.recorded start next held (recorded-placed start held text r h) leads);
+      matched = record { recorded = IsMatched-after event r.recorded h.matched.recorded; pending = refl };
+    }
+
+-- entries that make the same of a text are placed alike
+events-reverse : (es : List Entry) → map event_of (reverse es) ≡ reverse (map event_of es)
+events-reverse [] = refl
+events-reverse (e ∷ es) =
+    ap (map event_of) (reverse-append (e ∷ []) es) ∙ map-append event_of (reverse es) (e ∷ []) ∙ ap (λ l. l ++ (event_of e ∷ [])) (events-reverse es)
+    ∙ sym (reverse-append (event_of e ∷ []) (map event_of es))
+
+PlacedBack-same : (start : List ℕ) (es ks : List Entry) (held : List (List ℕ)) → map event_of es ≡ map event_of ks → PlacedBack start es held → PlacedBack start ks held
+PlacedBack-same start [] [] held same p = p
+PlacedBack-same start [] (k ∷ ks) held same p = cc
+PlacedBack-same start (e ∷ es) [] held same p = cc
+PlacedBack-same start (e ∷ es) (k ∷ ks) held same p =
+    let rest : map event_of es ≡ map event_of ks = cc in
+    let events : map event_of (reverse (k ∷ ks)) ≡ map event_of (reverse (e ∷ es)) = events-reverse (k ∷ ks) ∙ ap reverse (sym same) ∙ sym (events-reverse (e ∷ es)) in
+    (p.0, p.1, p.2, ap (λ l. replay l start) events ∙ p.3, PlacedBack-same start es ks (p.0 ++ (p.1 ∷ [])) rest p.4)
+
+last_told-events : (cursors : ℕ × ℕ) (es : List Entry) → map event_of (last_told cursors es) ≡ map event_of es
+last_told-events cursors [] = refl
+last_told-events cursors (e ∷ []) = ap (λ event. event ∷ []) (same-event cursors e)
+last_told-events cursors (e ∷ (d ∷ ds)) = ap (λ l. event_of e ∷ l) (last_told-events cursors (d ∷ ds))
+
+-- the last change is told its cursors
+History-told : (b a : ℕ) (start : List ℕ) (held : List (List ℕ)) (text : List ℕ) (r : Record) → History start held text r → History start held text (record_step r (Cursors b a))
+unfolding record_step
+History-told b a start held text r h =
+    let now = entries_told r.fresh b a r.recorded in
+    let same : map event_of now ≡ map event_of r.recorded =
+    told-cases (λ es. map event_of es ≡ map event_of r.recorded) r.fresh b a r.recorded refl (λ cursors. last_told-events cursors r.recorded) in
+    let all : map event_of (r.recorded ++ r.pending) ≡ map event_of (now ++ r.pending) =
+    map-append event_of r.recorded r.pending ∙ ap (λ l. l ++ map event_of r.pending) (sym same) ∙ sym (map-append event_of now r.pending) in
+    let turned : map event_of (reverse (r.recorded ++ r.pending)) ≡ map event_of (reverse (now ++ r.pending)) =
+    events-reverse (r.recorded ++ r.pending) ∙ ap reverse all ∙ sym (events-reverse (now ++ r.pending)) in
+    record {
+      is_text = h.is_text;
+      leads = ap (λ l. replay l start) same ∙ h.leads;
+      placed = PlacedBack-same start (reverse (r.recorded ++ r.pending)) (reverse (now ++ r.pending)) held turned h.placed;
+      matched = BothMatched-step r (Cursors b a) h.matched;
+    }
+
+-- the start or the stop of a kill
+History-still : (start : List ℕ) (held : List (List ℕ)) (text next : List ℕ) (r now : Record) → History start held text r → Some text ≡ Some next → now ≡ r
+    → History start (held ++ (next ∷ [])) next now
+History-still start held text next r now h k e =
+    let same : text ≡ next = cc in
+    subst (λ (x : Record). History start (held ++ (next ∷ [])) next x) (sym e) (subst (λ t. History start (held ++ (next ∷ [])) t r) same (History-more start held (next ∷ []) text r h))
+
+History-event : (event : Event) (start : List ℕ) (held : List (List ℕ)) (text next : List ℕ) (r : Record) → History start held text r → apply event text ≡ Some next
+    → History start (held ++ (next ∷ [])) next (record_step r event)
+unfolding apply record_step
+History-event (InsertChar i c) start held text next r h k = History-change (InsertChar i c) start held text next r h k
+History-event (InsertStr i s) start held text next r h k = History-change (InsertStr i s) start held text next r h k
+History-event (Delete i s side) start held text next r h k = History-change (Delete i s side) start held text next r h k
+History-event (Replace i s t) start held text next r h k = History-change (Replace i s t) start held text next r h k
+History-event Start start held text next r h k = History-still start held text next r (record_step r Start) h k (record_step-Start r)
+History-event Stop start held text next r h k = History-still start held text next r (record_step r Stop) h k (record_step-Stop r)
+History-event (Cursors b a) start held text next r h k =
+    let same : text ≡ next = cc in
+    subst (λ t. History start (held ++ (t ∷ [])) t (record_step r (Cursors b a))) same (History-more start held (text ∷ []) text (record_step r (Cursors b a)) (History-told b a start held text r h))
+
+-- the steps of an edit
+pub History-steps : (steps : List Step) (start : List ℕ) (held : List (List ℕ)) (old new : Line) (r : Record) → History start held old.text r → after steps old ≡ Some new
+    → History start (held ++ texts_of_steps steps old.text) new.text (heard record_step old.cursor steps r)
+History-steps [] start held old new r h e =
+    let same : old ≡ new = cc in
+    subst (λ k. History start k new.text r) (sym (append-nil held)) (subst (λ (l : Line). History start held l.text r) same h)
+History-steps (s ∷ ss) start held old new r h e =
+    let b = first_step s ss old new e in
+    let told : History start (held ++ (b.text ∷ [])) b.text (heard_step record_step old.cursor s r) =
+    History-told old.cursor s.1 start (held ++ (b.text ∷ [])) b.text (record_step r s.0) (History-event s.0 start held old.text b.text r h b.makes) in
+    let rest = History-steps ss start (held ++ (b.text ∷ [])) (stepped old b.text s.1) new (heard_step record_step old.cursor s r) told b.rest in
+    subst (λ k. History start k new.text (heard record_step s.1 ss (heard_step record_step old.cursor s r)))
+    (append_assoc held (b.text ∷ []) (texts_of_steps ss b.text) ∙ ap (λ k. held ++ k) (sym (texts_after-more s.0 (map (λ (x : Step). x.0) ss) old.text b.text b.makes))) rest
+
+pub History-begun : (start : List ℕ) (held : List (List ℕ)) (text : List ℕ) (r : Record) → History start held text r → History start held text (begun r)
+History-begun start held text r h = record {
+  is_text = h.is_text;
+  leads = replay-begin r.recorded start ∙ h.leads;
+  placed = alone start (r.recorded ++ (Begin ∷ [])) held
+      (Placed-mark start r.recorded Begin held (recorded-placed start held text r h) (replay-begin r.recorded start));
+  matched = BothMatched-begun r h.matched;
+}
+
+pub History-ended : (start : List ℕ) (held : List (List ℕ)) (text : List ℕ) (r : Record) → History start held text r → History start held text (ended r)
+History-ended start held text r h = record {
+  is_text = h.is_text;
+  leads = replay-end_times (level r.recorded) r.recorded start ∙ h.leads;
+  placed = alone start (end_times (level r.recorded) r.recorded) held (Placed-end_times (level r.recorded) r.recorded start held (recorded-placed start held text r h));
+  matched = BothMatched-ended r h.matched;
+}
+
+-- a replay of two lists goes through a text
+pub replay-split : (xs ys : List Entry) (x y : List ℕ) → replay_entries (xs ++ ys) x ≡ Some y
+    → (mid : List ℕ) × (replay_entries xs x ≡ Some mid) × (replay_entries ys mid ≡ Some y)
+replay-split xs ys x y h = through (replay_entries ys) (replay_entries xs x) y (sym (replay-append xs ys x) ∙ h)
+
+-- what an undo keeps leads to the text that it leaves
+pub kept-leads : (n : ℕ) (es : List Entry) (start x y : List ℕ) → IsUtf8 start → replay_entries es start ≡ Some x → unwind (last_of n es) x ≡ Some y
+    → replay_entries (kept_of n es) start ≡ Some y
+kept-leads n es start x y u h k =
+    let p = replay-split (kept_of n es) (last_of n es) start x (ap (λ l. replay_entries l start) (kept-last n es) ∙ h) in
+    let both : Some p.0 ≡ Some y = sym (unwind-replay (last_of n es) p.0 x (replay-IsUtf8 (kept_of n es) start p.0 u p.1) p.2) ∙ k in
+    p.1 ∙ both
+
+pub History-undone : (n : ℕ) (start : List ℕ) (held : List (List ℕ)) (text next : List ℕ) (r : Record) → History start held text r
+    → unwind (last_of n r.recorded) text ≡ Some next → History start held next (undone n r)
+History-undone n start held text next r h k =
+    let es = r.recorded in
+    record {
+      is_text = h.is_text;
+      leads = kept-leads n es start text next h.is_text h.leads k;
+      placed = subst (λ l. Placed start l held) (ap (λ l. l ++ r.pending) (sym (kept-last n es)) ∙ append_assoc (kept_of n es) (last_of n es) r.pending) h.placed;
+      matched = BothMatched-undone n r h.matched;
+    }
+
+-- and that text was held before
+pub undo-held : (n : ℕ) (start : List ℕ) (held : List (List ℕ)) (text next : List ℕ) (r : Record) → History start held text r
+    → unwind (last_of n r.recorded) text ≡ Some next → WasHeld next held
+undo-held n start held text next r h k =
+    let es = r.recorded in
+    let placed = subst (λ l. Placed start l held) (sym (kept-last n es)) (recorded-placed start held text r h) in
+    Placed-held start (kept_of n es) held next (Placed-front start (kept_of n es) (last_of n es) held placed) (kept-leads n es start text next h.is_text h.leads k)
+
+pub History-redone : (start : List ℕ) (held : List (List ℕ)) (text next : List ℕ) (r : Record) → History start held text r
+    → replay_entries (redo_of r.pending) text ≡ Some next → History start held next (redone r)
+History-redone start held text next r h k =
+    let unit = redo_of r.pending in
+    let rest = drop (length unit) r.pending in
+    let d = Redoes-of r.pending h.matched.pending in
+    record {
+      is_text = h.is_text;
+      leads = replay-append r.recorded unit start ∙ ap (option_and_then (replay_entries unit)) h.leads ∙ k;
+      placed = subst (λ l. Placed start l held) (ap (λ l. r.recorded ++ l) (sym d.list_is) ∙ sym (append_assoc r.recorded unit rest)) h.placed;
+      matched = BothMatched-redone r h.matched;
+    }
+
+pub History-truncated : (len : ℕ) (start : List ℕ) (held : List (List ℕ)) (text : List ℕ) (r : Record) → History start held text r
+    → unwind (take len r.recorded) text ≡ unwind r.recorded text → History start held text (truncated len r)
+History-truncated len start held text r h k =
+    let es = r.recorded in
+    record {
+      is_text = h.is_text;
+      leads = replay-unwind (take len es) text start (replay-IsUtf8 es start text h.is_text h.leads) (k ∙ unwind-replay es start text h.is_text h.leads);
+      placed = alone start (take len es) held
+          (Placed-front start (take len es) (drop len es) held (subst (λ l. Placed start l held) (sym (take-append-drop len es)) (recorded-placed start held text r h)));
+      matched = BothMatched-truncated len r h.matched;
+    }
+
+-- the undone entries can be made again
+pub pending-leads : (start : List ℕ) (held : List (List ℕ)) (text : List ℕ) (r : Record) → History start held text r → IsSome (replay_entries r.pending text)
+pending-leads start held text r h =
+    let l = Placed-leads start (r.recorded ++ r.pending) held h.placed in
+    let p = replay-split r.recorded r.pending start l.0 l.1 in
+    let both : Some p.0 ≡ Some text = sym p.1 ∙ h.leads in
+    let same : p.0 ≡ text = cc in
+    subst (λ t. IsSome (replay_entries r.pending t)) same (subst IsSome (sym p.2) refl)

@@ -1,0 +1,127 @@
+-- What each row of a session keeps, and how a run goes on.
+use Rattle.std.proofs.Common.{List, [], ◌∷◌, ◌++◌, ◌≡◌, ◌∙◌, ap, refl, subst, sym, append_assoc}
+use Rattle.std.proofs.lemmas.List.{map-append}
+use Rattle.std.specs.Prelude.{ℕ, IsSome}
+use Rattle.std.specs.Str.{IsUtf8}
+use Rattle.rl_line.specs.Plan.{Plan, Step as PlanStep}
+use Rattle.rl_line.specs.Record.{unwind}
+use Rattle.rl_line.proofs.Records.MarkLemmas.{Kept-begun, Kept-ended, Kept-Redone, Kept-truncated}
+use Rattle.rl_line.proofs.Records.OriginLemmas.{Kept, Kept-Done, Kept-Undone}
+use Rattle.rl_line.proofs.Records.RecordLemmas.{unwind-replay, replay-unwind, replay-IsUtf8, value_of}
+use Rattle.rl_session.specs.declared.session.Command.{Command}
+use Rattle.rl_session.specs.declared.session.Reply.{Reply}
+use Rattle.rl_session.specs.State.{State, Replays, origin}
+use Rattle.rl_session.specs.Commands.{Effect, by_steps, puts_begin, puts_ends, shortens, takes_back, puts_again, Became, effect, Step, readied}
+use Rattle.rl_session.specs.Run.{Row, held, held_of, Leads, Run, AfterEach, commands_of, replies_of, steps_in}
+use Rattle.rl_session.proofs.Sessions.CourseLemmas.{Heard, Heard-Came}
+
+-- the record leads back to the same text
+abbrev KeepsOrigin : State → State → Type 0
+KeepsOrigin old new = Kept old.pair.changes new.pair.changes old.line new.line
+
+Kept-Heard : (steps : List PlanStep) (old new : State) → IsUtf8 old.line.text → Heard steps old.line old.pair.changes new.line.text new.pair.changes → KeepsOrigin old new
+Kept-Heard steps old new u h =
+    let plan : Plan (Unit {0}) = record { steps = steps; cursor = h.last.cursor; answer = tt } in
+    let k = Kept-Done plan old.pair.changes new.pair.changes old.line h.last tt u (record { last = h.last; taken = h.taken; line = refl; answered = refl }) in
+    record { origin_is = λ start e. ap (unwind new.pair.changes.recorded) h.text_is ∙ k.origin_is start e; utf8 = subst IsUtf8 (sym h.text_is) k.utf8 }
+
+Kept-Became : (effect : Effect) (old new : State) → IsUtf8 old.line.text → Became effect old new → KeepsOrigin old new
+Kept-Became (by_steps course) old new u d = Kept-Heard (steps_in course old new d) old new u (Heard-Came course old new d)
+Kept-Became (puts_begin n) old new u d = subst (KeepsOrigin old) (sym d.1) (Kept-begun old.pair.changes old.line u)
+Kept-Became (puts_ends a) old new u d = subst (KeepsOrigin old) (sym d.1) (Kept-ended old.pair.changes old.line u)
+Kept-Became (shortens len) old new u d = subst (KeepsOrigin old) (sym d.1) (Kept-truncated len old.pair.changes old.line u d.0)
+Kept-Became (takes_back n a) old new u d = Kept-Undone _ old.pair.changes new.pair.changes old.line new.line a u d.0
+Kept-Became (puts_again a) old new u d = Kept-Redone old.pair.changes new.pair.changes old.line new.line a u d.0
+
+-- each row keeps the text from which the record came: the ring's resets touch neither line nor record
+Kept-Step : (old : State) (command : Command) (reply : Reply) (new : State) → Step old command reply new → IsUtf8 old.line.text → KeepsOrigin old new
+Kept-Step old command reply new s u =
+    let begun = readied command old in
+    subst (KeepsOrigin old) (sym s.settles) (Kept-Became (effect begun command reply) begun s.left u s.does)
+
+-- so the origin stays, whatever the start was called
+pub step_origin : (old : State) (command : Command) (reply : Reply) (new : State) → Step old command reply new → IsUtf8 old.line.text → IsSome (origin old) → origin new ≡ origin old
+step_origin old command reply new s u f =
+    let start = value_of (origin old) f in
+    (Kept-Step old command reply new s u).origin_is start.0 start.1 ∙ sym start.1
+
+-- so it keeps what the recorded changes lead to
+pub step_replays : (start : List ℕ) (old : State) (command : Command) (reply : Reply) (new : State) → Step old command reply new → Replays start old → Replays start new
+step_replays start old command reply new s h =
+    let u = replay-IsUtf8 old.pair.changes.recorded start old.line.text h.is_text h.leads in
+    let came = unwind-replay old.pair.changes.recorded start old.line.text h.is_text h.leads in
+    let kept = Kept-Step old command reply new s u in
+    record { is_text = h.is_text; leads = replay-unwind new.pair.changes.recorded new.line.text start kept.utf8 (kept.origin_is start came) }
+
+Leads-more : (rows : List Row) (row : Row) (old mid : State) → Leads old rows mid → row.before ≡ mid → Leads old (rows ++ row ∷ []) row.after
+Leads-more [] row old mid l e = (e ∙ l, refl)
+Leads-more (r ∷ rs) row old mid l e = (l.0, Leads-more rs row r.after mid l.1 e)
+
+-- a run, and then one row more
+pub Run-more : (commands : List Command) (replies : List Reply) (command : Command) (reply : Reply) (old mid new : State)
+    → Run old commands replies mid → Step mid command reply new → Run old (commands ++ command ∷ []) (replies ++ reply ∷ []) new
+Run-more commands replies command reply old mid new run step =
+    let row : Row = record { before = mid; command = command; reply = reply; after = new; step = step } in
+    record {
+      rows = run.rows ++ row ∷ [];
+      leads = Leads-more run.rows row old mid run.leads refl;
+      asked = map-append (λ (r : Row). r.command) run.rows (row ∷ []) ∙ ap (λ cs. cs ++ command ∷ []) run.asked;
+      answered = map-append (λ (r : Row). r.reply) run.rows (row ∷ []) ∙ ap (λ cs. cs ++ reply ∷ []) run.answered;
+    }
+
+Leads-append : (xs ys : List Row) (old mid new : State) → Leads old xs mid → Leads mid ys new → Leads old (xs ++ ys) new
+Leads-append [] ys old mid new l k = subst (λ s. Leads s ys new) l k
+Leads-append (x ∷ xs) ys old mid new l k = (l.0, Leads-append xs ys x.after mid new l.1 k)
+
+held_of-append : (xs ys : List Row) → held_of (xs ++ ys) ≡ held_of xs ++ held_of ys
+held_of-append [] ys = refl
+held_of-append (x ∷ xs) ys = ap (λ h. held x ++ h) (held_of-append xs ys) ∙ sym (append_assoc (held x) (held_of xs) (held_of ys))
+
+-- two runs, one after the other, are one of the same rows, and hold their texts one after the other
+pub Run-append : (old mid new : State) (cs ds : List Command) (rs ss : List Reply) (r : Run old cs rs mid) (s : Run mid ds ss new)
+    → (t : Run old (cs ++ ds) (rs ++ ss) new) × (t.rows ≡ r.rows ++ s.rows) × (held_of t.rows ≡ held_of r.rows ++ held_of s.rows)
+Run-append old mid new cs ds rs ss r s = (
+  record {
+    rows = r.rows ++ s.rows;
+    leads = Leads-append r.rows s.rows old mid new r.leads s.leads;
+    asked = map-append (λ (row : Row). row.command) r.rows s.rows ∙ ap (λ x. x ++ commands_of s.rows) r.asked ∙ ap (λ x. cs ++ x) s.asked;
+    answered = map-append (λ (row : Row). row.reply) r.rows s.rows ∙ ap (λ x. x ++ replies_of s.rows) r.answered ∙ ap (λ x. rs ++ x) s.answered;
+  },
+  refl,
+  held_of-append r.rows s.rows,
+)
+
+-- rows fall into two parts, with a state between
+pub Leads-split : (xs ys : List Row) (old new : State) → Leads old (xs ++ ys) new → (mid : State) × Leads old xs mid × Leads mid ys new
+Leads-split [] ys old new l = (old, refl, l)
+Leads-split (x ∷ xs) ys old new l = let p = Leads-split xs ys x.after new l.1 in (p.0, (l.0, p.1), p.2)
+
+-- so does a run
+pub Run-parts : (old new : State) (cs : List Command) (rs : List Reply) (run : Run old cs rs new) (xs ys : List Row) → run.rows ≡ xs ++ ys
+    → (mid : State) × (first : Run old (commands_of xs) (replies_of xs) mid) × (second : Run mid (commands_of ys) (replies_of ys) new) × (first.rows ≡ xs) × (second.rows ≡ ys)
+Run-parts old new cs rs run xs ys e =
+    let p = Leads-split xs ys old new (subst (λ rows. Leads old rows new) e run.leads) in (
+      p.0,
+      record { rows = xs; leads = p.1; asked = refl; answered = refl },
+      record { rows = ys; leads = p.2; asked = refl; answered = refl },
+      refl,
+      refl,
+    )
+
+-- a row is a run
+pub Run-row : (row : Row) → (t : Run row.before (row.command ∷ []) (row.reply ∷ []) row.after) × (t.rows ≡ row ∷ [])
+Run-row row = (record { rows = row ∷ []; leads = (refl, refl); asked = refl; answered = refl }, refl)
+
+Leads-replays : (start : List ℕ) (rows : List Row) (old new : State) → Leads old rows new → Replays start old → AfterEach (Replays start) rows × Replays start new
+Leads-replays start [] old new l h = (tt, subst (λ s. Replays start s) (sym l) h)
+Leads-replays start (row ∷ rows) old new l h =
+    let next = step_replays start row.before row.command row.reply row.after row.step (subst (λ s. Replays start s) (sym l.0) h) in
+    let rest = Leads-replays start rows row.after new l.1 next in
+    ((next, rest.0), rest.1)
+
+pub each_row : (start : List ℕ) (old new : State) (commands : List Command) (replies : List Reply) (run : Run old commands replies new)
+    → Replays start old → AfterEach (Replays start) run.rows
+each_row start old new commands replies run h = (Leads-replays start run.rows old new run.leads h).0
+
+pub run_replays : (start : List ℕ) (old new : State) (commands : List Command) (replies : List Reply) → Run old commands replies new → Replays start old → Replays start new
+run_replays start old new commands replies run h = (Leads-replays start run.rows old new run.leads h).1

@@ -1,0 +1,157 @@
+-- No kill is on between the commands of a session: only a kill tells its start, and it tells its end too.
+use Rattle.std.proofs.Common.{◌≡◌, ℕ, ◌+◌, ◌-◌, ◌*◌, ◌==◌, ◌||◌, Bool, true, false, List, [], ◌∷◌, ◌++◌, length, Option, Some, None, refl, ap, subst, ◌∙◌, cond, inl, inr}
+use Rattle.std.specs.Prelude.{encode_utf8, ℕ}
+use Rattle.std.specs.List.{remove_range}
+use Rattle.std.specs.declared.ops.Range.{Range}
+use Rattle.rl_base.specs.Event.{Event, InsertChar, InsertStr, Delete, Replace, Start, Stop, Cursors}
+use Rattle.rl_base.specs.KillRing.{Ring, heard as heard_text, lent, popped_ring, ring_step, turned, yank, yank_popped, yank_size, yanked}
+use Rattle.rl_base.specs.declared.listeners.Direction.{Direction}
+use Rattle.rl_base.specs.declared.listeners.Refusal.{Refusal}
+use Rattle.rl_base.specs.declared.motion.Movement.{Movement}
+use Rattle.rl_line.specs.Edits.{insert_plan, too_long, yank_plan, yank_pop_plan}
+use Rattle.rl_line.specs.Indents.{indent_plan, line_plan, lines_plan, parts, pushed, put_spaces}
+use Rattle.rl_line.specs.Kills.{Told, kill_plan, removal, side_of}
+use Rattle.rl_line.specs.LetterCase.{edit_word_plan, put_for, word_ahead}
+use Rattle.rl_line.specs.Line.{Line, stepped}
+use Rattle.rl_line.specs.Plan.{Step, Plan, heard, Done, Halted, or_no_memory}
+use Rattle.rl_line.specs.Ranges.{killed}
+use Rattle.rl_line.specs.Transpositions.{are_two, first_word, pulled_back, second_word, transpose_chars_plan, transpose_words_plan}
+use Rattle.rl_session.specs.Pair.{pair_step, pair_refused}
+use Rattle.rl_session.specs.declared.pair.Pair.{Pair}
+use Rattle.rl_session.proofs.Sessions.PairLemmas.{heard-ring}
+
+-- it is not the start of a kill
+abbrev pub IsNoStart : Event → Type 0
+IsNoStart Start = ⊥
+IsNoStart _ = Unit {0}
+
+-- no step tells the start of a kill
+abbrev pub NoneStarts : List Step → Type 0
+NoneStarts [] = Unit {0}
+NoneStarts (s ∷ ss) = IsNoStart s.0 × NoneStarts ss
+
+-- ---- a ring that hears of no start
+idle-step : (event : Event) (r : Ring) → IsNoStart event → r.killing ≡ false → (ring_step r event).killing ≡ false
+idle-step (InsertChar i c) r n h = h
+idle-step (InsertStr i s) r n h = h
+idle-step (Delete i s side) r n h = ap (λ b. (heard_text b s side r).killing) h ∙ h
+idle-step (Replace i s t) r n h = h
+idle-step Start r n h = absurd n
+idle-step Stop r n h = refl
+idle-step (Cursors b a) r n h = h
+
+idle-steps : (cursor : ℕ) (steps : List Step) (r : Ring) → NoneStarts steps → r.killing ≡ false → (heard ring_step cursor steps r).killing ≡ false
+idle-steps cursor [] r n h = h
+idle-steps cursor (s ∷ ss) r n h = idle-steps s.1 ss (ring_step r s.0) n.1 (idle-step s.0 r n.0 h)
+
+idle-taken : (cursor : ℕ) (steps : List Step) (p q : Pair) → q ≡ heard pair_step cursor steps p → NoneStarts steps → p.ring.killing ≡ false → q.ring.killing ≡ false
+idle-taken cursor steps p q e n h =
+    ap (λ (k : Pair). k.ring.killing) e ∙ ap (λ (r : Ring). r.killing) (heard-ring cursor steps p) ∙ idle-steps cursor steps p.ring n h
+
+pub idle-Done : {A : Type 0} (plan : Plan A) (old new : Line) (p q : Pair) (a : A) → NoneStarts plan.steps → Done pair_step plan old new p q a
+    → p.ring.killing ≡ false → q.ring.killing ≡ false
+idle-Done plan old new p q a n d h = idle-taken old.cursor plan.steps p q d.taken.listener n h
+
+NoneStarts-first : (first : List Step) (next : Step) (others : List Step) → NoneStarts (first ++ next ∷ others) → NoneStarts first × IsNoStart next.0
+NoneStarts-first [] next others n = (tt, n.0)
+NoneStarts-first (s ∷ ss) next others n = let rest = NoneStarts-first ss next others n.1 in ((n.0, rest.0), rest.1)
+
+-- a refused event leaves the ring, or the ring heard it
+idle-refused : (p q : Pair) (e : Event) (w : Refusal) → IsNoStart e → p.ring.killing ≡ false → pair_refused p e w q → q.ring.killing ≡ false
+idle-refused p q e w n h c = elim c.2 [
+  | inl same ↦ ap (λ (r : Ring). r.killing) same.0 ∙ h
+  | inr step ↦ ap (λ (r : Ring). r.killing) step.0 ∙ idle-step e p.ring n h
+]
+
+idle-cause : (p q : Pair) (e : Event) (w : Refusal) → IsNoStart e → p.ring.killing ≡ false → or_no_memory pair_refused p e w q → q.ring.killing ≡ false
+idle-cause p q e w n h c = elim c [ inl same ↦ ap (λ (k : Pair). k.ring.killing) same.1 ∙ h | inr d ↦ idle-refused p q e w n h d ]
+
+pub idle-Halted : {A : Type 0} (plan : Plan A) (old new : Line) (p q : Pair) (w : Refusal) → NoneStarts plan.steps
+    → Halted pair_step (or_no_memory pair_refused) plan old new p q w → p.ring.killing ≡ false → q.ring.killing ≡ false
+idle-Halted plan old new p q w n d h =
+    let parts = NoneStarts-first d.first d.next d.others (subst NoneStarts d.split n) in
+    idle-cause d.middle q d.next.0 w parts.1 (idle-taken old.cursor d.first p d.middle d.taken.listener parts.0 h) d.cause
+
+-- the end of a kill was told, whatever was heard in it
+pub idle-Told : (b : Bool) (P : Pair → Pair → Type 0) (p q : Pair) → (P p q → q.ring.killing ≡ false) → Told pair_step b P p q → q.ring.killing ≡ false
+idle-Told true P p q alone t = alone t
+idle-Told false P p q alone t = ap (λ (k : Pair). k.ring.killing) t.ended
+
+-- a ring that lends a text stays idle
+idle-lent : (slot : Option (List ℕ)) (r : Ring) → r.killing ≡ false → (lent slot r).killing ≡ false
+idle-lent None r h = h
+idle-lent (Some text) r h = h
+
+pub idle-yanked : (r now : Ring) → now ≡ yanked r → r.killing ≡ false → now.killing ≡ false
+idle-yanked r now e h = ap (λ (k : Ring). k.killing) e ∙ idle-lent (yank r) r h
+
+idle-popped_ring : (size : Option ℕ) (r : Ring) → r.killing ≡ false → (popped_ring size r).killing ≡ false
+idle-popped_ring None r h = h
+idle-popped_ring (Some size) r h = idle-lent (yank (turned r)) (turned r) h
+
+pub idle-popped : (r now : Ring) → now ≡ yank_popped r → r.killing ≡ false → now.killing ≡ false
+idle-popped r now e h = ap (λ (k : Ring). k.killing) e ∙ idle-popped_ring (yank_size r) r h
+
+-- ---- no plan tells the start of a kill
+-- one plan or another
+NoneStarts-either : {A : Type 0} (b : Bool) (plan other : Plan A) → NoneStarts plan.steps → NoneStarts other.steps → NoneStarts (cond b plan other).steps
+NoneStarts-either true plan other n m = n
+NoneStarts-either false plan other n m = m
+
+IsNoStart-insert_event : (once : Bool) (i c : ℕ) (text : List ℕ) → IsNoStart (cond once (InsertChar i c) (InsertStr i text))
+IsNoStart-insert_event true i c text = tt
+IsNoStart-insert_event false i c text = tt
+
+pub NoneStarts-insert : (line : Line) (c n : ℕ) → NoneStarts (insert_plan line c n).steps
+NoneStarts-insert line c n = NoneStarts-either (too_long line (length line.text + length (encode_utf8 c) * n)) _ _ tt (IsNoStart-insert_event (n == 1) line.cursor c _, tt)
+
+pub NoneStarts-yank : (line : Line) (s : List ℕ) (n : ℕ) → NoneStarts (yank_plan line s n).steps
+NoneStarts-yank line s n = NoneStarts-either ((length s == 0) || too_long line (length line.text + length s * n)) _ _ tt (tt, tt)
+
+pub NoneStarts-yank_pop : (line : Line) (z : ℕ) (s : List ℕ) → NoneStarts (yank_pop_plan line z s).steps
+NoneStarts-yank_pop line z s = (tt, NoneStarts-yank (stepped line (remove_range line.text (line.cursor - z) line.cursor) (line.cursor - z)) s 1)
+
+NoneStarts-removal : (line : Line) (range : Option (Range ℕ)) (side : Direction) → NoneStarts (removal line range side).steps
+NoneStarts-removal line None side = tt
+NoneStarts-removal line (Some range) side = (tt, tt)
+
+pub NoneStarts-kill : (line : Line) (m : Movement) → NoneStarts (kill_plan line m).steps
+NoneStarts-kill line m = NoneStarts-removal line (killed line m) (side_of m)
+
+NoneStarts-pulled_back : (line : Line) (around : Option (ℕ × Range ℕ)) → NoneStarts (pulled_back line around).steps
+NoneStarts-pulled_back line None = tt
+NoneStarts-pulled_back line (Some p) = (tt, (tt, tt))
+
+pub NoneStarts-transpose_chars : (line : Line) → NoneStarts (transpose_chars_plan line).steps
+NoneStarts-transpose_chars line = NoneStarts-pulled_back line _
+
+pub NoneStarts-transpose_words : (line : Line) (n : ℕ) → NoneStarts (transpose_words_plan line n).steps
+NoneStarts-transpose_words line n = NoneStarts-either (are_two (first_word line n) (second_word line n)) _ _ (tt, (tt, (tt, (tt, tt)))) tt
+
+NoneStarts-put_for : (line : Line) (word : Option (Range ℕ)) (made : List ℕ) → NoneStarts (put_for line word made).steps
+NoneStarts-put_for line None made = tt
+NoneStarts-put_for line (Some word) made = (tt, (tt, tt))
+
+pub NoneStarts-edit_word : (line : Line) (made : List ℕ) → NoneStarts (edit_word_plan line made).steps
+NoneStarts-edit_word line made = NoneStarts-put_for line (word_ahead line) made
+
+NoneStarts-append : (ss ts : List Step) → NoneStarts ss → NoneStarts ts → NoneStarts (ss ++ ts)
+NoneStarts-append [] ts n m = m
+NoneStarts-append (s ∷ ss) ts n m = (n.0, NoneStarts-append ss ts n.1 m)
+
+NoneStarts-put_spaces : (sizes : List ℕ) (i cursor : ℕ) → NoneStarts (put_spaces sizes i cursor)
+NoneStarts-put_spaces [] i cursor = tt
+NoneStarts-put_spaces (n ∷ more) i cursor = (tt, NoneStarts-put_spaces more i (pushed i n cursor))
+
+NoneStarts-line : (dedent : Bool) (n : ℕ) (text : List ℕ) (i cursor : ℕ) → NoneStarts (line_plan dedent n text i cursor).steps
+NoneStarts-line false n text i cursor = NoneStarts-put_spaces (parts n) i cursor
+NoneStarts-line true n text i cursor = (tt, tt)
+
+NoneStarts-lines : (dedent : Bool) (n : ℕ) (texts : List (List ℕ)) (i cursor : ℕ) → NoneStarts (lines_plan dedent n texts i cursor).steps
+NoneStarts-lines dedent n [] i cursor = tt
+NoneStarts-lines dedent n (text ∷ more) i cursor =
+    let one = line_plan dedent n text i cursor in
+    NoneStarts-append one.steps _ (NoneStarts-line dedent n text i cursor) (NoneStarts-lines dedent n more (one.answer + 1) one.cursor)
+
+pub NoneStarts-indent : (line : Line) (m : Movement) (n : ℕ) (dedent : Bool) → NoneStarts (indent_plan line m n dedent).steps
+NoneStarts-indent line m n dedent = NoneStarts-lines dedent n _ _ _

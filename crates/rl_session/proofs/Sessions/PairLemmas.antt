@@ -1,0 +1,79 @@
+-- What a pair of a ring and a record hears, as each of the two hears it.
+use Rattle.std.proofs.Common.{◌⊎◌, ◌≡◌, ℕ, ◌∷◌, [], List, refl, ap, inl, inr, ◌∙◌}
+use Rattle.rl_base.specs.Event.{Event}
+use Rattle.rl_base.specs.KillRing.{ring_step}
+use Rattle.rl_base.specs.declared.listeners.Refusal.{Refusal}
+use Rattle.rl_base.specs.declared.listeners.Refusal.TheVariants as why
+use Rattle.rl_line.specs.Line.{Line}
+use Rattle.rl_line.specs.Plan.{Step, Plan, heard, heard_step, Taken, Done, Halted, or_no_memory, Uncopied}
+use Rattle.rl_line.specs.Record.{Record, record_step}
+use Rattle.rl_line.proofs.Plans.PlanLemmas.{Halted-caused}
+use Rattle.rl_session.specs.Commands.{Takes, nothing_more, room_by_step, a_copy, refusal_of}
+use Rattle.rl_session.specs.Pair.{pair_step, pair_refused}
+use Rattle.rl_session.specs.declared.pair.Pair.{Pair}
+
+pub heard-changes : (cursor : ℕ) (steps : List Step) (p : Pair) → (heard pair_step cursor steps p).changes ≡ heard record_step cursor steps p.changes
+heard-changes cursor [] p = refl
+heard-changes cursor (s ∷ ss) p = heard-changes s.1 ss (heard_step pair_step cursor s p)
+
+pub heard-ring : (cursor : ℕ) (steps : List Step) (p : Pair) → (heard pair_step cursor steps p).ring ≡ heard ring_step cursor steps p.ring
+heard-ring cursor [] p = refl
+heard-ring cursor (s ∷ ss) p = heard-ring s.1 ss (heard_step pair_step cursor s p)
+
+-- what a pair went through, its record went through
+pub Taken-changes : (steps : List Step) (old new : Line) (p q : Pair) → Taken pair_step steps old new p q → Taken record_step steps old new p.changes q.changes
+Taken-changes steps old new p q t = record { line = t.line; listener = ap (λ (k : Pair). k.changes) t.listener ∙ heard-changes old.cursor steps p }
+
+pub Done-changes : {A : Type 0} (plan : Plan A) (old new : Line) (p q : Pair) (a : A) → Done pair_step plan old new p q a → Done record_step plan old new p.changes q.changes a
+Done-changes plan old new p q a d = record { last = d.last; taken = Taken-changes plan.steps old d.last p q d.taken; line = d.line; answered = d.answered }
+
+-- a refusal that leaves the record
+abbrev pub keeps_changes : Record → Event → Refusal → Record → Type 0
+keeps_changes r _ _ now = now ≡ r
+
+-- whatever refused, a pair, or the line since memory is out: the record is as it was
+pub cause-changes : (p q : Pair) (e : Event) (w : Refusal) → or_no_memory pair_refused p e w q → q.changes ≡ p.changes
+cause-changes p q e w h = elim h [ inl c ↦ ap (λ (k : Pair). k.changes) c.1 | inr c ↦ c.1 ]
+
+-- however the steps of an edit may be refused, it is since memory is out, or by the pair
+pub own : (takes : Takes) (p q : Pair) (e : Event) (w : Refusal) → refusal_of takes p e w q → or_no_memory pair_refused p e w q
+own nothing_more p q e w h = inr h
+own room_by_step p q e w h = h
+own a_copy p q e w h = inr h
+
+pub Halted-own : {A : Type 0} (takes : Takes) (plan : Plan A) (old new : Line) (p q : Pair) (w : Refusal) → Halted pair_step (refusal_of takes) plan old new p q w
+    → Halted pair_step (or_no_memory pair_refused) plan old new p q w
+Halted-own takes plan old new p q w h =
+    Halted-caused pair_step (refusal_of takes) (or_no_memory pair_refused) plan old new p q w w h (own takes h.middle q h.next.0 w h.cause)
+
+pub Halted-changes : {A : Type 0} (plan : Plan A) (old new : Line) (p q : Pair) (w : Refusal) → Halted pair_step (or_no_memory pair_refused) plan old new p q w
+    → Halted record_step keeps_changes plan old new p.changes q.changes w
+Halted-changes plan old new p q w h = record {
+  first = h.first;
+  next = h.next;
+  others = h.others;
+  split = h.split;
+  middle = h.middle.changes;
+  taken = Taken-changes h.first old new p h.middle h.taken;
+  cause = cause-changes h.middle q h.next.0 w h.cause;
+}
+
+-- whichever refusal it was, memory is out
+pair_memory : (p q : Pair) (e : Event) (w : Refusal) → pair_refused p e w q → pair_refused p e why.NoMemory q
+pair_memory p q e w h = (refl, h.1, h.2)
+
+cause-memory : (takes : Takes) (p q : Pair) (e : Event) (w : Refusal) → refusal_of takes p e w q → refusal_of takes p e why.NoMemory q
+cause-memory nothing_more p q e w h = pair_memory p q e w h
+cause-memory room_by_step p q e w h = elim h [ inl c ↦ inl (refl, c.1, c.2) | inr c ↦ inr (pair_memory p q e w c) ]
+cause-memory a_copy p q e w h = pair_memory p q e w h
+
+pub Halted-pair : {A : Type 0} (takes : Takes) (plan : Plan A) (old new : Line) (p q : Pair) (w : Refusal) → Halted pair_step (refusal_of takes) plan old new p q w
+    → Halted pair_step (refusal_of takes) plan old new p q why.NoMemory
+Halted-pair takes plan old new p q w h =
+    Halted-caused pair_step (refusal_of takes) (refusal_of takes) plan old new p q w why.NoMemory h (cause-memory takes h.middle q h.next.0 w h.cause)
+
+-- an edit was halted, or, where it copies what it moves, not begun
+abbrev pub Stopped : {A : Type 0} → Takes → Plan A → Line → Line → Pair → Pair → Refusal → Type 0
+Stopped nothing_more plan old new p q w = Halted pair_step (refusal_of nothing_more) plan old new p q w
+Stopped room_by_step plan old new p q w = Halted pair_step (refusal_of room_by_step) plan old new p q w
+Stopped a_copy plan old new p q w = Halted pair_step (refusal_of a_copy) plan old new p q w ⊎ Uncopied plan old new p q w

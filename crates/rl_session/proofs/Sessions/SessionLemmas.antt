@@ -1,0 +1,182 @@
+-- What holds whatever a call answered.
+use Rattle.std.proofs.Common.{Bool, false, true, inr, List, [], Result, Ok, Err, ◌≡◌, ◌∙◌, ap, refl, subst, sym, append-nil, inl, ◌≤◌, ℕ, length, take_all}
+use Rattle.std.proofs.lemmas.Str.{IsCharBoundary-start, IsUtf8-nil}
+use Rattle.std.specs.Prelude.{ℕ, Bool, true, Option, None, false, max, length, IsSome, Some, IfOk, IfErr}
+use Rattle.std.specs.Str.{IsUtf8}
+use Rattle.rl_base.specs.Event.{Event, InsertStr, Start, apply, Stop}
+use Rattle.rl_base.proofs.Texts.EventLemmas.{apply-InsertStr}
+use Rattle.rl_base.specs.declared.listeners.Refusal.{Refusal}
+use Rattle.rl_base.specs.declared.listeners.Refusal.TheVariants as why
+use Rattle.rl_base.specs.declared.motion.Movement.{Movement}
+use Rattle.rl_base.specs.declared.motion.WordAction.{WordAction}
+use Rattle.rl_line.specs.Line.{Line, stepped}
+use Rattle.rl_line.specs.Motions.{Moved}
+use Rattle.rl_line.specs.Plan.{Plan, nothing, Done, Halted, or_no_memory}
+use Rattle.rl_line.specs.Edits.{insert_str_plan}
+use Rattle.rl_line.specs.Kills.{Told, is_by_characters, kill_plan}
+use Rattle.rl_line.specs.LetterCase.{edit_word_plan, Recased}
+use Rattle.rl_line.specs.Record.{Record, agree, replays_to, unwind}
+use Rattle.rl_line.proofs.Records.JoinLemmas.{record_step-Start, record_step-Stop}
+use Rattle.rl_line.specs.Undo.{Redone, Undone}
+use Rattle.rl_line.specs.Units.{adds_end, begun, ended, level}
+use Rattle.rl_session.specs.State.{State, AtRest, Follows}
+use Rattle.rl_line.proofs.Plans.PlanLemmas.{first_step}
+use Rattle.rl_session.specs.Commands.{Takes, nothing_more, room_by_step, a_copy, Edited, lent, lent_plan, popped, popped_plan}
+use Rattle.rl_session.specs.Pair.{pair_step, pair_refused}
+use Rattle.rl_session.specs.declared.pair.Pair.{Pair}
+use Rattle.rl_session.proofs.Sessions.IdleLemmas.{NoneStarts, NoneStarts-edit_word, NoneStarts-kill, idle-Done, idle-Halted, idle-Told}
+use Rattle.rl_session.proofs.Sessions.PairLemmas.{Halted-own, Stopped, Done-changes, Halted-changes, keeps_changes}
+use Rattle.std.specs.Str.{IsCharBoundary}
+use Rattle.rl_line.specs.Walk.{Walks}
+use Rattle.rl_line.specs.Undo.{line_back}
+use Rattle.std.proofs.lemmas.Slice.Eq.{bytes_eq-Decides}
+use Rattle.rl_line.proofs.Records.RecordLemmas.{value_of}
+use Rattle.rl_line.proofs.Records.UndoLemmas.{line_back-unwind}
+use Rattle.rl_line.proofs.Records.WalkLemmas.{Walks-Done, Walks-Halted, Walks-Redone, Walks-Undone, Walks-ahead, Walks-back, Walks-begun, Walks-ended}
+use Rattle.std.proofs.lemmas.Option.{same_Some}
+
+-- a text that goes into an empty line
+pub put_first : {L : Type 0} (step : L → Event → L) (line new : Line) (limit : ℕ) (text : List ℕ) (b n : L) (a : Bool) → IsUtf8 text
+    → line ≡ record { text = []; cursor = 0; limit = limit; grow = false } → Done step (insert_str_plan line 0 text) line new b n a
+    → new ≡ record { text = text; cursor = 0; limit = max limit (length text); grow = false }
+put_first step line new limit text b n a u e d =
+    let empty : Line = record { text = []; cursor = 0; limit = limit; grow = false } in
+    let whole : apply (InsertStr 0 text) [] ≡ Some text =
+    apply-InsertStr [] 0 text u (IsCharBoundary-start [] IsUtf8-nil) ∙ ap (λ t. Some t) (append-nil text) in
+    let b = first_step (InsertStr 0 text, line.cursor) [] line d.last d.taken.line in
+    let fits : Some text ≡ Some b.text = sym whole ∙ ap (λ (l : Line). apply (InsertStr 0 text) l.text) (sym e) ∙ b.makes in
+    let same : stepped empty text 0 ≡ d.last =
+    ap (λ (l : Line). stepped l text l.cursor) (sym e) ∙ ap (λ t. stepped line t line.cursor) (same_Some _ _ fits) ∙ same_Some _ _ b.rest in
+    d.line ∙ ap (λ (l : Line). record l { cursor = line.cursor }) (sym same) ∙ ap (λ (l : Line). record (stepped empty text 0) { cursor = l.cursor }) e
+
+Walks-Moved : (place : Option ℕ) (r : Record) (old new : Line) (a : Bool) → Moved place old new a → Walks r old.text → Walks r new.text
+Walks-Moved None r old new a m w = subst (λ (l : Line). Walks r l.text) (sym m.1) w
+Walks-Moved (Some place) r old new a m w = subst (λ (l : Line). Walks r l.text) (sym m.1) w
+
+keeps : (m : Record) (e : Event) (w : Refusal) (k : Record) → keeps_changes m e w k → k ≡ m
+keeps m e w k h = h
+
+-- an edit of a line that a pair hears: the record leads to the text again
+Walks-pair : {A : Type 0} (plan : Plan A) (p q : Pair) (old new : Line) (a : A) → IsCharBoundary old.text old.cursor → Done pair_step plan old new p q a → Walks p.changes old.text → Walks q.changes new.text
+Walks-pair plan p q old new a at d = Walks-Done plan p.changes q.changes old new a at (Done-changes plan old new p q a d)
+
+Walks-refused : {A : Type 0} (plan : Plan A) (p q : Pair) (old new : Line) (w : Refusal) → IsCharBoundary old.text old.cursor → Halted pair_step (or_no_memory pair_refused) plan old new p q w
+    → Walks p.changes old.text → Walks q.changes new.text
+Walks-refused plan p q old new w at h = Walks-Halted keeps_changes plan p.changes q.changes old new w keeps at (Halted-changes plan old new p q w h)
+
+-- ---- the session's invariant
+pub AtRest-Moved : (place : Option ℕ) (p : Pair) (old new : Line) (a : Bool) → Moved place old new a → AtRest old p → AtRest new p
+AtRest-Moved place p old new a m h = record { walks = Walks-Moved place p.changes old new a m h.walks; idle = h.idle }
+
+AtRest-pair : {A : Type 0} (plan : Plan A) (p q : Pair) (old new : Line) (a : A) → IsCharBoundary old.text old.cursor → NoneStarts plan.steps → Done pair_step plan old new p q a
+    → AtRest old p → AtRest new q
+AtRest-pair plan p q old new a at none d h = record { walks = Walks-pair plan p q old new a at d h.walks; idle = idle-Done plan old new p q a none d h.idle }
+
+AtRest-refused : {A : Type 0} (plan : Plan A) (p q : Pair) (old new : Line) (w : Refusal) → IsCharBoundary old.text old.cursor → NoneStarts plan.steps → Halted pair_step (or_no_memory pair_refused) plan old new p q w
+    → AtRest old p → AtRest new q
+AtRest-refused plan p q old new w at none d h =
+    record { walks = Walks-refused plan p q old new w at d h.walks; idle = idle-Halted plan old new p q w none d h.idle }
+
+-- an edit, which may copy what it moves
+AtRest-same : (p q : Pair) (old new : Line) → new ≡ old → q ≡ p → AtRest old p → AtRest new q
+AtRest-same p q old new e f h = subst (λ k. AtRest new k) (sym f) (subst (λ l. AtRest l p) (sym e) h)
+
+AtRest-stopped : {A : Type 0} (takes : Takes) (plan : Plan A) (p q : Pair) (old new : Line) (w : Refusal) → IsCharBoundary old.text old.cursor → NoneStarts plan.steps → Stopped takes plan old new p q w
+    → AtRest old p → AtRest new q
+AtRest-stopped nothing_more plan p q old new w at none h = AtRest-refused plan p q old new w at none (Halted-own nothing_more plan old new p q w h)
+AtRest-stopped room_by_step plan p q old new w at none h = AtRest-refused plan p q old new w at none (Halted-own room_by_step plan old new p q w h)
+AtRest-stopped a_copy plan p q old new w at none (inl h) = AtRest-refused plan p q old new w at none (Halted-own a_copy plan old new p q w h)
+AtRest-stopped a_copy plan p q old new w at none (inr u) = AtRest-same p q old new u.1 u.2
+
+pub AtRest-edit : {A B : Type 0} (takes : Takes) (plan : Plan A) (shown : B → A) (p q : Pair) (old new : Line) (result : Result B Refusal) → IsCharBoundary old.text old.cursor → NoneStarts plan.steps
+    → IfOk result (λ b. Done pair_step plan old new p q (shown b)) → IfErr result (λ w. Stopped takes plan old new p q w)
+    → AtRest old p → AtRest new q
+AtRest-edit takes plan shown p q old new (Ok b) at none d h = AtRest-pair plan p q old new (shown b) at none d
+AtRest-edit takes plan shown p q old new (Err w) at none d h = AtRest-stopped takes plan p q old new w at none h
+
+-- an edit of the letters of a word, whose text is not told
+pub AtRest-recased : (action : WordAction) (p q : Pair) (old new : Line) (result : Result Bool Refusal) → IsCharBoundary old.text old.cursor
+    → IfOk result (λ a. Recased old action (λ made. Done pair_step (edit_word_plan old made) old new p q a))
+    → IfErr result (λ w. Recased old action (λ made. Stopped a_copy (edit_word_plan old made) old new p q w))
+    → AtRest old p → AtRest new q
+AtRest-recased action p q old new (Ok a) at d h = AtRest-pair (edit_word_plan old d.made) p q old new a at (NoneStarts-edit_word old d.made) d.holds
+AtRest-recased action p q old new (Err w) at d h = AtRest-stopped a_copy (edit_word_plan old h.made) p q old new w at (NoneStarts-edit_word old h.made) h.holds
+
+-- the record hears nothing of the start and the end of a kill
+pub past_telling : (P : Record → Record → Type 0) (before last now : Pair) → now ≡ pair_step last Stop → P (pair_step before Start).changes last.changes → P before.changes now.changes
+past_telling P before last now e inside =
+    let ended : now.changes ≡ last.changes = ap (λ (k : Pair). k.changes) e ∙ record_step-Stop last.changes in
+    subst (P before.changes) (sym ended) (subst (λ (r : Record). P r last.changes) (record_step-Start before.changes) inside)
+
+Walks-Told : (b : Bool) (P : Pair → Pair → Type 0) (p q : Pair) (old new : Line)
+    → ((before now : Pair) → P before now → Walks before.changes old.text → Walks now.changes new.text) → Told pair_step b P p q → Walks p.changes old.text → Walks q.changes new.text
+Walks-Told true P p q old new keeps t = keeps p q t
+Walks-Told false P p q old new keeps t =
+    past_telling (λ r now. Walks r old.text → Walks now new.text) p t.last q t.ended (keeps (pair_step p Start) t.last t.inside)
+
+pub AtRest-kill : (m : Movement) (p q : Pair) (old new : Line) (result : Result Bool Refusal) → IsCharBoundary old.text old.cursor
+    → IfOk result (λ a. Told pair_step (is_by_characters m) (λ before now. Done pair_step (kill_plan old m) old new before now a) p q)
+    → IfErr result (λ w. Told pair_step (is_by_characters m) (λ before now. Halted pair_step pair_refused (kill_plan old m) old new before now w) p q)
+    → AtRest old p → AtRest new q
+AtRest-kill m p q old new (Ok a) at d h r = record {
+  walks = Walks-Told (is_by_characters m) _ p q old new (λ before now i. Walks-pair (kill_plan old m) before now old new a at i) d r.walks;
+  idle = idle-Told (is_by_characters m) _ p q (λ i. idle-Done (kill_plan old m) old new p q a (NoneStarts-kill old m) i r.idle) d;
+}
+AtRest-kill m p q old new (Err w) at d h r = record {
+  walks = Walks-Told (is_by_characters m) _ p q old new (λ before now i. Walks-refused (kill_plan old m) before now old new w at (Halted-own nothing_more (kill_plan old m) old new before now w i)) h r.walks;
+  idle = idle-Told (is_by_characters m) _ p q (λ i. idle-Halted (kill_plan old m) old new p q w (NoneStarts-kill old m) (Halted-own nothing_more (kill_plan old m) old new p q w i) r.idle) h;
+}
+
+-- nothing was done, since memory is out
+Walks-same : (r now : Record) (old new : Line) → (now ≡ r) × (new ≡ old) → Walks r old.text → Walks now new.text
+Walks-same r now old new h w = subst (λ (k : Record). Walks k new.text) (sym h.0) (subst (λ (l : Line). Walks r l.text) (sym h.1) w)
+
+pub Walks-undo : (X : Type 0) (n : ℕ) (r now : Record) (old new : Line) (result : Result Bool Refusal) → IfOk result (λ a. Undone n r now old new a)
+    → IfErr result (λ w. (w ≡ why.NoMemory) × (now ≡ r) × (new ≡ old) × X) → Walks r old.text → Walks now new.text
+Walks-undo X n r now old new (Ok a) d h = Walks-Undone n r now old new a d
+Walks-undo X n r now old new (Err w) d h = Walks-same r now old new (h.1, h.2)
+
+pub Walks-redo : (X : Type 0) (r now : Record) (old new : Line) (result : Result Bool Refusal) → IfOk result (λ a. Redone r now old new a)
+    → IfErr result (λ w. (w ≡ why.NoMemory) × (now ≡ r) × (new ≡ old) × X) → Walks r old.text → Walks now new.text
+Walks-redo X r now old new (Ok a) d h = Walks-Redone r now old new a d
+Walks-redo X r now old new (Err w) d h = Walks-same r now old new (h.1, h.2)
+
+pub Walks-begin : (X : Type 0) (r now : Record) (line : Line) (result : Result ℕ Refusal) → IfOk result (λ a. (a ≡ length r.recorded) × (now ≡ begun r)) → IfErr result (λ w. (w ≡ why.NoMemory) × (now ≡ r) × X)
+    → Walks r line.text → Walks now line.text
+Walks-begin X r now line (Ok a) d h w = subst (λ (k : Record). Walks k line.text) (sym d.1) (Walks-begun r line.text w)
+Walks-begin X r now line (Err v) d h w = subst (λ (k : Record). Walks k line.text) (sym h.1) w
+
+pub Walks-end : (X : Type 0) (r now : Record) (line : Line) (result : Result Bool Refusal) → IfOk result (λ a. (a ≡ adds_end (level r.recorded) r.recorded) × (now ≡ ended r))
+    → IfErr result (λ w. (w ≡ why.NoMemory) × (now ≡ r) × X) → Walks r line.text → Walks now line.text
+Walks-end X r now line (Ok a) d h w = subst (λ (k : Record). Walks k line.text) (sym d.1) (Walks-ended r line.text w)
+Walks-end X r now line (Err v) d h w = subst (λ (k : Record). Walks k line.text) (sym h.1) w
+
+-- all entries lead to the text
+pub replays-all : (len : ℕ) (r : Record) (line : Line) → IsCharBoundary line.text line.cursor → length r.recorded ≤ len → Walks r line.text → replays_to len r line.text ≡ true
+replays-all len r line at all w =
+    let now = value_of (line_back r.recorded line) (Walks-back r line w at) in
+    let back = line_back-unwind r.recorded line now.0 now.1 in
+    ap (λ es. agree (unwind r.recorded line.text) (unwind es line.text)) (take_all len r.recorded all) ∙ ap (λ o. agree o o) back ∙ (bytes_eq-Decides now.0.text now.0.text).1 refl
+
+-- the line can go back then, and ahead
+pub Follows-Walks : (r : Record) (line : Line) → IsCharBoundary line.text line.cursor → Walks r line.text → Follows line r
+Follows-Walks r line at w = record { back = Walks-back r line w at; ahead = Walks-ahead r line w at }
+
+-- so the recorded changes can be unwound
+pub Follows-unwind : (r : Record) (line : Line) → Follows line r → IsSome (unwind r.recorded line.text)
+Follows-unwind r line f =
+    let now = value_of (line_back r.recorded line) f.back in
+    subst IsSome (sym (line_back-unwind r.recorded line now.0 now.1)) refl
+
+Edited-nothing : {A : Type 0} (a : A) (s : State) → Edited (nothing s.line a) s s a
+Edited-nothing a s = record {
+  done = record { last = s.line; taken = record { line = refl; listener = refl }; line = refl; answered = refl };
+  mode = refl;
+}
+
+-- nothing was lent, so nothing was done
+pub nothing_lent : (n : ℕ) (old : State) (slot : Option (List ℕ)) → slot ≡ None → (left : State) → left ≡ lent old → Edited (lent_plan old.line slot n) (lent old) left None
+nothing_lent n old slot e left l = subst (λ s. Edited (lent_plan old.line s n) (lent old) left None) (sym e) (subst (λ s. Edited (lent_plan old.line None n) (lent old) s None) (sym l) (Edited-nothing None (lent old)))
+
+pub nothing_popped : (old : State) (slot : Option (ℕ × List ℕ)) → slot ≡ None → (left : State) → left ≡ popped old → Edited (popped_plan old.line slot) (popped old) left None
+nothing_popped old slot e left l = subst (λ s. Edited (popped_plan old.line s) (popped old) left None) (sym e) (subst (λ s. Edited (popped_plan old.line None) (popped old) s None) (sym l) (Edited-nothing None (popped old)))
