@@ -1,8 +1,8 @@
 -- A listener for tests, which hears a given number of changes of a text and refuses the next.
 use Rattle.std.specs.Prelude.{◌≡◌, ℕ, zero, suc, ◌+◌, ◌<◌, List, [], ◌∷◌, ◌++◌, Option, Some, None, min}
 use Rattle.std.specs.String.{string_bytes}
-use Rattle.rl_base.specs.declared.laws.refuse_at.TextEvent.{TextEvent}
-use Rattle.rl_base.specs.declared.laws.refuse_at.TextEvent.TheVariants as seen_as
+use Rattle.rl_base.specs.declared.testing.TextEvent.{TextEvent}
+use Rattle.rl_base.specs.declared.testing.TextEvent.TheVariants as seen_as
 use Rattle.rl_base.specs.declared.listeners.Refusal.{Refusal}
 use Rattle.rl_base.specs.declared.listeners.Refusal.TheVariants as why_of
 use Rattle.rl_base.specs.Event.{Event, InsertChar, InsertStr, Delete, Replace, Start, Stop, Cursors}

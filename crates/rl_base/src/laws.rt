@@ -1,4 +1,4 @@
-//! Laws that hold of the definitions alone, and a listener for tests of code that uses a line.
+//! Laws that hold of the definitions alone.
 ghost use Rattle.std.specs.Prelude.{◌≡◌, ℕ, ◌<◌, ◌↔◌, true, false, List, ◌∷◌, ◌++◌, None, take, slice_get};
 ghost use Rattle.std.specs.Char.{is_whitespace};
 ghost use Rattle.std.specs.Str.{trim_start, trim_end};
@@ -20,9 +20,7 @@ use crate::layout::{GraphemeClusterMode, Position};
 use crate::listeners::{Direction, Refusal};
 use crate::motion::{Anchor, At, CharSearch, Movement, Word, WordAction};
 
-mod refuse_at;
-
-pub use refuse_at::{RefuseAt, TextEvent};
+pub use crate::testing::{RefuseAt, TextEvent};
 
 /// The order of positions is total, goes by row and within a row by column, and two positions are equal in
 /// it exactly where both numbers are.

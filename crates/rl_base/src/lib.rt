@@ -8,10 +8,11 @@ pub mod layout;
 pub mod listeners;
 pub mod motion;
 pub mod places;
+pub mod testing;
 
 pub use gathered::Gathered;
 pub use kill_ring::{KillRing, Mode};
-pub use laws::{RefuseAt, TextEvent};
 pub use layout::{GraphemeClusterMode, Layout, Position, Unit};
 pub use listeners::{ChangeListener, DeleteListener, Direction, NoListener, Refusal};
 pub use motion::{Anchor, At, CharSearch, Movement, RepeatCount, Word, WordAction};
+pub use testing::{RefuseAt, TextEvent};

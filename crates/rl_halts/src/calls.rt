@@ -4,7 +4,7 @@ ghost use Rattle.std.specs.Str.{IsCharBoundary};
 ghost use Rattle.std.specs.List.{insert_slice};
 
 use crate::cases::{Case, Deletion, Edit};
-use rl_base::laws::RefuseAt;
+use rl_base::testing::RefuseAt;
 use rl_base::{Refusal, RepeatCount};
 use rl_line::LineBuffer;
 

@@ -4,7 +4,7 @@ use crate::cases::Case;
 use crate::extents::is_first;
 use crate::replay::replayed;
 use crate::rules::{answer, are_sides, cursor, is_count, kill_count};
-use rl_base::laws::{RefuseAt, TextEvent};
+use rl_base::testing::{RefuseAt, TextEvent};
 use rl_base::{NoListener, Refusal};
 use rl_line::LineBuffer;
 use std::alloc::{AllocError, Global};

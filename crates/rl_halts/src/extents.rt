@@ -3,7 +3,7 @@ use crate::cases::{Case, Edit, Reach};
 use crate::check::line_of;
 use crate::replay::{gain, loss, place};
 use crate::rules::reach_of;
-use rl_base::laws::TextEvent;
+use rl_base::testing::TextEvent;
 use rl_base::{CharSearch, RepeatCount};
 use rl_line::LineBuffer;
 use std::alloc::{AllocError, Global};

@@ -1,5 +1,5 @@
 //! How a change that a listener heard of changes a text.
-use rl_base::laws::TextEvent;
+use rl_base::testing::TextEvent;
 use std::alloc::{AllocError, Global};
 
 // The text where a part at a place is replaced by another; None where that part does not stand there.

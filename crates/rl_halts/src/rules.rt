@@ -3,7 +3,7 @@ use crate::calls::Answer;
 use crate::cases::{Case, Deletion, Edit, Reach};
 use crate::check::line_of;
 use crate::replay::{end, gain, loss, place};
-use rl_base::laws::TextEvent;
+use rl_base::testing::TextEvent;
 use rl_base::{At, CharSearch, Direction, RepeatCount, Word};
 use std::alloc::{AllocError, Global};
 use unicode_segmentation::UnicodeSegmentation;

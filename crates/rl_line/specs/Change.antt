@@ -1,8 +1,6 @@
 -- What the private functions of one entry say of it: joining, and going over it either way.
-use Rattle.std.specs.Prelude.{◌≡◌, ℕ, ◌+◌, ◌-◌, max, count_by, Bool, true, not, ◌||◌, List, [], ◌∷◌, length, map, reverse, Option, Some, None, option_and_then, if◌then◌else◌}
-use Rattle.std.specs.Option.{option_map_or}
+use Rattle.std.specs.Prelude.{◌≡◌, ℕ, ◌+◌, ◌-◌, max, count_by, Bool, List, [], ◌∷◌, length, map, reverse, Option, Some, None, option_and_then, if◌then◌else◌}
 use Rattle.rl_base.specs.Event.{Event, apply}
-use Rattle.rl_base.specs.Text.{is_boundary}
 use Rattle.rl_line.specs.declared.change.Change.{Change}
 use Rattle.rl_base.specs.Lines.{is_newline}
 use Rattle.rl_line.specs.declared.change.Measure.{Measure}
@@ -11,17 +9,13 @@ use Rattle.rl_line.specs.declared.change.Way.{Way}
 use Rattle.rl_line.specs.declared.change.Way.TheVariants.{Back, Ahead}
 use Rattle.rl_line.specs.Record.{Entry, Changed, cursors_of, entry_of, event_of, freshness_joined, inverse, joined, new_text, old_text}
 use Rattle.rl_line.specs.declared.change.Freshness.{Freshness}
-use Rattle.rl_line.specs.Undo.{cursor_told}
+use Rattle.rl_line.specs.Undo.{cursor_stands}
 
 -- what an entry makes of an event: where they join, it takes the event in, and `fresh` says what it may be told of its cursors;
 -- else it stays as it is
 abbrev pub TakesIn : Event → Entry → Entry → Option Freshness → Type 0
 TakesIn event old new (Some fresh) = (joined event old ≡ Some new) × (fresh ≡ freshness_joined (cursors_of old))
 TakesIn event old new None = (joined event old ≡ None) × (new ≡ old)
-
--- where that is asked: the cursor stands between two characters of the text after an entry, if it was told
-abbrev pub cursor_stands : Bool → Entry → List ℕ → Bool
-cursor_stands asks e text = not asks || option_map_or (is_boundary text) (cursor_told e) true
 
 -- the text after an entry, where it fits and the cursor stands
 abbrev pub text_after : Bool → Entry → List ℕ → Option (List ℕ)

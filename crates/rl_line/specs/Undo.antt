@@ -1,8 +1,9 @@
 -- How a line goes back over its record, and ahead again.
-use Rattle.std.specs.Prelude.{◌≡◌, ℕ, zero, suc, ◌+◌, ◌<◌, Bool, true, List, [], ◌∷◌, ◌++◌, length, map, reverse, Option, Some, None, option_and_then, unwrap_or}
-use Rattle.std.specs.Option.{option_map}
+use Rattle.std.specs.Prelude.{◌≡◌, ℕ, zero, suc, ◌+◌, ◌<◌, Bool, true, not, ◌||◌, List, [], ◌∷◌, ◌++◌, length, map, reverse, Option, Some, None, option_and_then, unwrap_or}
+use Rattle.std.specs.Option.{option_map, option_map_or}
 use Rattle.std.specs.Str.{IsCharBoundary}
 use Rattle.rl_base.specs.Event.{Event, apply}
+use Rattle.rl_base.specs.Text.{is_boundary}
 use Rattle.rl_line.specs.Line.{Line, after_step}
 use Rattle.rl_line.specs.Record.{Entry, Begin, End, Changed, Record, bytes_ahead, bytes_back, cursors_of, event_of, inverse, past, replay_entries, unwind}
 use Rattle.rl_line.specs.Units.{last_of, redo_of, has_change, undone, redone}
@@ -10,6 +11,10 @@ use Rattle.rl_line.specs.Units.{last_of, redo_of, has_change, undone, redone}
 -- the cursor after an entry was made, where that was told
 abbrev pub cursor_told : Entry → Option ℕ
 cursor_told e = option_map (λ (cursors : ℕ × ℕ). cursors.1) (cursors_of e)
+
+-- where that is asked: the cursor stands between two characters of the text after an entry, if it was told
+abbrev pub cursor_stands : Bool → Entry → List ℕ → Bool
+cursor_stands asks e text = not asks || option_map_or (is_boundary text) (cursor_told e) true
 
 -- where the cursor goes otherwise: to the entry's place, past what it put in; a mark leaves it
 abbrev pub place_after : ℕ → Entry → ℕ

@@ -3,7 +3,7 @@ use Rattle.std.specs.Prelude.{◌≡◌, true, List, [], ◌∷◌, ℕ, Some}
 use Rattle.std.specs.Str.{IsUtf8}
 use Rattle.rl_base.specs.Event.{apply}
 use Rattle.rl_line.specs.declared.change.Freshness.TheVariants.{Stale}
-use Rattle.rl_line.specs.Change.{cursor_stands}
+use Rattle.rl_line.specs.Undo.{cursor_stands}
 use Rattle.rl_line.specs.Record.{Entry, Record, event_of, inverse}
 
 -- an entry leads from a text to another, and its cursors before and after it, where told, stand between two characters there

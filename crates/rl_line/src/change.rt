@@ -8,9 +8,9 @@ ghost use Rattle.rl_base.specs.Text.{stands_at};
 ghost use Rattle.rl_base.specs.declared.listeners.Direction.TheVariants.{Forward};
 ghost use Rattle.rl_base.specs.declared.listeners.Refusal.TheVariants.{NoMemory};
 ghost use Rattle.rl_line.specs.Record.{bytes_back, cursors_of, entry_of, event_of, freshness_joined, inverse, new_text, old_text, with_cursors};
-ghost use Rattle.rl_line.specs.Undo.{cursor_after, cursor_told};
+ghost use Rattle.rl_line.specs.Undo.{cursor_after, cursor_told, cursor_stands};
 ghost use Rattle.rl_line.specs.Units.{is_begin, is_change};
-ghost use Rattle.rl_line.specs.Change.{TakesIn, cursor_stands, text_back, place, faced, greatest_back_over, order, size_back, size_of, all_faced};
+ghost use Rattle.rl_line.specs.Change.{TakesIn, text_back, place, faced, greatest_back_over, order, size_back, size_of, all_faced};
 ghost use Rattle.rl_line.specs.declared.change.Measure.TheVariants.{Bytes, Newlines};
 ghost use Rattle.rl_line.specs.LineStarts.{IsTable};
 

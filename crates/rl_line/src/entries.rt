@@ -18,7 +18,7 @@ use std::alloc::Global;
 
 /// Records that a character was put in.
 #[inline(always)]
-#[tactic(auto, using(crate::proofs::JoinLemmas::alone_in_list), unfolding(crate::specs::Record::entries_of))]
+#[tactic(auto, using(crate::proofs::Records::JoinLemmas::alone_in_list), unfolding(crate::specs::Record::entries_of))]
 pub(crate) fn insert_char(
     entries: &mut Vec<Change>,
     recorded: usize,
@@ -51,7 +51,7 @@ fn add_char(entries: &mut Vec<Change>, recorded: usize, idx: usize, c: char) -> 
 }
 
 /// Records that a text was put in.
-#[tactic(auto, using(crate::proofs::JoinLemmas::alone_in_list), unfolding(crate::specs::Record::entries_of))]
+#[tactic(auto, using(crate::proofs::Records::JoinLemmas::alone_in_list), unfolding(crate::specs::Record::entries_of))]
 pub(crate) fn insert_str(
     entries: &mut Vec<Change>,
     recorded: usize,
@@ -72,7 +72,7 @@ pub(crate) fn insert_str(
 }
 
 /// Records that a text was taken out, from whichever side of the cursor.
-#[tactic(auto, using(crate::proofs::JoinLemmas::alone_in_list), unfolding(crate::specs::Record::entries_of))]
+#[tactic(auto, using(crate::proofs::Records::JoinLemmas::alone_in_list), unfolding(crate::specs::Record::entries_of))]
 pub(crate) fn delete(
     entries: &mut Vec<Change>,
     recorded: usize,
@@ -97,7 +97,7 @@ pub(crate) fn delete(
 }
 
 /// Records that a text was replaced by another.
-#[tactic(auto, using(crate::proofs::JoinLemmas::alone_in_list), unfolding(crate::specs::Record::entries_of))]
+#[tactic(auto, using(crate::proofs::Records::JoinLemmas::alone_in_list), unfolding(crate::specs::Record::entries_of))]
 pub(crate) fn replace(
     entries: &mut Vec<Change>,
     recorded: usize,

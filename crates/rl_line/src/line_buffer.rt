@@ -174,7 +174,7 @@ impl LineBuffer {
     }
 
     // One step: finds room, and then puts a text in.
-    #[tactic(auto, using(rl_base::proofs::EventLemmas::fitting))]
+    #[tactic(auto, using(rl_base::proofs::Texts::EventLemmas::fitting))]
     fn put_str<L: ChangeListener>(
         &mut self,
         idx: usize,
@@ -207,7 +207,7 @@ impl LineBuffer {
     // The same step with one character: finds room, reports, and then puts it in, which can't fail any more. Inlined,
     // with all that typing at the end goes through, so that this is one function that makes calls only for rare cases.
     #[inline(always)]
-    #[tactic(auto, using(rl_base::proofs::EventLemmas::fitting))]
+    #[tactic(auto, using(rl_base::proofs::Texts::EventLemmas::fitting))]
     fn put_char<L: ChangeListener>(
         &mut self,
         idx: usize,
@@ -233,7 +233,7 @@ impl LineBuffer {
     }
 
     // One step: finds room, reports, and then replaces a text by another, which can't fail any more.
-    #[tactic(auto, using(rl_base::proofs::EventLemmas::fitting))]
+    #[tactic(auto, using(rl_base::proofs::Texts::EventLemmas::fitting))]
     fn put_instead<L: ChangeListener>(
         &mut self,
         range: Range<usize>,
@@ -274,7 +274,7 @@ impl LineBuffer {
 
     // The same step, which leaves the cursor at a place. Inlined as well.
     #[inline(always)]
-    #[tactic(auto, using(rl_base::proofs::EventLemmas::fitting))]
+    #[tactic(auto, using(rl_base::proofs::Texts::EventLemmas::fitting))]
     fn take_out_before<L: DeleteListener>(
         &mut self,
         range: Range<usize>,

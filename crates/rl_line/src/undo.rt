@@ -315,7 +315,7 @@ impl Changeset {
     }
 }
 
-#[tactic(auto, using(crate::proofs::JoinLemmas::alone))]
+#[tactic(auto, using(crate::proofs::Records::JoinLemmas::alone))]
 impl DeleteListener for Changeset {
     ghost use Rattle.rl_line.specs.Record.{record_refused, record_step};
 

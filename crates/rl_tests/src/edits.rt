@@ -1,7 +1,7 @@
 //! Edits that insert texts, with answers that were worked out by hand.
 use crate::line_buffer::{holds, leaves, line_within};
 use crate::told::{AHEAD, Told, is_told};
-use rl_base::laws::RefuseAt;
+use rl_base::testing::RefuseAt;
 use rl_base::{ChangeListener, Refusal, RepeatCount};
 use rl_line::LineBuffer;
 use std::alloc::Global;

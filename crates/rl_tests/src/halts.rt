@@ -2,7 +2,7 @@
 use crate::edits::{update, yank_pop};
 use crate::line_buffer::{leaves, line_of};
 use crate::told::{AHEAD, Told, is_told};
-use rl_base::laws::RefuseAt;
+use rl_base::testing::RefuseAt;
 use rl_base::{Movement, Refusal, WordAction};
 use rl_line::LineBuffer;
 use std::alloc::Global;

@@ -3,7 +3,7 @@ use crate::line_buffer::{holds, leaves, line_of};
 use crate::script::{Lines, print_each};
 use crate::told::{AHEAD, is_told};
 use rl_base::Movement;
-use rl_base::laws::RefuseAt;
+use rl_base::testing::RefuseAt;
 use std::alloc::Global;
 use std::process::Abort;
 use std::test::Fail;

@@ -3,7 +3,7 @@ use crate::line_buffer::{holds, leaves, line_of};
 use crate::script::{Lines, print_each};
 use crate::told::is_told;
 use rl_base::CharSearch::{Backward, BackwardAfter, Forward, ForwardBefore};
-use rl_base::laws::{RefuseAt, TextEvent};
+use rl_base::testing::{RefuseAt, TextEvent};
 use rl_base::{At, CharSearch, Direction, Movement, NoListener, Refusal, RepeatCount, Word};
 use rl_line::LineBuffer;
 use std::alloc::Global;

@@ -1,5 +1,5 @@
 //! What no clause says: that a call comes back with its answer, and printed text.
-use rl_base::laws::RefuseAt;
+use rl_base::testing::RefuseAt;
 use rl_base::{ChangeListener, DeleteListener, Direction, NoListener, Refusal};
 use std::alloc::{AllocError, Global};
 use std::process::Abort;

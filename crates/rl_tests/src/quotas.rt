@@ -1,7 +1,7 @@
 //! Large and rare input, with ample memory. A call may answer out of memory within its contract wherever it asks for
 //! memory. So each kind of input that could be told apart from common input is tested here.
 use crate::script::{is_so, printed_by};
-use rl_base::laws::RefuseAt;
+use rl_base::testing::RefuseAt;
 use rl_base::{DeleteListener, Direction, GraphemeClusterMode, Refusal};
 use rl_session::{Command, Reply, Session};
 use std::alloc::Global;

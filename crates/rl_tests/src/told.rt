@@ -1,6 +1,6 @@
 //! What a listener that lists the changes of a text was told last.
 use rl_base::Direction;
-use rl_base::laws::{RefuseAt, TextEvent};
+use rl_base::testing::{RefuseAt, TextEvent};
 
 // A change: its place, its text, and the side of a deletion. A replacement's text is the new one.
 pub(crate) type Told = (usize, &'static str, Option<Direction>);

@@ -15,9 +15,9 @@ use Rattle.rl_line.specs.declared.change.Change.{Change}
 use Rattle.rl_line.specs.declared.change.Way.{Way}
 use Rattle.rl_line.specs.declared.change.Way.TheVariants.{Back, Ahead}
 use Rattle.rl_line.specs.Record.{Entry, Begin, End, Changed, entry_of, event_of, inverse, new_text, old_text, unwind}
-use Rattle.rl_line.specs.Undo.{cursor_told, place_after}
+use Rattle.rl_line.specs.Undo.{cursor_told, place_after, cursor_stands}
 use Rattle.rl_line.proofs.Records.RecordLemmas.{then_both, then_some}
-use Rattle.rl_line.specs.Change.{cursor_stands, faced, order, place, text_after, text_back}
+use Rattle.rl_line.specs.Change.{faced, order, place, text_after, text_back}
 
 -- an entry's new text stands at its place, and the old one may take its place
 pub record StandsNew (e : Entry) (text : List ℕ) (at : ℕ) : Type 0 where

@@ -17,9 +17,9 @@ use Rattle.rl_line.specs.Line.{Line, stepped, if_standing}
 use Rattle.rl_line.specs.Record.{Entry, Begin, End, Changed, agree, event_of, inverse, replay_entries, unwind}
 use Rattle.rl_line.specs.declared.change.Way.{Way}
 use Rattle.rl_line.specs.Units.{has_change}
-use Rattle.rl_line.specs.Undo.{cursor_after, cursor_told, place_after, line_after, line_ahead, line_back}
+use Rattle.rl_line.specs.Undo.{cursor_after, cursor_told, place_after, line_after, line_ahead, line_back, cursor_stands}
 use Rattle.rl_line.specs.declared.change.Measure.{Measure}
-use Rattle.rl_line.specs.Change.{cursor_stands, faced, text_after, text_back, size_back_over, greatest_back_over}
+use Rattle.rl_line.specs.Change.{faced, text_after, text_back, size_back_over, greatest_back_over}
 use Rattle.rl_line.proofs.Plans.PlanLemmas.{Fits-from, after_step-is, standing, standing-is}
 use Rattle.rl_line.proofs.Records.RecordLemmas.{if_some, through, value_of, IsSome-through, inverse-inverse, then_both, then_some}
 

@@ -8,10 +8,10 @@ use Rattle.rl_base.proofs.Texts.SwapLemmas.{apply-IsUtf8}
 use Rattle.rl_base.proofs.Texts.TextLemmas.{is_boundary-true}
 use Rattle.rl_base.specs.Event.{apply}
 use Rattle.rl_base.specs.Text.{is_boundary}
-use Rattle.rl_line.specs.Change.{cursor_stands, text_after, text_back}
+use Rattle.rl_line.specs.Change.{text_after, text_back}
 use Rattle.rl_line.specs.Line.{Line, stepped}
 use Rattle.rl_line.specs.Record.{Entry, event_of, inverse, replay_entries, unwind}
-use Rattle.rl_line.specs.Undo.{StandAfter, StandBefore, cursor_after, cursor_told, line_after, line_ahead, line_back, place_after}
+use Rattle.rl_line.specs.Undo.{StandAfter, StandBefore, cursor_after, cursor_told, line_after, line_ahead, line_back, place_after, cursor_stands}
 use Rattle.rl_line.proofs.Plans.PlanLemmas.{Fits-from}
 use Rattle.rl_line.proofs.Records.RecordLemmas.{IsSome-through, replay-append, then_some, through, value_of}
 use Rattle.rl_line.proofs.Records.UndoLemmas.{line_after-is, line_ahead-append, line_ahead-replay, line_back-append, line_back-IsSome, line_back-unwind}

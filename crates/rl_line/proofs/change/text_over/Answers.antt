@@ -5,7 +5,8 @@ use Rattle.std.specs.Str.{IsUtf8}
 use Rattle.std.specs.Prelude.{is_some}
 use Rattle.rl_base.specs.Event.{apply}
 use Rattle.rl_line.specs.Record.{event_of, inverse, old_text}
-use Rattle.rl_line.specs.Change.{cursor_stands, faced, order}
+use Rattle.rl_line.specs.Change.{faced, order}
+use Rattle.rl_line.specs.Undo.{cursor_stands}
 use Rattle.rl_line.proofs.Records.ChangeLemmas.{GoesOver, GoesOver-astray, GoesOver-next, GoesOver-not}
 use Rattle.rl_line.proofs.Records.RoomLemmas.{bytes_back-one}
 use Rattle.rl_line.proofs.change.text_over.Goals as goal
