@@ -101,9 +101,8 @@ entries_after event (e ∷ (d ∷ ds)) = e ∷ entries_after event (d ∷ ds)
 
 -- the cursors of a change, where they were told
 abbrev pub cursors_of : Entry → Option (ℕ × ℕ)
-cursors_of Begin = None
-cursors_of End = None
 cursors_of (Changed kind swap) = swap.cursors
+cursors_of _ = None
 
 -- a change that an event joined has kept the cursor before it where its cursors were told, and else can't be told cursors
 abbrev pub freshness_joined : Option (ℕ × ℕ) → Freshness
@@ -130,9 +129,8 @@ freshness_after event r = freshness_of event r.recorded
 
 -- the change with these cursors; a mark has none
 abbrev pub with_cursors : ℕ × ℕ → Entry → Entry
-with_cursors cursors Begin = Begin
-with_cursors cursors End = End
 with_cursors cursors (Changed kind swap) = Changed kind (record swap { cursors = Some cursors })
+with_cursors cursors mark = mark
 
 -- the entries, of which the last is told its cursors
 abbrev pub last_told : ℕ × ℕ → List Entry → List Entry
@@ -196,10 +194,8 @@ opposite Replacement = Replacement
 
 -- the entry that takes an entry back
 abbrev pub inverse : Entry → Entry
-inverse Begin = Begin
-inverse End = End
-inverse (Changed kind swap) =
-    Changed (opposite kind) (record { place = swap.place; old = swap.new; new = swap.old; cursors = swapped swap.cursors })
+inverse (Changed kind swap) = Changed (opposite kind) (record { place = swap.place; old = swap.new; new = swap.old; cursors = swapped swap.cursors })
+inverse mark = mark
 
 -- the text that stood at a change's place before it, and the one that stood there after it
 abbrev pub old_text : Entry → List ℕ

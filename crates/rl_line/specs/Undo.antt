@@ -5,7 +5,7 @@ use Rattle.std.specs.Str.{IsCharBoundary}
 use Rattle.rl_base.specs.Event.{Event, apply}
 use Rattle.rl_base.specs.Text.{is_boundary}
 use Rattle.rl_line.specs.Line.{Line, after_step}
-use Rattle.rl_line.specs.Record.{Entry, Begin, End, Changed, Record, bytes_ahead, bytes_back, cursors_of, event_of, inverse, past, replay_entries, unwind}
+use Rattle.rl_line.specs.Record.{Entry, Changed, Record, bytes_ahead, bytes_back, cursors_of, event_of, inverse, past, replay_entries, unwind}
 use Rattle.rl_line.specs.Units.{last_of, redo_of, has_change, undone, redone}
 
 -- the cursor after an entry was made, where that was told
@@ -18,9 +18,8 @@ cursor_stands asks e text = not asks || option_map_or (is_boundary text) (cursor
 
 -- where the cursor goes otherwise: to the entry's place, past what it put in; a mark leaves it
 abbrev pub place_after : ℕ → Entry → ℕ
-place_after cursor Begin = cursor
-place_after cursor End = cursor
 place_after cursor (Changed kind swap) = past swap
+place_after cursor _ = cursor
 
 -- the cursor after an entry was made
 abbrev pub cursor_after : ℕ → Entry → ℕ
