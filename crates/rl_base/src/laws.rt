@@ -19,7 +19,6 @@ use crate::kill_ring::Mode;
 use crate::layout::{GraphemeClusterMode, Position};
 use crate::listeners::{Direction, Refusal};
 use crate::motion::{Anchor, At, CharSearch, Movement, Word, WordAction};
-
 pub use crate::testing::{RefuseAt, TextEvent};
 
 /// The order of positions is total, goes by row and within a row by column, and two positions are equal in

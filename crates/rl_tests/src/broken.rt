@@ -131,12 +131,7 @@ fn stops_reading(rt: &impl Abort, alloc: Global, script: &[u8], after: usize, wa
             singly,
         };
         let stopped = run_script(alloc, &mut reader, &mut printed);
-        is_so(
-            rt,
-            stopped == Err(ScriptFault::Read),
-            "a read fails",
-            after,
-        );
+        is_so(rt, stopped == Err(ScriptFault::Read), "a read fails", after);
         let answered = printed.as_slice() == wanted;
         is_so(rt, answered, "what was read is answered", after);
     }
