@@ -48,7 +48,9 @@ impl Session {
         answered(self.line.backspace(n, &mut self.pair))
     }
 
-    // Deletes by a movement to one side of the cursor, and tells no kill.
+    // Deletes by a movement to one side of the cursor, and tells no kill. Inlined, so that no reply is copied where the
+    // command is chosen.
+    #[inline(always)]
     pub(super) fn delete_by(&mut self, movement: &Movement) -> Reply
         requires { IsDirected movement.now }
         ensures { Came (edit_course nothing_more (Unit {0}) (kill_plan self.old.line movement.now) answers result) self.old self.new }
@@ -59,6 +61,7 @@ impl Session {
 }
 
 // Deletes by a movement to one side of the cursor: the line has a call for each.
+#[inline(never)]
 fn delete_in(line: &mut LineBuffer, movement: &Movement, pair: &mut Pair) -> Result<bool, Refusal>
     requires { IsDirected movement.now }
     ensures done { IfOk result (λ answer. Done pair_step (kill_plan line.old movement.now) line.old line.new pair.old pair.new answer) }
