@@ -135,13 +135,13 @@ side_mode Forward = Append
 side_mode Backward = Prepend
 
 -- the ring after a deletion, which is a kill where a kill is on
-abbrev pub heard : Bool → List ℕ → Direction → Ring → Ring
-heard false text side r = r
-heard true text side r = killed text (side_mode side) r
+abbrev pub after_deletion : Bool → List ℕ → Direction → Ring → Ring
+after_deletion false text side r = r
+after_deletion true text side r = killed text (side_mode side) r
 
 -- the ring after an event
 abbrev pub ring_step : Ring → Event → Ring
-ring_step r (Delete _ text side) = heard r.killing text side r
+ring_step r (Delete _ text side) = after_deletion r.killing text side r
 ring_step r Start = record r { killing = true }
 ring_step r Stop = record r { killing = false }
 ring_step r (InsertChar _ _) = r

@@ -32,9 +32,9 @@ place (Changed kind swap) = Some swap.place
 place _ = None
 
 -- the entry that is taken back where a line goes over a change: going ahead, its inverse
-abbrev pub faced : Way → Change → Entry
-faced Back change = entry_of change
-faced Ahead change = inverse (entry_of change)
+abbrev pub entry_to_undo : Way → Change → Entry
+entry_to_undo Back change = entry_of change
+entry_to_undo Ahead change = inverse (entry_of change)
 
 -- the changes as a line goes over them, the last first: going ahead, the first one is gone over first
 abbrev pub order : Way → List Change → List Change
@@ -42,8 +42,8 @@ order Back changes = changes
 order Ahead changes = reverse changes
 
 -- the entries that are taken back where a line goes over the changes
-abbrev pub all_faced : Way → List Change → List Entry
-all_faced way changes = map (faced way) (order way changes)
+abbrev pub entries_to_undo : Way → List Change → List Entry
+entries_to_undo way changes = map (entry_to_undo way) (order way changes)
 
 -- how much a text has of what it is measured by
 abbrev pub size_of : Measure → List ℕ → ℕ

@@ -73,18 +73,18 @@ Uncopied plan old new before now r = (r ≡ NoMemory) × (new ≡ old) × (now �
 
 module _ {L : Type 0} (step : L → Event → L) where
   -- the listener after a step, from the cursor before it: it hears of the event, and then of where the cursor was and where it goes
-  abbrev pub heard_step : ℕ → Step → L → L
-  heard_step cursor s l = step (step l s.0) (Cursors cursor s.1)
+  abbrev pub listener_after_step : ℕ → Step → L → L
+  listener_after_step cursor s l = step (step l s.0) (Cursors cursor s.1)
 
   -- the listener after the steps, from the cursor before them
-  abbrev pub heard : ℕ → List Step → L → L
-  heard cursor [] l = l
-  heard cursor (s ∷ ss) l = heard s.1 ss (heard_step cursor s l)
+  abbrev pub listener_after : ℕ → List Step → L → L
+  listener_after cursor [] l = l
+  listener_after cursor (s ∷ ss) l = listener_after s.1 ss (listener_after_step cursor s l)
 
   -- the steps were taken: the line and the listener went through the same events
   pub record Taken (steps : List Step) (old new : Line) (before now : L) : Type 0 where
     pub line : after steps old ≡ Some new
-    pub listener : now ≡ heard old.cursor steps before
+    pub listener : now ≡ listener_after old.cursor steps before
 
   -- all steps of the plan were taken, and they alone moved the cursor
   pub record Completed {A : Type 0} (plan : Plan A) (old new : Line) (before now : L) : Type 0 where

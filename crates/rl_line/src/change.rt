@@ -10,7 +10,7 @@ ghost use Rattle.rl_base.specs.declared.listeners.Refusal.TheVariants.{NoMemory}
 ghost use Rattle.rl_line.specs.Record.{bytes_back, cursors_of, entry_of, event_of, freshness_joined, inverse, new_text, old_text, with_cursors};
 ghost use Rattle.rl_line.specs.Undo.{cursor_after, cursor_told, cursor_stands};
 ghost use Rattle.rl_line.specs.Units.{is_begin, is_change};
-ghost use Rattle.rl_line.specs.Change.{TakesIn, text_back, place, faced, greatest_back_over, order, size_back, size_of, all_faced};
+ghost use Rattle.rl_line.specs.Change.{TakesIn, text_back, place, entry_to_undo, greatest_back_over, order, size_back, size_of, entries_to_undo};
 ghost use Rattle.rl_line.specs.declared.change.Measure.TheVariants.{Bytes, Newlines};
 ghost use Rattle.rl_line.specs.LineStarts.{IsTable};
 
@@ -149,8 +149,8 @@ impl Change {
     /// The text that goes out at the place this way, and the one that comes in. Inlined: the compiler knows the way.
     #[inline(always)]
     pub(crate) fn texts(&self, way: Way) -> (&str, &str)
-        ensures going { result.0.now ≡ new_text (faced way self.now) }
-        ensures coming { result.1.now ≡ old_text (faced way self.now) }
+        ensures going { result.0.now ≡ new_text (entry_to_undo way self.now) }
+        ensures coming { result.1.now ≡ old_text (entry_to_undo way self.now) }
         ensures utf8 { IsUtf8 result.1.now }
     {
         let (old, new) = match self {
@@ -167,7 +167,7 @@ impl Change {
 
     /// Where the cursor goes this way, if it was told.
     pub(crate) fn cursor_over(&self, way: Way) -> Option<usize>
-        ensures { result ≡ cursor_told (inverse (faced way self.now)) }
+        ensures { result ≡ cursor_told (inverse (entry_to_undo way self.now)) }
     {
         let (before, after) = self.cursors()?;
         match way {
@@ -214,7 +214,7 @@ impl Change {
 
     // Whether the cursor stands between two characters of a text that went over the change, if that is asked and it was told.
     fn stands(&self, text: &str, way: Way, asks: bool) -> bool
-        ensures { result ≡ cursor_stands asks (inverse (faced way self.now)) text.now }
+        ensures { result ≡ cursor_stands asks (inverse (entry_to_undo way self.now)) text.now }
     {
         if !asks {
             return true;
@@ -227,8 +227,8 @@ impl Change {
 
     // Whether a text can go over the change.
     fn fits(&self, text: &str, way: Way) -> bool
-        requires { IsUtf8 (old_text (faced way self.now)) }
-        ensures { result ≡ is_some (apply (event_of (inverse (faced way self.now))) text.now) }
+        requires { IsUtf8 (old_text (entry_to_undo way self.now)) }
+        ensures { result ≡ is_some (apply (event_of (inverse (entry_to_undo way self.now))) text.now) }
     {
         match self.place() {
             Some(at) => stands_at(text, at, self.texts(way).0),
@@ -246,20 +246,20 @@ pub(crate) fn go_over(
     way: Way,
     cursor: usize,
 ) -> usize
-    requires fits { IsSome (apply (event_of (inverse (faced way change.now))) (string_bytes text.old)) }
+    requires fits { IsSome (apply (event_of (inverse (entry_to_undo way change.now))) (string_bytes text.old)) }
     requires table { IsTable starts.old.places.items starts.old.border (string_bytes text.old) }
-    requires room { size_back Bytes (faced way change.now) (string_len text.old) ≤ string_capacity text.old }
-    requires table_room { size_back Newlines (faced way change.now) (vec_len starts.old.places) ≤ vec_capacity starts.old.places }
+    requires room { size_back Bytes (entry_to_undo way change.now) (string_len text.old) ≤ string_capacity text.old }
+    requires table_room { size_back Newlines (entry_to_undo way change.now) (vec_len starts.old.places) ≤ vec_capacity starts.old.places }
     requires boundary { IsCharBoundary (string_bytes text.old) cursor }
-    requires stands { (now : List ℕ) → apply (event_of (inverse (faced way change.now))) (string_bytes text.old) ≡ Some now → IsCharBoundary now (cursor_after cursor (inverse (faced way change.now))) }
-    ensures text { apply (event_of (inverse (faced way change.now))) (string_bytes text.old) ≡ Some (string_bytes text.new) }
+    requires stands { (now : List ℕ) → apply (event_of (inverse (entry_to_undo way change.now))) (string_bytes text.old) ≡ Some now → IsCharBoundary now (cursor_after cursor (inverse (entry_to_undo way change.now))) }
+    ensures text { apply (event_of (inverse (entry_to_undo way change.now))) (string_bytes text.old) ≡ Some (string_bytes text.new) }
     ensures table { IsTable starts.new.places.items starts.new.border (string_bytes text.new) }
-    ensures cursor { result ≡ cursor_after cursor (inverse (faced way change.now)) }
+    ensures cursor { result ≡ cursor_after cursor (inverse (entry_to_undo way change.now)) }
     ensures boundary { IsCharBoundary (string_bytes text.new) result }
     ensures capacity { string_capacity text.old ≤ string_capacity text.new }
     ensures table_capacity { vec_capacity starts.old.places ≤ vec_capacity starts.new.places }
-    ensures len { string_len text.new ≡ size_back Bytes (faced way change.now) (string_len text.old) }
-    ensures count { vec_len starts.new.places ≡ size_back Newlines (faced way change.now) (vec_len starts.old.places) }
+    ensures len { string_len text.new ≡ size_back Bytes (entry_to_undo way change.now) (string_len text.old) }
+    ensures count { vec_len starts.new.places ≡ size_back Newlines (entry_to_undo way change.now) (vec_len starts.old.places) }
 {
     match change.place() {
         Some(at) => {
@@ -273,9 +273,9 @@ pub(crate) fn go_over(
 
 // Goes over a change in a text that has room for the result.
 fn go_over_in_text(text: &mut String, change: &Change, way: Way)
-    requires fits { IsSome (apply (event_of (inverse (faced way change.now))) (string_bytes text.old)) }
-    requires room { size_back Bytes (faced way change.now) (string_len text.old) ≤ string_capacity text.old }
-    ensures text { apply (event_of (inverse (faced way change.now))) (string_bytes text.old) ≡ Some (string_bytes text.new) }
+    requires fits { IsSome (apply (event_of (inverse (entry_to_undo way change.now))) (string_bytes text.old)) }
+    requires room { size_back Bytes (entry_to_undo way change.now) (string_len text.old) ≤ string_capacity text.old }
+    ensures text { apply (event_of (inverse (entry_to_undo way change.now))) (string_bytes text.old) ≡ Some (string_bytes text.new) }
 {
     match change.place() {
         Some(at) => {
@@ -328,9 +328,9 @@ pub(crate) fn find_room_over(
     ensures starts { starts.new.places.items ≡ starts.old.places.items }
     ensures border { starts.new.border ≡ starts.old.border }
     ensures count { vec_len starts.new.places ≡ vec_len starts.old.places }
-    ensures room { OnOk result (greatest_back_over Bytes (all_faced way changes.now) (string_len text.old) ≤ string_capacity text.new) }
-    ensures table { OnOk result (greatest_back_over Newlines (all_faced way changes.now) (vec_len starts.old.places) ≤ vec_capacity starts.new.places) }
-    ensures err { IfErr result (λ r. (r ≡ NoMemory) × ((string_len text.old < greatest_back_over Bytes (all_faced way changes.now) (string_len text.old)) ⊎ (vec_len starts.old.places < greatest_back_over Newlines (all_faced way changes.now) (vec_len starts.old.places)))) }
+    ensures room { OnOk result (greatest_back_over Bytes (entries_to_undo way changes.now) (string_len text.old) ≤ string_capacity text.new) }
+    ensures table { OnOk result (greatest_back_over Newlines (entries_to_undo way changes.now) (vec_len starts.old.places) ≤ vec_capacity starts.new.places) }
+    ensures err { IfErr result (λ r. (r ≡ NoMemory) × ((string_len text.old < greatest_back_over Bytes (entries_to_undo way changes.now) (string_len text.old)) ⊎ (vec_len starts.old.places < greatest_back_over Newlines (entries_to_undo way changes.now) (vec_len starts.old.places)))) }
 {
     let growth = growth_over(changes, way, text.len(), starts.places.len())?;
     find_room(text, starts, growth.bytes, growth.newlines)
@@ -345,9 +345,9 @@ fn growth_over(
     bytes: usize,
     newlines: usize,
 ) -> Result<Growth, Refusal>
-    ensures bytes { IfOk result (λ growth. bytes + growth.bytes ≡ greatest_back_over Bytes (all_faced way changes.now) bytes) }
-    ensures newlines { IfOk result (λ growth. newlines + growth.newlines ≡ greatest_back_over Newlines (all_faced way changes.now) newlines) }
-    ensures err { IfErr result (λ r. (r ≡ NoMemory) × ((bytes < greatest_back_over Bytes (all_faced way changes.now) bytes) ⊎ (newlines < greatest_back_over Newlines (all_faced way changes.now) newlines))) }
+    ensures bytes { IfOk result (λ growth. bytes + growth.bytes ≡ greatest_back_over Bytes (entries_to_undo way changes.now) bytes) }
+    ensures newlines { IfOk result (λ growth. newlines + growth.newlines ≡ greatest_back_over Newlines (entries_to_undo way changes.now) newlines) }
+    ensures err { IfErr result (λ r. (r ≡ NoMemory) × ((bytes < greatest_back_over Bytes (entries_to_undo way changes.now) bytes) ⊎ (newlines < greatest_back_over Newlines (entries_to_undo way changes.now) newlines))) }
 {
     let (mut long, mut longest) = (bytes, bytes);
     let (mut high, mut highest) = (newlines, newlines);
@@ -381,8 +381,8 @@ pub(crate) fn text_over(
     way: Way,
     asks: bool,
 ) -> Result<Option<String>, Refusal>
-    ensures ok { IfOk result (λ over. option_map string_bytes over ≡ text_back asks (all_faced way changes.now) text.now) }
-    ensures err { IfErr result (λ r. (r ≡ NoMemory) × (0 < length text.now + bytes_back (all_faced way changes.now))) }
+    ensures ok { IfOk result (λ over. option_map string_bytes over ≡ text_back asks (entries_to_undo way changes.now) text.now) }
+    ensures err { IfErr result (λ r. (r ≡ NoMemory) × (0 < length text.now + bytes_back (entries_to_undo way changes.now))) }
 {
     let mut now = copied(alloc, text)?;
     let mut left = changes.len();

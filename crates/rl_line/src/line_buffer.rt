@@ -8,7 +8,7 @@ ghost use Rattle.rl_base.specs.declared.listeners.Refusal.TheVariants.{NoMemory}
 ghost use Rattle.rl_line.specs.Line.{Line, NeedsRoom, stepped};
 ghost use Rattle.rl_line.specs.Plan.{Step, Taken, after, events_of, or_no_memory};
 ghost use Rattle.rl_line.specs.Undo.{line_back, texts_back};
-ghost use Rattle.rl_line.specs.Change.{faced, all_faced};
+ghost use Rattle.rl_line.specs.Change.{entry_to_undo, entries_to_undo};
 ghost use Rattle.rl_line.specs.Record.{entry_of};
 ghost use Rattle.rl_line.specs.Units.{is_change};
 ghost use Rattle.rl_line.specs.LineRanges.{IsRange};
@@ -306,9 +306,9 @@ impl LineBuffer {
     #[inline(always)]
     pub(crate) fn go_over_one(&mut self, change: &Change, way: Way) -> Result<(), Refusal>
         requires change { is_change (entry_of change.now) ≡ true }
-        requires fits { IsSome (line_back (faced way change.now ∷ []) self.old) }
-        ensures ok { OnOk result (line_back (faced way change.now ∷ []) self.old ≡ Some self.new) }
-        ensures err { IfErr result (λ r. (r ≡ NoMemory) × (self.new ≡ self.old) × Any (NeedsRoom self.old.text) (texts_back (faced way change.now ∷ []) self.old.text)) }
+        requires fits { IsSome (line_back (entry_to_undo way change.now ∷ []) self.old) }
+        ensures ok { OnOk result (line_back (entry_to_undo way change.now ∷ []) self.old ≡ Some self.new) }
+        ensures err { IfErr result (λ r. (r ≡ NoMemory) × (self.new ≡ self.old) × Any (NeedsRoom self.old.text) (texts_back (entry_to_undo way change.now ∷ []) self.old.text)) }
     {
         // So the proof knows that this is UTF-8.
         let _text = self.buf.as_str();
@@ -329,9 +329,9 @@ impl LineBuffer {
     // know their way at compile time.
     #[inline(always)]
     pub(crate) fn go_over_all(&mut self, changes: &[Change], way: Way) -> Result<(), Refusal>
-        requires { IsSome (line_back (all_faced way changes.now) self.old) }
-        ensures ok { OnOk result (line_back (all_faced way changes.now) self.old ≡ Some self.new) }
-        ensures err { IfErr result (λ r. (r ≡ NoMemory) × (self.new ≡ self.old) × Any (NeedsRoom self.old.text) (texts_back (all_faced way changes.now) self.old.text)) }
+        requires { IsSome (line_back (entries_to_undo way changes.now) self.old) }
+        ensures ok { OnOk result (line_back (entries_to_undo way changes.now) self.old ≡ Some self.new) }
+        ensures err { IfErr result (λ r. (r ≡ NoMemory) × (self.new ≡ self.old) × Any (NeedsRoom self.old.text) (texts_back (entries_to_undo way changes.now) self.old.text)) }
     {
         // So the proof knows that this is UTF-8.
         let _text = self.buf.as_str();

@@ -11,7 +11,7 @@ ghost use Rattle.rl_base.specs.Lines.{is_newline};
 ghost use Rattle.rl_line.specs.Edits.{exchange_plan};
 ghost use Rattle.rl_line.specs.Line.{IsLine, line_of};
 ghost use Rattle.rl_line.specs.LineStarts.{IsTable, count_swapped};
-ghost use Rattle.rl_line.specs.Plan.{Taken, Halted, heard_step};
+ghost use Rattle.rl_line.specs.Plan.{Taken, Halted, listener_after_step};
 ghost use Rattle.rl_line.specs.LineRanges.{IsRange};
 
 use crate::line_starts::LineStarts;
@@ -39,7 +39,7 @@ pub(crate) fn insertion_step<L: ChangeListener>(
     requires room { string_len text.old + length part.now ≤ string_capacity text.old }
     requires table_room { vec_len starts.old.places + count_by is_newline part.now ≤ vec_capacity starts.old.places }
     ensures line { IsLine (string_bytes text.new) starts.new.places.items starts.new.border pos.new limit.new }
-    ensures heard { OnOk result (listener.new ≡ heard_step L.step pos.old (InsertStr idx part.now, cursor) listener.old) }
+    ensures heard { OnOk result (listener.new ≡ listener_after_step L.step pos.old (InsertStr idx part.now, cursor) listener.old) }
     ensures text { OnOk result (string_bytes text.new ≡ insert_slice (string_bytes text.old) idx part.now) }
     ensures cursor { OnOk result (pos.new ≡ cursor) }
     ensures limit { OnOk result (limit.new ≡ max limit.old (length (string_bytes text.new))) }
@@ -72,7 +72,7 @@ pub(crate) fn deletion_step<L: DeleteListener>(
     requires range { IsRange (string_bytes text.old) range.start range.end }
     requires boundary { IsCharBoundary (remove_range (string_bytes text.old) range.start range.end) cursor }
     requires table { IsTable starts.old.places.items starts.old.border (string_bytes text.old) }
-    ensures heard { OnOk result (listener.new ≡ heard_step L.step pos.old (Delete range.start (slice_range (string_bytes text.old) range.start range.end) dir, cursor) listener.old) }
+    ensures heard { OnOk result (listener.new ≡ listener_after_step L.step pos.old (Delete range.start (slice_range (string_bytes text.old) range.start range.end) dir, cursor) listener.old) }
     ensures text { OnOk result (string_bytes text.new ≡ remove_range (string_bytes text.old) range.start range.end) }
     ensures cursor { OnOk result (pos.new ≡ cursor) }
     ensures table { IsTable starts.new.places.items starts.new.border (string_bytes text.new) }

@@ -6,7 +6,7 @@ use Rattle.rl_base.specs.Event.{Event, InsertChar, InsertStr, Delete, Replace, S
 use Rattle.rl_base.specs.declared.kill_ring.Action.{Action}
 use Rattle.rl_base.specs.declared.kill_ring.Action.TheVariants.{Kill, Yank, Other}
 use Rattle.rl_base.specs.declared.kill_ring.Mode.{Mode}
-use Rattle.rl_base.specs.KillRing.{Ring, in_new_slot, joined, new_ring, side_mode, next_index, put_at, killed_as, killed, yank, lent, heard, ring_step, IsRing}
+use Rattle.rl_base.specs.KillRing.{Ring, in_new_slot, joined, new_ring, side_mode, next_index, put_at, killed_as, killed, yank, lent, after_deletion, ring_step, IsRing}
 use Rattle.rl_base.specs.KillGroups.{Doing, Kills, Resets, Yanks, Hears, ring_do, ring_done, Groups, no_groups, grown, with_kill, with_deletion, group_step, group_do, group_done, groups_of, back_from, newest_first, AllKills, all_joined}
 use Rattle.rl_base.proofs.Ring.RingLemmas.{IsRing-killed, length-join}
 use Rattle.rl_base.proofs.Ring.SlotLemmas.{Puts, puts, take-grown, back-join, back-first}
@@ -121,12 +121,12 @@ lent-holds None r g e h =
     not_true true k = absurd (k refl)
     not_true false k = refl
 
-heard-holds : (b : Bool) (text : List ℕ) (side : Direction) (r : Ring) (g : Groups) → Holds r g → Holds (heard b text side r) (with_deletion b text side g)
-heard-holds false text side r g h = h
-heard-holds true text side r g h = killed-holds text (side_mode side) r g h
+listener_after-holds : (b : Bool) (text : List ℕ) (side : Direction) (r : Ring) (g : Groups) → Holds r g → Holds (after_deletion b text side r) (with_deletion b text side g)
+listener_after-holds false text side r g h = h
+listener_after-holds true text side r g h = killed-holds text (side_mode side) r g h
 
 step-holds : (event : Event) (r : Ring) (g : Groups) → Holds r g → Holds (ring_step r event) (group_step g event)
-step-holds (Delete i text side) r g h = subst (λ b. Holds (heard r.killing text side r) (with_deletion b text side g)) h.killing_is (heard-holds r.killing text side r g h)
+step-holds (Delete i text side) r g h = subst (λ b. Holds (after_deletion r.killing text side r) (with_deletion b text side g)) h.killing_is (listener_after-holds r.killing text side r g h)
 step-holds Start r g h = flag-holds true r g h
 step-holds Stop r g h = flag-holds false r g h
 step-holds (InsertChar i c) r g h = h
@@ -163,12 +163,12 @@ killed_as-size (suc n) Kill text mode r = refl
 killed_as-size (suc n) (Yank m) text mode r = refl
 killed_as-size (suc n) Other text mode r = refl
 
-heard-size : (b : Bool) (text : List ℕ) (side : Direction) (r : Ring) → (heard b text side r).size ≡ r.size
-heard-size false text side r = refl
-heard-size true text side r = killed_as-size r.size r.last text (side_mode side) r
+listener_after-size : (b : Bool) (text : List ℕ) (side : Direction) (r : Ring) → (after_deletion b text side r).size ≡ r.size
+listener_after-size false text side r = refl
+listener_after-size true text side r = killed_as-size r.size r.last text (side_mode side) r
 
 pub ring_step-size : (r : Ring) (event : Event) → (ring_step r event).size ≡ r.size
-ring_step-size r (Delete i text side) = heard-size r.killing text side r
+ring_step-size r (Delete i text side) = listener_after-size r.killing text side r
 ring_step-size r Start = refl
 ring_step-size r Stop = refl
 ring_step-size r (InsertChar i c) = refl
@@ -224,7 +224,7 @@ Empty-do Yanks r h = lends (yank r)
     lends (Some text) = record { size_is = h.size_is; slots_is = h.slots_is }
 Empty-do (Hears (Delete i text side)) r h = hears r.killing
   where
-    hears : (b : Bool) → Empty (heard b text side r)
+    hears : (b : Bool) → Empty (after_deletion b text side r)
     hears false = h
     hears true = Empty-killed_as r.size r.last text (side_mode side) r refl h
 Empty-do (Hears Start) r h = record { size_is = h.size_is; slots_is = h.slots_is }

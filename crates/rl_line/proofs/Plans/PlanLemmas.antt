@@ -7,7 +7,7 @@ use Rattle.std.specs.Str.{IsCharBoundary}
 use Rattle.rl_base.specs.Text.{is_boundary}
 use Rattle.rl_base.proofs.Texts.TextLemmas.{is_boundary-true, is_boundary-means}
 use Rattle.rl_line.specs.Line.{Line, stepped, if_standing, after_step}
-use Rattle.rl_line.specs.Plan.{Step, Plan, nothing, single, followed_by, after, events_of, heard, heard_step, bytes_of, Taken, Completed, Done, Halted, Uncopied}
+use Rattle.rl_line.specs.Plan.{Step, Plan, nothing, single, followed_by, after, events_of, listener_after, listener_after_step, bytes_of, Taken, Completed, Done, Halted, Uncopied}
 use Rattle.rl_line.proofs.Records.RecordLemmas.{if_some, through}
 
 -- a line that stands is what the test lets through
@@ -63,24 +63,24 @@ after-replay (s ∷ ss) old new h =
     ap (option_and_then (replay (events_of ss))) b.makes ∙ after-replay ss (stepped old b.text s.1) new b.rest
 
 module _ {L : Type 0} (step : L → Event → L) where
-  heard-append : (xs ys : List Step) (old mid : Line) (l : L) → after xs old ≡ Some mid
-      → heard step old.cursor (xs ++ ys) l ≡ heard step mid.cursor ys (heard step old.cursor xs l)
-  heard-append [] ys old mid l e = let same : old ≡ mid = cc in ap (λ (k : Line). heard step k.cursor ys l) same
-  heard-append (x ∷ xs) ys old mid l e =
-      let b = first_step x xs old mid e in heard-append xs ys (stepped old b.text x.1) mid (heard_step step old.cursor x l) b.rest
+  listener_after-append : (xs ys : List Step) (old mid : Line) (l : L) → after xs old ≡ Some mid
+      → listener_after step old.cursor (xs ++ ys) l ≡ listener_after step mid.cursor ys (listener_after step old.cursor xs l)
+  listener_after-append [] ys old mid l e = let same : old ≡ mid = cc in ap (λ (k : Line). listener_after step k.cursor ys l) same
+  listener_after-append (x ∷ xs) ys old mid l e =
+      let b = first_step x xs old mid e in listener_after-append xs ys (stepped old b.text x.1) mid (listener_after_step step old.cursor x l) b.rest
 
   pub Taken-nil : (line : Line) (b : L) → Taken step [] line line b b
   Taken-nil line b = record { line = refl; listener = refl }
 
   pub Taken-one : (s : Step) (text : List ℕ) (old new : Line) (b n : L) → apply s.0 old.text ≡ Some text → IsCharBoundary text s.1 → new ≡ stepped old text s.1
-      → n ≡ heard_step step old.cursor s b → Taken step (s ∷ []) old new b n
+      → n ≡ listener_after_step step old.cursor s b → Taken step (s ∷ []) old new b n
   Taken-one s text old new b n fits at e f = record { line = after-first s [] old text fits at ∙ ap Some (sym e); listener = f }
 
   pub Taken-append : (xs ys : List Step) (old mid new : Line) (b m n : L) → Taken step xs old mid b m → Taken step ys mid new m n
       → Taken step (xs ++ ys) old new b n
   Taken-append xs ys old mid new b m n s t = record {
     line = after-append xs ys old mid s.line ∙ t.line;
-    listener = t.listener ∙ ap (heard step mid.cursor ys) s.listener ∙ sym (heard-append xs ys old mid b s.line);
+    listener = t.listener ∙ ap (listener_after step mid.cursor ys) s.listener ∙ sym (listener_after-append xs ys old mid b s.line);
   }
 
   pub Completed-single : {A : Type 0} (plan : Plan A) (event : Event) (cursor : ℕ) (old new : Line) (b n : L) (a : A)

@@ -8,7 +8,7 @@ use Rattle.rl_base.specs.declared.listeners.Direction.{Direction}
 use Rattle.rl_base.specs.declared.listeners.Refusal.{Refusal}
 use Rattle.rl_base.specs.Event.{Event, InsertStr, Delete}
 use Rattle.rl_line.specs.Line.{Line, line_of, stepped}
-use Rattle.rl_line.specs.Plan.{Plan, Step, Taken, Done, Halted, heard_step}
+use Rattle.rl_line.specs.Plan.{Plan, Step, Taken, Done, Halted, listener_after_step}
 use Rattle.rl_line.proofs.Plans.PlanLemmas.{Taken-one}
 
 pub line_of-kept : (text made : List ℕ) (cursor place limit bound : ℕ) (grow : Bool) → made ≡ text → place ≡ cursor → bound ≡ limit
@@ -22,7 +22,7 @@ line_of-stepped text now made cursor at place limit bound grow a b c = rw (c, b,
 module _ {L : Type 0} (step : L → Event → L) where
   pub Taken-deletion : (text made : List ℕ) (i j cursor at place limit : ℕ) (side : Direction) (grow : Bool) (b n : L) → IsUtf8 text → i ≤ j → IsCharBoundary text i → IsCharBoundary text j
       → IsCharBoundary (remove_range text i j) at → made ≡ remove_range text i j → place ≡ at → length made ≤ limit
-      → n ≡ heard_step step cursor (Delete i (slice_range text i j) side, at) b
+      → n ≡ listener_after_step step cursor (Delete i (slice_range text i j) side, at) b
       → Taken step ((Delete i (slice_range text i j) side, at) ∷ []) (line_of text cursor limit grow) (line_of made place limit grow) b n
   Taken-deletion text made i j cursor at place limit side grow b n u le start stop stands is goes within hears =
       Taken-one step _ (remove_range text i j) (line_of text cursor limit grow) _ b n (apply-Delete text i j side u le start stop) stands
@@ -30,7 +30,7 @@ module _ {L : Type 0} (step : L → Event → L) where
 
   pub Taken-insertion : (text made part : List ℕ) (i cursor at place limit bound : ℕ) (grow : Bool) (b n : L) → IsUtf8 part → IsCharBoundary text i
       → IsCharBoundary (insert_slice text i part) at → made ≡ insert_slice text i part → place ≡ at → bound ≡ max limit (length made)
-      → n ≡ heard_step step cursor (InsertStr i part, at) b
+      → n ≡ listener_after_step step cursor (InsertStr i part, at) b
       → Taken step ((InsertStr i part, at) ∷ []) (line_of text cursor limit grow) (line_of made place bound grow) b n
   Taken-insertion text made part i cursor at place limit bound grow b n u place_is stands is goes rises hears =
       Taken-one step _ (insert_slice text i part) (line_of text cursor limit grow) _ b n (apply-InsertStr text i part u place_is) stands

@@ -17,7 +17,7 @@ use Rattle.rl_line.specs.declared.change.Way.TheVariants.{Back, Ahead}
 use Rattle.rl_line.specs.Record.{Entry, Begin, End, Changed, entry_of, event_of, inverse, new_text, old_text, unwind}
 use Rattle.rl_line.specs.Undo.{cursor_told, place_after, cursor_stands}
 use Rattle.rl_line.proofs.Records.RecordLemmas.{then_both, then_some}
-use Rattle.rl_line.specs.Change.{faced, order, place, text_after, text_back}
+use Rattle.rl_line.specs.Change.{entry_to_undo, order, place, text_after, text_back}
 
 -- an entry's new text stands at its place, and the old one may take its place
 pub record StandsNew (e : Entry) (text : List ℕ) (at : ℕ) : Type 0 where
@@ -53,9 +53,9 @@ place_after-is End at cursor p = cc
 place_after-is (Changed k c) at cursor p = let same : c.place ≡ at = cc in ap (λ j. j + length c.old) same
 
 -- both ways the place is the same
-pub place-faced : (way : Way) (change : Change) → place (faced way change) ≡ place (entry_of change)
-place-faced Back change = refl
-place-faced Ahead change = place-inverse (entry_of change)
+pub place-entry_to_undo : (way : Way) (change : Change) → place (entry_to_undo way change) ≡ place (entry_of change)
+place-entry_to_undo Back change = refl
+place-entry_to_undo Ahead change = place-inverse (entry_of change)
 
 -- ---- whether a text can go over an entry
 tested : {A : Type 0} (b : Bool) (a : A) → is_some (cond b (Some a) None) ≡ b
@@ -99,17 +99,17 @@ map-reverse (x ∷ xs) =
     ∙ sym (reverse-append (entry_of x ∷ []) (map entry_of xs))
 
 -- going ahead takes the inverses back
-pub ahead-inverse : (xs : List Change) → map (faced Ahead) (order Ahead xs) ≡ map inverse (reverse (map entry_of xs))
+pub ahead-inverse : (xs : List Change) → map (entry_to_undo Ahead) (order Ahead xs) ≡ map inverse (reverse (map entry_of xs))
 ahead-inverse xs = each (reverse xs) ∙ ap (map inverse) (map-reverse xs)
   where
-    each : (ys : List Change) → map (faced Ahead) ys ≡ map inverse (map entry_of ys)
+    each : (ys : List Change) → map (entry_to_undo Ahead) ys ≡ map inverse (map entry_of ys)
     each [] = refl
     each (y ∷ ys) = ap (λ l. inverse (entry_of y) ∷ l) (each ys)
 
 -- ---- a text that goes over changes, the last first
 -- those before n are left, and lead from the text now to where all lead from the text at first
 pub record GoesOver (asks : Bool) (way : Way) (xs : List Change) (n : ℕ) (text now : List ℕ) : Type 0 where
-  pub rest : text_back asks (map (faced way) (take n xs)) now ≡ text_back asks (map (faced way) xs) text
+  pub rest : text_back asks (map (entry_to_undo way) (take n xs)) now ≡ text_back asks (map (entry_to_undo way) xs) text
   pub within : n ≤ length xs
 
 text_back-append : (asks : Bool) (xs ys : List Entry) (text : List ℕ) → text_back asks (xs ++ ys) text ≡ option_and_then (text_back asks xs) (text_back asks ys text)
@@ -119,42 +119,42 @@ text_back-append asks (x ∷ xs) ys text =
     ∙ sym (then_both (text_back asks (x ∷ xs)) (text_back asks xs) (text_after asks (inverse x)) (λ t. refl) (text_back asks ys text))
 
 last_one : (asks : Bool) (way : Way) (xs : List Change) (m : ℕ) (x : Change) (now : List ℕ) → m < length xs → x ≡ get_or xs m x
-    → text_back asks (map (faced way) (take (m + 1) xs)) now ≡ option_and_then (text_back asks (map (faced way) (take m xs))) (text_after asks (inverse (faced way x)) now)
+    → text_back asks (map (entry_to_undo way) (take (m + 1) xs)) now ≡ option_and_then (text_back asks (map (entry_to_undo way) (take m xs))) (text_after asks (inverse (entry_to_undo way x)) now)
 last_one asks way xs m x now lt e =
-    ap (λ ys. text_back asks (map (faced way) ys) now) ((take_at_read xs m x lt).1 ∙ ap (λ y. take m xs ++ y ∷ []) (sym e))
-    ∙ ap (λ es. text_back asks es now) (map-append (faced way) (take m xs) (x ∷ []))
-    ∙ text_back-append asks (map (faced way) (take m xs)) (faced way x ∷ []) now
+    ap (λ ys. text_back asks (map (entry_to_undo way) ys) now) ((take_at_read xs m x lt).1 ∙ ap (λ y. take m xs ++ y ∷ []) (sym e))
+    ∙ ap (λ es. text_back asks es now) (map-append (entry_to_undo way) (take m xs) (x ∷ []))
+    ∙ text_back-append asks (map (entry_to_undo way) (take m xs)) (entry_to_undo way x ∷ []) now
 
 pub GoesOver-next : (asks : Bool) (way : Way) (xs : List Change) (m : ℕ) (x : Change) (text now next : List ℕ) → m < length xs → x ≡ get_or xs m x → GoesOver asks way xs (m + 1) text now
-    → apply (event_of (inverse (faced way x))) now ≡ Some next → cursor_stands asks (inverse (faced way x)) next ≡ true → GoesOver asks way xs m text next
+    → apply (event_of (inverse (entry_to_undo way x))) now ≡ Some next → cursor_stands asks (inverse (entry_to_undo way x)) next ≡ true → GoesOver asks way xs m text next
 GoesOver-next asks way xs m x text now next lt e g h stands = record {
   rest =
-      let one : text_after asks (inverse (faced way x)) now ≡ Some next =
-      ap (option_and_then (λ t. cond (cursor_stands asks (inverse (faced way x)) t) (Some t) None)) h ∙ ap (λ b. cond b (Some next) None) stands in
-      sym (last_one asks way xs m x now lt e ∙ ap (option_and_then (text_back asks (map (faced way) (take m xs)))) one) ∙ g.rest;
+      let one : text_after asks (inverse (entry_to_undo way x)) now ≡ Some next =
+      ap (option_and_then (λ t. cond (cursor_stands asks (inverse (entry_to_undo way x)) t) (Some t) None)) h ∙ ap (λ b. cond b (Some next) None) stands in
+      sym (last_one asks way xs m x now lt e ∙ ap (option_and_then (text_back asks (map (entry_to_undo way) (take m xs)))) one) ∙ g.rest;
   within = omega arith;
 }
 
 -- one that does not fit, or whose cursor would not stand
 goes_not : (asks : Bool) (way : Way) (xs : List Change) (m : ℕ) (x : Change) (text now : List ℕ) → m < length xs → x ≡ get_or xs m x → GoesOver asks way xs (m + 1) text now
-    → text_after asks (inverse (faced way x)) now ≡ None → None ≡ text_back asks (map (faced way) xs) text
+    → text_after asks (inverse (entry_to_undo way x)) now ≡ None → None ≡ text_back asks (map (entry_to_undo way) xs) text
 goes_not asks way xs m x text now lt e g h =
-    sym (ap (option_and_then (text_back asks (map (faced way) (take m xs)))) h) ∙ sym (last_one asks way xs m x now lt e) ∙ g.rest
+    sym (ap (option_and_then (text_back asks (map (entry_to_undo way) (take m xs)))) h) ∙ sym (last_one asks way xs m x now lt e) ∙ g.rest
 
 pub GoesOver-not : (asks : Bool) (way : Way) (xs : List Change) (m : ℕ) (x : Change) (text now : List ℕ) → m < length xs → x ≡ get_or xs m x → GoesOver asks way xs (m + 1) text now
-    → is_some (apply (event_of (inverse (faced way x))) now) ≡ false → None ≡ text_back asks (map (faced way) xs) text
+    → is_some (apply (event_of (inverse (entry_to_undo way x))) now) ≡ false → None ≡ text_back asks (map (entry_to_undo way) xs) text
 GoesOver-not asks way xs m x text now lt e g h =
-    goes_not asks way xs m x text now lt e g (none (apply (event_of (inverse (faced way x))) now) h)
+    goes_not asks way xs m x text now lt e g (none (apply (event_of (inverse (entry_to_undo way x))) now) h)
   where
-    none : (o : Option (List ℕ)) → is_some o ≡ false → option_and_then (λ t. cond (cursor_stands asks (inverse (faced way x)) t) (Some t) None) o ≡ None
+    none : (o : Option (List ℕ)) → is_some o ≡ false → option_and_then (λ t. cond (cursor_stands asks (inverse (entry_to_undo way x)) t) (Some t) None) o ≡ None
     none None h = refl
     none (Some t) h = cc
 
 pub GoesOver-astray : (asks : Bool) (way : Way) (xs : List Change) (m : ℕ) (x : Change) (text now next : List ℕ) → m < length xs → x ≡ get_or xs m x → GoesOver asks way xs (m + 1) text now
-    → apply (event_of (inverse (faced way x))) now ≡ Some next → cursor_stands asks (inverse (faced way x)) next ≡ false → None ≡ text_back asks (map (faced way) xs) text
+    → apply (event_of (inverse (entry_to_undo way x))) now ≡ Some next → cursor_stands asks (inverse (entry_to_undo way x)) next ≡ false → None ≡ text_back asks (map (entry_to_undo way) xs) text
 GoesOver-astray asks way xs m x text now next lt e g h astray =
     goes_not asks way xs m x text now lt e g
-    (ap (option_and_then (λ t. cond (cursor_stands asks (inverse (faced way x)) t) (Some t) None)) h ∙ ap (λ b. cond b (Some next) None) astray)
+    (ap (option_and_then (λ t. cond (cursor_stands asks (inverse (entry_to_undo way x)) t) (Some t) None)) h ∙ ap (λ b. cond b (Some next) None) astray)
 
 -- where no cursor is asked for, that is unwinding
 pub text_back-unwind : (es : List Entry) (text : List ℕ) → text_back false es text ≡ unwind es text

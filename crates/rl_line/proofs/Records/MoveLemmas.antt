@@ -13,7 +13,7 @@ use Rattle.rl_line.specs.Line.{Line}
 use Rattle.rl_line.specs.Record.{Entry, IsOfKind, Record, entries_after, entry_of, inverse, record_step, entries_told, freshness_of}
 use Rattle.rl_line.specs.Undo.{line_ahead, line_back}
 use Rattle.rl_line.specs.Units.{AtLevel, IsMatched, kept_of, last_of, redo_of, redone, undone}
-use Rattle.rl_line.specs.Change.{faced, order, text_back}
+use Rattle.rl_line.specs.Change.{entry_to_undo, order, text_back}
 use Rattle.rl_line.specs.Entries.{IsCutAt, cut_at}
 use Rattle.rl_line.proofs.Records.ChangeLemmas.{ahead-inverse}
 use Rattle.rl_line.proofs.Records.MatchLemmas.{Redoes-of}
@@ -176,7 +176,7 @@ redone-view k end r es fresh v u =
     same (take end es) (take k es ++ redo_of (drop k es)) (drop end es) (drop (length (redo_of (drop k es))) (drop k es)) Stale u.recorded u.pending ∙ ap redone v
 
 -- a line that goes ahead over changes of the code's list
-pub ahead-line : (xs : List Change) (es : List Entry) (line : Line) → map entry_of xs ≡ es → line_back (map (faced Ahead) (order Ahead xs)) line ≡ line_ahead es line
+pub ahead-line : (xs : List Change) (es : List Entry) (line : Line) → map entry_of xs ≡ es → line_back (map (entry_to_undo Ahead) (order Ahead xs)) line ≡ line_ahead es line
 ahead-line xs es line e = ap (λ l. line_back l line) (ahead-inverse xs ∙ ap (λ l. map inverse (reverse l)) e) ∙ line_ahead-back es line
 
 pub redo-fits : (es : List Entry) (line : Line) → IsMatched es → IsSome (line_ahead es line) → IsSome (line_ahead (redo_of es) line)
@@ -188,8 +188,8 @@ redo-fits es line m h =
 -- ---- questions
 -- a text can go over all that waits where a line can go ahead over it
 pub all-ahead : (xs : List Change) (es : List Entry) (line : Line) → map entry_of xs ≡ es → IsUtf8 line.text → IsCharBoundary line.text line.cursor
-    → is_some (text_back true (map (faced Ahead) (order Ahead xs)) line.text) ≡ is_some (line_ahead es line)
-all-ahead xs es line e u at = line_back-is_some (map (faced Ahead) (order Ahead xs)) line u at ∙ ap is_some (ahead-line xs es line e)
+    → is_some (text_back true (map (entry_to_undo Ahead) (order Ahead xs)) line.text) ≡ is_some (line_ahead es line)
+all-ahead xs es line e u at = line_back-is_some (map (entry_to_undo Ahead) (order Ahead xs)) line u at ∙ ap is_some (ahead-line xs es line e)
 
 pub some-map : (o : Option (String Global)) → is_some o ≡ is_some (option_map string_bytes o)
 some-map None = refl

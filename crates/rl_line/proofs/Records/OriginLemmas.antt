@@ -6,7 +6,7 @@ use Rattle.rl_base.specs.declared.listeners.Refusal.{Refusal}
 use Rattle.rl_base.specs.Event.{Event, Cursors}
 use Rattle.rl_base.proofs.Texts.SwapLemmas.{apply-IsUtf8}
 use Rattle.rl_line.specs.Line.{Line, stepped}
-use Rattle.rl_line.specs.Plan.{Step, Plan, after, heard, heard_step, Taken, Done, Halted}
+use Rattle.rl_line.specs.Plan.{Step, Plan, after, listener_after, listener_after_step, Taken, Done, Halted}
 use Rattle.rl_line.specs.Record.{Record, record_step, unwind}
 use Rattle.rl_line.specs.Undo.{Undone}
 use Rattle.rl_line.specs.Units.{kept_of, last_of}
@@ -25,14 +25,14 @@ pub record Kept (r now : Record) (old new : Line) : Type 0 where
   pub origin_is : (start : List ℕ) → origin r old.text ≡ Some start → origin now new.text ≡ Some start
   pub utf8 : IsUtf8 new.text
 
-Kept-after : (steps : List Step) (r : Record) (old new : Line) → IsUtf8 old.text → after steps old ≡ Some new → Kept r (heard record_step old.cursor steps r) old new
+Kept-after : (steps : List Step) (r : Record) (old new : Line) → IsUtf8 old.text → after steps old ≡ Some new → Kept r (listener_after record_step old.cursor steps r) old new
 Kept-after [] r old new u h =
     let e : old ≡ new = cc in record { origin_is = λ start k. ap (λ (l : Line). origin r l.text) (sym e) ∙ k; utf8 = subst (λ (l : Line). IsUtf8 l.text) e u }
 Kept-after (s ∷ ss) r old new u h =
     let b = first_step s ss old new h in
     let here : Line = stepped old b.text s.1 in
     let here_utf8 = apply-IsUtf8 s.0 old.text b.text u b.makes in
-    let more = Kept-after ss (heard_step record_step old.cursor s r) here new here_utf8 b.rest in
+    let more = Kept-after ss (listener_after_step record_step old.cursor s r) here new here_utf8 b.rest in
     record {
       origin_is = λ start k.
           more.origin_is start

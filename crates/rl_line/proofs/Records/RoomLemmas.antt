@@ -13,7 +13,7 @@ use Rattle.rl_line.specs.declared.change.Change.{Change}
 use Rattle.rl_line.specs.declared.change.Measure.{Measure}
 use Rattle.rl_line.specs.declared.change.Measure.TheVariants.{Bytes, Newlines}
 use Rattle.rl_line.specs.declared.change.Way.{Way}
-use Rattle.rl_line.specs.Change.{faced, greatest_back_over, size_back, size_back_over, size_of}
+use Rattle.rl_line.specs.Change.{entry_to_undo, greatest_back_over, size_back, size_back_over, size_of}
 use Rattle.rl_line.specs.Line.{Line, NeedsRoom}
 use Rattle.rl_line.specs.Record.{Entry, Begin, End, Changed, bytes_ahead, bytes_back, event_of, inverse, new_text, old_text, unwind}
 use Rattle.rl_line.specs.Undo.{line_back, texts_after, texts_ahead, texts_back}
@@ -126,12 +126,12 @@ NeedsRoom-one e text now u makes more =
     needs (inr high) = inr (omega (arith, size_back-is Newlines e text now u makes, high))
 
 -- a size past what a usize holds is more than the first
-pub past_a_usize : (k : Measure) (way : Way) (xs : List Change) (m n size : ℕ) (x : Change) → m < length xs → x ≡ get_or xs m x → size ≡ size_back_over k (map (faced way) (drop (m + 1) xs)) n
-    → n < 2 ^ 64 → 2 ^ 64 ≤ size_back k (faced way x) size → n < greatest_back_over k (map (faced way) xs) n
+pub past_a_usize : (k : Measure) (way : Way) (xs : List Change) (m n size : ℕ) (x : Change) → m < length xs → x ≡ get_or xs m x → size ≡ size_back_over k (map (entry_to_undo way) (drop (m + 1) xs)) n
+    → n < 2 ^ 64 → 2 ^ 64 ≤ size_back k (entry_to_undo way x) size → n < greatest_back_over k (map (entry_to_undo way) xs) n
 past_a_usize k way xs m n size x lt e is fits past =
-    let same : size_back_over k (drop m (map (faced way) xs)) n ≡ size_back k (faced way x) size =
-    ap (λ es. size_back_over k es n) (drop-map (faced way) m xs ∙ entries_from way xs m x lt e) ∙ ap (size_back k (faced way x)) (sym is) in
-    omega (arith, size_back_over-within k m (map (faced way) xs) n, same, fits, past)
+    let same : size_back_over k (drop m (map (entry_to_undo way) xs)) n ≡ size_back k (entry_to_undo way x) size =
+    ap (λ es. size_back_over k es n) (drop-map (entry_to_undo way) m xs ∙ entries_from way xs m x lt e) ∙ ap (size_back k (entry_to_undo way x)) (sym is) in
+    omega (arith, size_back_over-within k m (map (entry_to_undo way) xs) n, same, fits, past)
 
 -- the texts on the way ahead are those on the way back over the inverses, the last first
 pub texts_ahead-back : (es : List Entry) (text : List ℕ) → texts_back (map inverse (reverse es)) text ≡ texts_ahead es text
@@ -147,9 +147,9 @@ texts_ahead-back es text = ap (λ l. texts_after l text) (each es)
         ∙ ap (λ l. event_of e ∷ l) (each es)
 
 -- what comes with one of the changes is no more than what comes with all
-pub bytes_back-one : (way : Way) (xs : List Change) (m : ℕ) (x : Change) → m < length xs → x ≡ get_or xs m x → 0 < length (old_text (faced way x)) → 0 < bytes_back (map (faced way) xs)
+pub bytes_back-one : (way : Way) (xs : List Change) (m : ℕ) (x : Change) → m < length xs → x ≡ get_or xs m x → 0 < length (old_text (entry_to_undo way x)) → 0 < bytes_back (map (entry_to_undo way) xs)
 bytes_back-one way [] m x lt e h = absurd (omega (arith, lt))
-bytes_back-one way (y ∷ ys) zero x lt e h = let t = subst (λ z. 0 < length (old_text (faced way z))) e h in omega (arith, t)
+bytes_back-one way (y ∷ ys) zero x lt e h = let t = subst (λ z. 0 < length (old_text (entry_to_undo way z))) e h in omega (arith, t)
 bytes_back-one way (y ∷ ys) (suc m) x lt e h = omega (arith, bytes_back-one way ys m x (omega (arith, lt)) e h)
 
 pub bytes_back-first : (len : ℕ) (es : List Entry) → bytes_back (take len es) ≤ bytes_back es

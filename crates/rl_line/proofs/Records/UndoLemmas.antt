@@ -19,7 +19,7 @@ use Rattle.rl_line.specs.declared.change.Way.{Way}
 use Rattle.rl_line.specs.Units.{has_change}
 use Rattle.rl_line.specs.Undo.{cursor_after, cursor_told, place_after, line_after, line_ahead, line_back, cursor_stands}
 use Rattle.rl_line.specs.declared.change.Measure.{Measure}
-use Rattle.rl_line.specs.Change.{faced, text_after, text_back, size_back_over, greatest_back_over}
+use Rattle.rl_line.specs.Change.{entry_to_undo, text_after, text_back, size_back_over, greatest_back_over}
 use Rattle.rl_line.proofs.Plans.PlanLemmas.{Fits-from, after_step-is, standing, standing-is}
 use Rattle.rl_line.proofs.Records.RecordLemmas.{if_some, through, value_of, IsSome-through, inverse-inverse, then_both, then_some}
 
@@ -79,45 +79,45 @@ line_back-append (x ∷ xs) ys line =
 
 -- the entries from n on were taken back, which led from start to now, and those before can be
 pub record IsBack (way : Way) (xs : List Change) (n : ℕ) (start now : Line) : Type 0 where
-  pub so_far : line_back (map (faced way) (drop n xs)) start ≡ Some now
-  pub rest : IsSome (line_back (map (faced way) (take n xs)) now)
+  pub so_far : line_back (map (entry_to_undo way) (drop n xs)) start ≡ Some now
+  pub rest : IsSome (line_back (map (entry_to_undo way) (take n xs)) now)
 
 -- the last of the entries that are left
 rest_split : (way : Way) (xs : List Change) (m : ℕ) (x : Change) (now : Line) → m < length xs → x ≡ get_or xs m x
-    → line_back (map (faced way) (take (m + 1) xs)) now ≡ option_and_then (line_back (map (faced way) (take m xs))) (back_one (faced way x) now)
+    → line_back (map (entry_to_undo way) (take (m + 1) xs)) now ≡ option_and_then (line_back (map (entry_to_undo way) (take m xs))) (back_one (entry_to_undo way x) now)
 rest_split way xs m x now lt e =
-    ap (λ ys. line_back (map (faced way) ys) now) ((take_at_read xs m x lt).1 ∙ ap (λ y. take m xs ++ y ∷ []) (sym e))
-    ∙ ap (λ es. line_back es now) (map-append (faced way) (take m xs) (x ∷ []))
-    ∙ line_back-append (map (faced way) (take m xs)) (faced way x ∷ []) now
+    ap (λ ys. line_back (map (entry_to_undo way) ys) now) ((take_at_read xs m x lt).1 ∙ ap (λ y. take m xs ++ y ∷ []) (sym e))
+    ∙ ap (λ es. line_back es now) (map-append (entry_to_undo way) (take m xs) (x ∷ []))
+    ∙ line_back-append (map (entry_to_undo way) (take m xs)) (entry_to_undo way x ∷ []) now
 
 -- the entries from m on are that at m and those after it
 pub entries_from : (way : Way) (xs : List Change) (m : ℕ) (x : Change) → m < length xs → x ≡ get_or xs m x
-    → map (faced way) (drop m xs) ≡ faced way x ∷ map (faced way) (drop (m + 1) xs)
+    → map (entry_to_undo way) (drop m xs) ≡ entry_to_undo way x ∷ map (entry_to_undo way) (drop (m + 1) xs)
 entries_from way xs m x lt e =
-    ap (map (faced way)) (drop-cons xs m x lt) ∙ ap (λ y. faced way y ∷ map (faced way) (drop (suc m) xs)) (sym e)
-    ∙ ap (λ k. faced way x ∷ map (faced way) (drop k xs)) (sym (add-one m))
+    ap (map (entry_to_undo way)) (drop-cons xs m x lt) ∙ ap (λ y. entry_to_undo way y ∷ map (entry_to_undo way) (drop (suc m) xs)) (sym e)
+    ∙ ap (λ k. entry_to_undo way x ∷ map (entry_to_undo way) (drop k xs)) (sym (add-one m))
 
 -- before the first of them
-pub IsBack-none : (way : Way) (xs : List Change) (start : Line) → IsSome (line_back (map (faced way) xs) start) → IsBack way xs (length xs) start start
+pub IsBack-none : (way : Way) (xs : List Change) (start : Line) → IsSome (line_back (map (entry_to_undo way) xs) start) → IsBack way xs (length xs) start start
 IsBack-none way xs start h =
     record {
-      so_far = ap (λ es. line_back (map (faced way) es) start) (drop_all (length xs) xs (le_refl (length xs)));
-      rest = subst (λ es. IsSome (line_back (map (faced way) es) start)) (sym (take_all (length xs) xs (le_refl (length xs)))) h;
+      so_far = ap (λ es. line_back (map (entry_to_undo way) es) start) (drop_all (length xs) xs (le_refl (length xs)));
+      rest = subst (λ es. IsSome (line_back (map (entry_to_undo way) es) start)) (sym (take_all (length xs) xs (le_refl (length xs)))) h;
     }
 
 pub IsBack-fits : (way : Way) (xs : List Change) (m : ℕ) (x : Change) (start now : Line) → m < length xs → x ≡ get_or xs m x → IsBack way xs (m + 1) start now
-    → IsSome (line_back (faced way x ∷ []) now)
+    → IsSome (line_back (entry_to_undo way x ∷ []) now)
 IsBack-fits way xs m x start now lt e b =
-    IsSome-through (line_back (map (faced way) (take m xs))) (back_one (faced way x) now) (subst IsSome (rest_split way xs m x now lt e) b.rest)
+    IsSome-through (line_back (map (entry_to_undo way) (take m xs))) (back_one (entry_to_undo way x) now) (subst IsSome (rest_split way xs m x now lt e) b.rest)
 
 pub IsBack-next : (way : Way) (xs : List Change) (m : ℕ) (x : Change) (start now next : Line) (text : List ℕ) → m < length xs → x ≡ get_or xs m x → IsBack way xs (m + 1) start now
-    → apply (event_of (inverse (faced way x))) now.text ≡ Some text → next ≡ stepped now text (cursor_after now.cursor (inverse (faced way x)))
-    → IsCharBoundary text (cursor_after now.cursor (inverse (faced way x))) → IsBack way xs m start next
+    → apply (event_of (inverse (entry_to_undo way x))) now.text ≡ Some text → next ≡ stepped now text (cursor_after now.cursor (inverse (entry_to_undo way x)))
+    → IsCharBoundary text (cursor_after now.cursor (inverse (entry_to_undo way x))) → IsBack way xs m start next
 IsBack-next way xs m x start now next text lt e b fits is at =
-    let one = one-back (faced way x) now next text fits is at in
+    let one = one-back (entry_to_undo way x) now next text fits is at in
     record {
-      so_far = ap (λ es. line_back es start) (entries_from way xs m x lt e) ∙ ap (option_and_then (back_one (faced way x))) b.so_far ∙ one;
-      rest = subst IsSome (rest_split way xs m x now lt e ∙ ap (option_and_then (line_back (map (faced way) (take m xs)))) one) b.rest;
+      so_far = ap (λ es. line_back es start) (entries_from way xs m x lt e) ∙ ap (option_and_then (back_one (entry_to_undo way x))) b.so_far ∙ one;
+      rest = subst IsSome (rest_split way xs m x now lt e ∙ ap (option_and_then (line_back (map (entry_to_undo way) (take m xs)))) one) b.rest;
     }
 
 -- a line that goes over an entry

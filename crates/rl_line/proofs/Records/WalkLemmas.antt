@@ -13,7 +13,7 @@ use Rattle.rl_line.specs.declared.change.Freshness.{Freshness}
 use Rattle.rl_line.specs.declared.change.Freshness.TheVariants as is
 use Rattle.rl_line.specs.Change.{text_after, text_back}
 use Rattle.rl_line.specs.Line.{Line, stepped}
-use Rattle.rl_line.specs.Plan.{Step, Plan, after, heard, heard_step, Taken, Done, Halted}
+use Rattle.rl_line.specs.Plan.{Step, Plan, after, listener_after, listener_after_step, Taken, Done, Halted}
 use Rattle.rl_line.specs.Record.{Kind, Swap, Entry, Begin, End, Changed, Record, cursors_of, entries_after, entries_of, entries_told, event_of, freshness_added, freshness_joined, freshness_of, inverse, joined, record_step, replay_entries, replays_to, unwind, with_cursors}
 use Rattle.rl_line.specs.Undo.{cursor_after, cursor_told, line_ahead, line_back, Redone, Undone, cursor_stands}
 use Rattle.rl_line.specs.Units.{begun, end_one, end_times, ended, kept_of, last_of, level, redo_of, truncated}
@@ -167,7 +167,7 @@ Walks-told r text b a w = record {
 
 -- a step that a line took, and its record heard
 Walks-step : (event : Event) (b a : ℕ) (r : Record) (text now : List ℕ) → Walks r text → apply event text ≡ Some now → IsCharBoundary text b → IsCharBoundary now a
-    → Walks (heard_step record_step b (event, a) r) now
+    → Walks (listener_after_step record_step b (event, a) r) now
 unfolding apply record_step
 Walks-step (InsertChar i c) b a r text now w h before after =
     record { start = w.start; is_text = w.is_text; back = walked (InsertChar i c) r.recorded w.start text now b a w.is_text w.back h before after; end = now; ahead = refl; stale = refl }
@@ -187,11 +187,11 @@ Walks-step (Cursors b' a') b a r text now w h before after =
     let same : text ≡ now = cc in
     Walks-told (record_step r (Cursors b' a')) now b a (subst (Walks (record_step r (Cursors b' a'))) same (Walks-told r text b' a' w))
 
-Walks-after : (steps : List Step) (r : Record) (old new : Line) → IsCharBoundary old.text old.cursor → after steps old ≡ Some new → Walks r old.text → Walks (heard record_step old.cursor steps r) new.text
+Walks-after : (steps : List Step) (r : Record) (old new : Line) → IsCharBoundary old.text old.cursor → after steps old ≡ Some new → Walks r old.text → Walks (listener_after record_step old.cursor steps r) new.text
 Walks-after [] r old new at h w = let e : old ≡ new = cc in subst (λ (l : Line). Walks r l.text) e w
 Walks-after (s ∷ ss) r old new at h w =
     let b = first_step s ss old new h in
-    Walks-after ss (heard_step record_step old.cursor s r) (stepped old b.text s.1) new b.stands b.rest (Walks-step s.0 old.cursor s.1 r old.text b.text w b.makes at b.stands)
+    Walks-after ss (listener_after_step record_step old.cursor s r) (stepped old b.text s.1) new b.stands b.rest (Walks-step s.0 old.cursor s.1 r old.text b.text w b.makes at b.stands)
 
 Walks-Taken : (steps : List Step) (r now : Record) (old new : Line) → IsCharBoundary old.text old.cursor → Taken record_step steps old new r now → Walks r old.text → Walks now new.text
 Walks-Taken steps r now old new at t w = subst (λ (k : Record). Walks k new.text) (sym t.listener) (Walks-after steps r old new at t.line w)

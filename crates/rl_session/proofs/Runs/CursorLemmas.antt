@@ -11,7 +11,7 @@ use Rattle.rl_base.proofs.Texts.SwapLemmas.{apply-IsUtf8}
 use Rattle.rl_line.specs.declared.change.Freshness.{Freshness}
 use Rattle.rl_line.specs.declared.change.Freshness.TheVariants as is
 use Rattle.rl_line.specs.Line.{Line, stepped}
-use Rattle.rl_line.specs.Plan.{Step, after, heard, heard_step}
+use Rattle.rl_line.specs.Plan.{Step, after, listener_after, listener_after_step}
 use Rattle.rl_line.specs.Record.{Kind, Insertion, Deletion, Replacement, Swap, Entry, Begin, End, Changed, Record, cursors_of, entries_after, entries_of, entries_told, event_of, freshness_added, freshness_joined, freshness_of, joined, last_told, record_step, unwind, with_cursors}
 use Rattle.rl_line.proofs.Records.JoinLemmas.{fresh-Delete-nothing}
 use Rattle.rl_line.proofs.Plans.PlanLemmas.{first_step}
@@ -50,7 +50,7 @@ abbrev pub next : Event → List Entry → ℕ → ℕ → List Entry
 next event es b a = entries_told (freshness_of event es) b a (entries_after event es)
 
 pub recorded-next : (b : ℕ) (event : Event) (a : ℕ) (ss : List Step) (r : Record) → IsLone event ss
-    → (heard_step record_step b (event, a) r).recorded ≡ next event r.recorded b a
+    → (listener_after_step record_step b (event, a) r).recorded ≡ next event r.recorded b a
 unfolding record_step
 recorded-next b (InsertChar i c) a ss r h = refl
 recorded-next b (InsertStr i s) a ss r h = refl
@@ -202,15 +202,15 @@ Grows-told : (fresh : Freshness) (b a : ℕ) (es : List Entry) → Grows es (ent
 Grows-told fresh b a es = told-cases (λ ks. Grows es ks) fresh b a es (Grows-same es) (λ p. Grows-last_told p es)
 
 -- what is recorded grows with every step
-Grows-heard : (b : ℕ) (steps : List Step) (r : Record) → Quiet b steps → Grows r.recorded (heard record_step b steps r).recorded
-Grows-heard b [] r q = Grows-same r.recorded
-Grows-heard b (s ∷ ss) r q =
-    let k = heard_step record_step b s r in
+Grows-listener_after : (b : ℕ) (steps : List Step) (r : Record) → Quiet b steps → Grows r.recorded (listener_after record_step b steps r).recorded
+Grows-listener_after b [] r q = Grows-same r.recorded
+Grows-listener_after b (s ∷ ss) r q =
+    let k = listener_after_step record_step b s r in
     let es = r.recorded in
     let after = entries_after s.0 es in
     let told = Grows-told (freshness_of s.0 es) b s.1 after in
     let first : Grows es (next s.0 es b s.1) = Grows-on es after (next s.0 es b s.1) (Grows-after s.0 es ss q.1) told in
-    Grows-on es k.recorded (heard record_step s.1 ss k).recorded (subst (Grows es) (sym (recorded-next b s.0 s.1 ss r q.1)) first) (Grows-heard s.1 ss k q.2)
+    Grows-on es k.recorded (listener_after record_step s.1 ss k).recorded (subst (Grows es) (sym (recorded-next b s.0 s.1 ss r q.1)) first) (Grows-listener_after s.1 ss k q.2)
 
 -- ---- one entry is there, and stays the only one
 -- the entry that an event adds is told its cursors
@@ -281,7 +281,7 @@ last-same (x ∷ xs) k e h = let rest : xs ++ k ∷ [] ≡ xs ++ e ∷ [] = cc i
 -- the steps after the one that added the entry
 after-added : (steps : List Step) (r : Record) (x : List ℕ) (first : ℕ) (line new : Line) (base : List Entry) (k e : Entry)
     → IsUtf8 x → after steps line ≡ Some new → Quiet line.cursor steps
-    → r.recorded ≡ base ++ k ∷ [] → AddedAlone k x line.text first line.cursor → (heard record_step line.cursor steps r).recorded ≡ base ++ e ∷ []
+    → r.recorded ≡ base ++ k ∷ [] → AddedAlone k x line.text first line.cursor → (listener_after record_step line.cursor steps r).recorded ≡ base ++ e ∷ []
     → AddedAlone e x new.text first (ends_at line.cursor steps)
 after-added [] r x first line new base k e u h q is alone end =
     let same : line ≡ new = cc in
@@ -290,15 +290,15 @@ after-added [] r x first line new base k e u h q is alone end =
 after-added (s ∷ ss) r x first line new base k e u h q is alone end =
     let b = first_step s ss line new h in
     let c = line.cursor in
-    let now = heard_step record_step c s r in
+    let now = listener_after_step record_step c s r in
     let made : now.recorded ≡ base ++ next s.0 (k ∷ []) c s.1 =
     recorded-next c s.0 s.1 ss r q.1 ∙ ap (λ es. next s.0 es c s.1) is ∙ next-front s.0 base k c s.1 in
     elim (one-more s.0 x line.text b.text k first c s.1 u alone b.makes q.0) [
       | inl t ↦ after-added ss now x first (stepped line b.text s.1) new base t.entry e u b.rest q.2 (made ∙ ap (λ es. base ++ es) t.is) t.alone end
       | inr t ↦
-          let more = Grows-length now.recorded (heard record_step s.1 ss now).recorded (Grows-heard s.1 ss now q.2) in
+          let more = Grows-length now.recorded (listener_after record_step s.1 ss now).recorded (Grows-listener_after s.1 ss now q.2) in
           let two : length now.recorded ≡ length base + 2 = ap length (made ∙ ap (λ es. base ++ es) t.1) ∙ length-append base (k ∷ (t.0 ∷ [])) in
-          let last : length (heard record_step s.1 ss now).recorded ≡ length base + 1 = ap length end ∙ length-append base (e ∷ []) in
+          let last : length (listener_after record_step s.1 ss now).recorded ≡ length base + 1 = ap length end ∙ length-append base (e ∷ []) in
           absurd (omega (arith, more, two, last))
     ]
 
@@ -314,11 +314,11 @@ Grows-at (x ∷ xs) y l e g = Grows-at xs y l e g.1
 
 -- where the first event of steps joins the last entry, they add none
 joined-adds-none : (s : Step) (ss : List Step) (b : ℕ) (r : Record) (e : Entry) → Quiet b (s ∷ ss) → JoinsOne s.0 r.recorded b s.1
-    → (heard record_step b (s ∷ ss) r).recorded ≡ r.recorded ++ e ∷ [] → ⊥
+    → (listener_after record_step b (s ∷ ss) r).recorded ≡ r.recorded ++ e ∷ [] → ⊥
 joined-adds-none s ss b r e q j end = elim (heavier s.0 j.last j.joint ss j.joins q.1) [ inl more ↦ by_weight more | inr p ↦ by_length p.1 ]
   where
     now : Record
-    now = heard_step record_step b s r
+    now = listener_after_step record_step b s r
 
     y : (d : Entry) × (entries_told (freshness_joined (cursors_of j.last)) b s.1 (j.joint ∷ []) ≡ d ∷ []) × (weight d ≡ weight j.joint)
     y = told-weight (freshness_joined (cursors_of j.last)) b s.1 j.joint
@@ -328,8 +328,8 @@ joined-adds-none s ss b r e q j end = elim (heavier s.0 j.last j.joint ss j.join
 
     by_weight : weight j.last < weight j.joint → ⊥
     by_weight more =
-        let g = Grows-heard s.1 ss now q.2 in
-        let from_made = subst (λ es. Grows es (heard record_step s.1 ss now).recorded) made g in
+        let g = Grows-listener_after s.1 ss now q.2 in
+        let from_made = subst (λ es. Grows es (listener_after record_step s.1 ss now).recorded) made g in
         let to_end = subst (Grows (j.front ++ y.0 ∷ [])) (end ∙ ap (λ es. es ++ e ∷ []) j.split) from_made in
         let least = Grows-at j.front y.0 j.last e to_end in
         let same = y.2 in
@@ -337,7 +337,7 @@ joined-adds-none s ss b r e q j end = elim (heavier s.0 j.last j.joint ss j.join
 
     by_length : ss ≡ [] → ⊥
     by_length nil =
-        let last : now.recorded ≡ r.recorded ++ e ∷ [] = ap (λ ts. (heard record_step s.1 ts now).recorded) (sym nil) ∙ end in
+        let last : now.recorded ≡ r.recorded ++ e ∷ [] = ap (λ ts. (listener_after record_step s.1 ts now).recorded) (sym nil) ∙ end in
         let short : length now.recorded ≡ length j.front + 1 = ap length made ∙ length-append j.front (y.0 ∷ []) in
         let old : length r.recorded ≡ length j.front + 1 = ap length j.split ∙ length-append j.front (j.last ∷ []) in
         let long : length now.recorded ≡ length r.recorded + 1 = ap length last ∙ length-append r.recorded (e ∷ []) in
@@ -345,13 +345,13 @@ joined-adds-none s ss b r e q j end = elim (heavier s.0 j.last j.joint ss j.join
 
 -- steps that add one entry alone: it makes their text, and was told the cursor before them and the one that they left
 pub added-alone : (steps : List Step) (r : Record) (old new : Line) (e : Entry) → IsUtf8 old.text → after steps old ≡ Some new → Quiet old.cursor steps
-    → (heard record_step old.cursor steps r).recorded ≡ r.recorded ++ e ∷ [] → AddedAlone e old.text new.text old.cursor (ends_at old.cursor steps)
+    → (listener_after record_step old.cursor steps r).recorded ≡ r.recorded ++ e ∷ [] → AddedAlone e old.text new.text old.cursor (ends_at old.cursor steps)
 added-alone [] r old new e u h q end = let more = ap length end ∙ length-append r.recorded (e ∷ []) in absurd (omega (arith, more))
 added-alone (s ∷ ss) r old new e u h q end =
     let b = first_step s ss old new h in
     let c = old.cursor in
     let es = r.recorded in
-    let now = heard_step record_step c s r in
+    let now = listener_after_step record_step c s r in
     let line = stepped old b.text s.1 in
     let is = recorded-next c s.0 s.1 ss r q.1 in
     elim (next-cases s.0 es c s.1) [

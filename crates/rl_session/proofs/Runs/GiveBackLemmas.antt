@@ -20,7 +20,7 @@ use Rattle.rl_base.specs.declared.motion.WordAction.TheVariants.{Capitalize, Low
 use Rattle.rl_line.specs.Kills.{is_by_characters, kill_plan, removal, side_of}
 use Rattle.rl_line.specs.LetterCase.{edit_word_plan, put_for, recased, word_ahead}
 use Rattle.rl_line.specs.Line.{Line}
-use Rattle.rl_line.specs.Plan.{Step as PlanStep, Plan, single, heard, heard_step, Done}
+use Rattle.rl_line.specs.Plan.{Step as PlanStep, Plan, single, listener_after, listener_after_step, Done}
 use Rattle.rl_line.specs.Ranges.{killed, text_in}
 use Rattle.rl_line.specs.Record.{Entry, Begin, End, Changed, Record, cursors_of, entries_after, entries_of, entries_told, event_of, inverse, record_step}
 use Rattle.rl_line.specs.Undo.{cursor_after, cursor_told, line_after, line_ahead, line_back, place_after, Redone, Undone}
@@ -66,7 +66,7 @@ one_longer es ks e same more = let n = ap length (sym same ∙ more) in let m = 
 
 -- the plan of an edit that added one entry
 abbrev AddsOne : {A : Type 0} → Line → Record → Entry → Plan A → Type 0
-AddsOne line r e plan = (heard record_step line.cursor plan.steps r).recorded ≡ r.recorded ++ e ∷ []
+AddsOne line r e plan = (listener_after record_step line.cursor plan.steps r).recorded ≡ r.recorded ++ e ∷ []
 
 -- a plan of one step, since that adds the entry
 once : {A : Type 0} (line : Line) (r : Record) (e : Entry) (event : Event) (cursor : ℕ) (a : A) → IsLone event [] → AddsOne line r e (single event cursor a) → Settles line (single event cursor a)
@@ -117,11 +117,11 @@ respelled line r e action (Some word) made is adds = from (length made == 0) ref
         let empty = eqb-true (length made) 0 h in
         let c = line.cursor in
         let after = word.start + length made in
-        let mid = heard_step record_step c (gone, c) r in
+        let mid = listener_after_step record_step c (gone, c) r in
         let first : mid.recorded ≡ r.recorded =
         recorded-next c gone c [] r tt ∙ ap (λ f. entries_told f c c (entries_after gone r.recorded)) (fresh-Delete-nothing r.recorded word.start (text_in line word) Forward (omega (arith, empty, long)))
         ∙ after-Delete-nothing r.recorded word.start (text_in line word) Forward (omega (arith, empty, long)) in
-        let second : (heard_step record_step c (come, after) mid).recorded ≡ mid.recorded =
+        let second : (listener_after_step record_step c (come, after) mid).recorded ≡ mid.recorded =
         recorded-next c come after [] mid tt ∙ ap (λ f. entries_told f c after (entries_after come mid.recorded)) (fresh-InsertStr-nothing mid.recorded word.start made empty)
         ∙ after-InsertStr-nothing mid.recorded word.start made empty in
         absurd (one_longer r.recorded _ e (second ∙ first) adds)
@@ -138,7 +138,7 @@ pub record Adds (e : Entry) (old new : Line) (now : Record) : Type 0 where
   pub alone : AddedAlone e old.text new.text old.cursor new.cursor
   pub dropped : now.pending ≡ []
 
-dropped-step : (b : ℕ) (event : Event) (a : ℕ) (ss : List PlanStep) (r : Record) → IsLone event ss → (heard_step record_step b (event, a) r).pending ≡ []
+dropped-step : (b : ℕ) (event : Event) (a : ℕ) (ss : List PlanStep) (r : Record) → IsLone event ss → (listener_after_step record_step b (event, a) r).pending ≡ []
 unfolding record_step
 dropped-step b (InsertChar i c) a ss r lone = refl
 dropped-step b (InsertStr i s) a ss r lone = refl
@@ -148,13 +148,13 @@ dropped-step b Start a ss r lone = absurd lone
 dropped-step b Stop a ss r lone = absurd lone
 dropped-step b (Cursors b' a') a ss r lone = absurd lone
 
-dropped-steps : (cursor : ℕ) (steps : List PlanStep) (r : Record) → Quiet cursor steps → r.pending ≡ [] → (heard record_step cursor steps r).pending ≡ []
+dropped-steps : (cursor : ℕ) (steps : List PlanStep) (r : Record) → Quiet cursor steps → r.pending ≡ [] → (listener_after record_step cursor steps r).pending ≡ []
 dropped-steps cursor [] r q h = h
-dropped-steps cursor (s ∷ ss) r q h = dropped-steps s.1 ss (heard_step record_step cursor s r) q.2 (dropped-step cursor s.0 s.1 ss r q.1)
+dropped-steps cursor (s ∷ ss) r q h = dropped-steps s.1 ss (listener_after_step record_step cursor s r) q.2 (dropped-step cursor s.0 s.1 ss r q.1)
 
-dropped-some : (cursor : ℕ) (steps : List PlanStep) (r : Record) → Quiet cursor steps → (steps ≡ [] → ⊥) → (heard record_step cursor steps r).pending ≡ []
+dropped-some : (cursor : ℕ) (steps : List PlanStep) (r : Record) → Quiet cursor steps → (steps ≡ [] → ⊥) → (listener_after record_step cursor steps r).pending ≡ []
 dropped-some cursor [] r q some = absurd (some refl)
-dropped-some cursor (s ∷ ss) r q some = dropped-steps s.1 ss (heard_step record_step cursor s r) q.2 (dropped-step cursor s.0 s.1 ss r q.1)
+dropped-some cursor (s ∷ ss) r q some = dropped-steps s.1 ss (listener_after_step record_step cursor s r) q.2 (dropped-step cursor s.0 s.1 ss r q.1)
 
 done-adds : {A : Type 0} (plan : Plan A) (line new : Line) (r now : Record) (a : A) (e : Entry) → IsUtf8 line.text → (AddsOne line r e plan → Settles line plan)
     → Done record_step plan line new r now a → now.recorded ≡ r.recorded ++ e ∷ [] → Adds e line new now
@@ -162,7 +162,7 @@ done-adds plan line new r now a e u settles d adds =
     let one : AddsOne line r e plan = ap (λ (k : Record). k.recorded) (sym d.taken.listener) ∙ adds in
     let s = settles one in
     let some : plan.steps ≡ [] → ⊥ =
-    λ none. one_longer r.recorded _ e (ap (λ ss. (heard record_step line.cursor ss r).recorded) none) one in
+    λ none. one_longer r.recorded _ e (ap (λ ss. (listener_after record_step line.cursor ss r).recorded) none) one in
     let alone = added-alone plan.steps r line d.last e u d.taken.line s.quiet one in
     let text : d.last.text ≡ new.text = ap (λ (l : Line). l.text) (sym d.line) in
     let cursor : ends_at line.cursor plan.steps ≡ new.cursor = sym (s.ends some) ∙ ap (λ (l : Line). l.cursor) (sym d.line) in

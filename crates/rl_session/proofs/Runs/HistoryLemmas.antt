@@ -4,7 +4,7 @@ use Rattle.std.proofs.lemmas.Slice.Eq.{bytes_eq-Decides}
 use Rattle.std.specs.Str.{IsCharBoundary, IsUtf8}
 use Rattle.rl_base.specs.declared.layout.GraphemeClusterMode.{GraphemeClusterMode}
 use Rattle.rl_line.specs.Line.{Line}
-use Rattle.rl_line.specs.Plan.{Step as PlanStep, heard}
+use Rattle.rl_line.specs.Plan.{Step as PlanStep, listener_after}
 use Rattle.rl_line.specs.Record.{Record, agree, record_step, unwind}
 use Rattle.rl_line.specs.Undo.{Undone, Redone, Redos}
 use Rattle.rl_line.specs.Units.{begun, ended, last_of, last_units, opens, redo_of, truncated, undone}
@@ -29,7 +29,7 @@ History-Heard : (start : List ℕ) (held : List (List ℕ)) (steps : List PlanSt
     → Heard steps old r text now → History start (held ++ texts_of_steps steps old.text) text now
 History-Heard start held steps old r text now h k =
     subst (λ (x : Record). History start (held ++ texts_of_steps steps old.text) text x) (sym k.taken.listener)
-    (subst (λ t. History start (held ++ texts_of_steps steps old.text) t (heard record_step old.cursor steps r)) (sym k.text_is)
+    (subst (λ t. History start (held ++ texts_of_steps steps old.text) t (listener_after record_step old.cursor steps r)) (sym k.text_is)
     (History-steps steps start held old k.last r h k.taken.line))
 
 -- no text was held, and the record became another

@@ -24,7 +24,7 @@ use Rattle.rl_base.proofs.Ring.KillGroupLemmas.{lent-size, ring_step-size}
 use Rattle.rl_base.proofs.Ring.RingLemmas.{next_index-is}
 use Rattle.rl_base.proofs.Texts.SwapLemmas.{Swaps, Swaps-back, Swaps-Delete, Swaps-after, Swaps-before, apply-InsertStr-Swaps}
 use Rattle.rl_line.specs.Line.{Line, stepped}
-use Rattle.rl_line.specs.Plan.{Step as PlanStep, Plan, nothing, single, heard as heard_steps, heard_step, Taken, Done, Halted, or_no_memory}
+use Rattle.rl_line.specs.Plan.{Step as PlanStep, Plan, nothing, single, listener_after as heard_steps, listener_after_step, Taken, Done, Halted, or_no_memory}
 use Rattle.rl_line.specs.Edits.{too_long, yank_plan}
 use Rattle.rl_line.specs.Kills.{Between, Told, removal, side_of, is_by_characters}
 use Rattle.rl_line.specs.Ranges.{killed as killed_range, text_in}
@@ -110,7 +110,7 @@ newest-more old taken side r some n =
 -- ---- the size of the ring
 steps-size : (cursor : ℕ) (steps : List PlanStep) (p : Pair) → (heard_steps pair_step cursor steps p).ring.size ≡ p.ring.size
 steps-size cursor [] p = refl
-steps-size cursor (s ∷ ss) p = steps-size s.1 ss (heard_step pair_step cursor s p) ∙ ring_step-size p.ring s.0
+steps-size cursor (s ∷ ss) p = steps-size s.1 ss (listener_after_step pair_step cursor s p) ∙ ring_step-size p.ring s.0
 
 popped-size : (o : Option ℕ) (r : Ring) → (popped_ring o r).size ≡ r.size
 popped-size None r = refl

@@ -7,7 +7,7 @@ use Rattle.std.specs.Str.{IsUtf8}
 use Rattle.rl_base.specs.Event.{Event, InsertChar, InsertStr, Delete, Replace, Start, Stop, apply, Cursors, replay}
 use Rattle.rl_base.proofs.Texts.SwapLemmas.{apply-IsUtf8}
 use Rattle.rl_line.specs.Line.{Line, stepped}
-use Rattle.rl_line.specs.Plan.{Step, after, heard, heard_step}
+use Rattle.rl_line.specs.Plan.{Step, after, listener_after, listener_after_step}
 use Rattle.rl_line.specs.Record.{Entry, Begin, End, Changed, Record, entries_of, entries_after, joined, record_step, replay_entries, unwind, event_of, entries_told, last_told, freshness_of}
 use Rattle.rl_line.specs.Units.{level, last_of, kept_of, redo_of, end_one, end_times, begun, ended, undone, redone, truncated}
 use Rattle.rl_line.proofs.Records.JoinLemmas.{record_step-Start, record_step-Stop}
@@ -263,16 +263,16 @@ History-event (Cursors b a) start held text next r h k =
 
 -- the steps of an edit
 pub History-steps : (steps : List Step) (start : List ℕ) (held : List (List ℕ)) (old new : Line) (r : Record) → History start held old.text r → after steps old ≡ Some new
-    → History start (held ++ texts_of_steps steps old.text) new.text (heard record_step old.cursor steps r)
+    → History start (held ++ texts_of_steps steps old.text) new.text (listener_after record_step old.cursor steps r)
 History-steps [] start held old new r h e =
     let same : old ≡ new = cc in
     subst (λ k. History start k new.text r) (sym (append-nil held)) (subst (λ (l : Line). History start held l.text r) same h)
 History-steps (s ∷ ss) start held old new r h e =
     let b = first_step s ss old new e in
-    let told : History start (held ++ (b.text ∷ [])) b.text (heard_step record_step old.cursor s r) =
+    let told : History start (held ++ (b.text ∷ [])) b.text (listener_after_step record_step old.cursor s r) =
     History-told old.cursor s.1 start (held ++ (b.text ∷ [])) b.text (record_step r s.0) (History-event s.0 start held old.text b.text r h b.makes) in
-    let rest = History-steps ss start (held ++ (b.text ∷ [])) (stepped old b.text s.1) new (heard_step record_step old.cursor s r) told b.rest in
-    subst (λ k. History start k new.text (heard record_step s.1 ss (heard_step record_step old.cursor s r)))
+    let rest = History-steps ss start (held ++ (b.text ∷ [])) (stepped old b.text s.1) new (listener_after_step record_step old.cursor s r) told b.rest in
+    subst (λ k. History start k new.text (listener_after record_step s.1 ss (listener_after_step record_step old.cursor s r)))
     (append_assoc held (b.text ∷ []) (texts_of_steps ss b.text) ∙ ap (λ k. held ++ k) (sym (texts_after-more s.0 (map (λ (x : Step). x.0) ss) old.text b.text b.makes))) rest
 
 pub History-begun : (start : List ℕ) (held : List (List ℕ)) (text : List ℕ) (r : Record) → History start held text r → History start held text (begun r)

@@ -4,7 +4,7 @@ use Rattle.std.proofs.lemmas.List.{reverse-reverse}
 use Rattle.std.specs.Prelude.{max, ◌||◌}
 use Rattle.std.specs.Str.{IsCharBoundary, IsUtf8}
 use Rattle.rl_base.specs.declared.layout.GraphemeClusterMode.{GraphemeClusterMode}
-use Rattle.rl_line.specs.Plan.{Step, heard, heard_step}
+use Rattle.rl_line.specs.Plan.{Step, listener_after, listener_after_step}
 use Rattle.rl_line.specs.Record.{Begin, End, Entry, Record, record_step, replay_entries}
 use Rattle.rl_line.specs.Units.{UndoUnit, Open, Whole, IsMatched, begun, end_one, end_times, ended, has_change, kept_of, last_of, level, opens, together, units}
 use Rattle.rl_line.proofs.Records.GroupLemmas.{has_change-append, Inside, Inside-event, Inside-begun, past_begin}
@@ -113,10 +113,10 @@ ended_group xs inner h none c =
     ∙ closed_group xs (end_times (level inner) inner) low.matched low.level_is (has_change-end_times (level inner) inner ∙ c)
 
 -- ---- what stands in the record after the Begin of an open group
-Inside-steps : (cursor : ℕ) (steps : List Step) (front : List Entry) (r : Record) → Inside front r → Inside front (heard record_step cursor steps r)
+Inside-steps : (cursor : ℕ) (steps : List Step) (front : List Entry) (r : Record) → Inside front r → Inside front (listener_after record_step cursor steps r)
 Inside-steps cursor [] front r k = k
 Inside-steps cursor (s ∷ ss) front r k =
-    Inside-steps s.1 ss front (heard_step record_step cursor s r) (Inside-event (Cursors cursor s.1) front (record_step r s.0) (Inside-event s.0 front r k))
+    Inside-steps s.1 ss front (listener_after_step record_step cursor s r) (Inside-event (Cursors cursor s.1) front (record_step r s.0) (Inside-event s.0 front r k))
 
 Inside-same : (front : List Entry) (old new : State) → Inside front old.pair.changes → new ≡ old → Inside front new.pair.changes
 Inside-same front old new k e = subst (λ (s : State). Inside front s.pair.changes) (sym e) k

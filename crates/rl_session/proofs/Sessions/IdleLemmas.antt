@@ -4,7 +4,7 @@ use Rattle.std.specs.Prelude.{encode_utf8, ℕ}
 use Rattle.std.specs.List.{remove_range}
 use Rattle.std.specs.declared.ops.Range.{Range}
 use Rattle.rl_base.specs.Event.{Event, InsertChar, InsertStr, Delete, Replace, Start, Stop, Cursors}
-use Rattle.rl_base.specs.KillRing.{Ring, heard as heard_text, lent, popped_ring, ring_step, turned, yank, yank_popped, yank_size, yanked}
+use Rattle.rl_base.specs.KillRing.{Ring, after_deletion, lent, popped_ring, ring_step, turned, yank, yank_popped, yank_size, yanked}
 use Rattle.rl_base.specs.declared.listeners.Direction.{Direction}
 use Rattle.rl_base.specs.declared.listeners.Refusal.{Refusal}
 use Rattle.rl_base.specs.declared.motion.Movement.{Movement}
@@ -13,12 +13,12 @@ use Rattle.rl_line.specs.Indents.{indent_plan, line_plan, lines_plan, parts, pus
 use Rattle.rl_line.specs.Kills.{Told, kill_plan, removal, side_of}
 use Rattle.rl_line.specs.LetterCase.{edit_word_plan, put_for, word_ahead}
 use Rattle.rl_line.specs.Line.{Line, stepped}
-use Rattle.rl_line.specs.Plan.{Step, Plan, heard, Done, Halted, or_no_memory}
+use Rattle.rl_line.specs.Plan.{Step, Plan, listener_after, Done, Halted, or_no_memory}
 use Rattle.rl_line.specs.Ranges.{killed}
 use Rattle.rl_line.specs.Transpositions.{are_two, first_word, pulled_back, second_word, transpose_chars_plan, transpose_words_plan}
 use Rattle.rl_session.specs.Pair.{pair_step, pair_refused}
 use Rattle.rl_session.specs.declared.pair.Pair.{Pair}
-use Rattle.rl_session.proofs.Sessions.PairLemmas.{heard-ring}
+use Rattle.rl_session.proofs.Sessions.PairLemmas.{listener_after-ring}
 
 -- it is not the start of a kill
 abbrev pub IsNoStart : Event → Type 0
@@ -34,19 +34,19 @@ NoneStarts (s ∷ ss) = IsNoStart s.0 × NoneStarts ss
 idle-step : (event : Event) (r : Ring) → IsNoStart event → r.killing ≡ false → (ring_step r event).killing ≡ false
 idle-step (InsertChar i c) r n h = h
 idle-step (InsertStr i s) r n h = h
-idle-step (Delete i s side) r n h = ap (λ b. (heard_text b s side r).killing) h ∙ h
+idle-step (Delete i s side) r n h = ap (λ b. (after_deletion b s side r).killing) h ∙ h
 idle-step (Replace i s t) r n h = h
 idle-step Start r n h = absurd n
 idle-step Stop r n h = refl
 idle-step (Cursors b a) r n h = h
 
-idle-steps : (cursor : ℕ) (steps : List Step) (r : Ring) → NoneStarts steps → r.killing ≡ false → (heard ring_step cursor steps r).killing ≡ false
+idle-steps : (cursor : ℕ) (steps : List Step) (r : Ring) → NoneStarts steps → r.killing ≡ false → (listener_after ring_step cursor steps r).killing ≡ false
 idle-steps cursor [] r n h = h
 idle-steps cursor (s ∷ ss) r n h = idle-steps s.1 ss (ring_step r s.0) n.1 (idle-step s.0 r n.0 h)
 
-idle-taken : (cursor : ℕ) (steps : List Step) (p q : Pair) → q ≡ heard pair_step cursor steps p → NoneStarts steps → p.ring.killing ≡ false → q.ring.killing ≡ false
+idle-taken : (cursor : ℕ) (steps : List Step) (p q : Pair) → q ≡ listener_after pair_step cursor steps p → NoneStarts steps → p.ring.killing ≡ false → q.ring.killing ≡ false
 idle-taken cursor steps p q e n h =
-    ap (λ (k : Pair). k.ring.killing) e ∙ ap (λ (r : Ring). r.killing) (heard-ring cursor steps p) ∙ idle-steps cursor steps p.ring n h
+    ap (λ (k : Pair). k.ring.killing) e ∙ ap (λ (r : Ring). r.killing) (listener_after-ring cursor steps p) ∙ idle-steps cursor steps p.ring n h
 
 pub idle-Done : {A : Type 0} (plan : Plan A) (old new : Line) (p q : Pair) (a : A) → NoneStarts plan.steps → Done pair_step plan old new p q a
     → p.ring.killing ≡ false → q.ring.killing ≡ false

@@ -5,24 +5,24 @@ use Rattle.rl_base.specs.KillRing.{ring_step}
 use Rattle.rl_base.specs.declared.listeners.Refusal.{Refusal}
 use Rattle.rl_base.specs.declared.listeners.Refusal.TheVariants as why
 use Rattle.rl_line.specs.Line.{Line}
-use Rattle.rl_line.specs.Plan.{Step, Plan, heard, heard_step, Taken, Done, Halted, or_no_memory, Uncopied}
+use Rattle.rl_line.specs.Plan.{Step, Plan, listener_after, listener_after_step, Taken, Done, Halted, or_no_memory, Uncopied}
 use Rattle.rl_line.specs.Record.{Record, record_step}
 use Rattle.rl_line.proofs.Plans.PlanLemmas.{Halted-caused}
 use Rattle.rl_session.specs.Commands.{Takes, nothing_more, room_by_step, a_copy, refusal_of}
 use Rattle.rl_session.specs.Pair.{pair_step, pair_refused}
 use Rattle.rl_session.specs.declared.pair.Pair.{Pair}
 
-pub heard-changes : (cursor : ℕ) (steps : List Step) (p : Pair) → (heard pair_step cursor steps p).changes ≡ heard record_step cursor steps p.changes
-heard-changes cursor [] p = refl
-heard-changes cursor (s ∷ ss) p = heard-changes s.1 ss (heard_step pair_step cursor s p)
+pub listener_after-changes : (cursor : ℕ) (steps : List Step) (p : Pair) → (listener_after pair_step cursor steps p).changes ≡ listener_after record_step cursor steps p.changes
+listener_after-changes cursor [] p = refl
+listener_after-changes cursor (s ∷ ss) p = listener_after-changes s.1 ss (listener_after_step pair_step cursor s p)
 
-pub heard-ring : (cursor : ℕ) (steps : List Step) (p : Pair) → (heard pair_step cursor steps p).ring ≡ heard ring_step cursor steps p.ring
-heard-ring cursor [] p = refl
-heard-ring cursor (s ∷ ss) p = heard-ring s.1 ss (heard_step pair_step cursor s p)
+pub listener_after-ring : (cursor : ℕ) (steps : List Step) (p : Pair) → (listener_after pair_step cursor steps p).ring ≡ listener_after ring_step cursor steps p.ring
+listener_after-ring cursor [] p = refl
+listener_after-ring cursor (s ∷ ss) p = listener_after-ring s.1 ss (listener_after_step pair_step cursor s p)
 
 -- what a pair went through, its record went through
 pub Taken-changes : (steps : List Step) (old new : Line) (p q : Pair) → Taken pair_step steps old new p q → Taken record_step steps old new p.changes q.changes
-Taken-changes steps old new p q t = record { line = t.line; listener = ap (λ (k : Pair). k.changes) t.listener ∙ heard-changes old.cursor steps p }
+Taken-changes steps old new p q t = record { line = t.line; listener = ap (λ (k : Pair). k.changes) t.listener ∙ listener_after-changes old.cursor steps p }
 
 pub Done-changes : {A : Type 0} (plan : Plan A) (old new : Line) (p q : Pair) (a : A) → Done pair_step plan old new p q a → Done record_step plan old new p.changes q.changes a
 Done-changes plan old new p q a d = record { last = d.last; taken = Taken-changes plan.steps old d.last p q d.taken; line = d.line; answered = d.answered }

@@ -5,14 +5,14 @@ use Rattle.std.specs.Str.{IsCharBoundary}
 use Rattle.rl_base.specs.Event.{apply}
 use Rattle.rl_line.specs.Record.{event_of, inverse}
 use Rattle.rl_line.specs.Undo.{cursor_after, cursor_told, place_after}
-use Rattle.rl_line.specs.Change.{faced, place}
-use Rattle.rl_line.proofs.Records.ChangeLemmas.{StandsNew, StandsNew-from_IsSome, mark-leaves, place-faced, place_after-is}
+use Rattle.rl_line.specs.Change.{entry_to_undo, place}
+use Rattle.rl_line.proofs.Records.ChangeLemmas.{StandsNew, StandsNew-from_IsSome, mark-leaves, place-entry_to_undo, place_after-is}
 use Rattle.rl_line.proofs.change.go_over.Goals as goal
 use Rattle.rl_line.proofs.change.go_over.Goals.{After-unwrap_or, In-Some}
 
-stands : (c : In-Some) → StandsNew (faced c.args.way c.args.change.now) (string_bytes c.args.text.now) c.in-Some.at
+stands : (c : In-Some) → StandsNew (entry_to_undo c.args.way c.args.change.now) (string_bytes c.args.text.now) c.in-Some.at
 stands c =
-    StandsNew-from_IsSome _ _ _ (place-faced c.args.way c.args.change.now ∙ sym c.place.ensures ∙ c.in-Some.is) c.requires.fits
+    StandsNew-from_IsSome _ _ _ (place-entry_to_undo c.args.way c.args.change.now ∙ sym c.place.ensures ∙ c.in-Some.is) c.requires.fits
 
 pub overflow_add-at : goal.overflow_add-at
 overflow_add-at c =
@@ -35,13 +35,13 @@ returns-in-Some-clause-text c =
 
 pub returns-in-None-clause-text : goal.returns-in-None-clause-text
 returns-in-None-clause-text c =
-    mark-leaves (faced c.args.way c.args.change.now) (string_bytes c.args.text.now) (place-faced c.args.way c.args.change.now ∙ sym c.place.ensures ∙ c.in-None.is)
+    mark-leaves (entry_to_undo c.args.way c.args.change.now) (string_bytes c.args.text.now) (place-entry_to_undo c.args.way c.args.change.now ∙ sym c.place.ensures ∙ c.in-None.is)
 
 -- the cursor that is answered, told or not
-went : (c : After-unwrap_or) → c.unwrap_or.result ≡ cursor_after c.args.cursor (inverse (faced c.args.way c.args.change.now))
+went : (c : After-unwrap_or) → c.unwrap_or.result ≡ cursor_after c.args.cursor (inverse (entry_to_undo c.args.way c.args.change.now))
 went c =
-    let e = faced c.args.way c.args.change.now in
-    let at_place : place e ≡ Some c.in-Some.at = place-faced c.args.way c.args.change.now ∙ sym c.place.ensures ∙ c.in-Some.is in
+    let e = entry_to_undo c.args.way c.args.change.now in
+    let at_place : place e ≡ Some c.in-Some.at = place-entry_to_undo c.args.way c.args.change.now ∙ sym c.place.ensures ∙ c.in-Some.is in
     let after : c.swap_in-after.result ≡ place_after c.args.cursor (inverse e) =
     c.swap_in-after.ensures.end ∙ ap (λ (t : List ℕ). c.in-Some.at + length t) c.texts.ensures.coming ∙ sym (place_after-is e c.in-Some.at c.args.cursor at_place) in
     c.unwrap_or.ensures ∙ ap (λ o. unwrap_or o c.swap_in-after.result) c.cursor_over.ensures ∙ ap (unwrap_or (cursor_told (inverse e))) after
@@ -52,6 +52,6 @@ returns-in-Some-clause-cursor c = went (goal.at.returns-in-Some-clause-cursor c)
 -- it stands in the new text
 pub returns-in-Some-clause-boundary : goal.returns-in-Some-clause-boundary
 returns-in-Some-clause-boundary c =
-    let made : apply (event_of (inverse (faced c.args.way c.args.change.now))) (string_bytes c.args.text.now) ≡ Some (string_bytes c.swap_in-after.new.text) =
+    let made : apply (event_of (inverse (entry_to_undo c.args.way c.args.change.now))) (string_bytes c.args.text.now) ≡ Some (string_bytes c.swap_in-after.new.text) =
     rw ((stands (goal.at.returns-in-Some-clause-boundary c).In-Some).makes, c.swap_in-after.ensures.text, c.texts.ensures.going, c.texts.ensures.coming) refl in
     subst (IsCharBoundary (string_bytes c.swap_in-after.new.text)) (sym (went (goal.at.returns-in-Some-clause-boundary c).After-unwrap_or)) (c.requires.stands (string_bytes c.swap_in-after.new.text) made)

@@ -1,13 +1,13 @@
 use Rattle.std.proofs.Common.{arith, ◌∙◌, length, refl, sym, ap}
 use Rattle.std.specs.String.{string_bytes}
-use Rattle.rl_line.specs.Change.{faced}
-use Rattle.rl_line.proofs.Records.ChangeLemmas.{StandsNew, StandsNew-from_IsSome, mark-leaves, place-faced}
+use Rattle.rl_line.specs.Change.{entry_to_undo}
+use Rattle.rl_line.proofs.Records.ChangeLemmas.{StandsNew, StandsNew-from_IsSome, mark-leaves, place-entry_to_undo}
 use Rattle.rl_line.proofs.change.go_over_in_text.Goals as goal
 use Rattle.rl_line.proofs.change.go_over_in_text.Goals.{In-Some}
 
-stands : (c : In-Some) → StandsNew (faced c.args.way c.args.change.now) (string_bytes c.args.text.now) c.in-Some.at
+stands : (c : In-Some) → StandsNew (entry_to_undo c.args.way c.args.change.now) (string_bytes c.args.text.now) c.in-Some.at
 stands c =
-    StandsNew-from_IsSome _ _ _ (place-faced c.args.way c.args.change.now ∙ sym c.place.ensures ∙ c.in-Some.is) c.requires.fits
+    StandsNew-from_IsSome _ _ _ (place-entry_to_undo c.args.way c.args.change.now ∙ sym c.place.ensures ∙ c.in-Some.is) c.requires.fits
 
 pub overflow_add-at : goal.overflow_add-at
 overflow_add-at c =
@@ -22,4 +22,4 @@ returns-in-Some c =
 
 pub returns-in-None : goal.returns-in-None
 returns-in-None c =
-    record { text = mark-leaves (faced c.args.way c.args.change.now) (string_bytes c.args.text.now) (place-faced c.args.way c.args.change.now ∙ sym c.place.ensures ∙ c.in-None.is) }
+    record { text = mark-leaves (entry_to_undo c.args.way c.args.change.now) (string_bytes c.args.text.now) (place-entry_to_undo c.args.way c.args.change.now ∙ sym c.place.ensures ∙ c.in-None.is) }

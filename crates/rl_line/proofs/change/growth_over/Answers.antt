@@ -1,5 +1,5 @@
 use Rattle.std.proofs.Common.{arith, inl, inr, refl, ◌-◌, ◌≤◌, ◌<◌, ◌≡◌, ◌+◌, ◌^◌, ap, ◌∙◌, drop, length, map, ℕ}
-use Rattle.rl_line.specs.Change.{faced, order, size_back, size_back_over, size_of}
+use Rattle.rl_line.specs.Change.{entry_to_undo, order, size_back, size_back_over, size_of}
 use Rattle.rl_line.specs.declared.change.Measure.{Measure}
 use Rattle.rl_line.specs.declared.change.Measure.TheVariants.{Bytes, Newlines}
 use Rattle.rl_line.proofs.Records.ChangeLemmas.{length-order}
@@ -11,16 +11,16 @@ inside : (c : After-texts) → c.loop-left.left - 1 < length (order c.args.way c
 inside c = omega (arith, c.loop-left.invariant.within, c.loop-left-test.true, length-order c.args.way c.args.changes.now)
 
 -- the size of the text so far, with the change that comes
-so_far : (k : Measure) (size n : ℕ) (c : After-texts) → size ≡ size_back_over k (map (faced c.args.way) (drop c.loop-left.left (order c.args.way c.args.changes.now))) n
-    → size ≡ size_back_over k (map (faced c.args.way) (drop ((c.loop-left.left - 1) + 1) (order c.args.way c.args.changes.now))) n
+so_far : (k : Measure) (size n : ℕ) (c : After-texts) → size ≡ size_back_over k (map (entry_to_undo c.args.way) (drop c.loop-left.left (order c.args.way c.args.changes.now))) n
+    → size ≡ size_back_over k (map (entry_to_undo c.args.way) (drop ((c.loop-left.left - 1) + 1) (order c.args.way c.args.changes.now))) n
 so_far k size n c e =
     let more : c.loop-left.left ≡ (c.loop-left.left - 1) + 1 = omega (arith, c.loop-left-test.true) in
-    e ∙ ap (λ m. size_back_over k (map (faced c.args.way) (drop m (order c.args.way c.args.changes.now))) n) more
+    e ∙ ap (λ m. size_back_over k (map (entry_to_undo c.args.way) (drop m (order c.args.way c.args.changes.now))) n) more
 
 pub returns-in-None-clause-err : goal.returns-in-None-clause-err
 returns-in-None-clause-err c =
     let d = (goal.at.returns-in-None-clause-err c).After-texts in
-    let past : 2 ^ 64 ≤ size_back Bytes (faced c.args.way c.nth_on.result.now) c.loop-left.long =
+    let past : 2 ^ 64 ≤ size_back Bytes (entry_to_undo c.args.way c.nth_on.result.now) c.loop-left.long =
     omega (arith, c.in-None.ensures.none, ap (size_of Bytes) c.texts.ensures.going, ap (size_of Bytes) c.texts.ensures.coming) in (
       refl,
       inl (past_a_usize Bytes c.args.way (order c.args.way c.args.changes.now) (c.loop-left.left - 1) c.args.bytes c.loop-left.long _ (inside d) c.nth_on.ensures
@@ -30,7 +30,7 @@ returns-in-None-clause-err c =
 pub returns-in-None-size_over-clause-err : goal.returns-in-None-size_over-clause-err
 returns-in-None-size_over-clause-err c =
     let d = (goal.at.returns-in-None-size_over-clause-err c).After-texts in
-    let past : 2 ^ 64 ≤ size_back Newlines (faced c.args.way c.nth_on.result.now) c.loop-left.high =
+    let past : 2 ^ 64 ≤ size_back Newlines (entry_to_undo c.args.way c.nth_on.result.now) c.loop-left.high =
     omega (arith, c.in-None-size_over.ensures.none, ap (size_of Newlines) c.texts.ensures.going, ap (size_of Newlines) c.texts.ensures.coming) in (
       refl,
       inr (past_a_usize Newlines c.args.way (order c.args.way c.args.changes.now) (c.loop-left.left - 1) c.args.newlines c.loop-left.high _ (inside d) c.nth_on.ensures

@@ -7,7 +7,7 @@ use Rattle.rl_line.specs.Undo.{line_back}
 use Rattle.std.specs.Prelude.{IsSome}
 use Rattle.rl_line.specs.declared.change.Measure.{Measure}
 use Rattle.rl_line.specs.declared.change.Measure.TheVariants.{Bytes, Newlines}
-use Rattle.rl_line.specs.Change.{faced, size_back, size_back_over, greatest_back_over, order}
+use Rattle.rl_line.specs.Change.{entry_to_undo, size_back, size_back_over, greatest_back_over, order}
 use Rattle.std.proofs.lemmas.List.{drop-map, drop_all}
 use Rattle.rl_line.proofs.Records.ChangeLemmas.{length-order}
 use Rattle.rl_line.proofs.Lines.LineStartLemmas.{IsTable-same, length-table}
@@ -33,32 +33,32 @@ inside : (c : After-nth_on) → c.loop-left.left - 1 < length (order c.args.way 
 inside c = omega (arith, length-order c.args.way c.args.changes.now)
 
 -- a size that the text or the table gets is one on the way
-size : (k : Measure) (n now : ℕ) (c : After-nth_on) → now ≡ size_back_over k (map (faced c.args.way) (drop c.loop-left.left (order c.args.way c.args.changes.now))) n
-    → size_back k (faced c.args.way c.nth_on.result.now) now ≡ size_back_over k (map (faced c.args.way) (drop (c.loop-left.left - 1) (order c.args.way c.args.changes.now))) n
+size : (k : Measure) (n now : ℕ) (c : After-nth_on) → now ≡ size_back_over k (map (entry_to_undo c.args.way) (drop c.loop-left.left (order c.args.way c.args.changes.now))) n
+    → size_back k (entry_to_undo c.args.way c.nth_on.result.now) now ≡ size_back_over k (map (entry_to_undo c.args.way) (drop (c.loop-left.left - 1) (order c.args.way c.args.changes.now))) n
 size k n now c e =
     let xs = order c.args.way c.args.changes.now in
-    ap (size_back k (faced c.args.way c.nth_on.result.now)) (e ∙ ap (λ m. size_back_over k (map (faced c.args.way) (drop m xs)) n) (one_more c))
+    ap (size_back k (entry_to_undo c.args.way c.nth_on.result.now)) (e ∙ ap (λ m. size_back_over k (map (entry_to_undo c.args.way) (drop m xs)) n) (one_more c))
     ∙ ap (λ es. size_back_over k es n) (sym (entries_from c.args.way xs (c.loop-left.left - 1) c.nth_on.result.now (inside c) c.nth_on.ensures))
 
 -- so there is room for it
-fits : (k : Measure) (n now room : ℕ) (c : After-nth_on) → now ≡ size_back_over k (map (faced c.args.way) (drop c.loop-left.left (order c.args.way c.args.changes.now))) n
-    → greatest_back_over k (map (faced c.args.way) (order c.args.way c.args.changes.now)) n ≤ room → size_back k (faced c.args.way c.nth_on.result.now) now ≤ room
+fits : (k : Measure) (n now room : ℕ) (c : After-nth_on) → now ≡ size_back_over k (map (entry_to_undo c.args.way) (drop c.loop-left.left (order c.args.way c.args.changes.now))) n
+    → greatest_back_over k (map (entry_to_undo c.args.way) (order c.args.way c.args.changes.now)) n ≤ room → size_back k (entry_to_undo c.args.way c.nth_on.result.now) now ≤ room
 fits k n now room c e h =
     let m = c.loop-left.left - 1 in
-    let within = size_back_over-within k m (map (faced c.args.way) (order c.args.way c.args.changes.now)) n in
-    let same = ap (λ es. size_back_over k es n) (drop-map (faced c.args.way) m (order c.args.way c.args.changes.now)) in
+    let within = size_back_over-within k m (map (entry_to_undo c.args.way) (order c.args.way c.args.changes.now)) n in
+    let same = ap (λ es. size_back_over k es n) (drop-map (entry_to_undo c.args.way) m (order c.args.way c.args.changes.now)) in
     omega (arith, size k n now c e, within, same, h)
 
-follows : (c : After-nth_on) → IsSome (line_back (faced c.args.way c.nth_on.result.now ∷ []) (now c))
+follows : (c : After-nth_on) → IsSome (line_back (entry_to_undo c.args.way c.nth_on.result.now ∷ []) (now c))
 follows c = IsBack-fits c.args.way (order c.args.way c.args.changes.now) (c.loop-left.left - 1) c.nth_on.result.now c.args.self.now (now c) (inside c) c.nth_on.ensures (back c)
 
 pub go_over-self-inside-requires-clause-fits : goal.go_over-self-inside-requires-clause-fits
 go_over-self-inside-requires-clause-fits c =
-    let d = (goal.at.go_over-self-inside-requires-clause-fits c).After-nth_on in one-fits (faced c.args.way c.nth_on.result.now) (now d) (follows d)
+    let d = (goal.at.go_over-self-inside-requires-clause-fits c).After-nth_on in one-fits (entry_to_undo c.args.way c.nth_on.result.now) (now d) (follows d)
 
 pub go_over-self-inside-requires-clause-stands : goal.go_over-self-inside-requires-clause-stands
 go_over-self-inside-requires-clause-stands c =
-    let d = (goal.at.go_over-self-inside-requires-clause-stands c).After-nth_on in one-stands (faced c.args.way c.nth_on.result.now) (now d) (follows d)
+    let d = (goal.at.go_over-self-inside-requires-clause-stands c).After-nth_on in one-stands (entry_to_undo c.args.way c.nth_on.result.now) (now d) (follows d)
 
 pub go_over-self-inside-requires-clause-room : goal.go_over-self-inside-requires-clause-room
 go_over-self-inside-requires-clause-room c =
@@ -84,9 +84,9 @@ loop-left-init c =
       back = subst (IsBack c.args.way xs (length c.args.changes.now) c.args.self.now) (sym same)
           (subst (λ k. IsBack c.args.way xs k c.args.self.now c.args.self.now) (sym count) (IsBack-none c.args.way xs c.args.self.now c.requires));
       len = search rules;
-      count = c.find_room_over.ensures.count ∙ newlines ∙ sym (ap (λ es. size_back_over Newlines (map (faced c.args.way) es) (count_by is_newline text)) none);
+      count = c.find_room_over.ensures.count ∙ newlines ∙ sym (ap (λ es. size_back_over Newlines (map (entry_to_undo c.args.way) es) (count_by is_newline text)) none);
       room = search rules;
-      table_room = subst (λ n. greatest_back_over Newlines (map (faced c.args.way) xs) n ≤ vec_capacity c.find_room_over.new.starts.places) newlines c.in_ok-find_room_over.ensures.table;
+      table_room = subst (λ n. greatest_back_over Newlines (map (entry_to_undo c.args.way) xs) n ≤ vec_capacity c.find_room_over.new.starts.places) newlines c.in_ok-find_room_over.ensures.table;
       is_line = record { table = table; at_boundary = search rules; within = search rules };
       within = omega arith;
     }
@@ -113,7 +113,7 @@ pub returns-in_err-find_room_over-clause-err : goal.returns-in_err-find_room_ove
 returns-in_err-find_room_over-clause-err c =
     let p = err_from_is_err_and c.from_residual.result c.from_residual.ensures.1 in
     let e = c.in_err-find_room_over.ensures.err in
-    let es = map (faced c.args.way) (order c.args.way c.args.changes.now) in
+    let es = map (entry_to_undo c.args.way) (order c.args.way c.args.changes.now) in
     let text = c.args.self.now.text in
     let bytes : string_bytes c.self.inside.buf ≡ text = ap (λ (l : Line). l.text) c.self.view_is in
     let newlines : vec_len c.self.inside.starts.places ≡ count_by is_newline text = c.self.inside.starts.places.ok.0 ∙ length-table _ _ _ c.self.invariant.table ∙ ap (count_by is_newline) bytes in

@@ -3,7 +3,7 @@ use Rattle.std.specs.String.{string_bytes, string_len, string_capacity}
 use Rattle.rl_base.specs.Lines.{is_newline}
 use Rattle.rl_line.specs.Line.{IsLine}
 use Rattle.rl_line.specs.declared.change.Measure.TheVariants.{Bytes, Newlines}
-use Rattle.rl_line.specs.Change.{faced, size_back_over, greatest_back_over, order}
+use Rattle.rl_line.specs.Change.{entry_to_undo, size_back_over, greatest_back_over, order}
 use Rattle.rl_line.proofs.Records.UndoLemmas.{IsBack}
 use Rattle.rl_line.proofs.line_buffer.LineBuffer.go_over_all.Given as goal
 
@@ -12,10 +12,10 @@ invariant-loop-left l =
     let inside = l.self-inside in
     record {
       back : IsBack l.way (order l.way l.changes) l.left l.fn.self record { text = string_bytes inside.buf; cursor = inside.pos; limit = inside.limit; grow = inside.can_growth };
-      len : string_len inside.buf ≡ size_back_over Bytes (map (faced l.way) (drop l.left (order l.way l.changes))) (length l.fn.self.text);
-      count : vec_len inside.starts.places ≡ size_back_over Newlines (map (faced l.way) (drop l.left (order l.way l.changes))) (count_by is_newline l.fn.self.text);
-      room : greatest_back_over Bytes (map (faced l.way) (order l.way l.changes)) (length l.fn.self.text) ≤ string_capacity inside.buf;
-      table_room : greatest_back_over Newlines (map (faced l.way) (order l.way l.changes)) (count_by is_newline l.fn.self.text) ≤ vec_capacity inside.starts.places;
+      len : string_len inside.buf ≡ size_back_over Bytes (map (entry_to_undo l.way) (drop l.left (order l.way l.changes))) (length l.fn.self.text);
+      count : vec_len inside.starts.places ≡ size_back_over Newlines (map (entry_to_undo l.way) (drop l.left (order l.way l.changes))) (count_by is_newline l.fn.self.text);
+      room : greatest_back_over Bytes (map (entry_to_undo l.way) (order l.way l.changes)) (length l.fn.self.text) ≤ string_capacity inside.buf;
+      table_room : greatest_back_over Newlines (map (entry_to_undo l.way) (order l.way l.changes)) (count_by is_newline l.fn.self.text) ≤ vec_capacity inside.starts.places;
       is_line : IsLine (string_bytes inside.buf) inside.starts.places.items inside.starts.border inside.pos inside.limit;
       within : l.left ≤ length l.changes;
     }

@@ -4,11 +4,11 @@ use Rattle.std.specs.Prelude.{Any, IsSome, unwrap_or}
 use Rattle.std.specs.Str.{IsCharBoundary, IsUtf8}
 use Rattle.std.specs.String.{string_bytes}
 use Rattle.rl_base.specs.Event.{apply}
-use Rattle.rl_line.specs.Change.{faced, place}
+use Rattle.rl_line.specs.Change.{entry_to_undo, place}
 use Rattle.rl_line.specs.Line.{Line, NeedsRoom}
 use Rattle.rl_line.specs.Record.{event_of, inverse, new_text, old_text}
 use Rattle.rl_line.specs.Undo.{cursor_after, cursor_told, line_back, place_after, texts_back}
-use Rattle.rl_line.proofs.Records.ChangeLemmas.{StandsNew, StandsNew-from_IsSome, place-faced, place_after-is}
+use Rattle.rl_line.proofs.Records.ChangeLemmas.{StandsNew, StandsNew-from_IsSome, place-entry_to_undo, place_after-is}
 use Rattle.rl_line.proofs.Records.RecordLemmas.{value_of}
 use Rattle.rl_line.proofs.Records.RoomLemmas.{NeedsRoom-one}
 use Rattle.rl_line.proofs.Records.UndoLemmas.{one-back, one-fits, one-stands}
@@ -21,15 +21,15 @@ now c =
     let inside = c.self.inside in
     record { text = string_bytes inside.buf; cursor = inside.pos; limit = inside.limit; grow = inside.can_growth }
 
-follows : (c : After-texts) → IsSome (line_back (faced c.args.way c.args.change.now ∷ []) (now c))
-follows c = subst (λ l. IsSome (line_back (faced c.args.way c.args.change.now ∷ []) l)) (sym c.self.view_is) c.requires.fits
+follows : (c : After-texts) → IsSome (line_back (entry_to_undo c.args.way c.args.change.now ∷ []) (now c))
+follows c = subst (λ l. IsSome (line_back (entry_to_undo c.args.way c.args.change.now ∷ []) l)) (sym c.self.view_is) c.requires.fits
 
-at_place : (c : After-texts) → place (faced c.args.way c.args.change.now) ≡ Some c.in-Some.at
-at_place c = place-faced c.args.way c.args.change.now ∙ sym c.place.ensures ∙ c.in-Some.is
+at_place : (c : After-texts) → place (entry_to_undo c.args.way c.args.change.now) ≡ Some c.in-Some.at
+at_place c = place-entry_to_undo c.args.way c.args.change.now ∙ sym c.place.ensures ∙ c.in-Some.is
 
 -- the text that goes stands in it
-stands : (c : After-texts) → StandsNew (faced c.args.way c.args.change.now) (string_bytes c.self.inside.buf) c.in-Some.at
-stands c = StandsNew-from_IsSome _ _ _ (at_place c) (one-fits (faced c.args.way c.args.change.now) (now c) (follows c))
+stands : (c : After-texts) → StandsNew (entry_to_undo c.args.way c.args.change.now) (string_bytes c.self.inside.buf) c.in-Some.at
+stands c = StandsNew-from_IsSome _ _ _ (at_place c) (one-fits (entry_to_undo c.args.way c.args.change.now) (now c) (follows c))
 
 pub overflow_add-to : goal.overflow_add-to
 overflow_add-to c =
@@ -52,7 +52,7 @@ returns-in_err-come-clause-err c =
     let p = err_from_is_err_and c.from_residual.result c.from_residual.ensures.1 in
     let refused = c.in_err-come.ensures.err in
     let d = (goal.at.returns-in_err-come-clause-err c).After-texts in
-    let e = faced c.args.way c.args.change.now in
+    let e = entry_to_undo c.args.way c.args.change.now in
     let text = string_bytes c.self.inside.buf in
     let goes : slice_range text c.in-Some.at (c.in-Some.at + length c.texts.result.0.now) ≡ new_text e =
     ap (λ (t : List ℕ). slice_range text c.in-Some.at (c.in-Some.at + length t)) c.texts.ensures.going ∙ (stands d).bytes in
@@ -62,22 +62,22 @@ returns-in_err-come-clause-err c =
     rw (p.1, p.2) (refused.0, search rules, subst (λ (l : Line). Any (NeedsRoom l.text) (texts_back (e ∷ []) l.text)) c.self.view_is needs)
 
 -- the text that is made, and the cursor in it, told or not
-makes : (c : After-max-self-inside) → apply (event_of (inverse (faced c.args.way c.args.change.now))) (string_bytes c.self.inside.buf) ≡ Some (string_bytes c.swap_in-after.new.text)
+makes : (c : After-max-self-inside) → apply (event_of (inverse (entry_to_undo c.args.way c.args.change.now))) (string_bytes c.self.inside.buf) ≡ Some (string_bytes c.swap_in-after.new.text)
 makes c =
     rw ((stands (goal.at.After-max-self-inside c).After-texts).makes, c.swap_in-after.ensures.text, c.find_room_instead.ensures.text, c.texts.ensures.going, c.texts.ensures.coming) refl
 
-went : (c : After-max-self-inside) → c.unwrap_or-self-inside.result ≡ cursor_after c.self.inside.pos (inverse (faced c.args.way c.args.change.now))
+went : (c : After-max-self-inside) → c.unwrap_or-self-inside.result ≡ cursor_after c.self.inside.pos (inverse (entry_to_undo c.args.way c.args.change.now))
 went c =
-    let e = faced c.args.way c.args.change.now in
+    let e = entry_to_undo c.args.way c.args.change.now in
     let after : c.swap_in-after.result ≡ place_after c.self.inside.pos (inverse e) =
     c.swap_in-after.ensures.end ∙ ap (λ (t : List ℕ). c.in-Some.at + length t) c.texts.ensures.coming
     ∙ sym (place_after-is e c.in-Some.at c.self.inside.pos (at_place (goal.at.After-max-self-inside c).After-texts)) in
     c.unwrap_or-self-inside.ensures ∙ ap (λ o. unwrap_or o c.swap_in-after.result) c.cursor_over.ensures ∙ ap (unwrap_or (cursor_told (inverse e))) after
 
-there : (c : After-max-self-inside) → IsCharBoundary (string_bytes c.swap_in-after.new.text) (cursor_after c.self.inside.pos (inverse (faced c.args.way c.args.change.now)))
+there : (c : After-max-self-inside) → IsCharBoundary (string_bytes c.swap_in-after.new.text) (cursor_after c.self.inside.pos (inverse (entry_to_undo c.args.way c.args.change.now)))
 there c =
     let d = (goal.at.After-max-self-inside c).After-texts in
-    one-stands (faced c.args.way c.args.change.now) (now d) (follows d) (string_bytes c.swap_in-after.new.text) (makes c)
+    one-stands (entry_to_undo c.args.way c.args.change.now) (now d) (follows d) (string_bytes c.swap_in-after.new.text) (makes c)
 
 width : (c : After-max-self-inside) → c.len.result ≡ length (string_bytes c.swap_in-after.new.text)
 width c = c.len.ensures ∙ c.swap_in-after.new.text.bytes.ok.0
@@ -94,6 +94,6 @@ invariant_of-self-2 c =
 pub returns-clause-ok : goal.returns-clause-ok
 returns-clause-ok c =
     let d = (goal.at.returns-clause-ok c).After-max-self-inside in
-    let e = faced c.args.way c.args.change.now in
+    let e = entry_to_undo c.args.way c.args.change.now in
     ap (line_back (e ∷ [])) (sym c.self.view_is)
     ∙ one-back e _ _ (string_bytes c.swap_in-after.new.text) (makes d) (rw (went d, c.max-self-inside.ensures, width d) refl) (there d)

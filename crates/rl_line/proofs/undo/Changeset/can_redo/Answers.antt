@@ -3,7 +3,7 @@ use Rattle.std.proofs.Common.{arith, ap, sym, ◌≡◌, true, ◌-◌, drop, le
 use Rattle.std.specs.Prelude.{is_some}
 use Rattle.std.specs.Str.{IsCharBoundary}
 use Rattle.rl_line.specs.declared.change.Way.TheVariants.{Ahead}
-use Rattle.rl_line.specs.Change.{faced, order, text_back}
+use Rattle.rl_line.specs.Change.{entry_to_undo, order, text_back}
 use Rattle.rl_line.specs.Record.{Record, bytes_ahead, bytes_back, entry_of}
 use Rattle.rl_line.specs.Units.{has_change}
 use Rattle.rl_line.specs.Undo.{line_ahead}
@@ -21,7 +21,7 @@ pub returns-clause-ok : goal.returns-clause-ok
 returns-clause-ok c =
     let line = c.args.line.now in
     let waits = take (length c.deref.result.now - c.self.inside.recorded) (drop c.self.inside.recorded c.deref.result.now) in
-    c.is_some.ensures ∙ some-map c.in_ok-text.text ∙ ap is_some (c.in_ok-text.ensures.ok ∙ ap (text_back true (map (faced Ahead) (order Ahead waits))) c.as_str.ensures)
+    c.is_some.ensures ∙ some-map c.in_ok-text.text ∙ ap is_some (c.in_ok-text.ensures.ok ∙ ap (text_back true (map (entry_to_undo Ahead) (order Ahead waits))) c.as_str.ensures)
     ∙ all-ahead waits (drop c.self.inside.recorded (map entry_of c.self.inside.entries.items)) line (pending-part c.self.inside.recorded c.self.inside.entries.items c.deref.result.now c.deref.ensures.value)
     c.pos-cursor.ensures.utf8 (subst (IsCharBoundary line.text) c.pos-cursor.ensures.place c.pos-cursor.ensures.boundary)
     ∙ ap (λ (r : Record). is_some (line_ahead r.pending line)) c.self.view_is
@@ -39,6 +39,6 @@ returns-in_err-text-clause-err c =
     let all = pending (goal.at.returns-in_err-text-clause-err c).After-deref in
     let waits = take (length c.deref.result.now - c.self.inside.recorded) (drop c.self.inside.recorded c.deref.result.now) in
     let some = sym (ap has_change all) ∙ sym c.has_change.ensures ∙ c.if-not-has_change.false in
-    let bytes : bytes_back (map (faced Ahead) (order Ahead waits)) ≡ bytes_ahead c.args.self.now.pending =
+    let bytes : bytes_back (map (entry_to_undo Ahead) (order Ahead waits)) ≡ bytes_ahead c.args.self.now.pending =
     ap bytes_back (ahead-inverse waits) ∙ bytes_ahead-back (map entry_of waits) ∙ ap bytes_ahead all in
     rw (p.1, p.2) (e.0, (some, omega (arith, e.1, ap length c.as_str.ensures, bytes)))
