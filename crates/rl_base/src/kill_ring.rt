@@ -1,11 +1,13 @@
 //! The ring of killed texts, from which they are yanked back.
-ghost use Rattle.std.specs.Prelude.{◌≡◌, ◌<◌, ◌≤◌, ◌⊎◌, Some, None, max, length, slice_get, option_map, MatchOption, IfErr, OnOk};
+ghost use Rattle.std.specs.Prelude.{◌≡◌, ◌<◌, ◌≤◌, ◌⊎◌, Some, None, max, length, slice_get, option_map, MatchOption, IfErr, OnOk, ℕ, List, ◌∷◌, ◌++◌, false, take};
 ghost use Rattle.std.specs.String.{string_bytes};
 ghost use Rattle.std.specs.Borrow.{sem};
 ghost use Rattle.rl_base.specs.declared.listeners.Refusal.TheVariants.{NoMemory};
 ghost use Rattle.rl_base.specs.Gathered.{IsPackedAt, texts};
 ghost use Rattle.rl_base.specs.KillRing.{Enlarges, IsRing, index_before, join_at, joined, killed, new_ring, next_index, put_at, reset, yank, yank_pop, yank_popped, yank_size, yanked};
 ghost use Rattle.rl_base.specs.RingLends.{EndsAs};
+ghost use Rattle.rl_base.specs.declared.kill_ring.Mode.{Mode};
+ghost use Rattle.rl_base.specs.KillGroups.{Doing, Kills, ring_done, group_done, no_groups, groups_of, newest_first, AllKills, all_joined};
 
 use crate::gathered::Gathered;
 use crate::listeners::{DeleteListener, Direction, Refusal};
@@ -247,3 +249,14 @@ fn text_at(slots: &[Gathered], index: usize) -> Option<&String>
         None => None,
     }
 }
+
+/// Whatever is done with a new ring except `yank_pop`, and where no kill is refused, it holds the latest groups of
+/// consecutive kills, as many as it has room for, and a yank gives the newest. Consecutive kills are one group:
+/// their texts, joined.
+pub fn ring_holds_groups()
+    ensures last { (size : ℕ) (doings : List Doing) → 0 < size → newest_first (ring_done doings (new_ring size)) ≡ take size (groups_of doings) }
+    ensures newest { (size : ℕ) (doings : List Doing) → 0 < size → yank (ring_done doings (new_ring size)) ≡ slice_get (groups_of doings) 0 }
+    ensures none { (doings : List Doing) → yank (ring_done doings (new_ring 0)) ≡ None }
+    ensures groups { (doings kills : List Doing) (text : List ℕ) (mode : Mode) → (group_done doings no_groups).growing ≡ false → AllKills kills
+        → groups_of (doings ++ (Kills text mode ∷ kills)) ≡ all_joined text kills ∷ groups_of doings }
+{}

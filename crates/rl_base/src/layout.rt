@@ -1,10 +1,13 @@
 //! How a text is laid out on a terminal.
-ghost use Rattle.std.specs.Prelude.{◌≡◌, ◌≤◌, false};
+ghost use Rattle.std.specs.Prelude.{◌≡◌, ◌≤◌, false, ◌<◌, ◌↔◌};
 ghost use Rattle.std.proofs.Common.{rules};
 ghost use Rattle.std.specs.Cmp.{partial_order_from_own_ties};
 ghost use Rattle.std.specs.Cmp.Rules.{comparing};
 ghost use Rattle.std.specs.Ordering.{as_partial_cmp};
 ghost use Rattle.rl_base.specs.Widths.{char_columns, blank_layout, by_row, width};
+ghost use Rattle.std.specs.Cmp.{IsTotalOrder};
+ghost use Rattle.std.specs.declared.cmp.Ordering.TheVariants.{Less, Equal};
+ghost use Rattle.rl_base.specs.declared.layout.Position.{Position};
 
 use std::cmp::Ordering;
 use unicode_width::{UnicodeWidthChar, UnicodeWidthStr};
@@ -147,3 +150,12 @@ impl Layout {
         self.grapheme_cluster_mode.width(s)
     }
 }
+
+/// The order of positions is total, goes by row and within a row by column, and two positions are equal in
+/// it exactly where both numbers are.
+pub fn positions_are_ordered()
+    ensures total { IsTotalOrder by_row }
+    ensures rows { (a b : Position) → a.row < b.row → by_row a b ≡ Less }
+    ensures columns { (a b : Position) → a.row ≡ b.row → a.col < b.col → by_row a b ≡ Less }
+    ensures equal { (a b : Position) → (by_row a b ≡ Equal) ↔ ((a.row ≡ b.row) × (a.col ≡ b.col)) }
+{}

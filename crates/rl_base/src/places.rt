@@ -1,7 +1,10 @@
 //! Places in a text, in bytes.
-ghost use Rattle.std.specs.Prelude.{◌≡◌, ◌≤◌, IfSome};
-ghost use Rattle.std.specs.Str.{IsCharBoundary};
+ghost use Rattle.std.specs.Prelude.{◌≡◌, ◌≤◌, IfSome, ℕ, List};
+ghost use Rattle.std.specs.Str.{IsCharBoundary, trim_start, trim_end};
 ghost use Rattle.rl_base.specs.Clusters.{next_pos, prev_pos};
+ghost use Rattle.std.specs.Char.{is_whitespace};
+ghost use Rattle.ucd_props.specs.Binary.{is_white_space};
+ghost use Rattle.rl_base.specs.Blanks.{without_leading_blanks, without_trailing_blanks};
 
 use crate::motion::RepeatCount;
 use unicode_segmentation::UnicodeSegmentation;
@@ -45,3 +48,11 @@ pub fn prev_pos(text: &str, pos: usize, n: RepeatCount) -> Option<usize>
     let _ = clusters.nth_back(usize::from(n) - 1);
     Some(clusters.as_str().len())
 }
+
+/// Blanks are White_Space everywhere: where a cluster holds one, and where the standard library cuts leading and
+/// trailing ones off a text.
+pub fn blanks_are_white_space()
+    ensures same { (c : ℕ) → is_whitespace c ≡ is_white_space c }
+    ensures leading { (text : List ℕ) → trim_start text ≡ without_leading_blanks text }
+    ensures trailing { (text : List ℕ) → trim_end text ≡ without_trailing_blanks text }
+{}

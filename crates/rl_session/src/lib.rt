@@ -4,7 +4,6 @@
 mod grammar;
 pub mod history;
 pub mod kill_runs;
-pub mod laws;
 pub mod pair;
 mod print;
 pub mod script;

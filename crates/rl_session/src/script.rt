@@ -1,8 +1,10 @@
 //! Scripts: lines of commands from a reader, and one line to a writer for each.
-ghost use Rattle.std.specs.Prelude.{◌≡◌, ℕ, ◌<◌, [], ◌∷◌, ◌++◌, length, take, string_bytes, OnOk, OnErr, IfOk, IfErr, MatchOption};
+ghost use Rattle.std.specs.Prelude.{◌≡◌, ℕ, Bool, List, ◌<◌, [], ◌∷◌, ◌++◌, length, take, string_bytes, OnOk, OnErr, IfOk, IfErr, MatchOption};
+ghost use Rattle.std.specs.Str.{IsUtf8};
 ghost use Rattle.std.specs.Io.KnownBytes.{Appends};
-ghost use Rattle.rl_session.specs.Grammar.{NewText, Set, Do};
-ghost use Rattle.rl_session.specs.Print.{printed};
+ghost use Rattle.rl_session.specs.Grammar.{Meaning, Means, NewText, Same, Set, Do};
+ghost use Rattle.rl_session.specs.Spelling.{Spells};
+ghost use Rattle.rl_session.specs.Print.{escaped, printed};
 ghost use Rattle.rl_session.specs.Script.{begun, started, MeaningOut, Ran, Stopped, StoppedBy};
 ghost use Rattle.rl_session.specs.Progress.{HasNoNewline, IsSaid, SaidOut, Runs, Took, Halts};
 
@@ -302,3 +304,13 @@ fn run_blocks<R: Read, W: Write>(
     }
     Err(ScriptFault::Read)
 }
+
+/// What is printed for a text, also for one that a reply hands out, is read as that text again.
+pub fn escapes_are_read()
+    ensures { (spaces : Bool) (t : List ℕ) → IsUtf8 t → Spells (escaped spaces t) t }
+{}
+
+/// A line has at most one meaning. Texts that commands hold are compared by their bytes, not by their room in memory.
+pub fn one_meaning()
+    ensures { (line : List ℕ) (m n : Meaning) → Means line m → Means line n → Same m n }
+{}

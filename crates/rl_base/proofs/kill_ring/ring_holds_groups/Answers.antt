@@ -1,5 +1,5 @@
 use Rattle.rl_base.proofs.Ring.KillGroupLemmas.{ring-holds, ring-newest, ring-empty, groups-are-runs}
-use Rattle.rl_base.proofs.laws.ring_holds_groups.Goals as goal
+use Rattle.rl_base.proofs.kill_ring.ring_holds_groups.Goals as goal
 
 pub returns-clause-last : goal.returns-clause-last
 returns-clause-last c = ring-holds

@@ -1,6 +1,6 @@
 use Rattle.ucd_props.proofs.StdLemmas.{is_white_space-std}
 use Rattle.rl_base.proofs.Texts.BlankLemmas.{trim_start-blanks, trim_end-blanks}
-use Rattle.rl_base.proofs.laws.blanks_are_white_space.Goals as goal
+use Rattle.rl_base.proofs.places.blanks_are_white_space.Goals as goal
 
 pub returns-clause-same : goal.returns-clause-same
 returns-clause-same c = is_white_space-std

@@ -1,5 +1,5 @@
 use Rattle.rl_session.proofs.Scripts.WordLemmas.{Means-one}
-use Rattle.rl_session.proofs.laws.one_meaning.Goals as goal
+use Rattle.rl_session.proofs.script.one_meaning.Goals as goal
 
 pub returns : goal.returns
 returns c = Means-one
