@@ -52,12 +52,19 @@ abbrev pub texts_after : List Event → List ℕ → List (List ℕ)
 texts_after [] text = []
 texts_after (e ∷ es) text = elim (apply e text) [ None ↦ [] | Some next ↦ next ∷ texts_after es next ]
 
--- the texts after each of these entries was taken back, the last first, and after each was made again
+-- the events that take entries back, the last first, and those that make them again
+abbrev pub events_back : List Entry → List Event
+events_back entries = map (λ (e : Entry). event_of (inverse e)) (reverse entries)
+
+abbrev pub events_ahead : List Entry → List Event
+events_ahead entries = map event_of entries
+
+-- the texts after each of these entries was taken back, and after each was made again
 abbrev pub texts_back : List Entry → List ℕ → List (List ℕ)
-texts_back entries text = texts_after (map (λ (e : Entry). event_of (inverse e)) (reverse entries)) text
+texts_back entries text = texts_after (events_back entries) text
 
 abbrev pub texts_ahead : List Entry → List ℕ → List (List ℕ)
-texts_ahead entries text = texts_after (map event_of entries) text
+texts_ahead entries text = texts_after (events_ahead entries) text
 
 -- on the way back from a text, each cursor that was told as the one before a change stands between two characters there
 abbrev pub StandBefore : List Entry → List ℕ → Type 0

@@ -123,21 +123,21 @@ with_changes changes s = record s { pair = record s.pair { changes = changes } }
 
 -- how one state becomes another by steps of an edit, or by none
 pub data Course : Type 1 where
-  -- this never comes, or only where that holds
+  -- this never comes; this comes only where a condition holds
   never : Course
   when : Type 0 → Course → Course
-  -- nothing changed; the cursor went to a place, if there is one
+  -- nothing changed; only the cursor went to a place, if there is one
   stays : Course
   goes : Option ℕ → Bool → Course
-  -- an edit was done; or it was refused, since memory is out: not begun, which comes only where that holds, or cut short
+  -- an edit was done; an edit was refused since memory is out: not begun, which comes only where a condition holds, or cut short
   edits : {A : Type 0} → Plan A → A → Course
   stops : {A : Type 0} → Type 0 → Takes → Plan A → Course
-  -- some text was made for the word ahead
+  -- a text was made for the word ahead, and then this
   respells : WordAction → (List ℕ → Course) → Course
-  -- the ring lent its text first, or the one before that
+  -- the ring lent its text first, or the text before that one
   lends : Course → Course
   pops : Course → Course
-  -- it was told from its start to its stop as a kill, but not where that is one by characters
+  -- this was told between the start and the stop of a kill, except for a kill by characters
   tells : Bool → Course → Course
 
 -- what each of them means
@@ -215,14 +215,14 @@ asked line (TransposeWords n) = edit a_copy (Unit {0}) (transpose_words_plan lin
 asked line (Indent m amount dedent) = edit room_by_step (Unit {0}) (indent_plan line m amount dedent) answers
 asked line _ = other
 
--- an edit: refused where its condition fails, and else done, or stopped since memory is out
+-- an edit: refused where its condition fails; otherwise done, or stopped since memory is out
 abbrev pub edit_course : {A : Type 0} → Takes → Type 0 → Plan A → Telling A → Reply → Course
 edit_course takes condition plan telling (says.Refused BadPlace) = when (¬ condition) stays
 edit_course takes condition plan telling (says.Refused NoMemory) = when condition (stops (unbegun takes plan) takes plan)
 edit_course takes condition plan telling reply = when condition (told_as telling (edits plan) reply)
 
--- what is no edit, or one of a text that is not told by the command. What needs no room, since there is nothing to copy, to close
--- or to make longer, is not refused.
+-- Commands that are no edit, or an edit whose text the command does not tell. A command is not refused where it needs no room,
+-- since there is nothing to copy, to close or to make longer.
 abbrev pub other_course : State → Command → Reply → Course
 other_course old (SetPos q) says.Done = when (IsCharBoundary old.line.text q) (goes (Some q) true)
 other_course old (SetPos q) (says.Refused BadPlace) = when (¬ (IsCharBoundary old.line.text q)) stays

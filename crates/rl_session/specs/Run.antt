@@ -1,9 +1,9 @@
 -- Runs of a session, and the texts that its line held on the way.
 use Rattle.std.specs.Prelude.{◌≡◌, ℕ, true, false, List, [], ◌∷◌, ◌++◌, map}
 use mathlib.Core.Logic.{inl, inr}
-use Rattle.rl_base.specs.Event.{Start}
+use Rattle.rl_base.specs.Event.{Event, Start}
 use Rattle.rl_line.specs.Plan.{Step as PlanStep, events_of}
-use Rattle.rl_line.specs.Undo.{texts_after, texts_ahead, texts_back}
+use Rattle.rl_line.specs.Undo.{events_ahead, events_back, texts_after}
 use Rattle.rl_line.specs.Units.{last_of, redo_of}
 use Rattle.rl_session.specs.declared.session.Command.{Command}
 use Rattle.rl_session.specs.declared.session.Reply.{Reply}
@@ -28,12 +28,17 @@ steps_in (tells true course) old new d = steps_in course old new d
 steps_in (tells false course) old new d = steps_in course (record old { pair = pair_step old.pair Start }) (record new { pair = d.last }) d.inside
 steps_in _ old new d = []
 
--- the texts that were held: after each of these steps, or after each entry that was taken back or made again
+-- the events of what was done: of the steps that were taken; of an undo those that take its entries back, the last first; and of a
+-- redo those of its entries
+abbrev pub events_in : (effect : Effect) (old new : State) → Became effect old new → List Event
+events_in (by_steps course) old new d = events_of (steps_in course old new d)
+events_in (takes_back n answer) old new d = events_back (last_of n old.pair.changes.recorded)
+events_in (puts_again answer) old new d = events_ahead (redo_of old.pair.changes.pending)
+events_in _ old new d = []
+
+-- the texts that were held: those after each of these events
 abbrev pub held_by : (effect : Effect) (old new : State) → Became effect old new → List (List ℕ)
-held_by (by_steps course) old new d = texts_of_steps (steps_in course old new d) old.line.text
-held_by (takes_back n answer) old new d = texts_back (last_of n old.pair.changes.recorded) old.line.text
-held_by (puts_again answer) old new d = texts_ahead (redo_of old.pair.changes.pending) old.line.text
-held_by _ old new d = []
+held_by effect old new d = texts_after (events_in effect old new d) old.line.text
 
 -- the texts that a row held
 abbrev pub held_in : (old : State) (command : Command) (reply : Reply) (new : State) → Does old command reply new → List (List ℕ)
