@@ -59,6 +59,14 @@ abbrev pub held_of : List Row → List (List ℕ)
 held_of [] = []
 held_of (row ∷ rows) = held row ++ held_of rows
 
+-- what a row reports: the events of what was done
+abbrev pub reports : Row → List Event
+reports row = events_in (effect (readied row.command row.before) row.command row.reply) (readied row.command row.before) row.step.left row.step.does
+
+abbrev pub reports_of : List Row → List Event
+reports_of [] = []
+reports_of (row ∷ rows) = reports row ++ reports_of rows
+
 -- the rows lead from old to new, each from where the one before it ended
 abbrev pub Leads : State → List Row → State → Type 0
 Leads old [] new = new ≡ old

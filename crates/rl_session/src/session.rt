@@ -1,11 +1,12 @@
 //! A session: a line with its kill ring and the record of its changes, which takes commands one after another.
-ghost use Rattle.std.specs.Prelude.{◌≡◌, ◌<◌, ◌++◌, ◌∷◌, [], List, ℕ, max, length, false, IsSome, IfOk, IfErr, OnErr};
+ghost use Rattle.std.specs.Prelude.{◌≡◌, ◌<◌, ◌++◌, ◌∷◌, [], List, ℕ, max, length, false, IsSome, Some, IfOk, IfErr, OnErr};
 ghost use Rattle.std.specs.Str.{IsCharBoundary};
+ghost use Rattle.rl_base.specs.Event.{replay};
 ghost use Rattle.rl_line.specs.Line.{Line};
 ghost use Rattle.rl_line.specs.Record.{Record, replay_entries, unwind};
 ghost use Rattle.rl_session.specs.State.{State, Follows, Stands, Opens, Replays, origin};
 ghost use Rattle.rl_session.specs.Commands.{Does, Step};
-ghost use Rattle.rl_session.specs.Run.{Row, Run, AfterEach, commands_of, held_of, replies_of};
+ghost use Rattle.rl_session.specs.Run.{Row, Run, AfterEach, commands_of, held_of, replies_of, reports, reports_of};
 ghost use Rattle.rl_session.specs.declared.session.Command.{Command};
 ghost use Rattle.rl_session.specs.declared.session.Reply.{Reply};
 
@@ -376,4 +377,12 @@ pub fn what_was_undone_can_be_made_again()
 pub fn each_row_replays()
     ensures { (start : List ℕ) (old new : State) (commands : List Command) (replies : List Reply) (run : Run old commands replies new)
         → Replays start old → AfterEach (Replays start) run.rows }
+{}
+
+/// What changed is told whole: the events of a row (`reports`), replayed on the text before it, give the text after it,
+/// also where the command was refused after some of its steps, and also of an undo and a redo. The same holds of a run.
+pub fn reports_are_replayed()
+    ensures row { (row : Row) → replay (reports row) row.before.line.text ≡ Some row.after.line.text }
+    ensures run { (old new : State) (commands : List Command) (replies : List Reply) (run : Run old commands replies new)
+        → replay (reports_of run.rows) old.line.text ≡ Some new.line.text }
 {}
