@@ -9,8 +9,8 @@ use Rattle.rl_session.specs.declared.session.Command.{Command}
 use Rattle.rl_session.specs.declared.session.Reply.{Reply}
 use Rattle.rl_ffi.specs.Numbers.{closed, no_memory, no_such_number, not_utf8, reply_number}
 
--- a command is asked for, or the number says what is wrong with the arguments. A closed session says that it is closed, and wrong
--- arguments change nothing; else the command is done.
+-- a command is given, or the number says what is wrong with the arguments. A closed session answers that it is closed. Wrong
+-- arguments change nothing; otherwise the command is done.
 abbrev pub Replies : Result Command ℕ → Option State → Result Reply ℕ → Option State → Type 0
 Replies asked None answer new = (answer ≡ Err closed) × (new ≡ None)
 Replies (Err why) (Some s) answer new = (answer ≡ Err why) × (new ≡ Some s)
@@ -21,7 +21,7 @@ abbrev pub number_of : Result Reply ℕ → ℕ
 number_of (Ok reply) = reply_number reply
 number_of (Err why) = why
 
--- the same, where the number tells all
+-- the same, where the answer's number says everything
 abbrev pub Called : Result Command ℕ → Option State → ℕ → Option State → Type 0
 Called asked old n new = (answer : Result Reply ℕ) × Replies asked old answer new × (n ≡ number_of answer)
 
@@ -30,12 +30,12 @@ abbrev pub named : {A : Type 0} → (A → Command) → Option A → Result Comm
 named make None = Err no_such_number
 named make (Some x) = Ok (make x)
 
--- the same of what two numbers name
+-- the same for what two numbers name
 abbrev pub both_named : {A B : Type 0} → (A → B → Command) → Option A → Option B → Result Command ℕ
 both_named make None b = Err no_such_number
 both_named make (Some x) b = named (make x) b
 
--- bytes of C as a text of a command, or what is wrong with them; for a copy of some there may be no memory
+-- bytes of C as a text of a command, or what is wrong with them; a copy of one byte or more may find no memory
 abbrev pub IsTextOf : List ℕ → Result (String Global) ℕ → Type 0
 IsTextOf bytes (Ok text) = IsUtf8 bytes × (string_bytes text ≡ bytes)
 IsTextOf bytes (Err n) = ((¬ (IsUtf8 bytes)) × (n ≡ not_utf8)) ⊎ (IsUtf8 bytes × (0 < length bytes) × (n ≡ no_memory))

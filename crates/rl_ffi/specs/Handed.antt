@@ -14,7 +14,7 @@ use Rattle.rl_session.specs.declared.session.Reply.TheVariants.{Text, Mark, At}
 use Rattle.rl_ffi.specs.Buffers.{put}
 use Rattle.rl_ffi.specs.Numbers.{closed, no_memory, no_such_number, reply_number, too_small}
 
--- what an answer puts into a number of C: a mark; the number of a line, and a column
+-- what an answer writes to a number of C: a mark; the number of a line, and a column
 abbrev pub mark_in : Result Reply ℕ → ℕ → ℕ
 mark_in (Ok (Mark mark)) old = mark
 mark_in _ old = old
@@ -32,7 +32,7 @@ abbrev pub handed : Reply → List ℕ × ℕ → List ℕ × ℕ
 handed (Text (Some text)) outs = (put (string_bytes text) outs.0, length (string_bytes text))
 handed _ outs = outs
 
--- a reply's text has room
+-- a reply's text fits
 abbrev pub Fits : Reply → List ℕ → Type 0
 Fits (Text (Some text)) out = length (string_bytes text) ≤ length out
 Fits _ out = Unit {0}
@@ -45,22 +45,22 @@ abbrev pub HasRoom : Option (List ℕ) → List ℕ → Type 0
 HasRoom None out = Unit {0}
 HasRoom (Some text) out = length text ≤ length out
 
--- the command is done in s, and hands its text out
+-- the command is done in s, and its text is written out
 abbrev pub HandsOut : State → Command → ℕ → State → List ℕ × ℕ → List ℕ × ℕ → Type 0
 HandsOut s command n t outs outs' = (reply : Reply) × Step s command reply t × (n ≡ reply_number reply) × (outs' ≡ handed reply outs)
 
--- the text has no room: nothing is done, and its length is told
+-- the text does not fit: nothing is done, and its length is written
 abbrev pub LacksRoom : Option (List ℕ) → State → ℕ → State → List ℕ × ℕ → List ℕ × ℕ → Type 0
 LacksRoom None s n t outs outs' = ⊥
 LacksRoom (Some text) s n t outs outs' = (length outs.0 < length text) × (n ≡ too_small) × (t ≡ s) × (outs' ≡ (outs.0, length text))
 
--- n clusters ahead are deleted, and handed out
+-- n clusters after the cursor are deleted, and written out
 abbrev pub Deletes : ℕ → State → ℕ → State → List ℕ × ℕ → List ℕ × ℕ → Type 0
 Deletes k s n t outs outs' =
     let text = copied s.line (ForwardChar k) in
     (HasRoom text outs.0 × HandsOut s (Delete k) n t outs outs') ⊎ LacksRoom text s n t outs outs'
 
--- what a movement covers is copied, and handed out; there may be no memory to look how long it is
+-- what a movement covers is copied, and written out; there may be no memory to find its length
 abbrev pub Copies : Movement → State → ℕ → State → List ℕ × ℕ → List ℕ × ℕ → Type 0
 Copies m s n t outs outs' =
     let text = copied s.line m in

@@ -10,7 +10,7 @@ abbrev pub CannotOpen : List ℕ → ℕ → ℕ → Type 0
 CannotOpen text pos n =
     ((¬ (IsUtf8 text)) × (n ≡ not_utf8)) ⊎ (IsUtf8 text × (¬ (IsCharBoundary text pos)) × (n ≡ bad_place)) ⊎ (IsUtf8 text × IsCharBoundary text pos × (n ≡ no_memory))
 
--- what may come of opening a session: a fresh one, or the old one is left
+-- how opening a session may end: there is a fresh one, or the old one is left
 abbrev pub OpensAs : Option GraphemeClusterMode → List ℕ → ℕ → ℕ → ℕ → Option State → ℕ → Option State → Type 0
 OpensAs None text pos limit ring_size old n new = (n ≡ no_such_number) × (new ≡ old)
 OpensAs (Some mode) text pos limit ring_size old n new =

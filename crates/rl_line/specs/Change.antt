@@ -45,7 +45,7 @@ order Ahead changes = reverse changes
 abbrev pub entries_to_undo : Way → List Change → List Entry
 entries_to_undo way changes = map (entry_to_undo way) (order way changes)
 
--- how much a text has of what it is measured by
+-- the size of a text by a measure
 abbrev pub size_of : Measure → List ℕ → ℕ
 size_of Bytes text = length text
 size_of Newlines text = count_by is_newline text

@@ -173,7 +173,7 @@ Became (shortens len) old new =
 Became (takes_back n a) old new = Undone n old.pair.changes new.pair.changes old.line new.line a × KeepsRing old new
 Became (puts_again a) old new = Redone old.pair.changes new.pair.changes old.line new.line a × KeepsRing old new
 
--- how the answer of an edit is told
+-- how a reply tells the answer of an edit
 pub data Telling : Type 0 → Type 1 where
   answers : Telling Bool
   inserts : Telling (Option Bool)
@@ -234,7 +234,7 @@ other_course old (EditWord action) (says.Refused NoMemory) =
     respells action (λ made. let plan = edit_word_plan old.line made in stops (unbegun a_copy plan) a_copy plan)
 other_course old (Kill m) (says.Answer a) = tells (is_by_characters m) (edits (kill_plan old.line m) a)
 other_course old (Kill m) (says.Refused NoMemory) = tells (is_by_characters m) (stops ⊥ nothing_more (kill_plan old.line m))
--- a yanked text is copied out of the ring, for which there may be no memory either, unless it is empty
+-- a yanked text is copied out of the ring, which may run out of memory too, unless the text is empty
 other_course old (Yank n) (says.Inserted a) = lends (edits (lent_plan old.line (yank old.pair.ring) n) a)
 other_course old (Yank n) (says.Refused NoMemory) =
     lends (stops (HasText (yank old.pair.ring)) room_by_step (lent_plan old.line (yank old.pair.ring) n))

@@ -83,7 +83,7 @@ pub record CountSearch (given : List ℕ) (n : ℕ) (cs : CharSearch) : Type 0 w
   pub char : SpellsChar bytes c
   pub named : NamesSearch (word after) c cs
 
--- the words for movements, each with what it wants after it: None where no space follows, or Some of what stands after the space
+-- the words for movements, each with its argument: None where no space follows, or Some of what stands after the space
 pub data Names : List ℕ → Option (List ℕ) → Movement → Type 0 where
   whole : Names (codes "line") None WholeLine
   home : Names (codes "home") None BeginningOfLine
@@ -100,7 +100,7 @@ pub data Names : List ℕ → Option (List ℕ) → Movement → Type 0 where
   bob : Names (codes "bob") None BeginningOfBuffer
   eob : Names (codes "eob") None EndOfBuffer
 
--- the movement that the bytes name, by a word and what that wants
+-- the movement that the bytes name, by a word and its argument
 abbrev pub NamesMovement : List ℕ → Movement → Type 0
 NamesMovement bytes movement = Names (word bytes) (rest bytes) movement
 
@@ -116,7 +116,7 @@ pub record RangeText (given : List ℕ) (a b : ℕ) (text : List ℕ) : Type 0 w
   pub starts : Numbered (2 ^ 64 - 1) given a after
   pub ends : NumberedText (2 ^ 64 - 1) after b text
 
--- the words that begin a line, each with what it wants after it
+-- the words that begin a line, each with its argument
 pub data Says : List ℕ → Option (List ℕ) → Meaning → Type 0 where
   no_text : Says (codes "text") None (NewText [])
   text : {bytes text : List ℕ} → Spells bytes text → Says (codes "text") (Some bytes) (NewText text)
@@ -169,7 +169,7 @@ Means line meaning = IsUtf8 line × Says (word line) (rest line) meaning
 abbrev pub MeansNothing : List ℕ → Type 0
 MeansNothing line = (meaning : Meaning) → Means line meaning → ⊥
 
--- Two meanings are the same: of a text that a command holds its bytes count, and not the room that they have in memory.
+-- Two meanings are the same. Texts that commands hold are compared by their bytes, not by the room that they have in memory.
 pub data Same : Meaning → Meaning → Type 0 where
   same : {m n : Meaning} → m ≡ n → Same m n
   pastes : {s t : String Global} {n : ℕ} → string_bytes s ≡ string_bytes t → Same (Do (Paste s n)) (Do (Paste t n))

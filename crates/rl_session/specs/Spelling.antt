@@ -7,7 +7,7 @@ abbrev pub are_digits : List ℕ → Bool
 are_digits [] = true
 are_digits (d ∷ ds) = (nat_le 48 d && nat_le d 57) && are_digits ds
 
--- the value of the digits that stand after those of value n
+-- the value of these digits, after digits of value n
 abbrev pub value_from : ℕ → List ℕ → ℕ
 value_from n [] = n
 value_from n (d ∷ ds) = value_from (n * 10 + (d - 48)) ds
@@ -35,7 +35,7 @@ hex_digit b =
     else if nat_le 65 b && nat_le b 70 then Some (b - 55)
     else None
 
--- the value of the hexadecimal digits that stand after those of value n
+-- the value of these hexadecimal digits, after digits of value n
 abbrev pub hex_from : ℕ → List ℕ → Option ℕ
 hex_from n [] = Some n
 hex_from n (b ∷ bs) = option_and_then (λ d. hex_from (n * 16 + d) bs) (hex_digit b)
@@ -52,8 +52,8 @@ pub data Escapes : List ℕ → ℕ → Type 0 where
   letter : {b c : ℕ} → letter_of b ≡ Some c → Escapes (b ∷ []) c
   braced : {digits : List ℕ} {c : ℕ} → NamesChar digits c → Escapes (codes "u{" ++ digits ++ codes "}") c
 
--- These bytes of a script stand for this text: nothing for none, a byte that is no backslash for itself, and a backslash with
--- what follows it for a character.
+-- These bytes of a script stand for this text: no bytes for the empty text, a byte other than a backslash for itself, and a
+-- backslash with what follows it for a character.
 pub data Spells : List ℕ → List ℕ → Type 0 where
   nothing : Spells [] []
   plain : {b : ℕ} {bytes text : List ℕ} → b ≢ 92 → Spells bytes text → Spells (b ∷ bytes) (b ∷ text)
