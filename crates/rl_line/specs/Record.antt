@@ -215,9 +215,16 @@ abbrev pub bytes_ahead : List Entry → ℕ
 bytes_ahead [] = 0
 bytes_ahead (e ∷ es) = length (new_text e) + bytes_ahead es
 
+-- the events that take entries back, the last first, and those that make them again
+abbrev pub events_back : List Entry → List Event
+events_back entries = map (λ (e : Entry). event_of (inverse e)) (reverse entries)
+
+abbrev pub events_ahead : List Entry → List Event
+events_ahead entries = map event_of entries
+
 -- the text after the entries, from the text before them: the first is made first
 abbrev pub replay_entries : List Entry → List ℕ → Option (List ℕ)
-replay_entries es text = replay (map event_of es) text
+replay_entries es text = replay (events_ahead es) text
 
 -- the text before the entries, from the text after them: the last is taken back first
 abbrev pub unwind : List Entry → List ℕ → Option (List ℕ)

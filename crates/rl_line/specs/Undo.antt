@@ -1,11 +1,11 @@
 -- How a line goes back over its record, and ahead again.
-use Rattle.std.specs.Prelude.{◌≡◌, ℕ, zero, suc, ◌+◌, ◌<◌, Bool, true, not, ◌||◌, List, [], ◌∷◌, ◌++◌, length, map, reverse, Option, Some, None, option_and_then, unwrap_or}
+use Rattle.std.specs.Prelude.{◌≡◌, ℕ, zero, suc, ◌+◌, ◌<◌, Bool, true, not, ◌||◌, List, [], ◌∷◌, ◌++◌, length, Option, Some, None, option_and_then, unwrap_or}
 use Rattle.std.specs.Option.{option_map, option_map_or}
 use Rattle.std.specs.Str.{IsCharBoundary}
 use Rattle.rl_base.specs.Event.{Event, apply}
 use Rattle.rl_base.specs.Text.{is_boundary}
 use Rattle.rl_line.specs.Line.{Line, after_step}
-use Rattle.rl_line.specs.Record.{Entry, Changed, Record, bytes_ahead, bytes_back, cursors_of, event_of, inverse, past, replay_entries, unwind}
+use Rattle.rl_line.specs.Record.{Entry, Changed, Record, bytes_ahead, bytes_back, cursors_of, event_of, events_ahead, events_back, inverse, past, replay_entries, unwind}
 use Rattle.rl_line.specs.Units.{last_of, redo_of, has_change, undone, redone}
 
 -- the cursor after an entry was made, where that was told
@@ -51,13 +51,6 @@ CopiesAhead es text = (has_change es ≡ true) × (0 < length text + bytes_ahead
 abbrev pub texts_after : List Event → List ℕ → List (List ℕ)
 texts_after [] text = []
 texts_after (e ∷ es) text = elim (apply e text) [ None ↦ [] | Some next ↦ next ∷ texts_after es next ]
-
--- the events that take entries back, the last first, and those that make them again
-abbrev pub events_back : List Entry → List Event
-events_back entries = map (λ (e : Entry). event_of (inverse e)) (reverse entries)
-
-abbrev pub events_ahead : List Entry → List Event
-events_ahead entries = map event_of entries
 
 -- the texts after each of these entries was taken back, and after each was made again
 abbrev pub texts_back : List Entry → List ℕ → List (List ℕ)

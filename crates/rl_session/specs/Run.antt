@@ -3,7 +3,8 @@ use Rattle.std.specs.Prelude.{◌≡◌, ℕ, true, false, List, [], ◌∷◌, 
 use mathlib.Core.Logic.{inl, inr}
 use Rattle.rl_base.specs.Event.{Event, Start}
 use Rattle.rl_line.specs.Plan.{Step as PlanStep, events_of}
-use Rattle.rl_line.specs.Undo.{events_ahead, events_back, texts_after}
+use Rattle.rl_line.specs.Record.{events_ahead, events_back}
+use Rattle.rl_line.specs.Undo.{texts_after}
 use Rattle.rl_line.specs.Units.{last_of, redo_of}
 use Rattle.rl_session.specs.declared.session.Command.{Command}
 use Rattle.rl_session.specs.declared.session.Reply.{Reply}

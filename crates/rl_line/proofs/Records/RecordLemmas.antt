@@ -1,15 +1,16 @@
 -- The entries of a record lead from text to text and back.
 use Rattle.std.proofs.Common.{◌≡◌, ℕ, Bool, true, false, List, [], ◌∷◌, ◌++◌, length, Option, Some, None, refl, sym, ap, subst, ◌∙◌, ◌+◌, ◌⊎◌, inl, inr}
 use Rattle.std.proofs.lemmas.Bool.{eqb-true}
+use Rattle.std.proofs.lemmas.List.{map-append}
 use Rattle.std.specs.Option.{option_map_or}
 use Rattle.std.specs.Prelude.{option_and_then, encode_utf8, IsSome, ◌==◌, ◌&&◌, cond, not}
 use Rattle.std.specs.Str.{IsUtf8}
 use Rattle.rl_base.proofs.Texts.TextLemmas.{and_right}
 use Rattle.rl_base.specs.declared.listeners.Direction.{Direction}
-use Rattle.rl_base.specs.Event.{Event, InsertChar, InsertStr, Delete, Replace, Start, Stop, Cursors, apply}
+use Rattle.rl_base.specs.Event.{Event, InsertChar, InsertStr, Delete, Replace, Start, Stop, Cursors, apply, replay}
 use Rattle.rl_base.proofs.Texts.SwapLemmas.{Swaps, Swaps-back, Swaps-nothing, Swaps-after, Swaps-before, Swaps-InsertStr, Swaps-InsertChar, Swaps-Delete, Swaps-Replace, apply-Replace-Swaps, apply-IsUtf8}
 use Rattle.rl_base.specs.Classes.{is_alphanumeric, is_word_cluster}
-use Rattle.rl_line.specs.Record.{Kind, Insertion, Deletion, Replacement, Swap, Entry, Begin, End, Changed, Record, entries_after, entries_of, joined, record_step, event_of, inverse, replay_entries, unwind, swapped, followed, opposite, past, untold}
+use Rattle.rl_line.specs.Record.{Kind, Insertion, Deletion, Replacement, Swap, Entry, Begin, End, Changed, Record, entries_after, entries_of, joined, record_step, event_of, inverse, replay_entries, unwind, swapped, followed, opposite, past, untold, events_ahead}
 use Rattle.rl_line.proofs.Records.ToldLemmas.{recorded-cases, last_told-unwind}
 
 -- what was made of a value that is there
@@ -88,9 +89,12 @@ unwind-append [] ys text = sym (then_some (unwind ys text))
 unwind-append (x ∷ xs) ys text =
     ap (option_and_then (apply (event_of (inverse x)))) (unwind-append xs ys text) ∙ sym (then_both (unwind (x ∷ xs)) (unwind xs) (apply (event_of (inverse x))) (λ t. refl) (unwind ys text))
 
+pub events-append : (xs ys : List Event) (text : List ℕ) → replay (xs ++ ys) text ≡ option_and_then (replay ys) (replay xs text)
+events-append [] ys text = refl
+events-append (x ∷ xs) ys text = then_both (replay (xs ++ ys)) (replay xs) (replay ys) (λ t. events-append xs ys t) (apply x text)
+
 pub replay-append : (xs ys : List Entry) (text : List ℕ) → replay_entries (xs ++ ys) text ≡ option_and_then (replay_entries ys) (replay_entries xs text)
-replay-append [] ys text = refl
-replay-append (x ∷ xs) ys text = then_both (replay_entries (xs ++ ys)) (replay_entries xs) (replay_entries ys) (λ t. replay-append xs ys t) (apply (event_of x) text)
+replay-append xs ys text = ap (λ l. replay l text) (map-append event_of xs ys) ∙ events-append (events_ahead xs) (events_ahead ys) text
 
 -- the entries of an event undo it
 undoes : (k : Kind) (i : ℕ) (s t text now : List ℕ) → Swaps text now i s t → unwind (Changed k (untold i s t) ∷ []) now ≡ Some text

@@ -1,13 +1,12 @@
 -- What rows report, applied to the text before them, gives the text after them.
-use Rattle.std.proofs.Common.{◌≡◌, ℕ, List, [], ◌∷◌, ◌++◌, Option, Some, None, refl, sym, ap, ◌∙◌}
+use Rattle.std.proofs.Common.{◌≡◌, ℕ, List, [], ◌∷◌, Option, Some, None, refl, sym, ap, ◌∙◌}
 use Rattle.std.proofs.lemmas.List.{map-append, reverse-append}
 use Rattle.std.specs.Prelude.{map, option_and_then, reverse}
 use Rattle.rl_base.specs.Event.{Event, apply, replay}
-use Rattle.rl_line.specs.Record.{Entry, event_of, inverse, unwind}
-use Rattle.rl_line.specs.Undo.{events_back}
+use Rattle.rl_line.specs.Record.{Entry, event_of, events_back, inverse, unwind}
 use Rattle.rl_line.specs.Units.{last_of, redo_of}
 use Rattle.rl_line.proofs.Plans.PlanLemmas.{after-replay}
-use Rattle.rl_line.proofs.Records.RecordLemmas.{then_both, then_some}
+use Rattle.rl_line.proofs.Records.RecordLemmas.{events-append, then_some}
 use Rattle.rl_line.proofs.Records.UndoLemmas.{line_ahead-replay, line_back-unwind}
 use Rattle.rl_session.specs.Commands.{Effect, by_steps, puts_begin, puts_ends, shortens, takes_back, puts_again, Became, effect, readied}
 use Rattle.rl_session.specs.Run.{Row, Leads, Run, events_in, reports, reports_of, steps_in}
@@ -16,17 +15,13 @@ use Rattle.rl_session.specs.declared.session.Command.{Command}
 use Rattle.rl_session.specs.declared.session.Reply.{Reply}
 use Rattle.rl_session.proofs.Sessions.CourseLemmas.{Heard-Came}
 
-replay-append : (xs ys : List Event) (text : List ℕ) → replay (xs ++ ys) text ≡ option_and_then (replay ys) (replay xs text)
-replay-append [] ys text = refl
-replay-append (x ∷ xs) ys text = then_both (replay (xs ++ ys)) (replay xs) (replay ys) (λ t. replay-append xs ys t) (apply x text)
-
 -- the events that take entries back
 replay-back : (es : List Entry) (text : List ℕ) → replay (events_back es) text ≡ unwind es text
 replay-back [] text = refl
 replay-back (e ∷ es) text =
     ap (λ l. replay (map (λ (x : Entry). event_of (inverse x)) l) text) (reverse-append (e ∷ []) es)
     ∙ ap (λ l. replay l text) (map-append (λ (x : Entry). event_of (inverse x)) (reverse es) (e ∷ []))
-    ∙ replay-append (events_back es) (event_of (inverse e) ∷ []) text
+    ∙ events-append (events_back es) (event_of (inverse e) ∷ []) text
     ∙ ap (option_and_then (replay (event_of (inverse e) ∷ []))) (replay-back es text)
     ∙ one (event_of (inverse e)) (unwind es text)
   where
@@ -53,7 +48,7 @@ reported-row row =
 reported-rows : (rows : List Row) (old new : State) → Leads old rows new → replay (reports_of rows) old.line.text ≡ Some new.line.text
 reported-rows [] old new l = ap (λ (s : State). Some s.line.text) (sym l)
 reported-rows (row ∷ rows) old new l =
-    replay-append (reports row) (reports_of rows) old.line.text
+    events-append (reports row) (reports_of rows) old.line.text
     ∙ ap (option_and_then (replay (reports_of rows))) (ap (λ (s : State). replay (reports row) s.line.text) (sym l.0) ∙ reported-row row)
     ∙ reported-rows rows row.after new l.1
 
