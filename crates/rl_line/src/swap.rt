@@ -114,7 +114,8 @@ pub(crate) fn swap_in_char(text: &mut String, starts: &mut LineStarts, at: usize
     put_char_in(text, at, c);
 }
 
-// Makes the bytes of a character that goes in, for the table. Cold, since mostly no newline is typed, at the last change's place.
+// Updates the table for a character that goes in, by its bytes. Cold: mostly no newline is typed, and at the last change's
+// place.
 #[cold]
 #[inline(never)]
 fn exchange_encoded(starts: &mut LineStarts, text: &str, at: usize, c: char)

@@ -2,11 +2,10 @@
 use Rattle.std.proofs.Common.{◌≡◌, ℕ, Bool, List, [], ◌∷◌, Option, Some, sym, ap, subst, ◌∙◌}
 use Rattle.std.specs.Prelude.{option_and_then}
 use Rattle.std.specs.Str.{IsUtf8}
-use Rattle.rl_base.specs.declared.listeners.Refusal.{Refusal}
-use Rattle.rl_base.specs.Event.{Event, Cursors}
+use Rattle.rl_base.specs.Event.{Cursors}
 use Rattle.rl_base.proofs.Texts.SwapLemmas.{apply-IsUtf8}
 use Rattle.rl_line.specs.Line.{Line, stepped}
-use Rattle.rl_line.specs.Plan.{Step, Plan, after, listener_after, listener_after_step, Taken, Done, Halted}
+use Rattle.rl_line.specs.Plan.{Step, after, listener_after, listener_after_step, Taken}
 use Rattle.rl_line.specs.Record.{Record, record_step, unwind}
 use Rattle.rl_line.specs.Undo.{Undone}
 use Rattle.rl_line.specs.Units.{kept_of, last_of}
@@ -41,20 +40,8 @@ Kept-after (s ∷ ss) r old new u h =
       utf8 = more.utf8;
     }
 
-Kept-Taken : (steps : List Step) (r now : Record) (old new : Line) → IsUtf8 old.text → Taken record_step steps old new r now → Kept r now old new
+pub Kept-Taken : (steps : List Step) (r now : Record) (old new : Line) → IsUtf8 old.text → Taken record_step steps old new r now → Kept r now old new
 Kept-Taken steps r now old new u t = subst (λ (k : Record). Kept r k old new) (sym t.listener) (Kept-after steps r old new u t.line)
-
-pub Kept-Done : {A : Type 0} (plan : Plan A) (r now : Record) (old new : Line) (a : A) → IsUtf8 old.text → Done record_step plan old new r now a → Kept r now old new
-Kept-Done plan r now old new a u d =
-    let k = Kept-Taken plan.steps r now old d.last u d.taken in
-    record { origin_is = λ start e. ap (λ (l : Line). origin now l.text) d.line ∙ k.origin_is start e; utf8 = subst (λ (l : Line). IsUtf8 l.text) (sym d.line) k.utf8 }
-
--- where a refusal leaves the record as it was, so does a plan that halted
-pub Kept-Halted : {A : Type 0} (refused : Record → Event → Refusal → Record → Type 0) (plan : Plan A) (r now : Record) (old new : Line) (why : Refusal)
-    → ((m : Record) (e : Event) (w : Refusal) (k : Record) → refused m e w k → k ≡ m) → IsUtf8 old.text
-    → Halted record_step refused plan old new r now why → Kept r now old new
-Kept-Halted refused plan r now old new why stays u h =
-    subst (λ (k : Record). Kept r k old new) (sym (stays h.middle h.next.0 why now h.cause)) (Kept-Taken h.first r h.middle old new u h.taken)
 
 pub Kept-Undone : (n : ℕ) (r now : Record) (old new : Line) (a : Bool) → IsUtf8 old.text → Undone n r now old new a → Kept r now old new
 Kept-Undone n r now old new a u d =

@@ -3,10 +3,10 @@ use Rattle.std.proofs.Common.{List, [], ◌∷◌, ◌++◌, ◌≡◌, ◌∙�
 use Rattle.std.proofs.lemmas.List.{map-append}
 use Rattle.std.specs.Prelude.{ℕ, IsSome}
 use Rattle.std.specs.Str.{IsUtf8}
-use Rattle.rl_line.specs.Plan.{Plan, Step as PlanStep}
+use Rattle.rl_line.specs.Plan.{Step as PlanStep}
 use Rattle.rl_line.specs.Record.{unwind}
 use Rattle.rl_line.proofs.Records.MarkLemmas.{Kept-begun, Kept-ended, Kept-Redone, Kept-truncated}
-use Rattle.rl_line.proofs.Records.OriginLemmas.{Kept, Kept-Done, Kept-Undone}
+use Rattle.rl_line.proofs.Records.OriginLemmas.{Kept, Kept-Taken, Kept-Undone}
 use Rattle.rl_line.proofs.Records.RecordLemmas.{unwind-replay, replay-unwind, replay-IsUtf8, value_of}
 use Rattle.rl_session.specs.declared.session.Command.{Command}
 use Rattle.rl_session.specs.declared.session.Reply.{Reply}
@@ -21,8 +21,7 @@ KeepsOrigin old new = Kept old.pair.changes new.pair.changes old.line new.line
 
 Kept-Heard : (steps : List PlanStep) (old new : State) → IsUtf8 old.line.text → Heard steps old.line old.pair.changes new.line.text new.pair.changes → KeepsOrigin old new
 Kept-Heard steps old new u h =
-    let plan : Plan (Unit {0}) = record { steps = steps; cursor = h.last.cursor; answer = tt } in
-    let k = Kept-Done plan old.pair.changes new.pair.changes old.line h.last tt u (record { last = h.last; taken = h.taken; line = refl; answered = refl }) in
+    let k = Kept-Taken steps old.pair.changes new.pair.changes old.line h.last u h.taken in
     record { origin_is = λ start e. ap (unwind new.pair.changes.recorded) h.text_is ∙ k.origin_is start e; utf8 = subst IsUtf8 (sym h.text_is) k.utf8 }
 
 Kept-Became : (effect : Effect) (old new : State) → IsUtf8 old.line.text → Became effect old new → KeepsOrigin old new
