@@ -14,14 +14,20 @@ import sys
 from pathlib import Path
 
 TOP = Path(__file__).resolve().parent.parent
-# The enum that a function of the crate names otherwise, and its numbers, which are a bool there.
-ENUMS = {"dedents": "indent_direction"}
+# The enums that the crate or a client names otherwise, and the numbers of one, which are a bool in the crate.
+ENUMS = {"dedents": "indent_direction", "report_kind": "report"}
 DIRECTIONS = {"false": "INDENT", "true": "DEDENT"}
 
 
 def snake(name):
     """A name as the header writes it: BeforeEnd is BEFORE_END."""
     return re.sub(r"(?<!^)(?=[A-Z])", "_", name).upper()
+
+
+def enum_of(kind):
+    """The header's enum of a type: ReportKind is report."""
+    enum = snake(kind).lower()
+    return ENUMS.get(enum, enum)
 
 
 def name_of(value):
@@ -47,9 +53,11 @@ def numbers_of_header(header):
 
 
 def numbers_of_crate(source):
-    """The numbers of the crate: the constants of the answers, and what each of its functions makes of a number."""
+    """The numbers of the crate: the constants of the answers, and those that its functions take or answer."""
     answers = re.findall(r"^(?:pub\(crate\) )?const (\w+): u32 = (\d+);", source, re.M)
     found = [("answer", name, int(number)) for name, number in answers]
+    values = re.findall(r"^ +(\w+)(::\w+) => (\d+),$", source, re.M)
+    found += [(enum_of(kind), name_of(name), int(number)) for kind, name, number in values]
     searches = {}
     for name, body in re.findall(r"^pub\(crate\) fn (\w+)_of\(number: u32.*?^\{\n(.*?)^\}", source, re.M | re.S):
         for number, value in re.findall(r"^ +(\d+) => (.+),$", body, re.M):
@@ -58,7 +66,7 @@ def numbers_of_crate(source):
             shown = f"SEARCH_{searches[search[1]]}" if search else DIRECTIONS[flag[1]] if flag else name_of(value)
             if name == "search":
                 searches[number] = shown
-            found.append((ENUMS.get(name, name), shown, int(number)))
+            found.append((enum_of(name), shown, int(number)))
     return found
 
 
@@ -68,7 +76,7 @@ def numbers_of_python(source):
     for kind in ast.parse(source).body:
         if isinstance(kind, ast.ClassDef) and [ast.unparse(base) for base in kind.bases] == ["IntEnum"]:
             members = [it for it in kind.body if isinstance(it, ast.Assign)]
-            enum = snake(kind.name.lstrip("_")).lower()
+            enum = enum_of(kind.name.lstrip("_"))
             found += [(enum, it.targets[0].id, ast.literal_eval(it.value)) for it in members]
     return found
 

@@ -3,14 +3,18 @@
 
     python3 clients/terminal.py [PROGRAM]
 
-Tests too that docs/lodvarn.svg is what docs/picture.py makes. Its last line is 'N passed, M failed'.
+Tests too how many bytes the editor writes for a key, that it leaves nothing in the scrollback, that random keys lead to
+the screen that is drawn anew, and that docs/lodvarn.svg is what docs/picture.py makes. Its last line is 'N passed, M
+failed'.
 """
 
 import os
+import random
 import subprocess
 import sys
 import tempfile
 import time
+from contextlib import contextmanager
 from pathlib import Path
 
 HERE = Path(__file__).resolve().parent
@@ -21,7 +25,7 @@ COLUMNS, ROWS = 60, 20
 # a key.
 PATIENCE, PASTED, PAUSE = 10, 2, 0.5
 FAMILY = "\U0001f468\u200d\U0001f469\u200d\U0001f467"
-# What is sent is a text, bytes, a list of keys by tmux's names, or this.
+# What is sent is a text, bytes, a list of keys by tmux's names, a size for the terminal, or this.
 PAUSED = object()
 
 
@@ -32,12 +36,12 @@ def keys(names):
 class Terminal:
     """A terminal of its own, on a socket in a folder of its own, in which the editor runs."""
 
-    def __init__(self, program):
+    def __init__(self, program, columns=COLUMNS, rows=ROWS):
         self.folder = tempfile.TemporaryDirectory(prefix="lodvarn-")
         environment = {**os.environ, "LC_ALL": "C.UTF-8"}
         environment.pop("TMUX", None)
         self.environment = environment
-        size = ["-x", str(COLUMNS), "-y", str(ROWS)]
+        size = ["-x", str(columns), "-y", str(rows)]
         self.tmux("new-session", "-d", *size, "-s", "edit", f"'{program}'; echo ended $?; exec cat")
 
     def tmux(self, *words):
@@ -55,6 +59,8 @@ class Terminal:
     def send(self, given):
         if given is PAUSED:
             time.sleep(PAUSE)
+        elif isinstance(given, tuple):
+            self.tmux("resize-window", "-t", "edit", "-x", str(given[0]), "-y", str(given[1]))
         elif isinstance(given, bytes):
             self.tmux("send-keys", "-t", "edit", "-H", *(f"{byte:02x}" for byte in given))
         elif isinstance(given, list):
@@ -70,6 +76,28 @@ class Terminal:
         row, column = self.tmux("display", "-p", "-t", "edit", "#{cursor_y} #{cursor_x}").split()
         return rows, (int(row), int(column))
 
+    def scrollback(self):
+        """How many rows the terminal keeps above its screen."""
+        return int(self.tmux("display", "-p", "-t", "edit", "#{history_size}"))
+
+    def begin_count(self):
+        """From now on counts the bytes that the editor writes."""
+        self.written = Path(self.folder.name) / "written"
+        self.written.touch()
+        self.tmux("pipe-pane", "-t", "edit", f"exec cat >> '{self.written}'")
+
+    def size(self):
+        """The bytes that came so far."""
+        return self.written.stat().st_size
+
+    def count(self):
+        """The bytes that were written, once no more come."""
+        seen, now = None, self.size()
+        while seen != now:
+            time.sleep(PAUSE / 4)
+            seen, now = now, self.size()
+        return now
+
     def close(self):
         self.tmux("kill-server")
         self.folder.cleanup()
@@ -83,6 +111,17 @@ def await_that(look, is_wanted, patience=PATIENCE):
         if is_wanted(seen) or time.monotonic() > end:
             return seen
         time.sleep(0.02)
+
+
+@contextmanager
+def editing(program, columns=COLUMNS, rows=ROWS):
+    """A terminal in which the editor shows its prompt."""
+    terminal = Terminal(program, columns, rows)
+    try:
+        await_that(terminal.screen, lambda seen: seen == ([">"], (0, 2)))
+        yield terminal
+    finally:
+        terminal.close()
 
 
 # What is shown, what is sent, and the rows and the cursor that this leads to; rows that are None are not compared,
@@ -175,21 +214,137 @@ PASTES = [
     ),
 ]
 
+# The most bytes that it takes to move the cursor to a row and a column, to erase, and to begin a row after one that is
+# full or not. What changed is drawn from the cluster before it on.
+MOVED, ERASED, WRAP, NEWLINE, AGAIN = (len(said) for said in ("\x1b[19B\x1b[60G", "\x1b[K", "\r\n", "\x1b[K\r\n", "a"))
+# Lines of 40 letters and of 20, and a line of three full rows. The cursor is in the middle of the second row, and with
+# the short lines at its end.
+A, B, C, SHORT_B, SHORT_C = "> " + "a" * 40, "b" * 40, "c" * 40, "b" * 20, "c" * 20
+LINES = [A[2:], keys("M-Enter"), B, keys("M-Enter"), C, keys("Up"), keys("Left " * 20)]
+SHORT = [A[2:], keys("M-Enter"), SHORT_B, keys("M-Enter"), SHORT_C, keys("Up")]
+WRAPPED = ["a" * 58 + "b" * 60 + "c" * 60, keys("Left " * 90)]
+WRAPPED_A = "> " + "a" * 58
+
+# What is sent first, and the rows and the cursor that this leads to. Then, one after the other, what is counted, the
+# keys, how many bytes must be drawn for them, and the rows and the cursor.
+COUNTED = [
+    (LINES, [A, B, C], (1, 20), [
+        ("a letter amid three lines", "x", AGAIN + 21, [A, "b" * 20 + "x" + "b" * 20, C], (1, 21)),
+        ("its undo", keys("C-_"), AGAIN + 20, [A, B, C], (1, 20)),
+        ("a motion", keys("Left"), 0, [A, B, C], (1, 19)),
+        ("a motion to another row", keys("Up"), 0, [A, B, C], (0, 21)),
+        ("and back to the end of the row", keys("Down C-e"), 0, [A, B, C], (1, 40)),
+        ("a kill that leaves as many rows", keys("C-k"), AGAIN + 20 + WRAP + 20, [A, B + SHORT_C, SHORT_C], (1, 40)),
+    ]),
+    (WRAPPED, [WRAPPED_A, "b" * 60, "c" * 60], (1, 30), [
+        (
+            "a letter amid three rows",
+            "x",
+            AGAIN + 31 + WRAP + 60 + WRAP,
+            [WRAPPED_A, "b" * 30 + "x" + "b" * 29, "b" + "c" * 59, "c"],
+            (1, 31),
+        ),
+        (
+            "its undo, which leaves a row empty",
+            keys("C-_"),
+            AGAIN + 30 + WRAP + 60 + WRAP,
+            [WRAPPED_A, "b" * 60, "c" * 60],
+            (1, 30),
+        ),
+        ("a motion to the end", keys("C-e"), 0, [WRAPPED_A, "b" * 60, "c" * 60], (3, 0)),
+        ("a letter there", "x", AGAIN + WRAP + 1, [WRAPPED_A, "b" * 60, "c" * 60, "x"], (3, 1)),
+    ]),
+    (SHORT, [A, SHORT_B, SHORT_C], (1, 20), [
+        ("a newline is killed", keys("C-k"), AGAIN + 20, [A, SHORT_B + SHORT_C], (1, 20)),
+        ("and yanked", keys("C-y"), AGAIN + NEWLINE + 20, [A, SHORT_B, SHORT_C], (2, 0)),
+        ("the row before it", keys("Up"), 0, [A, SHORT_B, SHORT_C], (1, 0)),
+        ("is emptied", keys("C-k"), NEWLINE, [A, "", SHORT_C], (1, 0)),
+        ("and killed", keys("C-k"), NEWLINE + 20, [A, SHORT_C], (1, 0)),
+    ]),
+]
+
+# Screens that are drawn anew.
+CASES += [
+    ("a text that outgrows the screen", ["e" * 1300, keys("C-a")], ["> " + "e" * 58] + ["e" * 60] * 19, (0, 2)),
+    ("a text of one letter more than the screen", ["e" * 1198, "f"], ["e" * 60] * 19 + ["f"], (19, 1)),
+    ("a text that shrinks to a row", ["e" * 1300, keys("C-u"), "x"], ["> x"], (0, 3)),
+    ("a cleared screen", [*LINES, keys("C-l")], [A, B, C], (1, 20)),
+    (
+        "a wider terminal",
+        [*WRAPPED, (80, ROWS), PAUSED, "x"],
+        [WRAPPED_A + "b" * 20, "b" * 10 + "x" + "b" * 30 + "c" * 39, "c" * 21],
+        (1, 11),
+    ),
+    ("a narrower one", [*LINES, (50, ROWS), PAUSED, "x"], [A, "b" * 20 + "x" + "b" * 20, C], (1, 21)),
+    ("a lower one", ["ab", (COLUMNS, 2), PAUSED, "x"], ["> abx"], (0, 5)),
+]
+# Random keys: how many times, how many each time, which, and a small screen for them, so that rows wrap and scroll.
+TIMES, KEYS, SEED, SMALL = 30, 8, 7, (24, 6)
+RANDOM = [
+    *("a", "b c", " ", "é", "日", "日本", "word", "x" * 25, "one two/three " * 5),
+    *map(keys, ["M-Enter", "M-Enter", "C-y", "C-y", "C-y M-y", "C-_", "C-_ C-_", "M-_", "C-k", "C-k", "C-u", "C-w"]),
+    *map(keys, ["M-d", "DC", "BSpace", "C-t", "M-t", "M-u", "M-c", "C-a", "C-e", "M-b", "M-f", "Left", "Right"]),
+    *map(keys, ["Up", "Up", "Down", "M-<", "M->"]),
+]
+
 
 def run_case(program, what, given, rows, cursor, patience=PATIENCE):
-    """Whether the keys lead to that screen in time."""
-    terminal = Terminal(program)
-    try:
-        await_that(terminal.screen, lambda seen: seen == ([">"], (0, 2)))
+    """Whether the keys lead to that screen in time, with nothing above it."""
+    with editing(program) as terminal:
         for one in [*given, *([] if rows else [PAUSED])]:
             terminal.send(one)
         seen = await_that(terminal.screen, lambda seen: (rows or seen[0], cursor) == seen, patience)
-        if (rows or seen[0], cursor) == seen:
+        above = terminal.scrollback()
+        if (rows or seen[0], cursor) == seen and above == 0:
             return True
-        print(f"FAILED: {what}\n  wanted {rows} {cursor}\n  saw {seen[0]} {seen[1]}")
+        print(f"FAILED: {what}, {above} rows above the screen\n  wanted {rows} {cursor}\n  saw {seen}")
         return False
-    finally:
-        terminal.close()
+
+
+def run_counted(program, given, rows, cursor, keys_counted):
+    """Whether the editor writes what must be drawn, erased and moved for each key, and nothing more."""
+    outcomes = []
+    with editing(program) as terminal:
+        terminal.begin_count()
+        for one in given:
+            terminal.send(one)
+        await_that(terminal.screen, lambda seen: seen == (rows, cursor))
+        for what, key, drawn, rows, cursor in keys_counted:
+            before, most = terminal.count(), drawn + ERASED + 2 * MOVED
+            terminal.send(key)
+            seen = await_that(terminal.screen, lambda seen: seen == (rows, cursor))
+            await_that(terminal.size, lambda size: size > before + drawn)
+            written, above = terminal.count() - before, terminal.scrollback()
+            outcomes.append(seen == (rows, cursor) and drawn < written <= most and above == 0)
+            if not outcomes[-1]:
+                print(f"FAILED: {what}, {written} bytes of {most}, {above} rows above the screen")
+                print(f"  wanted {rows} {cursor}\n  saw {seen}")
+    return outcomes
+
+
+def run_random(program, seed=SEED):
+    """Whether random keys, drawn one by one, lead to the screen that C-l draws. Each time a number is typed at the end,
+    which shows that all keys came."""
+    chance = random.Random(seed)
+    with editing(program, *SMALL) as by_steps, editing(program, *SMALL) as anew:
+        for number in range(TIMES):
+            given = [*chance.choices(RANDOM, k=KEYS), f"{number:03}"]
+            for one in given:
+                by_steps.send(one)
+                anew.send(one)
+
+            def came(seen):
+                return given[-1] in "".join(seen[0])
+
+            await_that(anew.screen, came)
+            anew.send(keys("C-l"))
+            seen, wanted = await_that(
+                lambda: (by_steps.screen(), anew.screen()), lambda both: both[0] == both[1] and came(both[0])
+            )
+            if seen != wanted or not came(seen) or by_steps.scrollback() > 0:
+                print(f"FAILED: random keys, {given}\n  drawn anew {wanted}\n  by steps {seen}")
+                return False
+    return True
 
 
 def run_picture(program):
@@ -205,6 +360,8 @@ def main():
     program = Path(sys.argv[1]).resolve() if len(sys.argv) > 1 else PROGRAM
     outcomes = [run_case(program, *case) for case in CASES]
     outcomes += [run_case(program, *case, PASTED) for case in PASTES]
+    outcomes += [outcome for case in COUNTED for outcome in run_counted(program, *case)]
+    outcomes.append(run_random(program))
     outcomes.append(run_picture(program))
     print(f"{outcomes.count(True)} passed, {outcomes.count(False)} failed")
     return 0 if all(outcomes) else 1

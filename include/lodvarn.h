@@ -14,7 +14,8 @@
  *   LODVARN_CLOSED, or 0 where it answers a size_t.
  * - A text is a pointer to bytes and their number (text and len, script and len). A buffer is a pointer to bytes that
  *   may be written, and their number (out and cap). Either pointer may be NULL where its number is 0, and only there.
- * - A pointer to a number (out_len, mark, line, column, columns, start, end, row) is never NULL.
+ * - A pointer to a number (out_len, mark, line, column, columns, start, end, row, from, old_end, new_end, kind, at,
+ *   old_len, new_len, pos_before, pos_after) is never NULL.
  * - What a call writes to overlaps nothing else that is passed to it.
  * - One thread at a time is in a call on a session. No call is made from a signal handler, nor in the forked child of
  *   a process with threads.
@@ -45,6 +46,12 @@
  *
  * A call writes through out and through a pointer to a number only with the answer that its comment names for that.
  * But TOO_SMALL writes the length that is needed, and lodvarn_text and lodvarn_script write in any case.
+ *
+ * What changed
+ * A session tells what changes its text, whatever changed it: also an undo, a redo, and a command that was refused
+ * halfway. Whoever applies the reports in order to the text that he had, has the text of the session. lodvarn_changed
+ * tells all that changed since it was asked last, as one change; it is always there, and takes no memory. lodvarn_watch
+ * asks for a queue, from which lodvarn_next_report hands out each change.
  *
  * docs/RULES.md says exactly what each call does. */
 #ifndef LODVARN_H
@@ -299,6 +306,42 @@ uint32_t lodvarn_truncate(lodvarn **s, size_t entries);
  * from the start of that line to the cursor, at most 65535. This is a command: a kill after it begins a new text of
  * the ring. */
 uint32_t lodvarn_line_place(lodvarn **s, size_t *line, uint16_t *column);
+
+/* A report of a change: what its kind is of. Its place is at; old_len bytes went there, and new_len bytes came. */
+enum lodvarn_report {
+    LODVARN_CHAR_INSERTED = 1,    /* a character was put in */
+    LODVARN_TEXT_INSERTED = 2,    /* a text was put in */
+    LODVARN_DELETED_FORWARD = 3,  /* a text was taken out, from the cursor on */
+    LODVARN_DELETED_BACKWARD = 4, /* a text was taken out, up to the cursor */
+    LODVARN_REPLACED = 5,         /* a text gave way to another; so does each change of an undo and of a redo */
+    LODVARN_KILL_STARTED = 6,     /* the deletions up to the next report of the kind KILL_STOPPED are a kill */
+    LODVARN_KILL_STOPPED = 7,     /* the kill has ended. Neither of these two is of a change: their numbers are 0 */
+    LODVARN_FOLDED = 8            /* all that waited and all that came since, as one change, without its texts: what
+                                     came stands in the present text. Its lengths are 0 where only kills began and
+                                     ended */
+};
+
+/* Tells all that changed in the text since this was asked last, or since the session was opened: what stood between
+ * the places from and old_end in the text as it was then gave way to what stands between from and new_end now. Answers
+ * DONE with the three places in *from, *old_end and *new_end, NONE where nothing changed. A kill after it still goes on
+ * from the kill before it. */
+uint32_t lodvarn_changed(lodvarn **s, size_t *from, size_t *old_end, size_t *new_end);
+
+/* Keeps a report of each change from now on, in a queue with room for that many reports and for text_bytes bytes of
+ * their texts. Where text_bytes is 0, reports have no texts. All room is found here, so nothing else is ever refused
+ * because of it: where a report or its texts find no room, all that waits and the new one become one report, of the
+ * kind FOLDED, which takes in each later change until it is read. Answers DONE, or FALSE where the session has a queue
+ * already. Errors: NO_SUCH_NUMBER where reports is 0, NO_MEMORY. */
+uint32_t lodvarn_watch(lodvarn **s, size_t reports, size_t text_bytes);
+
+/* Hands out the oldest report that waits, and forgets it. Answers DONE with its enum lodvarn_report in *kind, its place
+ * in *at, the bytes that went and that came in *old_len and *new_len, the places of the cursor before and after in
+ * *pos_before and *pos_after, and, where texts are kept, what went and right after it what came in out, a buffer of
+ * cap bytes. A report that is FOLDED has no texts. What puts in an empty text is reported too, with lengths of 0.
+ * Answers NONE where no report waits. Errors: TOO_SMALL with all numbers where the old_len + new_len bytes of its texts
+ * do not fit: the report is kept. A kill after it still goes on from the kill before it. */
+uint32_t lodvarn_next_report(lodvarn **s, uint32_t *kind, size_t *at, size_t *old_len, size_t *new_len,
+                             size_t *pos_before, size_t *pos_after, char *out, size_t cap);
 
 /* The reads. They change nothing, and a kill after one still goes on from the kill before it. */
 

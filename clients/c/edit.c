@@ -38,8 +38,8 @@ static const char *text(size_t *len) {
     static char *bytes;
     static size_t size;
     *len = lodvarn_text(&s, bytes, size);
-    if (*len > size) {
-        size = 2 * *len;
+    if (*len >= size) {
+        size = 2 * *len + 64;
         free(bytes);
         bytes = malloc(size);
         if (!bytes) exit(1);
@@ -48,8 +48,24 @@ static const char *text(size_t *len) {
     return bytes;
 }
 
-/* The screen. Each frame is drawn over the last one. Only the row of its cursor is known. */
-static size_t shown_row;
+/* The screen. Prompt and text make rows, as lodvarn_cell counts them, up to the row last. Those from top to bottom are
+ * shown on a screen of that size. */
+struct view {
+    size_t top, bottom, last;
+    uint16_t columns, height;
+};
+
+/* A place of the text and where it stands. */
+struct spot { size_t place, row, column; };
+
+/* What is shown, of no height where that is nothing yet, and the row of the terminal's cursor. */
+static struct view shown;
+static size_t cursor_row;
+
+static void forget_screen(void) {
+    shown = (struct view){0, 0, 0, 0, 0};
+    cursor_row = 0;
+}
 
 /* The length of the first cluster. An ASCII character before another one is a cluster. Otherwise the call gets a
  * short piece of the text, and a longer one where the cluster fills it, since it reads the whole piece. */
@@ -64,51 +80,102 @@ static size_t cluster(const char *bytes, size_t len) {
     return first;
 }
 
-/* The rows that fit on the screen. */
-struct view { size_t top, bottom; };
-
-static void begin_row(size_t row, struct view view) {
-    if (view.top < row && row <= view.bottom) fputs("\r\n", stdout);
-}
-
-/* Draws the prompt and the text. Rows and columns are those of lodvarn_cell. The cursor is placed after each cluster
- * of several bytes, since the terminal may measure it differently. */
-static void draw(const char *bytes, size_t len, uint16_t columns, struct view view) {
-    size_t row = 0;
-    unsigned column = prompt_columns;
-    if (view.top == 0) fputs(prompt, stdout);
-    for (size_t k; len > 0; bytes += k, len -= k) {
-        uint16_t width = 0;
-        k = cluster(bytes, len);
-        if (*bytes != '\n') lodvarn_width(bytes, k, LODVARN_UNICODE, &width);
-        if (*bytes == '\n' || column + width > columns) {
-            column = 0;
-            begin_row(++row, view);
-        }
-        column += width;
-        if (*bytes == '\n' || row < view.top || view.bottom < row) continue;
-        fwrite(bytes, 1, k, stdout);
-        if (k > 1 && column < columns) printf("\x1b[%uG", column + 1);
-    }
-    if (column >= columns) begin_row(++row, view);
-}
-
-static void redraw(void) {
-    struct winsize size;
-    if (ioctl(1, TIOCGWINSZ, &size) || !size.ws_col || !size.ws_row) size = (struct winsize){24, 80, 0, 0};
-    size_t len, row = 0, column = 0, last_row = 0, last_column = 0;
-    const char *bytes = text(&len);
-    lodvarn_cell(bytes, len, lodvarn_pos(&s), prompt_columns, size.ws_col, LODVARN_UNICODE, &row, &column);
-    lodvarn_cell(bytes, len, len, prompt_columns, size.ws_col, LODVARN_UNICODE, &last_row, &last_column);
-    struct view view = {row < size.ws_row ? 0 : row - size.ws_row + 1, last_row};
-    if (last_row - view.top >= size.ws_row) view.bottom = view.top + size.ws_row - 1;
-    if (shown_row) printf("\x1b[%zuA", shown_row);
-    fputs("\r\x1b[J", stdout);
-    draw(bytes, len, size.ws_col, view);
-    if (view.bottom > row) printf("\x1b[%zuA", view.bottom - row);
+/* Moves the terminal's cursor to a cell. Only relative moves lead to its row, since what was there before the editor
+ * began stands above. */
+static void go_to(size_t row, size_t column) {
+    if (row < cursor_row) printf("\x1b[%zuA", cursor_row - row);
+    if (row > cursor_row) printf("\x1b[%zuB", row - cursor_row);
     printf("\x1b[%zuG", column + 1);
+    cursor_row = row;
+}
+
+/* Begins the next row. Before that it erases what is left of the last one, where that is not full. */
+static void begin_row(struct spot *at, const struct view *view) {
+    int was_shown = view->top <= at->row && at->row <= view->bottom;
+    if (was_shown && at->column < view->columns) fputs("\x1b[K", stdout);
+    if (was_shown && at->row < view->bottom) {
+        fputs("\r\n", stdout);
+        cursor_row = at->row + 1;
+    }
+    at->row++;
+    at->column = 0;
+}
+
+/* Draws a cluster, or begins the row after a newline. The cursor is placed after a cluster of several bytes, since the
+ * terminal may measure it differently. */
+static void draw_cluster(const char *bytes, size_t len, struct spot *at, const struct view *view) {
+    uint16_t width = 0;
+    if (*bytes != '\n') lodvarn_width(bytes, len, LODVARN_UNICODE, &width);
+    if (*bytes == '\n' || at->column + width > view->columns) begin_row(at, view);
+    at->column += width;
+    if (*bytes == '\n' || at->row < view->top || view->bottom < at->row) return;
+    fwrite(bytes, 1, len, stdout);
+    if (len > 1 && at->column < view->columns) printf("\x1b[%zuG", at->column + 1);
+}
+
+/* Draws the text from a spot up to a place, and erases what is left of the row there, or of all at the text's end. */
+static void draw(const char *bytes, size_t len, struct spot at, size_t end, const struct view *view) {
+    if (view->bottom < at.row) return;
+    if (at.row < view->top) go_to(view->top, 0);
+    else go_to(at.row, at.column);
+    if (at.place == 0) {
+        if (view->top == 0) fputs(prompt, stdout);
+        at.column = prompt_columns;
+    }
+    for (size_t k; at.place < end; at.place += k) {
+        k = cluster(bytes + at.place, end - at.place);
+        draw_cluster(bytes + at.place, k, &at, view);
+    }
+    if (end == len && at.column >= view->columns) begin_row(&at, view);
+    if (at.row < view->top || view->bottom < at.row || at.column >= view->columns) return;
+    /* What is erased from the screen's first cell on would go into the scrollback of some terminals. */
+    int takes_below = end == len && (at.row > view->top || at.column > 0);
+    fputs(takes_below ? "\x1b[J" : "\x1b[K", stdout);
+}
+
+/* Where to begin if the text has changed from a place on: a cluster before, since what comes may join that one, and not
+ * at the left edge of a row that is wrapped, since what comes may fit in the row above. */
+static struct spot spot_before(const char *bytes, size_t place, uint16_t columns) {
+    size_t row = 0, column = 0;
+    do {
+        size_t k = 0;
+        lodvarn_last_cluster(bytes, place, &k);
+        place -= k;
+        if (place == 0) return (struct spot){0, 0, 0};
+        lodvarn_cell(bytes, place, place, prompt_columns, columns, LODVARN_UNICODE, &row, &column);
+    } while (column == 0 && bytes[place - 1] != '\n');
+    return (struct spot){place, row, column};
+}
+
+/* What of the text should be shown, and the cell of the cursor. */
+static struct view view_of(const char *bytes, size_t len, size_t *row, size_t *column) {
+    struct winsize size;
+    size_t last = 0, unused;
+    if (ioctl(1, TIOCGWINSZ, &size) || !size.ws_col || !size.ws_row) size = (struct winsize){24, 80, 0, 0};
+    lodvarn_cell(bytes, len, lodvarn_pos(&s), prompt_columns, size.ws_col, LODVARN_UNICODE, row, column);
+    lodvarn_cell(bytes, len, len, prompt_columns, size.ws_col, LODVARN_UNICODE, &last, &unused);
+    size_t top = *row < size.ws_row ? 0 : *row - size.ws_row + 1;
+    size_t bottom = last - top < size.ws_row ? last : top + size.ws_row - 1;
+    return (struct view){top, bottom, last, size.ws_col, size.ws_row};
+}
+
+/* Draws all where other rows are shown than before. Else it draws from the first change on: to the end, or where there
+ * are as many rows as before, to the end of the line in which the last change ends. */
+static void redraw(void) {
+    size_t len, row = 0, column = 0, from, old_end, new_end;
+    const char *bytes = text(&len), *newline = NULL;
+    struct view view = view_of(bytes, len, &row, &column);
+    int has_changed = lodvarn_changed(&s, &from, &old_end, &new_end) == LODVARN_DONE;
+    if (view.top != shown.top || view.columns != shown.columns || view.height != shown.height) {
+        cursor_row = cursor_row - shown.top + view.top;
+        draw(bytes, len, (struct spot){0, 0, 0}, len, &view);
+    } else if (has_changed) {
+        if (view.last == shown.last) newline = memchr(bytes + new_end, '\n', len - new_end);
+        draw(bytes, len, spot_before(bytes, from, view.columns), newline ? (size_t)(newline - bytes) : len, &view);
+    }
+    go_to(row, column);
     fflush(stdout);
-    shown_row = row - view.top;
+    shown = view;
 }
 
 /* What keys do. The number comes from the table of keys. */
@@ -153,8 +220,8 @@ static void undo(uint32_t again) {
 
 static void clear_screen(uint32_t unused) {
     (void)unused;
-    fputs("\x1b[H\x1b[2J", stdout);
-    shown_row = 0;
+    fputs("\x1b[H", stdout);
+    forget_screen();
 }
 
 /* Prints the text and begins the next one. The session stays, and so does the kill ring. The record is emptied, so that
@@ -167,7 +234,7 @@ static void accept_text(uint32_t unused) {
     const char *bytes = text(&len);
     printf("\n=> %.*s\n", (int)len, bytes);
     if (lodvarn_update(&s, "", 0, 0) != LODVARN_DONE || lodvarn_truncate(&s, 0) != LODVARN_DONE) exit(1);
-    shown_row = 0;
+    forget_screen();
 }
 
 /* The keys, readline's name for what each does, the function and its number. The last four names are of this editor. */

@@ -1,21 +1,10 @@
 /* random SEED LINES SCRIPT ANSWERS: makes a script of random lines, runs each by the typed calls, and writes the
  * script, and what the calls answered in the form in which a script prints it. */
+#include "chance.h"
 #include "typed.h"
 #include <stdarg.h>
 #include <stdlib.h>
 #include <string.h>
-
-static uint64_t chance;
-
-/* A number below n (xorshift). */
-static unsigned below(unsigned n) {
-    chance ^= chance << 13;
-    chance ^= chance >> 7;
-    chance ^= chance << 17;
-    return (unsigned)(chance >> 33) % n;
-}
-
-#define ONE_OF(table) ((table)[below(sizeof(table) / sizeof *(table))])
 
 static char line[1024];
 
@@ -142,7 +131,7 @@ static void make_line(struct typed *t) {
 
 int main(int argc, char **argv) {
     if (argc != 5) { fputs("random SEED LINES SCRIPT ANSWERS\n", stderr); return 2; }
-    chance = strtoull(argv[1], NULL, 10) * 2654435761u + 88172645463325252u;
+    begin_chance(strtoull(argv[1], NULL, 10));
     long lines = strtol(argv[2], NULL, 10), disagree = 0;
     FILE *script = fopen(argv[3], "w"), *answers = fopen(argv[4], "w");
     if (!script || !answers) { perror("fopen"); return 2; }

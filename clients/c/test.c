@@ -338,14 +338,16 @@ static void numbers_mean_what_they_say(void) {
 /* Bad input. The session, and what the calls write to. */
 static lodvarn *s;
 static char out[8];
-static size_t number, other;
+static size_t number, other, places[5];
 static uint16_t columns;
+static uint32_t kind;
 
 /* All that a refused call leaves, except what the ring did last. */
 struct state {
     char text[64], out[8];
-    size_t len, pos, entries, limit, number, other;
+    size_t len, pos, entries, limit, number, other, places[5];
     uint16_t columns;
+    uint32_t kind;
 };
 
 static struct state state(void) {
@@ -358,14 +360,17 @@ static struct state state(void) {
     now.limit = lodvarn_limit(&s);
     now.number = number;
     now.other = other;
+    memcpy(now.places, places, sizeof places);
     now.columns = columns;
+    now.kind = kind;
     return now;
 }
 
 static int same(const struct state *a, const struct state *b) {
     return !memcmp(a->text, b->text, sizeof a->text) && !memcmp(a->out, b->out, sizeof a->out) && a->len == b->len
         && a->pos == b->pos && a->entries == b->entries && a->limit == b->limit && a->number == b->number
-        && a->other == b->other && a->columns == b->columns;
+        && a->other == b->other && !memcmp(a->places, b->places, sizeof a->places) && a->columns == b->columns
+        && a->kind == b->kind;
 }
 
 /* The call answers that, and leaves session and numbers as they were. An error from LODVARN_CLOSED on also leaves
@@ -379,11 +384,17 @@ static int same(const struct state *a, const struct state *b) {
         see(#call " answers " #wanted " and leaves all", answer == (wanted) && same(&before, &after) && kept); \
     } while (0)
 
+/* The next report, its numbers in kind and places. */
+#define NEXT_REPORT(to, cap) \
+    lodvarn_next_report(&s, &kind, &places[0], &places[1], &places[2], &places[3], &places[4], to, cap)
+
 /* "aé\nb" with "é\nb" yanked last, an entry for the kill and one for the yank. */
 static void begin_bad_input(void) {
     memset(out, '#', sizeof out);
     number = other = 77;
+    for (size_t i = 0; i < 5; i++) places[i] = 77;
     columns = 77;
+    kind = 77;
     lodvarn_close(&s);
     s = opened("aé\nb", 1, 64);
     lodvarn_kill(&s, LODVARN_END_OF_BUFFER, 1, 0);
@@ -425,6 +436,9 @@ static void nothing_is_open(void) {
     LEAVES(LODVARN_CLOSED, lodvarn_redo(&s));
     LEAVES(LODVARN_CLOSED, lodvarn_truncate(&s, 0));
     LEAVES(LODVARN_CLOSED, lodvarn_line_place(&s, &number, &columns));
+    LEAVES(LODVARN_CLOSED, lodvarn_changed(&s, &places[0], &places[1], &places[2]));
+    LEAVES(LODVARN_CLOSED, lodvarn_watch(&s, 1, 1));
+    LEAVES(LODVARN_CLOSED, NEXT_REPORT(out, sizeof out));
     LEAVES(LODVARN_CLOSED, lodvarn_line_range(&s, 0, &number, &other));
     LEAVES(LODVARN_CLOSED, lodvarn_last_was_yank(&s));
     see("the reads of a closed session are 0", !lodvarn_text(&s, out, sizeof out) && !lodvarn_pos(&s)
@@ -622,6 +636,221 @@ static void great_input_is_met(void) {
     see("prints all that it should", same);
 }
 
+/* Whether that is all that changed since it was asked last. */
+static int changed_is(size_t from, size_t old_end, size_t new_end) {
+    size_t first = 77, old = 77, new = 77;
+    return lodvarn_changed(&s, &first, &old, &new) == LODVARN_DONE && first == from && old == old_end && new == new_end;
+}
+
+/* Opens the session of the tests below anew, with a queue of so many reports. */
+static void open_watched(const char *text, size_t pos, size_t reports, size_t text_bytes) {
+    lodvarn_close(&s);
+    s = opened(text, pos, 64);
+    if (reports && lodvarn_watch(&s, reports, text_bytes) != LODVARN_DONE) exit(2);
+}
+
+#define NOTHING_CHANGED() LEAVES(LODVARN_NONE, lodvarn_changed(&s, &places[0], &places[1], &places[2]))
+
+static void what_changed_is_told(void) {
+    open_watched("one two", 7, 0, 0);
+    NOTHING_CHANGED();
+    lodvarn_set_pos(&s, 3);
+    NOTHING_CHANGED();
+    lodvarn_insert(&s, 'x', 1);
+    see("an insertion", stands(&s, "onex two", 4) && changed_is(3, 3, 4));
+    NOTHING_CHANGED();
+    lodvarn_delete_range(&s, 1, 3);
+    see("a deletion in the middle", stands(&s, "ox two", 1) && changed_is(1, 3, 1));
+    lodvarn_insert(&s, 'a', 1);
+    lodvarn_move(&s, LODVARN_END_OF_LINE, 1, 0);
+    lodvarn_paste(&s, "é", 2, 1);
+    see("two changes apart are one", stands(&s, "oax twoé", 9) && changed_is(1, 6, 9));
+    lodvarn_undo(&s, 1);
+    see("an undo", stands(&s, "oax two", 7) && changed_is(7, 9, 7));
+    lodvarn_redo(&s);
+    see("a redo", stands(&s, "oax twoé", 9) && changed_is(7, 7, 9));
+    lodvarn_replace(&s, 0, 3, "1\n2", 3);
+    see("a text in the place of another", stands(&s, "1\n2 twoé", 3) && changed_is(0, 3, 3));
+    lodvarn_undo(&s, UINT16_MAX);
+    see("an undo of all", stands(&s, "one two", 3) && changed_is(0, 9, 7));
+    LEAVES(LODVARN_BAD_PLACE, lodvarn_delete_range(&s, 0, 8));
+    LEAVES(LODVARN_NONE, lodvarn_insert(&s, 'x', 58));
+    NOTHING_CHANGED();
+    lodvarn_update(&s, "", 0, 0);
+    see("an update to no text", changed_is(0, 7, 0));
+    open_watched("ab", 2, 0, 0);
+    NOTHING_CHANGED();
+}
+
+static void asking_what_changed_parts_nothing(void) {
+    open_watched("one two", 7, 8, 64);
+    lodvarn_kill(&s, LODVARN_BACKWARD_EMACS_WORD, 1, 0);
+    see("a kill changed the text", changed_is(4, 7, 4));
+    lodvarn_kill(&s, LODVARN_BACKWARD_EMACS_WORD, 1, 0);
+    see("and so did the next", changed_is(0, 4, 0));
+    see("they are one text", lodvarn_yank(&s, 1) == LODVARN_TRUE && stands(&s, "one two", 7));
+    NEXT_REPORT(out, sizeof out);
+    see("what changed was yanked", changed_is(0, 0, 7) && lodvarn_last_was_yank(&s) == LODVARN_TRUE);
+    open_watched("one two", 7, 8, 64);
+    lodvarn_kill(&s, LODVARN_BACKWARD_EMACS_WORD, 1, 0);
+    while (NEXT_REPORT(out, sizeof out) == LODVARN_DONE) {}
+    lodvarn_kill(&s, LODVARN_BACKWARD_EMACS_WORD, 1, 0);
+    see("reports part no kills", lodvarn_yank(&s, 1) == LODVARN_TRUE && stands(&s, "one two", 7));
+}
+
+static void a_queue_is_asked_for(void) {
+    begin_bad_input();
+    LEAVES(LODVARN_NONE, NEXT_REPORT(out, sizeof out));
+    LEAVES(LODVARN_NO_SUCH_NUMBER, lodvarn_watch(&s, 0, 0));
+    LEAVES(LODVARN_NO_SUCH_NUMBER, lodvarn_watch(&s, 0, 64));
+    LEAVES(LODVARN_NO_MEMORY, lodvarn_watch(&s, SIZE_MAX, 0));
+    LEAVES(LODVARN_NO_MEMORY, lodvarn_watch(&s, 1, SIZE_MAX));
+    LEAVES(LODVARN_NO_MEMORY, lodvarn_watch(&s, SIZE_MAX, SIZE_MAX));
+    lodvarn_insert(&s, 'a', 1);
+    LEAVES(LODVARN_NONE, NEXT_REPORT(out, sizeof out));
+    LEAVES(LODVARN_DONE, lodvarn_watch(&s, 1, 1));
+    LEAVES(LODVARN_FALSE, lodvarn_watch(&s, 1, 1));
+    LEAVES(LODVARN_FALSE, lodvarn_watch(&s, 1000, 0));
+    LEAVES(LODVARN_NONE, NEXT_REPORT(out, sizeof out));
+}
+
+/* All reports that wait, with what was written to the buffer, each as a line. */
+static void print_reports(lodvarn **s, FILE *to) {
+    static const char *const names[] = {
+        "?", "CHAR_INSERTED", "TEXT_INSERTED", "DELETED_FORWARD", "DELETED_BACKWARD", "REPLACED", "KILL_STARTED",
+        "KILL_STOPPED", "FOLDED",
+    };
+    uint32_t kind;
+    size_t at, old_len, new_len, before, after;
+    char texts[64] = "";
+    while (lodvarn_next_report(s, &kind, &at, &old_len, &new_len, &before, &after, texts, 63) == LODVARN_DONE) {
+        const char *name = names[kind <= LODVARN_FOLDED ? kind : 0];
+        fprintf(to, "%s %zu %zu %zu %zu %zu %s\n", name, at, old_len, new_len, before, after, texts);
+        memset(texts, 0, sizeof texts);
+    }
+}
+
+/* The reports of a line: those lines come before the queue, which has room for so much. The text is "one two", with the
+ * cursor at its end. */
+static const struct reported {
+    const char *before[3], *line;
+    size_t reports, text_bytes;
+    const char *wanted;
+} reported[] = {
+    {{0}, "ins 1 x", 8, 64, "CHAR_INSERTED 7 0 1 7 8 x\n"},
+    {{"pos 3"}, "ins 1 é", 8, 64, "CHAR_INSERTED 3 0 2 3 5 é\n"},
+    {{0}, "paste 2 ab", 8, 64, "TEXT_INSERTED 7 0 4 7 11 abab\n"},
+    {{"pos 4"}, "str 0 é", 8, 64, "TEXT_INSERTED 0 0 2 4 4 é\n"},
+    {{"pos 3"}, "del 2", 8, 64, "DELETED_FORWARD 3 2 0 3 3  t\n"},
+    {{0}, "back 2", 8, 64, "DELETED_BACKWARD 5 2 0 7 5 wo\n"},
+    {{"pos 3"}, "killline", 8, 64, "DELETED_FORWARD 3 4 0 3 3  two\n"},
+    {{0}, "rep 0 3 1é", 8, 64, "REPLACED 0 3 3 7 3 one1é\n"},
+    {{0}, "kill bword 1 emacs", 8, 64,
+     "KILL_STARTED 0 0 0 0 0 \nDELETED_BACKWARD 4 3 0 7 4 two\nKILL_STOPPED 0 0 0 0 0 \n"},
+    {{"pos 4"}, "kill eol", 8, 64, "KILL_STARTED 0 0 0 0 0 \nDELETED_FORWARD 4 3 0 4 4 two\nKILL_STOPPED 0 0 0 0 0 \n"},
+    {{"kill bword 1 emacs"}, "yank 1", 8, 64, "TEXT_INSERTED 4 0 3 4 7 two\n"},
+    {{"pos 3", "ins 1 é"}, "undo 1", 8, 64, "REPLACED 3 2 0 5 3 é\n"},
+    {{"pos 3", "ins 1 é", "undo 1"}, "redo", 8, 64, "REPLACED 3 0 2 3 5 é\n"},
+    {{"back 1", "pos 2"}, "undo 1", 8, 64, "REPLACED 6 0 1 2 7 o\n"},
+    {{"pos 3", "ins 1 x", "rep 0 1 O"}, "undo 2", 8, 64, "REPLACED 0 1 1 1 4 Oo\nREPLACED 3 1 0 4 3 x\n"},
+    {{0}, "move home", 8, 64, ""},
+    {{0}, "kill eol", 8, 0, "KILL_STARTED 0 0 0 0 0 \nKILL_STOPPED 0 0 0 0 0 \n"},
+    {{0}, "rep 0 3 1é", 8, 0, "REPLACED 0 3 3 7 3 \n"},
+    {{0}, "rep 0 3 1é", 8, 6, "REPLACED 0 3 3 7 3 one1é\n"},
+    {{0}, "rep 0 3 1é", 8, 5, "FOLDED 0 3 3 7 3 \n"},
+    {{0}, "kill bword 1 emacs", 3, 0,
+     "KILL_STARTED 0 0 0 0 0 \nDELETED_BACKWARD 4 3 0 7 4 \nKILL_STOPPED 0 0 0 0 0 \n"},
+    {{0}, "kill bword 1 emacs", 2, 0, "FOLDED 4 3 0 7 4 \n"},
+    {{0}, "kill bword 1 emacs", 1, 64, "FOLDED 4 3 0 7 4 \n"},
+};
+
+static void changes_are_reported(void) {
+    for (size_t i = 0; i < sizeof reported / sizeof *reported; i++) {
+        const struct reported *row = &reported[i];
+        char printed[256] = "";
+        FILE *to = fmemopen(printed, sizeof printed, "w"), *none = fopen("/dev/null", "w");
+        struct typed t;
+        if (!to || !none) exit(2);
+        typed_begin(&t);
+        typed_line(&t, "text one two", none);
+        for (size_t k = 0; k < 3 && row->before[k]; k++) typed_line(&t, row->before[k], none);
+        see("a queue", lodvarn_watch(&t.s, row->reports, row->text_bytes) == LODVARN_DONE);
+        typed_line(&t, row->line, none);
+        print_reports(&t.s, to);
+        fclose(to);
+        fclose(none);
+        lodvarn_close(&t.s);
+        see(row->line, !strcmp(printed, row->wanted));
+        if (strcmp(printed, row->wanted)) printf("  wanted\n%s  but got\n%s", row->wanted, printed);
+    }
+}
+
+/* Whether the numbers that were written are those. */
+static int report_is(uint32_t wanted, size_t at, size_t old_len, size_t new_len, size_t before, size_t after) {
+    return kind == wanted && places[0] == at && places[1] == old_len && places[2] == new_len && places[3] == before
+        && places[4] == after;
+}
+
+static void a_report_waits_for_a_buffer_that_is_large_enough(void) {
+    open_watched("one two", 7, 2, 64);
+    memset(out, '#', sizeof out);
+    lodvarn_replace(&s, 0, 3, "1", 1);
+    lodvarn_insert(&s, 'x', 1);
+    see("its numbers alone", NEXT_REPORT(out, 3) == LODVARN_TOO_SMALL && report_is(LODVARN_REPLACED, 0, 3, 1, 7, 1));
+    places[1] = places[4] = 77;
+    see("with no buffer too", NEXT_REPORT(NULL, 0) == LODVARN_TOO_SMALL && report_is(LODVARN_REPLACED, 0, 3, 1, 7, 1));
+    see("nothing is written", out[0] == '#');
+    see("it fits exactly", NEXT_REPORT(out, 4) == LODVARN_DONE && report_is(LODVARN_REPLACED, 0, 3, 1, 7, 1));
+    see("what went and what came", !memcmp(out, "one1####", 8));
+    see("then the next", NEXT_REPORT(out, 8) == LODVARN_DONE && report_is(LODVARN_CHAR_INSERTED, 1, 0, 1, 1, 2));
+    see("with its letter", !memcmp(out, "xne1####", 8));
+    LEAVES(LODVARN_NONE, NEXT_REPORT(out, sizeof out));
+}
+
+static void reports_without_texts_need_no_buffer(void) {
+    open_watched("one two", 7, 2, 0);
+    memset(out, '#', sizeof out);
+    lodvarn_replace(&s, 0, 3, "1", 1);
+    lodvarn_backspace(&s, 1);
+    see("without a buffer", NEXT_REPORT(NULL, 0) == LODVARN_DONE && report_is(LODVARN_REPLACED, 0, 3, 1, 7, 1));
+    see("or with one", NEXT_REPORT(out, 8) == LODVARN_DONE && report_is(LODVARN_DELETED_BACKWARD, 0, 1, 0, 1, 0));
+    see("that is left", !memcmp(out, "########", 8));
+}
+
+static void a_full_queue_is_folded(void) {
+    open_watched("one two", 7, 2, 64);
+    memset(out, '#', sizeof out);
+    lodvarn_insert(&s, 'a', 1);
+    lodvarn_insert(&s, 'b', 1);
+    lodvarn_insert(&s, 'c', 1);
+    lodvarn_delete_range(&s, 0, 1);
+    see("a folded report takes in what comes", stands(&s, "ne twoabc", 0));
+    see("until it is read", NEXT_REPORT(NULL, 0) == LODVARN_DONE && report_is(LODVARN_FOLDED, 0, 7, 9, 7, 0));
+    LEAVES(LODVARN_NONE, NEXT_REPORT(out, sizeof out));
+    lodvarn_insert(&s, 'd', 1);
+    lodvarn_insert(&s, 'e', 1);
+    see("then one by one", NEXT_REPORT(out, 8) == LODVARN_DONE && report_is(LODVARN_CHAR_INSERTED, 0, 0, 1, 0, 1));
+    lodvarn_insert(&s, 'f', 1);
+    see("with room again", NEXT_REPORT(out, 8) == LODVARN_DONE && report_is(LODVARN_CHAR_INSERTED, 1, 0, 1, 1, 2));
+    see("for each", NEXT_REPORT(out, 8) == LODVARN_DONE && report_is(LODVARN_CHAR_INSERTED, 2, 0, 1, 2, 3));
+    see("with its letter", !memcmp(out, "f#######", 8));
+    LEAVES(LODVARN_NONE, NEXT_REPORT(out, sizeof out));
+    open_watched("one two", 7, 1, 2);
+    lodvarn_paste(&s, "ab", 2, 1);
+    see("too small", NEXT_REPORT(out, 1) == LODVARN_TOO_SMALL && report_is(LODVARN_TEXT_INSERTED, 7, 0, 2, 7, 9));
+    lodvarn_backspace(&s, 3);
+    see("then folded with the next", NEXT_REPORT(NULL, 0) == LODVARN_DONE && report_is(LODVARN_FOLDED, 6, 1, 0, 7, 6));
+}
+
+static void what_changed_and_reports_are_apart(void) {
+    open_watched("ab", 2, 1, 0);
+    lodvarn_insert(&s, 'c', 1);
+    see("the report is read", NEXT_REPORT(NULL, 0) == LODVARN_DONE && report_is(LODVARN_CHAR_INSERTED, 2, 0, 1, 2, 3));
+    lodvarn_insert(&s, 'd', 1);
+    see("what changed is told of both", changed_is(2, 2, 4));
+    see("and a report waits", NEXT_REPORT(NULL, 0) == LODVARN_DONE && report_is(LODVARN_CHAR_INSERTED, 3, 0, 1, 3, 4));
+}
+
 static void memory_that_is_not_there(void) {
     begin_bad_input();
     LEAVES(LODVARN_NO_MEMORY, lodvarn_open(&s, "a", 1, 0, SIZE_MAX, 60, LODVARN_UNICODE));
@@ -648,6 +877,14 @@ int main(void) {
     a_yank_of_no_times_is_one();
     great_input_is_met();
     memory_that_is_not_there();
+    what_changed_is_told();
+    asking_what_changed_parts_nothing();
+    a_queue_is_asked_for();
+    changes_are_reported();
+    a_report_waits_for_a_buffer_that_is_large_enough();
+    reports_without_texts_need_no_buffer();
+    a_full_queue_is_folded();
+    what_changed_and_reports_are_apart();
     lodvarn_close(&s);
     printf("%d passed, %d failed\n", passed, failed);
     return failed != 0;

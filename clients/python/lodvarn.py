@@ -19,10 +19,11 @@ from __future__ import annotations
 import ctypes
 import ctypes.util
 import os
+from dataclasses import dataclass
 from enum import IntEnum
 from pathlib import Path
 from types import TracebackType
-from typing import Optional
+from typing import Callable, Iterator, Optional
 
 
 class Mode(IntEnum):
@@ -103,6 +104,50 @@ class Movement(IntEnum):
     END_OF_BUFFER = 26
 
 
+class ReportKind(IntEnum):
+    """What kind of change a report is of.
+
+    The deletions between KILL_STARTED and KILL_STOPPED are a kill; these two are of no change, and their numbers are 0.
+    Each change of an undo and of a redo is REPLACED. FOLDED is all that waited and all that came since, as one change.
+    """
+
+    CHAR_INSERTED = 1
+    TEXT_INSERTED = 2
+    DELETED_FORWARD = 3
+    DELETED_BACKWARD = 4
+    REPLACED = 5
+    KILL_STARTED = 6
+    KILL_STOPPED = 7
+    FOLDED = 8
+
+
+@dataclass(frozen=True)
+class Splice:
+    """What stood from `start` to `old_end` gave way to what stands from `start` to `new_end` now."""
+
+    start: int
+    old_end: int
+    new_end: int
+
+
+@dataclass(frozen=True)
+class Report:
+    """At a place `old_len` bytes went and `new_len` bytes came, and the cursor went from one place to another.
+
+    `old` and `new` are what went and what came. They are None where no texts are kept, and where the kind is FOLDED:
+    then what came stands in the present text.
+    """
+
+    kind: ReportKind
+    at: int
+    old_len: int
+    new_len: int
+    pos_before: int
+    pos_after: int
+    old: Optional[str]
+    new: Optional[str]
+
+
 class Answer(IntEnum):
     """What a call of the library answers."""
 
@@ -156,6 +201,10 @@ class NoSuchNumber(Fault):
     """A number is not in its enum, or is no character."""
 
 
+class IsWatched(Fault):
+    """The session keeps reports already."""
+
+
 _FAULTS = {
     Answer.NO_MEMORY: NoMemory,
     Answer.BAD_PLACE: BadPlace,
@@ -169,7 +218,7 @@ _FAULTS = {
 _HANDLE = ctypes.POINTER(ctypes.c_void_p)
 _TEXT, _SIZE = ctypes.c_char_p, ctypes.c_size_t
 _U32, _U16, _U8 = ctypes.c_uint32, ctypes.c_uint16, ctypes.c_uint8
-_TO_SIZE, _TO_U16 = ctypes.POINTER(_SIZE), ctypes.POINTER(_U16)
+_TO_SIZE, _TO_U32, _TO_U16 = ctypes.POINTER(_SIZE), ctypes.POINTER(_U32), ctypes.POINTER(_U16)
 
 # What each call takes. Each answers one of Answer.
 _CALLS = {
@@ -205,6 +254,9 @@ _CALLS = {
     "redo": [_HANDLE],
     "truncate": [_HANDLE, _SIZE],
     "line_place": [_HANDLE, _TO_SIZE, _TO_U16],
+    "changed": [_HANDLE, _TO_SIZE, _TO_SIZE, _TO_SIZE],
+    "watch": [_HANDLE, _SIZE, _SIZE],
+    "next_report": [_HANDLE, _TO_U32, _TO_SIZE, _TO_SIZE, _TO_SIZE, _TO_SIZE, _TO_SIZE, _TEXT, _SIZE],
     "line_range": [_HANDLE, _SIZE, _TO_SIZE, _TO_SIZE],
     "last_was_yank": [_HANDLE],
     "script": [_TEXT, _SIZE, _TEXT, _SIZE, _TO_SIZE],
@@ -263,17 +315,6 @@ def _call(name: str, *given: object) -> Answer:
     return answer
 
 
-def _call_for_text(name: str, *given: object) -> Optional[str]:
-    """Makes a call that writes a text, and repeats it with a larger buffer where the first one is too small."""
-    length = _SIZE(64)
-    answer = Answer.TOO_SMALL
-    while answer == Answer.TOO_SMALL:
-        room = length.value
-        out = ctypes.create_string_buffer(room)
-        answer = _call(name, *given, out, room, length)
-    return out.raw[: length.value].decode() if answer == Answer.TEXT else None
-
-
 def _yes(answer: Answer) -> Optional[bool]:
     """True or False, or None where there was nothing to insert or the limit forbids it."""
     return None if answer == Answer.NONE else answer == Answer.TRUE
@@ -299,12 +340,17 @@ class Session:
         Raises BadPlace, NoMemory.
         """
         self._at = ctypes.c_void_p()
+        self._on_change: Optional[Callable[[Report], object]] = None
+        # The room for the texts of reports; None where none are kept.
+        self._text_bytes: Optional[int] = None
+        self._out = ctypes.create_string_buffer(4096)
         given = text.encode()
         _call("open", self._at, given, len(given) if pos is None else pos, limit, ring_size, mode)
 
     def close(self) -> None:
         """Closes the session. Every later call except this one raises Closed, or reads 0 or an empty text."""
         _library.lodvarn_close(self._at)
+        self._on_change = self._text_bytes = None
 
     def __enter__(self) -> Session:
         return self
@@ -327,28 +373,46 @@ class Session:
     def __reduce__(self) -> str:
         raise TypeError("a session has no copy")
 
+    def _do(self, name: str, *given: object) -> Answer:
+        """Does a command, and tells on_change what it changed, also where it was refused halfway."""
+        try:
+            return _call(name, self._at, *given)
+        finally:
+            while self._on_change is not None and (report := self._next_report()):
+                self._on_change(report)
+
+    def _do_for_text(self, name: str, *given: object) -> Optional[str]:
+        """Does a command that writes a text, and repeats it with a larger buffer where the first one is too small."""
+        length = _SIZE(64)
+        answer = Answer.TOO_SMALL
+        while answer == Answer.TOO_SMALL:
+            room = length.value
+            out = ctypes.create_string_buffer(room)
+            answer = self._do(name, *given, out, room, length)
+        return out.raw[: length.value].decode() if answer == Answer.TEXT else None
+
     def set_pos(self, pos: int) -> None:
         """Moves the cursor to a place. Raises BadPlace."""
-        _call("set_pos", self._at, pos)
+        self._do("set_pos", pos)
 
     def move(self, movement: Movement, n: int = 1, c: str = "\0") -> bool:
         """Moves the cursor by a movement. c is the character of a search. False where there is nowhere to go."""
-        return _call("move", self._at, movement, n, ord(c)) == Answer.TRUE
+        return self._do("move", movement, n, ord(c)) == Answer.TRUE
 
     def insert(self, c: str, n: int = 1) -> Optional[bool]:
         """Inserts a character n times at the cursor. Whether the cursor was at the end; None past the limit."""
-        return _yes(_call("insert", self._at, ord(c), n))
+        return _yes(self._do("insert", ord(c), n))
 
     def paste(self, text: str, n: int = 1) -> Optional[bool]:
         """Inserts a text n times at the cursor.
 
         Whether the cursor was at the end, or None where the text is empty or the line would get longer than the limit.
         """
-        return _yes(_call("paste", self._at, text.encode(), n))
+        return _yes(self._do("paste", text.encode(), n))
 
     def yank(self, n: int = 1) -> Optional[bool]:
         """Inserts the ring's current text n times at the cursor. Answers as paste does."""
-        return _yes(_call("yank", self._at, n))
+        return _yes(self._do("yank", n))
 
     def yank_pop(self) -> Optional[bool]:
         """Replaces the text that was just yanked by the one before it in the ring.
@@ -356,7 +420,7 @@ class Session:
         Whether the cursor was at the end, or None where the last command was not a yank. None also where the one before
         is empty or too long for the limit: what was yanked is deleted then. Raises BadYankSize.
         """
-        return _yes(_call("yank_pop", self._at))
+        return _yes(self._do("yank_pop"))
 
     def update(self, text: str, pos: Optional[int] = None) -> None:
         """Replaces the whole text. The cursor goes to the place pos of the new text, by default to its end.
@@ -364,114 +428,114 @@ class Session:
         A text that is longer than the limit is cut. Raises BadPlace.
         """
         given = text.encode()
-        _call("update", self._at, given, len(given) if pos is None else pos)
+        self._do("update", given, len(given) if pos is None else pos)
 
     def insert_str(self, at: int, text: str) -> bool:
         """Inserts a text at a place, whatever the limit. The cursor's place keeps its number.
 
         Whether the place was the end. Raises BadPlace, also where the cursor would come to stand inside a character.
         """
-        return _call("insert_str", self._at, at, text.encode()) == Answer.TRUE
+        return self._do("insert_str", at, text.encode()) == Answer.TRUE
 
     def replace(self, start: int, end: int, text: str) -> None:
         """Replaces what stands between two places, whatever the limit. The cursor goes after it. Raises BadPlace."""
-        _call("replace", self._at, start, end, text.encode())
+        self._do("replace", start, end, text.encode())
 
     def delete_range(self, start: int, end: int) -> None:
         """Deletes what stands between two places. The cursor goes to the first. Raises BadPlace."""
-        _call("delete_range", self._at, start, end)
+        self._do("delete_range", start, end)
 
     def delete(self, n: int = 1) -> Optional[str]:
         """Deletes n clusters after the cursor, and returns them, or None where there are none."""
-        return _call_for_text("delete", self._at, n)
+        return self._do_for_text("delete", n)
 
     def backspace(self, n: int = 1) -> bool:
         """Deletes n clusters before the cursor. False where there are none."""
-        return _call("backspace", self._at, n) == Answer.TRUE
+        return self._do("backspace", n) == Answer.TRUE
 
     def kill_line(self) -> bool:
         """Deletes to the end of the cursor's line, or the newline there. The ring does not keep it."""
-        return _call("kill_line", self._at) == Answer.TRUE
+        return self._do("kill_line") == Answer.TRUE
 
     def kill_buffer(self) -> bool:
         """Deletes to the end of the text. The ring does not keep it."""
-        return _call("kill_buffer", self._at) == Answer.TRUE
+        return self._do("kill_buffer") == Answer.TRUE
 
     def discard_line(self) -> bool:
         """Deletes to the start of the cursor's line, or the newline before it, CR LF as one. Not for the ring."""
-        return _call("discard_line", self._at) == Answer.TRUE
+        return self._do("discard_line") == Answer.TRUE
 
     def discard_buffer(self) -> bool:
         """Deletes back to the start of the text. The ring does not keep it."""
-        return _call("discard_buffer", self._at) == Answer.TRUE
+        return self._do("discard_buffer") == Answer.TRUE
 
     def delete_prev_word(self, word: Word, n: int = 1) -> bool:
         """Deletes back to the start of the n-th word. False where there is nothing."""
-        return _call("delete_prev_word", self._at, word, n) == Answer.TRUE
+        return self._do("delete_prev_word", word, n) == Answer.TRUE
 
     def delete_word(self, at: At, word: Word, n: int = 1) -> bool:
         """Deletes forward to the n-th word, as `at` says. False where there is nothing."""
-        return _call("delete_word", self._at, at, word, n) == Answer.TRUE
+        return self._do("delete_word", at, word, n) == Answer.TRUE
 
     def delete_to(self, search: Search, c: str, n: int = 1) -> bool:
         """Deletes to the n-th character c, or to the farthest where there are fewer. False where there is none."""
-        return _call("delete_to", self._at, search, ord(c), n) == Answer.TRUE
+        return self._do("delete_to", search, ord(c), n) == Answer.TRUE
 
     def transpose_chars(self) -> bool:
         """Exchanges the clusters before and after the cursor, in two changes. False where there are not two."""
-        return _call("transpose_chars", self._at) == Answer.TRUE
+        return self._do("transpose_chars") == Answer.TRUE
 
     def transpose_words(self, n: int = 1) -> bool:
         """Exchanges a word with the n-th word before it, in four changes. False where there are not two."""
-        return _call("transpose_words", self._at, n) == Answer.TRUE
+        return self._do("transpose_words", n) == Answer.TRUE
 
     def edit_word(self, action: Action) -> bool:
         """Changes the case of the word at the cursor, or of the next, in two changes. False where there is none."""
-        return _call("edit_word", self._at, action) == Answer.TRUE
+        return self._do("edit_word", action) == Answer.TRUE
 
     def kill(self, movement: Movement, n: int = 1, c: str = "\0") -> bool:
         """Deletes what a movement covers. False where there is nothing.
 
         The ring keeps it, except by BACKWARD_CHAR and FORWARD_CHAR.
         """
-        return _call("kill", self._at, movement, n, ord(c)) == Answer.TRUE
+        return self._do("kill", movement, n, ord(c)) == Answer.TRUE
 
     def copy(self, movement: Movement, n: int = 1, c: str = "\0") -> Optional[str]:
         """The text that a movement covers, or None where it covers nothing."""
-        return _call_for_text("copy", self._at, movement, n, ord(c))
+        return self._do_for_text("copy", movement, n, ord(c))
 
     def indent(self, movement: Movement, amount: int, n: int = 1, c: str = "\0") -> bool:
         """Inserts `amount` spaces, at most 255, at the start of each line that a movement covers."""
-        return _call("indent", self._at, movement, n, ord(c), amount, _IndentDirection.INDENT) == Answer.TRUE
+        return self._do("indent", movement, n, ord(c), amount, _IndentDirection.INDENT) == Answer.TRUE
 
     def dedent(self, movement: Movement, amount: int, n: int = 1, c: str = "\0") -> bool:
         """Deletes up to `amount` bytes of blanks, at most 255, at the start of each line that a movement covers."""
-        return _call("indent", self._at, movement, n, ord(c), amount, _IndentDirection.DEDENT) == Answer.TRUE
+        return self._do("indent", movement, n, ord(c), amount, _IndentDirection.DEDENT) == Answer.TRUE
 
     def begin(self) -> int:
         """Begins an undo group: once closed, one undo takes it back. Answers the number of entries before it."""
         mark = _SIZE()
-        _call("begin", self._at, mark)
+        self._do("begin", mark)
         return mark.value
 
     def end(self) -> bool:
         """Closes all open groups. False where they have no change, or none is open."""
-        return _call("end", self._at) == Answer.TRUE
+        return self._do("end") == Answer.TRUE
 
     def undo(self, n: int = 1) -> bool:
         """Undoes the last n changes and groups. False where there was no change."""
-        return _call("undo", self._at, n) == Answer.TRUE
+        return self._do("undo", n) == Answer.TRUE
 
     def redo(self) -> bool:
         """Redoes what was undone last, one change or group. False where there is none."""
-        return _call("redo", self._at) == Answer.TRUE
+        return self._do("redo") == Answer.TRUE
 
     def truncate(self, entries: int) -> None:
         """Keeps the first `entries` entries of the record, and forgets the others and what was undone.
 
         Raises NotReplaying where they do not lead to the present text.
         """
-        _call("truncate", self._at, entries)
+        self._do("truncate", entries)
 
     def line_place(self) -> tuple[int, int]:
         """The number of the cursor's line, and the width of that line before the cursor.
@@ -479,8 +543,73 @@ class Session:
         This is a command: a kill after it begins a new text of the ring.
         """
         line, column = _SIZE(), _U16()
-        _call("line_place", self._at, line, column)
+        self._do("line_place", line, column)
         return line.value, column.value
+
+    def changed(self) -> Optional[Splice]:
+        """All that changed since this was asked last, or since the session was opened, as one splice; None if nothing.
+
+        What stood between two places of the text as it was then gave way to what stands between two places now. It is
+        so whatever changed the text, also an undo, a redo, and a command that was refused halfway.
+        """
+        start, old_end, new_end = _SIZE(), _SIZE(), _SIZE()
+        answer = _call("changed", self._at, start, old_end, new_end)
+        return Splice(start.value, old_end.value, new_end.value) if answer == Answer.DONE else None
+
+    def watch(self, reports: int = 64, text_bytes: int = 65536) -> None:
+        """Keeps a report of each change from now on, for `changes` to hand out.
+
+        The queue has room for that many reports, and for `text_bytes` bytes of their texts; with 0 they have no texts.
+        Where a report or its texts find no room, all that waits and the new one become one report, of the kind FOLDED.
+        Raises ValueError where `reports` is 0, IsWatched where the session has a queue already, NoMemory.
+        """
+        try:
+            answer = _call("watch", self._at, reports, text_bytes)
+        except NoSuchNumber:
+            raise ValueError("a queue needs room for a report") from None
+        if answer == Answer.FALSE:
+            raise IsWatched(f"watch: {IsWatched.__doc__}")
+        self._text_bytes = text_bytes
+
+    def changes(self) -> Iterator[Report]:
+        """Hands out the reports that wait, the oldest first, and forgets each. None waits where nothing is watched.
+
+        Whoever applies them in order to the text that he had has the text of the session. One that is FOLDED comes
+        alone, and what came by it is in the present text: apply it before the next command.
+        """
+        return iter(self._next_report, None)
+
+    def _next_report(self) -> Optional[Report]:
+        """Takes the oldest report that waits, in a larger buffer where its texts do not fit. None where none waits."""
+        kind, numbers = _U32(), [_SIZE() for _ in range(5)]
+        answer = _call("next_report", self._at, kind, *numbers, self._out, len(self._out))
+        if answer == Answer.NONE:
+            return None
+        at, old_len, new_len, pos_before, pos_after = (it.value for it in numbers)
+        end = old_len + new_len
+        if answer == Answer.TOO_SMALL:
+            self._out = ctypes.create_string_buffer(end)
+            return self._next_report()
+        has_texts = self._text_bytes and kind.value != ReportKind.FOLDED
+        old, new = (self._out[:old_len].decode(), self._out[old_len:end].decode()) if has_texts else (None, None)
+        return Report(ReportKind(kind.value), at, old_len, new_len, pos_before, pos_after, old, new)
+
+    @property
+    def on_change(self) -> Optional[Callable[[Report], object]]:
+        """What is called with each report after each command, also after one that was refused halfway, or None.
+
+        Setting it watches, where the session does not watch yet. A command with more changes or longer texts than the
+        queue has room for calls it once, with a report of the kind FOLDED: then it reads what came in `session.text`.
+        It may do commands. What it raises comes out of the command, which is done; what waits then is told after the
+        next command.
+        """
+        return self._on_change
+
+    @on_change.setter
+    def on_change(self, call: Optional[Callable[[Report], object]]) -> None:
+        if call is not None and self._text_bytes is None:
+            self.watch()
+        self._on_change = call
 
     @property
     def text(self) -> str:

@@ -3,11 +3,13 @@
 import copy
 import gc
 import pickle
+import random
 import sys
 import unittest
+from unittest import mock
 
 import lodvarn
-from lodvarn import Action, At, Mode, Movement, Search, Session, Word
+from lodvarn import Action, Answer, At, Mode, Movement, Report, ReportKind, Search, Session, Splice, Word
 
 FAMILY = "\U0001f468\u200d\U0001f469\u200d\U0001f467"
 
@@ -181,6 +183,420 @@ class Faults(Case):
         gc.collect()
 
 
+def report(kind, at, old, new, pos_before, pos_after):
+    """A report with its texts."""
+    return Report(kind, at, len(old.encode()), len(new.encode()), pos_before, pos_after, old, new)
+
+
+def folded(at, old_len, new_len, pos_before, pos_after):
+    """A report of the kind FOLDED, which has no texts."""
+    return Report(ReportKind.FOLDED, at, old_len, new_len, pos_before, pos_after, None, None)
+
+
+STARTED = report(ReportKind.KILL_STARTED, 0, "", "", 0, 0)
+STOPPED = report(ReportKind.KILL_STOPPED, 0, "", "", 0, 0)
+
+
+class Changes(Case):
+    def tells(self, session, *wanted):
+        """Those reports wait, and no others."""
+        self.assertEqual(list(session.changes()), list(wanted))
+
+    def test_what_changed_is_one_splice(self):
+        session = Session("abc", 1)
+        self.assertIsNone(session.changed())
+        session.insert("x")
+        self.assertEqual(session.changed(), Splice(1, 1, 2))
+        self.assertIsNone(session.changed())
+        session.undo()
+        self.assertEqual(session.changed(), Splice(1, 2, 1))
+        session.redo()
+        self.assertEqual(session.changed(), Splice(1, 1, 2))
+        session.move(Movement.END_OF_LINE)
+        self.assertIsNone(session.changed())
+        session.replace(0, 2, "é")
+        session.insert_str(4, "z")
+        session.delete_range(0, 2)
+        self.stands(session, "bcz", 0)
+        self.assertEqual(session.changed(), Splice(0, 4, 3))
+
+    def test_each_kind_is_told(self):
+        session = Session("ab", 1)
+        session.watch()
+        kind = ReportKind
+        back = report(kind.DELETED_BACKWARD, 0, "a漢", "", 4, 0)
+        ahead = report(kind.DELETED_FORWARD, 0, "xé", "", 0, 0)
+        steps = [
+            (session.insert, ("é",), [report(kind.CHAR_INSERTED, 1, "", "é", 1, 3)]),
+            (session.insert, ("x", 2), [report(kind.TEXT_INSERTED, 3, "", "xx", 3, 5)]),
+            (session.paste, ("漢c",), [report(kind.TEXT_INSERTED, 5, "", "漢c", 5, 9)]),
+            (session.delete, (), [report(kind.DELETED_FORWARD, 9, "b", "", 9, 9)]),
+            (session.backspace, (2,), [report(kind.DELETED_BACKWARD, 5, "漢c", "", 9, 5)]),
+            (session.replace, (1, 3, "漢"), [report(kind.REPLACED, 1, "é", "漢", 5, 4)]),
+            (session.delete_range, (4, 5), [report(kind.DELETED_FORWARD, 4, "x", "", 4, 4)]),
+            (session.insert_str, (5, "é"), [report(kind.TEXT_INSERTED, 5, "", "é", 4, 4)]),
+            (session.kill, (Movement.BEGINNING_OF_LINE,), [STARTED, back, STOPPED]),
+            (session.kill, (Movement.END_OF_LINE,), [STARTED, ahead, STOPPED]),
+            (session.kill, (Movement.END_OF_LINE,), [STARTED, STOPPED]),
+            (session.yank, (), [report(kind.TEXT_INSERTED, 0, "", "a漢xé", 0, 7)]),
+            (session.undo, (), [report(kind.REPLACED, 0, "a漢xé", "", 7, 0)]),
+            (session.redo, (), [report(kind.REPLACED, 0, "", "a漢xé", 0, 7)]),
+            (session.kill, (Movement.BACKWARD_CHAR,), [report(kind.DELETED_BACKWARD, 5, "é", "", 7, 5)]),
+            (session.copy, (Movement.WHOLE_LINE,), []),
+            (session.move, (Movement.BEGINNING_OF_LINE,), []),
+            (session.redo, (), []),
+        ]
+        for number, (call, given, wanted) in enumerate(steps):
+            with self.subTest(step=number, call=call.__name__):
+                call(*given)
+                self.tells(session, *wanted)
+        self.stands(session, "a漢x", 0)
+
+    def test_each_change_of_a_command_is_told(self):
+        session = Session("a\nb", 3)
+        session.watch()
+        session.indent(Movement.WHOLE_BUFFER, 2)
+        kind = ReportKind.TEXT_INSERTED
+        self.tells(session, report(kind, 0, "", "  ", 3, 5), report(kind, 4, "", "  ", 5, 7))
+
+    def test_undos_and_redos_are_told(self):
+        session = Session("")
+        session.watch()
+        session.insert("a")
+        session.begin()
+        session.insert("b")
+        session.insert("c")
+        session.insert("-")
+        session.end()
+        list(session.changes())
+        kind = ReportKind.REPLACED
+        session.undo()
+        self.tells(session, report(kind, 3, "-", "", 4, 3), report(kind, 1, "bc", "", 3, 1))
+        session.redo()
+        self.tells(session, report(kind, 1, "", "bc", 1, 3), report(kind, 3, "", "-", 3, 4))
+        session.undo(2)
+        self.assertEqual([it.old for it in session.changes()], ["-", "bc", "a"])
+
+    def test_a_command_that_gives_up_halfway_is_told(self):
+        session = Session("bcde a", 4, limit=6)
+        session.kill(Movement.BEGINNING_OF_LINE)
+        session.set_pos(2)
+        session.kill(Movement.BACKWARD_EMACS_WORD)
+        session.paste("xyz")
+        session.yank()
+        self.stands(session, " xyza", 5)
+        session.changed()
+        session.watch()
+        self.assertIsNone(session.yank_pop())
+        self.stands(session, " xyz", 4)
+        self.tells(session, report(ReportKind.DELETED_FORWARD, 4, "a", "", 5, 4))
+        self.assertEqual(session.changed(), Splice(4, 5, 4))
+
+    def test_what_finds_no_room_is_folded(self):
+        session = Session("abc")
+        session.watch(1)
+        session.insert("d")
+        session.insert("e")
+        self.tells(session, folded(3, 0, 2, 3, 5))
+        session.insert("f")
+        self.tells(session, report(ReportKind.CHAR_INSERTED, 5, "", "f", 5, 6))
+        session.backspace()
+        session.insert("é")
+        session.set_pos(0)
+        session.delete()
+        self.stands(session, "bcdeé", 0)
+        self.tells(session, folded(0, 6, 6, 6, 0))
+
+    def test_texts_have_room_of_their_own(self):
+        session = Session("")
+        session.watch(9, 3)
+        session.insert("a")
+        session.insert("é")
+        kind = ReportKind.CHAR_INSERTED
+        self.tells(session, report(kind, 0, "", "a", 0, 1), report(kind, 1, "", "é", 1, 3))
+        session.insert("b")
+        session.insert("漢")
+        self.tells(session, folded(3, 0, 4, 3, 7))
+
+    def test_reports_may_have_no_texts(self):
+        session = Session("é")
+        session.watch(2, 0)
+        session.insert("漢")
+        session.backspace(2)
+        self.tells(
+            session,
+            Report(ReportKind.CHAR_INSERTED, 2, 0, 3, 2, 5, None, None),
+            Report(ReportKind.DELETED_BACKWARD, 0, 5, 0, 5, 0, None, None),
+        )
+
+    def test_long_texts_are_told(self):
+        session = Session("", limit=100000)
+        session.watch()
+        long, longer = "é" * 5000, "漢" * 10000
+        session.paste(long)
+        session.insert("x")
+        session.replace(0, 10000, longer)
+        self.tells(
+            session,
+            report(ReportKind.TEXT_INSERTED, 0, "", long, 0, 10000),
+            report(ReportKind.CHAR_INSERTED, 10000, "", "x", 10000, 10001),
+            report(ReportKind.REPLACED, 0, long, longer, 10001, 30000),
+        )
+        session.backspace()
+        self.tells(session, report(ReportKind.DELETED_BACKWARD, 29997, "漢", "", 30000, 29997))
+        session.paste("a" * 65537)
+        self.tells(session, folded(29997, 0, 65537, 29997, 95534))
+
+    def test_reading_parts_no_run_of_kills(self):
+        session = Session("one two three")
+        session.kill(Movement.BACKWARD_EMACS_WORD)
+        session.watch()
+        session.kill(Movement.BACKWARD_EMACS_WORD)
+        self.assertEqual(len(list(session.changes())), 3)
+        self.assertEqual(session.changed(), Splice(4, 13, 4))
+        session.kill(Movement.BACKWARD_EMACS_WORD)
+        session.yank()
+        self.stands(session, "one two three", 13)
+
+    def test_what_no_queue_is_made_of(self):
+        session = Session("")
+        session.insert("a")
+        self.tells(session)
+        self.assertRaises(ValueError, session.watch, 0)
+        self.assertRaises(OverflowError, session.watch, -1)
+        self.assertRaises(OverflowError, session.watch, 1, 2**64)
+        self.assertRaises(lodvarn.NoMemory, session.watch, 2**63)
+        self.assertRaises(lodvarn.NoMemory, session.watch, 1, 2**63)
+        session.watch(1, 1)
+        self.assertRaises(lodvarn.IsWatched, session.watch)
+        session.insert("b")
+        self.tells(session, report(ReportKind.CHAR_INSERTED, 1, "", "b", 1, 2))
+
+    def test_a_closed_session_tells_nothing(self):
+        session, seen = Session("ab"), []
+        session.on_change = seen.append
+        session.close()
+        self.assertRaises(lodvarn.Closed, session.insert, "c")
+        self.assertRaises(lodvarn.Closed, session.changed)
+        self.assertRaises(lodvarn.Closed, session.watch)
+        self.assertRaises(lodvarn.Closed, session.watch, 0)
+        self.assertRaises(lodvarn.Closed, list, session.changes())
+        self.assertRaises(lodvarn.Closed, setattr, session, "on_change", seen.append)
+        self.assertEqual((session.on_change, seen), (None, []))
+
+
+class OnChange(Case):
+    def test_each_command_tells(self):
+        session, seen = Session("ab", 1), []
+        self.assertIsNone(session.on_change)
+        session.on_change = call = seen.append
+        self.assertIs(session.on_change, call)
+        inserted = report(ReportKind.CHAR_INSERTED, 1, "", "c", 1, 2)
+        undone = report(ReportKind.REPLACED, 1, "c", "", 2, 1)
+        redone = report(ReportKind.REPLACED, 1, "", "c", 1, 2)
+        deleted = report(ReportKind.DELETED_FORWARD, 2, "b", "", 2, 2)
+        for do, wanted in [
+            (lambda: session.insert("c"), [inserted]),
+            (session.undo, [undone]),
+            (session.redo, [redone]),
+            (session.line_place, []),
+            (session.delete, [deleted]),
+            (session.undo, [report(ReportKind.REPLACED, 2, "", "b", 2, 2)]),
+            (lambda: session.kill(Movement.END_OF_LINE), [STARTED, deleted, STOPPED]),
+        ]:
+            seen.clear()
+            do()
+            self.assertEqual(seen, wanted)
+        session.on_change = None
+        session.insert("d")
+        self.assertEqual(len(seen), 3)
+        self.assertEqual(list(session.changes()), [report(ReportKind.CHAR_INSERTED, 2, "", "d", 2, 3)])
+
+    def test_it_tells_the_present_text_of_what_is_folded(self):
+        session, seen = Session("one two"), []
+        session.on_change = None
+        session.watch(1)
+        session.on_change = lambda it: seen.append((it, session.text, session.pos))
+        session.edit_word(Action.UPPERCASE)
+        session.set_pos(0)
+        session.edit_word(Action.UPPERCASE)
+        self.assertEqual(seen, [(folded(0, 3, 3, 0, 3), "ONE two", 3)])
+
+    def test_it_tells_of_a_command_that_is_refused_halfway(self):
+        session, seen = Session("ab"), []
+        session.on_change = seen.append
+
+        def halfway(handle, *given):
+            """Takes one step, and then finds no memory."""
+            lodvarn._library.lodvarn_insert(handle, ord(" "), 1)
+            return Answer.NO_MEMORY
+
+        with mock.patch.object(lodvarn._library, "lodvarn_indent", halfway):
+            self.assertRaises(lodvarn.NoMemory, session.indent, Movement.WHOLE_LINE, 2)
+        self.assertEqual(seen, [report(ReportKind.CHAR_INSERTED, 2, "", " ", 2, 3)])
+
+    def test_what_it_raises_comes_out_of_the_command(self):
+        session, seen = Session("ab"), []
+        session.on_change = mock.Mock(side_effect=KeyError)
+        self.assertRaises(KeyError, session.update, "cd")
+        self.stands(session, "cd", 2)
+        session.on_change = seen.append
+        session.set_pos(0)
+        self.assertEqual(seen, [report(ReportKind.TEXT_INSERTED, 0, "", "cd", 0, 2)])
+
+    def test_it_may_do_commands(self):
+        session, mirror = Session(""), []
+
+        def close(it):
+            """Puts a parenthesis after each that opens."""
+            mirror[it.at : it.at + it.old_len] = it.new
+            if it.new == "(":
+                session.insert(")")
+                session.set_pos(it.pos_after)
+
+        session.on_change = close
+        session.insert("(")
+        session.insert("(")
+        session.insert("a")
+        self.stands(session, "((a))", 3)
+        self.assertEqual("".join(mirror), session.text)
+
+
+PIECES = ["", "a", "é", "漢字", "one two", FAMILY, "e\u0301", "\n", "  x\n\ty", "Ωμέγα ß", "0\0_-."]
+
+
+def place_in(session, rng):
+    """A place of the text, and now and then one that may be none."""
+    text = session.text
+    return rng.randrange(99) if rng.random() < 0.05 else len(text[: rng.randint(0, len(text))].encode())
+
+
+def span_in(session, rng):
+    """Two places of the text in their order."""
+    return sorted([place_in(session, rng), place_in(session, rng)])
+
+
+def movement_in(rng):
+    """A movement with a count and a character."""
+    return rng.choice(list(Movement)), rng.randrange(4), rng.choice("a漢 o")
+
+
+# Each does a command, of places, counts and texts that it chooses.
+COMMANDS = [
+    lambda s, r: s.insert(r.choice("ab1é漢 \n-"), r.choice([1, 1, 1, 0, 3])),
+    lambda s, r: s.insert(r.choice("ab1é漢"), 1),
+    lambda s, r: s.paste(r.choice(PIECES), r.randrange(3)),
+    lambda s, r: s.yank(r.randrange(3)),
+    lambda s, r: (s.yank(), s.yank_pop()),
+    lambda s, r: s.yank_pop(),
+    lambda s, r: s.update(r.choice(PIECES) * r.randrange(9)),
+    lambda s, r: s.insert_str(place_in(s, r), r.choice(PIECES)),
+    lambda s, r: s.replace(*span_in(s, r), r.choice(PIECES)),
+    lambda s, r: s.delete_range(*span_in(s, r)),
+    lambda s, r: s.set_pos(place_in(s, r)),
+    lambda s, r: s.move(*movement_in(r)),
+    lambda s, r: s.copy(*movement_in(r)),
+    lambda s, r: s.kill(*movement_in(r)),
+    lambda s, r: s.kill(Movement.BACKWARD_EMACS_WORD),
+    lambda s, r: s.delete(r.randrange(4)),
+    lambda s, r: s.backspace(r.randrange(4)),
+    lambda s, r: r.choice([s.kill_line, s.kill_buffer, s.discard_line, s.discard_buffer])(),
+    lambda s, r: s.delete_prev_word(r.choice(list(Word)), r.randrange(3)),
+    lambda s, r: s.delete_word(r.choice(list(At)), r.choice(list(Word)), r.randrange(3)),
+    lambda s, r: s.delete_to(r.choice(list(Search)), r.choice("a漢 o"), r.randrange(3)),
+    lambda s, r: s.transpose_chars(),
+    lambda s, r: s.transpose_words(r.randrange(3)),
+    lambda s, r: s.edit_word(r.choice(list(Action))),
+    lambda s, r: s.indent(r.choice([Movement.WHOLE_LINE, Movement.WHOLE_BUFFER]), r.randrange(40)),
+    lambda s, r: s.dedent(r.choice([Movement.WHOLE_LINE, Movement.WHOLE_BUFFER]), r.randrange(40)),
+    lambda s, r: s.begin(),
+    lambda s, r: s.end(),
+    lambda s, r: s.undo(r.randrange(5)),
+    lambda s, r: s.undo(r.randrange(5)),
+    lambda s, r: s.redo(),
+    lambda s, r: s.redo(),
+    lambda s, r: s.truncate(max(0, s.entries - r.randrange(2))),
+]
+
+
+class Mirrors(Case):
+    # What opens a session, and the seed of the commands.
+    Session, seed = Session, 7
+
+    def follow(self, mirror, told, now):
+        """Makes the change of a report in a text; a folded one brings what stands in the present text."""
+        end = told.at + told.old_len
+        if told.kind == ReportKind.FOLDED:
+            come = now[told.at : told.at + told.new_len]
+        else:
+            self.assertEqual(bytes(mirror[told.at : end]), told.old.encode())
+            come = told.new.encode()
+        self.assertEqual(len(come), told.new_len)
+        mirror[told.at : end] = come
+
+    def follow_reports(self, mirror, session):
+        """Makes the changes of all reports in a text, which is the session's then. The reports."""
+        told, now = list(session.changes()), session.text.encode()
+        for one in told:
+            self.follow(mirror, one, now)
+        self.assertEqual(bytes(mirror), now)
+        return told
+
+    def follow_splice(self, mirror, session):
+        """Makes the change that `changed` tells in a text, which is the session's then."""
+        splice, now = session.changed(), session.text.encode()
+        if splice:
+            mirror[splice.start : splice.old_end] = now[splice.start : splice.new_end]
+        self.assertEqual(bytes(mirror), now)
+
+    def ends_at(self, told, pos):
+        """The last of the reports that are of a change says that the cursor went there."""
+        places = [it.pos_after for it in told if it.old_len or it.new_len]
+        self.assertIn(pos, places[-1:] or [pos])
+
+    def do(self, rng, session):
+        """Does a random command, which may be refused for what it is given."""
+        try:
+            rng.choice(COMMANDS)(session, rng)
+        except (lodvarn.BadPlace, lodvarn.BadYankSize, lodvarn.NotReplaying):
+            pass
+
+    def mirrored(self, rng, session, commands, patience):
+        """Two texts follow the reports, read every `patience` commands or sooner, and what changed. The kinds told."""
+        by_reports, by_splices, kinds, wait = bytearray(), bytearray(), set(), 1
+        for _ in range(commands):
+            self.do(rng, session)
+            wait -= 1
+            if not wait:
+                told = self.follow_reports(by_reports, session)
+                kinds.update(it.kind for it in told)
+                if patience == 1:
+                    self.ends_at(told, session.pos)
+                wait = rng.randint(1, patience)
+            if rng.random() < 0.5:
+                self.follow_splice(by_splices, session)
+        return kinds
+
+    def leads_to_the_text(self, session, patience, kinds):
+        """The copies of a session's text hold over random commands, and these kinds of reports are told."""
+        self.assertEqual(self.mirrored(random.Random(self.seed), session, 20000, patience), kinds)
+
+    def test_a_queue_of_one_report(self):
+        session = self.Session("", limit=200)
+        session.watch(1)
+        self.leads_to_the_text(session, 1, set(ReportKind) - {ReportKind.KILL_STARTED, ReportKind.KILL_STOPPED})
+
+    def test_a_queue_of_four_reports_with_short_texts(self):
+        session = self.Session("", limit=200)
+        session.watch(4, 64)
+        self.leads_to_the_text(session, 3, set(ReportKind))
+
+    def test_a_queue_of_a_thousand_reports(self):
+        session = self.Session("", limit=200)
+        session.watch(1000)
+        self.leads_to_the_text(session, 30, set(ReportKind) - {ReportKind.FOLDED})
+
+
 class Texts(Case):
     def test_widths(self):
         for text, unicode, wc_width, no_zwj in [
@@ -214,8 +630,13 @@ class Texts(Case):
         self.assertEqual(lodvarn.run_script(b""), b"")
 
 
-if __name__ == "__main__":
+def main():
+    """Runs the tests of the program that was started, says how many passed, and ends it."""
     result = unittest.main(exit=False).result
-    failed = len(result.failures) + len(result.errors)
+    failed = min(len(result.failures) + len(result.errors), result.testsRun)
     print(f"{result.testsRun - failed} passed, {failed} failed")
     sys.exit(failed != 0)
+
+
+if __name__ == "__main__":
+    main()

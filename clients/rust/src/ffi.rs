@@ -83,6 +83,24 @@ extern "C" {
     pub fn lodvarn_redo(s: *mut Handle) -> u32;
     pub fn lodvarn_truncate(s: *mut Handle, entries: usize) -> u32;
     pub fn lodvarn_line_place(s: *mut Handle, line: *mut usize, column: *mut u16) -> u32;
+    pub fn lodvarn_changed(
+        s: *mut Handle,
+        from: *mut usize,
+        old_end: *mut usize,
+        new_end: *mut usize,
+    ) -> u32;
+    pub fn lodvarn_watch(s: *mut Handle, reports: usize, text_bytes: usize) -> u32;
+    pub fn lodvarn_next_report(
+        s: *mut Handle,
+        kind: *mut u32,
+        at: *mut usize,
+        old_len: *mut usize,
+        new_len: *mut usize,
+        pos_before: *mut usize,
+        pos_after: *mut usize,
+        out: *mut u8,
+        cap: usize,
+    ) -> u32;
     pub fn lodvarn_text(s: *mut Handle, out: *mut u8, cap: usize) -> usize;
     pub fn lodvarn_pos(s: *mut Handle) -> usize;
     pub fn lodvarn_line_number(s: *mut Handle) -> usize;

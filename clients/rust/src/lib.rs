@@ -20,14 +20,16 @@
 //! The crate links `liblodvarn.a`, which `clients/build` makes.
 #![warn(missing_docs)]
 
+mod changes;
 // A number or a call of the header that nothing uses is an error.
 #[deny(dead_code)]
 mod ffi;
 mod texts;
 mod words;
 
+pub use changes::{ChangeListener, Changes, DeleteListener, Report, Splice, Untold};
 pub use texts::{cell, first_cluster, last_cluster, run_script, width};
-pub use words::{Action, At, Fault, Mode, Movement, Search, Word};
+pub use words::{Action, At, Direction, Fault, Mode, Movement, ReportKind, Search, Word};
 
 use std::cell::UnsafeCell;
 use std::fmt;
@@ -45,6 +47,8 @@ use std::ptr::{null_mut, NonNull};
 pub struct Session {
     // A read takes the session out of the handle and puts it back, so it gets a pointer that it may write to.
     at: UnsafeCell<ffi::Handle>,
+    // Whether it has a queue of reports that have texts, which the library does not tell.
+    keeps_texts: bool,
 }
 
 // All that a session has is memory of the program's `malloc`, which any thread may use and free.
@@ -121,6 +125,7 @@ impl Session {
     ) -> Result<Session, Fault> {
         let session = Session {
             at: UnsafeCell::new(null_mut()),
+            keeps_texts: false,
         };
         let (ptr, len, at) = (text.as_ptr(), text.len(), session.at.get());
         done(unsafe { ffi::lodvarn_open(at, ptr, len, pos, limit, ring_size, mode as u32) })?;

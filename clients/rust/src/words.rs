@@ -165,6 +165,55 @@ impl Movement {
     }
 }
 
+/// What a report is of.
+#[derive(Clone, Copy, Debug, PartialEq, Eq, Hash)]
+#[repr(u32)]
+pub enum ReportKind {
+    /// A character was put in.
+    CharInserted = ffi::CHAR_INSERTED,
+    /// A text was put in.
+    TextInserted = ffi::TEXT_INSERTED,
+    /// A text was taken out, from the cursor on.
+    DeletedForward = ffi::DELETED_FORWARD,
+    /// A text was taken out, up to the cursor.
+    DeletedBackward = ffi::DELETED_BACKWARD,
+    /// A text gave way to another; so does each change of an undo and of a redo.
+    Replaced = ffi::REPLACED,
+    /// The deletions up to the next report of the kind `KillStopped` are a kill. This one is of no change.
+    KillStarted = ffi::KILL_STARTED,
+    /// The kill has ended. This one is of no change.
+    KillStopped = ffi::KILL_STOPPED,
+    /// All that waited and all that came since, as one change, without its texts: what came stands in the present text.
+    Folded = ffi::FOLDED,
+}
+
+impl ReportKind {
+    /// The kind of a number that the library wrote.
+    pub(crate) fn of(number: u32) -> ReportKind {
+        match number {
+            ffi::CHAR_INSERTED => ReportKind::CharInserted,
+            ffi::TEXT_INSERTED => ReportKind::TextInserted,
+            ffi::DELETED_FORWARD => ReportKind::DeletedForward,
+            ffi::DELETED_BACKWARD => ReportKind::DeletedBackward,
+            ffi::REPLACED => ReportKind::Replaced,
+            ffi::KILL_STARTED => ReportKind::KillStarted,
+            ffi::KILL_STOPPED => ReportKind::KillStopped,
+            ffi::FOLDED => ReportKind::Folded,
+            _ => unreachable!("the library wrote the kind {number}"),
+        }
+    }
+}
+
+/// On which side of the cursor a text was taken out.
+#[derive(Clone, Copy, Debug, Default, PartialEq, Eq, Hash)]
+pub enum Direction {
+    /// From the cursor on.
+    #[default]
+    Forward,
+    /// Up to the cursor.
+    Backward,
+}
+
 /// Why a call was refused. Text, cursor and record are as they were, except where an edit of several steps ran out of
 /// memory: it stands after the steps that it made.
 #[derive(Clone, Copy, Debug, PartialEq, Eq, Hash)]
@@ -177,6 +226,8 @@ pub enum Fault {
     BadYankSize,
     /// The entries to keep do not lead to the present text.
     NotReplaying,
+    /// A queue was asked for that has room for no report.
+    NoRoom,
 }
 
 impl Fault {
@@ -202,6 +253,7 @@ impl fmt::Display for Fault {
             Fault::BadPlace => "no such place in the text",
             Fault::BadYankSize => "no yanked text before the cursor",
             Fault::NotReplaying => "the entries do not lead to the text",
+            Fault::NoRoom => "no room for a report",
         })
     }
 }

@@ -1,3 +1,4 @@
 pub mod Texts
 pub mod Clusters
 pub mod Ring
+pub mod Queue

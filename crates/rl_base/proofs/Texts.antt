@@ -2,6 +2,7 @@
 pub mod TextLemmas
 pub mod EventLemmas
 pub mod SwapLemmas
+pub mod SpliceLemmas
 pub mod GatheredLemmas
 pub mod BlankLemmas
 pub mod LineLemmas

@@ -13,4 +13,7 @@ pub mod KillRing
 pub mod KillGroups
 pub mod RingLends
 pub mod RefuseAt
+pub mod Splice
+pub mod Reports
+pub mod Watch
 pub mod Sameness

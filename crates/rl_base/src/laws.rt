@@ -10,7 +10,10 @@ use crate::kill_ring::Mode;
 use crate::layout::{GraphemeClusterMode, Position};
 use crate::listeners::{Direction, Refusal};
 use crate::motion::{Anchor, At, CharSearch, Movement, Word, WordAction};
+use crate::reports::{Report, ReportKind};
+use crate::splice::Splice;
 pub use crate::testing::{RefuseAt, TextEvent};
+use crate::watch::WatchFault;
 
 /// `==` compares all that a value holds: two are equal exactly where they are the same variant with the same fields, and two
 /// positions where they have the same column and row. Two texts in a `TextEvent` are the same where their bytes are.
@@ -26,6 +29,10 @@ pub fn equal_values_are_the_same()
     ensures modes { IsSameness ⟦<Mode as PartialEq>⟧.eq }
     ensures widths { IsSameness ⟦<GraphemeClusterMode as PartialEq>⟧.eq }
     ensures positions { IsSameness ⟦<Position as PartialEq>⟧.eq }
+    ensures splices { IsSameness ⟦<Splice as PartialEq>⟧.eq }
+    ensures kinds { IsSameness ⟦<ReportKind as PartialEq>⟧.eq }
+    ensures reports { IsSameness ⟦<Report as PartialEq>⟧.eq }
+    ensures faults { IsSameness ⟦<WatchFault as PartialEq>⟧.eq }
     ensures events { (a b : TextEvent) → (⟦<TextEvent as PartialEq>⟧.eq a b ≡ true) ↔ (event_of a ≡ event_of b) }
 {}
 
@@ -42,6 +49,10 @@ pub fn clones_are_the_value()
     ensures modes { IsCopying ⟦<Mode as Clone>⟧.is_clone ⟦<Mode as Clone>⟧.is_infallible }
     ensures widths { IsCopying ⟦<GraphemeClusterMode as Clone>⟧.is_clone ⟦<GraphemeClusterMode as Clone>⟧.is_infallible }
     ensures positions { IsCopying ⟦<Position as Clone>⟧.is_clone ⟦<Position as Clone>⟧.is_infallible }
+    ensures splices { IsCopying ⟦<Splice as Clone>⟧.is_clone ⟦<Splice as Clone>⟧.is_infallible }
+    ensures kinds { IsCopying ⟦<ReportKind as Clone>⟧.is_clone ⟦<ReportKind as Clone>⟧.is_infallible }
+    ensures reports { IsCopying ⟦<Report as Clone>⟧.is_clone ⟦<Report as Clone>⟧.is_infallible }
+    ensures faults { IsCopying ⟦<WatchFault as Clone>⟧.is_clone ⟦<WatchFault as Clone>⟧.is_infallible }
 {}
 
 /// The default side of the cursor is the one ahead, and the default position stands at column 0 of row 0.

@@ -8,11 +8,17 @@ pub mod layout;
 pub mod listeners;
 pub mod motion;
 pub mod places;
+pub mod reports;
+pub mod splice;
 pub mod testing;
+pub mod watch;
 
 pub use gathered::Gathered;
 pub use kill_ring::{KillRing, Mode};
 pub use layout::{GraphemeClusterMode, Layout, Position, Unit};
 pub use listeners::{ChangeListener, DeleteListener, Direction, NoListener, Refusal};
 pub use motion::{Anchor, At, CharSearch, Movement, RepeatCount, Word, WordAction};
+pub use reports::{Report, ReportKind, Reports};
+pub use splice::Splice;
 pub use testing::{RefuseAt, TextEvent};
+pub use watch::{Watch, WatchFault};

@@ -2,7 +2,7 @@
 use crate::stop::Stop;
 use crate::texts::{LINE, number_of};
 use crate::workloads::Edit;
-use rl_base::{At, KillRing, Movement, NoListener, Refusal, Word};
+use rl_base::{At, KillRing, Movement, NoListener, Refusal, Watch, Word};
 use rl_line::{Changeset, LineBuffer};
 use rl_session::Pair;
 use std::alloc::Global;
@@ -90,6 +90,7 @@ pub fn time_edit(
     let mut pair = Pair {
         ring: KillRing::new(rt.alloc(), RING_SIZE),
         changes: Changeset::new(rt.alloc()),
+        watch: Watch::new(),
     };
     let start = Instant::now(rt)?;
     edits_often(&mut line, &mut pair, edit, count)?;

@@ -18,7 +18,7 @@ ghost use Rattle.std.specs.Process.{exit_status};
 use edits::time_edit;
 use history::time_history;
 use motions::time_motion;
-use sessions::{time_letters, time_yanks};
+use sessions::{time_letters, time_watched, time_yanks};
 use std::env;
 use std::process::ExitCode;
 use std::time::Duration;
@@ -48,6 +48,7 @@ fn time(
             time_edit(rt, edit, text.as_str(), true, count)
         }
         Workload::BySession => time_letters(rt, count, size),
+        Workload::Watched => time_watched(rt, count, size),
         Workload::Yank => time_yanks(rt, count, size),
         Workload::Undo(place) => time_history(rt, place, false, count, size),
         Workload::Redo(place) => time_history(rt, place, true, count, size),

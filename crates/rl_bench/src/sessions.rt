@@ -39,6 +39,31 @@ pub fn time_letters(rt: &HostRuntime, count: usize, size: usize) -> Result<(Dura
     Ok((time, number_of(line.as_str(), line.pos())))
 }
 
+// Applies the command `count` times, and reads the reports after each. Tells how many bytes they say came.
+fn reads_often(session: &mut Session, command: &Command, count: usize) -> usize {
+    let mut came: usize = 0;
+    for _ in 0..count {
+        let _ = session.apply(command);
+        if let Some(report) = session.next_report() {
+            came = came.saturating_add(report.new_len);
+            session.forget_report();
+        }
+    }
+    came
+}
+
+/// Times the same letters in a session that keeps reports without texts, each read after its letter.
+pub fn time_watched(rt: &HostRuntime, count: usize, size: usize) -> Result<(Duration, u64), Stop> {
+    let mut session = session_of(rt, size, count)?;
+    let _ = session.watch(1, 0);
+    let start = Instant::now(rt)?;
+    let came = reads_often(&mut session, &Command::Insert('a', 1), count);
+    let time = start.elapsed(rt)?;
+    let line = session.line();
+    let state = number_of(line.as_str(), line.pos());
+    Ok((time, state.wrapping_add(came as u64)))
+}
+
 /// Times yanks of a text of `size` bytes after that text itself, each undone, and tells the state at the end.
 pub fn time_yanks(rt: &HostRuntime, count: usize, size: usize) -> Result<(Duration, u64), Stop> {
     let mut session = session_of(rt, size, size)?;

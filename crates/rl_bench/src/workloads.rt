@@ -55,6 +55,8 @@ pub enum Workload {
     InShortLines(Edit),
     /// A letter at the end, by a session.
     BySession,
+    /// The same, where the session keeps reports without texts, which are read after each letter.
+    Watched,
     /// Yanks of a text as long as the line, by a session.
     Yank,
     /// Undos of as many edits, each with an entry of its own; redos of them.
@@ -70,6 +72,7 @@ pub const WORKLOADS: &[(&str, Workload)] = &[
     ("type_middle", Workload::InMiddle(Edit::Letter)),
     ("type_short_lines", Workload::InShortLines(Edit::Letter)),
     ("type_session", Workload::BySession),
+    ("type_watched", Workload::Watched),
     ("prose_end", Workload::AtEnd(Edit::Prose)),
     ("entry_end", Workload::AtEnd(Edit::Dot)),
     ("entry_middle", Workload::InMiddle(Edit::Dot)),

@@ -1,5 +1,6 @@
 pub mod Buffers
 pub mod Cells
+pub mod Changes
 pub mod Commands
 pub mod Handed
 pub mod Handle

@@ -14,6 +14,10 @@ use Rattle.rl_base.specs.declared.motion.Word.{Word}
 use Rattle.rl_base.specs.declared.motion.Word.TheVariants.{Big, Emacs, Vi}
 use Rattle.rl_base.specs.declared.motion.WordAction.{WordAction}
 use Rattle.rl_base.specs.declared.motion.WordAction.TheVariants.{Capitalize, Lowercase, Uppercase}
+use Rattle.rl_base.specs.declared.reports.ReportKind.{ReportKind}
+use Rattle.rl_base.specs.declared.reports.ReportKind.TheVariants as kind
+use Rattle.rl_base.specs.declared.watch.WatchFault.{WatchFault}
+use Rattle.rl_base.specs.declared.watch.WatchFault.TheVariants as unwatched
 use Rattle.rl_session.specs.declared.session.Fault.{Fault}
 use Rattle.rl_session.specs.declared.session.Fault.TheVariants.{NoMemory, BadPlace, BadYankSize, NotReplaying}
 use Rattle.rl_session.specs.declared.session.Reply.{Reply}
@@ -73,6 +77,21 @@ fault_number NoMemory = no_memory
 fault_number BadPlace = bad_place
 fault_number BadYankSize = bad_yank_size
 fault_number NotReplaying = not_replaying
+
+abbrev pub watch_fault_number : WatchFault → ℕ
+watch_fault_number unwatched.NoMemory = no_memory
+watch_fault_number unwatched.NoRoom = no_such_number
+watch_fault_number unwatched.IsWatched = no
+
+abbrev pub kind_number : ReportKind → ℕ
+kind_number kind.CharInserted = 1
+kind_number kind.TextInserted = 2
+kind_number kind.DeletedForward = 3
+kind_number kind.DeletedBackward = 4
+kind_number kind.Replaced = 5
+kind_number kind.KillStarted = 6
+kind_number kind.KillStopped = 7
+kind_number kind.Folded = 8
 
 abbrev pub reply_number : Reply → ℕ
 reply_number Done = done

@@ -4,6 +4,7 @@
 
 mod buffers;
 mod cells;
+mod changes;
 mod commands;
 mod handed;
 mod handle;

@@ -2,9 +2,12 @@
 ghost use Rattle.std.specs.Prelude.{◌≡◌};
 ghost use Rattle.std.specs.Option.{option_map};
 ghost use Rattle.rl_base.specs.declared.motion.Movement.{Movement};
-ghost use Rattle.rl_ffi.specs.Numbers.{truth_number, fault_number, reply_number, char_of, word_of, at_of, action_of, mode_of, dedents_of, search_of, movement_of};
+ghost use Rattle.rl_ffi.specs.Numbers.{truth_number, fault_number, kind_number, watch_fault_number, reply_number, char_of, word_of, at_of, action_of, mode_of, dedents_of, search_of, movement_of};
 
-use rl_base::{At, CharSearch, GraphemeClusterMode, Movement, RepeatCount, Word, WordAction};
+use rl_base::{
+    At, CharSearch, GraphemeClusterMode, Movement, RepeatCount, ReportKind, WatchFault, Word,
+    WordAction,
+};
 use rl_session::{Fault, Reply};
 
 pub(crate) const DONE: u32 = 0;
@@ -51,6 +54,31 @@ pub(crate) fn fault_number(fault: Fault) -> u32
         Fault::BadPlace => BAD_PLACE,
         Fault::BadYankSize => BAD_YANK_SIZE,
         Fault::NotReplaying => NOT_REPLAYING,
+    }
+}
+
+pub(crate) fn watch_fault_number(fault: WatchFault) -> u32
+    ensures { result ≡ watch_fault_number fault }
+{
+    match fault {
+        WatchFault::NoMemory => NO_MEMORY,
+        WatchFault::NoRoom => NO_SUCH_NUMBER,
+        WatchFault::IsWatched => FALSE,
+    }
+}
+
+pub(crate) fn kind_number(kind: ReportKind) -> u32
+    ensures { result ≡ kind_number kind }
+{
+    match kind {
+        ReportKind::CharInserted => 1,
+        ReportKind::TextInserted => 2,
+        ReportKind::DeletedForward => 3,
+        ReportKind::DeletedBackward => 4,
+        ReportKind::Replaced => 5,
+        ReportKind::KillStarted => 6,
+        ReportKind::KillStopped => 7,
+        ReportKind::Folded => 8,
     }
 }
 

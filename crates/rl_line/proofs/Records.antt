@@ -10,6 +10,7 @@ pub mod MatchLemmas
 pub mod MarkLemmas
 pub mod LevelLemmas
 pub mod GroupLemmas
+pub mod HeardLemmas
 pub mod MoveLemmas
 pub mod OriginLemmas
 pub mod ChangeLemmas

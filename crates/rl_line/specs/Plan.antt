@@ -54,6 +54,10 @@ Grows _ = ⊥
 abbrev pub or_no_memory : {L : Type 0} → (L → Event → Refusal → L → Type 0) → L → Event → Refusal → L → Type 0
 or_no_memory refused before event r now = ((r ≡ NoMemory) × (now ≡ before) × Grows event) ⊎ refused before event r now
 
+-- a listener that refuses nothing
+abbrev pub NeverRefuses : {L : Type 0} → (L → Event → Refusal → L → Type 0) → Type 0
+NeverRefuses {L} refused = (before : L) (event : Event) (r : Refusal) (now : L) → refused before event r now → ⊥
+
 -- how many bytes an event tells
 abbrev pub bytes_told : Event → ℕ
 bytes_told (InsertChar i c) = length (encode_utf8 c)

@@ -1,11 +1,12 @@
 -- How a line goes back over its record, and ahead again.
-use Rattle.std.specs.Prelude.{◌≡◌, ℕ, zero, suc, ◌+◌, ◌<◌, Bool, true, not, ◌||◌, List, [], ◌∷◌, ◌++◌, length, Option, Some, None, option_and_then, unwrap_or}
+use Rattle.std.specs.Prelude.{◌≡◌, ℕ, zero, suc, ◌+◌, ◌<◌, Bool, true, not, ◌||◌, List, [], ◌∷◌, ◌++◌, length, map, reverse, Option, Some, None, option_and_then, unwrap_or}
 use Rattle.std.specs.Option.{option_map, option_map_or}
 use Rattle.std.specs.Str.{IsCharBoundary}
 use Rattle.rl_base.specs.Event.{Event, apply}
 use Rattle.rl_base.specs.Text.{is_boundary}
 use Rattle.rl_line.specs.Line.{Line, after_step}
-use Rattle.rl_line.specs.Record.{Entry, Changed, Record, bytes_ahead, bytes_back, cursors_of, event_of, events_ahead, events_back, inverse, past, replay_entries, unwind}
+use Rattle.rl_line.specs.Plan.{Step}
+use Rattle.rl_line.specs.Record.{Entry, Begin, End, Changed, Record, bytes_ahead, bytes_back, cursors_of, event_of, events_ahead, events_back, inverse, past, replay_entries, unwind}
 use Rattle.rl_line.specs.Units.{last_of, redo_of, has_change, undone, redone}
 
 -- the cursor after an entry was made, where that was told
@@ -38,6 +39,18 @@ line_ahead (e ∷ es) line = option_and_then (line_ahead es) (line_after e line)
 abbrev pub line_back : List Entry → Line → Option Line
 line_back [] line = Some line
 line_back (e ∷ es) line = option_and_then (line_after (inverse e)) (line_back es line)
+
+-- the steps by which a line goes ahead over entries, from where its cursor stands; a mark is no step
+abbrev pub steps_ahead : ℕ → List Entry → List Step
+steps_ahead cursor [] = []
+steps_ahead cursor (Begin ∷ es) = steps_ahead cursor es
+steps_ahead cursor (End ∷ es) = steps_ahead cursor es
+steps_ahead cursor (Changed kind swap ∷ es) =
+    (event_of (Changed kind swap), cursor_after cursor (Changed kind swap)) ∷ steps_ahead (cursor_after cursor (Changed kind swap)) es
+
+-- the steps by which it goes back, the last entry first
+abbrev pub steps_back : ℕ → List Entry → List Step
+steps_back cursor es = steps_ahead cursor (map inverse (reverse es))
 
 -- whether a text can go back over entries, or ahead, is tried on a copy of it. That takes memory only where there is a change,
 -- and the text, or one on the way, is not empty

@@ -1,5 +1,5 @@
 //! An entry of a record, and how a text goes over it.
-ghost use Rattle.std.specs.Prelude.{◌⊎◌, ◌≡◌, ℕ, List, None, Some, true, OnErr, OnOk, IfOk, IfErr, ◌+◌, ◌-◌, ◌^◌, ◌<◌, ◌≤◌, IsSome, IfNone, IfSome, get_or, is_some, length, vec_len, vec_capacity};
+ghost use Rattle.std.specs.Prelude.{◌⊎◌, ◌≡◌, ℕ, List, [], ◌∷◌, None, Some, true, OnErr, OnOk, IfOk, IfErr, ◌+◌, ◌-◌, ◌^◌, ◌<◌, ◌≤◌, IsSome, IfNone, IfSome, get_or, is_some, length, vec_len, vec_capacity};
 ghost use Rattle.std.specs.Option.{option_map};
 ghost use Rattle.std.specs.String.{string_bytes, string_len, string_capacity};
 ghost use Rattle.std.specs.Str.{IsCharBoundary, IsUtf8};
@@ -7,8 +7,9 @@ ghost use Rattle.rl_base.specs.Event.{InsertChar, Delete, Replace, apply};
 ghost use Rattle.rl_base.specs.Text.{stands_at};
 ghost use Rattle.rl_base.specs.declared.listeners.Direction.TheVariants.{Forward};
 ghost use Rattle.rl_base.specs.declared.listeners.Refusal.TheVariants.{NoMemory};
+ghost use Rattle.rl_line.specs.Plan.{NeverRefuses, listener_after};
 ghost use Rattle.rl_line.specs.Record.{bytes_back, cursors_of, entry_of, event_of, freshness_joined, inverse, new_text, old_text, with_cursors};
-ghost use Rattle.rl_line.specs.Undo.{cursor_after, cursor_told, cursor_stands};
+ghost use Rattle.rl_line.specs.Undo.{cursor_after, cursor_told, cursor_stands, steps_ahead};
 ghost use Rattle.rl_line.specs.Units.{is_begin, is_change};
 ghost use Rattle.rl_line.specs.Change.{TakesIn, text_back, place, entry_to_undo, greatest_back_over, order, size_back, size_of, entries_to_undo};
 ghost use Rattle.rl_line.specs.declared.change.Measure.TheVariants.{Bytes, Newlines};
@@ -17,7 +18,7 @@ ghost use Rattle.rl_line.specs.LineStarts.{IsTable};
 use crate::line_starts::{LineStarts, newlines};
 use crate::swap::{find_room, swap_in, swap_text};
 use rl_base::places::{is_alphanumeric, is_word_cluster};
-use rl_base::{Gathered, Refusal};
+use rl_base::{ChangeListener, Gathered, Refusal};
 use std::alloc::Global;
 
 /// An entry of a record: the begin or the end of a group, or one change of a text: its cursors, its byte place, and
@@ -269,6 +270,47 @@ pub(crate) fn go_over(
         }
         None => cursor,
     }
+}
+
+/// Tells a listener that a text gave way to another, and that the cursor went from `before` to `after`. Inlined, since an
+/// undo of one change calls it.
+#[inline(always)]
+pub(crate) fn tell_swap<L: ChangeListener>(
+    at: usize,
+    going: &str,
+    coming: &str,
+    before: usize,
+    after: usize,
+    listener: &mut L,
+)
+    requires { NeverRefuses L.refused }
+    ensures { listener.new ≡ listener_after L.step before ((Replace at going.now coming.now, after) ∷ []) listener.old }
+{
+    match listener.replace(at, going, coming) {
+        Ok(()) => {}
+        Err(_) => unreachable!(),
+    }
+    listener.cursors(before, after);
+}
+
+/// Tells a listener that a line went over a change, and its cursor from `before` to `after`; of a mark it is told
+/// nothing.
+pub(crate) fn tell_over<L: ChangeListener>(
+    change: &Change,
+    way: Way,
+    before: usize,
+    after: usize,
+    listener: &mut L,
+)
+    requires hears { NeverRefuses L.refused }
+    requires after { after ≡ cursor_after before (inverse (entry_to_undo way change.now)) }
+    ensures { listener.new ≡ listener_after L.step before (steps_ahead before (inverse (entry_to_undo way change.now) ∷ [])) listener.old }
+{
+    let Some(at) = change.place() else {
+        return;
+    };
+    let (going, coming) = change.texts(way);
+    tell_swap(at, going, coming, before, after, listener);
 }
 
 // Goes over a change in a text that has room for the result.

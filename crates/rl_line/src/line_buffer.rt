@@ -6,8 +6,8 @@ ghost use Rattle.std.specs.List.{insert_slice, remove_range, replace_range};
 ghost use Rattle.rl_base.specs.Event.{InsertChar, InsertStr, Delete, Replace, replay};
 ghost use Rattle.rl_base.specs.declared.listeners.Refusal.TheVariants.{NoMemory};
 ghost use Rattle.rl_line.specs.Line.{Line, NeedsRoom, stepped};
-ghost use Rattle.rl_line.specs.Plan.{Step, Taken, after, events_of, or_no_memory};
-ghost use Rattle.rl_line.specs.Undo.{line_back, texts_back};
+ghost use Rattle.rl_line.specs.Plan.{NeverRefuses, Step, Taken, after, events_of, listener_after, or_no_memory};
+ghost use Rattle.rl_line.specs.Undo.{line_back, steps_back, texts_back};
 ghost use Rattle.rl_line.specs.Change.{entry_to_undo, entries_to_undo};
 ghost use Rattle.rl_line.specs.Record.{entry_of};
 ghost use Rattle.rl_line.specs.Units.{is_change};
@@ -23,7 +23,7 @@ mod motions;
 mod ranges;
 mod transpositions;
 
-use crate::change::{Change, Way, find_room_over, go_over, nth_on};
+use crate::change::{Change, Way, find_room_over, go_over, nth_on, tell_over, tell_swap};
 use crate::line_starts::{LineStarts, newlines, newlines_of};
 use crate::steps::{deletion_step, insertion_step};
 use crate::swap::{find_room, find_room_instead, swap_in, swap_in_char};
@@ -304,11 +304,19 @@ impl LineBuffer {
     // Goes over one change alone, as `go_over_all` does over several. Inlined, so that undo and redo each know their
     // way at compile time.
     #[inline(always)]
-    pub(crate) fn go_over_one(&mut self, change: &Change, way: Way) -> Result<(), Refusal>
+    pub(crate) fn go_over_one<L: ChangeListener>(
+        &mut self,
+        change: &Change,
+        way: Way,
+        listener: &mut L,
+    ) -> Result<(), Refusal>
         requires change { is_change (entry_of change.now) ≡ true }
         requires fits { IsSome (line_back (entry_to_undo way change.now ∷ []) self.old) }
+        requires hears { NeverRefuses L.refused }
         ensures ok { OnOk result (line_back (entry_to_undo way change.now ∷ []) self.old ≡ Some self.new) }
+        ensures told { OnOk result (listener.new ≡ listener_after L.step self.old.cursor (steps_back self.old.cursor (entry_to_undo way change.now ∷ [])) listener.old) }
         ensures err { IfErr result (λ r. (r ≡ NoMemory) × (self.new ≡ self.old) × Any (NeedsRoom self.old.text) (texts_back (entry_to_undo way change.now ∷ []) self.old.text)) }
+        ensures kept { OnErr result (listener.new ≡ listener.old) }
     {
         // So the proof knows that this is UTF-8.
         let _text = self.buf.as_str();
@@ -319,19 +327,29 @@ impl LineBuffer {
         let to = at + going.len();
         let come = find_room_instead(&mut self.buf, &mut self.starts, at, to, coming)?;
         let after = swap_in(&mut self.buf, &mut self.starts, at, to, coming, come);
+        let before = self.pos;
         self.pos = change.cursor_over(way).unwrap_or(after);
         self.limit = self.limit.max(self.buf.len());
+        tell_swap(at, going, coming, before, self.pos, listener);
         Ok(())
     }
 
     // Goes over the changes: going back, the last first; going ahead, the first first. It finds the room for the
-    // longest text and the longest table on the way before it changes anything. Inlined, so that undo and redo each
-    // know their way at compile time.
+    // longest text and the longest table on the way before it changes anything. The listener is told of each change
+    // once it is gone over. Inlined, so that undo and redo each know their way at compile time.
     #[inline(always)]
-    pub(crate) fn go_over_all(&mut self, changes: &[Change], way: Way) -> Result<(), Refusal>
-        requires { IsSome (line_back (entries_to_undo way changes.now) self.old) }
+    pub(crate) fn go_over_all<L: ChangeListener>(
+        &mut self,
+        changes: &[Change],
+        way: Way,
+        listener: &mut L,
+    ) -> Result<(), Refusal>
+        requires follows { IsSome (line_back (entries_to_undo way changes.now) self.old) }
+        requires hears { NeverRefuses L.refused }
         ensures ok { OnOk result (line_back (entries_to_undo way changes.now) self.old ≡ Some self.new) }
+        ensures told { OnOk result (listener.new ≡ listener_after L.step self.old.cursor (steps_back self.old.cursor (entries_to_undo way changes.now)) listener.old) }
         ensures err { IfErr result (λ r. (r ≡ NoMemory) × (self.new ≡ self.old) × Any (NeedsRoom self.old.text) (texts_back (entries_to_undo way changes.now) self.old.text)) }
+        ensures kept { OnErr result (listener.new ≡ listener.old) }
     {
         // So the proof knows that this is UTF-8.
         let _text = self.buf.as_str();
@@ -339,14 +357,11 @@ impl LineBuffer {
         let mut left = changes.len();
         while left > 0 {
             left -= 1;
-            self.pos = go_over(
-                &mut self.buf,
-                &mut self.starts,
-                nth_on(way, changes, left),
-                way,
-                self.pos,
-            );
+            let change = nth_on(way, changes, left);
+            let before = self.pos;
+            self.pos = go_over(&mut self.buf, &mut self.starts, change, way, before);
             self.limit = self.limit.max(self.buf.len());
+            tell_over(change, way, before, self.pos, listener);
         }
         Ok(())
     }

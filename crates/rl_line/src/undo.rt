@@ -1,5 +1,5 @@
 //! The record of the changes of a line, which undoes them, in groups where they were made in groups, and redoes them.
-ghost use Rattle.std.specs.Prelude.{◌≡◌, ◌<◌, ◌↔◌, ℕ, List, Bool, [], ◌∷◌, ◌++◌, suc, true, false, drop, is_some, length, All, Any, IsSome, Some, IfOk, IfErr, OnOk};
+ghost use Rattle.std.specs.Prelude.{◌≡◌, ◌<◌, ◌≤◌, ◌↔◌, ℕ, List, Bool, [], ◌∷◌, ◌++◌, suc, true, false, drop, is_some, length, All, Any, IsSome, Some, IfOk, IfErr, OnOk, OnErr};
 ghost use Rattle.std.specs.Option.{option_map};
 ghost use Rattle.std.specs.String.{string_bytes};
 ghost use Rattle.std.specs.Str.{IsCharBoundary, IsUtf8};
@@ -9,14 +9,15 @@ ghost use Rattle.rl_base.specs.declared.listeners.Direction.TheVariants.{Forward
 ghost use Rattle.rl_base.specs.declared.listeners.Refusal.TheVariants.{NoMemory};
 ghost use Rattle.rl_line.specs.declared.change.Freshness.TheVariants.{Stale};
 ghost use Rattle.rl_line.specs.Line.{Line, NeedsRoom};
+ghost use Rattle.rl_line.specs.Plan.{NeverRefuses, after, listener_after};
 ghost use Rattle.rl_line.specs.Record.{Entry, End, IsOfKind, Record, last_insert, record_step, replay_entries, replays_to, unwind};
-ghost use Rattle.rl_line.specs.Undo.{CopiesAhead, CopiesBack, Redone, Redos, StandAfter, StandBefore, Undone, line_ahead, line_back, texts_ahead, texts_back};
+ghost use Rattle.rl_line.specs.Undo.{CopiesAhead, CopiesBack, Redone, Redos, StandAfter, StandBefore, Undone, line_ahead, line_back, steps_ahead, steps_back, texts_ahead, texts_back};
 ghost use Rattle.rl_line.specs.Units.{BothMatched, GroupAt, InGroup, IsMatched, adds_end, after_in_group, begun, ended, has_change, last_of, last_units, level, opens, redo_of, truncated};
 
 use crate::change::{Change, Freshness, Way, text_over};
 use crate::entries;
 use crate::line_buffer::LineBuffer;
-use rl_base::{ChangeListener, DeleteListener, Direction, Refusal, RepeatCount};
+use rl_base::{ChangeListener, DeleteListener, Direction, NoListener, Refusal, RepeatCount};
 use std::alloc::Global;
 use std::marker::Model;
 
@@ -169,27 +170,58 @@ impl Changeset {
         ensures unmoved { IfOk result (λ answer. answer ≡ false → (line.new.text ≡ line.old.text) × (line.new.cursor ≡ line.old.cursor)) }
         ensures err { IfErr result (λ r. (r ≡ NoMemory) × (self.new ≡ self.old) × (line.new ≡ line.old) × Any (NeedsRoom line.old.text) (texts_back (last_of n self.old.recorded) line.old.text)) }
     {
+        self.undo_telling(line, n, &mut NoListener)
+    }
+
+    /// Undoes as `undo` does, and tells a listener that refuses nothing. It hears of each change that is taken back, the
+    /// last first and right after it was: that what the change had put in gave way to what stood there before
+    /// (`replace`), and where the cursor was and went (`cursors`). It hears nothing of the marks of groups, and nothing
+    /// of a refused call.
+    // Inlined, so that an undo that tells no one is one function.
+    #[inline(always)]
+    pub fn undo_telling<L: ChangeListener>(
+        &mut self,
+        line: &mut LineBuffer,
+        n: RepeatCount,
+        listener: &mut L,
+    ) -> Result<bool, Refusal>
+        requires follows { IsSome (line_back self.old.recorded line.old) }
+        requires hears { NeverRefuses L.refused }
+        ensures done { IfOk result (λ answer. Undone n self.old self.new line.old line.new answer) }
+        ensures unmoved { IfOk result (λ answer. answer ≡ false → (line.new.text ≡ line.old.text) × (line.new.cursor ≡ line.old.cursor)) }
+        ensures told { OnOk result (listener.new ≡ listener_after L.step line.old.cursor (steps_back line.old.cursor (last_of n self.old.recorded)) listener.old) }
+        ensures err { IfErr result (λ r. (r ≡ NoMemory) × (self.new ≡ self.old) × (line.new ≡ line.old) × Any (NeedsRoom line.old.text) (texts_back (last_of n self.old.recorded) line.old.text)) }
+        ensures kept { OnErr result (listener.new ≡ listener.old) }
+    {
         if let Some(change) = entries::last_alone(&self.entries[..self.recorded], n) {
-            line.go_over_one(change, Way::Back)?;
+            line.go_over_one(change, Way::Back, listener)?;
             self.recorded -= 1;
             self.fresh = Freshness::Stale;
             return Ok(true);
         }
-        self.undo_units(line, n)
+        self.undo_units(line, n, listener)
     }
 
     // Undoes any units. It stands apart, since mostly one change alone is undone.
     #[inline(never)]
-    fn undo_units(&mut self, line: &mut LineBuffer, n: RepeatCount) -> Result<bool, Refusal>
-        requires { IsSome (line_back self.old.recorded line.old) }
+    fn undo_units<L: ChangeListener>(
+        &mut self,
+        line: &mut LineBuffer,
+        n: RepeatCount,
+        listener: &mut L,
+    ) -> Result<bool, Refusal>
+        requires follows { IsSome (line_back self.old.recorded line.old) }
+        requires hears { NeverRefuses L.refused }
         ensures done { IfOk result (λ answer. Undone n self.old self.new line.old line.new answer) }
         ensures unmoved { IfOk result (λ answer. answer ≡ false → (line.new.text ≡ line.old.text) × (line.new.cursor ≡ line.old.cursor)) }
+        ensures told { OnOk result (listener.new ≡ listener_after L.step line.old.cursor (steps_back line.old.cursor (last_of n self.old.recorded)) listener.old) }
         ensures err { IfErr result (λ r. (r ≡ NoMemory) × (self.new ≡ self.old) × (line.new ≡ line.old) × Any (NeedsRoom line.old.text) (texts_back (last_of n self.old.recorded) line.old.text)) }
+        ensures kept { OnErr result (listener.new ≡ listener.old) }
     {
         let count = entries::last_len(&self.entries[..self.recorded], n);
         let first = self.recorded - count;
         let unit = &self.entries[first..self.recorded];
-        line.go_over_all(unit, Way::Back)?;
+        line.go_over_all(unit, Way::Back, listener)?;
         let changed = entries::has_change(unit);
         let opened = entries::level(unit);
         self.level -= opened;
@@ -209,27 +241,55 @@ impl Changeset {
         ensures unmoved { IfOk result (λ answer. answer ≡ false → (line.new.text ≡ line.old.text) × (line.new.cursor ≡ line.old.cursor)) }
         ensures err { IfErr result (λ r. (r ≡ NoMemory) × (self.new ≡ self.old) × (line.new ≡ line.old) × Any (NeedsRoom line.old.text) (texts_ahead (redo_of self.old.pending) line.old.text)) }
     {
+        self.redo_telling(line, &mut NoListener)
+    }
+
+    /// Redoes as `redo` does, and tells a listener that refuses nothing. It hears of each change that is made again, the
+    /// first first and right after it was: that what stood there gave way to what the change puts in (`replace`), and
+    /// where the cursor was and went (`cursors`). It hears nothing of the marks of groups, and nothing of a refused call.
+    // Inlined as well.
+    #[inline(always)]
+    pub fn redo_telling<L: ChangeListener>(
+        &mut self,
+        line: &mut LineBuffer,
+        listener: &mut L,
+    ) -> Result<bool, Refusal>
+        requires follows { IsSome (line_ahead self.old.pending line.old) }
+        requires hears { NeverRefuses L.refused }
+        ensures done { IfOk result (λ answer. Redone self.old self.new line.old line.new answer) }
+        ensures unmoved { IfOk result (λ answer. answer ≡ false → (line.new.text ≡ line.old.text) × (line.new.cursor ≡ line.old.cursor)) }
+        ensures told { OnOk result (listener.new ≡ listener_after L.step line.old.cursor (steps_ahead line.old.cursor (redo_of self.old.pending)) listener.old) }
+        ensures err { IfErr result (λ r. (r ≡ NoMemory) × (self.new ≡ self.old) × (line.new ≡ line.old) × Any (NeedsRoom line.old.text) (texts_ahead (redo_of self.old.pending) line.old.text)) }
+        ensures kept { OnErr result (listener.new ≡ listener.old) }
+    {
         if let Some(change) = entries::next_alone(&self.entries[self.recorded..]) {
-            line.go_over_one(change, Way::Ahead)?;
+            line.go_over_one(change, Way::Ahead, listener)?;
             self.recorded += 1;
             self.fresh = Freshness::Stale;
             return Ok(true);
         }
-        self.redo_unit(line)
+        self.redo_unit(line, listener)
     }
 
     // Redoes any unit, apart as well.
     #[inline(never)]
-    fn redo_unit(&mut self, line: &mut LineBuffer) -> Result<bool, Refusal>
-        requires { IsSome (line_ahead self.old.pending line.old) }
+    fn redo_unit<L: ChangeListener>(
+        &mut self,
+        line: &mut LineBuffer,
+        listener: &mut L,
+    ) -> Result<bool, Refusal>
+        requires follows { IsSome (line_ahead self.old.pending line.old) }
+        requires hears { NeverRefuses L.refused }
         ensures done { IfOk result (λ answer. Redone self.old self.new line.old line.new answer) }
         ensures unmoved { IfOk result (λ answer. answer ≡ false → (line.new.text ≡ line.old.text) × (line.new.cursor ≡ line.old.cursor)) }
+        ensures told { OnOk result (listener.new ≡ listener_after L.step line.old.cursor (steps_ahead line.old.cursor (redo_of self.old.pending)) listener.old) }
         ensures err { IfErr result (λ r. (r ≡ NoMemory) × (self.new ≡ self.old) × (line.new ≡ line.old) × Any (NeedsRoom line.old.text) (texts_ahead (redo_of self.old.pending) line.old.text)) }
+        ensures kept { OnErr result (listener.new ≡ listener.old) }
     {
         let count = entries::next_len(&self.entries[self.recorded..]);
         let end = self.recorded + count;
         let unit = &self.entries[self.recorded..end];
-        line.go_over_all(unit, Way::Ahead)?;
+        line.go_over_all(unit, Way::Ahead, listener)?;
         let changed = entries::has_change(unit);
         let opened = entries::level(unit);
         self.level += opened;
@@ -375,6 +435,16 @@ pub fn undo_unwinds_and_redo_replays()
         → unwind (last_of n old.recorded) line.text ≡ Some line'.text }
     ensures redone { (old new : Record) (line line' : Line) (answer : Bool) → Redone old new line line' answer
         → replay_entries (redo_of old.pending) line.text ≡ Some line'.text }
+{}
+
+/// What a listener hears of an undo or of a redo are steps that lead the old line to the new one. So `steps_are_a_replay`
+/// holds of them: a mirror that held the old text and makes each change that it hears of holds the new text. What is
+/// asked of the line's cursor and length holds of every `LineBuffer` (`pos`, `limit`).
+pub fn undo_and_redo_are_steps()
+    ensures back { (es : List Entry) (line now : Line) → IsCharBoundary line.text line.cursor → length line.text ≤ line.limit
+        → line_back es line ≡ Some now → after (steps_back line.cursor es) line ≡ Some now }
+    ensures ahead { (es : List Entry) (line now : Line) → IsCharBoundary line.text line.cursor → length line.text ≤ line.limit
+        → line_ahead es line ≡ Some now → after (steps_ahead line.cursor es) line ≡ Some now }
 {}
 
 /// Where an End stands in matched entries, its group stands before it, and holds a change.

@@ -4,4 +4,5 @@ pub mod SessionLemmas
 pub mod ReplyLemmas
 pub mod IdleLemmas
 pub mod CourseLemmas
+pub mod WatchLemmas
 pub mod QuietLemmas

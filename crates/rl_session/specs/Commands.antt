@@ -11,6 +11,7 @@ use Rattle.rl_base.specs.Lines.{line_number}
 use Rattle.rl_base.specs.Search.{find_place}
 use Rattle.rl_base.specs.Event.{Event}
 use Rattle.rl_base.specs.Text.{HasText}
+use Rattle.rl_base.specs.Watch.{watch_step}
 use Rattle.rl_base.specs.declared.listeners.Refusal.{Refusal}
 use Rattle.rl_base.specs.Widths.{blank_layout}
 use Rattle.rl_base.specs.Words.{next_word, prev_word}
@@ -21,14 +22,14 @@ use Rattle.rl_line.specs.LineRanges.{IsRange}
 use Rattle.rl_line.specs.Line.{Line, NeedsRoom}
 use Rattle.rl_line.specs.LineMotions.{columns_before, home, line_end, place_above, place_below}
 use Rattle.rl_line.specs.Motions.{Moved, unless_there}
-use Rattle.rl_line.specs.Plan.{Plan, nothing, Done, Halted, or_no_memory, bytes_of}
+use Rattle.rl_line.specs.Plan.{Step as PlanStep, Plan, nothing, Done, Halted, or_no_memory, bytes_of, listener_after}
 use Rattle.rl_line.specs.Edits.{insert_plan, insert_str_plan, yank_plan, yank_pop_plan, update_plan, replace_plan, delete_range_plan}
 use Rattle.rl_line.specs.Indents.{indent_plan}
 use Rattle.rl_line.specs.Kills.{copied, delete_plan, kill_plan, is_by_characters, Told}
 use Rattle.rl_line.specs.LetterCase.{edit_word_plan, Recased}
 use Rattle.rl_line.specs.Record.{Record, replays_to}
 use Rattle.rl_line.specs.Transpositions.{transpose_chars_plan, transpose_words_plan}
-use Rattle.rl_line.specs.Undo.{CopiesBack, Undone, Redone, texts_ahead, texts_back}
+use Rattle.rl_line.specs.Undo.{CopiesBack, Undone, Redone, steps_ahead, steps_back, texts_ahead, texts_back}
 use Rattle.rl_line.specs.Units.{adds_end, begun, ended, last_of, level, redo_of, truncated}
 use Rattle.rl_session.specs.Pair.{pair_step, pair_refused}
 use Rattle.rl_session.specs.declared.pair.Pair.{Pair}
@@ -37,7 +38,7 @@ use Rattle.rl_session.specs.declared.session.Command.TheVariants.{SetPos, Move, 
 use Rattle.rl_session.specs.declared.session.Fault.TheVariants.{NoMemory, BadPlace, BadYankSize, NotReplaying}
 use Rattle.rl_session.specs.declared.session.Reply.{Reply}
 use Rattle.rl_session.specs.declared.session.Reply.TheVariants as says
-use Rattle.rl_session.specs.State.{State, Follows, Stands, with_ring}
+use Rattle.rl_session.specs.State.{State, Follows, IsBounded, Stands, with_ring}
 
 -- where a movement leads, if anywhere; columns are counted from the left edge, since the prompt's column is 0
 abbrev pub destination : State → Movement → Option ℕ
@@ -113,9 +114,13 @@ popped s = with_ring (yank_popped s.pair.ring) s
 abbrev pub CanGoIn : Line → ℕ → List ℕ → Type 0
 CanGoIn line i s = IsCharBoundary line.text i × IsCharBoundary (insert_slice line.text i s) line.cursor
 
--- nothing but the line and the record changed
+-- nothing but the line, the record and the watch changed
 abbrev pub KeepsRing : State → State → Type 0
-KeepsRing old new = new ≡ record old { line = new.line; pair = record old.pair { changes = new.pair.changes } }
+KeepsRing old new = new ≡ record old { line = new.line; pair = record old.pair { changes = new.pair.changes; watch = new.pair.watch } }
+
+-- the watch heard of these steps, and of nothing else
+abbrev pub WatchHears : List PlanStep → State → State → Type 0
+WatchHears steps old new = new.pair.watch ≡ listener_after watch_step old.line.cursor steps old.pair.watch
 
 -- the record was replaced by another, and nothing else changed
 abbrev pub with_changes : Record → State → State
@@ -170,8 +175,10 @@ Became (puts_ends a) old new =
     (a ≡ adds_end (level old.pair.changes.recorded) old.pair.changes.recorded) × (new ≡ with_changes (ended old.pair.changes) old)
 Became (shortens len) old new =
     (replays_to len old.pair.changes old.line.text ≡ true) × (new ≡ with_changes (truncated len old.pair.changes) old)
-Became (takes_back n a) old new = Undone n old.pair.changes new.pair.changes old.line new.line a × KeepsRing old new
-Became (puts_again a) old new = Redone old.pair.changes new.pair.changes old.line new.line a × KeepsRing old new
+Became (takes_back n a) old new =
+    Undone n old.pair.changes new.pair.changes old.line new.line a × KeepsRing old new × WatchHears (steps_back old.line.cursor (last_of n old.pair.changes.recorded)) old new
+Became (puts_again a) old new =
+    Redone old.pair.changes new.pair.changes old.line new.line a × KeepsRing old new × WatchHears (steps_ahead old.line.cursor (redo_of old.pair.changes.pending)) old new
 
 -- how a reply tells the answer of an edit
 pub data Telling : Type 0 → Type 1 where
@@ -304,4 +311,5 @@ pub record Step (old : State) (command : Command) (reply : Reply) (new : State) 
   pub does : Does (readied command old) command reply left
   pub settles : new ≡ settled command reply left
   pub stands : Stands new
+  pub bounded : IsBounded new
   pub follows : Follows new.line new.pair.changes

@@ -4,7 +4,7 @@ use mathlib.Core.Logic.{inl, inr}
 use Rattle.rl_base.specs.Event.{Event, Start}
 use Rattle.rl_line.specs.Plan.{Step as PlanStep, events_of}
 use Rattle.rl_line.specs.Record.{events_ahead, events_back}
-use Rattle.rl_line.specs.Undo.{texts_after}
+use Rattle.rl_line.specs.Undo.{steps_ahead, steps_back, texts_after}
 use Rattle.rl_line.specs.Units.{last_of, redo_of}
 use Rattle.rl_session.specs.declared.session.Command.{Command}
 use Rattle.rl_session.specs.declared.session.Reply.{Reply}
@@ -29,8 +29,15 @@ steps_in (tells true course) old new d = steps_in course old new d
 steps_in (tells false course) old new d = steps_in course (record old { pair = pair_step old.pair Start }) (record new { pair = d.last }) d.inside
 steps_in _ old new d = []
 
--- the events of what was done: of the steps that were taken; of an undo those that take its entries back, the last first; and of a
--- redo those of its entries
+-- the steps by which the line went: those of an edit that were taken; of an undo those that take its entries back, the last
+-- first; and of a redo those of its entries
+abbrev pub steps_done : (effect : Effect) (old new : State) → Became effect old new → List PlanStep
+steps_done (by_steps course) old new d = steps_in course old new d
+steps_done (takes_back n answer) old new d = steps_back old.line.cursor (last_of n old.pair.changes.recorded)
+steps_done (puts_again answer) old new d = steps_ahead old.line.cursor (redo_of old.pair.changes.pending)
+steps_done _ old new d = []
+
+-- the events of what was done: those of these steps, and of each mark that an undo or a redo goes over one that changes nothing
 abbrev pub events_in : (effect : Effect) (old new : State) → Became effect old new → List Event
 events_in (by_steps course) old new d = events_of (steps_in course old new d)
 events_in (takes_back n answer) old new d = events_back (last_of n old.pair.changes.recorded)
@@ -60,9 +67,9 @@ abbrev pub held_of : List Row → List (List ℕ)
 held_of [] = []
 held_of (row ∷ rows) = held row ++ held_of rows
 
--- what a row reports: the events of what was done
+-- what a row reports: the events of its steps
 abbrev pub reports : Row → List Event
-reports row = events_in (effect (readied row.command row.before) row.command row.reply) (readied row.command row.before) row.step.left row.step.does
+reports row = events_of (steps_done (effect (readied row.command row.before) row.command row.reply) (readied row.command row.before) row.step.left row.step.does)
 
 abbrev pub reports_of : List Row → List Event
 reports_of [] = []

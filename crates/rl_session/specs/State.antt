@@ -1,7 +1,10 @@
 -- What a session holds.
-use Rattle.std.specs.Prelude.{◌≡◌, ℕ, ◌<◌, ◌≤◌, max, false, IsSome, List, [], length, Option, Some, Result, Ok, Err}
+use Rattle.std.specs.Prelude.{◌≡◌, ℕ, ◌^◌, ◌<◌, ◌≤◌, max, false, IsSome, List, [], length, Option, Some, Result, Ok, Err}
 use Rattle.std.specs.Str.{IsCharBoundary, IsUtf8}
 use Rattle.rl_base.specs.KillRing.{Ring, IsRing, new_ring}
+use Rattle.rl_base.specs.Reports.{IsLineText}
+use Rattle.rl_base.specs.Splice.{Covers}
+use Rattle.rl_base.specs.Watch.{Watched, ReportsLead, new_watch}
 use Rattle.rl_base.specs.declared.layout.GraphemeClusterMode.{GraphemeClusterMode}
 use Rattle.rl_line.specs.declared.change.Freshness.TheVariants.{Stale}
 use Rattle.rl_line.specs.Line.{Line}
@@ -36,6 +39,14 @@ pub record Stands (s : State) : Type 0 where
   pub ring : IsRing s.pair.ring
   pub idle : s.pair.ring.killing ≡ false
 
+-- the limit of a session's line is a usize
+abbrev pub IsBounded : State → Type 0
+IsBounded s = s.line.limit < 2 ^ 64
+
+-- the same with another watch
+abbrev pub with_watch : Watched → State → State
+with_watch watch s = record s { pair = record s.pair { watch = watch } }
+
 -- the same with another ring
 abbrev pub with_ring : Ring → State → State
 with_ring ring s = record s { pair = record s.pair { ring = ring } }
@@ -44,7 +55,7 @@ with_ring ring s = record s { pair = record s.pair { ring = ring } }
 abbrev pub fresh : List ℕ → ℕ → ℕ → ℕ → GraphemeClusterMode → State
 fresh text pos limit ring_size mode = record {
   line = record { text = text; cursor = pos; limit = max limit (length text); grow = false };
-  pair = record { ring = new_ring ring_size; changes = record { recorded = []; pending = []; fresh = Stale } };
+  pair = record { ring = new_ring ring_size; changes = record { recorded = []; pending = []; fresh = Stale }; watch = new_watch };
   mode = mode;
 }
 
@@ -64,3 +75,16 @@ origin s = unwind s.pair.changes.recorded s.line.text
 pub record Replays (start : List ℕ) (s : State) : Type 0 where
   pub is_text : IsUtf8 start
   pub leads : replay_entries s.pair.changes.recorded start ≡ Some s.line.text
+
+-- the watch of a session takes in all in which the text differs from the one about which it was asked
+pub record ChangedFrom (asked : List ℕ) (s : State) : Type 0 where
+  pub stands : Stands s
+  pub bounded : IsBounded s
+  pub covers : Covers s.pair.watch.changed asked s.line.text
+
+-- a session keeps reports, and those that wait lead from the text at which reading left off to the present one
+pub record ReportedFrom (read : List ℕ) (s : State) : Type 0 where
+  pub stands : Stands s
+  pub bounded : IsBounded s
+  pub text : IsLineText read
+  pub leads : ReportsLead s.pair.watch.reports read s.line.text

@@ -1,10 +1,14 @@
 //! A session: a line with its kill ring and the record of its changes, which takes commands one after another.
-ghost use Rattle.std.specs.Prelude.{◌≡◌, ◌<◌, ◌++◌, ◌∷◌, [], List, ℕ, max, length, false, IsSome, Some, IfOk, IfErr, OnErr};
+ghost use Rattle.std.specs.Prelude.{◌≡◌, ◌<◌, ◌++◌, ◌∷◌, [], List, ℕ, max, length, false, IsSome, Some, IfOk, IfErr, MatchOption, None, OnErr, OnOk};
 ghost use Rattle.std.specs.Str.{IsCharBoundary};
 ghost use Rattle.rl_base.specs.Event.{replay};
 ghost use Rattle.rl_line.specs.Line.{Line};
 ghost use Rattle.rl_line.specs.Record.{Record, replay_entries, unwind};
-ghost use Rattle.rl_session.specs.State.{State, Follows, Stands, Opens, Replays, origin};
+ghost use Rattle.std.specs.Option.{option_map};
+ghost use Rattle.rl_base.specs.Reports.{new_queue, texts_of};
+ghost use Rattle.rl_base.specs.Splice.{Splices, told, untouched};
+ghost use Rattle.rl_base.specs.Watch.{RefusesQueue, ReportTells, next_note, past_next};
+ghost use Rattle.rl_session.specs.State.{State, ChangedFrom, Follows, IsBounded, ReportedFrom, Stands, with_watch, Opens, Replays, origin};
 ghost use Rattle.rl_session.specs.Commands.{Does, Step};
 ghost use Rattle.rl_session.specs.Run.{Row, Run, AfterEach, commands_of, held_of, replies_of, reports, reports_of};
 ghost use Rattle.rl_session.specs.declared.session.Command.{Command};
@@ -19,8 +23,8 @@ mod yanks;
 
 use crate::pair::Pair;
 use rl_base::{
-    At, CharSearch, GraphemeClusterMode, KillRing, Movement, NoListener, RepeatCount, Unit, Word,
-    WordAction,
+    At, CharSearch, GraphemeClusterMode, KillRing, Movement, NoListener, RepeatCount, Report,
+    Splice, Unit, Watch, WatchFault, Word, WordAction,
 };
 use rl_line::{Changeset, LineBuffer};
 use std::alloc::Global;
@@ -195,20 +199,25 @@ impl Session {
     ) -> Result<Self, Fault>
         ensures opens { Opens text.now pos limit ring_size mode result }
         ensures replays { IfOk result (Replays text.now) }
+        ensures changed { IfOk result (ChangedFrom text.now) }
     {
         if !text.is_char_boundary(pos) {
             return Err(Fault::BadPlace);
         }
         let line = line_of(alloc, text, pos, limit)?;
-        Ok(Session {
+        let session = Session {
             line,
             pair: Pair {
                 ring: KillRing::new(alloc, ring_size),
                 changes: Changeset::new(alloc),
+                watch: Watch::new(),
             },
             mode,
             alloc,
-        })
+        };
+        session.stands();
+        session.bounded();
+        Ok(session)
     }
 
     /// The line.
@@ -232,6 +241,63 @@ impl Session {
         &self.pair.ring
     }
 
+    /// What changed in the text since this was asked last, or since the session was made, as one splice: what stands
+    /// between two places of the text as it was then gave way to what stands between two places of the present text, all
+    /// in bytes, and each between two characters. None where nothing changed. It is so whatever changed the text, also a
+    /// command that was refused halfway, an undo and a redo.
+    pub fn changed(&mut self) -> Option<Splice>
+        ensures told { result ≡ told self.old.pair.watch.changed }
+        ensures splices { (asked : List ℕ) → ChangedFrom asked self.old → MatchOption result (self.old.line.text ≡ asked) (λ splice. Splices splice asked self.old.line.text) }
+        ensures again { ChangedFrom self.new.line.text self.new }
+        ensures rest { self.new ≡ with_watch (record self.old.pair.watch { changed = untouched }) self.old }
+    {
+        self.stands();
+        self.bounded();
+        self.pair.watch.changed()
+    }
+
+    /// Keeps a report of each change from now on, in a queue with room for `reports` of them and for `text_bytes` bytes
+    /// of their texts; with no room for texts, reports carry numbers alone. All room is found here, so that no command is
+    /// refused because of it: where a report or its texts find no room, all that waits becomes one report. Refused, it
+    /// changes nothing.
+    pub fn watch(&mut self, reports: usize, text_bytes: usize) -> Result<(), WatchFault>
+        ensures ok { OnOk result ((0 < reports) × (self.old.pair.watch.reports ≡ None)
+            × (self.new ≡ with_watch (record self.old.pair.watch { reports = Some (new_queue reports text_bytes) }) self.old)) }
+        ensures reported { OnOk result (ReportedFrom self.new.line.text self.new) }
+        ensures err { IfErr result (λ fault. RefusesQueue fault reports self.old.pair.watch × (self.new ≡ self.old)) }
+    {
+        self.stands();
+        self.bounded();
+        self.pair
+            .watch
+            .keep_reports(self.alloc, reports, text_bytes)
+    }
+
+    /// The oldest report that waits; None where none does, or none are kept.
+    pub fn next_report(&self) -> Option<Report>
+        ensures { result ≡ option_map (λ note. note.report) (next_note self.now.pair.watch) }
+    {
+        self.pair.watch.next_report()
+    }
+
+    /// Its texts: what went, and right after it what came. Empty where there is no such report, and where it has none.
+    pub fn next_texts(&self) -> &str
+        ensures { result.now ≡ texts_of (next_note self.now.pair.watch) }
+    {
+        self.pair.watch.next_texts()
+    }
+
+    /// Forgets the oldest report, so that the next becomes the oldest. The report told how the text at which reading
+    /// left off became one from which the reports that still wait lead to the present text; where none waited, that text
+    /// is the present one.
+    pub fn forget_report(&mut self)
+        ensures forgotten { self.new ≡ with_watch (past_next self.old.pair.watch) self.old }
+        ensures read { (read : List ℕ) → ReportedFrom read self.old → MatchOption (next_note self.old.pair.watch) (self.old.line.text ≡ read)
+            (λ note. (between : List ℕ) × ReportTells self.old.pair.watch.reports note read between × ReportedFrom between self.new) }
+    {
+        self.pair.watch.forget_report();
+    }
+
     // States the invariants of a session's parts, and that no kill is on, for the proofs that rely on them.
     fn stands(&self)
         ensures { Stands self.now }
@@ -239,6 +305,13 @@ impl Session {
         let _ = self.line.pos();
         let _ = self.line.limit();
         let _ = self.pair.ring.yank_size();
+    }
+
+    // States that the line's limit is a `usize`.
+    fn bounded(&self)
+        ensures { IsBounded self.now }
+    {
+        let _ = self.line.limit();
     }
 
     // States that the line can go back over the record, and ahead over what was undone. The call only tells the proof
@@ -317,6 +390,7 @@ impl Session {
         let reply = self.obey(command);
         self.settle(command, &reply);
         self.stands();
+        self.bounded();
         self.follows();
         reply
     }
@@ -385,4 +459,17 @@ pub fn reports_are_replayed()
     ensures row { (row : Row) → replay (reports row) row.before.line.text ≡ Some row.after.line.text }
     ensures run { (old new : State) (commands : List Command) (replies : List Reply) (run : Run old commands replies new)
         → replay (reports_of run.rows) old.line.text ≡ Some new.line.text }
+{}
+
+/// What changed is told whole, whatever changed it: also an undo, a redo, and a command that was refused after some of its
+/// steps. After each row, and so over a run, all in which the text differs from the one about which `changed` was asked
+/// is in what it tells next; and where reports are kept, those that wait lead from the text at which reading left off to
+/// the present one.
+pub fn what_changed_is_told()
+    ensures changed { (asked : List ℕ) (row : Row) → ChangedFrom asked row.before → ChangedFrom asked row.after }
+    ensures reported { (read : List ℕ) (row : Row) → ReportedFrom read row.before → ReportedFrom read row.after }
+    ensures changed_over { (asked : List ℕ) (old new : State) (commands : List Command) (replies : List Reply) (run : Run old commands replies new)
+        → ChangedFrom asked old → ChangedFrom asked new }
+    ensures reported_over { (read : List ℕ) (old new : State) (commands : List Command) (replies : List Reply) (run : Run old commands replies new)
+        → ReportedFrom read old → ReportedFrom read new }
 {}

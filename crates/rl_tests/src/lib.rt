@@ -1,8 +1,8 @@
 //! What places, widths, the ring, lines, records, sessions and scripts do, as any caller sees it. Each file is named
 //! for the module that it is of; `broken` is of scripts whose reader or writer fails, `cursors` of the cursors that undo
-//! and redo give back, `halts` of edits that are refused halfway, `told` reads what their listener heard, `joins` is of
-//! changes that join in the record, and `quotas` of great and rare input. Tests stand alone, so that no other crate is
-//! proved again for them.
+//! and redo give back, `halts` of edits that are refused halfway, `told` reads what their listener heard, `mirror` is a
+//! listener that holds the text, `joins` is of changes that join in the record, and `quotas` of great and rare input.
+//! Tests stand alone, so that no other crate is proved again for them.
 #![tactic(auto)]
 
 #[cfg(test)]
@@ -34,6 +34,8 @@ mod line_motions;
 #[cfg(test)]
 mod listeners;
 #[cfg(test)]
+mod mirror;
+#[cfg(test)]
 mod motions;
 #[cfg(test)]
 mod pair;
@@ -51,3 +53,5 @@ mod told;
 mod transpositions;
 #[cfg(test)]
 mod undo;
+#[cfg(test)]
+mod watch;

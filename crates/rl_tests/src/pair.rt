@@ -1,6 +1,6 @@
 //! What a pair hears of the edits of a line.
 use crate::line_buffer::line_of;
-use rl_base::{ChangeListener, DeleteListener, KillRing, Movement};
+use rl_base::{ChangeListener, DeleteListener, KillRing, Movement, Watch};
 use rl_line::{Changeset, LineBuffer};
 use rl_session::Pair;
 use std::process::Abort;
@@ -49,6 +49,7 @@ fn a_pair_hears_as_one(rt: HostRuntime) -> Result<(), Fail> {
     let mut pair = Pair {
         ring: KillRing::new(alloc, 2),
         changes: Changeset::new(alloc),
+        watch: Watch::new(),
     };
     let mut line = LineBuffer::with_capacity(alloc, 9)?;
     hears(&rt, &mut line, &mut pair)
@@ -77,6 +78,7 @@ fn a_pair_tells_its_record_the_cursors(rt: HostRuntime) -> Result<(), Fail> {
     let mut pair = Pair {
         ring: KillRing::new(alloc, 2),
         changes: Changeset::new(alloc),
+        watch: Watch::new(),
     };
     let mut line = line_of(&rt, alloc, "abc", 2)?;
     ChangeListener::insert_str(&mut pair, 1, "b")?;

@@ -285,7 +285,7 @@ pub marks-replay : (len : ℕ) (es : List Entry) (text : List ℕ) → has_chang
 marks-replay len es text none =
     ap (λ o. agree o (unwind (take len es) text)) (marks-unwind es text none) ∙ ap (agree (Some text)) (marks-unwind (take len es) text (marks-take len es none)) ∙ (bytes_eq-Decides text text).1 refl
 
-then-same : {A B : Type 0} (f g : A → Option B) → ((a : A) → f a ≡ g a) → (o : Option A) → option_and_then f o ≡ option_and_then g o
+pub then-same : {A B : Type 0} (f g : A → Option B) → ((a : A) → f a ≡ g a) → (o : Option A) → option_and_then f o ≡ option_and_then g o
 then-same f g same None = refl
 then-same f g same (Some a) = same a
 

@@ -124,7 +124,7 @@ module _ {A : Type 0} (plan : Plan A) (old new : Line) (p q : Pair) where
   Done-size a d = Taken-size plan.steps d.last d.taken
 
 refused-size : (p q : Pair) (e : Event) (w : Refusal) → pair_refused p e w q → q.ring.size ≡ p.ring.size
-refused-size p q e w h = elim (h.2) [ inl same ↦ ap (λ (r : Ring). r.size) same.0 | inr step ↦ ap (λ (r : Ring). r.size) step.0 ∙ ring_step-size p.ring e ]
+refused-size p q e w h = elim (h.3) [ inl same ↦ ap (λ (r : Ring). r.size) same.0 | inr step ↦ ap (λ (r : Ring). r.size) step.0 ∙ ring_step-size p.ring e ]
 
 cause-size : (p q : Pair) (e : Event) (w : Refusal) → or_no_memory pair_refused p e w q → q.ring.size ≡ p.ring.size
 cause-size p q e w h = elim h [ inl c ↦ ap (λ (k : Pair). k.ring.size) c.1 | inr c ↦ refused-size p q e w c ]

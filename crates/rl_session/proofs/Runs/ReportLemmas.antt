@@ -1,43 +1,48 @@
 -- What rows report, applied to the text before them, gives the text after them.
 use Rattle.std.proofs.Common.{◌≡◌, ℕ, List, [], ◌∷◌, Option, Some, None, refl, sym, ap, ◌∙◌}
-use Rattle.std.proofs.lemmas.List.{map-append, reverse-append}
 use Rattle.std.specs.Prelude.{map, option_and_then, reverse}
-use Rattle.rl_base.specs.Event.{Event, apply, replay}
-use Rattle.rl_line.specs.Record.{Entry, event_of, events_back, inverse, unwind}
+use Rattle.rl_base.specs.Event.{Event, Replace, apply, replay}
+use Rattle.rl_line.specs.Record.{Entry, Begin, End, Changed, events_ahead, inverse}
+use Rattle.rl_line.specs.Plan.{events_of}
+use Rattle.rl_line.specs.Undo.{cursor_after, steps_ahead}
 use Rattle.rl_line.specs.Units.{last_of, redo_of}
 use Rattle.rl_line.proofs.Plans.PlanLemmas.{after-replay}
-use Rattle.rl_line.proofs.Records.RecordLemmas.{events-append, then_some}
-use Rattle.rl_line.proofs.Records.UndoLemmas.{line_ahead-replay, line_back-unwind}
+use Rattle.rl_line.proofs.Records.RecordLemmas.{events-append}
+use Rattle.rl_line.proofs.Records.HeardLemmas.{line_back-ahead}
+use Rattle.rl_line.proofs.Records.UndoLemmas.{line_ahead-replay}
 use Rattle.rl_session.specs.Commands.{Effect, by_steps, puts_begin, puts_ends, shortens, takes_back, puts_again, Became, effect, readied}
-use Rattle.rl_session.specs.Run.{Row, Leads, Run, events_in, reports, reports_of, steps_in}
+use Rattle.rl_session.specs.Run.{Row, Leads, Run, reports, reports_of, steps_done, steps_in}
 use Rattle.rl_session.specs.State.{State}
 use Rattle.rl_session.specs.declared.session.Command.{Command}
 use Rattle.rl_session.specs.declared.session.Reply.{Reply}
 use Rattle.rl_session.proofs.Sessions.CourseLemmas.{Heard-Came}
 
--- the events that take entries back
-replay-back : (es : List Entry) (text : List ℕ) → replay (events_back es) text ≡ unwind es text
-replay-back [] text = refl
-replay-back (e ∷ es) text =
-    ap (λ l. replay (map (λ (x : Entry). event_of (inverse x)) l) text) (reverse-append (e ∷ []) es)
-    ∙ ap (λ l. replay l text) (map-append (λ (x : Entry). event_of (inverse x)) (reverse es) (e ∷ []))
-    ∙ events-append (events_back es) (event_of (inverse e) ∷ []) text
-    ∙ ap (option_and_then (replay (event_of (inverse e) ∷ []))) (replay-back es text)
-    ∙ one (event_of (inverse e)) (unwind es text)
-  where
-    one : (event : Event) (o : Option (List ℕ)) → option_and_then (replay (event ∷ [])) o ≡ option_and_then (apply event) o
-    one event None = refl
-    one event (Some t) = then_some (apply event t)
+then_same : (xs ys : List Event) (o : Option (List ℕ)) → ((t : List ℕ) → replay xs t ≡ replay ys t) → option_and_then (replay xs) o ≡ option_and_then (replay ys) o
+then_same xs ys None same = refl
+then_same xs ys (Some t) same = same t
 
-reported : (effect : Effect) (old new : State) (d : Became effect old new) → replay (events_in effect old new d) old.line.text ≡ Some new.line.text
+-- a mark changes no text, so it is no matter that it is no step
+replay-ahead : (cursor : ℕ) (es : List Entry) (text : List ℕ) → replay (events_of (steps_ahead cursor es)) text ≡ replay (events_ahead es) text
+unfolding apply
+replay-ahead cursor [] text = refl
+replay-ahead cursor (Begin ∷ es) text = replay-ahead cursor es text
+replay-ahead cursor (End ∷ es) text = replay-ahead cursor es text
+replay-ahead cursor (Changed kind swap ∷ es) text =
+    then_same (events_of (steps_ahead (cursor_after cursor (Changed kind swap)) es)) (events_ahead es) (apply (Replace swap.place swap.old swap.new) text)
+    (λ t. replay-ahead (cursor_after cursor (Changed kind swap)) es t)
+
+reported : (effect : Effect) (old new : State) (d : Became effect old new) → replay (events_of (steps_done effect old new d)) old.line.text ≡ Some new.line.text
 reported (by_steps course) old new d =
     let h = Heard-Came course old new d in after-replay (steps_in course old new d) old.line h.last h.taken.line ∙ ap (λ t. Some t) (sym h.text_is)
 reported (puts_begin n) old new d = ap (λ (s : State). Some s.line.text) (sym d.1)
 reported (puts_ends a) old new d = ap (λ (s : State). Some s.line.text) (sym d.1)
 reported (shortens len) old new d = ap (λ (s : State). Some s.line.text) (sym d.1)
 reported (takes_back n a) old new d =
-    let back = last_of n old.pair.changes.recorded in replay-back back old.line.text ∙ line_back-unwind back old.line new.line d.0.line_is
-reported (puts_again a) old new d = line_ahead-replay (redo_of old.pair.changes.pending) old.line new.line d.0.line_is
+    let back = last_of n old.pair.changes.recorded in
+    let ahead = map inverse (reverse back) in
+    replay-ahead old.line.cursor ahead old.line.text ∙ line_ahead-replay ahead old.line new.line (line_back-ahead back old.line ∙ d.0.line_is)
+reported (puts_again a) old new d =
+    let ahead = redo_of old.pair.changes.pending in replay-ahead old.line.cursor ahead old.line.text ∙ line_ahead-replay ahead old.line new.line d.0.line_is
 
 -- the ring's resets change no text
 pub reported-row : (row : Row) → replay (reports row) row.before.line.text ≡ Some row.after.line.text

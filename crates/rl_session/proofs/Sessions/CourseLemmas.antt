@@ -26,7 +26,7 @@ Heard-same : (old new : State) → new ≡ old → Heard [] old.line old.pair.ch
 Heard-same old new e =
     Heard-nothing old.line old.pair.changes new.line.text new.pair.changes (ap (λ (s : State). s.line.text) e) (ap (λ (s : State). s.pair.changes) e)
 
-Moved-text : (place : Option ℕ) (old new : Line) (a : Bool) → Moved place old new a → new.text ≡ old.text
+pub Moved-text : (place : Option ℕ) (old new : Line) (a : Bool) → Moved place old new a → new.text ≡ old.text
 Moved-text None old new a m = ap (λ (l : Line). l.text) m.1
 Moved-text (Some place) old new a m = ap (λ (l : Line). l.text) m.1
 

@@ -58,7 +58,7 @@ NoneStarts-first (s ∷ ss) next others n = let rest = NoneStarts-first ss next 
 
 -- a refused event leaves the ring, or the ring heard it
 idle-refused : (p q : Pair) (e : Event) (w : Refusal) → IsNoStart e → p.ring.killing ≡ false → pair_refused p e w q → q.ring.killing ≡ false
-idle-refused p q e w n h c = elim c.2 [
+idle-refused p q e w n h c = elim c.3 [
   | inl same ↦ ap (λ (r : Ring). r.killing) same.0 ∙ h
   | inr step ↦ ap (λ (r : Ring). r.killing) step.0 ∙ idle-step e p.ring n h
 ]

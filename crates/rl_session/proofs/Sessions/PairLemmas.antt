@@ -1,7 +1,8 @@
--- What a pair of a ring and a record hears, as each of the two hears it.
+-- What a pair of a ring and a record hears, as each of the two hears it, and the watch beside them.
 use Rattle.std.proofs.Common.{◌⊎◌, ◌≡◌, ℕ, ◌∷◌, [], List, refl, ap, inl, inr, ◌∙◌}
 use Rattle.rl_base.specs.Event.{Event}
 use Rattle.rl_base.specs.KillRing.{ring_step}
+use Rattle.rl_base.specs.Watch.{watch_step}
 use Rattle.rl_base.specs.declared.listeners.Refusal.{Refusal}
 use Rattle.rl_base.specs.declared.listeners.Refusal.TheVariants as why
 use Rattle.rl_line.specs.Line.{Line}
@@ -20,6 +21,10 @@ pub listener_after-ring : (cursor : ℕ) (steps : List Step) (p : Pair) → (lis
 listener_after-ring cursor [] p = refl
 listener_after-ring cursor (s ∷ ss) p = listener_after-ring s.1 ss (listener_after_step pair_step cursor s p)
 
+pub listener_after-watch : (cursor : ℕ) (steps : List Step) (p : Pair) → (listener_after pair_step cursor steps p).watch ≡ listener_after watch_step cursor steps p.watch
+listener_after-watch cursor [] p = refl
+listener_after-watch cursor (s ∷ ss) p = listener_after-watch s.1 ss (listener_after_step pair_step cursor s p)
+
 -- what a pair went through, its record went through
 pub Taken-changes : (steps : List Step) (old new : Line) (p q : Pair) → Taken pair_step steps old new p q → Taken record_step steps old new p.changes q.changes
 Taken-changes steps old new p q t = record { line = t.line; listener = ap (λ (k : Pair). k.changes) t.listener ∙ listener_after-changes old.cursor steps p }
@@ -34,6 +39,10 @@ keeps_changes r _ _ now = now ≡ r
 -- whatever refused, a pair, or the line since memory is out: the record is as it was
 pub cause-changes : (p q : Pair) (e : Event) (w : Refusal) → or_no_memory pair_refused p e w q → q.changes ≡ p.changes
 cause-changes p q e w h = elim h [ inl c ↦ ap (λ (k : Pair). k.changes) c.1 | inr c ↦ c.1 ]
+
+-- and so is the watch
+pub cause-watch : (p q : Pair) (e : Event) (w : Refusal) → or_no_memory pair_refused p e w q → q.watch ≡ p.watch
+cause-watch p q e w h = elim h [ inl c ↦ ap (λ (k : Pair). k.watch) c.1 | inr c ↦ c.2 ]
 
 -- however the steps of an edit may be refused, it is since memory is out, or by the pair
 pub own : (takes : Takes) (p q : Pair) (e : Event) (w : Refusal) → refusal_of takes p e w q → or_no_memory pair_refused p e w q
@@ -60,7 +69,7 @@ Halted-changes plan old new p q w h = record {
 
 -- whichever refusal it was, memory is out
 pair_memory : (p q : Pair) (e : Event) (w : Refusal) → pair_refused p e w q → pair_refused p e why.NoMemory q
-pair_memory p q e w h = (refl, h.1, h.2)
+pair_memory p q e w h = (refl, h.1, h.2, h.3)
 
 cause-memory : (takes : Takes) (p q : Pair) (e : Event) (w : Refusal) → refusal_of takes p e w q → refusal_of takes p e why.NoMemory q
 cause-memory nothing_more p q e w h = pair_memory p q e w h

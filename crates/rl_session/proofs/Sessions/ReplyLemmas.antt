@@ -1,6 +1,6 @@
 -- What a command did, by what is replied to the outcome of its call.
 use Rattle.std.proofs.Common.{Bool, true, false, inr, inl, ◌≡◌, ◌∙◌, ap, refl, subst, sym, Result, Ok, Err, String, Global, string_bytes}
-use Rattle.std.specs.Prelude.{ℕ, Any, Bool, Option, IfOk, IfErr}
+use Rattle.std.specs.Prelude.{ℕ, Any, Bool, Option, IfOk, IfErr, OnOk, OnErr}
 use Rattle.std.specs.Option.{option_map}
 use Rattle.rl_base.specs.Event.{Start}
 use Rattle.rl_base.specs.declared.listeners.Refusal.{Refusal}
@@ -12,15 +12,16 @@ use Rattle.rl_line.specs.Plan.{Plan, Done, Halted}
 use Rattle.rl_line.specs.Kills.{Told, copied, is_by_characters, kill_plan}
 use Rattle.rl_line.specs.LetterCase.{edit_word_plan, Recased}
 use Rattle.rl_line.specs.Record.{Record}
-use Rattle.rl_line.specs.Undo.{Undone, texts_back}
-use Rattle.rl_line.specs.Units.{last_of}
+use Rattle.rl_line.specs.Undo.{Undone, Redone, steps_ahead, steps_back, texts_ahead, texts_back}
+use Rattle.rl_line.specs.Units.{last_of, redo_of}
 use Rattle.rl_base.specs.Text.{HasText}
-use Rattle.rl_session.specs.Commands.{Takes, nothing_more, room_by_step, a_copy, refusal_of, unbegun, stops, Came, edit_course, Does, CutShort, KeepsRing, Telling, answers, inserts, hands_out, is_done}
+use Rattle.rl_base.specs.Watch.{Watched}
+use Rattle.rl_session.specs.Commands.{Takes, nothing_more, room_by_step, a_copy, refusal_of, unbegun, stops, Came, edit_course, Does, CutShort, KeepsRing, WatchHears, Telling, answers, inserts, hands_out, is_done}
 use Rattle.rl_session.specs.Pair.{pair_step, pair_refused}
 use Rattle.rl_session.specs.declared.pair.Pair.{Pair}
 use Rattle.rl_session.specs.Replies.{replied}
 use Rattle.rl_session.specs.State.{State}
-use Rattle.rl_session.specs.declared.session.Command.TheVariants.{Copy, EditWord, Kill, Undo}
+use Rattle.rl_session.specs.declared.session.Command.TheVariants.{Copy, EditWord, Kill, Redo, Undo}
 use Rattle.rl_session.specs.declared.session.Reply.{Reply}
 use Rattle.rl_session.specs.declared.session.Reply.TheVariants as says
 use Rattle.rl_session.proofs.Sessions.PairLemmas.{Stopped, Halted-pair}
@@ -116,13 +117,26 @@ Copy-replied m (Ok t) v e d h = carried (λ k r. Does k (Copy m) r k) v e (d, re
 Copy-replied m (Err w) v e d h = carried (λ k r. Does k (Copy m) r k) v e (h.1, refl)
 
 -- a refused undo changed nothing
-same_state : (old new : State) → KeepsRing old new → new.pair.changes ≡ old.pair.changes → new.line ≡ old.line → new ≡ old
-same_state old new k r l =
-    k ∙ ap (λ (line : Line). record old { line = line; pair = record old.pair { changes = new.pair.changes } }) l
-    ∙ ap (λ (changes : Record). record old { pair = record old.pair { changes = changes } }) r
+same_state : (old new : State) → KeepsRing old new → new.pair.changes ≡ old.pair.changes → new.line ≡ old.line → new.pair.watch ≡ old.pair.watch → new ≡ old
+same_state old new k r l w =
+    k ∙ ap (λ (line : Line). record old { line = line; pair = record old.pair { changes = new.pair.changes; watch = new.pair.watch } }) l
+    ∙ ap (λ (changes : Record). record old { pair = record old.pair { changes = changes; watch = new.pair.watch } }) r
+    ∙ ap (λ (watch : Watched). record old { pair = record old.pair { watch = watch } }) w
 
+-- the watch hears of the steps of an undo, and where that is refused of none
 pub Undo-replied : (n : ℕ) {inside old : State} (new : State) (outcome : Result Bool Refusal) {reply : Reply} → inside ≡ old → reply ≡ replied says.Answer outcome → KeepsRing inside new
     → IfOk outcome (λ a. Undone n inside.pair.changes new.pair.changes inside.line new.line a)
-    → IfErr outcome (λ w. (w ≡ why.NoMemory) × (new.pair.changes ≡ inside.pair.changes) × (new.line ≡ inside.line) × Any (NeedsRoom inside.line.text) (texts_back (last_of n inside.pair.changes.recorded) inside.line.text)) → Does old (Undo n) reply new
-Undo-replied n {inside} new (Ok a) v e k d h = carried (λ s r. Does s (Undo n) r new) v e (d, k)
-Undo-replied n {inside} new (Err w) v e k d h = carried (λ s r. Does s (Undo n) r new) v e (h.3, same_state inside new k h.1 h.2)
+    → OnOk outcome (WatchHears (steps_back inside.line.cursor (last_of n inside.pair.changes.recorded)) inside new)
+    → IfErr outcome (λ w. (w ≡ why.NoMemory) × (new.pair.changes ≡ inside.pair.changes) × (new.line ≡ inside.line) × Any (NeedsRoom inside.line.text) (texts_back (last_of n inside.pair.changes.recorded) inside.line.text))
+    → OnErr outcome (new.pair.watch ≡ inside.pair.watch) → Does old (Undo n) reply new
+Undo-replied n {inside} new (Ok a) v e k d t h same = carried (λ s r. Does s (Undo n) r new) v e (d, k, t)
+Undo-replied n {inside} new (Err w) v e k d t h same = carried (λ s r. Does s (Undo n) r new) v e (h.3, same_state inside new k h.1 h.2 same)
+
+-- and of those of a redo
+pub Redo-replied : {inside old : State} (new : State) (outcome : Result Bool Refusal) {reply : Reply} → inside ≡ old → reply ≡ replied says.Answer outcome → KeepsRing inside new
+    → IfOk outcome (λ a. Redone inside.pair.changes new.pair.changes inside.line new.line a)
+    → OnOk outcome (WatchHears (steps_ahead inside.line.cursor (redo_of inside.pair.changes.pending)) inside new)
+    → IfErr outcome (λ w. (w ≡ why.NoMemory) × (new.pair.changes ≡ inside.pair.changes) × (new.line ≡ inside.line) × Any (NeedsRoom inside.line.text) (texts_ahead (redo_of inside.pair.changes.pending) inside.line.text))
+    → OnErr outcome (new.pair.watch ≡ inside.pair.watch) → Does old Redo reply new
+Redo-replied {inside} new (Ok a) v e k d t h same = carried (λ s r. Does s Redo r new) v e (d, k, t)
+Redo-replied {inside} new (Err w) v e k d t h same = carried (λ s r. Does s Redo r new) v e (h.3, same_state inside new k h.1 h.2 same)

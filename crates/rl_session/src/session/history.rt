@@ -26,14 +26,16 @@ impl Session {
         ensures { Does self.old (Command.Undo n) result self.new }
     {
         self.stands();
-        answered(self.pair.changes.undo(&mut self.line, n))
+        let watch = &mut self.pair.watch;
+        answered(self.pair.changes.undo_telling(&mut self.line, n, watch))
     }
 
     pub(super) fn redo(&mut self) -> Reply
         ensures { Does self.old Command.Redo result self.new }
     {
         self.stands();
-        answered(self.pair.changes.redo(&mut self.line))
+        let watch = &mut self.pair.watch;
+        answered(self.pair.changes.redo_telling(&mut self.line, watch))
     }
 
     pub(super) fn truncate(&mut self, len: usize) -> Reply

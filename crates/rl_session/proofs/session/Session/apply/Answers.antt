@@ -8,6 +8,7 @@ returns-clause-step c = record {
   does = rw c.ready.ensures at c.obey-reply.ensures;
   settles = c.settle.ensures;
   stands = c.stands-2.ensures;
+  bounded = c.bounded.ensures;
   follows = c.follows-2.ensures;
 }
 

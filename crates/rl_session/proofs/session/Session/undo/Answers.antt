@@ -5,10 +5,11 @@ use Rattle.rl_line.proofs.Records.WalkLemmas.{Walks-back}
 use Rattle.rl_session.proofs.session.Session.undo.Goals as goal
 
 pub invariant_of-self : goal.invariant_of-self
-invariant_of-self c = record { walks = Walks-undo _ _ _ _ _ _ c.undo.result c.undo.ensures.done c.undo.ensures.err c.self.invariant.walks; idle = c.self.invariant.idle }
+invariant_of-self c = record { walks = Walks-undo _ _ _ _ _ _ c.undo_telling.result c.undo_telling.ensures.done c.undo_telling.ensures.err c.self.invariant.walks; idle = c.self.invariant.idle }
 
 pub returns : goal.returns
-returns c = Undo-replied c.args.n _ _ c.self.view_is c.answered.ensures refl c.undo.ensures.done c.undo.ensures.err
+returns c =
+    Undo-replied c.args.n _ _ c.self.view_is c.answered.ensures refl c.undo_telling.ensures.done c.undo_telling.ensures.told c.undo_telling.ensures.err c.undo_telling.ensures.kept
 
-pub undo-requires : goal.undo-requires
-undo-requires c = Walks-back c.self.inside.pair.changes c.self.inside.line c.self.invariant.walks (rw (← c.self.view_is) at c.stands.ensures.cursor)
+pub undo_telling-requires-clause-follows : goal.undo_telling-requires-clause-follows
+undo_telling-requires-clause-follows c = Walks-back c.self.inside.pair.changes c.self.inside.line c.self.invariant.walks (rw (← c.self.view_is) at c.stands.ensures.cursor)

@@ -1,0 +1,3 @@
+-- A queue of reports.
+pub mod QueueLemmas
+pub mod LeadLemmas

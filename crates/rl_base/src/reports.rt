@@ -1,0 +1,386 @@
+//! A queue of reports of changes, for who reads late.
+ghost use Rattle.std.specs.Prelude.{◌≡◌, ℕ, ◌+◌, ◌^◌, ◌<◌, ◌≤◌, ◌⊎◌, ◌++◌, List, Some, MatchOption, length, option_map, vec_capacity, IfErr, IfOk};
+ghost use Rattle.std.specs.String.{string_bytes, string_capacity};
+ghost use Rattle.rl_base.specs.declared.listeners.Refusal.TheVariants.{NoMemory};
+ghost use Rattle.rl_base.specs.Event.{Event, apply};
+ghost use Rattle.rl_base.specs.Reports.{AsOne, IsLineText, Leads, Queue, ReadsTo, as_one, bytes_kept, forgotten, has_room_in, is_change, joined, joined_cursors, kept, new_queue, noting, oldest, on_last, queue_step, taken_in, texts_of, told_cursors, told_whole};
+
+use crate::listeners::{ChangeListener, DeleteListener, Direction, Refusal};
+use crate::splice::{Splice, UNTOUCHED};
+use std::alloc::Global;
+use std::marker::Model;
+
+/// What kind of change a report is of.
+#[derive(Clone, Copy, Debug, PartialEq, Eq)]
+pub enum ReportKind {
+    /// A character was put in.
+    CharInserted = 1,
+    /// A text was put in.
+    TextInserted = 2,
+    /// A text was taken out, from the cursor on.
+    DeletedForward = 3,
+    /// A text was taken out, up to the cursor.
+    DeletedBackward = 4,
+    /// A text gave way to another.
+    Replaced = 5,
+    /// A kill began. The text is as it was.
+    KillStarted = 6,
+    /// A kill ended. The text is as it was.
+    KillStopped = 7,
+    /// All that waited, as one change: there was no room to keep it apart.
+    Folded = 8,
+}
+
+// The numbers are part of the interface.
+const _: () = prove!(ReportKind::CharInserted as u8 == 1);
+
+const _: () = prove!(ReportKind::TextInserted as u8 == 2);
+
+const _: () = prove!(ReportKind::DeletedForward as u8 == 3);
+
+const _: () = prove!(ReportKind::DeletedBackward as u8 == 4);
+
+const _: () = prove!(ReportKind::Replaced as u8 == 5);
+
+const _: () = prove!(ReportKind::KillStarted as u8 == 6);
+
+const _: () = prove!(ReportKind::KillStopped as u8 == 7);
+
+const _: () = prove!(ReportKind::Folded as u8 == 8);
+
+impl ReportKind {
+    // Whether the text changed. A kill's start and stop are marks.
+    fn is_change(self) -> bool
+        ensures { result ≡ is_change self }
+    {
+        match self {
+            ReportKind::CharInserted
+            | ReportKind::TextInserted
+            | ReportKind::DeletedForward
+            | ReportKind::DeletedBackward
+            | ReportKind::Replaced
+            | ReportKind::Folded => true,
+            ReportKind::KillStarted | ReportKind::KillStopped => false,
+        }
+    }
+}
+
+/// One change of a text: at a place some bytes gave way to others. Places and lengths are in bytes.
+#[derive(Clone, Copy, Debug, PartialEq, Eq)]
+pub struct Report {
+    /// What kind of change it is.
+    pub kind: ReportKind,
+    /// Where the change begins, in bytes; 0 for a kill's start and stop.
+    pub at: usize,
+    /// How many bytes went.
+    pub old_len: usize,
+    /// How many bytes came in their place.
+    pub new_len: usize,
+    /// The byte places of the cursor before and after, where they were told.
+    pub cursors: Option<(usize, usize)>,
+}
+
+// Changes as one.
+#[derive(Clone, Copy)]
+struct Joined {
+    splice: Splice,
+    // The first cursor before, and the last one after.
+    cursors: Option<(usize, usize)>,
+}
+
+impl Joined {
+    // Takes one more report in.
+    fn take_in(&mut self, report: Report)
+        ensures { self.new ≡ taken_in self.old report }
+    {
+        self.cursors = join_cursors(self.cursors, report.cursors);
+        if report.kind.is_change() {
+            self.splice.fold(report.at, report.old_len, report.new_len);
+        }
+    }
+
+    // All as one report.
+    fn report(self) -> Report
+        ensures { result ≡ told_whole self }
+    {
+        let at = self.splice.from.min(self.splice.old_end);
+        Report {
+            kind: ReportKind::Folded,
+            at,
+            old_len: self.splice.old_end - at,
+            new_len: self.splice.new_end.saturating_sub(at),
+            cursors: self.cursors,
+        }
+    }
+}
+
+// Two pairs of cursors as one: the first before, and the last after.
+fn join_cursors(
+    first: Option<(usize, usize)>,
+    later: Option<(usize, usize)>,
+) -> Option<(usize, usize)>
+    ensures { result ≡ joined_cursors first later }
+{
+    let Some((before, _)) = first else {
+        return later;
+    };
+    let Some((_, after)) = later else {
+        return first;
+    };
+    Some((before, after))
+}
+
+// Reports as one.
+fn join_all(reports: &[Report]) -> Joined
+    ensures { result ≡ joined reports.now }
+{
+    let mut all = Joined {
+        splice: UNTOUCHED,
+        cursors: None,
+    };
+    for report in reports {
+        all.take_in(*report);
+    }
+    all
+}
+
+/// A queue of reports of changes, for who reads late: what it hears as a listener becomes a report, which waits until it
+/// is forgotten. It refuses nothing, and takes no memory once it is made. Where there is no room for one more report,
+/// or for its texts, all that waits and the new one become one report of the kind `Folded`, which takes in each later
+/// change too, until it is forgotten. So who reads late loses detail, and never step.
+#[derive(Drop)]
+pub struct Reports {
+    room: usize,
+    text_room: usize,
+    waiting: Vec<Report>,
+    // What went and what came, for each report that waits; nothing where no texts are kept.
+    texts: String,
+    // All as one. While it is there, no reports wait.
+    folded: Option<Joined>,
+}
+
+impl Model for Reports {
+    ghost use Rattle.std.specs.Prelude.{◌≤◌, vec_capacity};
+    ghost use Rattle.std.specs.String.{string_bytes, string_capacity};
+    ghost use Rattle.rl_base.specs.Reports.{IsQueue, Queue, notes, waiting_of};
+
+    ghost Value = { Queue };
+
+    ghost view = { λ r. record { room = r.room; text_room = r.text_room; waiting = waiting_of r.folded (notes r.text_room r.waiting.items (string_bytes r.texts)) } };
+
+    ghost invariant = { λ r. IsQueue r.room r.text_room r.waiting.items (string_bytes r.texts) r.folded × (r.room ≤ vec_capacity r.waiting) × (r.text_room ≤ string_capacity r.texts) };
+}
+
+impl Reports {
+    /// An empty queue with room for `room` reports and for `text_room` bytes of their texts. With no room for texts it
+    /// keeps none. Refused only where memory is out, and never where it needs none.
+    pub fn new(alloc: Global, room: usize, text_room: usize) -> Result<Self, Refusal>
+        ensures ok { IfOk result (λ reports. reports ≡ new_queue room text_room) }
+        ensures err { IfErr result (λ r. (r ≡ NoMemory) × ((0 < room) ⊎ (0 < text_room))) }
+    {
+        let waiting = Vec::with_capacity(alloc, room)?;
+        let texts = String::with_capacity(alloc, text_room)?;
+        Ok(Reports {
+            room,
+            text_room,
+            waiting,
+            texts,
+            folded: None,
+        })
+    }
+
+    /// The oldest report that waits, None where nothing does.
+    pub fn oldest(&self) -> Option<Report>
+        ensures { result ≡ option_map (λ n. n.report) (oldest self.now.waiting) }
+    {
+        if let Some(all) = self.folded {
+            return Some(all.report());
+        }
+        self.waiting.first().copied()
+    }
+
+    /// The texts of the oldest report: what went, and right after it what came. Empty where no texts are kept, where
+    /// nothing waits, and of a folded report.
+    pub fn oldest_texts(&self) -> &str
+        ensures { result.now ≡ texts_of (oldest self.now.waiting) }
+    {
+        let Some(oldest) = self.waiting.first() else {
+            return "";
+        };
+        &self.texts.as_str()[..bytes_kept(self.text_room, oldest)]
+    }
+
+    /// Forgets the oldest report, so that the next becomes the oldest. Where a change was heard since the oldest was read, it
+    /// may by now stand folded with that change, which is then forgotten too: so read and forget with no edit between.
+    pub fn forget(&mut self)
+        ensures { self.new ≡ forgotten self.old }
+    {
+        self.folded = None;
+        let Some(oldest) = self.waiting.first() else {
+            return;
+        };
+        let bytes = bytes_kept(self.text_room, oldest);
+        if bytes > 0 && self.texts.replace_range(..bytes, "").is_err() {
+            unreachable!();
+        }
+        // Mostly it is the only one.
+        if self.waiting.len() == 1 {
+            self.waiting.clear();
+        } else {
+            self.waiting.remove(0);
+        }
+    }
+
+    // Whether one more report would find room, with so many bytes of texts.
+    fn has_room(&self, bytes: usize) -> bool
+        ensures { result ≡ has_room_in self.now.room self.now.text_room bytes self.now.waiting }
+    {
+        if self.folded.is_some() {
+            return false;
+        }
+        self.waiting.len() < self.room && bytes <= self.text_room - self.texts.len()
+    }
+
+    // All that waits, as one.
+    fn as_one(&self) -> Joined
+        ensures { result ≡ as_one self.now.waiting }
+    {
+        if let Some(all) = self.folded {
+            return all;
+        }
+        join_all(&self.waiting)
+    }
+
+    // Makes one of all that waits and one more report.
+    fn fold_in(&mut self, report: Report)
+        ensures { self.new ≡ record { room = self.old.room; text_room = self.old.text_room; waiting = AsOne (taken_in (as_one self.old.waiting) report) } }
+    {
+        let mut all = self.as_one();
+        all.take_in(report);
+        self.waiting.clear();
+        self.texts.clear();
+        self.folded = Some(all);
+    }
+
+    // Notes that at a place what went gave way to what came.
+    fn note(&mut self, kind: ReportKind, at: usize, gone: &str, come: &str)
+        ensures { self.new ≡ noting kind at gone.now come.now self.old }
+    {
+        let report = Report {
+            kind,
+            at,
+            old_len: gone.len(),
+            new_len: come.len(),
+            cursors: None,
+        };
+        if !self.has_room(bytes_kept(self.text_room, &report)) {
+            self.fold_in(report);
+            return;
+        }
+        keep_texts(&mut self.texts, self.text_room, gone, come);
+        if self.waiting.push(report).is_err() {
+            unreachable!();
+        }
+    }
+}
+
+// Puts what went and what came after the texts that are there, where texts are kept. There is room for both.
+fn keep_texts(texts: &mut String, text_room: usize, gone: &str, come: &str)
+    requires { length (string_bytes texts.old) + length (kept text_room (gone.now ++ come.now)) ≤ string_capacity texts.old }
+    ensures bytes { string_bytes texts.new ≡ string_bytes texts.old ++ kept text_room (gone.now ++ come.now) }
+    ensures capacity { string_capacity texts.old ≤ string_capacity texts.new }
+{
+    if text_room == 0 {
+        return;
+    }
+    if texts.push_str(gone).is_err() || texts.push_str(come).is_err() {
+        unreachable!();
+    }
+}
+
+// How many bytes of texts are kept of a report.
+fn bytes_kept(text_room: usize, report: &Report) -> usize
+    requires { bytes_kept text_room report.now < 2 ^ 64 }
+    ensures { result ≡ bytes_kept text_room report.now }
+{
+    if text_room == 0 {
+        return 0;
+    }
+    report.old_len + report.new_len
+}
+
+// Tells the last report where the cursor was before it and after it, where that is a change.
+fn tell_last(reports: &mut Vec<Report>, before: usize, after: usize)
+    ensures items { reports.new.items ≡ on_last (told_cursors before after) reports.old.items }
+    ensures capacity { vec_capacity reports.new ≡ vec_capacity reports.old }
+{
+    let Some(last) = reports.last_mut() else {
+        return;
+    };
+    if last.kind.is_change() {
+        last.cursors = Some((before, after));
+    }
+}
+
+impl DeleteListener for Reports {
+    ghost use Rattle.rl_base.specs.Reports.{queue_step};
+
+    ghost step = { queue_step };
+
+    ghost refused = { λ _ _ _ _. ⊥ };
+
+    fn start_killing(&mut self) {
+        self.note(ReportKind::KillStarted, 0, "", "");
+    }
+
+    fn delete(&mut self, idx: usize, string: &str, dir: Direction) -> Result<(), Refusal> {
+        match dir {
+            Direction::Forward => self.note(ReportKind::DeletedForward, idx, string, ""),
+            Direction::Backward => self.note(ReportKind::DeletedBackward, idx, string, ""),
+        }
+        Ok(())
+    }
+
+    fn stop_killing(&mut self) {
+        self.note(ReportKind::KillStopped, 0, "", "");
+    }
+
+    fn cursors(&mut self, before: usize, after: usize) {
+        if let Some(mut all) = self.folded {
+            all.cursors = join_cursors(all.cursors, Some((before, after)));
+            self.folded = Some(all);
+            return;
+        }
+        tell_last(&mut self.waiting, before, after);
+    }
+}
+
+impl ChangeListener for Reports {
+    fn insert_char(&mut self, idx: usize, c: char) -> Result<(), Refusal> {
+        let mut bytes = [0; 4];
+        let come = c.encode_utf8(&mut bytes);
+        self.note(ReportKind::CharInserted, idx, "", come);
+        Ok(())
+    }
+
+    fn insert_str(&mut self, idx: usize, string: &str) -> Result<(), Refusal> {
+        self.note(ReportKind::TextInserted, idx, "", string);
+        Ok(())
+    }
+
+    fn replace(&mut self, idx: usize, old: &str, new: &str) -> Result<(), Refusal> {
+        self.note(ReportKind::Replaced, idx, old, new);
+        Ok(())
+    }
+}
+
+/// Who reads late loses detail, and never step. A new queue leads from each text to itself. A queue that leads from a text
+/// to another, and hears of a change of that, leads to the changed text. And its oldest report tells how the text became
+/// one from which the rest leads on; where nothing waits, the text is as it was.
+pub fn no_step_is_lost()
+    ensures new { (room text_room : ℕ) (text : List ℕ) → Leads text_room (new_queue room text_room).waiting text text }
+    ensures heard { (q : Queue) (event : Event) (old text new : List ℕ) → Leads q.text_room q.waiting old text → IsLineText old → IsLineText text → length new < 2 ^ 64
+        → apply event text ≡ Some new → Leads q.text_room (queue_step q event).waiting old new }
+    ensures read { (q : Queue) (old new : List ℕ) → Leads q.text_room q.waiting old new → IsLineText old → IsLineText new
+        → MatchOption (oldest q.waiting) (new ≡ old) (λ note. ReadsTo q note old new) }
+{}

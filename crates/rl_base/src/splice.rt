@@ -1,0 +1,69 @@
+//! All that changed in a text, told as one splice.
+ghost use Rattle.std.specs.Prelude.{◌≡◌, ◌++◌, ◌^◌, ◌<◌, List, ℕ, Some, MatchOption, drop, length, slice_range, take};
+ghost use Rattle.std.specs.Str.{IsUtf8};
+ghost use Rattle.rl_base.specs.Event.{Event, apply};
+ghost use Rattle.rl_base.specs.declared.splice.Splice.{Splice};
+ghost use Rattle.rl_base.specs.Splice.{Covers, Splices, spliced, told, untouched};
+
+/// What changed, as one: the bytes `from..old_end` of the old text gave way to the bytes `from..new_end` of the new one.
+#[derive(Clone, Copy, Debug, PartialEq, Eq)]
+pub struct Splice {
+    /// Where both texts begin to differ.
+    pub from: usize,
+    /// Where what differs ends in the old text.
+    pub old_end: usize,
+    /// Where it ends in the new text.
+    pub new_end: usize,
+}
+
+impl Splice {
+    ghost use Rattle.rl_base.specs.Splice.{folded};
+
+    // Takes in that `gone` bytes at a place gave way to `come` bytes. No place of a text reaches the greatest `usize`, so
+    // the sums are cut there only where an event fits no text.
+    #[inline(always)]
+    pub(crate) fn fold(&mut self, place: usize, gone: usize, come: usize)
+        ensures { self.new ≡ folded self.old place gone come }
+    {
+        let end = self.new_end.max(place.saturating_add(gone));
+        self.from = self.from.min(place);
+        self.old_end = self.old_end.saturating_add(end - self.new_end);
+        self.new_end = (end - gone).saturating_add(come);
+    }
+
+    // What is told of it: nothing of one that takes nothing out and puts nothing in.
+    #[inline(always)]
+    pub(crate) fn told(self) -> Option<Splice>
+        ensures { result ≡ told self }
+    {
+        if self.from < self.old_end.max(self.new_end) {
+            Some(self)
+        } else {
+            None
+        }
+    }
+}
+
+/// The splice of a text that did not change: any change begins before it.
+pub(crate) const UNTOUCHED: Splice = Splice {
+    from: usize::MAX,
+    old_end: 0,
+    new_end: 0,
+};
+
+/// A watch that was asked about a text, and then heard of each change of it, takes in all in which the present text
+/// differs from that one, so what it tells then is a splice of the two. Where it tells none, they are the same.
+pub fn all_that_changed_is_told()
+    ensures asked { (text : List ℕ) → IsUtf8 text → length text < 2 ^ 64 → Covers untouched text text }
+    ensures heard { (changed : Splice) (event : Event) (old text new : List ℕ) → Covers changed old text → IsUtf8 text → length text < 2 ^ 64 → length new < 2 ^ 64
+        → apply event text ≡ Some new → Covers (spliced changed event) old new }
+    ensures tells { (changed : Splice) (old new : List ℕ) → Covers changed old new → MatchOption (told changed) (new ≡ old) (λ splice. Splices splice old new) }
+{}
+
+/// A splice makes each of its two texts of the other.
+pub fn a_splice_makes_each_text_of_the_other()
+    ensures new { (splice : Splice) (old new : List ℕ) → Splices splice old new
+        → take splice.from old ++ slice_range new splice.from splice.new_end ++ drop splice.old_end old ≡ new }
+    ensures old { (splice : Splice) (old new : List ℕ) → Splices splice old new
+        → take splice.from new ++ slice_range old splice.from splice.old_end ++ drop splice.new_end new ≡ old }
+{}

@@ -1,0 +1,238 @@
+//! What changed in a text since it was asked last, and a queue of reports for who wants each change.
+ghost use Rattle.std.specs.Prelude.{◌≡◌, ◌<◌, None, Some, IfErr, OnErr, OnOk};
+ghost use Rattle.std.specs.Option.{option_map};
+ghost use Rattle.rl_base.specs.Reports.{new_queue, texts_of};
+ghost use Rattle.rl_base.specs.Event.{InsertChar};
+ghost use Rattle.rl_base.specs.Splice.{folded, told, untouched};
+ghost use Rattle.rl_base.specs.Watch.{RefusesQueue, new_watch, next_note, past_next, watch_step};
+
+use crate::listeners::{ChangeListener, DeleteListener, Direction, Refusal};
+use crate::reports::{Report, Reports};
+use crate::splice::{Splice, UNTOUCHED};
+use std::alloc::Global;
+use std::marker::Model;
+use thiserror::Error;
+
+/// Why no queue of reports was made.
+#[derive(Clone, Copy, Debug, PartialEq, Eq, Error)]
+pub enum WatchFault {
+    /// Memory is out for the room of the queue.
+    #[error("out of memory")]
+    NoMemory = 1,
+    /// The queue would have room for no report.
+    #[error("a queue needs room for a report")]
+    NoRoom = 2,
+    /// There is a queue already.
+    #[error("there is a queue of reports already")]
+    IsWatched = 3,
+}
+
+// The numbers are part of the interface.
+const _: () = prove!(WatchFault::NoMemory as u8 == 1);
+
+const _: () = prove!(WatchFault::NoRoom as u8 == 2);
+
+const _: () = prove!(WatchFault::IsWatched as u8 == 3);
+
+/// A listener that tells what changed since it was asked last, as one splice, for what draws, highlights or copies a
+/// text. Who wants each change asks it to keep a queue of reports. It refuses nothing, and takes no memory but the
+/// queue's room.
+#[derive(Drop)]
+pub struct Watch {
+    changed: Splice,
+    // Where a letter put in only moves the end of the splice, which is where the splice ends; the greatest `usize` where
+    // there is no such place: nothing changed yet, or reports are kept. So a letter typed asks one question.
+    next: usize,
+    reports: Option<Reports>,
+}
+
+impl Model for Watch {
+    ghost use Rattle.rl_base.specs.Watch.{GoesOnAt, Watched};
+
+    ghost Value = { Watched };
+
+    ghost view = { λ w. record { changed = w.changed; reports = w.reports } };
+
+    ghost invariant = { λ w. GoesOnAt w.next w.changed w.reports };
+}
+
+impl Watch {
+    /// A watch that has seen no change, and keeps no reports.
+    pub fn new() -> Self
+        ensures { result ≡ new_watch }
+    {
+        Watch {
+            changed: UNTOUCHED,
+            next: usize::MAX,
+            reports: None,
+        }
+    }
+
+    /// What changed since this was asked last, or since the watch was made; None where nothing did. Asked again, it
+    /// tells only what changes from now on. The reports are another matter.
+    pub fn changed(&mut self) -> Option<Splice>
+        ensures told { result ≡ told self.old.changed }
+        ensures again { self.new ≡ record self.old { changed = untouched } }
+    {
+        let all = self.changed;
+        self.changed = UNTOUCHED;
+        self.next = usize::MAX;
+        all.told()
+    }
+
+    /// Keeps a report of each change from now on, in a queue with room for `room` reports and for `text_room` bytes of
+    /// their texts; with no room for texts it keeps numbers alone. All room is found here. Refused, it changes nothing.
+    pub fn keep_reports(
+        &mut self,
+        alloc: Global,
+        room: usize,
+        text_room: usize,
+    ) -> Result<(), WatchFault>
+        ensures ok { OnOk result ((0 < room) × (self.old.reports ≡ None) × (self.new ≡ record self.old { reports = Some (new_queue room text_room) })) }
+        ensures err { IfErr result (λ fault. RefusesQueue fault room self.old × (self.new ≡ self.old)) }
+    {
+        if room == 0 {
+            return Err(WatchFault::NoRoom);
+        }
+        if self.reports.is_some() {
+            return Err(WatchFault::IsWatched);
+        }
+        match Reports::new(alloc, room, text_room) {
+            Ok(reports) => {
+                self.reports = Some(reports);
+                self.next = usize::MAX;
+                Ok(())
+            }
+            Err(_) => Err(WatchFault::NoMemory),
+        }
+    }
+
+    /// The oldest report that waits; None where none does, or none are kept.
+    pub fn next_report(&self) -> Option<Report>
+        ensures { result ≡ option_map (λ n. n.report) (next_note self.now) }
+    {
+        match &self.reports {
+            Some(reports) => reports.oldest(),
+            None => None,
+        }
+    }
+
+    /// Its texts: what went, and right after it what came. Empty where there is no such report, and where it has none.
+    pub fn next_texts(&self) -> &str
+        ensures { result.now ≡ texts_of (next_note self.now) }
+    {
+        match &self.reports {
+            Some(reports) => reports.oldest_texts(),
+            None => "",
+        }
+    }
+
+    /// Forgets the oldest report, so that the next becomes the oldest.
+    pub fn forget_report(&mut self)
+        ensures { self.new ≡ past_next self.old }
+    {
+        if let Some(reports) = &mut self.reports {
+            reports.forget();
+        }
+    }
+}
+
+impl Watch {
+    // Takes a change into the splice.
+    #[inline(always)]
+    fn fold(&mut self, place: usize, gone: usize, come: usize)
+        ensures { self.new ≡ record self.old { changed = folded self.old.changed place gone come } }
+    {
+        self.changed.fold(place, gone, come);
+        self.next = usize::MAX;
+    }
+
+    // Hears of a character that does not follow the one put in last. Cold, since a letter mostly does.
+    #[cold]
+    #[inline(never)]
+    fn hear_char(&mut self, idx: usize, c: char) -> Result<(), Refusal>
+        ensures done { OnOk result (self.new ≡ watch_step self.old (InsertChar idx c)) }
+        ensures err { OnErr result ⊥ }
+    {
+        self.fold(idx, 0, c.len_utf8());
+        match &mut self.reports {
+            Some(reports) => reports.insert_char(idx, c),
+            None => {
+                if self.changed.from <= self.changed.new_end {
+                    self.next = self.changed.new_end;
+                }
+                Ok(())
+            }
+        }
+    }
+}
+
+impl DeleteListener for Watch {
+    ghost use Rattle.rl_base.specs.Watch.{watch_step};
+
+    ghost step = { watch_step };
+
+    ghost refused = { λ _ _ _ _. ⊥ };
+
+    fn start_killing(&mut self) {
+        if let Some(reports) = &mut self.reports {
+            reports.start_killing();
+        }
+    }
+
+    #[inline(always)]
+    fn delete(&mut self, idx: usize, string: &str, dir: Direction) -> Result<(), Refusal> {
+        self.fold(idx, string.len(), 0);
+        match &mut self.reports {
+            Some(reports) => reports.delete(idx, string, dir),
+            None => Ok(()),
+        }
+    }
+
+    fn stop_killing(&mut self) {
+        if let Some(reports) = &mut self.reports {
+            reports.stop_killing();
+        }
+    }
+
+    #[inline(always)]
+    fn cursors(&mut self, before: usize, after: usize) {
+        if let Some(reports) = &mut self.reports {
+            reports.cursors(before, after);
+        }
+    }
+}
+
+impl ChangeListener for Watch {
+    #[inline(always)]
+    fn insert_char(&mut self, idx: usize, c: char) -> Result<(), Refusal> {
+        // So the proof knows that this is a `usize`.
+        let _old_end = self.changed.old_end;
+        if idx == self.next
+            && let Some(end) = idx.checked_add(c.len_utf8())
+        {
+            self.changed.new_end = end;
+            self.next = end;
+            return Ok(());
+        }
+        self.hear_char(idx, c)
+    }
+
+    #[inline(always)]
+    fn insert_str(&mut self, idx: usize, string: &str) -> Result<(), Refusal> {
+        self.fold(idx, 0, string.len());
+        match &mut self.reports {
+            Some(reports) => reports.insert_str(idx, string),
+            None => Ok(()),
+        }
+    }
+
+    #[inline(always)]
+    fn replace(&mut self, idx: usize, old: &str, new: &str) -> Result<(), Refusal> {
+        self.fold(idx, old.len(), new.len());
+        match &mut self.reports {
+            Some(reports) => reports.replace(idx, old, new),
+            None => Ok(()),
+        }
+    }
+}

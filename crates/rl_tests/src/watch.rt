@@ -1,0 +1,166 @@
+//! What a watch tells: splices, and reports of a queue, with answers that were worked out by hand.
+use crate::script::is_so;
+use rl_base::{
+    ChangeListener, DeleteListener, Direction, GraphemeClusterMode, Movement, Report, ReportKind,
+    Reports, Splice, WatchFault, Word,
+};
+use rl_session::{Command, Session};
+use std::process::Abort;
+use std::test::Fail;
+
+// The oldest report of a queue has these numbers and texts. It is forgotten.
+fn tells(
+    rt: &impl Abort,
+    queue: &mut Reports,
+    kind: ReportKind,
+    numbers: (usize, usize, usize),
+    cursors: Option<(usize, usize)>,
+    texts: &str,
+) {
+    let (at, old_len, new_len) = numbers;
+    let wanted = Report {
+        kind,
+        at,
+        old_len,
+        new_len,
+        cursors,
+    };
+    is_so(rt, queue.oldest() == Some(wanted), "the oldest report");
+    is_so(rt, queue.oldest_texts() == texts, "its texts");
+    queue.forget();
+}
+
+#[test]
+fn a_queue_tells_each_change(rt: HostRuntime) -> Result<(), Fail> {
+    let mut queue = Reports::new(rt.alloc(), 3, 10)?;
+    queue.insert_str(0, "ab")?;
+    queue.cursors(0, 2);
+    queue.start_killing();
+    queue.replace(1, "b", "é!")?;
+    queue.cursors(2, 4);
+    tells(
+        &rt,
+        &mut queue,
+        ReportKind::TextInserted,
+        (0, 0, 2),
+        Some((0, 2)),
+        "ab",
+    );
+    tells(
+        &rt,
+        &mut queue,
+        ReportKind::KillStarted,
+        (0, 0, 0),
+        None,
+        "",
+    );
+    tells(
+        &rt,
+        &mut queue,
+        ReportKind::Replaced,
+        (1, 1, 3),
+        Some((2, 4)),
+        "bé!",
+    );
+    is_so(&rt, queue.oldest().is_none(), "nothing waits");
+    Ok(())
+}
+
+#[test]
+fn a_full_queue_folds(rt: HostRuntime) -> Result<(), Fail> {
+    let mut queue = Reports::new(rt.alloc(), 2, 10)?;
+    queue.replace(1, "b", "é!")?;
+    queue.cursors(2, 4);
+    queue.delete(0, "a", Direction::Backward)?;
+    queue.cursors(4, 3);
+    queue.insert_char(3, 'x')?;
+    queue.cursors(3, 4);
+    queue.insert_char(0, 'y')?;
+    queue.cursors(4, 1);
+    tells(
+        &rt,
+        &mut queue,
+        ReportKind::Folded,
+        (0, 2, 5),
+        Some((2, 1)),
+        "",
+    );
+    queue.insert_str(0, "12345678901")?;
+    tells(&rt, &mut queue, ReportKind::Folded, (0, 0, 11), None, "");
+    is_so(&rt, queue.oldest().is_none(), "nothing waits");
+    Ok(())
+}
+
+// After the command the session tells this splice, if any.
+fn changes(rt: &impl Abort, session: &mut Session, command: Command, wanted: Option<Splice>) {
+    let _ = session.apply(&command);
+    is_so(rt, session.changed() == wanted, "what changed");
+    is_so(rt, session.changed().is_none(), "it is told once");
+}
+
+fn splice(from: usize, old_end: usize, new_end: usize) -> Option<Splice> {
+    Some(Splice {
+        from,
+        old_end,
+        new_end,
+    })
+}
+
+#[test]
+fn a_session_tells_what_changed(rt: HostRuntime) -> Result<(), Fail> {
+    let mode = GraphemeClusterMode::Unicode;
+    let mut session = Session::new(rt.alloc(), "one two", 7, 64, 60, mode)?;
+    let s = &mut session;
+    changes(&rt, s, Command::LinePlace, None);
+    changes(&rt, s, Command::Insert('x', 1), splice(7, 7, 8));
+    changes(
+        &rt,
+        s,
+        Command::Kill(Movement::BackwardWord(1, Word::Emacs)),
+        splice(4, 8, 4),
+    );
+    changes(&rt, s, Command::Undo(1), splice(4, 4, 8));
+    changes(&rt, s, Command::Redo, splice(4, 8, 4));
+    let _ = s.apply(&Command::Insert('é', 2));
+    let _ = s.apply(&Command::SetPos(1));
+    changes(&rt, s, Command::Delete(2), splice(1, 4, 6));
+    Ok(())
+}
+
+// The session hands out a report of an insertion there, with that text.
+fn reads(rt: &impl Abort, session: &mut Session, at: usize, text: &str) {
+    let wanted = Report {
+        kind: ReportKind::CharInserted,
+        at,
+        old_len: 0,
+        new_len: text.len(),
+        cursors: Some((at, at.saturating_add(text.len()))),
+    };
+    is_so(rt, session.next_report() == Some(wanted), "the next report");
+    is_so(rt, session.next_texts() == text, "its texts");
+    session.forget_report();
+    is_so(rt, session.next_report().is_none(), "no report waits");
+}
+
+#[test]
+fn a_session_keeps_reports(rt: HostRuntime) -> Result<(), Fail> {
+    let mode = GraphemeClusterMode::Unicode;
+    let mut session = Session::new(rt.alloc(), "ab", 2, 64, 60, mode)?;
+    let s = &mut session;
+    is_so(
+        &rt,
+        s.watch(0, 9) == Err(WatchFault::NoRoom),
+        "a queue of none",
+    );
+    is_so(&rt, s.watch(2, 9).is_ok(), "a queue");
+    is_so(
+        &rt,
+        s.watch(2, 9) == Err(WatchFault::IsWatched),
+        "a second queue",
+    );
+    let _ = s.apply(&Command::Insert('é', 1));
+    reads(&rt, s, 2, "é");
+    let _ = s.apply(&Command::Insert('c', 1));
+    reads(&rt, s, 4, "c");
+    Ok(())
+}
