@@ -53,11 +53,6 @@ noted text_room kind place gone come =
       texts = kept text_room (gone ++ come);
     }
 
--- a splice, and then a report, as one splice
-abbrev pub spliced_by : Bool → Report → Splice → Splice
-spliced_by true r s = folded s r.at r.old_len r.new_len
-spliced_by false r s = s
-
 -- two pairs of cursors as one: the first before, and the last after
 abbrev pub joined_cursors : Option (ℕ × ℕ) → Option (ℕ × ℕ) → Option (ℕ × ℕ)
 joined_cursors None later = later
@@ -68,9 +63,13 @@ joined_cursors (Some first) (Some later) = Some (first.0, later.1)
 abbrev pub nothing_joined : Joined
 nothing_joined = record { splice = untouched; cursors = None }
 
--- a report taken in
+-- a report taken in: a mark leaves the splice
 abbrev pub taken_in : Joined → Report → Joined
-taken_in all r = record { splice = spliced_by (is_change r.kind) r all.splice; cursors = joined_cursors all.cursors r.cursors }
+taken_in all r =
+    record {
+      splice = if is_change r.kind then folded all.splice r.at r.old_len r.new_len else all.splice;
+      cursors = joined_cursors all.cursors r.cursors;
+    }
 
 -- reports as one
 abbrev pub joined : List Report → Joined
@@ -95,22 +94,15 @@ abbrev pub has_room_in : ℕ → ℕ → ℕ → Waiting → Bool
 has_room_in room text_room bytes (Whole ns) = nat_lt (length ns) room && nat_le (text_bytes ns + bytes) text_room
 has_room_in room text_room bytes (AsOne all) = false
 
--- what waits, with one more note at its end
-abbrev pub added : Noted → Waiting → Waiting
-added n (Whole ns) = Whole (ns ++ n ∷ [])
-added n (AsOne all) = AsOne (taken_in all n.report)
-
 -- what waits, with one more note: at its end where there is room, and else all as one
 abbrev pub with_note : ℕ → ℕ → Noted → Waiting → Waiting
-with_note room text_room n w = if has_room_in room text_room (length n.texts) w then added n w else AsOne (taken_in (as_one w) n.report)
+with_note room text_room n (Whole ns) =
+    if has_room_in room text_room (length n.texts) (Whole ns) then Whole (ns ++ n ∷ []) else AsOne (taken_in (as_one (Whole ns)) n.report)
+with_note room text_room n (AsOne all) = AsOne (taken_in all n.report)
 
 -- a report of a change, with the cursors that were told after it
-abbrev pub told_as : Bool → ℕ → ℕ → Report → Report
-told_as true before after r = record r { cursors = Some (before, after) }
-told_as false before after r = r
-
 abbrev pub told_cursors : ℕ → ℕ → Report → Report
-told_cursors before after r = told_as (is_change r.kind) before after r
+told_cursors before after r = if is_change r.kind then record r { cursors = Some (before, after) } else r
 
 -- a list with its last element changed
 abbrev pub on_last : {A : Type 0} → (A → A) → List A → List A
@@ -128,7 +120,7 @@ with_cursors before after (AsOne all) =
 -- the queue with one more note
 abbrev pub noting : ReportKind → ℕ → List ℕ → List ℕ → Queue → Queue
 noting kind place gone come q =
-    record { room = q.room; text_room = q.text_room; waiting = with_note q.room q.text_room (noted q.text_room kind place gone come) q.waiting }
+    record q { waiting = with_note q.room q.text_room (noted q.text_room kind place gone come) q.waiting }
 
 -- the queue after an event
 abbrev pub queue_step : Queue → Event → Queue
@@ -139,7 +131,7 @@ queue_step q (Delete i s Backward) = noting kind.DeletedBackward i s [] q
 queue_step q (Replace i s t) = noting kind.Replaced i s t q
 queue_step q Start = noting kind.KillStarted 0 [] [] q
 queue_step q Stop = noting kind.KillStopped 0 [] [] q
-queue_step q (Cursors b a) = record { room = q.room; text_room = q.text_room; waiting = with_cursors b a q.waiting }
+queue_step q (Cursors b a) = record q { waiting = with_cursors b a q.waiting }
 
 -- where a splice begins, also one of nothing
 abbrev pub place_of : Splice → ℕ
@@ -170,7 +162,7 @@ without_oldest (AsOne all) = Whole []
 
 -- the queue without its oldest
 abbrev pub forgotten : Queue → Queue
-forgotten q = record { room = q.room; text_room = q.text_room; waiting = without_oldest q.waiting }
+forgotten q = record q { waiting = without_oldest q.waiting }
 
 -- the texts of a note, if there is one
 abbrev pub texts_of : Option Noted → List ℕ

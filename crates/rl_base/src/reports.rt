@@ -253,7 +253,7 @@ impl Reports {
 
     // Makes one of all that waits and one more report.
     fn fold_in(&mut self, report: Report)
-        ensures { self.new ≡ record { room = self.old.room; text_room = self.old.text_room; waiting = AsOne (taken_in (as_one self.old.waiting) report) } }
+        ensures { self.new ≡ record self.old { waiting = AsOne (taken_in (as_one self.old.waiting) report) } }
     {
         let mut all = self.as_one();
         all.take_in(report);

@@ -8,8 +8,8 @@ use Rattle.rl_base.specs.declared.reports.ReportKind.{ReportKind}
 use Rattle.rl_base.specs.declared.reports.ReportKind.TheVariants as kind
 use Rattle.rl_base.specs.declared.splice.Splice.{Splice}
 use Rattle.rl_base.specs.Event.{Event, InsertChar, InsertStr, Delete, Replace, Start, Stop, Cursors, apply}
-use Rattle.rl_base.specs.Reports.{AsOne, IsLineText, Leads, LeadsBy, Noted, Queue, ReadsTo, Tells, TellsAs, TellsChange, Waiting, Whole, added, as_one, has_room_in, is_change, kept, noted, nothing_joined, oldest, on_last, queue_step, reports_of, spliced_by, splice_of, taken_in, told_as, told_cursors, told_whole, with_cursors, with_note}
-use Rattle.rl_base.specs.Splice.{Covers, Splices, untouched}
+use Rattle.rl_base.specs.Reports.{AsOne, IsLineText, Leads, LeadsBy, Noted, Queue, ReadsTo, Tells, TellsAs, TellsChange, Waiting, Whole, as_one, has_room_in, is_change, kept, noted, nothing_joined, oldest, on_last, queue_step, reports_of, splice_of, taken_in, told_cursors, told_whole, with_cursors, with_note}
+use Rattle.rl_base.specs.Splice.{Covers, Splices, folded, untouched}
 use Rattle.rl_base.proofs.Texts.SpliceLemmas.{Covers-more, Splices-Swaps, Splices-as, came, went}
 use Rattle.rl_base.proofs.Texts.SwapLemmas.{Swaps, Swaps-InsertChar, Swaps-InsertStr, Swaps-Delete, Swaps-Replace, apply-IsUtf8}
 
@@ -19,7 +19,7 @@ LeadsBy-push k n [] old text new l t u = (new, subst (λ x. Tells k n x new) l t
 LeadsBy-push k n (m ∷ ms) old text new l t u = (l.0, l.1, l.2, LeadsBy-push k n ms l.0 text new l.3 t u)
 
 -- cursors leave what a note tells
-told-same : (b : Bool) (k before after : ℕ) (n : Noted) (old new : List ℕ) → Tells k n old new → Tells k (record { report = told_as b before after n.report; texts = n.texts }) old new
+told-same : (b : Bool) (k before after : ℕ) (n : Noted) (old new : List ℕ) → Tells k n old new → Tells k (record { report = if b then record n.report { cursors = Some (before, after) } else n.report; texts = n.texts }) old new
 told-same true k before after n old new t = t
 told-same false k before after n old new t = t
 
@@ -31,7 +31,7 @@ LeadsBy-told k before after (n ∷ (m ∷ ms)) old new l = (l.0, l.1, l.2, Leads
 
 -- one more report as one with what covers the texts before it
 Covers-kind : (which : ReportKind) (k : ℕ) (r : Report) (texts : List ℕ) (s : Splice) (old text new : List ℕ) → Covers s old text → TellsAs which k (splice_of r) texts text new
-    → IsLineText text → IsLineText new → Covers (spliced_by (is_change which) r s) old new
+    → IsLineText text → IsLineText new → Covers (if is_change which then folded s r.at r.old_len r.new_len else s) old new
 Covers-kind kind.CharInserted k r texts s old text new c t u v = Covers-more s r.at r.old_len r.new_len old text new c t.splices u.fits v.fits
 Covers-kind kind.TextInserted k r texts s old text new c t u v = Covers-more s r.at r.old_len r.new_len old text new c t.splices u.fits v.fits
 Covers-kind kind.DeletedForward k r texts s old text new c t u v = Covers-more s r.at r.old_len r.new_len old text new c t.splices u.fits v.fits
@@ -59,15 +59,17 @@ Covers-as_one k (Whole ns) old new l u = Covers-notes nothing_joined k ns old ol
 Covers-as_one k (AsOne all) old new l u = l
 
 -- one more note leads one text further
-Leads-by_room : (b : Bool) (k : ℕ) (n : Noted) (w : Waiting) (old text new : List ℕ) → Leads k w old text → Tells k n text new → IsLineText old → IsLineText text → IsLineText new
-    → Leads k (if b then added n w else AsOne (taken_in (as_one w) n.report)) old new
-Leads-by_room true k n (Whole ns) old text new l t u v w' = LeadsBy-push k n ns old text new l t w'
-Leads-by_room true k n (AsOne all) old text new l t u v w' = Covers-note all k n old text new l t v w'
-Leads-by_room false k n w old text new l t u v w' = Covers-note (as_one w) k n old text new (Covers-as_one k w old text l u) t v w'
-
 pub Leads-note : (q : Queue) (n : Noted) (old text new : List ℕ) → Leads q.text_room q.waiting old text → Tells q.text_room n text new → IsLineText old → IsLineText text → IsLineText new
     → Leads q.text_room (with_note q.room q.text_room n q.waiting) old new
-Leads-note q n old text new l t u v w = Leads-by_room (has_room_in q.room q.text_room (length n.texts) q.waiting) q.text_room n q.waiting old text new l t u v w
+Leads-note q n old text new l t u v w = from q.waiting l
+  where
+    by_room : (b : Bool) (ns : List Noted) → LeadsBy q.text_room ns old text → Leads q.text_room (if b then Whole (ns ++ n ∷ []) else AsOne (taken_in (as_one (Whole ns)) n.report)) old new
+    by_room true ns l = LeadsBy-push q.text_room n ns old text new l t w
+    by_room false ns l = Covers-note (as_one (Whole ns)) q.text_room n old text new (Covers-as_one q.text_room (Whole ns) old text l u) t v w
+
+    from : (waiting : Waiting) → Leads q.text_room waiting old text → Leads q.text_room (with_note q.room q.text_room n waiting) old new
+    from (Whole ns) l = by_room (has_room_in q.room q.text_room (length n.texts) (Whole ns)) ns l
+    from (AsOne all) l = Covers-note all q.text_room n old text new l t v w
 
 Leads-told : (k before after : ℕ) (w : Waiting) (old new : List ℕ) → Leads k w old new → Leads k (with_cursors before after w) old new
 Leads-told k before after (Whole ns) old new l = LeadsBy-told k before after ns old new l

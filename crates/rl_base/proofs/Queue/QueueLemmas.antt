@@ -8,7 +8,7 @@ use Rattle.std.specs.Str.{IsCharBoundary, IsUtf8}
 use Rattle.rl_base.specs.declared.reports.Report.{Report}
 use Rattle.rl_base.specs.declared.reports.Joined.{Joined}
 use Rattle.rl_base.specs.declared.reports.ReportKind.{ReportKind}
-use Rattle.rl_base.specs.Reports.{Cuts, IsQueue, Noted, Whole, as_one, bytes_kept, has_room_in, is_change, joined, kept, noted, notes, on_last, reports_of, text_bytes, told_as, told_cursors, waiting_of, with_note}
+use Rattle.rl_base.specs.Reports.{Cuts, IsQueue, Noted, Whole, as_one, bytes_kept, has_room_in, is_change, joined, kept, noted, notes, on_last, reports_of, text_bytes, told_cursors, waiting_of, with_note}
 use Rattle.rl_base.proofs.Texts.TextLemmas.{and_left, and_right}
 
 pub reports_of-notes : (k : ℕ) (rs : List Report) (bytes : List ℕ) → reports_of (notes k rs bytes) ≡ rs
@@ -58,12 +58,12 @@ Cuts-push k (x ∷ xs) bytes r more c n u =
     )
 
 -- cursors leave the lengths
-bytes_kept-told_as : (b : Bool) (k before after : ℕ) (r : Report) → bytes_kept k (told_as b before after r) ≡ bytes_kept k r
-bytes_kept-told_as true k before after r = refl
-bytes_kept-told_as false k before after r = refl
+bytes_kept-if : (b : Bool) (k before after : ℕ) (r : Report) → bytes_kept k (if b then record r { cursors = Some (before, after) } else r) ≡ bytes_kept k r
+bytes_kept-if true k before after r = refl
+bytes_kept-if false k before after r = refl
 
 bytes_kept-told : (k before after : ℕ) (r : Report) → bytes_kept k (told_cursors before after r) ≡ bytes_kept k r
-bytes_kept-told k before after r = bytes_kept-told_as (is_change r.kind) k before after r
+bytes_kept-told k before after r = bytes_kept-if (is_change r.kind) k before after r
 
 pub notes-told : (k before after : ℕ) (rs : List Report) (bytes : List ℕ) → notes k (on_last (told_cursors before after) rs) bytes
     ≡ on_last (λ n. record { report = told_cursors before after n.report; texts = n.texts }) (notes k rs bytes)
