@@ -12,8 +12,8 @@ use Rattle.rl_session.specs.declared.pair.Pair.{Pair}
 abbrev pub pair_step : Pair → Event → Pair
 pair_step p event = record { ring = ring_step p.ring event; changes = record_step p.changes event; watch = watch_step p.watch event }
 
--- A refusal says that memory is out, and leaves the record and the watch as they were. Either the ring refused an event whose text it keeps, and
--- is as it was too; or the ring heard the event, and the record, which would keep it, refused it.
+-- A refusal says that memory is out, and leaves the record and the watch as they were. Either the ring refused an event whose
+-- text it keeps, and is as it was too; or the ring heard the event, and the record, which would keep it, refused it.
 abbrev pub pair_refused : Pair → Event → Refusal → Pair → Type 0
 pair_refused p event why now =
     (why ≡ NoMemory) × (now.changes ≡ p.changes) × (now.watch ≡ p.watch)

@@ -3,7 +3,6 @@ use Rattle.std.specs.Prelude.{◌≡◌, ℕ, true, false, List, [], ◌∷◌, 
 use mathlib.Core.Logic.{inl, inr}
 use Rattle.rl_base.specs.Event.{Event, Start}
 use Rattle.rl_line.specs.Plan.{Step as PlanStep, events_of}
-use Rattle.rl_line.specs.Record.{events_ahead, events_back}
 use Rattle.rl_line.specs.Undo.{steps_ahead, steps_back, texts_after}
 use Rattle.rl_line.specs.Units.{last_of, redo_of}
 use Rattle.rl_session.specs.declared.session.Command.{Command}
@@ -37,16 +36,9 @@ steps_done (takes_back n answer) old new d = steps_back old.line.cursor (last_of
 steps_done (puts_again answer) old new d = steps_ahead old.line.cursor (redo_of old.pair.changes.pending)
 steps_done _ old new d = []
 
--- the events of what was done: those of these steps, and of each mark that an undo or a redo goes over one that changes nothing
-abbrev pub events_in : (effect : Effect) (old new : State) → Became effect old new → List Event
-events_in (by_steps course) old new d = events_of (steps_in course old new d)
-events_in (takes_back n answer) old new d = events_back (last_of n old.pair.changes.recorded)
-events_in (puts_again answer) old new d = events_ahead (redo_of old.pair.changes.pending)
-events_in _ old new d = []
-
--- the texts that were held: those after each of these events
+-- the texts that were held: those after each event of these steps
 abbrev pub held_by : (effect : Effect) (old new : State) → Became effect old new → List (List ℕ)
-held_by effect old new d = texts_after (events_in effect old new d) old.line.text
+held_by effect old new d = texts_of_steps (steps_done effect old new d) old.line.text
 
 -- the texts that a row held
 abbrev pub held_in : (old : State) (command : Command) (reply : Reply) (new : State) → Does old command reply new → List (List ℕ)
