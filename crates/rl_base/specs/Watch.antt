@@ -1,5 +1,5 @@
 -- What a watch tells: what changed since it was asked last, and the reports that wait to be read.
-use Rattle.std.specs.Prelude.{◌≡◌, ℕ, ◌-◌, ◌^◌, ◌<◌, ◌≤◌, List, Option, Some, None, IsNone, IsSome, option_and_then}
+use Rattle.std.specs.Prelude.{◌≡◌, ℕ, ◌<◌, List, Option, Some, None, IsSome, option_and_then}
 use Rattle.std.specs.Option.{option_map}
 use Rattle.rl_base.specs.declared.splice.Splice.{Splice}
 use Rattle.rl_base.specs.declared.watch.WatchFault.{WatchFault}
@@ -12,11 +12,6 @@ use Rattle.rl_base.specs.Splice.{spliced, untouched}
 pub record Watched : Type 0 where
   pub changed : Splice
   pub reports : Option Queue
-
--- where this is a place before the greatest usize, the splice ends there and no reports are kept: what is put in there moves the
--- splice's end alone
-abbrev pub GoesOnAt : ℕ → Splice → Option Queue → Type 0
-GoesOnAt next s reports = next < 2 ^ 64 - 1 → (next ≡ s.new_end) × (s.from ≤ next) × IsNone reports
 
 -- a watch that has seen no change, and keeps no reports
 abbrev pub new_watch : Watched

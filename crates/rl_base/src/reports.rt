@@ -1,9 +1,10 @@
 //! A queue of reports of changes, for who reads late.
-ghost use Rattle.std.specs.Prelude.{◌≡◌, ℕ, ◌+◌, ◌^◌, ◌<◌, ◌≤◌, ◌⊎◌, ◌++◌, List, Some, MatchOption, length, option_map, vec_capacity, IfErr, IfOk};
+ghost use Rattle.std.specs.Prelude.{◌≡◌, ℕ, ◌+◌, ◌^◌, ◌<◌, ◌≤◌, ◌⊎◌, ◌++◌, [], List, Some, MatchOption, encode_utf8, length, option_map, vec_capacity, IfErr, IfOk};
 ghost use Rattle.std.specs.String.{string_bytes, string_capacity};
 ghost use Rattle.rl_base.specs.declared.listeners.Refusal.TheVariants.{NoMemory};
+ghost use Rattle.rl_base.specs.declared.reports.ReportKind.TheVariants.{CharInserted};
 ghost use Rattle.rl_base.specs.Event.{Event, apply};
-ghost use Rattle.rl_base.specs.Reports.{AsOne, IsLineText, Leads, Queue, ReadsTo, as_one, bytes_kept, forgotten, has_room_in, is_change, joined, joined_cursors, kept, new_queue, noting, oldest, on_last, queue_step, taken_in, texts_of, told_cursors, told_whole};
+ghost use Rattle.rl_base.specs.Reports.{AsOne, IsLineText, Leads, Queue, ReadsTo, as_one, bytes_kept, forgotten, has_room_in, is_change, joined, joined_cursors, kept, new_queue, noting, oldest, on_last, queue_step, taken_in, texts_of, told_cursors, told_whole, with_note};
 
 use crate::listeners::{ChangeListener, DeleteListener, Direction, Refusal};
 use crate::splice::{Splice, UNTOUCHED};
@@ -97,6 +98,15 @@ impl Joined {
         if report.kind.is_change() {
             self.splice.fold(report.at, report.old_len, report.new_len);
         }
+    }
+
+    // Tells it where the cursor was before the last change and after it. Cold, since mostly reports stand apart.
+    #[cold]
+    #[inline(never)]
+    fn tell(&mut self, before: usize, after: usize)
+        ensures { self.new ≡ record self.old { cursors = joined_cursors self.old.cursors (Some (before, after)) } }
+    {
+        self.cursors = join_cursors(self.cursors, Some((before, after)));
     }
 
     // All as one report.
@@ -215,7 +225,10 @@ impl Reports {
     pub fn forget(&mut self)
         ensures { self.new ≡ forgotten self.old }
     {
-        self.folded = None;
+        if self.folded.is_some() {
+            self.folded = None;
+            return;
+        }
         let Some(oldest) = self.waiting.first() else {
             return;
         };
@@ -251,7 +264,9 @@ impl Reports {
         join_all(&self.waiting)
     }
 
-    // Makes one of all that waits and one more report.
+    // Makes one of all that waits and one more report. Cold, since mostly there is room.
+    #[cold]
+    #[inline(never)]
     fn fold_in(&mut self, report: Report)
         ensures { self.new ≡ record self.old { waiting = AsOne (taken_in (as_one self.old.waiting) report) } }
     {
@@ -278,9 +293,30 @@ impl Reports {
             return;
         }
         keep_texts(&mut self.texts, self.text_room, gone, come);
-        if self.waiting.push(report).is_err() {
-            unreachable!();
+        self.waiting.push_reserved(report);
+    }
+
+    // Notes a report where no texts are kept. Inlined, so that a letter that is reported costs no call.
+    #[inline(always)]
+    fn note_numbers(&mut self, report: Report)
+        requires { self.old.text_room ≡ 0 }
+        ensures { self.new ≡ record self.old { waiting = with_note self.old.room self.old.text_room (record { report = report; texts = [] }) self.old.waiting } }
+    {
+        if !self.has_room(0) {
+            self.fold_in(report);
+            return;
         }
+        self.waiting.push_reserved(report);
+    }
+
+    // Notes that a character was put in, where texts are kept.
+    #[inline(never)]
+    fn note_char(&mut self, at: usize, c: char)
+        ensures { self.new ≡ noting CharInserted at [] (encode_utf8 c) self.old }
+    {
+        let mut bytes = [0; 4];
+        let come = c.encode_utf8(&mut bytes);
+        self.note(ReportKind::CharInserted, at, "", come);
     }
 }
 
@@ -322,6 +358,7 @@ fn tell_last(reports: &mut Vec<Report>, before: usize, after: usize)
     }
 }
 
+// Only what a typed letter goes through is inlined, so that who keeps no reports pays for no more than the question.
 impl DeleteListener for Reports {
     ghost use Rattle.rl_base.specs.Reports.{queue_step};
 
@@ -329,10 +366,12 @@ impl DeleteListener for Reports {
 
     ghost refused = { λ _ _ _ _. ⊥ };
 
+    #[inline(never)]
     fn start_killing(&mut self) {
         self.note(ReportKind::KillStarted, 0, "", "");
     }
 
+    #[inline(never)]
     fn delete(&mut self, idx: usize, string: &str, dir: Direction) -> Result<(), Refusal> {
         match dir {
             Direction::Forward => self.note(ReportKind::DeletedForward, idx, string, ""),
@@ -341,33 +380,44 @@ impl DeleteListener for Reports {
         Ok(())
     }
 
+    #[inline(never)]
     fn stop_killing(&mut self) {
         self.note(ReportKind::KillStopped, 0, "", "");
     }
 
+    #[inline(always)]
     fn cursors(&mut self, before: usize, after: usize) {
-        if let Some(mut all) = self.folded {
-            all.cursors = join_cursors(all.cursors, Some((before, after)));
-            self.folded = Some(all);
-            return;
+        match &mut self.folded {
+            Some(all) => all.tell(before, after),
+            None => tell_last(&mut self.waiting, before, after),
         }
-        tell_last(&mut self.waiting, before, after);
     }
 }
 
 impl ChangeListener for Reports {
+    #[inline(always)]
     fn insert_char(&mut self, idx: usize, c: char) -> Result<(), Refusal> {
-        let mut bytes = [0; 4];
-        let come = c.encode_utf8(&mut bytes);
-        self.note(ReportKind::CharInserted, idx, "", come);
+        if self.text_room > 0 {
+            self.note_char(idx, c);
+            return Ok(());
+        }
+        self.note_numbers(Report {
+            kind: ReportKind::CharInserted,
+            at: idx,
+            old_len: 0,
+            new_len: c.len_utf8(),
+            cursors: None,
+        });
         Ok(())
     }
 
+    #[inline(never)]
     fn insert_str(&mut self, idx: usize, string: &str) -> Result<(), Refusal> {
         self.note(ReportKind::TextInserted, idx, "", string);
         Ok(())
     }
 
+    #[inline(never)]
     fn replace(&mut self, idx: usize, old: &str, new: &str) -> Result<(), Refusal> {
         self.note(ReportKind::Replaced, idx, old, new);
         Ok(())

@@ -25,10 +25,17 @@ impl Splice {
     pub(crate) fn fold(&mut self, place: usize, gone: usize, come: usize)
         ensures { self.new ≡ folded self.old place gone come }
     {
-        let end = self.new_end.max(place.saturating_add(gone));
-        self.from = self.from.min(place);
-        self.old_end = self.old_end.saturating_add(end - self.new_end);
-        self.new_end = (end - gone).saturating_add(come);
+        // So the proof knows that this is a `usize`.
+        let _old_end = self.old_end;
+        let end = place.saturating_add(gone);
+        if self.new_end < end {
+            self.old_end = self.old_end.saturating_add(end - self.new_end);
+            self.new_end = end;
+        }
+        if place < self.from {
+            self.from = place;
+        }
+        self.new_end = (self.new_end - gone).saturating_add(come);
     }
 
     // What is told of it: nothing of one that takes nothing out and puts nothing in.

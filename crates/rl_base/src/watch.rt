@@ -1,10 +1,9 @@
 //! What changed in a text since it was asked last, and a queue of reports for who wants each change.
-ghost use Rattle.std.specs.Prelude.{◌≡◌, ◌<◌, None, Some, IfErr, OnErr, OnOk};
+ghost use Rattle.std.specs.Prelude.{◌≡◌, ◌<◌, None, Some, IfErr, OnOk};
 ghost use Rattle.std.specs.Option.{option_map};
 ghost use Rattle.rl_base.specs.Reports.{new_queue, texts_of};
-ghost use Rattle.rl_base.specs.Event.{InsertChar};
-ghost use Rattle.rl_base.specs.Splice.{folded, told, untouched};
-ghost use Rattle.rl_base.specs.Watch.{RefusesQueue, new_watch, next_note, past_next, watch_step};
+ghost use Rattle.rl_base.specs.Splice.{told, untouched};
+ghost use Rattle.rl_base.specs.Watch.{RefusesQueue, new_watch, next_note, past_next};
 
 use crate::listeners::{ChangeListener, DeleteListener, Direction, Refusal};
 use crate::reports::{Report, Reports};
@@ -40,20 +39,15 @@ const _: () = prove!(WatchFault::IsWatched as u8 == 3);
 #[derive(Drop)]
 pub struct Watch {
     changed: Splice,
-    // Where a letter put in only moves the end of the splice, which is where the splice ends; the greatest `usize` where
-    // there is no such place: nothing changed yet, or reports are kept. So a letter typed asks one question.
-    next: usize,
     reports: Option<Reports>,
 }
 
 impl Model for Watch {
-    ghost use Rattle.rl_base.specs.Watch.{GoesOnAt, Watched};
+    ghost use Rattle.rl_base.specs.Watch.{Watched};
 
     ghost Value = { Watched };
 
     ghost view = { λ w. record { changed = w.changed; reports = w.reports } };
-
-    ghost invariant = { λ w. GoesOnAt w.next w.changed w.reports };
 }
 
 impl Watch {
@@ -63,7 +57,6 @@ impl Watch {
     {
         Watch {
             changed: UNTOUCHED,
-            next: usize::MAX,
             reports: None,
         }
     }
@@ -76,7 +69,6 @@ impl Watch {
     {
         let all = self.changed;
         self.changed = UNTOUCHED;
-        self.next = usize::MAX;
         all.told()
     }
 
@@ -100,7 +92,6 @@ impl Watch {
         match Reports::new(alloc, room, text_room) {
             Ok(reports) => {
                 self.reports = Some(reports);
-                self.next = usize::MAX;
                 Ok(())
             }
             Err(_) => Err(WatchFault::NoMemory),
@@ -137,36 +128,6 @@ impl Watch {
     }
 }
 
-impl Watch {
-    // Takes a change into the splice.
-    #[inline(always)]
-    fn fold(&mut self, place: usize, gone: usize, come: usize)
-        ensures { self.new ≡ record self.old { changed = folded self.old.changed place gone come } }
-    {
-        self.changed.fold(place, gone, come);
-        self.next = usize::MAX;
-    }
-
-    // Hears of a character that does not follow the one put in last. Cold, since a letter mostly does.
-    #[cold]
-    #[inline(never)]
-    fn hear_char(&mut self, idx: usize, c: char) -> Result<(), Refusal>
-        ensures done { OnOk result (self.new ≡ watch_step self.old (InsertChar idx c)) }
-        ensures err { OnErr result ⊥ }
-    {
-        self.fold(idx, 0, c.len_utf8());
-        match &mut self.reports {
-            Some(reports) => reports.insert_char(idx, c),
-            None => {
-                if self.changed.from <= self.changed.new_end {
-                    self.next = self.changed.new_end;
-                }
-                Ok(())
-            }
-        }
-    }
-}
-
 impl DeleteListener for Watch {
     ghost use Rattle.rl_base.specs.Watch.{watch_step};
 
@@ -182,7 +143,7 @@ impl DeleteListener for Watch {
 
     #[inline(always)]
     fn delete(&mut self, idx: usize, string: &str, dir: Direction) -> Result<(), Refusal> {
-        self.fold(idx, string.len(), 0);
+        self.changed.fold(idx, string.len(), 0);
         match &mut self.reports {
             Some(reports) => reports.delete(idx, string, dir),
             None => Ok(()),
@@ -206,21 +167,16 @@ impl DeleteListener for Watch {
 impl ChangeListener for Watch {
     #[inline(always)]
     fn insert_char(&mut self, idx: usize, c: char) -> Result<(), Refusal> {
-        // So the proof knows that this is a `usize`.
-        let _old_end = self.changed.old_end;
-        if idx == self.next
-            && let Some(end) = idx.checked_add(c.len_utf8())
-        {
-            self.changed.new_end = end;
-            self.next = end;
-            return Ok(());
+        self.changed.fold(idx, 0, c.len_utf8());
+        match &mut self.reports {
+            Some(reports) => reports.insert_char(idx, c),
+            None => Ok(()),
         }
-        self.hear_char(idx, c)
     }
 
     #[inline(always)]
     fn insert_str(&mut self, idx: usize, string: &str) -> Result<(), Refusal> {
-        self.fold(idx, 0, string.len());
+        self.changed.fold(idx, 0, string.len());
         match &mut self.reports {
             Some(reports) => reports.insert_str(idx, string),
             None => Ok(()),
@@ -229,7 +185,7 @@ impl ChangeListener for Watch {
 
     #[inline(always)]
     fn replace(&mut self, idx: usize, old: &str, new: &str) -> Result<(), Refusal> {
-        self.fold(idx, old.len(), new.len());
+        self.changed.fold(idx, old.len(), new.len());
         match &mut self.reports {
             Some(reports) => reports.replace(idx, old, new),
             None => Ok(()),

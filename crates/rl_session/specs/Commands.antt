@@ -305,6 +305,10 @@ is_vain_yank _ _ = false
 abbrev pub settled : Command → Reply → State → State
 settled command reply s = with_ring (if is_vain_yank command reply then reset s.pair.ring else s.pair.ring) s
 
+-- from old, the command may have this reply and lead to new, with the ring's resets before it and after it
+abbrev pub CarriesOut : State → Command → Reply → State → Type 0
+CarriesOut old command reply new = (left : State) × Does (readied command old) command reply left × (new ≡ settled command reply left)
+
 -- from old, the command may have this reply and lead to new
 pub record Step (old : State) (command : Command) (reply : Reply) (new : State) : Type 0 where
   pub left : State

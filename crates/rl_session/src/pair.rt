@@ -39,8 +39,8 @@ impl DeleteListener for Pair {
 
     #[inline(always)]
     fn cursors(&mut self, before: usize, after: usize) {
-        self.changes.cursors(before, after);
         self.watch.cursors(before, after);
+        self.changes.cursors(before, after);
     }
 }
 

@@ -9,7 +9,7 @@ ghost use Rattle.rl_base.specs.Reports.{new_queue, texts_of};
 ghost use Rattle.rl_base.specs.Splice.{Splices, told, untouched};
 ghost use Rattle.rl_base.specs.Watch.{RefusesQueue, ReportTells, next_note, past_next};
 ghost use Rattle.rl_session.specs.State.{State, ChangedFrom, Follows, IsBounded, ReportedFrom, Stands, with_watch, Opens, Replays, origin};
-ghost use Rattle.rl_session.specs.Commands.{Does, Step};
+ghost use Rattle.rl_session.specs.Commands.{CarriesOut, Does, Step};
 ghost use Rattle.rl_session.specs.Run.{Row, Run, AfterEach, commands_of, held_of, replies_of, reports, reports_of};
 ghost use Rattle.rl_session.specs.declared.session.Command.{Command};
 ghost use Rattle.rl_session.specs.declared.session.Reply.{Reply};
@@ -322,19 +322,9 @@ impl Session {
         let _ = self.line.pos();
     }
 
-    // A typed letter is the most common command: it does not pay for what the other commands need.
-    #[inline(always)]
-    fn obey(&mut self, command: &Command) -> Reply
-        ensures { Does self.old command.now result self.new }
-    {
-        match command {
-            Command::Insert(c, n) => self.insert(*c, *n),
-            _ => self.obey_any(command),
-        }
-    }
-
+    // Does what a command asks for, the ring's resets aside.
     #[inline(never)]
-    fn obey_any(&mut self, command: &Command) -> Reply
+    fn obey(&mut self, command: &Command) -> Reply
         ensures { Does self.old command.now result self.new }
     {
         match command {
@@ -374,6 +364,36 @@ impl Session {
         }
     }
 
+    // Does a command, with what the ring needs before it and after it. Mostly that is a reset before it, and a typed letter
+    // does not pay for the choice of what to do. Inlined, as `apply` is.
+    #[inline(always)]
+    fn carry_out(&mut self, command: &Command) -> Reply
+        ensures { CarriesOut self.old command.now result self.new }
+    {
+        if let Command::Insert(c, n) = command {
+            self.pair.ring.reset();
+            return self.insert(*c, *n);
+        }
+        match command {
+            Command::Kill(_) | Command::Yank(_) | Command::YankPop => self.go_on(command),
+            _ => {
+                self.pair.ring.reset();
+                self.obey(command)
+            }
+        }
+    }
+
+    // The same for a command that may go on from what the ring did last.
+    #[inline(never)]
+    fn go_on(&mut self, command: &Command) -> Reply
+        ensures { CarriesOut self.old command.now result self.new }
+    {
+        self.ready(command);
+        let reply = self.obey(command);
+        self.settle(command, &reply);
+        reply
+    }
+
     /// Does one command. The ring is reset first, unless the command is a yank, or a kill by a movement other than
     /// by clusters. It is also reset after a yank whose reply is not `Inserted(Some(..))`. Whatever the reply, the
     /// recorded changes lead from the starting text to the present one, and back to the same text as before. Inlined,
@@ -386,9 +406,7 @@ impl Session {
     {
         self.stands();
         self.follows();
-        self.ready(command);
-        let reply = self.obey(command);
-        self.settle(command, &reply);
+        let reply = self.carry_out(command);
         self.stands();
         self.bounded();
         self.follows();

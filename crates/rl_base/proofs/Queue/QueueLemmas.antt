@@ -1,5 +1,5 @@
 -- Reports whose texts stand in one text, one after another.
-use Rattle.std.proofs.Common.{◌≡◌, ℕ, zero, suc, ◌+◌, ◌-◌, ◌<◌, ◌≤◌, Bool, true, false, List, [], ◌∷◌, ◌++◌, length, take, drop, slice_get, get_or, slice_set, ◌&&◌, ◌==◌, Option, Some, None, if◌then◌else◌, refl, sym, ap, subst, ◌∙◌, arith, length-append}
+use Rattle.std.proofs.Common.{◌≡◌, ℕ, zero, suc, ◌+◌, ◌-◌, ◌<◌, ◌≤◌, Bool, true, false, List, [], ◌∷◌, ◌++◌, length, take, drop, slice_get, get_or, slice_set, ◌&&◌, ◌==◌, Option, Some, None, if◌then◌else◌, refl, sym, ap, subst, ◌∙◌, arith, append-nil, length-append}
 use Rattle.std.proofs.lemmas.List.{length-take-le, length-drop, take-append-le, drop-append-le, take_all, drop_all}
 use Rattle.std.proofs.lemmas.Bool.Decides.{nat_tests}
 use Rattle.std.proofs.lemmas.Str.{IsCharBoundary-from_take, IsUtf8-nil, IsUtf8-append}
@@ -176,3 +176,9 @@ added-note room k n rs now bytes text None q len u h e f =
       waits = rw (e, f, h) (ap Whole (notes-push k rs bytes n.report n.texts q.cuts len));
     }
 added-note room k n rs now bytes text (Some all) q len u h e f = absurd cc
+
+-- one more report, where no texts are kept
+pub added-report : (room k : ℕ) (r : Report) (rs now : List Report) (bytes : List ℕ) (whole : Option Joined) → IsQueue room k rs bytes whole → k ≡ 0
+    → has_room_in room k 0 (waiting_of whole (notes k rs bytes)) ≡ true → now ≡ rs ++ r ∷ [] → Added room k (record { report = r; texts = [] }) rs now bytes bytes whole
+added-report room k r rs now bytes whole q none h e =
+    added-note room k (record { report = r; texts = [] }) rs now bytes bytes whole q (rw none refl) IsUtf8-nil h e (sym (append-nil bytes))

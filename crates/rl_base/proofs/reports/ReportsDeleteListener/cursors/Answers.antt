@@ -4,11 +4,11 @@ use Rattle.rl_base.proofs.Queue.QueueLemmas.{notes-told, Cuts-told, length-on_la
 use Rattle.rl_base.specs.Reports.{told_cursors, Whole}
 use Rattle.rl_base.proofs.reports.ReportsDeleteListener.cursors.Goals as goal
 
-pub invariant_of-self-2 : goal.invariant_of-self-2
-invariant_of-self-2 c =
+pub invariant_of-self-in-None : goal.invariant_of-self-in-None
+invariant_of-self-in-None c =
     let i = c.self.inside in
     let q = c.self.invariant.0 in (
-      rw (c.tell_last.ensures.items, c.in_default.is) record {
+      rw (c.tell_last.ensures.items, c.in-None.is) record {
         within = omega (arith, q.within, length-on_last (told_cursors c.args.before c.args.after) i.waiting.items);
         text_within = q.text_within;
         cuts = Cuts-told i.text_room c.args.before c.args.after i.waiting.items (string_bytes i.texts) q.cuts;
@@ -18,8 +18,8 @@ invariant_of-self-2 c =
       c.self.invariant.2,
     )
 
-pub returns : goal.returns
-returns c =
+pub returns-in-None : goal.returns-in-None
+returns-in-None c =
     let i = c.self.inside in
-    rw (← c.self.view_is, c.tell_last.ensures.items, c.in_default.is)
+    rw (← c.self.view_is, c.tell_last.ensures.items, c.in-None.is)
     (ap (λ ns. record { room = i.room; text_room = i.text_room; waiting = Whole ns }) (notes-told i.text_room c.args.before c.args.after i.waiting.items (string_bytes i.texts)))

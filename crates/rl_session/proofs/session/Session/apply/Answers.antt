@@ -4,9 +4,9 @@ use Rattle.rl_session.proofs.session.Session.apply.Goals as goal
 
 pub returns-clause-step : goal.returns-clause-step
 returns-clause-step c = record {
-  left = c.obey-reply.new.self;
-  does = rw c.ready.ensures at c.obey-reply.ensures;
-  settles = c.settle.ensures;
+  left = c.carry_out-reply.ensures.0;
+  does = c.carry_out-reply.ensures.1;
+  settles = c.carry_out-reply.ensures.2;
   stands = c.stands-2.ensures;
   bounded = c.bounded.ensures;
   follows = c.follows-2.ensures;
