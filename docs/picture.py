@@ -15,7 +15,7 @@ from pathlib import Path
 sys.dont_write_bytecode = True
 sys.path.insert(0, str(Path(__file__).resolve().parent.parent / "clients"))
 
-from terminal import PROGRAM, Terminal, await_that, keys
+from terminal import PROGRAM, await_that, editing, keys
 
 # What is typed, texts and lists of keys by tmux's names, and what the cursor's row shows then.
 STEPS = [
@@ -72,9 +72,7 @@ def draw_screen(y, rows, cursor):
 
 def screens_of(editor):
     """The screen after each step."""
-    terminal = Terminal(editor)
-    try:
-        await_that(terminal.screen, lambda seen: seen == ([">"], (0, 2)))
+    with editing(editor) as terminal:
         for typed, wanted in STEPS:
             for one in typed:
                 terminal.send(one)
@@ -82,8 +80,6 @@ def screens_of(editor):
             if rows[cursor[0] :] != [wanted]:
                 sys.exit(f"wanted the cursor's row {wanted!r}, saw {rows} and the cursor at {cursor}")
             yield rows, cursor
-    finally:
-        terminal.close()
 
 
 def main():
