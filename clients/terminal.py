@@ -202,15 +202,17 @@ CASES = [
     ("what comes before a key of two parts", ["ab", keys("C-x")], ["> ab"], (0, 4)),
 ]
 
-# The same for pastes of 10 KB, which must appear soon.
+# The same for pastes of 10 KB, which must appear soon, and how many rows scroll away above the screen: of many texts each
+# has a row, and so has what is told of it.
 PASTES = [
-    ("a paste of letters", ["f" * 10000 + "z"], ["f" * 60] * 19 + ["f" * 42 + "z"], (19, 43)),
-    ("of wide characters", ["日" * 3400 + "z"], ["日" * 30] * 19 + ["日" * 11 + "z"], (19, 23)),
+    ("a paste of letters", ["f" * 10000 + "z"], ["f" * 60] * 19 + ["f" * 42 + "z"], (19, 43), 0),
+    ("of wide characters", ["日" * 3400 + "z"], ["日" * 30] * 19 + ["日" * 11 + "z"], (19, 23), 0),
     (
         "of many texts",
         [("h" * 48 + "\r") * 200 + "i\r"],
         ["=> " + "h" * 48, "> " + "h" * 48] * 8 + ["=> " + "h" * 48, "> i", "=> i", ">"],
         (19, 2),
+        2 * 201 + 1 - ROWS,
     ),
 ]
 
@@ -288,16 +290,16 @@ RANDOM = [
 ]
 
 
-def run_case(program, what, given, rows, cursor, patience=PATIENCE):
-    """Whether the keys lead to that screen in time, with nothing above it."""
+def run_case(program, what, given, rows, cursor, above=0, patience=PATIENCE):
+    """Whether the keys lead to that screen in time, with so many rows above it."""
     with editing(program) as terminal:
         for one in [*given, *([] if rows else [PAUSED])]:
             terminal.send(one)
         seen = await_that(terminal.screen, lambda seen: (rows or seen[0], cursor) == seen, patience)
-        above = terminal.scrollback()
-        if (rows or seen[0], cursor) == seen and above == 0:
+        kept = terminal.scrollback()
+        if (rows or seen[0], cursor) == seen and kept == above:
             return True
-        print(f"FAILED: {what}, {above} rows above the screen\n  wanted {rows} {cursor}\n  saw {seen}")
+        print(f"FAILED: {what}, {kept} rows above the screen, not {above}\n  wanted {rows} {cursor}\n  saw {seen}")
         return False
 
 
@@ -359,7 +361,7 @@ def run_picture(program):
 def main():
     program = Path(sys.argv[1]).resolve() if len(sys.argv) > 1 else PROGRAM
     outcomes = [run_case(program, *case) for case in CASES]
-    outcomes += [run_case(program, *case, PASTED) for case in PASTES]
+    outcomes += [run_case(program, *case, patience=PASTED) for case in PASTES]
     outcomes += [outcome for case in COUNTED for outcome in run_counted(program, *case)]
     outcomes.append(run_random(program))
     outcomes.append(run_picture(program))
