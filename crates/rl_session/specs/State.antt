@@ -51,13 +51,23 @@ with_watch watch s = record s { pair = record s.pair { watch = watch } }
 abbrev pub with_ring : Ring → State → State
 with_ring ring s = record s { pair = record s.pair { ring = ring } }
 
+-- nothing is recorded, and nothing was undone
+abbrev pub no_changes : Record
+no_changes = record { recorded = []; pending = []; fresh = Stale }
+
 -- the state of a new session
 abbrev pub fresh : List ℕ → ℕ → ℕ → ℕ → GraphemeClusterMode → State
 fresh text pos limit ring_size mode = record {
   line = record { text = text; cursor = pos; limit = max limit (length text); grow = false };
-  pair = record { ring = new_ring ring_size; changes = record { recorded = []; pending = []; fresh = Stale }; watch = new_watch };
+  pair = record { ring = new_ring ring_size; changes = no_changes; watch = new_watch };
   mode = mode;
 }
+
+-- a session begins with a text, as a new one and one that was restarted do: nothing is recorded yet
+pub record Begins (text : List ℕ) (s : State) : Type 0 where
+  pub stands : Stands s
+  pub text_is : s.line.text ≡ text
+  pub changes : s.pair.changes ≡ no_changes
 
 -- what making a session may give: a session with these five values, or BadPlace where the place is no boundary. NoMemory comes
 -- only where the line's limit is above 0.

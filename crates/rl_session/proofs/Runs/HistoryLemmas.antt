@@ -1,8 +1,7 @@
 -- Rows of a session: what they make of its history, and what undos and redos among them do.
 use Rattle.std.proofs.Common.{◌≡◌, ℕ, Bool, true, suc, List, [], ◌∷◌, ◌++◌, length, take, Option, Some, None, refl, sym, ap, subst, ◌∙◌, append-nil, append_assoc}
 use Rattle.std.proofs.lemmas.Slice.Eq.{bytes_eq-Decides}
-use Rattle.std.specs.Str.{IsCharBoundary, IsUtf8}
-use Rattle.rl_base.specs.declared.layout.GraphemeClusterMode.{GraphemeClusterMode}
+use Rattle.std.specs.Str.{IsUtf8}
 use Rattle.rl_line.specs.Line.{Line}
 use Rattle.rl_line.specs.Plan.{Step as PlanStep, listener_after}
 use Rattle.rl_line.specs.Record.{Record, agree, record_step, unwind}
@@ -15,7 +14,7 @@ use Rattle.rl_line.proofs.Records.UnitLemmas.{kept-last}
 use Rattle.rl_session.specs.Commands.{Effect, by_steps, puts_begin, puts_ends, shortens, takes_back, puts_again, Became, effect, Step, Does, readied, with_changes}
 use Rattle.rl_session.specs.History.{AllRedone, History, Holds, WasHeld, WasRefused}
 use Rattle.rl_session.specs.Run.{Row, Leads, Run, held, held_by, held_of, steps_in, texts_of_steps}
-use Rattle.rl_session.specs.State.{State, fresh}
+use Rattle.rl_session.specs.State.{Begins, State}
 use Rattle.rl_session.specs.declared.session.Command.{Command}
 use Rattle.rl_session.specs.declared.session.Command.TheVariants.{Undo, Redo}
 use Rattle.rl_session.specs.declared.session.Reply.{Reply}
@@ -83,15 +82,18 @@ Holds-Leads start (row ∷ rows) texts old new h l =
     subst (λ k. Holds start k new) (append_assoc texts (held row) (held_of rows))
     (Holds-Leads start rows (texts ++ held row) row.after new (Holds-row start texts row (subst (λ s. Holds start texts s) (sym l.0) h)) l.1)
 
-pub Holds-fresh : (text : List ℕ) (pos limit ring_size : ℕ) (mode : GraphemeClusterMode) → IsUtf8 text → Holds text (text ∷ []) (fresh text pos limit ring_size mode)
-Holds-fresh text pos limit ring_size mode u =
-    record { is_text = u; leads = refl; placed = ([], record { rest = []; is = refl }); matched = record { recorded = refl; pending = refl } }
+pub Holds-Begins : (text : List ℕ) (s : State) → Begins text s → Holds text (text ∷ []) s
+Holds-Begins text s b = rw (b.text_is, b.changes) record {
+  is_text = subst IsUtf8 b.text_is b.stands.utf8;
+  leads = refl;
+  placed = ([], record { rest = []; is = refl });
+  matched = record { recorded = refl; pending = refl };
+}
 
--- what holds at the end of a run of a new session
-pub Holds-run : (text : List ℕ) (pos limit ring_size : ℕ) (mode : GraphemeClusterMode) (commands : List Command) (replies : List Reply) (new : State) → IsUtf8 text
-    → (run : Run (fresh text pos limit ring_size mode) commands replies new) → Holds text (text ∷ held_of run.rows) new
-Holds-run text pos limit ring_size mode commands replies new u run =
-    Holds-Leads text run.rows (text ∷ []) (fresh text pos limit ring_size mode) new (Holds-fresh text pos limit ring_size mode u) run.leads
+-- what holds at the end of a run of a session that begins with a text
+pub Holds-run : (text : List ℕ) (old new : State) (commands : List Command) (replies : List Reply) → Begins text old
+    → (run : Run old commands replies new) → Holds text (text ∷ held_of run.rows) new
+Holds-run text old new commands replies b run = Holds-Leads text run.rows (text ∷ []) old new (Holds-Begins text old b) run.leads
 
 -- ---- rows in a run
 -- what holds before a row of a run, and that the later rows go on from it
@@ -99,13 +101,12 @@ pub record At (text : List ℕ) (earlier later : List Row) (row : Row) (new : St
   pub holds : Holds text (text ∷ held_of earlier) row.before
   pub goes_on : Leads row.after later new
 
-pub at_row : (text : List ℕ) (pos limit ring_size : ℕ) (mode : GraphemeClusterMode) (commands : List Command) (replies : List Reply) (new : State)
-    (earlier later : List Row) (row : Row) → IsUtf8 text → (run : Run (fresh text pos limit ring_size mode) commands replies new)
+pub at_row : (text : List ℕ) (old new : State) (commands : List Command) (replies : List Reply)
+    (earlier later : List Row) (row : Row) → Begins text old → (run : Run old commands replies new)
     → run.rows ≡ earlier ++ (row ∷ later) → At text earlier later row new
-at_row text pos limit ring_size mode commands replies new earlier later row u run e =
-    let first = fresh text pos limit ring_size mode in
-    let p = Leads-split earlier (row ∷ later) first new (subst (λ rows. Leads first rows new) e run.leads) in
-    let before = Holds-Leads text earlier (text ∷ []) first p.0 (Holds-fresh text pos limit ring_size mode u) p.1 in
+at_row text old new commands replies earlier later row b run e =
+    let p = Leads-split earlier (row ∷ later) old new (subst (λ rows. Leads old rows new) e run.leads) in
+    let before = Holds-Leads text earlier (text ∷ []) old p.0 (Holds-Begins text old b) p.1 in
     record { holds = subst (λ s. Holds text (text ∷ held_of earlier) s) (sym p.2.0) before; goes_on = p.2.1 }
 
 -- what a row did, where its command is known
@@ -130,11 +131,11 @@ undo-row row n e w =
           (subst (λ (k : Record). Undone n row.before.pair.changes k row.before.line d.0.line u.0) (sym d.3) u.1),
     )
 
-pub undo-in_run : (text : List ℕ) (pos limit ring_size : ℕ) (mode : GraphemeClusterMode) (commands : List Command) (replies : List Reply) (new : State)
-    (earlier later : List Row) (row : Row) (n : ℕ) → IsUtf8 text → IsCharBoundary text pos → (run : Run (fresh text pos limit ring_size mode) commands replies new)
+pub undo-in_run : (text : List ℕ) (old new : State) (commands : List Command) (replies : List Reply)
+    (earlier later : List Row) (row : Row) (n : ℕ) → Begins text old → (run : Run old commands replies new)
     → run.rows ≡ earlier ++ (row ∷ later) → row.command ≡ Undo n → ¬ (WasRefused row.reply) → WasHeld row.after.line.text (text ∷ held_of earlier)
-undo-in_run text pos limit ring_size mode commands replies new earlier later row n u b run e is_undo done =
-    let at = at_row text pos limit ring_size mode commands replies new earlier later row u run e in
+undo-in_run text old new commands replies earlier later row n b run e is_undo done =
+    let at = at_row text old new commands replies earlier later row b run e in
     let d = undo-row row n is_undo done in
     let r = row.before.pair.changes in
     undo-held n text (text ∷ held_of earlier) row.before.line.text row.after.line.text r at.holds (line_back-unwind (last_of n r.recorded) row.before.line row.after.line d.1.line_is)
@@ -170,17 +171,17 @@ redo-rows (row ∷ rows) old new all l =
     subst (λ (s : State). Redos (suc (length rows)) s.pair.changes new.pair.changes s.line new.line) l.0
     (row.after.pair.changes, row.after.line, first.0, first.1, others)
 
-pub redo-in_run : (text : List ℕ) (pos limit ring_size : ℕ) (mode : GraphemeClusterMode) (commands : List Command) (replies : List Reply) (new : State)
-    (earlier redos : List Row) (row : Row) (n : ℕ) → IsUtf8 text → IsCharBoundary text pos → (run : Run (fresh text pos limit ring_size mode) commands replies new)
+pub redo-in_run : (text : List ℕ) (old new : State) (commands : List Command) (replies : List Reply)
+    (earlier redos : List Row) (row : Row) (n : ℕ) → Begins text old → (run : Run old commands replies new)
     → run.rows ≡ earlier ++ (row ∷ redos) → row.command ≡ Undo n → ¬ (WasRefused row.reply) → opens (last_units n row.before.pair.changes.recorded) ≡ 0
     → AllRedone redos → length redos ≡ length (last_units n row.before.pair.changes.recorded)
     → (new.line.text ≡ row.before.line.text) × (new.pair.changes.recorded ≡ row.before.pair.changes.recorded)
     × (new.pair.changes.pending ≡ row.before.pair.changes.pending)
-redo-in_run text pos limit ring_size mode commands replies new earlier redos row n u b run e is_undo done whole all long =
-    let at = at_row text pos limit ring_size mode commands replies new earlier redos row u run e in
+redo-in_run text old new commands replies earlier redos row n b run e is_undo done whole all long =
+    let at = at_row text old new commands replies earlier redos row b run e in
     let d = undo-row row n is_undo done in
     let r = row.before.pair.changes in
     let again = subst (λ k. Redos k row.after.pair.changes new.pair.changes row.after.line new.line) long (redo-rows redos row.after new all at.goes_on) in
-    let text_of = replay-IsUtf8 r.recorded text row.before.line.text u at.holds.leads in
+    let text_of = replay-IsUtf8 r.recorded text row.before.line.text at.holds.is_text at.holds.leads in
     let back = redos-give-back n r row.after.pair.changes new.pair.changes row.before.line row.after.line new.line d.0 text_of at.holds.matched whole d.1 again in
     (back.2, back.0, back.1)

@@ -14,7 +14,6 @@ use Rattle.rl_base.specs.KillRing.{Ring, IsRing, joined, next_index, put_at, joi
 use Rattle.rl_base.specs.declared.kill_ring.Action.{Action}
 use Rattle.rl_base.specs.declared.kill_ring.Action.TheVariants as did
 use Rattle.rl_base.specs.declared.kill_ring.Mode.{Mode}
-use Rattle.rl_base.specs.declared.layout.GraphemeClusterMode.{GraphemeClusterMode}
 use Rattle.rl_base.specs.declared.listeners.Direction.{Direction}
 use Rattle.rl_base.specs.declared.listeners.Direction.TheVariants.{Forward, Backward}
 use Rattle.rl_base.specs.declared.listeners.Refusal.{Refusal}
@@ -31,7 +30,7 @@ use Rattle.rl_line.specs.Ranges.{killed as killed_range, text_in}
 use Rattle.rl_line.proofs.Plans.EditLemmas.{yank_plan-nothing, yank_plan-some}
 use Rattle.rl_line.proofs.Plans.SideLemmas.{LiesOn, BeginningOfLine-side, EndOfLine-side, BackwardWord-side, ForwardWord-side, ViCharSearch-side, BeginningOfBuffer-side, EndOfBuffer-side}
 use Rattle.rl_session.specs.Pair.{pair_step, pair_refused}
-use Rattle.rl_session.specs.State.{State, Stands, with_ring, fresh}
+use Rattle.rl_session.specs.State.{State, Stands, with_ring}
 use Rattle.rl_session.specs.Commands.{Course, never, when, stays, goes, edits, stops, respells, lends, pops, tells, Came, Effect, by_steps, puts_begin, puts_ends, shortens, takes_back, puts_again, Became, effect, Edited, Step, is_vain_yank, lent as lent_state, lent_plan, popped, readied}
 use Rattle.rl_session.specs.KillRuns.{IsDirected, AllDirected, IsNoKill, AnyTook, NoneRefused, GivenBack}
 use Rattle.rl_session.specs.Run.{Row, Leads, Run, before_last, commands_of, replies_of}
@@ -181,13 +180,6 @@ Roomy-Leads [] old new l h = subst Roomy (sym l) h
 Roomy-Leads (row ∷ rows) old new l h =
     let some = subst (λ (s : State). 0 < s.pair.ring.size) (sym l.0) h.some in
     Roomy-Leads rows row.after new l.1 (Roomy-Step row.before row.command row.reply row.after some row.step)
-
-Roomy-fresh : (text : List ℕ) (pos limit ring_size : ℕ) (mode : GraphemeClusterMode) → IsUtf8 text → IsCharBoundary text pos → 0 < ring_size
-    → Roomy (fresh text pos limit ring_size mode)
-Roomy-fresh text pos limit ring_size mode u at some = record {
-  stands = record { utf8 = u; cursor = at; within = omega arith; ring = record { within = omega arith; at_slot = omega arith }; idle = refl };
-  some = some;
-}
 
 -- ---- a kill by a directed movement
 killed-side : (line : Line) (m : Movement) → IsDirected m → IsUtf8 line.text → IsCharBoundary line.text line.cursor → IfSome (killed_range line m) (LiesOn (side_of m) line.cursor)
@@ -507,12 +499,11 @@ AnyTook-append (says.At k columns ∷ xs) ys h = AnyTook-append xs ys h
 AnyTook-append (says.Refused f ∷ xs) ys h = AnyTook-append xs ys h
 
 -- in every session
-pub kills-yank : (text : List ℕ) (pos limit ring_size : ℕ) (mode : GraphemeClusterMode) (earlier : List Command) (said : List Reply) (old new : State)
-    (movements : List Movement) (replies : List Reply) (last : Reply) → IsUtf8 text → IsCharBoundary text pos → 0 < ring_size
-    → Run (fresh text pos limit ring_size mode) earlier said old → (run : Run old (map Kill movements ++ (Yank 1 ∷ [])) (replies ++ (last ∷ [])) new)
+pub kills-yank : (first old new : State) (earlier : List Command) (said : List Reply) (movements : List Movement) (replies : List Reply) (last : Reply)
+    → Stands first → 0 < first.pair.ring.size → Run first earlier said old → (run : Run old (map Kill movements ++ (Yank 1 ∷ [])) (replies ++ (last ∷ [])) new)
     → IsNoKill old.pair.ring.last → AllDirected movements → AnyTook replies → NoneRefused (replies ++ (last ∷ [])) → GivenBack old (before_last old run.rows) new
-kills-yank text pos limit ring_size mode earlier said old new movements replies last u at some first run no_kill directed took none =
-    let roomy = Roomy-Leads first.rows _ old first.leads (Roomy-fresh text pos limit ring_size mode u at some) in
+kills-yank first old new earlier said movements replies last stands some before run no_kill directed took none =
+    let roomy = Roomy-Leads before.rows first old before.leads (record { stands = stands; some = some }) in
     let ready : Ready old.line.text old = record { text_is = refl; within = roomy.stands.within; roomy = roomy; no_kill = no_kill } in
     GivenBack-rows movements run.rows old old new old directed run.leads run.asked (subst NoneRefused (sym run.answered) none)
     (inr (ready, subst AnyTook (sym run.answered) (AnyTook-append replies (last ∷ []) took)))

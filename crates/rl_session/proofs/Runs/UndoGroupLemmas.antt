@@ -2,8 +2,6 @@
 use Rattle.std.proofs.Common.{◌≡◌, ℕ, ◌+◌, inl, inr, zero, suc, Bool, true, false, List, [], ◌∷◌, ◌++◌, length, drop, reverse, Some, refl, sym, ap, subst, ◌∙◌, arith, append_assoc}
 use Rattle.std.proofs.lemmas.List.{reverse-reverse}
 use Rattle.std.specs.Prelude.{max, ◌||◌}
-use Rattle.std.specs.Str.{IsCharBoundary, IsUtf8}
-use Rattle.rl_base.specs.declared.layout.GraphemeClusterMode.{GraphemeClusterMode}
 use Rattle.rl_line.specs.Plan.{Step, listener_after, listener_after_step}
 use Rattle.rl_line.specs.Record.{Begin, End, Entry, Record, record_step, replay_entries}
 use Rattle.rl_line.specs.Units.{UndoUnit, Open, Whole, IsMatched, begun, end_one, end_times, ended, has_change, kept_of, last_of, level, opens, together, units}
@@ -15,7 +13,7 @@ use Rattle.rl_line.proofs.Records.UnitLemmas.{AllGood, AllGood-reverse, Gathers,
 use Rattle.rl_session.specs.Commands.{Effect, by_steps, puts_begin, Became, effect, Does, readied, with_changes}
 use Rattle.rl_session.specs.History.{AllStandInGroup, Holds, MayStandInGroup, WasRefused}
 use Rattle.rl_session.specs.Run.{Leads, Row, Run, held, held_of, steps_in}
-use Rattle.rl_session.specs.State.{State, fresh}
+use Rattle.rl_session.specs.State.{Begins, State}
 use Rattle.rl_session.specs.declared.session.Command.{Command}
 use Rattle.rl_session.specs.declared.session.Command.TheVariants as asks
 use Rattle.rl_session.specs.declared.session.Reply.{Reply}
@@ -200,14 +198,14 @@ group-undone start texts inside b e u mid h is_begin begins none all l to_end is
     let both : Some u.after.line.text ≡ Some b.before.line.text = sym leads ∙ ap (λ x. replay_entries x start) kept ∙ h.leads in
     cc
 
-pub group-in_run : (text : List ℕ) (pos limit ring_size : ℕ) (mode : GraphemeClusterMode) (commands : List Command) (replies : List Reply) (new : State)
-    (earlier inside later : List Row) (b e u : Row) → IsUtf8 text → IsCharBoundary text pos → (run : Run (fresh text pos limit ring_size mode) commands replies new)
+pub group-in_run : (text : List ℕ) (old new : State) (commands : List Command) (replies : List Reply)
+    (earlier inside later : List Row) (b e u : Row) → Begins text old → (run : Run old commands replies new)
     → run.rows ≡ earlier ++ (b ∷ (inside ++ (e ∷ (u ∷ later))))
     → b.command ≡ asks.Begin → ¬ (WasRefused b.reply) → level b.before.pair.changes.recorded ≡ 0
     → AllStandInGroup inside → e.command ≡ asks.End → ¬ (WasRefused e.reply)
     → has_change (drop (suc (length b.before.pair.changes.recorded)) e.before.pair.changes.recorded) ≡ true
     → u.command ≡ asks.Undo 1 → ¬ (WasRefused u.reply) → u.after.line.text ≡ b.before.line.text
-group-in_run text pos limit ring_size mode commands replies new earlier inside later b e u is_text boundary run rows is_begin begins none all is_end ends change is_undo undoes =
-    let at = at_row text pos limit ring_size mode commands replies new earlier (inside ++ (e ∷ (u ∷ later))) b is_text run rows in
+group-in_run text old new commands replies earlier inside later b e u first run rows is_begin begins none all is_end ends change is_undo undoes =
+    let at = at_row text old new commands replies earlier (inside ++ (e ∷ (u ∷ later))) b first run rows in
     let p = Leads-split inside (e ∷ (u ∷ later)) b.after new at.goes_on in
     group-undone text (text ∷ held_of earlier) inside b e u p.0 at.holds is_begin begins none all p.1 p.2.0 is_end ends change p.2.1.0 is_undo undoes
