@@ -4,5 +4,6 @@ pub mod SessionLemmas
 pub mod ReplyLemmas
 pub mod IdleLemmas
 pub mod CourseLemmas
+pub mod RestartLemmas
 pub mod WatchLemmas
 pub mod QuietLemmas

@@ -1,13 +1,14 @@
 -- What a session holds.
 use Rattle.std.specs.Prelude.{◌≡◌, ℕ, ◌^◌, ◌<◌, ◌≤◌, max, false, IsSome, List, [], length, Option, Some, Result, Ok, Err}
 use Rattle.std.specs.Str.{IsCharBoundary, IsUtf8}
-use Rattle.rl_base.specs.KillRing.{Ring, IsRing, new_ring}
+use Rattle.rl_base.specs.Event.{Cursors, Replace}
+use Rattle.rl_base.specs.KillRing.{Ring, IsRing, new_ring, reset}
 use Rattle.rl_base.specs.Reports.{IsLineText}
 use Rattle.rl_base.specs.Splice.{Covers}
-use Rattle.rl_base.specs.Watch.{Watched, ReportsLead, new_watch}
+use Rattle.rl_base.specs.Watch.{Watched, ReportsLead, new_watch, watch_step}
 use Rattle.rl_base.specs.declared.layout.GraphemeClusterMode.{GraphemeClusterMode}
 use Rattle.rl_line.specs.declared.change.Freshness.TheVariants.{Stale}
-use Rattle.rl_line.specs.Line.{Line}
+use Rattle.rl_line.specs.Line.{Line, NeedsRoom}
 use Rattle.rl_line.specs.Record.{Record, replay_entries, unwind}
 use Rattle.rl_line.specs.Undo.{line_ahead, line_back}
 use Rattle.rl_line.specs.Walk.{Walks}
@@ -68,6 +69,25 @@ pub record Begins (text : List ℕ) (s : State) : Type 0 where
   pub stands : Stands s
   pub text_is : s.line.text ≡ text
   pub changes : s.pair.changes ≡ no_changes
+
+-- the state after a restart: another text, nothing recorded, the ring with its slots, and a watch that was told that all the
+-- old text gave way to the new one. The limit is raised where the text is longer
+abbrev pub restarted : List ℕ → ℕ → State → State
+restarted text pos s = record {
+  line = record s.line { text = text; cursor = pos; limit = max s.line.limit (length text) };
+  pair = record {
+    ring = reset s.pair.ring;
+    changes = no_changes;
+    watch = watch_step (watch_step s.pair.watch (Replace 0 s.line.text text)) (Cursors s.line.cursor (length text));
+  };
+  mode = s.mode;
+}
+
+-- why a session is not restarted: the place is no boundary of the text, or memory is out for a text that needs more room
+abbrev pub RefusesRestart : Fault → List ℕ → ℕ → State → Type 0
+RefusesRestart BadPlace text pos s = ¬ (IsCharBoundary text pos)
+RefusesRestart NoMemory text pos s = IsCharBoundary text pos × NeedsRoom s.line.text text
+RefusesRestart _ text pos s = ⊥
 
 -- what making a session may give: a session with these five values, or BadPlace where the place is no boundary. NoMemory comes
 -- only where the line's limit is above 0.

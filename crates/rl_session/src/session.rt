@@ -1,14 +1,14 @@
 //! A session: a line with its kill ring and the record of its changes, which takes commands one after another.
 ghost use Rattle.std.specs.Prelude.{◌≡◌, ◌<◌, ◌++◌, ◌∷◌, [], List, ℕ, max, length, false, IsSome, Some, IfOk, IfErr, MatchOption, None, OnErr, OnOk};
 ghost use Rattle.std.specs.Str.{IsCharBoundary};
-ghost use Rattle.rl_base.specs.Event.{replay};
-ghost use Rattle.rl_line.specs.Line.{Line};
+ghost use Rattle.rl_base.specs.Event.{Cursors, Replace, replay};
+ghost use Rattle.rl_line.specs.Line.{Line, NeedsRoom};
 ghost use Rattle.rl_line.specs.Record.{Record, replay_entries, unwind};
 ghost use Rattle.std.specs.Option.{option_map};
 ghost use Rattle.rl_base.specs.Reports.{new_queue, texts_of};
 ghost use Rattle.rl_base.specs.Splice.{Splices, told, untouched};
-ghost use Rattle.rl_base.specs.Watch.{RefusesQueue, ReportTells, next_note, past_next};
-ghost use Rattle.rl_session.specs.State.{State, ChangedFrom, Follows, IsBounded, ReportedFrom, Stands, with_watch, Opens, Replays, origin};
+ghost use Rattle.rl_base.specs.Watch.{RefusesQueue, ReportTells, next_note, past_next, watch_step};
+ghost use Rattle.rl_session.specs.State.{State, Begins, ChangedFrom, Follows, IsBounded, ReportedFrom, Stands, with_watch, Opens, RefusesRestart, Replays, origin, restarted};
 ghost use Rattle.rl_session.specs.Commands.{CarriesOut, Does, Step};
 ghost use Rattle.rl_session.specs.Run.{Row, Run, AfterEach, commands_of, held_of, replies_of, reports, reports_of};
 ghost use Rattle.rl_session.specs.declared.session.Command.{Command};
@@ -184,6 +184,26 @@ fn line_of(alloc: Global, text: &str, pos: usize, limit: usize) -> Result<LineBu
     }
 }
 
+// Puts a text in the place of a line's, with the cursor at a place, and tells the watch.
+fn renew(line: &mut LineBuffer, text: &str, pos: usize, watch: &mut Watch) -> Result<(), Fault>
+    requires { IsCharBoundary text.now pos }
+    ensures line { OnOk result (line.new ≡ record line.old { text = text.now; cursor = pos; limit = max line.old.limit (length text.now) }) }
+    ensures told { OnOk result (watch.new ≡ watch_step (watch_step watch.old (Replace 0 line.old.text text.now)) (Cursors line.old.cursor (length text.now))) }
+    ensures err { IfErr result (λ f. (f ≡ Fault.NoMemory) × NeedsRoom line.old.text text.now) }
+    ensures kept { OnErr result ((line.new ≡ line.old) × (watch.new ≡ watch.old)) }
+{
+    // So the proof knows that this is UTF-8.
+    let _pos = line.pos();
+    let end = line.len();
+    match line.replace(0..end, text, watch) {
+        Ok(()) => {
+            line.set_pos(pos);
+            Ok(())
+        }
+        Err(_) => Err(Fault::NoMemory),
+    }
+}
+
 impl Session {
     /// A session on a text, with the cursor at the byte place `pos`. Its line has the limit `limit`, in bytes,
     /// or the text's length where that is greater, and may not grow; its ring has room for `ring_size` texts;
@@ -199,6 +219,7 @@ impl Session {
     ) -> Result<Self, Fault>
         ensures opens { Opens text.now pos limit ring_size mode result }
         ensures replays { IfOk result (Replays text.now) }
+        ensures begins { IfOk result (Begins text.now) }
         ensures changed { IfOk result (ChangedFrom text.now) }
     {
         if !text.is_char_boundary(pos) {
@@ -218,6 +239,31 @@ impl Session {
         session.stands();
         session.bounded();
         Ok(session)
+    }
+
+    /// Begins anew with a text, with the cursor at the byte place `pos`, as an editor does with the next line: nothing is
+    /// recorded yet, and the ring keeps its slots, so what was killed before can be yanked. A kill begins a new slot, and
+    /// nothing was yanked last. The limit is raised where the text is longer. What tells of changes tells of this one too:
+    /// all the old text gave way to the new one. Refused, it changes nothing: `BadPlace` comes exactly where `pos` is no
+    /// boundary of the text, and `NoMemory` only where the text needs more room than the old one.
+    pub fn restart(&mut self, text: &str, pos: usize) -> Result<(), Fault>
+        ensures ok { OnOk result (IsCharBoundary text.now pos × (self.new ≡ restarted text.now pos self.old)) }
+        ensures begins { OnOk result (Begins text.now self.new) }
+        ensures changed { (asked : List ℕ) → ChangedFrom asked self.old → ChangedFrom asked self.new }
+        ensures reported { (read : List ℕ) → ReportedFrom read self.old → ReportedFrom read self.new }
+        ensures err { IfErr result (λ fault. RefusesRestart fault text.now pos self.old × (self.new ≡ self.old)) }
+    {
+        self.stands();
+        self.bounded();
+        if !text.is_char_boundary(pos) {
+            return Err(Fault::BadPlace);
+        }
+        renew(&mut self.line, text, pos, &mut self.pair.watch)?;
+        self.pair.ring.reset();
+        self.pair.changes = Changeset::new(self.alloc);
+        self.stands();
+        self.bounded();
+        Ok(())
     }
 
     /// The line.

@@ -18,13 +18,14 @@ use Rattle.rl_line.proofs.Records.HeardLemmas.{after-steps_ahead, after-steps_ba
 use Rattle.rl_line.proofs.Plans.HearingLemmas.{Keeps-after}
 use Rattle.rl_session.specs.Commands.{Effect, by_steps, puts_begin, puts_ends, shortens, takes_back, puts_again, Became, Step, effect, readied, Course, never, when, stays, goes, edits, stops, respells, lends, pops, tells, Came, WatchHears, lent, popped}
 use Rattle.rl_session.specs.Pair.{pair_step}
-use Rattle.rl_session.specs.State.{State, ChangedFrom, IsBounded, ReportedFrom, Stands, with_watch}
+use Rattle.rl_session.specs.State.{State, ChangedFrom, IsBounded, ReportedFrom, Stands, restarted, with_watch}
 use Rattle.rl_session.specs.Run.{Row, Leads, Run}
 use Rattle.rl_session.specs.declared.session.Command.{Command}
 use Rattle.rl_session.specs.declared.session.Reply.{Reply}
 use Rattle.rl_session.specs.declared.pair.Pair.{Pair}
 use Rattle.rl_session.proofs.Sessions.CourseLemmas.{Moved-text}
 use Rattle.rl_session.proofs.Sessions.PairLemmas.{cause-watch, listener_after-watch, own}
+use Rattle.rl_session.proofs.Sessions.RestartLemmas.{apply-all}
 
 -- a kill's start and stop leave the text
 apply-Start : (text : List ℕ) → apply Start text ≡ Some text
@@ -34,6 +35,10 @@ apply-Start text = refl
 apply-Stop : (text : List ℕ) → apply Stop text ≡ Some text
 unfolding apply
 apply-Stop text = refl
+
+apply-Cursors : (before after : ℕ) (text : List ℕ) → apply (Cursors before after) text ≡ Some text
+unfolding apply
+apply-Cursors before after text = refl
 
 -- what is known of a line before a command and after it
 pub record Texts (old new : Line) : Type 0 where
@@ -121,6 +126,12 @@ module _ (Keeps : Watched → List ℕ → Type 0)
       } in
       subst Kept (sym s.settles) (Kept-Became (effect begun command reply) begun s.left texts s.does k)
 
+  -- a restart is told as one change of the whole text
+  pub Kept-restarted : (text : List ℕ) (pos : ℕ) (s : State) → Stands s → IsBounded s → IsUtf8 text → length text < 2 ^ 64 → Kept s → Kept (restarted text pos s)
+  Kept-restarted text pos s h b u fits k =
+      let all = heard s.pair.watch (Replace 0 s.line.text text) s.line.text text k h.utf8 (omega (arith, h.within, b)) fits (apply-all s.line.text text h.utf8 u) in
+      heard (watch_step s.pair.watch (Replace 0 s.line.text text)) (Cursors s.line.cursor (length text)) text text all u fits fits (apply-Cursors s.line.cursor (length text) text)
+
 -- what covers all that changed covers it after one more event
 goes_on : (asked : List ℕ) (w : Watched) (event : Event) (text new : List ℕ) → Covers w.changed asked text → IsUtf8 text → length text < 2 ^ 64 → length new < 2 ^ 64 → apply event text ≡ Some new
     → Covers (spliced w.changed event) asked new
@@ -171,6 +182,21 @@ pub reported_row : (read : List ℕ) (row : Row) → ReportedFrom read row.befor
 reported_row read row k =
     let kept = Kept-Step (λ w text. IsLineText read × ReportsLead w.reports read text) (lead_on read) row.before row.command row.reply row.after row.step k.stands k.bounded (k.text, k.leads) in
     record { stands = row.step.stands; bounded = row.step.bounded; text = kept.0; leads = kept.1 }
+
+-- and after a restart
+pub changed_restarted : (asked text : List ℕ) (pos : ℕ) (old new : State) → new ≡ restarted text pos old → Stands new → IsBounded new → ChangedFrom asked old → ChangedFrom asked new
+changed_restarted asked text pos old new e h b k =
+    let utf8 : IsUtf8 text = subst (λ (s : State). IsUtf8 s.line.text) e h.utf8 in
+    let is : new.line.text ≡ text = ap (λ (s : State). s.line.text) e in
+    let kept = Kept-restarted (λ w text. Covers w.changed asked text) (goes_on asked) text pos old k.stands k.bounded utf8 (omega (arith, ap length is, h.within, b)) k.covers in
+    record { stands = h; bounded = b; covers = subst (λ (s : State). Covers s.pair.watch.changed asked s.line.text) (sym e) kept }
+
+pub reported_restarted : (read text : List ℕ) (pos : ℕ) (old new : State) → new ≡ restarted text pos old → Stands new → IsBounded new → ReportedFrom read old → ReportedFrom read new
+reported_restarted read text pos old new e h b k =
+    let utf8 : IsUtf8 text = subst (λ (s : State). IsUtf8 s.line.text) e h.utf8 in
+    let is : new.line.text ≡ text = ap (λ (s : State). s.line.text) e in
+    let kept = Kept-restarted (λ w text. IsLineText read × ReportsLead w.reports read text) (lead_on read) text pos old k.stands k.bounded utf8 (omega (arith, ap length is, h.within, b)) (k.text, k.leads) in
+    record { stands = h; bounded = b; text = kept.0; leads = subst (λ (s : State). ReportsLead s.pair.watch.reports read s.line.text) (sym e) kept.1 }
 
 -- what a fact keeps at each row it keeps over rows
 over : (Holds : State → Type 0) → ((row : Row) → Holds row.before → Holds row.after) → (rows : List Row) (old new : State) → Leads old rows new → Holds old → Holds new

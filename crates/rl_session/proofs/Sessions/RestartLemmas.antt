@@ -1,0 +1,76 @@
+-- A text that takes the place of a whole line's.
+use Rattle.std.proofs.Common.{◌≡◌, ◌∙◌, ℕ, ◌+◌, ◌-◌, inl, inr, List, [], ◌∷◌, ◌++◌, length, max, Some, refl, sym, ap, subst, arith, append-nil, length-append}
+use Rattle.std.proofs.lemmas.List.{take_all}
+use Rattle.std.proofs.lemmas.Str.{IsUtf8-nil}
+use Rattle.std.specs.Prelude.{slice_range}
+use Rattle.std.specs.Str.{IsUtf8}
+use Rattle.rl_base.specs.Event.{Cursors, Replace, apply}
+use Rattle.rl_base.specs.Watch.{Watched, watch_step}
+use Rattle.rl_base.specs.declared.listeners.Refusal.{Refusal}
+use Rattle.rl_base.proofs.Texts.SwapLemmas.{apply-Replace-Swaps}
+use Rattle.rl_line.specs.Edits.{replace_plan}
+use Rattle.rl_line.specs.Line.{Line, NeedsRoom, stepped}
+use Rattle.rl_line.specs.Plan.{Done, Grows, Halted, Step, Taken, or_no_memory}
+use Rattle.rl_line.specs.Record.{Record}
+use Rattle.rl_line.specs.Walk.{Walks}
+use Rattle.rl_line.proofs.Plans.PlanLemmas.{first_step}
+use Rattle.rl_session.specs.State.{no_changes}
+
+-- all of a text gives way to another
+pub apply-all : (old new : List ℕ) → IsUtf8 old → IsUtf8 new → apply (Replace 0 old new) old ≡ Some new
+apply-all old new u v = apply-Replace-Swaps old new 0 old new (record {
+  front = [];
+  rest = [];
+  text_is = sym (append-nil old);
+  after_is = sym (append-nil new);
+  place = refl;
+  front_utf8 = IsUtf8-nil;
+  rest_utf8 = IsUtf8-nil;
+  old_utf8 = u;
+  new_utf8 = v;
+})
+
+part-all : (text : List ℕ) (end : ℕ) → end ≡ length text → slice_range text 0 end ≡ text
+part-all text end e = take_all (end - 0) text (omega (arith, e))
+
+-- the one step by which it does
+abbrev all_step : Line → ℕ → List ℕ → Step
+all_step old end text = (Replace 0 (slice_range old.text 0 end) text, 0 + length text)
+
+pub Renewed : (old new : Line) (before now : Watched) (text : List ℕ) (end : ℕ) (a : Unit {0}) → end ≡ length old.text → IsUtf8 old.text → IsUtf8 text
+    → Done watch_step (replace_plan old 0 end text) old new before now a
+    → (new ≡ record old { text = text; cursor = length text; limit = max old.limit (length text) })
+    × (now ≡ watch_step (watch_step before (Replace 0 old.text text)) (Cursors old.cursor (length text)))
+Renewed old new before now text end a e u v d =
+    let part = part-all old.text end e in
+    let b = first_step (all_step old end text) [] old d.last d.taken.line in
+    let made : Some text ≡ Some b.text = sym (apply-all old.text text u v) ∙ ap (λ p. apply (Replace 0 p text) old.text) (sym part) ∙ b.makes in
+    let is : text ≡ b.text = cc in
+    let last : stepped old b.text (0 + length text) ≡ d.last = cc in
+    let place : 0 + length text ≡ length text = omega arith in (
+      d.line ∙ ap (λ (l : Line). record l { cursor = 0 + length text }) (sym last) ∙ ap (λ t. record old { text = t; cursor = 0 + length text; limit = max old.limit (length t) }) (sym is) ∙ ap (λ k. record old { text = text; cursor = k; limit = max old.limit (length text) }) place,
+      d.taken.listener ∙ ap (λ p. watch_step (watch_step before (Replace 0 p text)) (Cursors old.cursor (0 + length text))) part ∙ ap (λ k. watch_step (watch_step before (Replace 0 old.text text)) (Cursors old.cursor k)) place,
+    )
+
+pub Kept : (old new : Line) (before now : Watched) (text : List ℕ) (end : ℕ) (r : Refusal) → end ≡ length old.text
+    → Halted watch_step (or_no_memory (λ _ _ _ _. ⊥)) (replace_plan old 0 end text) old new before now r
+    → NeedsRoom old.text text × (new ≡ old) × (now ≡ before)
+Kept old new before now text end r e h = from h.first h.split h.taken
+  where
+    from : (first : List Step) → all_step old end text ∷ [] ≡ first ++ h.next ∷ h.others → Taken watch_step first old new before h.middle → NeedsRoom old.text text × (new ≡ old) × (now ≡ before)
+    from [] split t =
+        let next : all_step old end text ≡ h.next = cc in
+        let same : old ≡ new = cc in
+        elim h.cause [
+          | inl c ↦ (
+              subst (λ p. NeedsRoom p text) (part-all old.text end e) (subst (λ (s : Step). Grows s.0) (sym next) c.2),
+              sym same,
+              c.1 ∙ t.listener,
+            )
+          | inr c ↦ absurd c
+        ]
+    from (x ∷ xs) split t = absurd (omega (arith, ap length split, length-append xs (h.next ∷ h.others)))
+
+-- nothing recorded leads from a text to itself
+pub Walks-nothing : (r : Record) (text : List ℕ) → r ≡ no_changes → IsUtf8 text → Walks r text
+Walks-nothing r text e u = rw e record { start = text; is_text = u; back = refl; end = text; ahead = refl; stale = refl }

@@ -1,0 +1,23 @@
+use Rattle.std.proofs.Common.{◌∙◌, ap, sym, subst, refl}
+use Rattle.std.specs.Str.{IsUtf8}
+use Rattle.rl_base.specs.KillRing.{Ring}
+use Rattle.rl_line.specs.Line.{Line}
+use Rattle.rl_session.proofs.Sessions.RestartLemmas.{Walks-nothing}
+use Rattle.rl_session.proofs.Sessions.WatchLemmas.{changed_restarted, reported_restarted}
+use Rattle.rl_session.proofs.session.Session.restart.Goals as goal
+
+pub invariant_of-self-2 : goal.invariant_of-self-2
+invariant_of-self-2 c = record {
+  walks = Walks-nothing c.new.result c.renew.new.line.text c.new.ensures (subst (λ (l : Line). IsUtf8 l.text) (sym c.in_ok-renew.ensures.line) c.utf8.text);
+  idle = ap (λ (r : Ring). r.killing) c.reset.ensures ∙ c.self.invariant.idle;
+}
+
+pub returns-clause-ok : goal.returns-clause-ok
+returns-clause-ok c =
+    (c.if-not-is_char_boundary.ensures.test.0 refl, rw (← c.self.view_is, c.in_ok-renew.ensures.line, c.in_ok-renew.ensures.told, c.reset.ensures, c.new.ensures) refl)
+
+pub returns-clause-changed : goal.returns-clause-changed
+returns-clause-changed c = λ asked from. changed_restarted asked c.args.text.now c.args.pos c.args.self.now _ (returns-clause-ok c).1 c.stands-2.ensures c.bounded-2.ensures from
+
+pub returns-clause-reported : goal.returns-clause-reported
+returns-clause-reported c = λ read from. reported_restarted read c.args.text.now c.args.pos c.args.self.now _ (returns-clause-ok c).1 c.stands-2.ensures c.bounded-2.ensures from

@@ -1,0 +1,31 @@
+use Rattle.std.proofs.Common.{◌∙◌, ap, sym, subst, refl}
+use Rattle.std.proofs.lemmas.Str.{IsCharBoundary-start}
+use Rattle.std.specs.Str.{IsCharBoundary}
+use Rattle.rl_line.specs.Line.{Line}
+use Rattle.rl_session.proofs.Sessions.RestartLemmas.{Kept, Renewed}
+use Rattle.rl_session.proofs.session.renew.Goals as goal
+
+pub replace-requires-clause-start : goal.replace-requires-clause-start
+replace-requires-clause-start c = IsCharBoundary-start c.args.line.now.text c.pos-pos.ensures.utf8
+
+pub set_pos-requires : goal.set_pos-requires
+set_pos-requires c =
+    let renewed = Renewed c.args.line.now c.replace.new.self c.args.watch.now c.replace.new.listener c.args.text.now c.len-end.result _ c.len-end.ensures.len c.pos-pos.ensures.utf8 c.utf8.text c.in-Ok.ensures.done in
+    subst (λ (l : Line). IsCharBoundary l.text c.args.pos) (sym renewed.0) c.requires
+
+pub returns-in-Ok-clause-line : goal.returns-in-Ok-clause-line
+returns-in-Ok-clause-line c =
+    let renewed = Renewed c.args.line.now c.replace.new.self c.args.watch.now c.replace.new.listener c.args.text.now c.len-end.result _ c.len-end.ensures.len c.pos-pos.ensures.utf8 c.utf8.text c.in-Ok.ensures.done in
+    c.set_pos.ensures ∙ ap (λ (l : Line). record l { cursor = c.args.pos }) renewed.0
+
+pub returns-in-Ok-clause-told : goal.returns-in-Ok-clause-told
+returns-in-Ok-clause-told c =
+    (Renewed c.args.line.now c.replace.new.self c.args.watch.now c.replace.new.listener c.args.text.now c.len-end.result _ c.len-end.ensures.len c.pos-pos.ensures.utf8 c.utf8.text c.in-Ok.ensures.done).1
+
+pub returns-in-Err-clause-err : goal.returns-in-Err-clause-err
+returns-in-Err-clause-err c =
+    (refl, (Kept c.args.line.now c.replace.new.self c.args.watch.now c.replace.new.listener c.args.text.now c.len-end.result c.in-Err.field-0 c.len-end.ensures.len c.in-Err.ensures.halted).0)
+
+pub returns-in-Err-clause-kept : goal.returns-in-Err-clause-kept
+returns-in-Err-clause-kept c =
+    let kept = Kept c.args.line.now c.replace.new.self c.args.watch.now c.replace.new.listener c.args.text.now c.len-end.result c.in-Err.field-0 c.len-end.ensures.len c.in-Err.ensures.halted in (kept.1, kept.2)
