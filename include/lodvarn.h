@@ -168,6 +168,12 @@ enum lodvarn_indent_direction {
 uint32_t lodvarn_open(lodvarn **s, const char *text, size_t len, size_t pos, size_t limit, size_t ring_size,
                       uint32_t mode);
 
+/* Begins anew with a text, with the cursor at the place pos, as an editor does with the next line. The record is empty
+ * then. The kill ring keeps its texts; a kill begins a new one, and lodvarn_yank_pop answers NONE until a yank. The limit
+ * rises where the text is longer. What tells of changes tells that all the old text gave way to the new one. Answers DONE.
+ * Errors: NOT_UTF8, BAD_PLACE, and NO_MEMORY only where the text needs more room; they leave the whole session. */
+uint32_t lodvarn_restart(lodvarn **s, const char *text, size_t len, size_t pos);
+
 /* Closes the session, if *s has one, and frees its memory. *s is NULL afterwards. */
 void lodvarn_close(lodvarn **s);
 

@@ -48,8 +48,7 @@ static void accept_line(uint32_t unused) {
     printf("accepted ");
     show();
     printf(", and then ");
-    hear(lodvarn_update(&s, "", 0, 0));
-    hear(lodvarn_truncate(&s, 0));
+    hear(lodvarn_restart(&s, "", 0, 0));
 }
 
 static const struct key {

@@ -412,6 +412,7 @@ static void nothing_is_open(void) {
     LEAVES(LODVARN_CLOSED, lodvarn_yank(&s, 1));
     LEAVES(LODVARN_CLOSED, lodvarn_yank_pop(&s));
     LEAVES(LODVARN_CLOSED, lodvarn_update(&s, "a", 1, 0));
+    LEAVES(LODVARN_CLOSED, lodvarn_restart(&s, "a", 1, 0));
     LEAVES(LODVARN_CLOSED, lodvarn_insert_str(&s, 0, "a", 1));
     LEAVES(LODVARN_CLOSED, lodvarn_replace(&s, 0, 0, "a", 1));
     LEAVES(LODVARN_CLOSED, lodvarn_delete_range(&s, 0, 0));
@@ -482,6 +483,7 @@ static void texts_that_are_no_utf8(void) {
         LEAVES(LODVARN_NOT_UTF8, lodvarn_open(&s, bad, len, 0, 64, 60, LODVARN_UNICODE));
         LEAVES(LODVARN_NOT_UTF8, lodvarn_paste(&s, bad, len, 1));
         LEAVES(LODVARN_NOT_UTF8, lodvarn_update(&s, bad, len, 0));
+        LEAVES(LODVARN_NOT_UTF8, lodvarn_restart(&s, bad, len, 0));
         LEAVES(LODVARN_NOT_UTF8, lodvarn_insert_str(&s, 0, bad, len));
         LEAVES(LODVARN_NOT_UTF8, lodvarn_replace(&s, 0, 1, bad, len));
         LEAVES(LODVARN_NOT_UTF8, lodvarn_width(bad, len, LODVARN_UNICODE, &columns));
@@ -498,6 +500,8 @@ static void places_that_are_none(void) {
     begin_bad_input();
     LEAVES(LODVARN_BAD_PLACE, lodvarn_open(&s, "é", 2, 1, 64, 60, LODVARN_UNICODE));
     LEAVES(LODVARN_BAD_PLACE, lodvarn_open(&s, "é", 2, 3, 64, 60, LODVARN_UNICODE));
+    LEAVES(LODVARN_BAD_PLACE, lodvarn_restart(&s, "é", 2, 1));
+    LEAVES(LODVARN_BAD_PLACE, lodvarn_restart(&s, "é", 2, 3));
     LEAVES(LODVARN_BAD_PLACE, lodvarn_cell("é", 2, 1, 0, 10, LODVARN_UNICODE, &number, &other));
     LEAVES(LODVARN_BAD_PLACE, lodvarn_cell("é", 2, 3, 0, 10, LODVARN_UNICODE, &number, &other));
     static const size_t bad[] = {2, 6, SIZE_MAX};
@@ -680,6 +684,31 @@ static void what_changed_is_told(void) {
     see("an update to no text", changed_is(0, 7, 0));
     open_watched("ab", 2, 0, 0);
     NOTHING_CHANGED();
+}
+
+static void a_session_begins_anew(void) {
+    open_watched("one two", 7, 0, 0);
+    lodvarn_kill(&s, LODVARN_BACKWARD_EMACS_WORD, 1, 0);
+    lodvarn_insert(&s, 'x', 1);
+    see("what changed before is told first", changed_is(4, 7, 5));
+    see("another text", lodvarn_restart(&s, "né", 3, 1) == LODVARN_DONE && stands(&s, "né", 1));
+    see("is told as one change", changed_is(0, 5, 3));
+    see("has no record", lodvarn_entries(&s) == 0);
+    see("so nothing is undone", lodvarn_undo(&s, 1) == LODVARN_FALSE && stands(&s, "né", 1));
+    see("nor redone", lodvarn_redo(&s) == LODVARN_FALSE && stands(&s, "né", 1));
+    see("what was killed is yanked", lodvarn_yank(&s, 1) == LODVARN_FALSE && stands(&s, "ntwoé", 4));
+    see("an undo goes back to its beginning", lodvarn_undo(&s, 9) == LODVARN_TRUE && stands(&s, "né", 1));
+    lodvarn_yank(&s, 1);
+    lodvarn_restart(&s, "one", 3, 3);
+    see("no yank came before it", lodvarn_last_was_yank(&s) == LODVARN_FALSE && lodvarn_yank_pop(&s) == LODVARN_NONE);
+    lodvarn_kill(&s, LODVARN_BACKWARD_EMACS_WORD, 1, 0);
+    lodvarn_restart(&s, "four", 4, 4);
+    lodvarn_kill(&s, LODVARN_BACKWARD_EMACS_WORD, 1, 0);
+    see("kills around it are two texts", lodvarn_yank(&s, 1) == LODVARN_TRUE && stands(&s, "four", 4));
+    see("and the one before is there", lodvarn_yank_pop(&s) == LODVARN_TRUE && stands(&s, "one", 3));
+    see("the limit stays", lodvarn_restart(&s, "", 0, 0) == LODVARN_DONE && lodvarn_limit(&s) == 64);
+    static const char more[] = "0123456789012345678901234567890123456789012345678901234567890123456789";
+    see("a longer one raises it", lodvarn_restart(&s, more, 70, 70) == LODVARN_DONE && lodvarn_limit(&s) == 70);
 }
 
 static void asking_what_changed_parts_nothing(void) {
@@ -878,6 +907,7 @@ int main(void) {
     great_input_is_met();
     memory_that_is_not_there();
     what_changed_is_told();
+    a_session_begins_anew();
     asking_what_changed_parts_nothing();
     a_queue_is_asked_for();
     changes_are_reported();

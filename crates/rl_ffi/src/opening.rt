@@ -1,12 +1,12 @@
-//! The calls that open and close a session.
+//! The calls that open a session, begin anew in it, and close it.
 ghost use Rattle.std.specs.Prelude.{◌≡◌, None, IfErr, IfOk};
 ghost use Rattle.std.specs.Str.{IsCharBoundary, IsUtf8};
 ghost use Rattle.rl_session.specs.State.{fresh};
 ghost use Rattle.rl_ffi.specs.Numbers.{mode_of};
-ghost use Rattle.rl_ffi.specs.Opening.{CannotOpen, OpensAs};
+ghost use Rattle.rl_ffi.specs.Opening.{CannotOpen, OpensAs, RestartCalled, Restarts};
 
-use crate::handle::Handle;
-use crate::numbers::{DONE, NO_MEMORY, NO_SUCH_NUMBER, NOT_UTF8, fault_number, mode_of};
+use crate::handle::{Handle, of_session};
+use crate::numbers::{CLOSED, DONE, NO_MEMORY, NO_SUCH_NUMBER, NOT_UTF8, fault_number, mode_of};
 use rl_base::GraphemeClusterMode;
 use rl_session::Session;
 use std::alloc::Global;
@@ -60,6 +60,27 @@ pub extern "C" fn lodvarn_open(
         }
         Err(number) => number,
     }
+}
+
+fn restart(session: &mut Session, text: &[u8], pos: usize) -> u32
+    ensures { Restarts text.now pos session.old result session.new }
+{
+    let Ok(text) = std::str::from_utf8(text) else {
+        return NOT_UTF8;
+    };
+    match session.restart(text, pos) {
+        Ok(()) => DONE,
+        Err(fault) => fault_number(fault),
+    }
+}
+
+/// Begins anew with a text, with the cursor at the byte place `pos`: DONE. The record is empty then, and the ring keeps
+/// its texts. CLOSED, NOT_UTF8, BAD_PLACE and NO_MEMORY change nothing.
+#[unsafe(no_mangle)]
+pub extern "C" fn lodvarn_restart(alloc: Global, s: &mut Handle, text: &[u8], pos: usize) -> u32
+    ensures { RestartCalled text.now pos s.old.value result s.new.value }
+{
+    of_session!(s, alloc, session => restart(&mut session, text, pos), CLOSED)
 }
 
 /// Closes the session, if there is one.

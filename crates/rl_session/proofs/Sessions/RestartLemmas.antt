@@ -63,10 +63,10 @@ Kept old new before now text end r e h = from h.first h.split h.taken
         let same : old ≡ new = cc in
         elim h.cause [
           | inl c ↦ (
-              subst (λ p. NeedsRoom p text) (part-all old.text end e) (subst (λ (s : Step). Grows s.0) (sym next) c.2),
-              sym same,
-              c.1 ∙ t.listener,
-            )
+            subst (λ p. NeedsRoom p text) (part-all old.text end e) (subst (λ (s : Step). Grows s.0) (sym next) c.2),
+            sym same,
+            c.1 ∙ t.listener,
+          )
           | inr c ↦ absurd c
         ]
     from (x ∷ xs) split t = absurd (omega (arith, ap length split, length-append xs (h.next ∷ h.others)))
