@@ -37,7 +37,7 @@
  * Answers
  * A call that answers a uint32_t answers one of enum lodvarn_answer. The comment of each call names its answers and its
  * errors, without LODVARN_. CLOSED is an error of each call with an s that answers a uint32_t, except lodvarn_open.
- * The errors are the numbers from LODVARN_NO_MEMORY on. What an error leaves:
+ * The errors are the numbers from LODVARN_NO_MEMORY on, as LODVARN_IS_ERROR tells. What an error leaves:
  * - NO_MEMORY: an edit of several steps stops after the steps that it made, and the record has these. Every other call
  *   leaves text, cursor, record and limit as they were. The ring may have kept a text that a kill did not delete.
  * - BAD_PLACE, BAD_YANK_SIZE and NOT_REPLAYING: text, cursor, record and limit as they were. The call still counts as
@@ -64,6 +64,15 @@
 extern "C" {
 #endif
 
+/* The version that this header is of, in numbers, and as a text such as "1.2.3". */
+#define LODVARN_VERSION_MAJOR 0
+#define LODVARN_VERSION_MINOR 1
+#define LODVARN_VERSION_PATCH 0
+#define LODVARN_VERSION LODVARN_VERSION_OF_(LODVARN_VERSION_MAJOR, LODVARN_VERSION_MINOR, LODVARN_VERSION_PATCH)
+/* Two steps, since a number that is made a text at once would be its name. */
+#define LODVARN_VERSION_OF_(major, minor, patch) LODVARN_DOTTED_(major, minor, patch)
+#define LODVARN_DOTTED_(major, minor, patch) #major "." #minor "." #patch
+
 /* A session. */
 typedef struct lodvarn lodvarn;
 
@@ -86,6 +95,32 @@ enum lodvarn_answer {
     LODVARN_NO_SUCH_NUMBER = 22, /* a number is not in its enum, or is no character */
     LODVARN_TOO_SMALL = 23      /* the text to write is longer than the buffer */
 };
+
+/* Whether an answer is an error. */
+#define LODVARN_IS_ERROR(answer) ((answer) >= LODVARN_NO_MEMORY)
+
+/* Names an answer: the text "LODVARN_CLOSED" of LODVARN_CLOSED, and "unknown" of a number that is no answer. The text
+ * ends with a NUL, and stays. This is compiled into the program: the library has no such call. */
+static inline const char *lodvarn_answer_name(uint32_t answer) {
+    switch (answer) {
+    case LODVARN_DONE: return "LODVARN_DONE";
+    case LODVARN_TRUE: return "LODVARN_TRUE";
+    case LODVARN_FALSE: return "LODVARN_FALSE";
+    case LODVARN_NONE: return "LODVARN_NONE";
+    case LODVARN_TEXT: return "LODVARN_TEXT";
+    case LODVARN_MARK: return "LODVARN_MARK";
+    case LODVARN_AT: return "LODVARN_AT";
+    case LODVARN_NO_MEMORY: return "LODVARN_NO_MEMORY";
+    case LODVARN_BAD_PLACE: return "LODVARN_BAD_PLACE";
+    case LODVARN_BAD_YANK_SIZE: return "LODVARN_BAD_YANK_SIZE";
+    case LODVARN_NOT_REPLAYING: return "LODVARN_NOT_REPLAYING";
+    case LODVARN_CLOSED: return "LODVARN_CLOSED";
+    case LODVARN_NOT_UTF8: return "LODVARN_NOT_UTF8";
+    case LODVARN_NO_SUCH_NUMBER: return "LODVARN_NO_SUCH_NUMBER";
+    case LODVARN_TOO_SMALL: return "LODVARN_TOO_SMALL";
+    default: return "unknown";
+    }
+}
 
 /* How columns are counted. */
 enum lodvarn_mode {
