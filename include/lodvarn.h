@@ -7,7 +7,8 @@
  *     lodvarn_insert(&s, 'c', 1);
  *     lodvarn_close(&s);
  *
- * The library is built for Linux on x86-64, and for a processor with x86-64-v2 (SSE4.2). It does not check that.
+ * The library is built for Linux on x86-64, and for a processor with x86-64-v2 (SSE4.2). It does not check that. Its
+ * shared file is liblodvarn.so.0, and all calls bear the version LODVARN_0: docs/GUIDE.md says what that promises.
  *
  * Pointers
  * - The argument s is never NULL, which no call checks. What it points to is NULL at first, and only these calls write
