@@ -721,6 +721,11 @@ static void asking_what_changed_parts_nothing(void) {
     while (NEXT_REPORT(out, sizeof out) == LODVARN_DONE) {}
     lodvarn_kill(&s, LODVARN_BACKWARD_EMACS_WORD, 1, 0);
     see("reports part no kills", lodvarn_yank(&s, 1) == LODVARN_TRUE && stands(&s, "one two", 7));
+    open_watched("one two", 7, 0, 0);
+    lodvarn_kill(&s, LODVARN_BACKWARD_EMACS_WORD, 1, 0);
+    see("a queue is asked for", lodvarn_watch(&s, 8, 64) == LODVARN_DONE);
+    lodvarn_kill(&s, LODVARN_BACKWARD_EMACS_WORD, 1, 0);
+    see("nor does that part kills", lodvarn_yank(&s, 1) == LODVARN_TRUE && stands(&s, "one two", 7));
 }
 
 static void a_queue_is_asked_for(void) {
