@@ -4,7 +4,8 @@ Rust declare: names, arguments in their order, results.
 
     python3 clients/check_header.py
 
-What only one side has fails, whichever it is. Its last line is 'N passed, M failed', where each call counts one for
+What only one side has fails, whichever it is. Macros and the functions that the header defines are no calls: a program
+compiles them, and the library has none of them. Its last line is 'N passed, M failed', where each call counts one for
 each of the three.
 """
 
@@ -50,6 +51,7 @@ PYTHON_IN_C = {
 EXPORT = re.compile(r"#\[unsafe\(no_mangle\)\]\s*pub extern \"C\" fn (\w+)\s*\(([^)]*)\)\s*(?:->\s*(\w+))?")
 FOREIGN = re.compile(r"\bpub fn (lodvarn_\w+)\(([^)]*)\)(?: -> (\w+))?;")
 DECLARATION = re.compile(r"^([a-z]\w+)\s+(\w+)\(([^)]*)\);", re.M)
+DEFINITION = re.compile(r"^static inline [^;]*?\{\n.*?^\}\n", re.M | re.S)
 ARGUMENT = re.compile(r"(.*?[ *])(\w+)$", re.S)
 
 
@@ -85,7 +87,7 @@ def calls_of_python(source):
 
 def declarations_of(header):
     """The calls of the header, in the same form."""
-    header = re.sub(r"/\*.*?\*/", "", header, flags=re.S)
+    header = DEFINITION.sub("", re.sub(r"/\*.*?\*/", "", header, flags=re.S))
     found = {}
     for result, name, given in DECLARATION.findall(header):
         given = [one.strip() for one in given.split(",") if one.strip() not in ("", "void")]

@@ -4,8 +4,8 @@
     python3 clients/check_numbers.py
 
 Each enum whole: what only one side has fails too. The client for Rust has no numbers of its own: its build.rs makes
-constants of the header's, and each must stand where its name says. The last line is 'N passed, M failed', where each
-name counts one for each of the three.
+constants of the header's, and each must stand where its name says. And lodvarn_answer_name of the header must name each
+answer. The last line is 'N passed, M failed', where each name counts one for each place that has it.
 """
 
 import ast
@@ -47,9 +47,18 @@ def numbers_of_header(header):
     found = []
     for enum, body in re.findall(r"\benum lodvarn_(\w+) \{(.*?)\};", header, re.S):
         found += [(enum, name, int(number)) for name, number in re.findall(r"^ +LODVARN_(\w+) = (\d+)", body, re.M)]
-    if len(found) != header.count("=") or not found:
-        raise ValueError(f"the header has {header.count('=')} numbers, and {len(found)} have a line of their own")
+    # A macro may compare.
+    given = len(re.findall(r"(?<![<>=!])=(?!=)", header))
+    if len(found) != given or not found:
+        raise ValueError(f"the header has {given} numbers, and {len(found)} have a line of their own")
     return found
+
+
+def named_answers(header, numbers):
+    """The answers that lodvarn_answer_name tells: the name that it gives, and the number that it gives it to."""
+    number_of = {name: number for enum, name, number in numbers if enum == "answer"}
+    told = re.findall(r'case LODVARN_(\w+): return "LODVARN_(\w+)";', header)
+    return [("answer", name, number_of.get(case, -1)) for case, name in told]
 
 
 def numbers_of_crate(source):
@@ -100,7 +109,9 @@ def see(where, wanted, found):
 
 
 def main():
-    header = numbers_of_header((TOP / "include/lodvarn.h").read_text())
+    text = (TOP / "include/lodvarn.h").read_text()
+    header = numbers_of_header(text)
+    answers = [it for it in header if it[0] == "answer"]
     crate, python, rust = "crates/rl_ffi/src/numbers.rt", "clients/python/lodvarn.py", "clients/rust/src/words.rs"
     # The client for Rust has no types for the others; the compiler sees to it that it uses them.
     typed = [it for it in header if it[0] not in ("answer", "indent_direction")]
@@ -108,6 +119,7 @@ def main():
         see(crate, header, numbers_of_crate((TOP / crate).read_text())),
         see(python, header, numbers_of_python((TOP / python).read_text())),
         see(rust, typed, numbers_of_rust((TOP / rust).read_text(), header)),
+        see("lodvarn_answer_name", answers, named_answers(text, header)),
     ]
     passed, failed = (sum(counts) for counts in zip(*sums))
     print(f"{passed} passed, {failed} failed")

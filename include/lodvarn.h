@@ -7,9 +7,12 @@
  *     lodvarn_insert(&s, 'c', 1);
  *     lodvarn_close(&s);
  *
+ * The library is built for Linux on x86-64, and for a processor with x86-64-v2 (SSE4.2). It does not check that. Its
+ * shared file is liblodvarn.so.0, and all calls bear the version LODVARN_0: docs/GUIDE.md says what that promises.
+ *
  * Pointers
- * - The argument s is never NULL. What it points to is NULL at first, and only these calls write it. Never copy it: a
- *   copy dangles once the session is closed.
+ * - The argument s is never NULL, which no call checks. What it points to is NULL at first, and only these calls write
+ *   it. Never copy it: a copy dangles once the session is closed.
  * - A session whose pointer is NULL is closed. lodvarn_open opens it. Every other call does nothing on it, and answers
  *   LODVARN_CLOSED, or 0 where it answers a size_t.
  * - A text is a pointer to bytes and their number (text and len, script and len). A buffer is a pointer to bytes that
@@ -37,7 +40,7 @@
  * Answers
  * A call that answers a uint32_t answers one of enum lodvarn_answer. The comment of each call names its answers and its
  * errors, without LODVARN_. CLOSED is an error of each call with an s that answers a uint32_t, except lodvarn_open.
- * The errors are the numbers from LODVARN_NO_MEMORY on. What an error leaves:
+ * The errors are the numbers from LODVARN_NO_MEMORY on, as LODVARN_IS_ERROR tells. What an error leaves:
  * - NO_MEMORY: an edit of several steps stops after the steps that it made, and the record has these. Every other call
  *   leaves text, cursor, record and limit as they were. The ring may have kept a text that a kill did not delete.
  * - BAD_PLACE, BAD_YANK_SIZE and NOT_REPLAYING: text, cursor, record and limit as they were. The call still counts as
@@ -46,6 +49,12 @@
  *
  * A call writes through out and through a pointer to a number only with the answer that its comment names for that.
  * But TOO_SMALL writes the length that is needed, and lodvarn_text and lodvarn_script write in any case.
+ *
+ * Memory
+ * It comes from malloc and realloc, and lodvarn_close frees all that a session has. A call asks for some only where its
+ * comment names NO_MEMORY. lodvarn_open finds room for a text up to the limit, and lodvarn_watch for its whole queue.
+ * All else is found by the call that needs it: an entry of the record, a text of the ring, a newline, a text longer
+ * than the limit, and copies that it frees again. The record grows until lodvarn_truncate.
  *
  * What changed
  * A session tells what changes its text, whatever changed it: also an undo, a redo, and a command that was refused
@@ -63,6 +72,15 @@
 #ifdef __cplusplus
 extern "C" {
 #endif
+
+/* The version that this header is of, in numbers, and as a text such as "1.2.3". */
+#define LODVARN_VERSION_MAJOR 0
+#define LODVARN_VERSION_MINOR 1
+#define LODVARN_VERSION_PATCH 0
+#define LODVARN_VERSION LODVARN_VERSION_OF_(LODVARN_VERSION_MAJOR, LODVARN_VERSION_MINOR, LODVARN_VERSION_PATCH)
+/* Two steps, since a number that is made a text at once would be its name. */
+#define LODVARN_VERSION_OF_(major, minor, patch) LODVARN_DOTTED_(major, minor, patch)
+#define LODVARN_DOTTED_(major, minor, patch) #major "." #minor "." #patch
 
 /* A session. */
 typedef struct lodvarn lodvarn;
@@ -86,6 +104,32 @@ enum lodvarn_answer {
     LODVARN_NO_SUCH_NUMBER = 22, /* a number is not in its enum, or is no character */
     LODVARN_TOO_SMALL = 23      /* the text to write is longer than the buffer */
 };
+
+/* Whether an answer is an error. */
+#define LODVARN_IS_ERROR(answer) ((answer) >= LODVARN_NO_MEMORY)
+
+/* Names an answer: the text "LODVARN_CLOSED" of LODVARN_CLOSED, and "unknown" of a number that is no answer. The text
+ * ends with a NUL, and stays. This is compiled into the program: the library has no such call. */
+static inline const char *lodvarn_answer_name(uint32_t answer) {
+    switch (answer) {
+    case LODVARN_DONE: return "LODVARN_DONE";
+    case LODVARN_TRUE: return "LODVARN_TRUE";
+    case LODVARN_FALSE: return "LODVARN_FALSE";
+    case LODVARN_NONE: return "LODVARN_NONE";
+    case LODVARN_TEXT: return "LODVARN_TEXT";
+    case LODVARN_MARK: return "LODVARN_MARK";
+    case LODVARN_AT: return "LODVARN_AT";
+    case LODVARN_NO_MEMORY: return "LODVARN_NO_MEMORY";
+    case LODVARN_BAD_PLACE: return "LODVARN_BAD_PLACE";
+    case LODVARN_BAD_YANK_SIZE: return "LODVARN_BAD_YANK_SIZE";
+    case LODVARN_NOT_REPLAYING: return "LODVARN_NOT_REPLAYING";
+    case LODVARN_CLOSED: return "LODVARN_CLOSED";
+    case LODVARN_NOT_UTF8: return "LODVARN_NOT_UTF8";
+    case LODVARN_NO_SUCH_NUMBER: return "LODVARN_NO_SUCH_NUMBER";
+    case LODVARN_TOO_SMALL: return "LODVARN_TOO_SMALL";
+    default: return "unknown";
+    }
+}
 
 /* How columns are counted. */
 enum lodvarn_mode {
@@ -161,10 +205,10 @@ enum lodvarn_indent_direction {
     LODVARN_DEDENT = 1  /* deletes leading blanks */
 };
 
-/* Opens a session on a text, with the cursor at the place pos. A session that *s had is closed. The text may
- * grow to limit bytes, or to len where that is greater. The kill ring keeps up to ring_size texts. The mode is an
- * enum lodvarn_mode. Answers DONE. Errors: NOT_UTF8, NO_SUCH_NUMBER, BAD_PLACE, NO_MEMORY; they leave the session
- * that *s has. */
+/* Opens a session on a text, with the cursor at the place pos. A session that *s had is closed. The text may grow to
+ * limit bytes, or to len where that is greater: room for them is reserved here. The kill ring keeps up to ring_size
+ * texts, and takes no memory before it keeps one. The mode is an enum lodvarn_mode. Answers DONE. Errors: NOT_UTF8,
+ * NO_SUCH_NUMBER, BAD_PLACE, NO_MEMORY; they leave the session that *s has. */
 uint32_t lodvarn_open(lodvarn **s, const char *text, size_t len, size_t pos, size_t limit, size_t ring_size,
                       uint32_t mode);
 
@@ -197,16 +241,17 @@ uint32_t lodvarn_paste(lodvarn **s, const char *text, size_t len, uint16_t n);
  * also where the ring has no text. Errors: NO_MEMORY. */
 uint32_t lodvarn_yank(lodvarn **s, uint16_t n);
 
-/* Replaces the text that the last call yanked by the one before it in the ring. Answers TRUE where the cursor was at
- * the end, FALSE where it was not. Answers NONE where the last command was not a yank: then the text is unchanged.
- * Answers NONE also where the text before it is empty or too long for the limit: then what was yanked is deleted, and
- * the record has that. Errors: BAD_YANK_SIZE where no text of the yanked length ends at the cursor, as may happen
- * after a yank with n = 0; NO_MEMORY. */
+/* Replaces the text that the last call yanked by the one before it in the ring. These are two changes: call
+ * lodvarn_begin before the yank, and lodvarn_end after the last call of this, if one undo should take back all. Answers
+ * TRUE where the cursor was at the end, FALSE where it was not. Answers NONE where the last command was not a yank:
+ * then the text is unchanged. Answers NONE also where the text before it is empty or too long for the limit: then what
+ * was yanked is deleted, and the record has that. Errors: BAD_YANK_SIZE where no text of the yanked length ends at the
+ * cursor, as may happen after a yank with n = 0; NO_MEMORY. */
 uint32_t lodvarn_yank_pop(lodvarn **s);
 
-/* Replaces the whole text by another one, which is cut to the limit. The cursor goes to the place pos of the new
- * text, or to its end where it was cut before pos. Answers DONE. Errors: NOT_UTF8, BAD_PLACE where pos is no boundary
- * of the text that was passed, NO_MEMORY. */
+/* Replaces the whole text by another one, which is cut to the limit. The cursor goes to the place pos of the new text,
+ * or to its end where it was cut before pos. Answers DONE. These are two changes, see lodvarn_transpose_chars. Errors:
+ * NOT_UTF8, BAD_PLACE where pos is no boundary of the text that was passed, NO_MEMORY. */
 uint32_t lodvarn_update(lodvarn **s, const char *text, size_t len, size_t pos);
 
 /* Inserts a text at the place at, whatever the limit. The cursor's place keeps its number. Answers TRUE where at was
@@ -273,8 +318,12 @@ uint32_t lodvarn_transpose_words(lodvarn **s, uint16_t n);
 uint32_t lodvarn_edit_word(lodvarn **s, uint32_t action);
 
 /* Deletes what an enum lodvarn_movement covers. The ring keeps it, except by BACKWARD_CHAR and FORWARD_CHAR.
- * Consecutive kills become one text of the ring. Answers TRUE, or FALSE where there is nothing. Errors:
- * NO_SUCH_NUMBER, NO_MEMORY. */
+ * Consecutive kills become one text of the ring: what stood before the cursor goes to its front, what stood after the
+ * cursor to its end. A kill that finds nothing parts no run. Each other call between two kills does, so that the second
+ * begins a new text: also a motion, lodvarn_copy, lodvarn_yank, lodvarn_undo, lodvarn_begin, lodvarn_end, a kill by
+ * BACKWARD_CHAR or FORWARD_CHAR, and a call that had nothing to do. These alone part nothing: the reads below,
+ * lodvarn_changed, lodvarn_watch, lodvarn_next_report, the calls without a session, and a call that answers an error
+ * from CLOSED on. Answers TRUE, or FALSE where there is nothing. Errors: NO_SUCH_NUMBER, NO_MEMORY. */
 uint32_t lodvarn_kill(lodvarn **s, uint32_t movement, uint16_t n, uint32_t c);
 
 /* Copies what an enum lodvarn_movement covers to out, a buffer of cap bytes. Answers TEXT with its length in
@@ -295,7 +344,13 @@ uint32_t lodvarn_begin(lodvarn **s, size_t *mark);
 uint32_t lodvarn_end(lodvarn **s);
 
 /* Undoes the last n changes and groups, one where n is 0, all where there are fewer. The cursor goes to where it was
- * before them. Answers TRUE, or FALSE where there was no change. Errors: NO_MEMORY. */
+ * before them. An edit is a change of its own, or several, as its comment says. But it joins the last change, and is
+ * undone with it, where it is
+ * - one letter or digit by lodvarn_insert with n = 1, and the last change an insertion that ends at its place;
+ * - the deletion or kill of one letter or digit, and the last change a deletion at that place, to either side;
+ * - a text by lodvarn_replace, and the last change one whose new text ends at its place.
+ * Motions between them part nothing; nothing joins over where a group begins or ends. Answers TRUE, or FALSE where
+ * there was no change. Errors: NO_MEMORY. */
 uint32_t lodvarn_undo(lodvarn **s, uint16_t n);
 
 /* Redoes what was undone last, one change or group. Answers TRUE, or FALSE where there is none. Errors:
@@ -337,7 +392,8 @@ uint32_t lodvarn_changed(lodvarn **s, size_t *from, size_t *old_end, size_t *new
  * their texts. Where text_bytes is 0, reports have no texts. All room is found here, so nothing else is ever refused
  * because of it: where a report or its texts find no room, all that waits and the new one become one report, of the
  * kind FOLDED, which takes in each later change until it is read. Answers DONE, or FALSE where the session has a queue
- * already. Errors: NO_SUCH_NUMBER where reports is 0, NO_MEMORY. */
+ * already. Errors: NO_SUCH_NUMBER where reports is 0, NO_MEMORY. A kill after it still goes on from the kill before
+ * it. */
 uint32_t lodvarn_watch(lodvarn **s, size_t reports, size_t text_bytes);
 
 /* Hands out the oldest report that waits, and forgets it. Answers DONE with its enum lodvarn_report in *kind, its place
@@ -381,10 +437,10 @@ uint32_t lodvarn_last_was_yank(lodvarn **s);
 
 /* Calls without a session. */
 
-/* Runs a script in a session of its own and copies what it prints to out, as much of it as fits in cap bytes. Answers
- * DONE with the length of all that it printed in *out_len, which may be more than cap. Errors: NO_MEMORY, with what
- * was printed before in out and *out_len: what the first lines print, the last one perhaps cut. docs/RULES.md
- * describes scripts. */
+/* Runs a script in a session of its own and copies what it prints to out, as much of it as fits in cap bytes, which may
+ * end inside a character. Answers DONE with the length of all that it printed in *out_len, which may be more than cap.
+ * Errors: NO_MEMORY, with what was printed before in out and *out_len: what the first lines print, the last one perhaps
+ * cut. docs/RULES.md describes scripts. */
 uint32_t lodvarn_script(const char *script, size_t len, char *out, size_t cap, size_t *out_len);
 
 /* Measures a text by an enum lodvarn_mode. Answers DONE with the number of its columns in *columns, at most 65535.

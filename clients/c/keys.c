@@ -12,7 +12,7 @@ static lodvarn *s;
 /* Says that nothing was inserted, or why a call was refused. */
 static void hear(uint32_t answer) {
     if (answer == LODVARN_NONE) printf("(nothing goes in) ");
-    if (answer >= LODVARN_NO_MEMORY) printf("(refused: %u) ", (unsigned)answer);
+    if (LODVARN_IS_ERROR(answer)) printf("(refused: %s) ", lodvarn_answer_name(answer));
 }
 
 static void move(uint32_t movement) { hear(lodvarn_move(&s, movement, 1, 0)); }

@@ -1,6 +1,7 @@
 /* Refuses each request of the library for memory in turn: the call says so, the session is sound, and undo leads back
- * to the text that it began with. To be linked with -Wl,--wrap=malloc,--wrap=realloc. Its last line is 'N passed, M
- * failed', where each request counts one. */
+ * to the text that it began with. A call whose comment names no NO_MEMORY makes none. To be linked with
+ * -Wl,--wrap=malloc,--wrap=realloc. Its last line is 'N passed, M failed', where each request and each such call counts
+ * one. */
 #include "lodvarn.h"
 #include <stdio.h>
 #include <stdlib.h>
@@ -114,9 +115,65 @@ static int script_tells_its_length(size_t request) {
     return answer == LODVARN_DONE && same != was_refused;
 }
 
+/* The calls whose comments name no NO_MEMORY, one after the other, until there are no more. */
+static uint32_t frugal_step(unsigned which) {
+    static const char text[] = "e\u0301 \U0001F468\u200D\U0001F469\n日本";
+    char out[64];
+    size_t a, b, c, d, e;
+    uint32_t kind;
+    uint16_t columns;
+    switch (which) {
+    case 0: return lodvarn_set_pos(&s, 1);
+    case 1: return lodvarn_move(&s, LODVARN_FORWARD_VI_WORD_START, 1, 0);
+    case 2: return lodvarn_move(&s, LODVARN_SEARCH_BACKWARD, 1, 'a');
+    case 3: return lodvarn_move(&s, LODVARN_LINE_UP, 1, 0);
+    case 4: return lodvarn_line_place(&s, &a, &columns);
+    case 5: return lodvarn_changed(&s, &a, &b, &c);
+    case 6: return lodvarn_next_report(&s, &kind, &a, &b, &c, &d, &e, out, sizeof out);
+    case 7: return lodvarn_text(&s, out, sizeof out) != 8;
+    case 8: return lodvarn_pos(&s) + lodvarn_line_number(&s) + lodvarn_line_count(&s) == 0;
+    case 9: return lodvarn_limit(&s) + lodvarn_entries(&s) == 0;
+    case 10: return lodvarn_line_range(&s, 1, &a, &b);
+    case 11: return lodvarn_last_was_yank(&s);
+    case 12: return lodvarn_width(text, sizeof text - 1, LODVARN_UNICODE, &columns);
+    case 13: return lodvarn_width(text, sizeof text - 1, LODVARN_WC_WIDTH, &columns);
+    case 14: return lodvarn_width(text, sizeof text - 1, LODVARN_NO_ZWJ, &columns);
+    case 15: return lodvarn_first_cluster(text, sizeof text - 1, &a);
+    case 16: return lodvarn_last_cluster(text, sizeof text - 1, &a);
+    case 17: return lodvarn_cell(text, sizeof text - 1, sizeof text - 1, 0, 2, LODVARN_UNICODE, &a, &b);
+    default: return UINT32_MAX;
+    }
+}
+
+/* What the call of that number answers where every request is refused; -1 where it makes one. The session has a change
+ * and a report to tell, and a ring of any size. */
+static int64_t frugal_answer(unsigned which) {
+    if (lodvarn_open(&s, start, 5, 5, 64, SIZE_MAX, LODVARN_UNICODE) != LODVARN_DONE) exit(2);
+    if (lodvarn_watch(&s, 3, 40) != LODVARN_DONE || lodvarn_paste(&s, "\nab", 3, 1) != LODVARN_TRUE) exit(2);
+    was_refused = 0;
+    left = 0;
+    uint32_t answer = frugal_step(which);
+    left = SIZE_MAX;
+    lodvarn_close(&s);
+    return was_refused ? -1 : (int64_t)answer;
+}
+
+/* Counts the calls that make no request. */
+static void count_frugal(int *passed, int *failed) {
+    int64_t answer;
+    for (unsigned i = 0; (answer = frugal_answer(i)) != UINT32_MAX; i++) {
+        if (answer >= 0 && !LODVARN_IS_ERROR(answer)) ++*passed;
+        else {
+            ++*failed;
+            printf("FAILED: call %u of those without a request answers %ld\n", i, (long)answer);
+        }
+    }
+}
+
 int main(void) {
     int passed = 0, failed = 0;
     size_t request = 0;
+    count_frugal(&passed, &failed);
     do {
         int holds = 1;
         int refused = refused_at(request, &holds);

@@ -78,6 +78,31 @@ static lodvarn *opened(const char *text, size_t pos, size_t limit) {
     return s;
 }
 
+static void the_version_is_one(void) {
+    char numbers[32];
+    snprintf(numbers, sizeof numbers, "%d.%d.%d", LODVARN_VERSION_MAJOR, LODVARN_VERSION_MINOR, LODVARN_VERSION_PATCH);
+    see("the version as numbers and as a text", !strcmp(LODVARN_VERSION, numbers));
+}
+
+#define ANSWER(answer, is_error) {answer, #answer, is_error}
+
+static void answers_have_names(void) {
+    static const struct { uint32_t answer; const char *name; int is_error; } table[] = {
+        ANSWER(LODVARN_DONE, 0),          ANSWER(LODVARN_TRUE, 0),          ANSWER(LODVARN_FALSE, 0),
+        ANSWER(LODVARN_NONE, 0),          ANSWER(LODVARN_TEXT, 0),          ANSWER(LODVARN_MARK, 0),
+        ANSWER(LODVARN_AT, 0),            ANSWER(LODVARN_NO_MEMORY, 1),     ANSWER(LODVARN_BAD_PLACE, 1),
+        ANSWER(LODVARN_BAD_YANK_SIZE, 1), ANSWER(LODVARN_NOT_REPLAYING, 1), ANSWER(LODVARN_CLOSED, 1),
+        ANSWER(LODVARN_NOT_UTF8, 1),      ANSWER(LODVARN_NO_SUCH_NUMBER, 1), ANSWER(LODVARN_TOO_SMALL, 1),
+        {LODVARN_AT + 1, "unknown", 0},   {LODVARN_NO_MEMORY - 1, "unknown", 0}, {LODVARN_CLOSED - 1, "unknown", 1},
+        {LODVARN_TOO_SMALL + 1, "unknown", 1}, {UINT32_MAX, "unknown", 1},
+    };
+    for (size_t i = 0; i < sizeof table / sizeof *table; i++) {
+        see(table[i].name, !strcmp(lodvarn_answer_name(table[i].answer), table[i].name));
+        see(table[i].name, LODVARN_IS_ERROR(table[i].answer) == table[i].is_error);
+    }
+    see("an answer that is an expression", !LODVARN_IS_ERROR(1 ? LODVARN_NONE : LODVARN_CLOSED));
+}
+
 static void a_case_change_is_undone_at_once(void) {
     lodvarn *s = opened("one two", 0, 64);
     size_t mark = 99;
@@ -725,6 +750,11 @@ static void asking_what_changed_parts_nothing(void) {
     while (NEXT_REPORT(out, sizeof out) == LODVARN_DONE) {}
     lodvarn_kill(&s, LODVARN_BACKWARD_EMACS_WORD, 1, 0);
     see("reports part no kills", lodvarn_yank(&s, 1) == LODVARN_TRUE && stands(&s, "one two", 7));
+    open_watched("one two", 7, 0, 0);
+    lodvarn_kill(&s, LODVARN_BACKWARD_EMACS_WORD, 1, 0);
+    see("a queue is asked for", lodvarn_watch(&s, 8, 64) == LODVARN_DONE);
+    lodvarn_kill(&s, LODVARN_BACKWARD_EMACS_WORD, 1, 0);
+    see("nor does that part kills", lodvarn_yank(&s, 1) == LODVARN_TRUE && stands(&s, "one two", 7));
 }
 
 static void a_queue_is_asked_for(void) {
@@ -887,6 +917,8 @@ static void memory_that_is_not_there(void) {
 
 int main(void) {
     scripts_print();
+    the_version_is_one();
+    answers_have_names();
     a_case_change_is_undone_at_once();
     reads_read();
     reads_part_no_kills();
