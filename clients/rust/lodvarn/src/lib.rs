@@ -17,13 +17,10 @@
 //! grapheme clusters, words, lines or repetitions. Lines, rows and columns are numbered from 0. The comment of each
 //! call names the faults that it answers. `docs/RULES.md` says exactly what each call does.
 //!
-//! The crate links `liblodvarn.a`, which `clients/build` makes.
+//! The crate links the archive of the library, which `lodvarn-sys` finds.
 #![warn(missing_docs)]
 
 mod changes;
-// A number or a call of the header that nothing uses is an error.
-#[deny(dead_code)]
-mod ffi;
 mod texts;
 mod words;
 
@@ -31,6 +28,7 @@ pub use changes::{ChangeListener, Changes, DeleteListener, Report, Splice, Untol
 pub use texts::{cell, first_cluster, last_cluster, run_script, width};
 pub use words::{Action, At, Direction, Fault, Mode, Movement, ReportKind, Search, Word};
 
+use lodvarn_sys as ffi;
 use std::cell::UnsafeCell;
 use std::fmt;
 use std::ops::Range;
