@@ -1,5 +1,5 @@
-//! The calls and numbers of liblodvarn, as `include/lodvarn.h` declares them. The crate `lodvarn` wraps them all in safe
-//! calls.
+//! The calls and numbers of liblodvarn, as `include/lodvarn.h` declares them. The crate `lodvarn` wraps them all in
+//! safe calls.
 //!
 //! The header says of each call what it wants of its pointers, what it answers, and what each error leaves.
 #![no_std]

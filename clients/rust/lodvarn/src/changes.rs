@@ -97,7 +97,8 @@ pub trait ChangeListener: DeleteListener {
 pub enum Untold {
     /// The queue had no room for all that changed, and has made one change of it, whose texts are not kept. It is read
     /// now: what stood between `from` and `old_end` gave way to what stands between `from` and `new_end` of the present
-    /// text. So apply that to the text that the listener knew, or take the whole text anew; later changes are told again.
+    /// text. So apply that to the text that the listener knew, or take the whole text anew; later changes are told
+    /// again.
     Folded(Splice),
     /// The session has no queue of reports, or one that keeps no texts. Reports that wait go on waiting.
     NoTexts,
