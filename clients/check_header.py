@@ -1,12 +1,12 @@
 #!/usr/bin/env python3
 """Compares the calls of include/lodvarn.h with the exports of crates/rl_ffi, and with what the clients for Python and
-Rust declare: names, arguments in their order, results.
+Rust declare: names, arguments in their order, results. The crate lodvarn must make each call that lodvarn-sys declares.
 
     python3 clients/check_header.py
 
 What only one side has fails, whichever it is. Macros and the functions that the header defines are no calls: a program
 compiles them, and the library has none of them. Its last line is 'N passed, M failed', where each call counts one for
-each of the three.
+each of the four.
 """
 
 import ast
@@ -50,6 +50,7 @@ PYTHON_IN_C = {
 }
 EXPORT = re.compile(r"#\[unsafe\(no_mangle\)\]\s*pub extern \"C\" fn (\w+)\s*\(([^)]*)\)\s*(?:->\s*(\w+))?")
 FOREIGN = re.compile(r"\bpub fn (lodvarn_\w+)\(([^)]*)\)(?: -> (\w+))?;")
+MADE = re.compile(r"\bffi::(lodvarn_\w+)\(")
 DECLARATION = re.compile(r"^([a-z]\w+)\s+(\w+)\(([^)]*)\);", re.M)
 DEFINITION = re.compile(r"^static inline [^;]*?\{\n.*?^\}\n", re.M | re.S)
 ARGUMENT = re.compile(r"(.*?[ *])(\w+)$", re.S)
@@ -116,10 +117,13 @@ def main():
     declared = declarations_of((TOP / "include/lodvarn.h").read_text())
     alike = {call: (gives, [it.removeprefix("const ") for it in takes]) for call, (gives, takes) in declared.items()}
     sources = "".join(source.read_text() for source in sorted((TOP / "crates/rl_ffi/src").glob("**/*.rt")))
-    rust, python = "clients/rust/src/ffi.rs", "clients/python/lodvarn.py"
+    rust, python = "clients/rust/lodvarn-sys/src/lib.rs", "clients/python/lodvarn.py"
+    wrapper = "clients/rust/lodvarn/src"
+    made = MADE.findall("".join(source.read_text() for source in sorted((TOP / wrapper).glob("*.rs"))))
     sums = [
         see("the crate", declared, calls_of(sources, EXPORT, "no_mangle")),
         see(rust, declared, calls_of((TOP / rust).read_text(), FOREIGN, "pub fn")),
+        see(wrapper, declared, {name: declared.get(name) for name in made}),
         see(python, alike, calls_of_python((TOP / python).read_text())),
     ]
     passed, failed = (sum(counts) for counts in zip(*sums))

@@ -3,9 +3,10 @@
 
     python3 clients/check_numbers.py
 
-Each enum whole: what only one side has fails too. The client for Rust has no numbers of its own: its build.rs makes
-constants of the header's, and each must stand where its name says. And lodvarn_answer_name of the header must name each
-answer. The last line is 'N passed, M failed', where each name counts one for each place that has it.
+Each enum whole: what only one side has fails too. The client for Rust has no numbers of its own: lodvarn-sys makes
+constants of the header's when it is built, and each must stand where its name says. And lodvarn_answer_name of the
+header must name each answer. The last line is 'N passed, M failed', where each name counts one for each place that has
+it.
 """
 
 import ast
@@ -91,7 +92,7 @@ def numbers_of_python(source):
 
 
 def numbers_of_rust(source, header):
-    """The numbers that clients/rust/src/words.rs takes from the header, each by the name of what it stands for."""
+    """The numbers that the client for Rust takes from the header, each by the name of what it stands for."""
     numbers = {name: (enum, number) for enum, name, number in header}
     found = []
     for value, name in re.findall(r"^ +(\S.*?) (?:= |=> (?:\{\s*)?)\(?ffi::(\w+)", source, re.M):
@@ -112,14 +113,19 @@ def main():
     text = (TOP / "include/lodvarn.h").read_text()
     header = numbers_of_header(text)
     answers = [it for it in header if it[0] == "answer"]
-    crate, python, rust = "crates/rl_ffi/src/numbers.rt", "clients/python/lodvarn.py", "clients/rust/src/words.rs"
-    # The client for Rust has no types for the others; the compiler sees to it that it uses them.
-    typed = [it for it in header if it[0] not in ("answer", "indent_direction")]
+    crate, python = "crates/rl_ffi/src/numbers.rt", "clients/python/lodvarn.py"
+    rust = "clients/rust/lodvarn/src/words.rs"
+    # The client for Rust has no types for the others, and must use each somewhere.
+    others = [it for it in header if it[0] in ("answer", "indent_direction")]
+    typed = [it for it in header if it not in others]
+    sources = "".join(source.read_text() for source in sorted((TOP / rust).parent.glob("*.rs")))
+    used = set(re.findall(r"\bffi::([A-Z]\w+)", sources))
     sums = [
         see(crate, header, numbers_of_crate((TOP / crate).read_text())),
         see(python, header, numbers_of_python((TOP / python).read_text())),
         see(rust, typed, numbers_of_rust((TOP / rust).read_text(), header)),
         see("lodvarn_answer_name", answers, named_answers(text, header)),
+        see("the client for Rust", others, [it for it in others if it[1] in used]),
     ]
     passed, failed = (sum(counts) for counts in zip(*sums))
     print(f"{passed} passed, {failed} failed")

@@ -6,7 +6,7 @@
 - Each row of the tables of wrong bodies in docs/PROVING.md: its edits that must fail, its tests and its files.
 - Each relative link: its file, and the heading of its #part.
 - Each path in backquotes that begins with a folder of the top: a file or a folder, or a pattern that matches one.
-- Each call and constant of C (lodvarn_.., LODVARN_..): in include/lodvarn.h.
+- Each call and constant of C (lodvarn_.., LODVARN_..): in include/lodvarn.h, or a variable of the environment.
 - Each crate (rl_..): in crates.txt.
 - Each word of a script (specs/Grammar.antt): one row in docs/RULES.md, and no other rows.
 
@@ -29,6 +29,8 @@ FENCED = re.compile(r"^( *)(```+|~~~+).*?^\1\2", re.M | re.S)
 LINK = re.compile(r"!?\[[^\]]*\]\(<?([^)\s>]+)>?[^)]*\)")
 SPAN = re.compile(r"(`+)(.+?)\1", re.S)
 CALL = re.compile(r"\b(?:lodvarn_[a-z0-9_]*[a-z0-9]|LODVARN_[A-Z0-9_]*[A-Z0-9])\b(?!_)")
+# What the clients for Python and Rust read of the environment.
+VARIABLES = {"LODVARN_LIB", "LODVARN_LIBRARY"}
 CRATE = re.compile(r"\brl_[a-z]+\b")
 
 
@@ -210,7 +212,7 @@ def main():
     count = Count()
     see_wrong_bodies(count, TOP / "docs/PROVING.md")
     see_words(count, TOP / "docs/RULES.md")
-    header = set(CALL.findall((TOP / "include/lodvarn.h").read_text()))
+    header = VARIABLES | set(CALL.findall((TOP / "include/lodvarn.h").read_text()))
     crates = set(re.findall(r"^(\w+)", (TOP / "crates.txt").read_text(), re.M))
     for page in PAGES:
         see_page(count, page, header, crates)

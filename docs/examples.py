@@ -9,7 +9,7 @@ Before each fenced block of code stands a comment that says what it is:
     <!-- run: rattle -->    a program in Rattle, run by `rt try` in a copy of the crates, as an extra crate
     <!-- run: c -->         a program in C, built by gcc and pkg-config over the library in FOLDER (clients/out)
     <!-- run: python -->    a program in Python, with the folder clients/python to import from
-    <!-- run: rust -->      a program in Rust, in a package that depends on clients/rust
+    <!-- run: rust -->      a program in Rust, in a package that depends on clients/rust/lodvarn
     <!-- run: script -->    lines for the program at PATH (crates/rl_script/out/rl_script)
     <!-- run: sh -->        commands for bash, run in a copy of the repository that has the library and the program
     <!-- prints -->         what the example before it must print, exactly. Instead, a line may stand right after the
@@ -198,7 +198,7 @@ def run_rust(text, place):
     folder = place.folder()
     (folder / "src").mkdir()
     (folder / "src/main.rs").write_text(text)
-    (folder / "Cargo.toml").write_text(PACKAGE.format(path=TOP / "clients/rust"))
+    (folder / "Cargo.toml").write_text(PACKAGE.format(path=TOP / "clients/rust/lodvarn"))
     environment = {**os.environ, "LODVARN_LIB": str(place.out / "lib"), "CARGO_TARGET_DIR": str(folder / "target")}
     return output(["cargo", "run", "--quiet", "--offline"], env=environment, cwd=folder)
 

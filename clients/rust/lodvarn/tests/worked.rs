@@ -8,12 +8,49 @@ use std::num::NonZeroU16;
 const FAMILY: &str = "\u{1f468}\u{200d}\u{1f469}\u{200d}\u{1f467}";
 
 fn opened(text: &str, pos: usize) -> Session {
-    Session::new(text, pos, 64, 60, Mode::Unicode).expect("a session opens")
+    let session = Session::builder().text(text).pos(pos).limit(64).open();
+    session.expect("a session opens")
 }
 
 #[track_caller]
 fn stands(session: &Session, text: &str, pos: usize) {
     assert_eq!((session.text().as_str(), session.pos()), (text, pos));
+}
+
+#[test]
+fn a_session_is_as_it_was_built() -> Result<(), Fault> {
+    let rocket = "\u{1f469}\u{200d}\u{1f680}";
+    let short = Session::builder().text(rocket).limit(12).ring_size(0);
+    // The builder, the cursor, the limit, the column of the cursor, and the text once a kill of all is yanked.
+    let rows = [
+        (Session::builder(), 0, 4096, 0, ""),
+        (Session::builder().text(rocket), 11, 4096, 2, rocket),
+        (Session::builder().pos(0).text(rocket), 0, 4096, 0, rocket),
+        (short.clone(), 11, 12, 2, ""),
+        (short.mode(Mode::WcWidth), 11, 12, 4, ""),
+    ];
+    for (built, pos, limit, column, yanked) in rows {
+        let mut session = built.open()?;
+        assert_eq!((session.pos(), session.limit()), (pos, limit), "{built:?}");
+        assert_eq!(session.line_place(), (0, column), "{built:?}");
+        session.kill(Movement::WholeLine)?;
+        session.yank(1)?;
+        assert_eq!(session.text(), yanked, "{built:?}");
+    }
+    Ok(())
+}
+
+#[test]
+fn a_session_begins_anew() -> Result<(), Fault> {
+    let mut session = opened("one two", 7);
+    session.kill(Movement::BackwardWord(1, Word::Emacs))?;
+    assert_eq!(session.restart("é", 1), Err(Fault::BadPlace));
+    stands(&session, "one ", 4);
+    session.restart("né", 1)?;
+    assert_eq!((session.undo(1)?, session.entries()), (false, 0));
+    session.yank(1)?;
+    stands(&session, "ntwoé", 4);
+    Ok(())
 }
 
 #[test]
@@ -30,7 +67,8 @@ fn an_insertion_is_undone() {
 
 #[test]
 fn an_insertion_has_to_fit() {
-    let mut session = Session::new("ab", 2, 3, 60, Mode::Unicode).expect("a session opens");
+    let session = Session::builder().text("ab").limit(3).open();
+    let mut session = session.expect("a session opens");
     assert_eq!(session.insert('é', 1), Ok(None));
     assert_eq!(session.paste("cd", 1), Ok(None));
     assert_eq!(session.paste("", 1), Ok(None));
@@ -219,10 +257,14 @@ fn long_texts_are_handed_out() {
 
 #[test]
 fn what_is_refused_says_why_and_changes_nothing() {
-    let new = |text, pos, limit| Session::new(text, pos, limit, 60, Mode::Unicode).map(|_| ());
-    assert_eq!(new("é", 1, 64), Err(Fault::BadPlace));
-    assert_eq!(new("é", 3, 64), Err(Fault::BadPlace));
-    assert_eq!(new("a", 1, usize::MAX), Err(Fault::NoMemory));
+    for (text, pos, limit, fault) in [
+        ("é", 1, 64, Fault::BadPlace),
+        ("é", 3, 64, Fault::BadPlace),
+        ("a", 1, usize::MAX, Fault::NoMemory),
+    ] {
+        let opened = Session::builder().text(text).pos(pos).limit(limit).open();
+        assert_eq!(opened.map(drop), Err(fault), "{text:?} at {pos}");
+    }
     let mut session = opened("aé", 3);
     assert_eq!(session.set_pos(2), Err(Fault::BadPlace));
     assert_eq!(session.replace(0..4, "x"), Err(Fault::BadPlace));

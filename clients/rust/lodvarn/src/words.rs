@@ -6,6 +6,7 @@ use std::fmt;
 /// How columns are counted.
 #[derive(Clone, Copy, Debug, Default, PartialEq, Eq, Hash)]
 #[repr(u32)]
+#[non_exhaustive]
 pub enum Mode {
     /// The width of the whole text, an emoji sequence as one emoji.
     #[default]
@@ -19,6 +20,7 @@ pub enum Mode {
 /// What belongs to a word.
 #[derive(Clone, Copy, Debug, PartialEq, Eq, Hash)]
 #[repr(u32)]
+#[non_exhaustive]
 pub enum Word {
     /// Everything but blanks.
     Big = ffi::BIG,
@@ -31,6 +33,7 @@ pub enum Word {
 /// Where a motion forward by words stops.
 #[derive(Clone, Copy, Debug, PartialEq, Eq, Hash)]
 #[repr(u32)]
+#[non_exhaustive]
 pub enum At {
     /// At the start of a word.
     Start = ffi::START,
@@ -43,6 +46,7 @@ pub enum At {
 /// The letter case that a word gets.
 #[derive(Clone, Copy, Debug, PartialEq, Eq, Hash)]
 #[repr(u32)]
+#[non_exhaustive]
 pub enum Action {
     /// The first character in upper case, the others in lower case.
     Capitalize = ffi::CAPITALIZE,
@@ -54,6 +58,7 @@ pub enum Action {
 
 /// Where a search for a character goes.
 #[derive(Clone, Copy, Debug, PartialEq, Eq, Hash)]
+#[non_exhaustive]
 pub enum Search {
     /// Forward, to the character; a deletion takes it too.
     Forward(char),
@@ -79,6 +84,7 @@ impl Search {
 
 /// Where a motion goes, and what a kill, a copy or an indent covers.
 #[derive(Clone, Copy, Debug, PartialEq, Eq, Hash)]
+#[non_exhaustive]
 pub enum Movement {
     /// The cursor's line.
     WholeLine,
@@ -168,6 +174,7 @@ impl Movement {
 /// What a report is of.
 #[derive(Clone, Copy, Debug, PartialEq, Eq, Hash)]
 #[repr(u32)]
+#[non_exhaustive]
 pub enum ReportKind {
     /// A character was put in.
     CharInserted = ffi::CHAR_INSERTED,
@@ -217,6 +224,7 @@ pub enum Direction {
 /// Why a call was refused. Text, cursor and record are as they were, except where an edit of several steps ran out of
 /// memory: it stands after the steps that it made.
 #[derive(Clone, Copy, Debug, PartialEq, Eq, Hash)]
+#[non_exhaustive]
 pub enum Fault {
     /// Out of memory.
     NoMemory,

@@ -49,9 +49,8 @@ impl Report {
 
     /// Hands it to a listener. The splice of what it can't hand over, since the texts are not there.
     fn tell<L: ChangeListener + ?Sized>(&self, listener: &mut L) -> Result<(), Splice> {
-        let (at, Some((old, new))) = (self.at, &self.texts) else {
-            return Err(self.splice());
-        };
+        let (old, new) = self.texts.as_ref().ok_or_else(|| self.splice())?;
+        let at = self.at;
         match self.kind {
             ReportKind::CharInserted => new.chars().for_each(|it| listener.insert_char(at, it)),
             ReportKind::TextInserted => listener.insert_str(at, new),
@@ -94,10 +93,12 @@ pub trait ChangeListener: DeleteListener {
 
 /// Why [`Session::tell`] told a listener nothing.
 #[derive(Clone, Copy, Debug, PartialEq, Eq, Hash)]
+#[non_exhaustive]
 pub enum Untold {
     /// The queue had no room for all that changed, and has made one change of it, whose texts are not kept. It is read
     /// now: what stood between `from` and `old_end` gave way to what stands between `from` and `new_end` of the present
-    /// text. So apply that to the text that the listener knew, or take the whole text anew; later changes are told again.
+    /// text. So apply that to the text that the listener knew, or take the whole text anew; later changes are told
+    /// again.
     Folded(Splice),
     /// The session has no queue of reports, or one that keeps no texts. Reports that wait go on waiting.
     NoTexts,
@@ -195,9 +196,9 @@ impl Session {
     /// after it still goes on from the kill before it.
     ///
     /// ```
-    /// # use lodvarn::{Fault, Mode, Session, Splice};
+    /// # use lodvarn::{Fault, Session, Splice};
     /// # fn main() -> Result<(), Fault> {
-    /// let mut session = Session::new("one two", 3, 4096, 60, Mode::Unicode)?;
+    /// let mut session = Session::builder().text("one two").pos(3).open()?;
     /// let mut copy = session.text();
     /// session.paste(", 2", 1)?;
     /// session.undo(1)?;
@@ -253,9 +254,9 @@ impl Session {
     /// Whoever applies them in order to the text that he had, has the text of the session.
     ///
     /// ```
-    /// # use lodvarn::{Fault, Mode, ReportKind, Session};
+    /// # use lodvarn::{Fault, ReportKind, Session};
     /// # fn main() -> Result<(), Fault> {
-    /// let mut session = Session::new("", 0, 4096, 60, Mode::Unicode)?;
+    /// let mut session = Session::builder().open()?;
     /// session.watch(100, 4096)?;
     /// session.insert('é', 1)?;
     /// session.undo(1)?;
@@ -282,7 +283,7 @@ impl Session {
     /// one without texts.
     ///
     /// ```
-    /// use lodvarn::{ChangeListener, DeleteListener, Direction, Mode, Session, Untold};
+    /// use lodvarn::{ChangeListener, DeleteListener, Direction, Session, Untold};
     ///
     /// // A copy of the text, kept by what is heard.
     /// struct Copy(String);
@@ -308,7 +309,7 @@ impl Session {
     /// }
     ///
     /// # fn main() -> Result<(), Box<dyn std::error::Error>> {
-    /// let mut session = Session::new("one two", 7, 4096, 60, Mode::Unicode)?;
+    /// let mut session = Session::builder().text("one two").open()?;
     /// session.watch(100, 4096)?;
     /// let mut copy = Copy(session.text());
     /// session.backspace(3)?;

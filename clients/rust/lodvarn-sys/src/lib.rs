@@ -1,7 +1,13 @@
-//! The calls of include/lodvarn.h.
-use std::marker::{PhantomData, PhantomPinned};
+//! The calls and numbers of liblodvarn, as `include/lodvarn.h` declares them. The crate `lodvarn` wraps them all in
+//! safe calls.
+//!
+//! The header says of each call what it wants of its pointers, what it answers, and what each error leaves.
+#![no_std]
+#![deny(missing_docs, unsafe_op_in_unsafe_fn)]
 
-/// What a handle points to.
+use core::marker::{PhantomData, PhantomPinned};
+
+/// A session, of which only pointers are had.
 #[repr(C)]
 pub struct Raw {
     nothing: [u8; 0],
@@ -15,6 +21,7 @@ pub type Handle = *mut Raw;
 include!(concat!(env!("OUT_DIR"), "/numbers.rs"));
 
 extern "C" {
+    /// Opens a session on a text, with the cursor at the place `pos`. One that `*s` had is closed.
     pub fn lodvarn_open(
         s: *mut Handle,
         text: *const u8,
@@ -24,15 +31,27 @@ extern "C" {
         ring_size: usize,
         mode: u32,
     ) -> u32;
+    /// Closes the session and frees its memory.
     pub fn lodvarn_close(s: *mut Handle);
+    /// Moves the cursor to a place.
     pub fn lodvarn_set_pos(s: *mut Handle, pos: usize) -> u32;
+    /// Moves the cursor by a movement.
     pub fn lodvarn_move(s: *mut Handle, movement: u32, n: u16, c: u32) -> u32;
+    /// Inserts a character n times at the cursor.
     pub fn lodvarn_insert(s: *mut Handle, c: u32, n: u16) -> u32;
+    /// Inserts a text n times at the cursor.
     pub fn lodvarn_paste(s: *mut Handle, text: *const u8, len: usize, n: u16) -> u32;
+    /// Inserts the ring's current text n times at the cursor.
     pub fn lodvarn_yank(s: *mut Handle, n: u16) -> u32;
+    /// Replaces the text that was just yanked by the one before it in the ring.
     pub fn lodvarn_yank_pop(s: *mut Handle) -> u32;
+    /// Begins anew with a text, and keeps the kill ring.
+    pub fn lodvarn_restart(s: *mut Handle, text: *const u8, len: usize, pos: usize) -> u32;
+    /// Replaces the whole text, and moves the cursor to a place of the new one.
     pub fn lodvarn_update(s: *mut Handle, text: *const u8, len: usize, pos: usize) -> u32;
+    /// Inserts a text at a place, whatever the limit.
     pub fn lodvarn_insert_str(s: *mut Handle, at: usize, text: *const u8, len: usize) -> u32;
+    /// Replaces what stands between two places by a text, whatever the limit.
     pub fn lodvarn_replace(
         s: *mut Handle,
         from: usize,
@@ -40,7 +59,9 @@ extern "C" {
         text: *const u8,
         len: usize,
     ) -> u32;
+    /// Deletes what stands between two places.
     pub fn lodvarn_delete_range(s: *mut Handle, from: usize, to: usize) -> u32;
+    /// Deletes n clusters after the cursor, and writes them to `out`.
     pub fn lodvarn_delete(
         s: *mut Handle,
         n: u16,
@@ -48,18 +69,31 @@ extern "C" {
         cap: usize,
         out_len: *mut usize,
     ) -> u32;
+    /// Deletes n clusters before the cursor.
     pub fn lodvarn_backspace(s: *mut Handle, n: u16) -> u32;
+    /// Deletes to the end of the cursor's line, or the newline there.
     pub fn lodvarn_kill_line(s: *mut Handle) -> u32;
+    /// Deletes to the end of the text.
     pub fn lodvarn_kill_buffer(s: *mut Handle) -> u32;
+    /// Deletes back to the start of the cursor's line, or the newline before it.
     pub fn lodvarn_discard_line(s: *mut Handle) -> u32;
+    /// Deletes back to the start of the text.
     pub fn lodvarn_discard_buffer(s: *mut Handle) -> u32;
+    /// Deletes back to the start of the n-th word.
     pub fn lodvarn_delete_prev_word(s: *mut Handle, word: u32, n: u16) -> u32;
+    /// Deletes forward to the n-th word, and there to the place `at`.
     pub fn lodvarn_delete_word(s: *mut Handle, at: u32, word: u32, n: u16) -> u32;
+    /// Deletes to the n-th hit of a search, or to the farthest.
     pub fn lodvarn_delete_to(s: *mut Handle, search: u32, c: u32, n: u16) -> u32;
+    /// Exchanges the clusters before and after the cursor.
     pub fn lodvarn_transpose_chars(s: *mut Handle) -> u32;
+    /// Exchanges a word with the n-th word before it.
     pub fn lodvarn_transpose_words(s: *mut Handle, n: u16) -> u32;
+    /// Changes the letter case of a word.
     pub fn lodvarn_edit_word(s: *mut Handle, action: u32) -> u32;
+    /// Deletes what a movement covers, for the ring.
     pub fn lodvarn_kill(s: *mut Handle, movement: u32, n: u16, c: u32) -> u32;
+    /// Copies what a movement covers to `out`.
     pub fn lodvarn_copy(
         s: *mut Handle,
         movement: u32,
@@ -69,6 +103,7 @@ extern "C" {
         cap: usize,
         out_len: *mut usize,
     ) -> u32;
+    /// Inserts or deletes blanks at the start of each line that a movement covers.
     pub fn lodvarn_indent(
         s: *mut Handle,
         movement: u32,
@@ -77,19 +112,28 @@ extern "C" {
         amount: u8,
         direction: u32,
     ) -> u32;
+    /// Begins an undo group.
     pub fn lodvarn_begin(s: *mut Handle, mark: *mut usize) -> u32;
+    /// Closes all open groups.
     pub fn lodvarn_end(s: *mut Handle) -> u32;
+    /// Undoes the last n changes and groups.
     pub fn lodvarn_undo(s: *mut Handle, n: u16) -> u32;
+    /// Redoes what was undone last.
     pub fn lodvarn_redo(s: *mut Handle) -> u32;
+    /// Keeps the first `entries` entries of the record.
     pub fn lodvarn_truncate(s: *mut Handle, entries: usize) -> u32;
+    /// Asks for the number of the cursor's line and for the cursor's column.
     pub fn lodvarn_line_place(s: *mut Handle, line: *mut usize, column: *mut u16) -> u32;
+    /// Tells all that changed since it was asked last, as one change.
     pub fn lodvarn_changed(
         s: *mut Handle,
         from: *mut usize,
         old_end: *mut usize,
         new_end: *mut usize,
     ) -> u32;
+    /// Keeps a report of each change from now on.
     pub fn lodvarn_watch(s: *mut Handle, reports: usize, text_bytes: usize) -> u32;
+    /// Hands out the oldest report that waits, and forgets it.
     pub fn lodvarn_next_report(
         s: *mut Handle,
         kind: *mut u32,
@@ -101,19 +145,28 @@ extern "C" {
         out: *mut u8,
         cap: usize,
     ) -> u32;
+    /// Copies as much of the text to `out` as fits. Answers the length of the whole, in bytes.
     pub fn lodvarn_text(s: *mut Handle, out: *mut u8, cap: usize) -> usize;
+    /// Answers the place of the cursor, in bytes.
     pub fn lodvarn_pos(s: *mut Handle) -> usize;
+    /// Answers the number of the cursor's line, from 0.
     pub fn lodvarn_line_number(s: *mut Handle) -> usize;
+    /// Answers the number of lines.
     pub fn lodvarn_line_count(s: *mut Handle) -> usize;
+    /// Tells where a line begins and ends, before its newline.
     pub fn lodvarn_line_range(
         s: *mut Handle,
         line: usize,
         start: *mut usize,
         end: *mut usize,
     ) -> u32;
+    /// Answers how many bytes the text may have.
     pub fn lodvarn_limit(s: *mut Handle) -> usize;
+    /// Answers the number of entries of the record.
     pub fn lodvarn_entries(s: *mut Handle) -> usize;
+    /// Asks whether a `lodvarn_yank_pop` would replace a yank.
     pub fn lodvarn_last_was_yank(s: *mut Handle) -> u32;
+    /// Runs a script in a session of its own, and copies what it prints to `out`.
     pub fn lodvarn_script(
         script: *const u8,
         len: usize,
@@ -121,9 +174,13 @@ extern "C" {
         cap: usize,
         out_len: *mut usize,
     ) -> u32;
+    /// Measures a text, in columns.
     pub fn lodvarn_width(text: *const u8, len: usize, mode: u32, columns: *mut u16) -> u32;
+    /// Finds the length of the first grapheme cluster of a text, in bytes.
     pub fn lodvarn_first_cluster(text: *const u8, len: usize, out_len: *mut usize) -> u32;
+    /// Finds the length of the last grapheme cluster of a text, in bytes.
     pub fn lodvarn_last_cluster(text: *const u8, len: usize, out_len: *mut usize) -> u32;
+    /// Finds the row and the column of a place of a text on a screen.
     pub fn lodvarn_cell(
         text: *const u8,
         len: usize,

@@ -1,13 +1,14 @@
 //! What sessions tell of their changes, with answers that were worked out by hand, and mirrors of random sessions.
 use lodvarn::{
-    Action, At, ChangeListener, DeleteListener, Direction, Fault, Mode, Movement, Report,
-    ReportKind, Search, Session, Splice, Untold, Word,
+    Action, At, ChangeListener, DeleteListener, Direction, Fault, Movement, Report, ReportKind,
+    Search, Session, Splice, Untold, Word,
 };
 
 const WORD_BACK: Movement = Movement::BackwardWord(1, Word::Emacs);
 
 fn opened(text: &str, pos: usize) -> Session {
-    Session::new(text, pos, 64, 60, Mode::Unicode).expect("a session opens")
+    let session = Session::builder().text(text).pos(pos).limit(64).open();
+    session.expect("a session opens")
 }
 
 /// A session with a queue for so many reports and so many bytes of their texts.
@@ -272,7 +273,7 @@ fn all_that_changed_is_one_splice() -> Result<(), Fault> {
 
 #[test]
 fn a_command_that_stops_halfway_is_told() -> Result<(), Fault> {
-    let mut s = Session::new("b aaaaaa", 8, 8, 60, Mode::Unicode)?;
+    let mut s = Session::builder().text("b aaaaaa").limit(8).open()?;
     s.kill(WORD_BACK)?;
     s.set_pos(2)?;
     s.kill(WORD_BACK)?;
@@ -623,7 +624,7 @@ fn by_listener(session: &mut Session, copy: &mut String) {
             old_end,
             new_end,
         })) => copy.replace_range(from..old_end, &session.text()[from..new_end]),
-        Err(Untold::NoTexts) => panic!("texts are kept"),
+        Err(fault) => panic!("{fault}"),
     }
 }
 
@@ -647,7 +648,8 @@ const COMMANDS: usize = 20_000;
 /// beside a session that nobody asks, and which does the same.
 fn mirror(reader: Reader, reports: usize, text_bytes: usize, late: usize) {
     let mut random = Random(reports as u64);
-    let open = || Session::new("one 漢", 7, 256, 60, Mode::Unicode).expect("a session opens");
+    let built = Session::builder().text("one 漢").limit(256);
+    let open = || built.open().expect("a session opens");
     let (mut session, mut unwatched) = (open(), open());
     assert_eq!(session.watch(reports, text_bytes), Ok(true));
     let mut copies = [session.text(), session.text()];

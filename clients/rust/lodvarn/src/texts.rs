@@ -3,7 +3,11 @@ use crate::ffi;
 use crate::words::{Fault, Mode};
 use std::num::NonZeroU16;
 
-/// What a script prints, run in a session of its own. `NoMemory`.
+/// What a script prints, run in a session of its own.
+///
+/// # Errors
+///
+/// [`Fault::NoMemory`]; what was printed before is lost.
 pub fn run_script(script: &[u8]) -> Result<Vec<u8>, Fault> {
     let mut out = vec![0; script.len()];
     loop {
@@ -43,7 +47,11 @@ pub fn last_cluster(text: &str) -> &str {
 }
 
 /// The row and column of a place of a text on a screen with `columns` columns, where the text begins at the column
-/// `prompt` of row 0. `BadPlace`.
+/// `prompt` of row 0.
+///
+/// # Errors
+///
+/// [`Fault::BadPlace`].
 pub fn cell(
     text: &str,
     place: usize,

@@ -1,10 +1,10 @@
 //! Lodvarn for Rust: a line of text with its cursor, its undo and its kill ring.
 //!
 //! ```
-//! use lodvarn::{Fault, Mode, Movement, Session, Word};
+//! use lodvarn::{Fault, Movement, Session, Word};
 //!
 //! fn main() -> Result<(), Fault> {
-//!     let mut session = Session::new("one two", 7, 4096, 60, Mode::Unicode)?;
+//!     let mut session = Session::builder().text("one two").open()?;
 //!     session.kill(Movement::BackwardWord(1, Word::Emacs))?;
 //!     session.yank(2)?;
 //!     session.undo(1)?;
@@ -14,29 +14,33 @@
 //! ```
 //!
 //! A place is a number of bytes from the start of the text, and a boundary, as an index of a `str` is. A count is of
-//! grapheme clusters, words, lines or repetitions. Lines, rows and columns are numbered from 0. The comment of each
-//! call names the faults that it answers. `docs/RULES.md` says exactly what each call does.
+//! grapheme clusters, words, lines or repetitions. Lines, rows and columns are numbered from 0. Each call names the
+//! faults that it answers, and [`Fault`] says what they leave. `docs/RULES.md` says exactly what each call does.
 //!
-//! The crate links `liblodvarn.a`, which `clients/build` makes.
-#![warn(missing_docs)]
+//! The crate links the archive of the library, which `lodvarn-sys` finds.
+#![deny(missing_docs, unsafe_op_in_unsafe_fn)]
+#![warn(clippy::missing_errors_doc)]
 
+mod builder;
 mod changes;
-// A number or a call of the header that nothing uses is an error.
-#[deny(dead_code)]
-mod ffi;
 mod texts;
 mod words;
 
+pub use builder::SessionBuilder;
 pub use changes::{ChangeListener, Changes, DeleteListener, Report, Splice, Untold};
 pub use texts::{cell, first_cluster, last_cluster, run_script, width};
 pub use words::{Action, At, Direction, Fault, Mode, Movement, ReportKind, Search, Word};
 
+use lodvarn_sys as ffi;
 use std::cell::UnsafeCell;
 use std::fmt;
 use std::ops::Range;
-use std::ptr::{null_mut, NonNull};
+use std::ptr::NonNull;
 
-/// A text with its cursor, a ring of killed texts, and the record of its changes.
+/// The version of this crate, and of the library that it is for.
+pub const VERSION: &str = env!("CARGO_PKG_VERSION");
+
+/// A text with its cursor, a ring of killed texts, and the record of its changes. [`Session::builder`] opens one.
 ///
 /// It may be sent to another thread, but not shared between threads.
 ///
@@ -45,7 +49,8 @@ use std::ptr::{null_mut, NonNull};
 /// shared::<lodvarn::Session>();
 /// ```
 pub struct Session {
-    // A read takes the session out of the handle and puts it back, so it gets a pointer that it may write to.
+    // Only calls of the library write the handle, so it is null or a session, as they want it. A read takes the session
+    // out of it and puts it back, so it gets a pointer that it may write to.
     at: UnsafeCell<ffi::Handle>,
     // Whether it has a queue of reports that have texts, which the library does not tell.
     keeps_texts: bool,
@@ -114,25 +119,16 @@ fn handed(
 }
 
 impl Session {
-    /// Opens a session on a text, with the cursor at the place `pos`. The text may grow to `limit` bytes, or stay as
-    /// long as it is. The kill ring keeps up to `ring_size` texts. `BadPlace`, `NoMemory`.
-    pub fn new(
-        text: &str,
-        pos: usize,
-        limit: usize,
-        ring_size: usize,
-        mode: Mode,
-    ) -> Result<Session, Fault> {
-        let session = Session {
-            at: UnsafeCell::new(null_mut()),
-            keeps_texts: false,
-        };
-        let (ptr, len, at) = (text.as_ptr(), text.len(), session.at.get());
-        done(unsafe { ffi::lodvarn_open(at, ptr, len, pos, limit, ring_size, mode as u32) })?;
-        Ok(session)
+    /// What a session is opened with: the defaults of [`SessionBuilder`], which its methods replace.
+    pub fn builder<'t>() -> SessionBuilder<'t> {
+        SessionBuilder::default()
     }
 
-    /// Moves the cursor to a place. `BadPlace`.
+    /// Moves the cursor to a place.
+    ///
+    /// # Errors
+    ///
+    /// [`Fault::BadPlace`].
     pub fn set_pos(&mut self, pos: usize) -> Result<(), Fault> {
         done(unsafe { ffi::lodvarn_set_pos(self.at.get(), pos) })
     }
@@ -143,151 +139,258 @@ impl Session {
         unsafe { ffi::lodvarn_move(self.at.get(), number, n, c) == ffi::TRUE }
     }
 
-    /// Inserts a character n times at the cursor. Whether the cursor was at the end, or `None` where the text would
-    /// get longer than the limit. `NoMemory`.
+    /// Inserts a character n times at the cursor. Whether the cursor was at the end, or `None` where the text would get
+    /// longer than the limit.
+    ///
+    /// # Errors
+    ///
+    /// [`Fault::NoMemory`].
     pub fn insert(&mut self, c: char, n: u16) -> Result<Option<bool>, Fault> {
         inserted(unsafe { ffi::lodvarn_insert(self.at.get(), c.into(), n) })
     }
 
     /// Inserts a text n times at the cursor. Whether the cursor was at the end, or `None` where the text is empty or
-    /// the line would get longer than the limit. `NoMemory`.
+    /// the line would get longer than the limit.
+    ///
+    /// # Errors
+    ///
+    /// [`Fault::NoMemory`].
     pub fn paste(&mut self, text: &str, n: u16) -> Result<Option<bool>, Fault> {
         inserted(unsafe { ffi::lodvarn_paste(self.at.get(), text.as_ptr(), text.len(), n) })
     }
 
-    /// Inserts the ring's current text n times at the cursor, and answers as `paste`. `NoMemory`.
+    /// Inserts the ring's current text n times at the cursor, and answers as `paste`.
+    ///
+    /// # Errors
+    ///
+    /// [`Fault::NoMemory`].
     pub fn yank(&mut self, n: u16) -> Result<Option<bool>, Fault> {
         inserted(unsafe { ffi::lodvarn_yank(self.at.get(), n) })
     }
 
     /// Replaces the text that was just yanked by the one before it in the ring. Whether the cursor was at the end, or
     /// `None` where the last command was not a yank. `None` also where the one before is empty or too long for the
-    /// limit: then what was yanked is deleted. `BadYankSize`, `NoMemory`.
+    /// limit: then what was yanked is deleted.
+    ///
+    /// # Errors
+    ///
+    /// [`Fault::BadYankSize`] where what was yanked does not stand before the cursor, as may be after a yank with
+    /// n = 0; [`Fault::NoMemory`].
     pub fn yank_pop(&mut self) -> Result<Option<bool>, Fault> {
         inserted(unsafe { ffi::lodvarn_yank_pop(self.at.get()) })
     }
 
+    /// Begins anew with a text, with the cursor at the place `pos`, as an editor does with the next line. Nothing is
+    /// recorded then, and the kill ring keeps its texts. The limit rises where the text is longer. What tells of changes
+    /// tells that all the old text gave way to the new one.
+    ///
+    /// # Errors
+    ///
+    /// [`Fault::BadPlace`], [`Fault::NoMemory`]; they leave the whole session.
+    pub fn restart(&mut self, text: &str, pos: usize) -> Result<(), Fault> {
+        done(unsafe { ffi::lodvarn_restart(self.at.get(), text.as_ptr(), text.len(), pos) })
+    }
+
     /// Replaces the whole text by another one, which is cut to the limit. The cursor goes to the place `pos` of the new
-    /// text. `BadPlace`, `NoMemory`.
+    /// text.
+    ///
+    /// # Errors
+    ///
+    /// [`Fault::BadPlace`], [`Fault::NoMemory`].
     pub fn update(&mut self, text: &str, pos: usize) -> Result<(), Fault> {
         done(unsafe { ffi::lodvarn_update(self.at.get(), text.as_ptr(), text.len(), pos) })
     }
 
     /// Inserts a text at a place, whatever the limit. The cursor's place keeps its number. Whether the place was the
-    /// end. `BadPlace`, also where the cursor would come to stand inside a character; `NoMemory`.
+    /// end.
+    ///
+    /// # Errors
+    ///
+    /// [`Fault::BadPlace`], also where the cursor would come to stand inside a character; [`Fault::NoMemory`].
     pub fn insert_str(&mut self, at: usize, text: &str) -> Result<bool, Fault> {
         yes(unsafe { ffi::lodvarn_insert_str(self.at.get(), at, text.as_ptr(), text.len()) })
     }
 
-    /// Replaces what stands in a range by a text, whatever the limit. The cursor goes after the text. `BadPlace`,
-    /// `NoMemory`.
+    /// Replaces what stands in a range by a text, whatever the limit. The cursor goes after the text.
+    ///
+    /// # Errors
+    ///
+    /// [`Fault::BadPlace`], also where the range ends before it begins; [`Fault::NoMemory`].
     pub fn replace(&mut self, range: Range<usize>, text: &str) -> Result<(), Fault> {
         let (from, to, ptr, len) = (range.start, range.end, text.as_ptr(), text.len());
         done(unsafe { ffi::lodvarn_replace(self.at.get(), from, to, ptr, len) })
     }
 
-    /// Deletes what stands in a range. The cursor goes to its start. `BadPlace`, `NoMemory`.
+    /// Deletes what stands in a range. The cursor goes to its start.
+    ///
+    /// # Errors
+    ///
+    /// [`Fault::BadPlace`], also where the range ends before it begins; [`Fault::NoMemory`].
     pub fn delete_range(&mut self, range: Range<usize>) -> Result<(), Fault> {
         done(unsafe { ffi::lodvarn_delete_range(self.at.get(), range.start, range.end) })
     }
 
-    /// Deletes n clusters after the cursor, and answers them, or `None` where there are none. `NoMemory`.
+    /// Deletes n clusters after the cursor, and answers them, or `None` where there are none.
+    ///
+    /// # Errors
+    ///
+    /// [`Fault::NoMemory`].
     pub fn delete(&mut self, n: u16) -> Result<Option<String>, Fault> {
         let at = self.at.get();
         handed(|out, cap, len| unsafe { ffi::lodvarn_delete(at, n, out, cap, len) })
     }
 
-    /// Deletes n clusters before the cursor. False where there are none. `NoMemory`.
+    /// Deletes n clusters before the cursor. False where there are none.
+    ///
+    /// # Errors
+    ///
+    /// [`Fault::NoMemory`].
     pub fn backspace(&mut self, n: u16) -> Result<bool, Fault> {
         yes(unsafe { ffi::lodvarn_backspace(self.at.get(), n) })
     }
 
     /// Deletes to the end of the cursor's line, or the newline there. The ring does not keep it: of all deletions it
-    /// keeps only those by `kill`. False where there is nothing. `NoMemory`.
+    /// keeps only those by `kill`. False where there is nothing.
+    ///
+    /// # Errors
+    ///
+    /// [`Fault::NoMemory`].
     pub fn kill_line(&mut self) -> Result<bool, Fault> {
         yes(unsafe { ffi::lodvarn_kill_line(self.at.get()) })
     }
 
-    /// Deletes to the end of the text. False where there is nothing. `NoMemory`.
+    /// Deletes to the end of the text. False where there is nothing.
+    ///
+    /// # Errors
+    ///
+    /// [`Fault::NoMemory`].
     pub fn kill_buffer(&mut self) -> Result<bool, Fault> {
         yes(unsafe { ffi::lodvarn_kill_buffer(self.at.get()) })
     }
 
     /// Deletes back to the start of the cursor's line, or the newline before it, CR LF as one. False where nothing is.
-    /// `NoMemory`.
+    ///
+    /// # Errors
+    ///
+    /// [`Fault::NoMemory`].
     pub fn discard_line(&mut self) -> Result<bool, Fault> {
         yes(unsafe { ffi::lodvarn_discard_line(self.at.get()) })
     }
 
-    /// Deletes back to the start of the text. False where there is nothing. `NoMemory`.
+    /// Deletes back to the start of the text. False where there is nothing.
+    ///
+    /// # Errors
+    ///
+    /// [`Fault::NoMemory`].
     pub fn discard_buffer(&mut self) -> Result<bool, Fault> {
         yes(unsafe { ffi::lodvarn_discard_buffer(self.at.get()) })
     }
 
-    /// Deletes back to the start of the n-th word. False where there is nothing. `NoMemory`.
+    /// Deletes back to the start of the n-th word. False where there is nothing.
+    ///
+    /// # Errors
+    ///
+    /// [`Fault::NoMemory`].
     pub fn delete_prev_word(&mut self, word: Word, n: u16) -> Result<bool, Fault> {
         yes(unsafe { ffi::lodvarn_delete_prev_word(self.at.get(), word as u32, n) })
     }
 
-    /// Deletes forward to the n-th word, as `at` says. False where there is nothing. `NoMemory`.
+    /// Deletes forward to the n-th word, as `at` says. False where there is nothing.
+    ///
+    /// # Errors
+    ///
+    /// [`Fault::NoMemory`].
     pub fn delete_word(&mut self, at: At, word: Word, n: u16) -> Result<bool, Fault> {
         yes(unsafe { ffi::lodvarn_delete_word(self.at.get(), at as u32, word as u32, n) })
     }
 
     /// Deletes to the n-th hit of a search, or to the farthest where there are fewer. False where there is none.
-    /// `NoMemory`.
+    ///
+    /// # Errors
+    ///
+    /// [`Fault::NoMemory`].
     pub fn delete_to(&mut self, search: Search, n: u16) -> Result<bool, Fault> {
         let (number, c) = search.numbers();
         yes(unsafe { ffi::lodvarn_delete_to(self.at.get(), number, c, n) })
     }
 
     /// Exchanges the clusters before and after the cursor, in two changes: call it between `begin` and `end` where one
-    /// undo is to take them back. False where there are not two. `NoMemory`.
+    /// undo is to take them back. False where there are not two.
+    ///
+    /// # Errors
+    ///
+    /// [`Fault::NoMemory`].
     pub fn transpose_chars(&mut self) -> Result<bool, Fault> {
         yes(unsafe { ffi::lodvarn_transpose_chars(self.at.get()) })
     }
 
     /// Exchanges a word with the n-th word before it, in four changes. False where there are not two; the cursor may
-    /// have moved then. `NoMemory`.
+    /// have moved then.
+    ///
+    /// # Errors
+    ///
+    /// [`Fault::NoMemory`].
     pub fn transpose_words(&mut self, n: u16) -> Result<bool, Fault> {
         yes(unsafe { ffi::lodvarn_transpose_words(self.at.get(), n) })
     }
 
     /// Changes the letter case of the rest of the word at the cursor, or of the next word, in two changes. False where
-    /// there is none. `NoMemory`.
+    /// there is none.
+    ///
+    /// # Errors
+    ///
+    /// [`Fault::NoMemory`].
     pub fn edit_word(&mut self, action: Action) -> Result<bool, Fault> {
         yes(unsafe { ffi::lodvarn_edit_word(self.at.get(), action as u32) })
     }
 
-    /// Deletes what a movement covers. The ring keeps it, except by `BackwardChar` and `ForwardChar`. Consecutive
-    /// kills become one text of the ring. False where there is nothing. `NoMemory`.
+    /// Deletes what a movement covers. The ring keeps it, except by `BackwardChar` and `ForwardChar`. Consecutive kills
+    /// become one text of the ring. False where there is nothing.
+    ///
+    /// # Errors
+    ///
+    /// [`Fault::NoMemory`].
     pub fn kill(&mut self, movement: Movement) -> Result<bool, Fault> {
         let (number, n, c) = movement.numbers();
         yes(unsafe { ffi::lodvarn_kill(self.at.get(), number, n, c) })
     }
 
-    /// The text that a movement covers, or `None` where it covers nothing. `NoMemory`.
+    /// The text that a movement covers, or `None` where it covers nothing.
+    ///
+    /// # Errors
+    ///
+    /// [`Fault::NoMemory`].
     pub fn copy(&mut self, movement: Movement) -> Result<Option<String>, Fault> {
         let ((number, n, c), at) = (movement.numbers(), self.at.get());
         handed(|out, cap, len| unsafe { ffi::lodvarn_copy(at, number, n, c, out, cap, len) })
     }
 
     /// Inserts `amount` spaces at the start of each line that a movement covers, in a change or more for each line.
-    /// `NoMemory`.
+    ///
+    /// # Errors
+    ///
+    /// [`Fault::NoMemory`]; the lines before stay indented.
     pub fn indent(&mut self, movement: Movement, amount: u8) -> Result<bool, Fault> {
         let (number, n, c) = movement.numbers();
         yes(unsafe { ffi::lodvarn_indent(self.at.get(), number, n, c, amount, ffi::INDENT) })
     }
 
     /// Deletes up to `amount` bytes of blanks at the start of each line that a movement covers, in a change for each
-    /// line. `NoMemory`.
+    /// line.
+    ///
+    /// # Errors
+    ///
+    /// [`Fault::NoMemory`]; the lines before stay dedented.
     pub fn dedent(&mut self, movement: Movement, amount: u8) -> Result<bool, Fault> {
         let (number, n, c) = movement.numbers();
         yes(unsafe { ffi::lodvarn_indent(self.at.get(), number, n, c, amount, ffi::DEDENT) })
     }
 
     /// Begins an undo group: once it is closed, one undo takes back all its changes. The number of entries before it.
-    /// `NoMemory`.
+    ///
+    /// # Errors
+    ///
+    /// [`Fault::NoMemory`].
     pub fn begin(&mut self) -> Result<usize, Fault> {
         let mut mark = 0;
         match unsafe { ffi::lodvarn_begin(self.at.get(), &mut mark) } {
@@ -296,24 +399,39 @@ impl Session {
         }
     }
 
-    /// Closes all open groups. False where they have no change, or none is open. `NoMemory`.
+    /// Closes all open groups. False where they have no change, or none is open.
+    ///
+    /// # Errors
+    ///
+    /// [`Fault::NoMemory`].
     pub fn end(&mut self) -> Result<bool, Fault> {
         yes(unsafe { ffi::lodvarn_end(self.at.get()) })
     }
 
     /// Undoes the last n changes and groups, one where n is 0, all where there are fewer. False where there was no
-    /// change. `NoMemory`.
+    /// change.
+    ///
+    /// # Errors
+    ///
+    /// [`Fault::NoMemory`].
     pub fn undo(&mut self, n: u16) -> Result<bool, Fault> {
         yes(unsafe { ffi::lodvarn_undo(self.at.get(), n) })
     }
 
-    /// Redoes what was undone last, one change or group. False where there is none. `NoMemory`.
+    /// Redoes what was undone last, one change or group. False where there is none.
+    ///
+    /// # Errors
+    ///
+    /// [`Fault::NoMemory`].
     pub fn redo(&mut self) -> Result<bool, Fault> {
         yes(unsafe { ffi::lodvarn_redo(self.at.get()) })
     }
 
-    /// Keeps the first `entries` entries of the record, and forgets the others and what was undone. `NotReplaying`
-    /// where they do not lead to the present text, `NoMemory`.
+    /// Keeps the first `entries` entries of the record, and forgets the others and what was undone.
+    ///
+    /// # Errors
+    ///
+    /// [`Fault::NotReplaying`] where they do not lead to the present text; [`Fault::NoMemory`].
     pub fn truncate(&mut self, entries: usize) -> Result<(), Fault> {
         done(unsafe { ffi::lodvarn_truncate(self.at.get(), entries) })
     }
