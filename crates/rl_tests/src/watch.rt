@@ -4,7 +4,7 @@ use rl_base::{
     ChangeListener, DeleteListener, Direction, GraphemeClusterMode, Movement, Report, ReportKind,
     Reports, Splice, WatchFault, Word,
 };
-use rl_session::{Command, Session};
+use rl_session::{Command, Fault, Reply, Session};
 use std::process::Abort;
 use std::test::Fail;
 
@@ -162,5 +162,36 @@ fn a_session_keeps_reports(rt: HostRuntime) -> Result<(), Fail> {
     reads(&rt, s, 2, "é");
     let _ = s.apply(&Command::Insert('c', 1));
     reads(&rt, s, 4, "c");
+    Ok(())
+}
+
+#[test]
+fn a_session_begins_anew(rt: HostRuntime) -> Result<(), Fail> {
+    let mode = GraphemeClusterMode::Unicode;
+    let mut session = Session::new(rt.alloc(), "one two", 7, 64, 60, mode)?;
+    let s = &mut session;
+    let _ = s.apply(&Command::Kill(Movement::BackwardWord(1, Word::Emacs)));
+    let _ = s.changed();
+    is_so(&rt, s.restart("é", 1) == Err(Fault::BadPlace), "no boundary");
+    is_so(&rt, s.line().as_str() == "one ", "the text stays");
+    is_so(&rt, s.restart("né", 1).is_ok(), "another text");
+    is_so(
+        &rt,
+        s.line().as_str() == "né" && s.line().pos() == 1,
+        "it is there",
+    );
+    let all = Splice {
+        from: 0,
+        old_end: 4,
+        new_end: 3,
+    };
+    is_so(&rt, s.changed() == Some(all), "all changed");
+    is_so(
+        &rt,
+        s.apply(&Command::Undo(1)) == Reply::Answer(false),
+        "nothing to undo",
+    );
+    let _ = s.apply(&Command::Yank(1));
+    is_so(&rt, s.line().as_str() == "ntwoé", "what was killed comes");
     Ok(())
 }
