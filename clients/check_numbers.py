@@ -71,7 +71,7 @@ def numbers_of_crate(source):
 
 
 def numbers_of_python(source):
-    """The numbers of clients/python/lodvarn.py: the members of each IntEnum."""
+    """The numbers of clients/python/lodvarn/__init__.py: the members of each IntEnum."""
     found = []
     for kind in ast.parse(source).body:
         if isinstance(kind, ast.ClassDef) and [ast.unparse(base) for base in kind.bases] == ["IntEnum"]:
@@ -101,7 +101,8 @@ def see(where, wanted, found):
 
 def main():
     header = numbers_of_header((TOP / "include/lodvarn.h").read_text())
-    crate, python, rust = "crates/rl_ffi/src/numbers.rt", "clients/python/lodvarn.py", "clients/rust/src/words.rs"
+    crate, rust = "crates/rl_ffi/src/numbers.rt", "clients/rust/src/words.rs"
+    python = "clients/python/lodvarn/__init__.py"
     # The client for Rust has no types for the others; the compiler sees to it that it uses them.
     typed = [it for it in header if it[0] not in ("answer", "indent_direction")]
     sums = [
