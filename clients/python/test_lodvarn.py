@@ -4,8 +4,10 @@ import copy
 import gc
 import pickle
 import random
+import re
 import sys
 import unittest
+from pathlib import Path
 from unittest import mock
 
 import lodvarn
@@ -733,6 +735,10 @@ class Module(unittest.TestCase):
     def test_all_is_exported(self):
         public = {name for name, it in vars(lodvarn).items() if getattr(it, "__module__", "") == "lodvarn"}
         self.assertEqual(set(lodvarn.__all__), {name for name in public if not name.startswith("_")})
+
+    def test_the_version_is_that_of_the_library(self):
+        built = (Path(__file__).resolve().parents[1] / "build").read_text()
+        self.assertEqual([lodvarn.__version__], re.findall("^version=(.+)$", built, re.M))
 
 
 class Texts(Case):

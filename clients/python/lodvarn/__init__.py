@@ -56,6 +56,9 @@ __all__ = [
     "width",
 ]
 
+# That of clients/build.
+__version__ = "0.1.0"
+
 
 class Mode(IntEnum):
     """How columns are counted."""
