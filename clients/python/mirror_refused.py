@@ -22,7 +22,10 @@ def refuse(one_of):
 
 
 class Session(lodvarn.Session):
-    """A session that counts the commands that found no memory, and those of them that had changed the text."""
+    """A session that counts the commands that found no memory, and those of them that had changed the text.
+
+    What hands a text out is not counted: where it is refused it has changed nothing.
+    """
 
     refused = halfway = 0
 

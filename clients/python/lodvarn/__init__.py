@@ -365,12 +365,6 @@ _pos: Callable[[ctypes.c_void_p], int] = _library.lodvarn_pos
 _utf8 = str.encode
 
 
-def _passed(text: str) -> tuple[bytes, int]:
-    """A text as a call takes it: its bytes, and their number."""
-    given = _utf8(text)
-    return given, len(given)
-
-
 def _refuse(name: str, given: tuple[Any, ...], fault: Exception) -> NoReturn:
     """Raises what is wrong with the arguments that a caller gave: a number out of its range, or another type."""
     for one, kind in zip(given, _CALLS[name][_looked_at(_CALLS[name])]):
@@ -379,7 +373,7 @@ def _refuse(name: str, given: tuple[Any, ...], fault: Exception) -> NoReturn:
     raise TypeError(f"{name}: {fault}") from None
 
 
-def _call(name: str, *given: Any) -> int:
+def _call(name: str, given: tuple[Any, ...]) -> int:
     """Makes the call, and raises a Fault where it is refused. Its _Answer."""
     function, pack, looked_at = _READY[name]
     try:
@@ -397,11 +391,8 @@ def _yes(answer: int) -> Optional[bool]:
     return None if answer == _NONE else answer == _TRUE
 
 
-# How many bytes a read writes without making a buffer for it.
+# How many bytes the library writes without a buffer made for it.
 _ROOM = 4096
-# The buffer for a text that a command writes, at first.
-_SHORT = 64
-_Short = ctypes.c_char * _SHORT
 # How many characters of each side of the cursor repr shows.
 _SHOWN = 20
 
@@ -430,10 +421,12 @@ class Session:
         self._on_change: Optional[Callable[[Report], object]] = None
         # The room for the texts of reports; None where none are kept.
         self._text_bytes: Optional[int] = None
-        # What reads write to, for as long as it is decoded.
+        # What the library writes to, for as long as it is decoded.
         self._out: Any = ctypes.create_string_buffer(_ROOM)
-        given, size = _passed(text)
-        _call("open", self._at, given, size, size if pos is None else pos, limit, ring_size, mode)
+        self._length = _SIZE()
+        given = _utf8(text)
+        size = len(given)
+        _call("open", (self._at, given, size, size if pos is None else pos, limit, ring_size, mode))
 
     def close(self) -> None:
         """Closes the session. Whatever is asked of it later raises Closed, except to close it again and its repr."""
@@ -488,23 +481,29 @@ class Session:
     def _do(self, name: str, *given: Any) -> int:
         """Does a command, and tells on_change what it changed, also where it was refused halfway."""
         if self._on_change is None:
-            return _call(name, self._at, *given)
+            return _call(name, (self._at, *given))
         try:
-            return _call(name, self._at, *given)
+            return _call(name, (self._at, *given))
         finally:
-            while self._on_change is not None and (report := self._next_report()):
-                self._on_change(report)
+            self._tell()
 
     def _do_for_text(self, name: str, *given: Any) -> Optional[str]:
-        """Does a command that writes a text, and repeats it with a larger buffer where the first one is too small."""
-        # Not self._out, which a function that is told of the command may read into before this is decoded.
-        out: Any = _Short()
-        room, length = _SHORT, _SIZE()
-        while (answer := self._do(name, *given, out, room, length)) == _TOO_SMALL:
-            room = length.value
-            out = ctypes.create_string_buffer(room)
-        text: Optional[str] = out[: length.value].decode() if answer == _GIVEN else None
-        return text
+        """Does a command that hands out a text, which is decoded before on_change is told, as that reads there too."""
+        out, room, length = self._out, _ROOM, self._length
+        try:
+            while (answer := _call(name, (self._at, *given, out, room, length))) == _TOO_SMALL:
+                room = length.value
+                out = ctypes.create_string_buffer(room)
+            text: Optional[str] = out[: length.value].decode() if answer == _GIVEN else None
+            return text
+        finally:
+            if self._on_change is not None:
+                self._tell()
+
+    def _tell(self) -> None:
+        """Tells on_change of each report that waits."""
+        while self._on_change is not None and (report := self._next_report()):
+            self._on_change(report)
 
     def _size(self, call: Callable[[ctypes.c_void_p], int]) -> int:
         """What a call answers that asks for a size."""
@@ -544,7 +543,8 @@ class Session:
 
         Whether the cursor was at the end, or None where the text is empty or the line would get longer than the limit.
         """
-        return _yes(self._do("paste", *_passed(text), n))
+        given = _utf8(text)
+        return _yes(self._do("paste", given, len(given), n))
 
     def yank(self, n: int = 1) -> Optional[bool]:
         """Inserts the ring's current text n times at the cursor. Answers as paste does."""
@@ -563,7 +563,8 @@ class Session:
 
         A text that is longer than the limit is cut. Raises BadPlace.
         """
-        given, size = _passed(text)
+        given = _utf8(text)
+        size = len(given)
         self._do("update", given, size, size if pos is None else pos)
 
     def insert_str(self, at: int, text: str) -> bool:
@@ -571,11 +572,13 @@ class Session:
 
         Whether the place was the end. Raises BadPlace, also where the cursor would come to stand inside a character.
         """
-        return self._do("insert_str", at, *_passed(text)) == _TRUE
+        given = _utf8(text)
+        return self._do("insert_str", at, given, len(given)) == _TRUE
 
     def replace(self, start: int, end: int, text: str) -> None:
         """Replaces what stands between two places, whatever the limit. The cursor goes after it. Raises BadPlace."""
-        self._do("replace", start, end, *_passed(text))
+        given = _utf8(text)
+        self._do("replace", start, end, given, len(given))
 
     def delete_range(self, start: int, end: int) -> None:
         """Deletes what stands between two places. The cursor goes to the first. Raises BadPlace."""
@@ -689,7 +692,7 @@ class Session:
         so whatever changed the text, also an undo, a redo, and a command that was refused halfway.
         """
         start, old_end, new_end = _SIZE(), _SIZE(), _SIZE()
-        answer = _call("changed", self._at, start, old_end, new_end)
+        answer = _call("changed", (self._at, start, old_end, new_end))
         return Splice(start.value, old_end.value, new_end.value) if answer == _DONE else None
 
     def watch(self, reports: int = 64, text_bytes: int = 65536) -> None:
@@ -700,7 +703,7 @@ class Session:
         Raises ValueError where `reports` is 0, IsWatched where the session has a queue already, NoMemory.
         """
         try:
-            answer = _call("watch", self._at, reports, text_bytes)
+            answer = _call("watch", (self._at, reports, text_bytes))
         except NoSuchNumber:
             raise ValueError("a queue needs room for a report") from None
         if answer == _FALSE:
@@ -719,7 +722,7 @@ class Session:
     def _next_report(self) -> Optional[Report]:
         """Takes the oldest report that waits, in a larger buffer where its texts do not fit. None where none waits."""
         kind, numbers = _U32(), [_SIZE() for _ in range(5)]
-        answer = _call("next_report", self._at, kind, *numbers, self._out, len(self._out))
+        answer = _call("next_report", (self._at, kind, *numbers, self._out, len(self._out)))
         if answer == _NONE:
             return None
         at, old_len, new_len, pos_before, pos_after = (it.value for it in numbers)
@@ -803,7 +806,7 @@ class Session:
     def line_range(self, line: int) -> Optional[tuple[int, int]]:
         """The places where a line begins and ends, before its newline, or None where there is no such line."""
         start, end = _SIZE(), _SIZE()
-        answer = _call("line_range", self._at, line, start, end)
+        answer = _call("line_range", (self._at, line, start, end))
         return (start.value, end.value) if answer == _DONE else None
 
     @property
@@ -819,7 +822,7 @@ class Session:
     @property
     def last_was_yank(self) -> bool:
         """Whether the last command was a yank or yank_pop and did not answer None. A yank with n = 0 counts."""
-        return _call("last_was_yank", self._at) == _TRUE
+        return _call("last_was_yank", (self._at,)) == _TRUE
 
 
 def run_script(script: bytes) -> bytes:
@@ -829,28 +832,28 @@ def run_script(script: bytes) -> bytes:
     while room < length.value:
         room = length.value
         out = ctypes.create_string_buffer(room)
-        _call("script", script, len(script), out, room, length)
+        _call("script", (script, len(script), out, room, length))
     return out.raw[: length.value]
 
 
 def width(text: str, mode: Mode = Mode.UNICODE) -> int:
     """The number of columns that a text takes, at most 65535."""
-    columns = _U16()
-    _call("width", *_passed(text), mode, columns)
+    columns, given = _U16(), _utf8(text)
+    _call("width", (given, len(given), mode, columns))
     return columns.value
 
 
 def first_cluster(text: str) -> str:
     """The first grapheme cluster of a text, empty where the text is empty."""
     length, given = _SIZE(), _utf8(text)
-    _call("first_cluster", given, len(given), length)
+    _call("first_cluster", (given, len(given), length))
     return given[: length.value].decode()
 
 
 def last_cluster(text: str) -> str:
     """The last grapheme cluster of a text, empty where the text is empty."""
     length, given = _SIZE(), _utf8(text)
-    _call("last_cluster", given, len(given), length)
+    _call("last_cluster", (given, len(given), length))
     return given[len(given) - length.value :].decode()
 
 
@@ -859,6 +862,6 @@ def cell(text: str, place: int, prompt: int, columns: int, mode: Mode = Mode.UNI
 
     The text begins at the column `prompt` of row 0. Raises BadPlace, and NoSuchNumber where `columns` is 0.
     """
-    row, column = _SIZE(), _SIZE()
-    _call("cell", *_passed(text), place, prompt, columns, mode, row, column)
+    row, column, given = _SIZE(), _SIZE(), _utf8(text)
+    _call("cell", (given, len(given), place, prompt, columns, mode, row, column))
     return row.value, column.value
