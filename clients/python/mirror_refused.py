@@ -29,11 +29,11 @@ class Session(lodvarn.Session):
 
     refused = halfway = 0
 
-    def _do(self, name, *given):
+    def _do(self, name, *given, **written):
         """Does a command, and counts it where it is refused so."""
         text = self.text
         try:
-            return super()._do(name, *given)
+            return super()._do(name, *given, **written)
         except lodvarn.NoMemory:
             self.refused += 1
             self.halfway += self.text != text

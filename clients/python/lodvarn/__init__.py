@@ -344,17 +344,15 @@ _library = _load()
 _PACKED = {_TEXT: "0s", _SIZE: "Q", _U32: "I", _U16: "H", _U8: "B"}
 
 
-def _looked_at(takes: list[Any]) -> slice:
-    """Which arguments a caller gives: those after the handle, up to the first that is written."""
-    first = int(takes[0] is _HANDLE)
-    return slice(first, first + len(list(takewhile(_PACKED.__contains__, takes[first:]))))
+def _given(takes: list[Any]) -> list[Any]:
+    """What a caller gives to a call: what stands after the handle, up to the first that is written."""
+    return list(takewhile(_PACKED.__contains__, takes[takes[0] is _HANDLE :]))
 
 
-def _ready(name: str, takes: list[Any]) -> tuple[Callable[..., int], Callable[..., bytes], slice]:
-    """A call of the library, what packs the arguments that a caller gives, and which these are."""
-    given = _looked_at(takes)
-    form = "=" + "".join(_PACKED[kind] for kind in takes[given])
-    return getattr(_library, f"lodvarn_{name}"), struct.Struct(form).pack, given
+def _ready(name: str, takes: list[Any]) -> tuple[Callable[..., int], Callable[..., bytes]]:
+    """A call of the library, and what packs the arguments that a caller gives."""
+    form = "=" + "".join(_PACKED[kind] for kind in _given(takes))
+    return getattr(_library, f"lodvarn_{name}"), struct.Struct(form).pack
 
 
 _READY = {name: _ready(name, takes) for name, takes in _CALLS.items()}
@@ -367,20 +365,20 @@ _utf8 = str.encode
 
 def _refuse(name: str, given: tuple[Any, ...], fault: Exception) -> NoReturn:
     """Raises what is wrong with the arguments that a caller gave: a number out of its range, or another type."""
-    for one, kind in zip(given, _CALLS[name][_looked_at(_CALLS[name])]):
+    for one, kind in zip(given, _given(_CALLS[name])):
         if kind is not _TEXT and not 0 <= operator.index(one) < 1 << 8 * ctypes.sizeof(kind):
             raise OverflowError(f"{name}: {one} is not in the range of {kind.__name__}") from None
     raise TypeError(f"{name}: {fault}") from None
 
 
-def _call(name: str, given: tuple[Any, ...]) -> int:
-    """Makes the call, and raises a Fault where it is refused. Its _Answer."""
-    function, pack, looked_at = _READY[name]
+def _call(name: str, handle: tuple[Any, ...], given: tuple[Any, ...], written: tuple[Any, ...] = ()) -> int:
+    """Makes the call with a handle or none, what a caller gives, and what is written. Its _Answer, or raises a Fault."""
+    function, pack = _READY[name]
     try:
-        pack(*given[looked_at])
-        answer = function(*given)
+        pack(*given)
+        answer = function(*handle, *given, *written)
     except (struct.error, ctypes.ArgumentError) as fault:
-        _refuse(name, given[looked_at], fault)
+        _refuse(name, given, fault)
     if answer in _FAULTS:
         raise _FAULTS[answer](f"{name}: {_FAULTS[answer].__doc__}")
     return answer
@@ -418,6 +416,7 @@ class Session:
         Raises BadPlace, NoMemory.
         """
         self._at = ctypes.c_void_p()
+        self._handle = (self._at,)
         self._on_change: Optional[Callable[[Report], object]] = None
         # The room for the texts of reports; None where none are kept.
         self._text_bytes: Optional[int] = None
@@ -426,7 +425,7 @@ class Session:
         self._length = _SIZE()
         given = _utf8(text)
         size = len(given)
-        _call("open", (self._at, given, size, size if pos is None else pos, limit, ring_size, mode))
+        _call("open", self._handle, (given, size, size if pos is None else pos, limit, ring_size, mode))
 
     def close(self) -> None:
         """Closes the session. Whatever is asked of it later raises Closed, except to close it again and its repr."""
@@ -478,12 +477,12 @@ class Session:
     def __reduce__(self) -> str:
         raise TypeError("a session has no copy")
 
-    def _do(self, name: str, *given: Any) -> int:
+    def _do(self, name: str, *given: Any, written: tuple[Any, ...] = ()) -> int:
         """Does a command, and tells on_change what it changed, also where it was refused halfway."""
         if self._on_change is None:
-            return _call(name, (self._at, *given))
+            return _call(name, self._handle, given, written)
         try:
-            return _call(name, (self._at, *given))
+            return _call(name, self._handle, given, written)
         finally:
             self._tell()
 
@@ -491,7 +490,7 @@ class Session:
         """Does a command that hands out a text, which is decoded before on_change is told, as that reads there too."""
         out, room, length = self._out, _ROOM, self._length
         try:
-            while (answer := _call(name, (self._at, *given, out, room, length))) == _TOO_SMALL:
+            while (answer := _call(name, self._handle, given, (out, room, length))) == _TOO_SMALL:
                 room = length.value
                 out = ctypes.create_string_buffer(room)
             text: Optional[str] = out[: length.value].decode() if answer == _GIVEN else None
@@ -654,7 +653,7 @@ class Session:
     def begin(self) -> int:
         """Begins an undo group: once closed, one undo takes it back. Answers the number of entries before it."""
         mark = _SIZE()
-        self._do("begin", mark)
+        self._do("begin", written=(mark,))
         return mark.value
 
     def end(self) -> bool:
@@ -682,7 +681,7 @@ class Session:
         This is a command: a kill after it begins a new text of the ring.
         """
         line, column = _SIZE(), _U16()
-        self._do("line_place", line, column)
+        self._do("line_place", written=(line, column))
         return line.value, column.value
 
     def changed(self) -> Optional[Splice]:
@@ -692,7 +691,7 @@ class Session:
         so whatever changed the text, also an undo, a redo, and a command that was refused halfway.
         """
         start, old_end, new_end = _SIZE(), _SIZE(), _SIZE()
-        answer = _call("changed", (self._at, start, old_end, new_end))
+        answer = _call("changed", self._handle, (), (start, old_end, new_end))
         return Splice(start.value, old_end.value, new_end.value) if answer == _DONE else None
 
     def watch(self, reports: int = 64, text_bytes: int = 65536) -> None:
@@ -703,7 +702,7 @@ class Session:
         Raises ValueError where `reports` is 0, IsWatched where the session has a queue already, NoMemory.
         """
         try:
-            answer = _call("watch", (self._at, reports, text_bytes))
+            answer = _call("watch", self._handle, (reports, text_bytes))
         except NoSuchNumber:
             raise ValueError("a queue needs room for a report") from None
         if answer == _FALSE:
@@ -722,7 +721,7 @@ class Session:
     def _next_report(self) -> Optional[Report]:
         """Takes the oldest report that waits, in a larger buffer where its texts do not fit. None where none waits."""
         kind, numbers = _U32(), [_SIZE() for _ in range(5)]
-        answer = _call("next_report", (self._at, kind, *numbers, self._out, len(self._out)))
+        answer = _call("next_report", self._handle, (), (kind, *numbers, self._out, len(self._out)))
         if answer == _NONE:
             return None
         at, old_len, new_len, pos_before, pos_after = (it.value for it in numbers)
@@ -806,7 +805,7 @@ class Session:
     def line_range(self, line: int) -> Optional[tuple[int, int]]:
         """The places where a line begins and ends, before its newline, or None where there is no such line."""
         start, end = _SIZE(), _SIZE()
-        answer = _call("line_range", (self._at, line, start, end))
+        answer = _call("line_range", self._handle, (line,), (start, end))
         return (start.value, end.value) if answer == _DONE else None
 
     @property
@@ -822,7 +821,7 @@ class Session:
     @property
     def last_was_yank(self) -> bool:
         """Whether the last command was a yank or yank_pop and did not answer None. A yank with n = 0 counts."""
-        return _call("last_was_yank", (self._at,)) == _TRUE
+        return _call("last_was_yank", self._handle, ()) == _TRUE
 
 
 def run_script(script: bytes) -> bytes:
@@ -832,28 +831,28 @@ def run_script(script: bytes) -> bytes:
     while room < length.value:
         room = length.value
         out = ctypes.create_string_buffer(room)
-        _call("script", (script, len(script), out, room, length))
+        _call("script", (), (script, len(script)), (out, room, length))
     return out.raw[: length.value]
 
 
 def width(text: str, mode: Mode = Mode.UNICODE) -> int:
     """The number of columns that a text takes, at most 65535."""
     columns, given = _U16(), _utf8(text)
-    _call("width", (given, len(given), mode, columns))
+    _call("width", (), (given, len(given), mode), (columns,))
     return columns.value
 
 
 def first_cluster(text: str) -> str:
     """The first grapheme cluster of a text, empty where the text is empty."""
     length, given = _SIZE(), _utf8(text)
-    _call("first_cluster", (given, len(given), length))
+    _call("first_cluster", (), (given, len(given)), (length,))
     return given[: length.value].decode()
 
 
 def last_cluster(text: str) -> str:
     """The last grapheme cluster of a text, empty where the text is empty."""
     length, given = _SIZE(), _utf8(text)
-    _call("last_cluster", (given, len(given), length))
+    _call("last_cluster", (), (given, len(given)), (length,))
     return given[len(given) - length.value :].decode()
 
 
@@ -863,5 +862,5 @@ def cell(text: str, place: int, prompt: int, columns: int, mode: Mode = Mode.UNI
     The text begins at the column `prompt` of row 0. Raises BadPlace, and NoSuchNumber where `columns` is 0.
     """
     row, column, given = _SIZE(), _SIZE(), _utf8(text)
-    _call("cell", (given, len(given), place, prompt, columns, mode, row, column))
+    _call("cell", (), (given, len(given), place, prompt, columns, mode), (row, column))
     return row.value, column.value
