@@ -578,6 +578,11 @@ class OnChange(Case):
         session.set_pos(0)
         self.assertEqual(seen, [report(ReportKind.TEXT_INSERTED, 0, "", "cd", 0, 2)])
 
+    def test_a_text_is_handed_out_whatever_it_does(self):
+        session = Session("aébc", 0)
+        session.on_change = lambda it: session.copy(Movement.WHOLE_LINE)
+        self.assertEqual(session.delete(2), "aé")
+
     def test_it_may_do_commands(self):
         session, mirror = Session(""), []
 
