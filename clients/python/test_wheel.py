@@ -18,6 +18,7 @@ import test_lodvarn
 HERE = Path(__file__).resolve().parent
 BUILT = HERE.parent / "out/lib/liblodvarn.so"
 INFO = f"lodvarn-{lodvarn.__version__}.dist-info/"
+TAG = "py3-none-linux_x86_64"
 NAMES = [f"lodvarn/{it}" for it in ("__init__.py", "py.typed", "liblodvarn.so.0")]
 NAMES += [f"{INFO}{it}" for it in ("LICENSE", "METADATA", "WHEEL", "RECORD")]
 # Edits a line, and says which library did it.
@@ -70,8 +71,10 @@ class Wheel(unittest.TestCase):
         return [cls.python, "-m", "pip", "--isolated", "wheel", *options, folder]
 
     def test_it_holds_the_package_and_the_library(self):
+        self.assertEqual(self.wheel.name, f"lodvarn-{lodvarn.__version__}-{TAG}.whl")
         with ZipFile(self.wheel) as wheel:
             self.assertEqual(wheel.namelist(), NAMES)
+            self.assertIn(f"\nTag: {TAG}\n", wheel.read(f"{INFO}WHEEL").decode())
             self.assertEqual(wheel.read(NAMES[2]), BUILT.read_bytes())
             content = {name: wheel.read(name) for name in NAMES}
         rows = {}
