@@ -10,9 +10,9 @@
 It calls the shared library liblodvarn.so: the one that the environment's LODVARN_LIBRARY names, else the one beside
 this file, else the one that clients/build made in clients/out, else the system's. A place is a number of bytes from the
 start of the text's UTF-8. It must be a boundary: an end of the text, or between two characters. An index is a number of
-characters. A count n is of grapheme clusters, words, lines or repetitions, at most 65535. Lines and columns are numbered
-from 0. A call that is refused raises a Fault, and a number that is out of its range OverflowError. One thread at a time
-uses a session. docs/RULES.md says exactly what each call does.
+characters. A count n is of grapheme clusters, words, lines or repetitions, at most 65535. Lines and columns count from
+0. A call that is refused raises a Fault, and a number that is out of its range OverflowError. One thread at a time uses
+a session. docs/RULES.md says exactly what each call does.
 """
 
 from __future__ import annotations
@@ -372,7 +372,7 @@ def _refuse(name: str, given: tuple[Any, ...], fault: Exception) -> NoReturn:
 
 
 def _call(name: str, handle: tuple[Any, ...], given: tuple[Any, ...], written: tuple[Any, ...] = ()) -> int:
-    """Makes the call with a handle or none, what a caller gives, and what is written. Its _Answer, or raises a Fault."""
+    """Makes the call with a handle or none, what a caller gives, and what is written. Raises a Fault where refused."""
     function, pack = _READY[name]
     try:
         pack(*given)
