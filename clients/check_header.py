@@ -36,10 +36,11 @@ IN_C = {
     "u8": ["uint8_t"],
     "": ["void"],
 }
-# The same of the client for Python, where a text that is read and one that is written are of one type.
+# The same of the client for Python.
 PYTHON_IN_C = {
     "_HANDLE": "lodvarn **",
-    "_TEXT": "char *",
+    "_TEXT": "const char *",
+    "_OUT": "char *",
     "_TO_SIZE": "size_t *",
     "_TO_U32": "uint32_t *",
     "_TO_U16": "uint16_t *",
@@ -79,7 +80,7 @@ def calls_of_python(source):
     tables = {"_CALLS": "uint32_t", "_SIZES": "size_t"}
     found = {"lodvarn_close": ("void", ["lodvarn **"])}
     for it in ast.parse(source).body:
-        name = it.targets[0].id if isinstance(it, ast.Assign) and isinstance(it.targets[0], ast.Name) else None
+        name = it.target.id if isinstance(it, ast.AnnAssign) and isinstance(it.target, ast.Name) else None
         if name in tables:
             for call, kinds in zip(it.value.keys, it.value.values):
                 found[f"lodvarn_{call.value}"] = (tables[name], [PYTHON_IN_C[kind.id] for kind in kinds.elts])
@@ -115,16 +116,15 @@ def see(where, declared, found):
 
 def main():
     declared = declarations_of((TOP / "include/lodvarn.h").read_text())
-    alike = {call: (gives, [it.removeprefix("const ") for it in takes]) for call, (gives, takes) in declared.items()}
     sources = "".join(source.read_text() for source in sorted((TOP / "crates/rl_ffi/src").glob("**/*.rt")))
-    rust, python = "clients/rust/lodvarn-sys/src/lib.rs", "clients/python/lodvarn.py"
+    rust, python = "clients/rust/lodvarn-sys/src/lib.rs", "clients/python/lodvarn/__init__.py"
     wrapper = "clients/rust/lodvarn/src"
     made = MADE.findall("".join(source.read_text() for source in sorted((TOP / wrapper).glob("*.rs"))))
     sums = [
         see("the crate", declared, calls_of(sources, EXPORT, "no_mangle")),
         see(rust, declared, calls_of((TOP / rust).read_text(), FOREIGN, "pub fn")),
         see(wrapper, declared, {name: declared.get(name) for name in made}),
-        see(python, alike, calls_of_python((TOP / python).read_text())),
+        see(python, declared, calls_of_python((TOP / python).read_text())),
     ]
     passed, failed = (sum(counts) for counts in zip(*sums))
     print(f"{passed} passed, {failed} failed")

@@ -81,7 +81,7 @@ def numbers_of_crate(source):
 
 
 def numbers_of_python(source):
-    """The numbers of clients/python/lodvarn.py: the members of each IntEnum."""
+    """The numbers of clients/python/lodvarn/__init__.py: the members of each IntEnum."""
     found = []
     for kind in ast.parse(source).body:
         if isinstance(kind, ast.ClassDef) and [ast.unparse(base) for base in kind.bases] == ["IntEnum"]:
@@ -113,7 +113,7 @@ def main():
     text = (TOP / "include/lodvarn.h").read_text()
     header = numbers_of_header(text)
     answers = [it for it in header if it[0] == "answer"]
-    crate, python = "crates/rl_ffi/src/numbers.rt", "clients/python/lodvarn.py"
+    crate, python = "crates/rl_ffi/src/numbers.rt", "clients/python/lodvarn/__init__.py"
     rust = "clients/rust/lodvarn/src/words.rs"
     # The client for Rust has no types for the others, and must use each somewhere.
     others = [it for it in header if it[0] in ("answer", "indent_direction")]

@@ -22,15 +22,18 @@ def refuse(one_of):
 
 
 class Session(lodvarn.Session):
-    """A session that counts the commands that found no memory, and those of them that had changed the text."""
+    """A session that counts the commands that found no memory, and those of them that had changed the text.
+
+    What hands a text out is not counted: where it is refused it has changed nothing.
+    """
 
     refused = halfway = 0
 
-    def _do(self, name, *given):
+    def _do(self, name, *given, **written):
         """Does a command, and counts it where it is refused so."""
         text = self.text
         try:
-            return super()._do(name, *given)
+            return super()._do(name, *given, **written)
         except lodvarn.NoMemory:
             self.refused += 1
             self.halfway += self.text != text

@@ -9,7 +9,7 @@ import unittest
 from unittest import mock
 
 import lodvarn
-from lodvarn import Action, Answer, At, Mode, Movement, Report, ReportKind, Search, Session, Splice, Word
+from lodvarn import Action, At, Mode, Movement, Report, ReportKind, Search, Session, Splice, Word
 
 FAMILY = "\U0001f468\u200d\U0001f469\u200d\U0001f467"
 
@@ -129,12 +129,124 @@ class Editing(Case):
         self.assertIs(session.delete(), None)
 
 
+class Reading(Case):
+    def test_the_text_is_parted_at_the_cursor(self):
+        for text, pos, index, before, after, shown in [
+            ("", 0, 0, "", "", "<Session ''|''>"),
+            ("aé漢\n", 6, 3, "aé漢", "\n", "<Session 'aé漢'|'\\n'>"),
+            ("aé漢", 0, 0, "", "aé漢", "<Session ''|'aé漢'>"),
+            (FAMILY + "é", 18, 5, FAMILY, "é", f"<Session {FAMILY!r}|'é'>"),
+            ("é" * 20 + "漢" * 20, 40, 20, "é" * 20, "漢" * 20, f"<Session {'é' * 20!r}|{'漢' * 20!r}>"),
+            ("éx" * 2500, 4500, 3000, "éx" * 1500, "éx" * 1000, f"<Session ...{'éx' * 10!r}|{'éx' * 10!r}...>"),
+            ("éx" * 2500, 7500, 5000, "éx" * 2500, "", f"<Session ...{'éx' * 10!r}|''>"),
+        ]:
+            with self.subTest(text=text[:50]), Session(text, pos) as session:
+                self.assertEqual((session.before, session.after), (before, after))
+                self.assertEqual((session.index, len(session), bool(session)), (index, len(text), True))
+                self.assertEqual(repr(session), shown)
+
+    def test_the_cursor_is_set(self):
+        session = Session("aé漢b")
+        for name, place, pos, index in [
+            ("pos", 0, 0, 0),
+            ("pos", 3, 3, 2),
+            ("pos", 7, 7, 4),
+            ("index", 0, 0, 0),
+            ("index", 3, 6, 3),
+            ("index", 4, 7, 4),
+        ]:
+            setattr(session, name, place)
+            self.assertEqual((session.pos, session.index), (pos, index))
+        for name, place, fault in [
+            ("pos", 2, lodvarn.BadPlace),
+            ("pos", 8, lodvarn.BadPlace),
+            ("pos", -1, OverflowError),
+            ("pos", 1.5, TypeError),
+            ("index", 5, lodvarn.BadPlace),
+            ("index", -1, lodvarn.BadPlace),
+            ("index", 1.5, TypeError),
+        ]:
+            with self.subTest(name=name, place=place):
+                self.assertRaises(fault, setattr, session, name, place)
+                self.stands(session, "aé漢b", 7)
+
+
+# What is asked of a closed session, by the name of the method or property; more than once where it is set too.
+ASKED = [
+    ("__bool__", bool),
+    ("__enter__", lambda s: s.__enter__()),
+    ("__len__", len),
+    ("after", lambda s: s.after),
+    ("backspace", lambda s: s.backspace()),
+    ("before", lambda s: s.before),
+    ("begin", lambda s: s.begin()),
+    ("changed", lambda s: s.changed()),
+    ("changes", lambda s: s.changes()),
+    ("copy", lambda s: s.copy(Movement.WHOLE_LINE)),
+    ("dedent", lambda s: s.dedent(Movement.WHOLE_LINE, 1)),
+    ("delete", lambda s: s.delete()),
+    ("delete_prev_word", lambda s: s.delete_prev_word(Word.VI)),
+    ("delete_range", lambda s: s.delete_range(0, 0)),
+    ("delete_to", lambda s: s.delete_to(Search.FORWARD, "a")),
+    ("delete_word", lambda s: s.delete_word(At.START, Word.VI)),
+    ("discard_buffer", lambda s: s.discard_buffer()),
+    ("discard_line", lambda s: s.discard_line()),
+    ("edit_word", lambda s: s.edit_word(Action.UPPERCASE)),
+    ("end", lambda s: s.end()),
+    ("entries", lambda s: s.entries),
+    ("indent", lambda s: s.indent(Movement.WHOLE_LINE, 1)),
+    ("index", lambda s: s.index),
+    ("index", lambda s: setattr(s, "index", 0)),
+    ("insert", lambda s: s.insert("a")),
+    ("insert_str", lambda s: s.insert_str(0, "a")),
+    ("kill", lambda s: s.kill(Movement.WHOLE_LINE)),
+    ("kill_buffer", lambda s: s.kill_buffer()),
+    ("kill_line", lambda s: s.kill_line()),
+    ("last_was_yank", lambda s: s.last_was_yank),
+    ("limit", lambda s: s.limit),
+    ("line_count", lambda s: s.line_count),
+    ("line_number", lambda s: s.line_number),
+    ("line_place", lambda s: s.line_place()),
+    ("line_range", lambda s: s.line_range(0)),
+    ("move", lambda s: s.move(Movement.WHOLE_LINE)),
+    ("on_change", lambda s: s.on_change),
+    ("on_change", lambda s: setattr(s, "on_change", None)),
+    ("paste", lambda s: s.paste("a")),
+    ("pos", lambda s: s.pos),
+    ("pos", lambda s: setattr(s, "pos", 0)),
+    ("redo", lambda s: s.redo()),
+    ("replace", lambda s: s.replace(0, 0, "a")),
+    ("restart", lambda s: s.restart()),
+    ("set_pos", lambda s: s.set_pos(0)),
+    ("text", lambda s: s.text),
+    ("transpose_chars", lambda s: s.transpose_chars()),
+    ("transpose_words", lambda s: s.transpose_words()),
+    ("truncate", lambda s: s.truncate(0)),
+    ("undo", lambda s: s.undo()),
+    ("update", lambda s: s.update("a")),
+    ("watch", lambda s: s.watch()),
+    ("watch", lambda s: s.watch(0)),
+    ("yank", lambda s: s.yank()),
+    ("yank_pop", lambda s: s.yank_pop()),
+]
+
+
 class Faults(Case):
     def refuses(self, fault, session, call, *given):
         """The call raises the fault, and leaves text, cursor and record."""
         before = (session.text, session.pos, session.entries)
         self.assertRaises(fault, call, *given)
         self.assertEqual((session.text, session.pos, session.entries), before)
+
+    def test_a_session_begins_anew(self):
+        session = Session("one two")
+        session.kill(Movement.BACKWARD_EMACS_WORD)
+        session.restart("né", 1)
+        self.assertEqual((session.text, session.pos, session.entries, session.undo()), ("né", 1, 0, False))
+        session.yank()
+        self.assertEqual((session.text, session.pos), ("ntwoé", 4))
+        session.restart()
+        self.assertEqual((session.text, session.entries), ("", 0))
 
     def test_what_is_refused_raises(self):
         session = Session("aé", 3)
@@ -146,11 +258,41 @@ class Faults(Case):
         self.refuses(lodvarn.BadPlace, session, session.set_pos, 2)
         self.refuses(lodvarn.BadPlace, session, session.replace, 3, 1, "x")
         self.refuses(lodvarn.BadPlace, session, session.update, "é", 1)
+        self.refuses(lodvarn.BadPlace, session, session.restart, "é", 1)
         self.refuses(lodvarn.NoSuchNumber, session, session.move, 27)
         self.refuses(lodvarn.NoSuchNumber, session, session.insert, "\ud800")
         self.refuses(UnicodeEncodeError, session, session.paste, "\ud800")
         self.assertRaises(lodvarn.BadPlace, Session, "é", 1)
         self.assertRaises(lodvarn.NoMemory, Session, "a", 1, 2**64 - 1)
+
+    def test_faults_are_those_of_python_too(self):
+        session, closed = Session("é"), Session("")
+        closed.close()
+        for fault, kind, call in [
+            (lodvarn.BadPlace, ValueError, lambda: session.set_pos(1)),
+            (lodvarn.NoMemory, MemoryError, lambda: session.watch(2**63)),
+            (lodvarn.NoSuchNumber, ValueError, lambda: session.move(27)),
+            (lodvarn.Closed, ValueError, closed.undo),
+        ]:
+            with self.subTest(fault=fault.__name__), self.assertRaises(kind) as raised:
+                call()
+            self.assertIs(type(raised.exception), fault)
+            self.assertIsInstance(raised.exception, lodvarn.Fault)
+
+    def test_other_types_are_refused(self):
+        session = Session("ab")
+        for call, given in [
+            (session.insert, (1,)),
+            (session.insert, ("ab",)),
+            (session.insert, ("a", 1.5)),
+            (session.move, (None,)),
+            (session.paste, (b"a",)),
+            (session.replace, (0, "1", "a")),
+            (lodvarn.run_script, ("text a",)),
+            (lodvarn.width, (None,)),
+        ]:
+            with self.subTest(call=call.__name__, given=given):
+                self.refuses(TypeError, session, call, *given)
 
     def test_numbers_are_not_cut(self):
         session = Session("ab")
@@ -168,9 +310,14 @@ class Faults(Case):
         session = Session("ab")
         session.close()
         session.close()
-        self.assertRaises(lodvarn.Closed, session.undo)
-        self.assertRaises(lodvarn.Closed, session.delete)
-        self.stands(session, "", 0)
+        for name, ask in ASKED:
+            with self.subTest(name=name):
+                self.assertRaises(lodvarn.Closed, ask, session)
+        self.assertEqual(repr(session), "<Session closed>")
+
+    def test_all_is_asked_of_a_closed_session(self):
+        asked = {name for name, _ in ASKED if not name.startswith("_")}
+        self.assertEqual(asked, {name for name in dir(Session) if not name.startswith("_")} - {"close"})
 
     def test_a_session_has_no_copy(self):
         session = Session("ab")
@@ -375,14 +522,11 @@ class Changes(Case):
     def test_a_closed_session_tells_nothing(self):
         session, seen = Session("ab"), []
         session.on_change = seen.append
+        waiting = session.changes()
         session.close()
         self.assertRaises(lodvarn.Closed, session.insert, "c")
-        self.assertRaises(lodvarn.Closed, session.changed)
-        self.assertRaises(lodvarn.Closed, session.watch)
-        self.assertRaises(lodvarn.Closed, session.watch, 0)
-        self.assertRaises(lodvarn.Closed, list, session.changes())
-        self.assertRaises(lodvarn.Closed, setattr, session, "on_change", seen.append)
-        self.assertEqual((session.on_change, seen), (None, []))
+        self.assertRaises(lodvarn.Closed, list, waiting)
+        self.assertEqual(seen, [])
 
 
 class OnChange(Case):
@@ -429,9 +573,9 @@ class OnChange(Case):
         def halfway(handle, *given):
             """Takes one step, and then finds no memory."""
             lodvarn._library.lodvarn_insert(handle, ord(" "), 1)
-            return Answer.NO_MEMORY
+            return lodvarn._Answer.NO_MEMORY
 
-        with mock.patch.object(lodvarn._library, "lodvarn_indent", halfway):
+        with mock.patch.dict(lodvarn._READY, indent=(halfway, *lodvarn._READY["indent"][1:])):
             self.assertRaises(lodvarn.NoMemory, session.indent, Movement.WHOLE_LINE, 2)
         self.assertEqual(seen, [report(ReportKind.CHAR_INSERTED, 2, "", " ", 2, 3)])
 
@@ -443,6 +587,11 @@ class OnChange(Case):
         session.on_change = seen.append
         session.set_pos(0)
         self.assertEqual(seen, [report(ReportKind.TEXT_INSERTED, 0, "", "cd", 0, 2)])
+
+    def test_a_text_is_handed_out_whatever_it_does(self):
+        session = Session("aébc", 0)
+        session.on_change = lambda it: session.copy(Movement.WHOLE_LINE)
+        self.assertEqual(session.delete(2), "aé")
 
     def test_it_may_do_commands(self):
         session, mirror = Session(""), []
@@ -490,6 +639,7 @@ COMMANDS = [
     lambda s, r: (s.yank(), s.yank_pop()),
     lambda s, r: s.yank_pop(),
     lambda s, r: s.update(r.choice(PIECES) * r.randrange(9)),
+    lambda s, r: s.restart(r.choice(PIECES) * r.randrange(9)),
     lambda s, r: s.insert_str(place_in(s, r), r.choice(PIECES)),
     lambda s, r: s.replace(*span_in(s, r), r.choice(PIECES)),
     lambda s, r: s.delete_range(*span_in(s, r)),
@@ -595,6 +745,13 @@ class Mirrors(Case):
         session = self.Session("", limit=200)
         session.watch(1000)
         self.leads_to_the_text(session, 30, set(ReportKind) - {ReportKind.FOLDED})
+
+
+class Module(unittest.TestCase):
+    def test_all_is_exported(self):
+        public = {name for name, it in vars(lodvarn).items() if getattr(it, "__module__", "") == "lodvarn"}
+        self.assertEqual(set(lodvarn.__all__), {name for name in public if not name.startswith("_")})
+
 
 
 class Texts(Case):

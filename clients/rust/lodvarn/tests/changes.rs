@@ -553,6 +553,7 @@ fn command(s: &mut Session, random: &mut Random) -> Result<(), Fault> {
         16..=18 => s.undo(n).map(drop),
         19..=20 => s.redo().map(drop),
         21 => s.replace(random.places(&text), &random.text()),
+        22 if random.below(4) == 0 => s.restart(&random.text(), 0),
         22 => s.update(&random.text(), 0),
         23 => s.insert_str(random.place(&text), &random.text()).map(drop),
         24 => s.delete_range(random.places(&text)),

@@ -7,23 +7,57 @@
         session.yank()
         print(session.text, session.pos)
 
-It calls the shared library liblodvarn.so: the one that the environment's LODVARN_LIBRARY names, else the one that
-clients/build made in clients/out, else the system's. A place is a number of bytes from the start of the text's UTF-8.
-It must be a boundary: an end of the text, or between two characters. A count n is of grapheme clusters, words, lines or
-repetitions, at most 65535. Lines and columns are numbered from 0. A call that is refused raises a Fault. One thread at
-a time uses a session. docs/RULES.md says exactly what each call does.
+It calls the shared library liblodvarn.so: the one that the environment's LODVARN_LIBRARY names, else the one beside
+this file, else the one that clients/build made in clients/out, else the system's. A place is a number of bytes from the
+start of the text's UTF-8. It must be a boundary: an end of the text, or between two characters. An index is a number of
+characters. A count n is of grapheme clusters, words, lines or repetitions, at most 65535. Lines and columns count from
+0. A call that is refused raises a Fault, and a number that is out of its range OverflowError. One thread at a time uses
+a session. docs/RULES.md says exactly what each call does.
 """
 
 from __future__ import annotations
 
 import ctypes
 import ctypes.util
+import operator
 import os
+import struct
 from dataclasses import dataclass
 from enum import IntEnum
+from itertools import takewhile
 from pathlib import Path
 from types import TracebackType
-from typing import Callable, Iterator, Optional
+from typing import Any, Callable, Iterator, NoReturn, Optional
+
+__all__ = [
+    "Action",
+    "At",
+    "BadPlace",
+    "BadYankSize",
+    "Closed",
+    "Fault",
+    "IsWatched",
+    "Mode",
+    "Movement",
+    "NoMemory",
+    "NoSuchNumber",
+    "NotReplaying",
+    "NotUtf8",
+    "Report",
+    "ReportKind",
+    "Search",
+    "Session",
+    "Splice",
+    "Word",
+    "cell",
+    "first_cluster",
+    "last_cluster",
+    "run_script",
+    "width",
+]
+
+# That of clients/build.
+__version__ = "0.1.0"
 
 
 class Mode(IntEnum):
@@ -148,7 +182,7 @@ class Report:
     new: Optional[str]
 
 
-class Answer(IntEnum):
+class _Answer(IntEnum):
     """What a call of the library answers."""
 
     DONE = 0
@@ -173,11 +207,11 @@ class Fault(Exception):
     memory: it stands after the steps that it made."""
 
 
-class NoMemory(Fault):
+class NoMemory(Fault, MemoryError):
     """Out of memory."""
 
 
-class BadPlace(Fault):
+class BadPlace(Fault, ValueError):
     """A place is past the text's end or inside a character, or two places are out of order."""
 
 
@@ -189,15 +223,15 @@ class NotReplaying(Fault):
     """The entries to keep do not lead to the present text."""
 
 
-class Closed(Fault):
+class Closed(Fault, ValueError):
     """The session is closed."""
 
 
-class NotUtf8(Fault):
+class NotUtf8(Fault, ValueError):
     """A text is not UTF-8. A str that can be encoded is UTF-8."""
 
 
-class NoSuchNumber(Fault):
+class NoSuchNumber(Fault, ValueError):
     """A number is not in its enum, or is no character."""
 
 
@@ -205,23 +239,27 @@ class IsWatched(Fault):
     """The session keeps reports already."""
 
 
-_FAULTS = {
-    Answer.NO_MEMORY: NoMemory,
-    Answer.BAD_PLACE: BadPlace,
-    Answer.BAD_YANK_SIZE: BadYankSize,
-    Answer.NOT_REPLAYING: NotReplaying,
-    Answer.CLOSED: Closed,
-    Answer.NOT_UTF8: NotUtf8,
-    Answer.NO_SUCH_NUMBER: NoSuchNumber,
+# The answers that are asked for, taken out of their enum once: to look there costs as much as a short call.
+_DONE, _TRUE, _FALSE, _NONE = _Answer.DONE, _Answer.TRUE, _Answer.FALSE, _Answer.NONE
+_GIVEN, _TOO_SMALL = _Answer.TEXT, _Answer.TOO_SMALL
+
+_FAULTS: dict[int, type[Fault]] = {
+    _Answer.NO_MEMORY: NoMemory,
+    _Answer.BAD_PLACE: BadPlace,
+    _Answer.BAD_YANK_SIZE: BadYankSize,
+    _Answer.NOT_REPLAYING: NotReplaying,
+    _Answer.CLOSED: Closed,
+    _Answer.NOT_UTF8: NotUtf8,
+    _Answer.NO_SUCH_NUMBER: NoSuchNumber,
 }
 
 _HANDLE = ctypes.POINTER(ctypes.c_void_p)
-_TEXT, _SIZE = ctypes.c_char_p, ctypes.c_size_t
+_TEXT, _OUT, _SIZE = ctypes.c_char_p, ctypes.POINTER(ctypes.c_char), ctypes.c_size_t
 _U32, _U16, _U8 = ctypes.c_uint32, ctypes.c_uint16, ctypes.c_uint8
 _TO_SIZE, _TO_U32, _TO_U16 = ctypes.POINTER(_SIZE), ctypes.POINTER(_U32), ctypes.POINTER(_U16)
 
-# What each call takes. Each answers one of Answer.
-_CALLS = {
+# What each call takes. Each answers one of _Answer.
+_CALLS: dict[str, list[Any]] = {
     "open": [_HANDLE, _TEXT, _SIZE, _SIZE, _SIZE, _SIZE, _U32],
     "set_pos": [_HANDLE, _SIZE],
     "move": [_HANDLE, _U32, _U16, _U32],
@@ -229,11 +267,12 @@ _CALLS = {
     "paste": [_HANDLE, _TEXT, _SIZE, _U16],
     "yank": [_HANDLE, _U16],
     "yank_pop": [_HANDLE],
+    "restart": [_HANDLE, _TEXT, _SIZE, _SIZE],
     "update": [_HANDLE, _TEXT, _SIZE, _SIZE],
     "insert_str": [_HANDLE, _SIZE, _TEXT, _SIZE],
     "replace": [_HANDLE, _SIZE, _SIZE, _TEXT, _SIZE],
     "delete_range": [_HANDLE, _SIZE, _SIZE],
-    "delete": [_HANDLE, _U16, _TEXT, _SIZE, _TO_SIZE],
+    "delete": [_HANDLE, _U16, _OUT, _SIZE, _TO_SIZE],
     "backspace": [_HANDLE, _U16],
     "kill_line": [_HANDLE],
     "kill_buffer": [_HANDLE],
@@ -246,7 +285,7 @@ _CALLS = {
     "transpose_words": [_HANDLE, _U16],
     "edit_word": [_HANDLE, _U32],
     "kill": [_HANDLE, _U32, _U16, _U32],
-    "copy": [_HANDLE, _U32, _U16, _U32, _TEXT, _SIZE, _TO_SIZE],
+    "copy": [_HANDLE, _U32, _U16, _U32, _OUT, _SIZE, _TO_SIZE],
     "indent": [_HANDLE, _U32, _U16, _U32, _U8, _U32],
     "begin": [_HANDLE, _TO_SIZE],
     "end": [_HANDLE],
@@ -256,10 +295,10 @@ _CALLS = {
     "line_place": [_HANDLE, _TO_SIZE, _TO_U16],
     "changed": [_HANDLE, _TO_SIZE, _TO_SIZE, _TO_SIZE],
     "watch": [_HANDLE, _SIZE, _SIZE],
-    "next_report": [_HANDLE, _TO_U32, _TO_SIZE, _TO_SIZE, _TO_SIZE, _TO_SIZE, _TO_SIZE, _TEXT, _SIZE],
+    "next_report": [_HANDLE, _TO_U32, _TO_SIZE, _TO_SIZE, _TO_SIZE, _TO_SIZE, _TO_SIZE, _OUT, _SIZE],
     "line_range": [_HANDLE, _SIZE, _TO_SIZE, _TO_SIZE],
     "last_was_yank": [_HANDLE],
-    "script": [_TEXT, _SIZE, _TEXT, _SIZE, _TO_SIZE],
+    "script": [_TEXT, _SIZE, _OUT, _SIZE, _TO_SIZE],
     "width": [_TEXT, _SIZE, _U32, _TO_U16],
     "first_cluster": [_TEXT, _SIZE, _TO_SIZE],
     "last_cluster": [_TEXT, _SIZE, _TO_SIZE],
@@ -267,8 +306,8 @@ _CALLS = {
 }
 
 # The calls that answer a size.
-_SIZES = {
-    "text": [_HANDLE, _TEXT, _SIZE],
+_SIZES: dict[str, list[Any]] = {
+    "text": [_HANDLE, _OUT, _SIZE],
     "pos": [_HANDLE],
     "line_number": [_HANDLE],
     "line_count": [_HANDLE],
@@ -277,14 +316,23 @@ _SIZES = {
 }
 
 
-def _load() -> ctypes.PyDLL:
-    built = Path(__file__).resolve().parent.parent / "out/lib/liblodvarn.so"
-    name = os.environ.get("LODVARN_LIBRARY") or (str(built) if built.exists() else ctypes.util.find_library("lodvarn"))
-    if not name:
+def _library_path() -> str:
+    """The library: the one that is named, else beside this file as in a wheel, else built here, else the system's."""
+    here = Path(__file__).resolve().parent
+    beside, built = here / "liblodvarn.so.0", here.parent.parent / "out/lib/liblodvarn.so"
+    there = next((str(it) for it in (beside, built) if it.exists()), None)
+    found = os.environ.get("LODVARN_LIBRARY") or there or ctypes.util.find_library("lodvarn")
+    if not found:
         raise OSError("liblodvarn.so is not found: build it by clients/build, or name it in LODVARN_LIBRARY")
+    return found
+
+
+def _load() -> ctypes.PyDLL:
+    """The library, with what its calls take and answer."""
     # A PyDLL keeps the interpreter's lock, so that no two threads are in a call on a session at once.
-    library = ctypes.PyDLL(name)
-    for calls, answer in ((_CALLS, _U32), (_SIZES, _SIZE), ({"close": [_HANDLE]}, None)):
+    library = ctypes.PyDLL(_library_path())
+    kinds: list[tuple[dict[str, list[Any]], Any]] = [(_CALLS, _U32), (_SIZES, _SIZE), ({"close": [_HANDLE]}, None)]
+    for calls, answer in kinds:
         for call, takes in calls.items():
             function = getattr(library, f"lodvarn_{call}")
             function.argtypes, function.restype = takes, answer
@@ -293,37 +341,66 @@ def _load() -> ctypes.PyDLL:
 
 _library = _load()
 
-
-def _in_range(number: int, kind: type) -> int:
-    """The number, where the kind holds it. ctypes would cut it off silently."""
-    if not 0 <= number < 1 << 8 * ctypes.sizeof(kind):
-        raise OverflowError(f"{number} is not in the range of {kind.__name__}")
-    return number
+# How struct packs what is passed. It is packed only to be looked at: ctypes would cut a number off silently.
+_PACKED = {_TEXT: "0s", _SIZE: "Q", _U32: "I", _U16: "H", _U8: "B"}
 
 
-def _call(name: str, *given: object) -> Answer:
-    """Makes the call, and raises a Fault where it is refused. Bytes are passed with their number."""
-    arguments: list[object] = []
-    for one in given:
-        arguments += [one, len(one)] if isinstance(one, bytes) else [one]
-    for one, kind in zip(arguments, _CALLS[name]):
-        if isinstance(one, int):
-            _in_range(one, kind)
-    answer = Answer(getattr(_library, f"lodvarn_{name}")(*arguments))
+def _given(takes: list[Any]) -> list[Any]:
+    """What a caller gives to a call: what stands after the handle, up to the first that is written."""
+    return list(takewhile(_PACKED.__contains__, takes[takes[0] is _HANDLE :]))
+
+
+def _ready(name: str, takes: list[Any]) -> tuple[Callable[..., int], Callable[..., bytes]]:
+    """A call of the library, and what packs the arguments that a caller gives."""
+    form = "=" + "".join(_PACKED[kind] for kind in _given(takes))
+    return getattr(_library, f"lodvarn_{name}"), struct.Struct(form).pack
+
+
+_READY = {name: _ready(name, takes) for name, takes in _CALLS.items()}
+_text: Callable[..., int] = _library.lodvarn_text
+_pos: Callable[[ctypes.c_void_p], int] = _library.lodvarn_pos
+
+# What makes bytes of a text. What is no str is a TypeError to it.
+_utf8 = str.encode
+
+
+def _refuse(name: str, given: tuple[Any, ...], fault: Exception) -> NoReturn:
+    """Raises what is wrong with the arguments that a caller gave: a number out of its range, or another type."""
+    for one, kind in zip(given, _given(_CALLS[name])):
+        if kind is not _TEXT and not 0 <= operator.index(one) < 1 << 8 * ctypes.sizeof(kind):
+            raise OverflowError(f"{name}: {one} is not in the range of {kind.__name__}") from None
+    raise TypeError(f"{name}: {fault}") from None
+
+
+def _call(name: str, handle: tuple[Any, ...], given: tuple[Any, ...], written: tuple[Any, ...] = ()) -> int:
+    """Makes the call with a handle or none, what a caller gives, and what is written. Raises a Fault where refused."""
+    function, pack = _READY[name]
+    try:
+        pack(*given)
+        answer = function(*handle, *given, *written)
+    except (struct.error, ctypes.ArgumentError) as fault:
+        _refuse(name, given, fault)
     if answer in _FAULTS:
         raise _FAULTS[answer](f"{name}: {_FAULTS[answer].__doc__}")
     return answer
 
 
-def _yes(answer: Answer) -> Optional[bool]:
+def _yes(answer: int) -> Optional[bool]:
     """True or False, or None where there was nothing to insert or the limit forbids it."""
-    return None if answer == Answer.NONE else answer == Answer.TRUE
+    return None if answer == _NONE else answer == _TRUE
+
+
+# How many bytes the library writes without a buffer made for it.
+_ROOM = 4096
+# How many characters of each side of the cursor repr shows.
+_SHOWN = 20
 
 
 class Session:
     """A text with its cursor, a ring of killed texts, and the record of its changes.
 
-    A `with` closes it at its end. Otherwise `close` does, or the garbage collector.
+    A `with` closes it at its end. Otherwise `close` does, or the garbage collector. Its length is that of the text, in
+    characters; but it is true also where that is 0.
     """
 
     def __init__(
@@ -340,19 +417,29 @@ class Session:
         Raises BadPlace, NoMemory.
         """
         self._at = ctypes.c_void_p()
+        self._handle = (self._at,)
         self._on_change: Optional[Callable[[Report], object]] = None
         # The room for the texts of reports; None where none are kept.
         self._text_bytes: Optional[int] = None
-        self._out = ctypes.create_string_buffer(4096)
-        given = text.encode()
-        _call("open", self._at, given, len(given) if pos is None else pos, limit, ring_size, mode)
+        # What the library writes to, for as long as it is decoded.
+        self._out: Any = ctypes.create_string_buffer(_ROOM)
+        self._length = _SIZE()
+        given = _utf8(text)
+        size = len(given)
+        _call("open", self._handle, (given, size, size if pos is None else pos, limit, ring_size, mode))
 
     def close(self) -> None:
-        """Closes the session. Every later call except this one raises Closed, or reads 0 or an empty text."""
+        """Closes the session. Whatever is asked of it later raises Closed, except to close it again and its repr."""
         _library.lodvarn_close(self._at)
         self._on_change = self._text_bytes = None
 
+    def _see_open(self) -> None:
+        """Raises Closed where the session is closed. The library answers 0 then where it answers a number."""
+        if not self._at:
+            raise Closed(Closed.__doc__)
+
     def __enter__(self) -> Session:
+        self._see_open()
         return self
 
     def __exit__(
@@ -364,6 +451,24 @@ class Session:
         if hasattr(self, "_at"):
             self.close()
 
+    def __len__(self) -> int:
+        """How many characters the text has, as len(session.text)."""
+        return len(self.text)
+
+    def __bool__(self) -> bool:
+        """True, also where the text is empty. Raises Closed."""
+        self._see_open()
+        return True
+
+    def __repr__(self) -> str:
+        """The text before and after the cursor, of a long one only what is near to it."""
+        if not self._at:
+            return "<Session closed>"
+        before, after = self.before, self.after
+        start = "..." if len(before) > _SHOWN else ""
+        end = "..." if len(after) > _SHOWN else ""
+        return f"<Session {start}{before[-_SHOWN:]!r}|{after[:_SHOWN]!r}{end}>"
+
     def __copy__(self) -> Session:
         raise TypeError("a session has no copy")
 
@@ -373,23 +478,53 @@ class Session:
     def __reduce__(self) -> str:
         raise TypeError("a session has no copy")
 
-    def _do(self, name: str, *given: object) -> Answer:
+    def _do(self, name: str, *given: Any, written: tuple[Any, ...] = ()) -> int:
         """Does a command, and tells on_change what it changed, also where it was refused halfway."""
+        if self._on_change is None:
+            return _call(name, self._handle, given, written)
         try:
-            return _call(name, self._at, *given)
+            return _call(name, self._handle, given, written)
         finally:
-            while self._on_change is not None and (report := self._next_report()):
-                self._on_change(report)
+            self._tell()
 
-    def _do_for_text(self, name: str, *given: object) -> Optional[str]:
-        """Does a command that writes a text, and repeats it with a larger buffer where the first one is too small."""
-        length = _SIZE(64)
-        answer = Answer.TOO_SMALL
-        while answer == Answer.TOO_SMALL:
-            room = length.value
-            out = ctypes.create_string_buffer(room)
-            answer = self._do(name, *given, out, room, length)
-        return out.raw[: length.value].decode() if answer == Answer.TEXT else None
+    def _do_for_text(self, name: str, *given: Any) -> Optional[str]:
+        """Does a command that hands out a text, which is decoded before on_change is told, as that reads there too."""
+        out, room, length = self._out, _ROOM, self._length
+        try:
+            while (answer := _call(name, self._handle, given, (out, room, length))) == _TOO_SMALL:
+                room = length.value
+                out = ctypes.create_string_buffer(room)
+            text: Optional[str] = out[: length.value].decode() if answer == _GIVEN else None
+            return text
+        finally:
+            if self._on_change is not None:
+                self._tell()
+
+    def _tell(self) -> None:
+        """Tells on_change of each report that waits."""
+        while self._on_change is not None and (report := self._next_report()):
+            self._on_change(report)
+
+    def _size(self, call: Callable[[ctypes.c_void_p], int]) -> int:
+        """What a call answers that asks for a size."""
+        self._see_open()
+        return call(self._at)
+
+    def _head(self, size: int) -> bytes:
+        """The first so many bytes of the text."""
+        out = self._out if size <= _ROOM else ctypes.create_string_buffer(size)
+        _text(self._at, out, size)
+        head: bytes = out[:size]
+        return head
+
+    def _whole(self) -> bytes:
+        """The bytes of the text, which mostly fit at once."""
+        self._see_open()
+        size = _text(self._at, self._out, _ROOM)
+        if size > _ROOM:
+            return self._head(size)
+        whole: bytes = self._out[:size]
+        return whole
 
     def set_pos(self, pos: int) -> None:
         """Moves the cursor to a place. Raises BadPlace."""
@@ -397,7 +532,7 @@ class Session:
 
     def move(self, movement: Movement, n: int = 1, c: str = "\0") -> bool:
         """Moves the cursor by a movement. c is the character of a search. False where there is nowhere to go."""
-        return self._do("move", movement, n, ord(c)) == Answer.TRUE
+        return self._do("move", movement, n, ord(c)) == _TRUE
 
     def insert(self, c: str, n: int = 1) -> Optional[bool]:
         """Inserts a character n times at the cursor. Whether the cursor was at the end; None past the limit."""
@@ -408,7 +543,8 @@ class Session:
 
         Whether the cursor was at the end, or None where the text is empty or the line would get longer than the limit.
         """
-        return _yes(self._do("paste", text.encode(), n))
+        given = _utf8(text)
+        return _yes(self._do("paste", given, len(given), n))
 
     def yank(self, n: int = 1) -> Optional[bool]:
         """Inserts the ring's current text n times at the cursor. Answers as paste does."""
@@ -422,24 +558,38 @@ class Session:
         """
         return _yes(self._do("yank_pop"))
 
+    def restart(self, text: str = "", pos: Optional[int] = None) -> None:
+        """Begins anew with a text, as an editor does with the next line. The cursor goes to the place pos, by default to
+        the text's end.
+
+        Nothing is recorded then, and the kill ring keeps its texts. The limit rises where the text is longer. What tells
+        of changes tells that all the old text gave way to the new one. Raises BadPlace; then the whole session stays.
+        """
+        given = _utf8(text)
+        size = len(given)
+        self._do("restart", given, size, size if pos is None else pos)
+
     def update(self, text: str, pos: Optional[int] = None) -> None:
         """Replaces the whole text. The cursor goes to the place pos of the new text, by default to its end.
 
         A text that is longer than the limit is cut. Raises BadPlace.
         """
-        given = text.encode()
-        self._do("update", given, len(given) if pos is None else pos)
+        given = _utf8(text)
+        size = len(given)
+        self._do("update", given, size, size if pos is None else pos)
 
     def insert_str(self, at: int, text: str) -> bool:
         """Inserts a text at a place, whatever the limit. The cursor's place keeps its number.
 
         Whether the place was the end. Raises BadPlace, also where the cursor would come to stand inside a character.
         """
-        return self._do("insert_str", at, text.encode()) == Answer.TRUE
+        given = _utf8(text)
+        return self._do("insert_str", at, given, len(given)) == _TRUE
 
     def replace(self, start: int, end: int, text: str) -> None:
         """Replaces what stands between two places, whatever the limit. The cursor goes after it. Raises BadPlace."""
-        self._do("replace", start, end, text.encode())
+        given = _utf8(text)
+        self._do("replace", start, end, given, len(given))
 
     def delete_range(self, start: int, end: int) -> None:
         """Deletes what stands between two places. The cursor goes to the first. Raises BadPlace."""
@@ -451,54 +601,54 @@ class Session:
 
     def backspace(self, n: int = 1) -> bool:
         """Deletes n clusters before the cursor. False where there are none."""
-        return self._do("backspace", n) == Answer.TRUE
+        return self._do("backspace", n) == _TRUE
 
     def kill_line(self) -> bool:
         """Deletes to the end of the cursor's line, or the newline there. The ring does not keep it."""
-        return self._do("kill_line") == Answer.TRUE
+        return self._do("kill_line") == _TRUE
 
     def kill_buffer(self) -> bool:
         """Deletes to the end of the text. The ring does not keep it."""
-        return self._do("kill_buffer") == Answer.TRUE
+        return self._do("kill_buffer") == _TRUE
 
     def discard_line(self) -> bool:
         """Deletes to the start of the cursor's line, or the newline before it, CR LF as one. Not for the ring."""
-        return self._do("discard_line") == Answer.TRUE
+        return self._do("discard_line") == _TRUE
 
     def discard_buffer(self) -> bool:
         """Deletes back to the start of the text. The ring does not keep it."""
-        return self._do("discard_buffer") == Answer.TRUE
+        return self._do("discard_buffer") == _TRUE
 
     def delete_prev_word(self, word: Word, n: int = 1) -> bool:
         """Deletes back to the start of the n-th word. False where there is nothing."""
-        return self._do("delete_prev_word", word, n) == Answer.TRUE
+        return self._do("delete_prev_word", word, n) == _TRUE
 
     def delete_word(self, at: At, word: Word, n: int = 1) -> bool:
         """Deletes forward to the n-th word, as `at` says. False where there is nothing."""
-        return self._do("delete_word", at, word, n) == Answer.TRUE
+        return self._do("delete_word", at, word, n) == _TRUE
 
     def delete_to(self, search: Search, c: str, n: int = 1) -> bool:
         """Deletes to the n-th character c, or to the farthest where there are fewer. False where there is none."""
-        return self._do("delete_to", search, ord(c), n) == Answer.TRUE
+        return self._do("delete_to", search, ord(c), n) == _TRUE
 
     def transpose_chars(self) -> bool:
         """Exchanges the clusters before and after the cursor, in two changes. False where there are not two."""
-        return self._do("transpose_chars") == Answer.TRUE
+        return self._do("transpose_chars") == _TRUE
 
     def transpose_words(self, n: int = 1) -> bool:
         """Exchanges a word with the n-th word before it, in four changes. False where there are not two."""
-        return self._do("transpose_words", n) == Answer.TRUE
+        return self._do("transpose_words", n) == _TRUE
 
     def edit_word(self, action: Action) -> bool:
         """Changes the case of the word at the cursor, or of the next, in two changes. False where there is none."""
-        return self._do("edit_word", action) == Answer.TRUE
+        return self._do("edit_word", action) == _TRUE
 
     def kill(self, movement: Movement, n: int = 1, c: str = "\0") -> bool:
         """Deletes what a movement covers. False where there is nothing.
 
         The ring keeps it, except by BACKWARD_CHAR and FORWARD_CHAR.
         """
-        return self._do("kill", movement, n, ord(c)) == Answer.TRUE
+        return self._do("kill", movement, n, ord(c)) == _TRUE
 
     def copy(self, movement: Movement, n: int = 1, c: str = "\0") -> Optional[str]:
         """The text that a movement covers, or None where it covers nothing."""
@@ -506,29 +656,29 @@ class Session:
 
     def indent(self, movement: Movement, amount: int, n: int = 1, c: str = "\0") -> bool:
         """Inserts `amount` spaces, at most 255, at the start of each line that a movement covers."""
-        return self._do("indent", movement, n, ord(c), amount, _IndentDirection.INDENT) == Answer.TRUE
+        return self._do("indent", movement, n, ord(c), amount, _IndentDirection.INDENT) == _TRUE
 
     def dedent(self, movement: Movement, amount: int, n: int = 1, c: str = "\0") -> bool:
         """Deletes up to `amount` bytes of blanks, at most 255, at the start of each line that a movement covers."""
-        return self._do("indent", movement, n, ord(c), amount, _IndentDirection.DEDENT) == Answer.TRUE
+        return self._do("indent", movement, n, ord(c), amount, _IndentDirection.DEDENT) == _TRUE
 
     def begin(self) -> int:
         """Begins an undo group: once closed, one undo takes it back. Answers the number of entries before it."""
         mark = _SIZE()
-        self._do("begin", mark)
+        self._do("begin", written=(mark,))
         return mark.value
 
     def end(self) -> bool:
         """Closes all open groups. False where they have no change, or none is open."""
-        return self._do("end") == Answer.TRUE
+        return self._do("end") == _TRUE
 
     def undo(self, n: int = 1) -> bool:
         """Undoes the last n changes and groups. False where there was no change."""
-        return self._do("undo", n) == Answer.TRUE
+        return self._do("undo", n) == _TRUE
 
     def redo(self) -> bool:
         """Redoes what was undone last, one change or group. False where there is none."""
-        return self._do("redo") == Answer.TRUE
+        return self._do("redo") == _TRUE
 
     def truncate(self, entries: int) -> None:
         """Keeps the first `entries` entries of the record, and forgets the others and what was undone.
@@ -543,7 +693,7 @@ class Session:
         This is a command: a kill after it begins a new text of the ring.
         """
         line, column = _SIZE(), _U16()
-        self._do("line_place", line, column)
+        self._do("line_place", written=(line, column))
         return line.value, column.value
 
     def changed(self) -> Optional[Splice]:
@@ -553,8 +703,8 @@ class Session:
         so whatever changed the text, also an undo, a redo, and a command that was refused halfway.
         """
         start, old_end, new_end = _SIZE(), _SIZE(), _SIZE()
-        answer = _call("changed", self._at, start, old_end, new_end)
-        return Splice(start.value, old_end.value, new_end.value) if answer == Answer.DONE else None
+        answer = _call("changed", self._handle, (), (start, old_end, new_end))
+        return Splice(start.value, old_end.value, new_end.value) if answer == _DONE else None
 
     def watch(self, reports: int = 64, text_bytes: int = 65536) -> None:
         """Keeps a report of each change from now on, for `changes` to hand out.
@@ -564,10 +714,10 @@ class Session:
         Raises ValueError where `reports` is 0, IsWatched where the session has a queue already, NoMemory.
         """
         try:
-            answer = _call("watch", self._at, reports, text_bytes)
+            answer = _call("watch", self._handle, (reports, text_bytes))
         except NoSuchNumber:
             raise ValueError("a queue needs room for a report") from None
-        if answer == Answer.FALSE:
+        if answer == _FALSE:
             raise IsWatched(f"watch: {IsWatched.__doc__}")
         self._text_bytes = text_bytes
 
@@ -577,17 +727,18 @@ class Session:
         Whoever applies them in order to the text that he had has the text of the session. One that is FOLDED comes
         alone, and what came by it is in the present text: apply it before the next command.
         """
+        self._see_open()
         return iter(self._next_report, None)
 
     def _next_report(self) -> Optional[Report]:
         """Takes the oldest report that waits, in a larger buffer where its texts do not fit. None where none waits."""
         kind, numbers = _U32(), [_SIZE() for _ in range(5)]
-        answer = _call("next_report", self._at, kind, *numbers, self._out, len(self._out))
-        if answer == Answer.NONE:
+        answer = _call("next_report", self._handle, (), (kind, *numbers, self._out, len(self._out)))
+        if answer == _NONE:
             return None
         at, old_len, new_len, pos_before, pos_after = (it.value for it in numbers)
         end = old_len + new_len
-        if answer == Answer.TOO_SMALL:
+        if answer == _TOO_SMALL:
             self._out = ctypes.create_string_buffer(end)
             return self._next_report()
         has_texts = self._text_bytes and kind.value != ReportKind.FOLDED
@@ -603,10 +754,12 @@ class Session:
         It may do commands. What it raises comes out of the command, which is done; what waits then is told after the
         next command.
         """
+        self._see_open()
         return self._on_change
 
     @on_change.setter
     def on_change(self, call: Optional[Callable[[Report], object]]) -> None:
+        self._see_open()
         if call is not None and self._text_bytes is None:
             self.watch()
         self._on_change = call
@@ -614,46 +767,73 @@ class Session:
     @property
     def text(self) -> str:
         """The text."""
-        room = _library.lodvarn_text(self._at, None, 0)
-        out = ctypes.create_string_buffer(room)
-        _library.lodvarn_text(self._at, out, room)
-        return out.raw[:room].decode()
+        return self._whole().decode()
+
+    @property
+    def before(self) -> str:
+        """The text before the cursor."""
+        return self._head(self.pos).decode()
+
+    @property
+    def after(self) -> str:
+        """The text after the cursor."""
+        return self._whole()[self.pos :].decode()
 
     @property
     def pos(self) -> int:
-        """The place of the cursor, in bytes."""
-        return _library.lodvarn_pos(self._at)
+        """The place of the cursor, in bytes. Setting it moves the cursor, as set_pos does. Raises BadPlace."""
+        self._see_open()
+        return _pos(self._at)
+
+    @pos.setter
+    def pos(self, pos: int) -> None:
+        self.set_pos(pos)
+
+    @property
+    def index(self) -> int:
+        """The place of the cursor, in characters: session.text[: session.index] is session.before.
+
+        Setting it moves the cursor. It counts from the start alone: raises BadPlace below 0 and past the end.
+        """
+        return len(self.before)
+
+    @index.setter
+    def index(self, index: int) -> None:
+        text = self.text
+        if not 0 <= operator.index(index) <= len(text):
+            raise BadPlace(f"index: {index} is not from 0 to {len(text)}")
+        self.set_pos(len(_utf8(text[:index])))
 
     @property
     def line_number(self) -> int:
         """The number of the cursor's line, from 0."""
-        return _library.lodvarn_line_number(self._at)
+        return self._size(_library.lodvarn_line_number)
 
     @property
     def line_count(self) -> int:
         """How many lines the text has."""
-        return _library.lodvarn_line_count(self._at)
+        return self._size(_library.lodvarn_line_count)
 
     def line_range(self, line: int) -> Optional[tuple[int, int]]:
         """The places where a line begins and ends, before its newline, or None where there is no such line."""
         start, end = _SIZE(), _SIZE()
-        answer = _call("line_range", self._at, line, start, end)
-        return (start.value, end.value) if answer == Answer.DONE else None
+        answer = _call("line_range", self._handle, (line,), (start, end))
+        return (start.value, end.value) if answer == _DONE else None
 
     @property
     def limit(self) -> int:
         """How many bytes the text may have."""
-        return _library.lodvarn_limit(self._at)
+        return self._size(_library.lodvarn_limit)
 
     @property
     def entries(self) -> int:
         """How many entries the record has."""
-        return _library.lodvarn_entries(self._at)
+        return self._size(_library.lodvarn_entries)
 
     @property
     def last_was_yank(self) -> bool:
         """Whether the last command was a yank or yank_pop and did not answer None. A yank with n = 0 counts."""
-        return _call("last_was_yank", self._at) == Answer.TRUE
+        return _call("last_was_yank", self._handle, ()) == _TRUE
 
 
 def run_script(script: bytes) -> bytes:
@@ -663,28 +843,28 @@ def run_script(script: bytes) -> bytes:
     while room < length.value:
         room = length.value
         out = ctypes.create_string_buffer(room)
-        _call("script", script, out, room, length)
+        _call("script", (), (script, len(script)), (out, room, length))
     return out.raw[: length.value]
 
 
 def width(text: str, mode: Mode = Mode.UNICODE) -> int:
     """The number of columns that a text takes, at most 65535."""
-    columns = _U16()
-    _call("width", text.encode(), mode, columns)
+    columns, given = _U16(), _utf8(text)
+    _call("width", (), (given, len(given), mode), (columns,))
     return columns.value
 
 
 def first_cluster(text: str) -> str:
     """The first grapheme cluster of a text, empty where the text is empty."""
-    length, given = _SIZE(), text.encode()
-    _call("first_cluster", given, length)
+    length, given = _SIZE(), _utf8(text)
+    _call("first_cluster", (), (given, len(given)), (length,))
     return given[: length.value].decode()
 
 
 def last_cluster(text: str) -> str:
     """The last grapheme cluster of a text, empty where the text is empty."""
-    length, given = _SIZE(), text.encode()
-    _call("last_cluster", given, length)
+    length, given = _SIZE(), _utf8(text)
+    _call("last_cluster", (), (given, len(given)), (length,))
     return given[len(given) - length.value :].decode()
 
 
@@ -693,6 +873,6 @@ def cell(text: str, place: int, prompt: int, columns: int, mode: Mode = Mode.UNI
 
     The text begins at the column `prompt` of row 0. Raises BadPlace, and NoSuchNumber where `columns` is 0.
     """
-    row, column = _SIZE(), _SIZE()
-    _call("cell", text.encode(), place, prompt, columns, mode, row, column)
+    row, column, given = _SIZE(), _SIZE(), _utf8(text)
+    _call("cell", (), (given, len(given), place, prompt, columns, mode), (row, column))
     return row.value, column.value
