@@ -172,7 +172,11 @@ fn a_session_begins_anew(rt: HostRuntime) -> Result<(), Fail> {
     let s = &mut session;
     let _ = s.apply(&Command::Kill(Movement::BackwardWord(1, Word::Emacs)));
     let _ = s.changed();
-    is_so(&rt, s.restart("é", 1) == Err(Fault::BadPlace), "no boundary");
+    is_so(
+        &rt,
+        s.restart("é", 1) == Err(Fault::BadPlace),
+        "no boundary",
+    );
     is_so(&rt, s.line().as_str() == "one ", "the text stays");
     is_so(&rt, s.restart("né", 1).is_ok(), "another text");
     is_so(
