@@ -80,7 +80,7 @@ static uint32_t run_command(void) {
     uint16_t n = ONE_OF(counts);
     uint32_t c = ONE_OF(chars), movement = below(LODVARN_END_OF_BUFFER + 1);
     switch (len > LONG ? 0 : below(36)) {
-    case 0: return (below(4) ? lodvarn_update : lodvarn_restart)(&s, text, strlen(text), strlen(text));
+    case 0: return (below(32) ? lodvarn_update : lodvarn_restart)(&s, text, strlen(text), strlen(text));
     case 1: return lodvarn_replace(&s, from, to, text, strlen(text));
     case 2: case 3: return lodvarn_insert_str(&s, from, text, strlen(text));
     case 4: return lodvarn_delete_range(&s, from, to);
@@ -149,7 +149,7 @@ static void run(size_t reports, size_t text_bytes, unsigned one_of) {
 }
 
 int main(int argc, char **argv) {
-    static const struct { size_t reports, text_bytes; } queues[] = {{1, 64}, {4, 256}, {1000, ROOM}};
+    static const struct { size_t reports, text_bytes; } queues[] = {{1, 64}, {4, 256}, {1000, 2048}};
     begin_chance(strtoull(argc > 1 ? argv[1] : "7", NULL, 10));
     for (size_t i = 0; i < 3; i++) {
         run(queues[i].reports, queues[i].text_bytes, 0);
