@@ -255,7 +255,7 @@ CASES += [
 
 # What the bell tells.
 RINGING = [
-    ("a paste that is too long", ["ab", Paste("x" * (LIMIT - 1))], ["> ab"], (0, 4)),
+    ("a paste that is too long", ["ab", Paste("x" * (LIMIT - 1)), "c"], ["> abc"], (0, 5)),
     ("by far", ["ab", keys("Left"), Paste("x" * (2 * LIMIT)), "c"], ["> acb"], (0, 4)),
     ("a letter too many", [Paste("x" * LIMIT), "y", keys("C-a")], ["> " + "x" * 58] + ["x" * 60] * 19, (0, 2)),
     ("a yank of nothing", [keys("C-y"), "a"], ["> a"], (0, 3)),

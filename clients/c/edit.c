@@ -36,16 +36,14 @@ struct editor {
     struct termios before; /* the terminal's modes outside of the editor */
     sigset_t unblocked;    /* the signals that are blocked while the editor waits */
     int is_raw, is_over, rings;
-    char *text; /* the text as it was read last: what is shown, while the editor waits */
+    char *text; /* as it was drawn last */
     size_t len, size;
     struct view shown;  /* of no height where nothing is shown */
-    struct spot cursor; /* the terminal's cursor */
+    struct spot cursor; /* the terminal's, in rows of the text */
     unsigned char input[4096];
     size_t input_len, input_at;
     char pasted[LIMIT], output[65536];
 };
-
-/* The terminal's modes. */
 
 /* Moves the terminal's cursor to a cell. Only relative moves lead to its row, since what was there before the editor
  * began stands above. */
@@ -60,6 +58,8 @@ static void forget_screen(struct editor *e) {
     e->shown = (struct view){0, 0, 0, 0, 0};
     e->cursor = (struct spot){0, 0, 0};
 }
+
+/* The terminal's modes. */
 
 /* Lets each byte come as it is typed, and a paste between marks. */
 static void enter_raw(struct editor *e) {
@@ -90,7 +90,7 @@ static void end_without_memory(struct editor *e) {
     exit(1);
 }
 
-/* What signals said: which one ends the editor, or 0, and whether it goes on after it was stopped. A change of the
+/* What the signals said: which one ends the editor, or 0, and whether it goes on after it was stopped. A change of the
  * screen's size says nothing here, and only ends the wait. */
 static volatile sig_atomic_t ended_by, goes_on;
 
@@ -109,17 +109,6 @@ static void hear_signals(struct editor *e) {
         signal(heard[i], note);
     }
     sigprocmask(SIG_BLOCK, &blocked, &e->unblocked);
-}
-
-/* Stops the job as the terminal's own C-z does, until it is continued. */
-static void stop(struct editor *e, uint32_t stopping) {
-    sigset_t blocked;
-    leave_raw(e);
-    sigprocmask(SIG_SETMASK, &e->unblocked, &blocked);
-    kill(0, (int)stopping);
-    sigprocmask(SIG_SETMASK, &blocked, NULL);
-    goes_on = 0;
-    if (!ended_by) enter_raw(e);
 }
 
 /* The drawing. */
@@ -229,8 +218,8 @@ static struct view view_of(struct editor *e, struct winsize size, struct spot *c
     return (struct view){top, bottom, last, size.ws_col, size.ws_row};
 }
 
-/* How many rows lower the terminal's cursor is once the shown rows are wrapped at that many columns. Each row ends with
- * a line of its own, so a wider terminal joins none, and a narrower one wraps those that no longer fit. */
+/* How many rows lower the cursor is once the terminal has got narrower. Most terminals then wrap each row that no longer
+ * fits. A wider one joins none, since each row was begun by a newline. */
 static size_t rows_wrapped(const struct editor *e, uint16_t columns) {
     struct spot at = {0, 0, prompt_columns};
     size_t wrapped = 0, column = prompt_columns;
@@ -265,6 +254,7 @@ static void redraw(struct editor *e) {
     if (view.top != e->shown.top || view.columns != e->shown.columns || view.height != e->shown.height) {
         e->cursor.row = e->cursor.row - e->shown.top + view.top;
         go_to(e, view.top, 0);
+        /* Erases the first row, and then what is below it, for the reason in draw. */
         fputs("\x1b[K\x1b" "7\x1b[B\x1b[J\x1b" "8", stdout);
         draw(e, (struct spot){0, 0, 0}, e->len, &view);
     } else if (has_changed) {
@@ -414,6 +404,18 @@ static void clear_screen(struct editor *e, uint32_t unused) {
     (void)unused;
     fputs("\x1b[H", stdout);
     forget_screen(e);
+}
+
+/* Stops the job as the terminal's own C-z does, until it is continued. */
+static void stop(struct editor *e, uint32_t stopping) {
+    sigset_t blocked;
+    redraw(e);
+    leave_raw(e);
+    sigprocmask(SIG_SETMASK, &e->unblocked, &blocked);
+    kill(0, (int)stopping);
+    sigprocmask(SIG_SETMASK, &blocked, NULL);
+    goes_on = 0;
+    if (!ended_by) enter_raw(e);
 }
 
 /* Shows the text up to its end, prints it where it is accepted, and begins the next one. The session stays, and so does
