@@ -1,5 +1,5 @@
 /* A line editor for a terminal over Lodvarn: the Emacs keys of GNU readline, UTF-8, several rows. Each accepted text
- * is printed as "=> text". C-d on an empty text ends the editor. */
+ * is printed as "=> text". C-d on an empty text ends the editor, C-c drops the text, and C-z stops the job. */
 #define _DEFAULT_SOURCE
 #include "lodvarn.h"
 #include <errno.h>
@@ -272,7 +272,6 @@ static void redraw(struct editor *e) {
 
 /* The input. All that waits is read at once and drawn once: the editor draws only where it has to wait for a byte. */
 
-/* The next byte, END at the end of input, or LATE where none comes in time. */
 enum { END = -1, LATE = -2, FOR_EVER = -1 };
 
 /* Waits for input, that many milliseconds or for ever, and hears the signals that are not in the mask. Answers above 0
@@ -286,6 +285,7 @@ static int await_input(int milliseconds, const sigset_t *mask) {
     return ready < 0 && errno != EINTR ? 1 : ready;
 }
 
+/* The next byte, END at the end of input or of the editor, or LATE where none comes in time. */
 static int next_byte(struct editor *e, int milliseconds) {
     if (e->input_at == e->input_len) {
         int ready = await_input(0, NULL);
