@@ -257,7 +257,7 @@ CASES += [
 RINGING = [
     ("a paste that is too long", ["ab", Paste("x" * (LIMIT - 1)), "c"], ["> abc"], (0, 5)),
     ("by far", ["ab", keys("Left"), Paste("x" * (2 * LIMIT)), "c"], ["> acb"], (0, 4)),
-    ("a letter too many", [Paste("x" * LIMIT), "y", keys("C-a")], ["> " + "x" * 58] + ["x" * 60] * 19, (0, 2)),
+    ("a letter too many", [Paste("x" * LIMIT), "y", keys("Left")], ["x" * 60] * 19 + ["x" * 18], (19, 17)),
     ("a yank of nothing", [keys("C-y"), "a"], ["> a"], (0, 3)),
 ]
 
