@@ -3,13 +3,14 @@
 
     python3 clients/terminal.py [PROGRAM]
 
-Tests too how many bytes the editor writes for a key, that it leaves nothing in the scrollback, that random keys lead to
-the screen that is drawn anew, and that docs/lodvarn.svg is what docs/picture.py makes. Its last line is 'N passed, M
-failed'.
+Tests too how soon a paste of 10 KB is shown, how many bytes the editor writes for a key, that it leaves nothing in the
+scrollback, what it leaves to a shell where it is stopped or ended, that random keys lead to the screen that is drawn
+anew, and that docs/lodvarn.svg is what docs/picture.py makes. Its last line is 'N passed, M failed'.
 """
 
 import os
 import random
+import signal
 import subprocess
 import sys
 import tempfile
@@ -21,32 +22,51 @@ HERE = Path(__file__).resolve().parent
 PROGRAM = HERE / "out/edit"
 DOCS = HERE.parent / "docs"
 COLUMNS, ROWS = 60, 20
-# How long a screen may take to show, and a paste of 10 KB, in seconds. The editor waits less than PAUSE for the rest of
-# a key.
-PATIENCE, PASTED, PAUSE = 10, 2, 0.5
+# The bytes that a text of the editor may have.
+LIMIT = 65536
+# How long a screen may take to show, and a paste of 10 KB, in seconds, and how often a paste may be tried, since others
+# use the machine. The editor waits less than PAUSE for the rest of a key.
+PATIENCE, SOON, TRIES, PAUSE = 10, 0.2, 3, 0.5
 FAMILY = "\U0001f468\u200d\U0001f469\u200d\U0001f467"
-# What is sent is a text, bytes, a list of keys by tmux's names, a size for the terminal, or this.
+# What is sent is a text, bytes, a list of keys by tmux's names, a paste, a signal, a size for the terminal, or this.
 PAUSED = object()
+
+
+class Paste(str):
+    """A text that the terminal puts between marks, where the program asked for these."""
 
 
 def keys(names):
     return names.split()
 
 
-class Terminal:
-    """A terminal of its own, on a socket in a folder of its own, in which the editor runs."""
+def screen_of(shown):
+    """The last rows of a text whose characters take one column each."""
+    return [shown[at : at + COLUMNS].rstrip() for at in range(0, len(shown), COLUMNS)][-ROWS:]
 
-    def __init__(self, program, columns=COLUMNS, rows=ROWS):
+
+# What runs in a terminal, in a folder where ./edit is the editor: it alone, or a shell.
+EDITOR, SHELL = "./edit; echo ended $?; exec cat", "PS1='$ ' ENV= exec sh -i"
+
+
+class Terminal:
+    """A terminal of its own, on a socket in a folder of its own."""
+
+    def __init__(self, program, columns, rows, command):
         self.folder = tempfile.TemporaryDirectory(prefix="lodvarn-")
+        self.path = Path(self.folder.name)
         environment = {**os.environ, "LC_ALL": "C.UTF-8"}
         environment.pop("TMUX", None)
         self.environment = environment
+        editor = self.path / "edit"
+        editor.write_text(f"#!/bin/sh\necho $$ > pid\nexec '{program}'\n")
+        editor.chmod(0o755)
         size = ["-x", str(columns), "-y", str(rows)]
-        self.tmux("new-session", "-d", *size, "-s", "edit", f"'{program}'; echo ended $?; exec cat")
+        self.tmux("new-session", "-d", *size, "-s", "edit", "-c", str(self.path), command)
 
     def tmux(self, *words):
         ran = subprocess.run(
-            ["tmux", "-u", "-S", f"{self.folder.name}/socket", "-f", "/dev/null", *words],
+            ["tmux", "-u", "-S", str(self.path / "socket"), "-f", "/dev/null", *words],
             env=self.environment,
             capture_output=True,
             text=True,
@@ -59,6 +79,12 @@ class Terminal:
     def send(self, given):
         if given is PAUSED:
             time.sleep(PAUSE)
+        elif isinstance(given, Paste):
+            (self.path / "pasted").write_text(given)
+            self.tmux("load-buffer", str(self.path / "pasted"))
+            self.tmux("paste-buffer", "-p", "-t", "edit")
+        elif isinstance(given, signal.Signals):
+            os.kill(int((self.path / "pid").read_text()), given)
         elif isinstance(given, tuple):
             self.tmux("resize-window", "-t", "edit", "-x", str(given[0]), "-y", str(given[1]))
         elif isinstance(given, bytes):
@@ -80,9 +106,13 @@ class Terminal:
         """How many rows the terminal keeps above its screen."""
         return int(self.tmux("display", "-p", "-t", "edit", "#{history_size}"))
 
+    def rang(self):
+        """Whether the bell rang."""
+        return self.tmux("display", "-p", "-t", "edit", "#{window_bell_flag}").strip() == "1"
+
     def begin_count(self):
         """From now on counts the bytes that the editor writes."""
-        self.written = Path(self.folder.name) / "written"
+        self.written = self.path / "written"
         self.written.touch()
         self.tmux("pipe-pane", "-t", "edit", f"exec cat >> '{self.written}'")
 
@@ -114,11 +144,11 @@ def await_that(look, is_wanted, patience=PATIENCE):
 
 
 @contextmanager
-def editing(program, columns=COLUMNS, rows=ROWS):
-    """A terminal in which the editor shows its prompt."""
-    terminal = Terminal(program, columns, rows)
+def editing(program, columns=COLUMNS, rows=ROWS, command=EDITOR):
+    """A terminal in which the editor, or a shell, shows its prompt."""
+    terminal = Terminal(program, columns, rows, command)
     try:
-        await_that(terminal.screen, lambda seen: seen == ([">"], (0, 2)))
+        await_that(terminal.screen, lambda seen: seen[1] == (0, 2))
         yield terminal
     finally:
         terminal.close()
@@ -202,18 +232,51 @@ CASES = [
     ("what comes before a key of two parts", ["ab", keys("C-x")], ["> ab"], (0, 4)),
 ]
 
-# The same for pastes of 10 KB, which must appear soon, and how many rows scroll away above the screen: of many texts each
-# has a row, and so has what is told of it.
-PASTES = [
-    ("a paste of letters", ["f" * 10000 + "z"], ["f" * 60] * 19 + ["f" * 42 + "z"], (19, 43), 0),
-    ("of wide characters", ["日" * 3400 + "z"], ["日" * 30] * 19 + ["日" * 11 + "z"], (19, 23), 0),
+# Pastes. The marks around them are sent by the terminal, or as bytes.
+CASES += [
+    ("a paste is text", [Paste("a\tb\n日 c"), "d"], ["> a b", "日 cd"], (1, 5)),
+    ("between others", ["xy", keys("Left"), Paste("ab"), "z"], ["> xabzy"], (0, 6)),
+    ("which one undo takes back", ["ab", Paste("one two\nthree"), keys("C-_")], ["> ab"], (0, 4)),
+    ("and a redo brings", ["ab", Paste("one two\nthree"), keys("C-_ M-_")], ["> abone two", "three"], (1, 5)),
+    ("newlines of all kinds", [b"\x1b[200~a\rb\nc\r\nd\n\re\x1b[201~"], ["> a", "b", "c", "d", "", "e"], (5, 1)),
     (
-        "of many texts",
-        [("h" * 48 + "\r") * 200 + "i\r"],
-        ["=> " + "h" * 48, "> " + "h" * 48] * 8 + ["=> " + "h" * 48, "> i", "=> i", ">"],
-        (19, 2),
-        2 * 201 + 1 - ROWS,
+        "no control characters",
+        [b"\x1b[200~a\x1b[Db\x01\x03c\x7f\x04\x1a\xc2\x9b\x00d\x1b\x1b[201~"],
+        ["> a[Dbcd"],
+        (0, 8),
     ),
+    ("no bytes that are no text", [b"\x1b[200~a\xff\xc3b\xed\xa0\x80\xc0\x80\xe2\x1b[201~c"], ["> abc"], (0, 5)),
+    ("an end in two reads", [b"\x1b[200~ab\x1b[20", PAUSED, b"1~", keys("C-a"), "c"], ["> cab"], (0, 3)),
+    ("a letter in two reads", [b"\x1b[200~\xe6\x97", PAUSED, b"\xa5\x1b[201~"], ["> 日"], (0, 4)),
+    ("a part of an end", [b"\x1b[200~a\x1b[20\x1b[201\x1b[201~b"], ["> a[20[201b"], (0, 11)),
+    ("an end alone", ["a", b"\x1b[201~", "b"], ["> ab"], (0, 4)),
+    ("as much as fits", ["ab", Paste("x" * (LIMIT - 2))], ["x" * 60] * 19 + ["x" * 18], (19, 18)),
+]
+
+# What the bell tells.
+RINGING = [
+    ("a paste that is too long", ["ab", Paste("x" * (LIMIT - 1)), "c"], ["> abc"], (0, 5)),
+    ("by far", ["ab", keys("Left"), Paste("x" * (2 * LIMIT)), "c"], ["> acb"], (0, 4)),
+    ("a letter too many", [Paste("x" * LIMIT), "y", keys("Left")], ["x" * 60] * 19 + ["x" * 18], (19, 17)),
+    ("a yank of nothing", [keys("C-y"), "a"], ["> a"], (0, 3)),
+]
+
+# The end of the editor, and of its texts.
+CASES += [
+    ("a text is dropped", ["ab", keys("M-Enter"), "cd", keys("Up C-c"), "e"], ["> ab", "cd^C", "> e"], (2, 3)),
+    ("and no undo brings it back", ["ab", keys("C-c C-_ C-_")], ["> ab^C", ">"], (1, 2)),
+    ("a stop where no shell is", ["ab", keys("M-Enter"), keys("Up C-z"), "x"], ["> ab", "", "> xab"], (2, 3)),
+]
+
+ARABIC = "مرحبا بالعالم " * 385 + "z"
+# Texts of 10 KB, which must appear soon, typed and pasted.
+SCRIPTS = [
+    ("letters", "f" * 10000 + "z", ["f" * 60] * 19 + ["f" * 42 + "z"], (19, 43)),
+    ("wide characters", "日" * 3400 + "z", ["日" * 30] * 19 + ["日" * 11 + "z"], (19, 23)),
+    ("Arabic", ARABIC, screen_of("> " + ARABIC), (19, 53)),
+    ("families of emoji", FAMILY * 560 + "z", None, (18, 43)),
+    ("marks", "e\u0301" * 3400 + "z", ["e\u0301" * 60] * 19 + ["e\u0301" * 42 + "z"], (19, 43)),
+    ("a letter with many marks", "e" + "\u0301" * 5000 + "z", None, (0, 4)),
 ]
 
 # The most bytes that it takes to move the cursor to a row and a column, to erase, and to begin a row after one that is
@@ -236,6 +299,10 @@ COUNTED = [
         ("a motion", keys("Left"), 0, [A, B, C], (1, 19)),
         ("a motion to another row", keys("Up"), 0, [A, B, C], (0, 21)),
         ("and back to the end of the row", keys("Down C-e"), 0, [A, B, C], (1, 40)),
+        ("a burst of letters", "y" * 10, AGAIN + 10, [A, B + "y" * 10, C], (1, 50)),
+        ("its undo", keys("C-_"), AGAIN, [A, B, C], (1, 40)),
+        ("a paste", Paste("y z" * 5), AGAIN + 15, [A, B + "y z" * 5, C], (1, 55)),
+        ("its undo", keys("C-_"), AGAIN, [A, B, C], (1, 40)),
         ("a kill that leaves as many rows", keys("C-k"), AGAIN + 20 + WRAP + 20, [A, B + SHORT_C, SHORT_C], (1, 40)),
     ]),
     (WRAPPED, [WRAPPED_A, "b" * 60, "c" * 60], (1, 30), [
@@ -273,13 +340,67 @@ CASES += [
     ("a cleared screen", [*LINES, keys("C-l")], [A, B, C], (1, 20)),
     (
         "a wider terminal",
-        [*WRAPPED, (80, ROWS), PAUSED, "x"],
-        [WRAPPED_A + "b" * 20, "b" * 10 + "x" + "b" * 30 + "c" * 39, "c" * 21],
-        (1, 11),
+        [*WRAPPED, (80, ROWS)],
+        [WRAPPED_A + "b" * 20, "b" * 40 + "c" * 40, "c" * 20],
+        (1, 10),
     ),
-    ("a narrower one", [*LINES, (50, ROWS), PAUSED, "x"], [A, "b" * 20 + "x" + "b" * 20, C], (1, 21)),
-    ("a lower one", ["ab", (COLUMNS, 2), PAUSED, "x"], ["> abx"], (0, 5)),
+    ("a narrower one", [*LINES, (50, ROWS), PAUSED], [A, B, C], (1, 20)),
+    ("a lower one", [*LINES, (COLUMNS, 2), PAUSED], [A, B], (1, 20)),
+    ("and a higher one", [*LINES, (COLUMNS, 2), PAUSED, (COLUMNS, ROWS)], [A, B, C], (1, 20)),
 ]
+
+# Screens with rows above them. A narrower terminal wraps each row that no longer fits, and its first rows go to the
+# scrollback. 18 rows of texts are before the four that are edited, three of which are wrapped once, so 5 of the 25 are
+# there.
+MANY, OTHERS, H = "x\r" * 9, ["=> x"] + ["> x", "=> x"] * 6, "h" * 48
+NARROW = [MANY, *WRAPPED, (40, ROWS), PAUSED]
+SCROLLED = [
+    ("many texts", [(H + "\r") * 200 + "i\r"], [f"=> {H}", f"> {H}"] * 8 + [f"=> {H}", "> i", "=> i", ">"], (19, 2)),
+    (
+        "a narrower terminal",
+        NARROW,
+        [*OTHERS, "> " + "a" * 38, "a" * 20 + "b" * 20, "b" * 40, "c" * 40, "c" * 20],
+        (15, 10),
+    ),
+    (
+        "and a wider one",
+        [*NARROW, (80, ROWS)],
+        [*OTHERS, WRAPPED_A + "b" * 20, "b" * 40 + "c" * 40, "c" * 20],
+        (14, 10),
+    ),
+    (
+        "and a narrower one again",
+        [*NARROW, (80, ROWS), PAUSED, (30, ROWS)],
+        [*OTHERS[4:], "> " + "a" * 28, "a" * 30, *["b" * 30] * 2, *["c" * 30] * 2],
+        (12, 0),
+    ),
+    (
+        "wide characters in a narrower one",
+        [MANY, "日" * 89, keys("Left " * 46), (31, ROWS)],
+        [*OTHERS, "> " + "日" * 14, *["日" * 15] * 5],
+        (15, 28),
+    ),
+]
+
+# What a shell shows: what is sent to it, and the last rows that this leads to; where a row is None, shells differ.
+MODES = "stty -g | cmp - before && echo same"
+SHELL_STEPS = [
+    ("the modes before", ["stty -g > before\r"], ["$ stty -g > before", "$"]),
+    ("the editor", ["./edit\r"], ["$ ./edit", ">"]),
+    ("is stopped", ["ab", keys("M-Enter"), "cd", keys("Up C-z")], ["$ ./edit", "> ab", "cd", None, "$"]),
+    ("with the modes before", [f"{MODES}\r"], [f"$ {MODES}", "same", "$"]),
+    ("and no marks around a paste", [Paste("echo " + "y" * 60 + "\n")], ["$ echo " + "y" * 53, "y" * 7, "y" * 60, "$"]),
+    ("and goes on", ["fg\r"], ["$ fg", "./edit", "> ab", "cd"]),
+    ("with its modes", ["x", Paste("y\tz"), keys("C-a"), "w"], ["$ fg", "./edit", "> wabxy z", "cd"]),
+    ("and ends by a signal", [signal.SIGTERM], ["> wabxy z", "cd", "Terminated", "$"]),
+    ("which the shell knows", ["echo $?\r"], ["$ echo $?", "143", "$"]),
+    ("with the modes before", [f"{MODES}\r"], [f"$ {MODES}", "same", "$"]),
+    ("and no marks around a paste", [Paste("echo z\n")], ["$ echo z", "z", "$"]),
+    ("the editor once more", ["./edit\r"], ["$ ./edit", ">"]),
+    ("ends by its key", [keys("C-d")], [">", "$"]),
+    ("with the modes before", [f"{MODES}\r"], [f"$ {MODES}", "same", "$"]),
+]
+
 # Random keys: how many times, how many each time, which, and a small screen for them, so that rows wrap and scroll.
 TIMES, KEYS, SEED, SMALL = 30, 8, 7, (24, 6)
 RANDOM = [
@@ -290,17 +411,49 @@ RANDOM = [
 ]
 
 
-def run_case(program, what, given, rows, cursor, above=0, patience=PATIENCE):
-    """Whether the keys lead to that screen in time, with so many rows above it."""
+def run_case(program, what, given, rows, cursor, rings=False, scrolls=False):
+    """Whether the keys lead to that screen, with nothing above it unless it scrolls, and to the bell where it rings."""
     with editing(program) as terminal:
         for one in [*given, *([] if rows else [PAUSED])]:
             terminal.send(one)
-        seen = await_that(terminal.screen, lambda seen: (rows or seen[0], cursor) == seen, patience)
-        kept = terminal.scrollback()
-        if (rows or seen[0], cursor) == seen and kept == above:
+        seen = await_that(terminal.screen, lambda seen: (rows or seen[0], cursor) == seen)
+        above, rang = terminal.scrollback(), terminal.rang()
+        if (rows or seen[0], cursor) == seen and (above == 0 or scrolls) and rang == rings:
             return True
-        print(f"FAILED: {what}, {kept} rows above the screen, not {above}\n  wanted {rows} {cursor}\n  saw {seen}")
+        print(f"FAILED: {what}, {above} rows above the screen, {'the bell' if rang else 'no bell'}")
+        print(f"  wanted {rows} {cursor}\n  saw {seen}")
         return False
+
+
+def run_script(program, what, text, rows, cursor):
+    """Whether a text is shown soon, in one try of several."""
+    for _ in range(TRIES):
+        with editing(program) as terminal:
+            terminal.send(text)
+            seen = await_that(terminal.screen, lambda seen: (rows or seen[0], cursor) == seen, SOON)
+            if (rows or seen[0], cursor) == seen and terminal.scrollback() == 0:
+                return True
+    print(f"FAILED: {what}, {type(text).__name__}\n  wanted {rows} {cursor}\n  saw {seen}")
+    return False
+
+
+def run_shell(program):
+    """Whether a shell shows these rows, one step after the other."""
+    outcomes = []
+    with editing(program, command=SHELL) as terminal:
+        for what, given, wanted in SHELL_STEPS:
+            for one in given:
+                terminal.send(one)
+
+            def is_wanted(seen, wanted=wanted):
+                last = seen[0][-len(wanted) :]
+                return len(last) == len(wanted) and all(row in (None, saw) for row, saw in zip(wanted, last))
+
+            seen = await_that(terminal.screen, is_wanted)
+            outcomes.append(is_wanted(seen))
+            if not outcomes[-1]:
+                print(f"FAILED: in a shell, {what}\n  wanted {wanted}\n  saw {seen}")
+    return outcomes
 
 
 def run_counted(program, given, rows, cursor, keys_counted):
@@ -361,7 +514,11 @@ def run_picture(program):
 def main():
     program = Path(sys.argv[1]).resolve() if len(sys.argv) > 1 else PROGRAM
     outcomes = [run_case(program, *case) for case in CASES]
-    outcomes += [run_case(program, *case, patience=PASTED) for case in PASTES]
+    outcomes += [run_case(program, *case, rings=True) for case in RINGING]
+    outcomes += [run_case(program, *case, scrolls=True) for case in SCROLLED]
+    for what, text, *shown in SCRIPTS:
+        outcomes += [run_script(program, what, sent, *shown) for sent in (text, Paste(text))]
+    outcomes += run_shell(program)
     outcomes += [outcome for case in COUNTED for outcome in run_counted(program, *case)]
     outcomes.append(run_random(program))
     outcomes.append(run_picture(program))
