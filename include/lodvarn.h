@@ -54,7 +54,8 @@
  * It comes from malloc and realloc, and lodvarn_close frees all that a session has. A call asks for some only where its
  * comment names NO_MEMORY. lodvarn_open finds room for a text up to the limit, and lodvarn_watch for its whole queue.
  * All else is found by the call that needs it: an entry of the record, a text of the ring, a newline, a text longer
- * than the limit, and copies that it frees again. The record grows until lodvarn_truncate.
+ * than the limit, and copies that it frees again. The record grows until lodvarn_truncate
+ * or lodvarn_restart.
  *
  * What changed
  * A session tells what changes its text, whatever changed it: also an undo, a redo, and a command that was refused

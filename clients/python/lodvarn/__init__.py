@@ -56,7 +56,7 @@ __all__ = [
     "width",
 ]
 
-# That of clients/build.
+# That of include/lodvarn.h.
 __version__ = "0.1.0"
 
 
