@@ -1,0 +1,100 @@
+"""A calculator's prompt in a terminal: PYTHONPATH=clients/python python3 clients/python/examples/repl.py"""
+
+import codecs
+import os
+import re
+import select
+import signal
+import sys
+import termios
+import tty
+from typing import Callable, Dict, Iterator
+
+from arithmetic import LIMIT, evaluate
+from lodvarn import Movement, Session, cell, first_cluster, width
+
+PROMPT, SECONDS = "> ", 0.2  # The seconds are those to wait for the rest of a key.
+# A key is a character, or an escape with what belongs to it, which may be cut short. None is found where it may go on.
+KEY = re.compile(r"\x1b\[[ -?]*[@-~]|\x1bO[ -~]|\x1b[^\[O\0-\x1f]|\x1b(\[[ -?]*|O)?(?=[^ -~])|[^\x1b]")
+SAME = {f"M-[{end}": f"C-{c}" for end, c in zip("A B C D H 1~ F 4~".split(), "pnfbaaee")}  # Arrows, Home, End.
+KEYS: Dict[str, Callable[[Session], object]] = {
+    "C-a": lambda it: it.move(Movement.BEGINNING_OF_LINE), "C-e": lambda it: it.move(Movement.END_OF_LINE),
+    "C-b": lambda it: it.move(Movement.BACKWARD_CHAR), "C-f": lambda it: it.move(Movement.FORWARD_CHAR),
+    "M-b": lambda it: it.move(Movement.BACKWARD_EMACS_WORD), "C-k": lambda it: it.kill(Movement.END_OF_LINE),
+    "M-f": lambda it: it.move(Movement.FORWARD_EMACS_WORD_AFTER_END), "C-d": Session.delete, "\x7f": Session.backspace,
+    "M-d": lambda it: it.kill(Movement.FORWARD_EMACS_WORD_AFTER_END), "C-y": Session.yank, "M-y": Session.yank_pop,
+    "C-u": lambda it: it.kill(Movement.BEGINNING_OF_LINE), "C-w": lambda it: it.kill(Movement.BACKWARD_BIG_WORD),
+    "C-_": Session.undo, "M-_": Session.redo, "C-t": lambda it: (it.begin(), it.transpose_chars(), it.end()),
+}
+
+
+def draw(session: Session) -> None:
+    """Draws the row. Of a text that is too wide it shows a window, which slides by half of its columns."""
+    half = max(((os.get_terminal_size(1).columns or 80) - len(PROMPT)) // 2, 1)
+    text, column, (_, cursor) = session.text, 0, cell(session.text, session.pos, 0, 65535)
+    row, first = f"\r\x1b[K{PROMPT}", max(cursor // half - 1, 0) * half
+    while (cluster := first_cluster(text)) and column + width(cluster) <= first + 2 * half:
+        row += cluster if column >= first else ""
+        text, column = text[len(cluster) :], column + width(cluster)
+        if column > first and not cluster.isascii():  # Terminals differ in the widths of these.
+            row += f"\x1b[{len(PROMPT) + column - first + 1}G"
+    print(f"{row}\x1b[{len(PROMPT) + cursor - first + 1}G", end="", flush=True)
+
+
+def read_keys(session: Session) -> Iterator[str]:
+    """The names of the keys, up to the end of input. It draws where it has to wait, once for all that came together."""
+    decoder, keys, (woken, waking) = codecs.getincrementaldecoder("utf-8")("replace"), "", os.pipe2(os.O_NONBLOCK)
+    signal.set_wakeup_fd(waking)
+    signal.signal(signal.SIGWINCH, lambda *_: None)  # It ends the wait, as all signals do that are heard.
+    while True:
+        draw(session)
+        ready = select.select([0, woken], [], [], SECONDS if keys else None)[0]
+        came = os.read(ready[0], 4096) if ready else b""
+        if ready and not came:
+            return
+        keys = keys + decoder.decode(came) if 0 in ready else ""
+        while key := KEY.match(keys):
+            keys = keys[key.end() :]
+            name = key[0].replace("\x1bO", "\x1b[").replace("\x1b", "M-")
+            name = f"C-{chr(ord(name) | 64).lower()}" if name < " " or "\x7f" < name < "\xa0" else name
+            yield SAME.get(name, name)
+
+
+def edit(session: Session) -> None:
+    """Evaluates lines until the input ends. All are edited in one session, so what was killed can be yanked later."""
+    lines, at = [""], 0  # The lines of before and, last, the one that is typed now. The one that is shown is lines[at].
+    for key in read_keys(session):
+        text, step = session.text, {"C-p": -1, "C-n": 1}.get(key, 0)
+        if key == "C-d" and not text:
+            return
+        if key in ("C-m", "C-j", "C-c"):
+            draw(session)
+            answer = f"{evaluate(text)}\r\n" if key != "C-c" and text.strip() else ""
+            print(f"\r\n{answer}", end="")
+            lines[-1:], at = ([text, ""], len(lines)) if answer else ([""], len(lines) - 1)
+            session.restart()
+        elif step and 0 <= at + step < len(lines):
+            lines[at], at = text, at + step
+            session.restart(lines[at])  # After an update C-_ would put the other line in the place of this one.
+        elif (KEYS[key](session) if key in KEYS else session.insert(key) if len(key) == 1 else None) is None:
+            print("\a", end="")
+
+
+def main() -> None:
+    """Leaves the terminal with the modes that it had, however the editor ends."""
+    if not (os.isatty(0) and os.isatty(1)):
+        for line in open(0, encoding="utf-8", errors="replace"):
+            print(evaluate(line), flush=True)
+        return
+    signal.signal(signal.SIGTERM, lambda number, _: sys.exit(128 + number))  # So that `finally` is run.
+    modes = termios.tcgetattr(0)
+    try:
+        tty.setraw(0, termios.TCSADRAIN)
+        edit(Session(limit=LIMIT))
+    finally:
+        termios.tcsetattr(0, termios.TCSADRAIN, modes)
+        print()
+
+
+if __name__ == "__main__":
+    main()

@@ -1,0 +1,123 @@
+"""The prompt of examples/repl.py in a pseudo-terminal: keys go in, and the rows and the cursor's column are compared."""
+
+import os
+import pty
+import re
+import select
+import signal
+import subprocess
+import sys
+import termios
+import time
+import unicodedata
+from pathlib import Path
+
+HERE = Path(__file__).resolve().parent
+ENVIRONMENT = {**os.environ, "PYTHONPATH": str(HERE), "LC_ALL": "C.UTF-8"}
+PROGRAM, COLUMNS, PATIENCE = [sys.executable, HERE / "examples/repl.py"], 20, 10
+UP, DOWN, RIGHT, LEFT, HOME, END = (f"\x1b[{it}" for it in "ABCDHF")
+FAMILY, DIGITS = "\U0001f468\u200d\U0001f469\u200d\U0001f467", "1234567890" * 3
+UNKNOWN = "error: only numbers, + - * / // % ** and parentheses are known"
+LINES = b"1+2\n \n2**100\n1 # \xff\nTrue\n" + b"1+" * 500 + b"1\n"
+ANSWERS = f"3\n\n1267650600228229401496703205376\n1\n{UNKNOWN}\nerror: more than 1000 characters\n"
+# What is sent, each part by itself, and the rows and the cursor's column that this leads to. A number is one of columns.
+# Then where it is not C-c and C-d, what ends the prompt, and its status. None hangs up.
+CASES = [
+    (["2*(3+4)**2-7//2\r"], ["> 2*(3+4)**2-7//2", "95", ">"], 2),
+    (["1/0\r9**9**9\r"], ["> 1/0", "error: division by zero", "> 9**9**9", "error: math range error", ">"], 2),
+    (["True\r \r"], ["> True", UNKNOWN, ">", ">"], 2),
+    ([f"2{HOME}12\x02{LEFT}\x06+{END}4"], ["> 1+224"], 7),
+    (["10 20 30\x1bb\x1bb\x1bf5\x01" + RIGHT], ["> 10 205 30"], 3),
+    (["123\x7f\x02\x04"], ["> 1"], 3),
+    (["1+2\x01\x0b\x19\x19"], ["> 1+21+2"], 8),
+    (["10 20\x17\x01\x0b\x19\x1by"], ["> 20"], 4),
+    (["12 34\x01\x1bd\x05\x15\x19"], [">  34"], 5),
+    (["1+2\x1f"], ["> 1"], 3),
+    (["1+2\x1f\x1b_3"], ["> 1+23"], 6),
+    (["12\x02\x14\x1f"], ["> 12"], 3),
+    ([f"1\r2\r{UP}{UP}\x1f"], ["> 1", "1", "> 2", "2", "> 1"], 3),
+    ([f"1\r3{UP}0{DOWN}4"], ["> 1", "1", "> 34"], 4),
+    (["12\x153\r\x19"], ["> 3", "3", "> 12"], 4),
+    (["12\x033\r"], ["> 12", "> 3", "3", ">"], 2),
+    ([f"日本{LEFT}"], ["> 日本"], 4),
+    ([b"1\xe6\x97", b"\xa5"], ["> 1日"], 5),
+    ([f"x{FAMILY}y{LEFT}"], [f"> x{FAMILY}y"], 5),
+    ([DIGITS], ["> 901234567890"], 14),
+    ([DIGITS + "\x01"], ["> 123456789012345678"], 2),
+    (["日" * 12], [">  " + "日" * 7], 17),
+    ([DIGITS, 40], ["> " + DIGITS], 32),
+    (["1"], ["> 1"], 3, signal.SIGTERM, 143),
+    (["1"], ["> 1"], 3, None, 1),
+]
+
+
+def screen_of(written):
+    """The rows that were written, and the cursor's column. Of a character of two columns the second cell is empty."""
+    rows, column = [[]], 0
+    for number, order, c in re.findall(r"\x1b\[(\d*)(.)|((?:[^\x1b]\u200d)*[^\x1b])", written.decode(errors="ignore")):
+        if order == "K":
+            del rows[-1][column:]
+        elif order == "G" or c == "\r":
+            column = int(number or 1) - 1
+        elif c == "\n":
+            rows.append([])
+        elif c != "\a":
+            cells = [c, ""][: 1 + (unicodedata.east_asian_width(c[0]) == "W")]
+            rows[-1] += [" "] * (column - len(rows[-1]))
+            rows[-1][column : column + len(cells)] = cells
+            column += len(cells)
+    return ["".join(row).rstrip() for row in rows], column
+
+
+def send(process, terminal, part):
+    """Sends keys, a signal, or a new number of columns, or hangs up."""
+    if part is None:
+        os.dup2(os.open(os.devnull, os.O_RDWR), terminal)
+    elif isinstance(part, signal.Signals):
+        process.send_signal(part)
+    elif isinstance(part, int):
+        termios.tcsetwinsize(terminal, (5, part))
+        process.send_signal(signal.SIGWINCH)
+    else:
+        os.write(terminal, part if isinstance(part, bytes) else part.encode())
+
+
+def run(parts, rows, column, end="\x03\x04", status=0):
+    """Whether the parts lead to these rows and the cursor there, and the end to that status and the modes of before."""
+    terminal, inside = pty.openpty()
+    termios.tcsetwinsize(inside, (5, COLUMNS))
+    modes, written = termios.tcgetattr(inside), b""
+    process = subprocess.Popen(
+        PROGRAM, env=ENVIRONMENT, start_new_session=True, stdin=inside, stdout=inside, stderr=inside
+    )
+    try:
+        for given, *wanted in [([], [">"], 2), (parts, rows, column)]:
+            for part in given:
+                send(process, terminal, part)
+            limit = time.monotonic() + PATIENCE
+            while (seen := screen_of(written)) != (wanted[0], wanted[1]) and time.monotonic() < limit:
+                if select.select([terminal], [], [], PATIENCE / 100)[0]:
+                    written += os.read(terminal, 4096)
+        send(process, terminal, end)
+        ended = process.wait(PATIENCE), end is None or termios.tcgetattr(inside) == modes
+        if seen != (rows, column) or ended != (status, True):
+            print(f"FAILED: {parts}, wanted {rows} {column}, saw {seen}, ended {ended}")
+        return seen == (rows, column) and ended == (status, True)
+    finally:
+        process.kill()
+        process.wait()
+        os.close(terminal)
+        os.close(inside)
+
+
+def main():
+    answers = subprocess.run(PROGRAM, env=ENVIRONMENT, input=LINES, stdout=subprocess.PIPE, timeout=PATIENCE).stdout
+    if answers != ANSWERS.encode():
+        print(f"FAILED: a pipe, wanted {ANSWERS!r}, saw {answers!r}")
+    outcomes = [answers == ANSWERS.encode()] + [run(*case) for case in CASES]
+    print(f"{outcomes.count(True)} passed, {outcomes.count(False)} failed")
+    return 0 if all(outcomes) else 1
+
+
+if __name__ == "__main__":
+    sys.exit(main())
