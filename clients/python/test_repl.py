@@ -15,6 +15,7 @@ from pathlib import Path
 HERE = Path(__file__).resolve().parent
 ENVIRONMENT = {**os.environ, "PYTHONPATH": str(HERE), "LC_ALL": "C.UTF-8"}
 PROGRAM, COLUMNS, PATIENCE = [sys.executable, HERE / "examples/repl.py"], 20, 10
+DRAWN = b"\x1b[K"
 UP, DOWN, RIGHT, LEFT, HOME, END = (f"\x1b[{it}" for it in "ABCDHF")
 FAMILY, DIGITS = "\U0001f468\u200d\U0001f469\u200d\U0001f467", "1234567890" * 3
 UNKNOWN = "error: only numbers, + - * / // % ** and parentheses are known"
@@ -23,7 +24,7 @@ ANSWERS = f"3\n\n1267650600228229401496703205376\n1\n{UNKNOWN}\nerror: more than
 # What is sent, each part by itself, and the rows and the cursor's column that this leads to. A number is one of columns.
 # Then where it is not C-c and C-d, what ends the prompt, and its status. None hangs up.
 CASES = [
-    (["2*(3+4)**2-7//2\r"], ["> 2*(3+4)**2-7//2", "95", ">"], 2),
+    (["2*(3+4)**2-7//2\r\x1f"], ["> 2*(3+4)**2-7//2", "95", ">"], 2),
     (["1/0\r9**9**9\r"], ["> 1/0", "error: division by zero", "> 9**9**9", "error: math range error", ">"], 2),
     (["True\r \r"], ["> True", UNKNOWN, ">", ">"], 2),
     ([f"2{HOME}12\x02{LEFT}\x06+{END}4"], ["> 1+224"], 7),
@@ -82,27 +83,35 @@ def send(process, terminal, part):
         os.write(terminal, part if isinstance(part, bytes) else part.encode())
 
 
+def read(terminal, written, is_wanted):
+    """What was written, and what comes until that is as wanted or patience ends."""
+    limit = time.monotonic() + PATIENCE
+    while not is_wanted(written) and select.select([terminal], [], [], max(limit - time.monotonic(), 0))[0]:
+        written += os.read(terminal, 4096)
+    return written
+
+
 def run(parts, rows, column, end="\x03\x04", status=0):
     """Whether the parts lead to these rows and the cursor there, and the end to that status and the modes of before."""
     terminal, inside = pty.openpty()
     termios.tcsetwinsize(inside, (5, COLUMNS))
-    modes, written = termios.tcgetattr(inside), b""
-    process = subprocess.Popen(
-        PROGRAM, env=ENVIRONMENT, start_new_session=True, stdin=inside, stdout=inside, stderr=inside
-    )
+    modes = termios.tcgetattr(inside)
+    ends = dict.fromkeys(["stdin", "stdout", "stderr"], inside)
+    process = subprocess.Popen(PROGRAM, env=ENVIRONMENT, start_new_session=True, **ends)
     try:
-        for given, *wanted in [([], [">"], 2), (parts, rows, column)]:
-            for part in given:
-                send(process, terminal, part)
-            limit = time.monotonic() + PATIENCE
-            while (seen := screen_of(written)) != (wanted[0], wanted[1]) and time.monotonic() < limit:
-                if select.select([terminal], [], [], PATIENCE / 100)[0]:
-                    written += os.read(terminal, 4096)
+        written = read(terminal, b"", lambda it: screen_of(it) == ([">"], 2))
+        for part in parts:
+            drawn = written.count(DRAWN)
+            send(process, terminal, part)
+            written = read(terminal, written, lambda it: it.count(DRAWN) > drawn)
+        written = read(terminal, written, lambda it: screen_of(it) == (rows, column))
         send(process, terminal, end)
         ended = process.wait(PATIENCE), end is None or termios.tcgetattr(inside) == modes
-        if seen != (rows, column) or ended != (status, True):
-            print(f"FAILED: {parts}, wanted {rows} {column}, saw {seen}, ended {ended}")
-        return seen == (rows, column) and ended == (status, True)
+        # It draws not for each key but for each part, and where a line ends.
+        outcome = screen_of(written) == (rows, column) and ended == (status, True) and written.count(DRAWN) < 7
+        if not outcome:
+            print(f"FAILED: {parts}, {written}, wanted {rows} {column}, saw {screen_of(written)}, ended {ended}")
+        return outcome
     finally:
         process.kill()
         process.wait()
