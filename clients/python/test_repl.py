@@ -1,4 +1,4 @@
-"""The prompt of examples/repl.py in a pseudo-terminal: keys go in, and the rows and the cursor's column are compared."""
+"""The prompt of examples/repl.py in a pseudo-terminal: keys go in, and rows and the cursor's column are compared."""
 
 import os
 import pty
@@ -21,8 +21,8 @@ FAMILY, DIGITS = "\U0001f468\u200d\U0001f469\u200d\U0001f467", "1234567890" * 3
 UNKNOWN = "error: only numbers, + - * / // % ** and parentheses are known"
 LINES = b"1+2\n \n2**100\n1 # \xff\nTrue\n" + b"1+" * 500 + b"1\n"
 ANSWERS = f"3\n\n1267650600228229401496703205376\n1\n{UNKNOWN}\nerror: more than 1000 characters\n"
-# What is sent, each part by itself, and the rows and the cursor's column that this leads to. A number is one of columns.
-# Then where it is not C-c and C-d, what ends the prompt, and its status. None hangs up.
+# What is sent, each part by itself, and the rows and the cursor's column that this leads to. A number is one of
+# columns. Then, where it is not C-c and C-d, what ends the prompt, and its status. None hangs up.
 CASES = [
     (["2*(3+4)**2-7//2\r\x1f"], ["> 2*(3+4)**2-7//2", "95", ">"], 2),
     (["1/0\r9**9**9\r"], ["> 1/0", "error: division by zero", "> 9**9**9", "error: math range error", ">"], 2),
