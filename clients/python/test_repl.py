@@ -8,15 +8,14 @@ import signal
 import subprocess
 import sys
 import termios
-import time
-import unicodedata
 from pathlib import Path
 
 HERE = Path(__file__).resolve().parent
 ENVIRONMENT = {**os.environ, "PYTHONPATH": str(HERE), "LC_ALL": "C.UTF-8"}
 PROGRAM, COLUMNS, PATIENCE = [sys.executable, HERE / "examples/repl.py"], 20, 10
 DRAWN = b"\x1b[K"
-UP, DOWN, RIGHT, LEFT, HOME, END = (f"\x1b[{it}" for it in "ABCDHF")
+NAMED = {"Up": "\x1b[A", "Down": "\x1b[B", "Right": "\x1b[C", "Left": "\x1b[D", "Home": "\x1b[H", "End": "\x1bOF"}
+NAMED.update({"DEL": "\x7f", "RET": "\r"})
 FAMILY, DIGITS = "\U0001f468\u200d\U0001f469\u200d\U0001f467", "1234567890" * 3
 UNKNOWN = "error: only numbers, + - * / // % ** and parentheses are known"
 LINES = b"1+2\n \n2**100\n1 # \xff\nTrue\n" + b"1+" * 500 + b"1\n"
@@ -24,27 +23,27 @@ ANSWERS = f"3\n\n1267650600228229401496703205376\n1\n{UNKNOWN}\nerror: more than
 # What is sent, each part by itself, and the rows and the cursor's column that this leads to. A number is one of
 # columns. Then, where it is not C-c and C-d, what ends the prompt, and its status. None hangs up.
 CASES = [
-    (["2*(3+4)**2-7//2\r\x1f"], ["> 2*(3+4)**2-7//2", "95", ">"], 2),
-    (["1/0\r9**9**9\r"], ["> 1/0", "error: division by zero", "> 9**9**9", "error: math range error", ">"], 2),
-    (["True\r \r"], ["> True", UNKNOWN, ">", ">"], 2),
-    ([f"2{HOME}12\x02{LEFT}\x06+{END}4"], ["> 1+224"], 7),
-    (["10 20 30\x1bb\x1bb\x1bf5\x01" + RIGHT], ["> 10 205 30"], 3),
-    (["123\x7f\x02\x04"], ["> 1"], 3),
-    (["1+2\x01\x0b\x19\x19"], ["> 1+21+2"], 8),
-    (["10 20\x17\x01\x0b\x19\x1by"], ["> 20"], 4),
-    (["12 34\x01\x1bd\x05\x15\x19"], [">  34"], 5),
-    (["1+2\x1f"], ["> 1"], 3),
-    (["1+2\x1f\x1b_3"], ["> 1+23"], 6),
-    (["12\x02\x14\x1f"], ["> 12"], 3),
-    ([f"1\r2\r{UP}{UP}\x1f"], ["> 1", "1", "> 2", "2", "> 1"], 3),
-    ([f"1\r3{UP}0{DOWN}4"], ["> 1", "1", "> 34"], 4),
-    (["12\x153\r\x19"], ["> 3", "3", "> 12"], 4),
-    (["12\x033\r"], ["> 12", "> 3", "3", ">"], 2),
-    ([f"日本{LEFT}"], ["> 日本"], 4),
+    (["2*(3+4)**2-7//2<RET><C-_>"], ["> 2*(3+4)**2-7//2", "95", ">"], 2),
+    (["1/0<RET>9**9**9<RET>"], ["> 1/0", "error: division by zero", "> 9**9**9", "error: math range error", ">"], 2),
+    (["True<RET> <RET>"], ["> True", UNKNOWN, ">", ">"], 2),
+    (["2<Home>12<C-b><Left><C-f>+<End>4"], ["> 1+224"], 7),
+    (["10 20 30<M-b><M-b><M-f>5<C-a><Right>"], ["> 10 205 30"], 3),
+    (["123<DEL><C-b><C-d>"], ["> 1"], 3),
+    (["1+2<C-a><C-k><C-y><C-y>"], ["> 1+21+2"], 8),
+    (["10 20<C-w><C-a><C-k><C-y><M-y>"], ["> 20"], 4),
+    (["12 34<C-a><M-d><C-e><C-u><C-y>"], [">  34"], 5),
+    (["1+2<C-_>"], ["> 1"], 3),
+    (["1+2<C-_><M-_>3"], ["> 1+23"], 6),
+    (["12<C-b><C-t><C-_>"], ["> 12"], 3),
+    (["1<RET>2<RET><Up><Up><C-_>"], ["> 1", "1", "> 2", "2", "> 1"], 3),
+    (["1<RET>3<Up>0<Down>4"], ["> 1", "1", "> 34"], 4),
+    (["12<C-u>3<RET><C-y>"], ["> 3", "3", "> 12"], 4),
+    (["12<C-c>3<RET>"], ["> 12", "> 3", "3", ">"], 2),
+    (["日本<Left>"], ["> 日本"], 4),
     ([b"1\xe6\x97", b"\xa5"], ["> 1日"], 5),
-    ([f"x{FAMILY}y{LEFT}"], [f"> x{FAMILY}y"], 5),
+    ([f"x{FAMILY}y<Left>"], [f"> x{FAMILY}y"], 5),
     ([DIGITS], ["> 901234567890"], 14),
-    ([DIGITS + "\x01"], ["> 123456789012345678"], 2),
+    ([DIGITS + "<C-a>"], ["> 123456789012345678"], 2),
     (["日" * 12], [">  " + "日" * 7], 17),
     ([DIGITS, 40], ["> " + DIGITS], 32),
     (["1"], ["> 1"], 3, signal.SIGTERM, 143),
@@ -63,11 +62,21 @@ def screen_of(written):
         elif c == "\n":
             rows.append([])
         elif c != "\a":
-            cells = [c, ""][: 1 + (unicodedata.east_asian_width(c[0]) == "W")]
+            cells = [c, ""] if c > "\u1100" else [c]
             rows[-1] += [" "] * (column - len(rows[-1]))
             rows[-1][column : column + len(cells)] = cells
             column += len(cells)
     return ["".join(row).rstrip() for row in rows], column
+
+
+def bytes_of(keys):
+    """What a terminal sends for a text with keys in it, such as <C-a>, <M-b> and <Up>."""
+
+    def sent(found):
+        name, letter = found[1], found[1][-1]
+        return NAMED.get(name) or ("\x1b" + letter if name[0] == "M" else chr(ord(letter.upper()) & 31))
+
+    return re.sub("<(.+?)>", sent, keys).encode()
 
 
 def send(process, terminal, part):
@@ -80,18 +89,17 @@ def send(process, terminal, part):
         termios.tcsetwinsize(terminal, (5, part))
         process.send_signal(signal.SIGWINCH)
     else:
-        os.write(terminal, part if isinstance(part, bytes) else part.encode())
+        os.write(terminal, part if isinstance(part, bytes) else bytes_of(part))
 
 
 def read(terminal, written, is_wanted):
-    """What was written, and what comes until that is as wanted or patience ends."""
-    limit = time.monotonic() + PATIENCE
-    while not is_wanted(written) and select.select([terminal], [], [], max(limit - time.monotonic(), 0))[0]:
+    """What was written, and what comes until that is as wanted, or no more comes."""
+    while not is_wanted(written) and select.select([terminal], [], [], PATIENCE)[0]:
         written += os.read(terminal, 4096)
     return written
 
 
-def run(parts, rows, column, end="\x03\x04", status=0):
+def run(parts, rows, column, end="<C-c><C-d>", status=0):
     """Whether the parts lead to these rows and the cursor there, and the end to that status and the modes of before."""
     terminal, inside = pty.openpty()
     termios.tcsetwinsize(inside, (5, COLUMNS))
