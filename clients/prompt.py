@@ -1,6 +1,5 @@
 #!/usr/bin/env python3
-"""Tests the prompt of clients/c/prompt.c in a terminal, or the program that the first argument names. Its last line is
-'N passed, M failed'."""
+"""Tests the prompt of clients/c/prompt.c, or a program that is named. Its last line is 'N passed, M failed'."""
 
 import os
 import select
@@ -60,13 +59,14 @@ def run_gone(program):
     """Whether it ends where its terminal is gone, though no signal tells it so."""
     master, slave = os.openpty()
     prompt = subprocess.Popen([program], stdin=slave, stdout=slave)
-    try:
-        os.close(slave)
-        select.select([master], [], [], PATIENCE)
-        os.close(master)
-        return prompt.wait(PATIENCE) == 0
-    finally:
-        prompt.kill()
+    os.close(slave)
+    select.select([master], [], [], PATIENCE)
+    os.close(master)
+    status = await_that(prompt.poll, lambda status: status is not None)
+    prompt.kill()
+    if status != 0:
+        print(f"FAILED: the terminal is gone, and the status is {status}")
+    return status == 0
 
 
 def main():
