@@ -335,7 +335,7 @@ static int read_character(struct editor *e, int byte, int milliseconds, struct c
 
 /* Rings the bell where nothing went in, or a call was refused. */
 static void hear(struct editor *e, uint32_t answer) {
-    if (answer == LODVARN_NONE || answer >= LODVARN_NO_MEMORY) e->rings = 1;
+    if (answer == LODVARN_NONE || LODVARN_IS_ERROR(answer)) e->rings = 1;
 }
 
 static void move(struct editor *e, uint32_t movement) { hear(e, lodvarn_move(&e->session, movement, 1, 0)); }
