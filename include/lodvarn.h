@@ -17,8 +17,9 @@
  *   LODVARN_CLOSED, or 0 where it answers a size_t.
  * - A text is a pointer to bytes and their number (text and len, script and len). A buffer is a pointer to bytes that
  *   may be written, and their number (out and cap). Either pointer may be NULL where its number is 0, and only there.
- * - A pointer to a number (out_len, mark, line, column, columns, start, end, row, from, old_end, new_end, kind, at,
- *   old_len, new_len, pos_before, pos_after) is never NULL.
+ * - A pointer to a number (out_len, mark, line, column, columns, row, start, end, from, to, pos, place, old_end,
+ *   new_end, kind, at, old_len, new_len, pos_before, pos_after) may be NULL: that number is not wanted. This header
+ *   sees to it, at its end. The calls of the library, as another language finds them, take no NULL there.
  * - What a call writes to overlaps nothing else that is passed to it.
  * - One thread at a time is in a call on a session. No call is made from a signal handler, nor in the forked child of
  *   a process with threads.
@@ -35,7 +36,7 @@
  * - Lines, rows and columns are numbered from 0.
  * - The record has entries: changes, and the marks where groups begin and end.
  * - lodvarn_insert, lodvarn_paste, lodvarn_yank, lodvarn_yank_pop and lodvarn_update keep to the limit. Where another
- *   call makes the text longer than the limit, the limit rises to the text's length.
+ *   call makes the text longer than the limit, the limit rises to the text's length. LODVARN_NO_LIMIT is no limit.
  *
  * Answers
  * A call that answers a uint32_t answers one of enum lodvarn_answer. The comment of each call names its answers and its
@@ -44,7 +45,8 @@
  * - NO_MEMORY: an edit of several steps stops after the steps that it made, and the record has these. Every other call
  *   leaves text, cursor, record and limit as they were. The ring may have kept a text that a kill did not delete.
  * - BAD_PLACE, BAD_YANK_SIZE and NOT_REPLAYING: text, cursor, record and limit as they were. The call still counts as
- *   a command: a kill after it begins a new text of the ring, and lodvarn_yank_pop after it answers NONE.
+ *   a command, unless it is a read or lodvarn_kill_range: a kill after it begins a new text of the ring, and
+ *   lodvarn_yank_pop after it answers NONE.
  * - CLOSED and the errors after it: the whole session as it was.
  *
  * A call writes through out and through a pointer to a number only with the answer that its comment names for that.
@@ -52,10 +54,10 @@
  *
  * Memory
  * It comes from malloc and realloc, and lodvarn_close frees all that a session has. A call asks for some only where its
- * comment names NO_MEMORY. lodvarn_open finds room for a text up to the limit, and lodvarn_watch for its whole queue.
- * All else is found by the call that needs it: an entry of the record, a text of the ring, a newline, a text longer
- * than the limit, and copies that it frees again. The record grows until lodvarn_truncate
- * or lodvarn_restart.
+ * comment names NO_MEMORY. lodvarn_open finds room for the text that it is given, whatever the limit, and lodvarn_watch
+ * for its whole queue. All else is found by the call that needs it: a longer text, a newline, an entry of the record, a
+ * text of the ring, and copies that it frees again. The record grows until lodvarn_truncate or lodvarn_restart, or up
+ * to the bound of lodvarn_set_bound.
  *
  * What changed
  * A session tells what changes its text, whatever changed it: also an undo, a redo, and a command that was refused
@@ -74,7 +76,8 @@
 extern "C" {
 #endif
 
-/* The version that this header is of, in numbers, and as a text such as "1.2.3". */
+/* The version that this header is of, in numbers, and as a text such as "1.2.3". A program has it from when it was
+ * compiled; that of the library that it runs with is lodvarn_version(). */
 #define LODVARN_VERSION_MAJOR 0
 #define LODVARN_VERSION_MINOR 1
 #define LODVARN_VERSION_PATCH 0
@@ -82,6 +85,10 @@ extern "C" {
 /* Two steps, since a number that is made a text at once would be its name. */
 #define LODVARN_VERSION_OF_(major, minor, patch) LODVARN_DOTTED_(major, minor, patch)
 #define LODVARN_DOTTED_(major, minor, patch) #major "." #minor "." #patch
+
+/* No limit for the text, and no bound for the record. */
+#define LODVARN_NO_LIMIT SIZE_MAX
+#define LODVARN_NO_BOUND SIZE_MAX
 
 /* A session. */
 typedef struct lodvarn lodvarn;
@@ -190,7 +197,15 @@ enum lodvarn_movement {
     LODVARN_LINE_DOWN = 23,
     LODVARN_WHOLE_BUFFER = 24,
     LODVARN_BEGINNING_OF_BUFFER = 25,
-    LODVARN_END_OF_BUFFER = 26
+    LODVARN_END_OF_BUFFER = 26,
+    LODVARN_FIRST_NONBLANK = 27 /* to the first character of the line that is no blank, or to the line's end; covers
+                                   what stands between that place and the cursor, on either side of it */
+};
+
+/* On which side of the cursor a killed range counts, and so to which end of the ring's text it goes. */
+enum lodvarn_direction {
+    LODVARN_KILL_FORWARD = 0, /* after it: to the end */
+    LODVARN_KILL_BACKWARD = 1 /* before it: to the front */
 };
 
 /* The letter case that a word gets. */
@@ -207,16 +222,17 @@ enum lodvarn_indent_direction {
 };
 
 /* Opens a session on a text, with the cursor at the place pos. A session that *s had is closed. The text may grow to
- * limit bytes, or to len where that is greater: room for them is reserved here. The kill ring keeps up to ring_size
+ * limit bytes, or to len where that is greater; no room is reserved for that. The kill ring keeps up to ring_size
  * texts, and takes no memory before it keeps one. The mode is an enum lodvarn_mode. Answers DONE. Errors: NOT_UTF8,
  * NO_SUCH_NUMBER, BAD_PLACE, NO_MEMORY; they leave the session that *s has. */
 uint32_t lodvarn_open(lodvarn **s, const char *text, size_t len, size_t pos, size_t limit, size_t ring_size,
                       uint32_t mode);
 
 /* Begins anew with a text, with the cursor at the place pos, as an editor does with the next line. The record is empty
- * then. The kill ring keeps its texts; a kill begins a new one, and lodvarn_yank_pop answers NONE until a yank. The limit
- * rises where the text is longer. What tells of changes tells that all the old text gave way to the new one. Answers DONE.
- * Errors: NOT_UTF8, BAD_PLACE, and NO_MEMORY only where the text needs more room; they leave the whole session. */
+ * then. The kill ring keeps its texts; a kill begins a new one, and lodvarn_yank_pop answers NONE until a yank. The
+ * limit rises where the text is longer, and the settings stay. What tells of changes tells that all the old text gave
+ * way to the new one. Answers DONE. Errors: NOT_UTF8, BAD_PLACE, and NO_MEMORY only where the text needs more room;
+ * they leave the whole session. */
 uint32_t lodvarn_restart(lodvarn **s, const char *text, size_t len, size_t pos);
 
 /* Closes the session, if *s has one, and frees its memory. *s is NULL afterwards. */
@@ -268,20 +284,25 @@ uint32_t lodvarn_replace(lodvarn **s, size_t from, size_t to, const char *text, 
  * where from is after to, NO_MEMORY. */
 uint32_t lodvarn_delete_range(lodvarn **s, size_t from, size_t to);
 
-/* Deletes n clusters after the cursor and writes them to out, a buffer of cap bytes. Answers TEXT with their length
- * in *out_len, NONE where there are none. Errors: TOO_SMALL with the length that is needed in *out_len, NO_MEMORY. */
+/* Deletes n clusters after the cursor and writes them to out, a buffer of cap bytes. Where out is NULL, and cap 0, it
+ * deletes them and writes them nowhere. Answers TEXT with their length in *out_len, NONE where there are none. Errors:
+ * TOO_SMALL, where out is not NULL, with the length that is needed in *out_len; NO_MEMORY. */
 uint32_t lodvarn_delete(lodvarn **s, uint16_t n, char *out, size_t cap, size_t *out_len);
 
 /* Deletes n clusters before the cursor. Answers TRUE, or FALSE where there are none. Errors: NO_MEMORY. */
 uint32_t lodvarn_backspace(lodvarn **s, uint16_t n);
 
 /* Deletes from the cursor to the end of its line, or the newline where the cursor is at that end. The ring does not
- * keep it: of all deletions it keeps only those by lodvarn_kill. Answers TRUE, or FALSE where there is nothing.
- * Errors: NO_MEMORY. */
-uint32_t lodvarn_kill_line(lodvarn **s);
+ * keep it: of all deletions it keeps only those by lodvarn_kill and lodvarn_kill_range. Answers TRUE, or FALSE where
+ * there is nothing. Errors: NO_MEMORY. */
+uint32_t lodvarn_delete_to_line_end(lodvarn **s);
 
 /* Deletes from the cursor to the end of the text. Answers TRUE, or FALSE where there is nothing. Errors: NO_MEMORY. */
-uint32_t lodvarn_kill_buffer(lodvarn **s);
+uint32_t lodvarn_delete_to_end(lodvarn **s);
+
+/* What these two were called before. They are no kills. */
+#define lodvarn_kill_line lodvarn_delete_to_line_end
+#define lodvarn_kill_buffer lodvarn_delete_to_end
 
 /* Deletes from the start of the cursor's line to the cursor, or the newline before it, CR LF as one, where the
  * cursor is at that start. Answers TRUE, or FALSE where there is nothing. Errors: NO_MEMORY. */
@@ -321,11 +342,22 @@ uint32_t lodvarn_edit_word(lodvarn **s, uint32_t action);
 /* Deletes what an enum lodvarn_movement covers. The ring keeps it, except by BACKWARD_CHAR and FORWARD_CHAR.
  * Consecutive kills become one text of the ring: what stood before the cursor goes to its front, what stood after the
  * cursor to its end. A kill that finds nothing parts no run. Each other call between two kills does, so that the second
- * begins a new text: also a motion, lodvarn_copy, lodvarn_yank, lodvarn_undo, lodvarn_begin, lodvarn_end, a kill by
- * BACKWARD_CHAR or FORWARD_CHAR, and a call that had nothing to do. These alone part nothing: the reads below,
- * lodvarn_changed, lodvarn_watch, lodvarn_next_report, the calls without a session, and a call that answers an error
- * from CLOSED on. Answers TRUE, or FALSE where there is nothing. Errors: NO_SUCH_NUMBER, NO_MEMORY. */
+ * begins a new text: also a motion, lodvarn_copy, lodvarn_keep, lodvarn_yank, lodvarn_undo, lodvarn_begin, lodvarn_end,
+ * a kill by BACKWARD_CHAR or FORWARD_CHAR, and a call that had nothing to do. These alone part nothing:
+ * lodvarn_kill_range, the settings and the reads below, lodvarn_changed, lodvarn_watch, lodvarn_next_report, the calls
+ * without a session, and a call that answers an error from CLOSED on. Answers TRUE, or FALSE where there is nothing.
+ * Errors: NO_SUCH_NUMBER, NO_MEMORY. */
 uint32_t lodvarn_kill(lodvarn **s, uint32_t movement, uint16_t n, uint32_t c);
+
+/* Kills what stands between the places from and to, wherever the cursor is. The cursor goes to from. The ring keeps it,
+ * in a run of kills as what stood before the cursor or after it, by an enum lodvarn_direction. Answers TRUE, or FALSE
+ * where from is to. Errors: NO_SUCH_NUMBER, BAD_PLACE also where from is after to, NO_MEMORY. */
+uint32_t lodvarn_kill_range(lodvarn **s, size_t from, size_t to, uint32_t direction);
+
+/* Puts a text into the ring, as a kill of its own, whatever was done before: the next lodvarn_yank gives it, and a kill
+ * after this begins another text. Text, cursor and record stay. So it keeps what lodvarn_delete or lodvarn_copy handed
+ * out, or a text from elsewhere. A ring of size 0 keeps nothing. Answers DONE. Errors: NOT_UTF8, NO_MEMORY. */
+uint32_t lodvarn_keep(lodvarn **s, const char *text, size_t len);
 
 /* Copies what an enum lodvarn_movement covers to out, a buffer of cap bytes. Answers TEXT with its length in
  * *out_len, NONE where there is nothing. Errors: NO_SUCH_NUMBER, TOO_SMALL with the length that is needed in
@@ -343,6 +375,10 @@ uint32_t lodvarn_begin(lodvarn **s, size_t *mark);
 
 /* Closes all open groups. Answers TRUE, or FALSE where they have no change, or none is open. Errors: NO_MEMORY. */
 uint32_t lodvarn_end(lodvarn **s);
+
+/* Closes the group that was opened last, and leaves those around it open. Answers TRUE, or FALSE where it has no
+ * change, or none is open. Errors: NO_MEMORY. */
+uint32_t lodvarn_end_one(lodvarn **s);
 
 /* Undoes the last n changes and groups, one where n is 0, all where there are fewer. The cursor goes to where it was
  * before them. An edit is a change of its own, or several, as its comment says. But it joins the last change, and is
@@ -366,8 +402,24 @@ uint32_t lodvarn_truncate(lodvarn **s, size_t entries);
 
 /* Asks where the cursor is. Answers AT with the number of its line in *line, and in *column the width of the text
  * from the start of that line to the cursor, at most 65535. This is a command: a kill after it begins a new text of
- * the ring. */
+ * the ring. lodvarn_line_column is the same as a read. */
 uint32_t lodvarn_line_place(lodvarn **s, size_t *line, uint16_t *column);
+
+/* The settings. A kill after one still goes on from the kill before it. lodvarn_open begins with column 0, the limit
+ * that it is given, and no bound. */
+
+/* Says that the text begins at that column of the screen, after a prompt. LINE_UP and LINE_DOWN then count the prompt
+ * to the first line, and so go straight up and down on the screen. Answers DONE. */
+uint32_t lodvarn_set_prompt(lodvarn **s, uint16_t column);
+
+/* Sets how many bytes the text may have, or as many as it has where that is more; LODVARN_NO_LIMIT for any number. No
+ * room is reserved. Answers DONE. */
+uint32_t lodvarn_set_limit(lodvarn **s, size_t limit);
+
+/* Bounds the record, now and after each later call on the session: where it has more than that many entries, or its
+ * entries have more than that many bytes of text, it forgets the oldest changes and groups, which can't be undone then.
+ * LODVARN_NO_BOUND for any number. Answers DONE. */
+uint32_t lodvarn_set_bound(lodvarn **s, size_t entries, size_t bytes);
 
 /* A report of a change: what its kind is of. Its place is at; old_len bytes went there, and new_len bytes came. */
 enum lodvarn_report {
@@ -425,11 +477,46 @@ size_t lodvarn_line_count(lodvarn **s);
  * *start and *end, NONE where there is no such line. */
 uint32_t lodvarn_line_range(lodvarn **s, size_t line, size_t *start, size_t *end);
 
+/* Tells where the cursor is, as lodvarn_line_place does. Answers AT with the number of its line in *line, and in
+ * *column the width of the text from the start of that line to the cursor, at most 65535. */
+uint32_t lodvarn_line_column(lodvarn **s, size_t *line, uint16_t *column);
+
+/* Tells what lodvarn_copy by an enum lodvarn_movement would copy. Answers DONE with the places where it begins and ends
+ * in *from and *to, NONE where there is nothing. Errors: NO_SUCH_NUMBER. */
+uint32_t lodvarn_covers(lodvarn **s, uint32_t movement, uint16_t n, uint32_t c, size_t *from, size_t *to);
+
+/* Tells where lodvarn_move by an enum lodvarn_movement would go. Answers DONE with the place in *pos, NONE where there
+ * is nowhere to go. Errors: NO_SUCH_NUMBER. */
+uint32_t lodvarn_destination(lodvarn **s, uint32_t movement, uint16_t n, uint32_t c, size_t *pos);
+
+/* Measures the first grapheme cluster of the text from a place on, and reads no more of the text than that. Answers
+ * DONE with the place where it ends in *end, and the number of its columns in *columns; NONE where the place is the end
+ * of the text. Errors: BAD_PLACE. */
+uint32_t lodvarn_cluster(lodvarn **s, size_t place, size_t *end, uint16_t *columns);
+
 /* Answers how many bytes the text may have. 0 where the session is closed. */
 size_t lodvarn_limit(lodvarn **s);
 
 /* Answers the number of entries of the record, the marks of groups too. 0 where the session is closed. */
 size_t lodvarn_entries(lodvarn **s);
+
+/* Answers how many groups are open. 0 where the session is closed. */
+size_t lodvarn_level(lodvarn **s);
+
+/* Asks whether there is a change that lodvarn_undo would find. Answers TRUE or FALSE. */
+uint32_t lodvarn_can_undo(lodvarn **s);
+
+/* Asks whether there is a change that lodvarn_redo would find. Answers TRUE or FALSE. */
+uint32_t lodvarn_can_redo(lodvarn **s);
+
+/* Answers how many texts the kill ring has. 0 where the session is closed. */
+size_t lodvarn_ring_count(lodvarn **s);
+
+/* Copies a text of the ring to out, a buffer of cap bytes: for back = 0 the current one, which lodvarn_yank would
+ * insert, for 1 the one that lodvarn_yank_pop would put in its place, and so on. Answers TEXT with its length in
+ * *out_len, NONE where back is lodvarn_ring_count or more. Errors: TOO_SMALL with the length that is needed in
+ * *out_len. */
+uint32_t lodvarn_ring_text(lodvarn **s, size_t back, char *out, size_t cap, size_t *out_len);
 
 /* Asks whether the last command was lodvarn_yank or lodvarn_yank_pop and answered TRUE or FALSE, as a yank with
  * n = 0 also does. If so, lodvarn_yank_pop expects the yanked text before the cursor; otherwise it answers NONE.
@@ -437,6 +524,9 @@ size_t lodvarn_entries(lodvarn **s);
 uint32_t lodvarn_last_was_yank(lodvarn **s);
 
 /* Calls without a session. */
+
+/* Answers the version of the library, as (MAJOR << 16) | (MINOR << 8) | PATCH. */
+uint32_t lodvarn_version(void);
 
 /* Runs a script in a session of its own and copies what it prints to out, as much of it as fits in cap bytes, which may
  * end inside a character. Answers DONE with the length of all that it printed in *out_len, which may be more than cap.
@@ -456,13 +546,158 @@ uint32_t lodvarn_first_cluster(const char *text, size_t len, size_t *out_len);
  * empty. Errors: NOT_UTF8. */
 uint32_t lodvarn_last_cluster(const char *text, size_t len, size_t *out_len);
 
-/* Finds where a place of a text is on a screen with that many columns. The text begins at column prompt of
- * row 0. A newline, "\n" or "\r\n", leads to the next row. A cluster that does not fit in the rest of its row goes
- * whole to the next row. A place at the right edge is column 0 of the next row. The mode is an enum lodvarn_mode.
- * Answers DONE with the cell in *row and *column. Errors: NOT_UTF8, BAD_PLACE, NO_SUCH_NUMBER also where columns is
- * 0. */
-uint32_t lodvarn_cell(const char *text, size_t len, size_t place, uint16_t prompt, uint16_t columns, uint32_t mode,
-                      size_t *row, size_t *column);
+/* Finds where a place of a text is on a screen with that many columns. The text begins at column prompt of row 0. A
+ * newline, "\n" or "\r\n", leads to the next row. A cluster that does not fit in the rest of its row goes whole to the
+ * next row. A place at the right edge is column 0 of the next row. A tab goes to the next column of its row that is a
+ * multiple of tab; where tab is 0, it is as wide as lodvarn_width tells. The mode is an enum lodvarn_mode. Answers DONE
+ * with the cell in *row and *column. Errors: NOT_UTF8, BAD_PLACE, NO_SUCH_NUMBER also where columns is 0. */
+uint32_t lodvarn_cell(const char *text, size_t len, size_t place, uint16_t prompt, uint16_t columns, uint16_t tab,
+                      uint32_t mode, size_t *row, size_t *column);
+
+/* Finds which place of a text is at a cell of the screen, as where a mouse points: the last place between two clusters
+ * whose cell, by lodvarn_cell, is that one or comes before it, by rows and then by columns. Answers DONE with the place
+ * in *place, 0 where all come after that cell. Errors: NOT_UTF8, NO_SUCH_NUMBER also where columns is 0. */
+uint32_t lodvarn_place_at(const char *text, size_t len, size_t row, size_t column, uint16_t prompt, uint16_t columns,
+                          uint16_t tab, uint32_t mode, size_t *place);
+
+/* NULL where a number, or the text that lodvarn_delete takes out, is not wanted. These functions are compiled into the
+ * program and make the calls of the same names; the macros below put them in the place of those. After an #undef of a
+ * macro its name is the call of the library, which takes no NULL. */
+
+static inline uint32_t lodvarn_delete_or_null_(lodvarn **s, uint16_t n, char *out, size_t cap, size_t *out_len) {
+    size_t unasked, len;
+    uint32_t answer;
+    if (!out_len) out_len = &unasked;
+    if (out) return lodvarn_delete(s, n, out, cap, out_len);
+    /* A kill by this movement deletes the same, and the ring does not keep it. */
+    len = lodvarn_text(s, NULL, 0);
+    answer = lodvarn_kill(s, LODVARN_FORWARD_CHAR, n, 0);
+    if (answer == LODVARN_FALSE) return LODVARN_NONE;
+    if (answer != LODVARN_TRUE) return answer;
+    *out_len = len - lodvarn_text(s, NULL, 0);
+    return LODVARN_TEXT;
+}
+
+static inline uint32_t lodvarn_copy_or_null_(lodvarn **s, uint32_t movement, uint16_t n, uint32_t c, char *out,
+                                             size_t cap, size_t *out_len) {
+    size_t unasked;
+    return lodvarn_copy(s, movement, n, c, out, cap, out_len ? out_len : &unasked);
+}
+
+static inline uint32_t lodvarn_begin_or_null_(lodvarn **s, size_t *mark) {
+    size_t unasked;
+    return lodvarn_begin(s, mark ? mark : &unasked);
+}
+
+static inline uint32_t lodvarn_line_place_or_null_(lodvarn **s, size_t *line, uint16_t *column) {
+    size_t unasked;
+    uint16_t unasked16;
+    return lodvarn_line_place(s, line ? line : &unasked, column ? column : &unasked16);
+}
+
+static inline uint32_t lodvarn_changed_or_null_(lodvarn **s, size_t *from, size_t *old_end, size_t *new_end) {
+    size_t unasked[3];
+    return lodvarn_changed(s, from ? from : &unasked[0], old_end ? old_end : &unasked[1],
+                           new_end ? new_end : &unasked[2]);
+}
+
+static inline uint32_t lodvarn_next_report_or_null_(lodvarn **s, uint32_t *kind, size_t *at, size_t *old_len,
+                                                    size_t *new_len, size_t *pos_before, size_t *pos_after, char *out,
+                                                    size_t cap) {
+    uint32_t unasked32;
+    size_t unasked[5];
+    return lodvarn_next_report(s, kind ? kind : &unasked32, at ? at : &unasked[0], old_len ? old_len : &unasked[1],
+                               new_len ? new_len : &unasked[2], pos_before ? pos_before : &unasked[3],
+                               pos_after ? pos_after : &unasked[4], out, cap);
+}
+
+static inline uint32_t lodvarn_line_range_or_null_(lodvarn **s, size_t line, size_t *start, size_t *end) {
+    size_t unasked[2];
+    return lodvarn_line_range(s, line, start ? start : &unasked[0], end ? end : &unasked[1]);
+}
+
+static inline uint32_t lodvarn_line_column_or_null_(lodvarn **s, size_t *line, uint16_t *column) {
+    size_t unasked;
+    uint16_t unasked16;
+    return lodvarn_line_column(s, line ? line : &unasked, column ? column : &unasked16);
+}
+
+static inline uint32_t lodvarn_covers_or_null_(lodvarn **s, uint32_t movement, uint16_t n, uint32_t c, size_t *from,
+                                               size_t *to) {
+    size_t unasked[2];
+    return lodvarn_covers(s, movement, n, c, from ? from : &unasked[0], to ? to : &unasked[1]);
+}
+
+static inline uint32_t lodvarn_destination_or_null_(lodvarn **s, uint32_t movement, uint16_t n, uint32_t c,
+                                                    size_t *pos) {
+    size_t unasked;
+    return lodvarn_destination(s, movement, n, c, pos ? pos : &unasked);
+}
+
+static inline uint32_t lodvarn_cluster_or_null_(lodvarn **s, size_t place, size_t *end, uint16_t *columns) {
+    size_t unasked;
+    uint16_t unasked16;
+    return lodvarn_cluster(s, place, end ? end : &unasked, columns ? columns : &unasked16);
+}
+
+static inline uint32_t lodvarn_ring_text_or_null_(lodvarn **s, size_t back, char *out, size_t cap, size_t *out_len) {
+    size_t unasked;
+    return lodvarn_ring_text(s, back, out, cap, out_len ? out_len : &unasked);
+}
+
+static inline uint32_t lodvarn_script_or_null_(const char *script, size_t len, char *out, size_t cap, size_t *out_len) {
+    size_t unasked;
+    return lodvarn_script(script, len, out, cap, out_len ? out_len : &unasked);
+}
+
+static inline uint32_t lodvarn_width_or_null_(const char *text, size_t len, uint32_t mode, uint16_t *columns) {
+    uint16_t unasked;
+    return lodvarn_width(text, len, mode, columns ? columns : &unasked);
+}
+
+static inline uint32_t lodvarn_first_cluster_or_null_(const char *text, size_t len, size_t *out_len) {
+    size_t unasked;
+    return lodvarn_first_cluster(text, len, out_len ? out_len : &unasked);
+}
+
+static inline uint32_t lodvarn_last_cluster_or_null_(const char *text, size_t len, size_t *out_len) {
+    size_t unasked;
+    return lodvarn_last_cluster(text, len, out_len ? out_len : &unasked);
+}
+
+static inline uint32_t lodvarn_cell_or_null_(const char *text, size_t len, size_t place, uint16_t prompt,
+                                             uint16_t columns, uint16_t tab, uint32_t mode, size_t *row,
+                                             size_t *column) {
+    size_t unasked[2];
+    return lodvarn_cell(text, len, place, prompt, columns, tab, mode, row ? row : &unasked[0],
+                        column ? column : &unasked[1]);
+}
+
+static inline uint32_t lodvarn_place_at_or_null_(const char *text, size_t len, size_t row, size_t column,
+                                                 uint16_t prompt, uint16_t columns, uint16_t tab, uint32_t mode,
+                                                 size_t *place) {
+    size_t unasked;
+    return lodvarn_place_at(text, len, row, column, prompt, columns, tab, mode, place ? place : &unasked);
+}
+
+#define lodvarn_delete lodvarn_delete_or_null_
+#define lodvarn_copy lodvarn_copy_or_null_
+#define lodvarn_begin lodvarn_begin_or_null_
+#define lodvarn_line_place lodvarn_line_place_or_null_
+#define lodvarn_changed lodvarn_changed_or_null_
+#define lodvarn_next_report lodvarn_next_report_or_null_
+#define lodvarn_line_range lodvarn_line_range_or_null_
+#define lodvarn_line_column lodvarn_line_column_or_null_
+#define lodvarn_covers lodvarn_covers_or_null_
+#define lodvarn_destination lodvarn_destination_or_null_
+#define lodvarn_cluster lodvarn_cluster_or_null_
+#define lodvarn_ring_text lodvarn_ring_text_or_null_
+#define lodvarn_script lodvarn_script_or_null_
+#define lodvarn_width lodvarn_width_or_null_
+#define lodvarn_first_cluster lodvarn_first_cluster_or_null_
+#define lodvarn_last_cluster lodvarn_last_cluster_or_null_
+#define lodvarn_cell lodvarn_cell_or_null_
+#define lodvarn_place_at lodvarn_place_at_or_null_
 
 #ifdef __cplusplus
 }
