@@ -5,8 +5,9 @@ Rust declare: names, arguments in their order, results. The crate lodvarn must m
     python3 clients/check_header.py
 
 What only one side has fails, whichever it is. Macros and the functions that the header defines are no calls: a program
-compiles them, and the library has none of them. Its last line is 'N passed, M failed', where each call counts one for
-each of the four.
+compiles them, and the library has none of them. But each call that writes a number must have a function NAME_or_null_
+with the same arguments, which makes that call, and a macro that puts it in the place of the call. Its last line is
+'N passed, M failed', where each call counts one for each of the four, and one for that function.
 """
 
 import ast
@@ -54,6 +55,8 @@ FOREIGN = re.compile(r"\bpub fn (lodvarn_\w+)\(([^)]*)\)(?: -> (\w+))?;")
 MADE = re.compile(r"\bffi::(lodvarn_\w+)\(")
 DECLARATION = re.compile(r"^([a-z]\w+)\s+(\w+)\(([^)]*)\);", re.M)
 DEFINITION = re.compile(r"^static inline [^;]*?\{\n.*?^\}\n", re.M | re.S)
+OR_NULL = re.compile(r"^static inline (\w+) (\w+)_or_null_\(([^)]*)\) \{\n(.*?)^\}\n", re.M | re.S)
+NUMBERS = {"size_t *", "uint32_t *", "uint16_t *"}
 ARGUMENT = re.compile(r"(.*?[ *])(\w+)$", re.S)
 
 
@@ -87,16 +90,32 @@ def calls_of_python(source):
     return found
 
 
+def kinds_of(given):
+    """The types of the arguments that a function of C takes."""
+    given = [one.strip() for one in given.split(",") if one.strip() not in ("", "void")]
+    return [ARGUMENT.match(one).group(1).strip() for one in given]
+
+
+def without_comments(header):
+    return re.sub(r"/\*.*?\*/", "", header, flags=re.S)
+
+
 def declarations_of(header):
     """The calls of the header, in the same form."""
-    header = DEFINITION.sub("", re.sub(r"/\*.*?\*/", "", header, flags=re.S))
-    found = {}
-    for result, name, given in DECLARATION.findall(header):
-        given = [one.strip() for one in given.split(",") if one.strip() not in ("", "void")]
-        found[name] = (result, [ARGUMENT.match(one).group(1).strip() for one in given])
+    header = DEFINITION.sub("", without_comments(header))
+    found = {name: (result, kinds_of(given)) for result, name, given in DECLARATION.findall(header)}
     named = len(re.findall(r"\blodvarn_\w+\s*\(", header))
     if named != len(found):
         raise ValueError(f"the header names {named} calls, and {len(found)} can be read")
+    return found
+
+
+def or_null_of(header):
+    """The calls for which the header has a function that takes NULL, in the same form, as that function has them."""
+    found = {}
+    for result, name, given, body in OR_NULL.findall(without_comments(header)):
+        is_made = f"return {name}(" in body and f"#define {name} {name}_or_null_\n" in header
+        found[name] = (result if is_made else "(not made)", kinds_of(given))
     return found
 
 
@@ -115,7 +134,9 @@ def see(where, declared, found):
 
 
 def main():
-    declared = declarations_of((TOP / "include/lodvarn.h").read_text())
+    header = (TOP / "include/lodvarn.h").read_text()
+    declared = declarations_of(header)
+    writing = {name: call for name, call in declared.items() if NUMBERS & set(call[1])}
     sources = "".join(source.read_text() for source in sorted((TOP / "crates/rl_ffi/src").glob("**/*.rt")))
     rust, python = "clients/rust/lodvarn-sys/src/lib.rs", "clients/python/lodvarn/__init__.py"
     wrapper = "clients/rust/lodvarn/src"
@@ -125,6 +146,7 @@ def main():
         see(rust, declared, calls_of((TOP / rust).read_text(), FOREIGN, "pub fn")),
         see(wrapper, declared, {name: declared.get(name) for name in made}),
         see(python, declared, calls_of_python((TOP / python).read_text())),
+        see("its function for NULL", writing, or_null_of(header)),
     ]
     passed, failed = (sum(counts) for counts in zip(*sums))
     print(f"{passed} passed, {failed} failed")

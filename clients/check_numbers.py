@@ -17,7 +17,10 @@ from pathlib import Path
 TOP = Path(__file__).resolve().parent.parent
 # The enums that the crate or a client names otherwise, and the numbers of one, which are a bool in the crate.
 ENUMS = {"dedents": "indent_direction", "report_kind": "report"}
+# What the header puts before the names of an enum that has the names of another one.
+PREFIXES = {"direction": "KILL_"}
 DIRECTIONS = {"false": "INDENT", "true": "DEDENT"}
+DEFINITION = re.compile(r"^static inline [^;]*?\{\n.*?^\}\n", re.M | re.S)
 
 
 def snake(name):
@@ -42,9 +45,16 @@ def name_of(value):
             return "_".join(names).removeprefix("VI_")
 
 
+def in_header(number):
+    """A number of the crate or of a client, by the name that the header has for it."""
+    enum, name, value = number
+    prefix = PREFIXES.get(enum, "")
+    return enum, prefix + name.removeprefix(prefix), value
+
+
 def numbers_of_header(header):
-    """The numbers of the header: an enum, a name, a number."""
-    header = re.sub(r"/\*.*?\*/", "", header, flags=re.S)
+    """The numbers of the header: an enum, a name, a number. The functions that it defines have none."""
+    header = DEFINITION.sub("", re.sub(r"/\*.*?\*/", "", header, flags=re.S))
     found = []
     for enum, body in re.findall(r"\benum lodvarn_(\w+) \{(.*?)\};", header, re.S):
         found += [(enum, name, int(number)) for name, number in re.findall(r"^ +LODVARN_(\w+) = (\d+)", body, re.M)]
@@ -103,6 +113,7 @@ def numbers_of_rust(source, header):
 
 def see(where, wanted, found):
     """Compares the numbers of one place with those that are wanted there. How many are right, and how many are not."""
+    found = [in_header(it) for it in found]
     wrong = sorted(set(wanted) ^ set(found)) + sorted(it for it in set(found) if found.count(it) > 1)
     for one in wrong:
         print(f"{where}: {one} stands {wanted.count(one)} times in the header, and {found.count(one)} times there")

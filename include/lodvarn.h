@@ -351,7 +351,8 @@ uint32_t lodvarn_kill(lodvarn **s, uint32_t movement, uint16_t n, uint32_t c);
 
 /* Kills what stands between the places from and to, wherever the cursor is. The cursor goes to from. The ring keeps it,
  * in a run of kills as what stood before the cursor or after it, by an enum lodvarn_direction. Answers TRUE, or FALSE
- * where from is to. Errors: NO_SUCH_NUMBER, BAD_PLACE also where from is after to, NO_MEMORY. */
+ * where from is to, and the cursor stays then. Errors: NO_SUCH_NUMBER, BAD_PLACE also where from is after to,
+ * NO_MEMORY. */
 uint32_t lodvarn_kill_range(lodvarn **s, size_t from, size_t to, uint32_t direction);
 
 /* Puts a text into the ring, as a kill of its own, whatever was done before: the next lodvarn_yank gives it, and a kill
@@ -408,8 +409,8 @@ uint32_t lodvarn_line_place(lodvarn **s, size_t *line, uint16_t *column);
 /* The settings. A kill after one still goes on from the kill before it. lodvarn_open begins with column 0, the limit
  * that it is given, and no bound. */
 
-/* Says that the text begins at that column of the screen, after a prompt. LINE_UP and LINE_DOWN then count the prompt
- * to the first line, and so go straight up and down on the screen. Answers DONE. */
+/* Says that the text begins at that column of the screen, after a prompt. LINE_UP and LINE_DOWN then count so many
+ * columns more before the first line. Answers DONE. */
 uint32_t lodvarn_set_prompt(lodvarn **s, uint16_t column);
 
 /* Sets how many bytes the text may have, or as many as it has where that is more; LODVARN_NO_LIMIT for any number. No
@@ -503,10 +504,11 @@ size_t lodvarn_entries(lodvarn **s);
 /* Answers how many groups are open. 0 where the session is closed. */
 size_t lodvarn_level(lodvarn **s);
 
-/* Asks whether there is a change that lodvarn_undo would find. Answers TRUE or FALSE. */
+/* Asks whether lodvarn_undo with n = 1 would find a change. It would find none in an empty record, nor right after
+ * lodvarn_begin. Answers TRUE or FALSE. */
 uint32_t lodvarn_can_undo(lodvarn **s);
 
-/* Asks whether there is a change that lodvarn_redo would find. Answers TRUE or FALSE. */
+/* Asks whether lodvarn_redo would find a change. Answers TRUE or FALSE. */
 uint32_t lodvarn_can_redo(lodvarn **s);
 
 /* Answers how many texts the kill ring has. 0 where the session is closed. */
@@ -549,8 +551,9 @@ uint32_t lodvarn_last_cluster(const char *text, size_t len, size_t *out_len);
 /* Finds where a place of a text is on a screen with that many columns. The text begins at column prompt of row 0. A
  * newline, "\n" or "\r\n", leads to the next row. A cluster that does not fit in the rest of its row goes whole to the
  * next row. A place at the right edge is column 0 of the next row. A tab goes to the next column of its row that is a
- * multiple of tab; where tab is 0, it is as wide as lodvarn_width tells. The mode is an enum lodvarn_mode. Answers DONE
- * with the cell in *row and *column. Errors: NOT_UTF8, BAD_PLACE, NO_SUCH_NUMBER also where columns is 0. */
+ * multiple of tab, or to the right edge where that is nearer; where tab is 0, it is as wide as lodvarn_width tells. The
+ * mode is an enum lodvarn_mode. Answers DONE with the cell in *row and *column. Errors: NOT_UTF8, BAD_PLACE,
+ * NO_SUCH_NUMBER also where columns is 0. */
 uint32_t lodvarn_cell(const char *text, size_t len, size_t place, uint16_t prompt, uint16_t columns, uint16_t tab,
                       uint32_t mode, size_t *row, size_t *column);
 
