@@ -78,18 +78,18 @@ static uint32_t run_command(void) {
     size_t number, len = lodvarn_text(&s, NULL, 0), from = below((unsigned)len + 2), to = from + below(5);
     const char *text = ONE_OF(texts);
     uint16_t n = ONE_OF(counts);
-    uint32_t c = ONE_OF(chars), movement = below(LODVARN_END_OF_BUFFER + 1);
-    switch (len > LONG ? 0 : below(36)) {
+    uint32_t c = ONE_OF(chars), movement = below(LODVARN_FIRST_NONBLANK + 1);
+    switch (len > LONG ? 0 : below(40)) {
     case 0: return (below(32) ? lodvarn_update : lodvarn_restart)(&s, text, strlen(text), strlen(text));
     case 1: return lodvarn_replace(&s, from, to, text, strlen(text));
     case 2: case 3: return lodvarn_insert_str(&s, from, text, strlen(text));
     case 4: return lodvarn_delete_range(&s, from, to);
-    case 5: return lodvarn_delete(&s, n, out, sizeof out, &number);
+    case 5: return below(2) ? lodvarn_delete(&s, n, out, sizeof out, NULL) : lodvarn_delete(&s, n, NULL, 0, &number);
     case 6: return lodvarn_backspace(&s, n);
     case 7: return lodvarn_delete_prev_word(&s, below(3), n);
     case 8: return lodvarn_delete_word(&s, below(3), below(3), n);
     case 9: return lodvarn_delete_to(&s, below(4), c, n);
-    case 10: return below(2) ? lodvarn_kill_line(&s) : lodvarn_discard_line(&s);
+    case 10: return below(2) ? lodvarn_delete_to_line_end(&s) : lodvarn_discard_line(&s);
     case 11: return lodvarn_transpose_chars(&s);
     case 12: return lodvarn_transpose_words(&s, n);
     case 13: return lodvarn_edit_word(&s, below(3));
@@ -99,13 +99,16 @@ static uint32_t run_command(void) {
     case 20: return lodvarn_yank_pop(&s);
     case 21: case 22: return lodvarn_undo(&s, below(20) ? n % 9 : n);
     case 23: return lodvarn_redo(&s);
-    case 24: return lodvarn_begin(&s, &number);
-    case 25: return lodvarn_end(&s);
+    case 24: return lodvarn_begin(&s, NULL);
+    case 25: return below(2) ? lodvarn_end(&s) : lodvarn_end_one(&s);
     case 26: return lodvarn_set_pos(&s, from);
     case 27: return lodvarn_move(&s, movement, n, c);
     case 28: case 29: return lodvarn_paste(&s, text, strlen(text), n);
-    case 30: return below(2) ? lodvarn_kill_buffer(&s) : lodvarn_discard_buffer(&s);
+    case 30: return below(2) ? lodvarn_delete_to_end(&s) : lodvarn_discard_buffer(&s);
     case 31: return lodvarn_truncate(&s, lodvarn_entries(&s) - below(3));
+    case 32: return lodvarn_kill_range(&s, from, to, below(2));
+    case 33: return lodvarn_keep(&s, text, strlen(text));
+    case 34: return lodvarn_set_bound(&s, below(2) ? below(40) : LODVARN_NO_BOUND, below(2) ? below(400) : ROOM);
     default: return lodvarn_insert(&s, c, n);
     }
 }

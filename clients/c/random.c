@@ -46,7 +46,7 @@ static const char *const ats[] = {"start", "before", "after"};
 static const char *const searches[] = {"f", "t", "F", "T"};
 
 static void add_movement(void) {
-    static const char *const plain[] = {"line", "home", "eol", "first", "buf", "bob", "eob"};
+    static const char *const plain[] = {"line", "home", "eol", "first", "nonblank", "buf", "bob", "eob"};
     static const char *const counted[] = {"bchar", "fchar", "up", "down"};
     switch (below(8)) {
     case 0: case 1: add(" %s", ONE_OF(plain)); break;
@@ -88,8 +88,9 @@ static void add_insertion(struct typed *t) {
 static void add_deletion(struct typed *t) {
     static const char *const whole[] = {"killline", "killline", "discline", "discline", "killbuf", "discbuf"};
     unsigned from = place(t);
-    switch (below(10)) {
+    switch (below(11)) {
     case 0: add("range %u %u", from, from + below(4)); break;
+    case 10: add("killrange %u %u %s", from, from + below(4), below(2) ? "f" : "b"); break;
     case 1: add("del %u", count()); break;
     case 2: add("back %u", count()); break;
     case 3: add("%s", ONE_OF(whole)); break;
@@ -103,9 +104,12 @@ static void add_deletion(struct typed *t) {
 
 /* Any other line. */
 static void add_other(struct typed *t) {
-    static const char *const plain[] = {"tchars", "begin", "end", "redo", "redo", "where", "yankpop", "yankpop"};
+    static const char *const plain[] = {
+        "tchars", "begin", "begin", "end", "endone", "endone", "redo", "redo", "where", "yankpop", "yankpop",
+    };
     static const char *const cases[] = {"cap", "low", "up"};
-    switch (below(12)) {
+    switch (below(14)) {
+    case 13: add("keep "); add_text(); break;
     case 0: add("pos %u", place(t)); break;
     case 1: add("move"); add_movement(); break;
     case 2: add("copy"); add_movement(); break;

@@ -52,6 +52,11 @@ static uint32_t search(char **rest) {
     return named(word(rest), names);
 }
 
+static uint32_t direction(char **rest) {
+    static const char *const names[] = {"f", "b", NULL};
+    return named(word(rest), names);
+}
+
 /* Writes a character as UTF-8, and answers its bytes. */
 static size_t encode(uint32_t c, char *to) {
     int more = c < 0x80 ? 0 : c < 0x800 ? 1 : c < 0x10000 ? 2 : 3;
@@ -105,7 +110,9 @@ struct movement {
 
 static struct movement movement(char *rest) {
     static const char *const plain[] = {"line", "home", "eol", NULL};
-    static const char *const others[] = {"first", "bchar", "fchar", "up", "down", "buf", "bob", "eob", NULL};
+    static const char *const others[] = {
+        "first", "bchar", "fchar", "up", "down", "buf", "bob", "eob", "nonblank", NULL,
+    };
     struct movement m = {0, 0, 0};
     const char *name = word(&rest);
     if (!strcmp(name, "bword")) {
@@ -128,9 +135,17 @@ static struct movement movement(char *rest) {
     return m;
 }
 
+/* What was asked before a command must be what that does. */
+static void see(const char *what, int holds) {
+    if (!holds) fail("it did not do what it said", what);
+}
+
 static uint32_t move(lodvarn **s, char *rest) {
     struct movement m = movement(rest);
-    return lodvarn_move(s, m.number, m.n, m.c);
+    size_t to = lodvarn_pos(s);
+    uint32_t asked = lodvarn_destination(s, m.number, m.n, m.c, &to), answer = lodvarn_move(s, m.number, m.n, m.c);
+    see("move", (asked == LODVARN_DONE) == (answer == LODVARN_TRUE) && lodvarn_pos(s) == to);
+    return answer;
 }
 
 static uint32_t kill(lodvarn **s, char *rest) {
@@ -139,8 +154,15 @@ static uint32_t kill(lodvarn **s, char *rest) {
 }
 
 static uint32_t copy(lodvarn **s, char *rest) {
+    static char whole[ROOM];
     struct movement m = movement(rest);
-    return lodvarn_copy(s, m.number, m.n, m.c, handed, ROOM, &handed_len);
+    size_t from = 0, to = 0;
+    uint32_t asked = lodvarn_covers(s, m.number, m.n, m.c, &from, &to);
+    uint32_t answer = lodvarn_copy(s, m.number, m.n, m.c, handed, ROOM, &handed_len);
+    lodvarn_text(s, whole, ROOM);
+    see("copy", (asked == LODVARN_DONE) == (answer == LODVARN_TEXT));
+    if (answer == LODVARN_TEXT) see("copy", to - from == handed_len && !memcmp(whole + from, handed, handed_len));
+    return answer;
 }
 
 static uint32_t indented(lodvarn **s, char *rest, uint32_t direction) {
@@ -188,6 +210,17 @@ static uint32_t delete_range(lodvarn **s, char *rest) {
     return lodvarn_delete_range(s, from, number(&rest));
 }
 
+static uint32_t kill_range(lodvarn **s, char *rest) {
+    size_t from = number(&rest), to = number(&rest);
+    return lodvarn_kill_range(s, from, to, direction(&rest));
+}
+
+static uint32_t keep(lodvarn **s, char *rest) {
+    size_t len;
+    const char *given = text(rest, &len);
+    return lodvarn_keep(s, given, len);
+}
+
 static uint32_t deleted(lodvarn **s, char *rest) {
     return lodvarn_delete(s, count(&rest), handed, ROOM, &handed_len);
 }
@@ -215,8 +248,37 @@ static uint32_t edit_word(lodvarn **s, char *rest) {
 }
 
 static uint32_t begin(lodvarn **s, char *rest) {
+    size_t level = lodvarn_level(s);
+    uint32_t answer = lodvarn_begin(s, &mark);
     (void)rest;
-    return lodvarn_begin(s, &mark);
+    see("begin", lodvarn_level(s) == level + 1);
+    return answer;
+}
+
+static uint32_t end(lodvarn **s) {
+    uint32_t answer = lodvarn_end(s);
+    see("end", !lodvarn_level(s));
+    return answer;
+}
+
+static uint32_t end_one(lodvarn **s) {
+    size_t level = lodvarn_level(s);
+    uint32_t answer = lodvarn_end_one(s);
+    see("endone", lodvarn_level(s) == (level ? level - 1 : 0));
+    return answer;
+}
+
+/* An undo of one finds a change where that is said; one of more finds it too. */
+static uint32_t undo(lodvarn **s, uint16_t n) {
+    uint32_t asked = lodvarn_can_undo(s), answer = lodvarn_undo(s, n);
+    see("undo", answer == asked || (n > 1 && asked == LODVARN_FALSE && answer == LODVARN_TRUE));
+    return answer;
+}
+
+static uint32_t redo(lodvarn **s) {
+    uint32_t asked = lodvarn_can_redo(s), answer = lodvarn_redo(s);
+    see("redo", answer == asked);
+    return answer;
 }
 
 static uint32_t line_place(lodvarn **s, char *rest) {
@@ -245,6 +307,8 @@ static const struct command commands[] = {
     {"str", insert_str, NULL, NULL, NULL},
     {"rep", replace, NULL, NULL, NULL},
     {"range", delete_range, NULL, NULL, NULL},
+    {"killrange", kill_range, NULL, NULL, NULL},
+    {"keep", keep, NULL, NULL, NULL},
     {"del", deleted, NULL, NULL, NULL},
     {"prevword", delete_prev_word, NULL, NULL, NULL},
     {"nextword", delete_word, NULL, NULL, NULL},
@@ -253,17 +317,18 @@ static const struct command commands[] = {
     {"begin", begin, NULL, NULL, NULL},
     {"where", line_place, NULL, NULL, NULL},
     {"yankpop", NULL, lodvarn_yank_pop, NULL, NULL},
-    {"killline", NULL, lodvarn_kill_line, NULL, NULL},
-    {"killbuf", NULL, lodvarn_kill_buffer, NULL, NULL},
+    {"killline", NULL, lodvarn_delete_to_line_end, NULL, NULL},
+    {"killbuf", NULL, lodvarn_delete_to_end, NULL, NULL},
     {"discline", NULL, lodvarn_discard_line, NULL, NULL},
     {"discbuf", NULL, lodvarn_discard_buffer, NULL, NULL},
     {"tchars", NULL, lodvarn_transpose_chars, NULL, NULL},
-    {"end", NULL, lodvarn_end, NULL, NULL},
-    {"redo", NULL, lodvarn_redo, NULL, NULL},
+    {"end", NULL, end, NULL, NULL},
+    {"endone", NULL, end_one, NULL, NULL},
+    {"redo", NULL, redo, NULL, NULL},
     {"yank", NULL, NULL, lodvarn_yank, NULL},
     {"back", NULL, NULL, lodvarn_backspace, NULL},
     {"twords", NULL, NULL, lodvarn_transpose_words, NULL},
-    {"undo", NULL, NULL, lodvarn_undo, NULL},
+    {"undo", NULL, NULL, undo, NULL},
     {"pos", NULL, NULL, NULL, lodvarn_set_pos},
     {"trunc", NULL, NULL, NULL, lodvarn_truncate},
 };
@@ -287,7 +352,9 @@ static uint32_t run(struct typed *t, const char *name, char *rest) {
     if (!strcmp(name, "text")) {
         size_t len;
         const char *given = text(rest, &len);
-        return lodvarn_open(&t->s, given, len, len, t->limit, t->ring, t->mode);
+        uint32_t answer = lodvarn_open(&t->s, given, len, len, t->limit, t->ring, t->mode);
+        if (answer == LODVARN_DONE) t->own_mode = t->mode;
+        return answer;
     }
     if (!strcmp(name, "limit")) t->limit = number(&rest);
     else if (!strcmp(name, "ring")) t->ring = number(&rest);
@@ -322,7 +389,7 @@ static void print_answer(uint32_t answer, FILE *out) {
 }
 
 void typed_begin(struct typed *t) {
-    *t = (struct typed){NULL, 4096, 60, LODVARN_UNICODE};
+    *t = (struct typed){NULL, 4096, 60, LODVARN_UNICODE, LODVARN_UNICODE};
     if (lodvarn_open(&t->s, "", 0, 0, t->limit, t->ring, t->mode)) fail("no session", "");
 }
 
@@ -353,6 +420,42 @@ void typed_script(struct typed *t, const char *script, FILE *out) {
     }
 }
 
+static struct cell { size_t row, column; } cell_of(struct typed *t, const char *whole, size_t len, size_t place) {
+    struct cell at;
+    if (lodvarn_cell(whole, len, place, 2, 20, 8, t->own_mode, &at.row, &at.column)) fail("no cell", whole);
+    return at;
+}
+
+static int is_after(struct cell a, struct cell b) { return a.row > b.row || (a.row == b.row && a.column > b.column); }
+
+/* Whether the place that is found at the cell of another one is the last whose cell is not after that. */
+static int place_agrees(struct typed *t, const char *whole, size_t len, size_t pos) {
+    struct cell at = cell_of(t, whole, len, pos);
+    size_t place, k;
+    if (lodvarn_place_at(whole, len, at.row, at.column, 2, 20, 8, t->own_mode, &place) || place > len) return 0;
+    if (lodvarn_first_cluster(whole + place, len - place, &k) || is_after(cell_of(t, whole, len, place), at)) return 0;
+    return k == 0 || is_after(cell_of(t, whole, len, place + k), at);
+}
+
+/* Whether line, column and cluster of the cursor are those that the calls tell that get the text. */
+static int cursor_agrees(struct typed *t, const char *whole, size_t len, size_t own, size_t first) {
+    size_t pos = lodvarn_pos(&t->s), line, end = pos, k;
+    uint16_t columns = 0, width;
+    if (lodvarn_line_column(&t->s, &line, &columns) != LODVARN_AT || line != own) return 0;
+    if (lodvarn_width(whole + first, pos - first, t->own_mode, &width) || columns != width) return 0;
+    columns = 0;
+    if (lodvarn_cluster(&t->s, pos, &end, &columns) != (pos < len ? LODVARN_DONE : LODVARN_NONE)) return 0;
+    return !lodvarn_first_cluster(whole + pos, len - pos, &k) && end == pos + k
+        && !lodvarn_width(whole + pos, k, t->own_mode, &width) && columns == width;
+}
+
+/* Whether the ring has as many texts as it says. */
+static int ring_agrees(struct typed *t) {
+    size_t count = lodvarn_ring_count(&t->s), len;
+    if (lodvarn_ring_text(&t->s, count, handed, ROOM, &len) != LODVARN_NONE) return 0;
+    return !count || lodvarn_ring_text(&t->s, count - 1, handed, ROOM, &len) == LODVARN_TEXT;
+}
+
 int typed_reads_agree(struct typed *t) {
     static char whole[ROOM];
     size_t len = lodvarn_text(&t->s, whole, ROOM), pos = lodvarn_pos(&t->s);
@@ -366,5 +469,6 @@ int typed_reads_agree(struct typed *t) {
     for (end = pos; end < len && whole[end] != '\n'; end++) {}
     return lodvarn_line_number(&t->s) == own && lodvarn_line_count(&t->s) == lines
         && lodvarn_line_range(&t->s, own, &start, &stop) == LODVARN_DONE && start == first && stop == end
-        && lodvarn_line_range(&t->s, lines, &start, &stop) == LODVARN_NONE && start == first && stop == end;
+        && lodvarn_line_range(&t->s, lines, &start, &stop) == LODVARN_NONE && start == first && stop == end
+        && cursor_agrees(t, whole, len, own, first) && place_agrees(t, whole, len, pos) && ring_agrees(t);
 }

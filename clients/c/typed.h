@@ -5,11 +5,11 @@
 #include "lodvarn.h"
 #include <stdio.h>
 
-/* A session, and the settings for the next one. */
+/* A session, the settings for the next one, and the mode of this one. */
 struct typed {
     lodvarn *s;
     size_t limit, ring;
-    uint32_t mode;
+    uint32_t mode, own_mode;
 };
 
 /* Opens the session that a script begins with. */
