@@ -82,6 +82,8 @@ static void the_version_is_one(void) {
     char numbers[32];
     snprintf(numbers, sizeof numbers, "%d.%d.%d", LODVARN_VERSION_MAJOR, LODVARN_VERSION_MINOR, LODVARN_VERSION_PATCH);
     see("the version as numbers and as a text", !strcmp(LODVARN_VERSION, numbers));
+    see("the library's version is that of the header", lodvarn_version()
+        == ((uint32_t)LODVARN_VERSION_MAJOR << 16 | LODVARN_VERSION_MINOR << 8 | LODVARN_VERSION_PATCH));
 }
 
 #define ANSWER(answer, is_error) {answer, #answer, is_error}
@@ -127,11 +129,120 @@ static void reads_read(void) {
     see("no line", lodvarn_line_range(&s, 3, &start, &end) == LODVARN_NONE && start == 4 && end == 6);
     see("no such line", lodvarn_line_range(&s, SIZE_MAX, &start, &end) == LODVARN_NONE);
     see("no yank was done", lodvarn_last_was_yank(&s) == LODVARN_FALSE && lodvarn_entries(&s) == 0);
+    see("nothing can be undone", lodvarn_can_undo(&s) == LODVARN_FALSE && lodvarn_can_redo(&s) == LODVARN_FALSE);
+    see("no group is open, and the ring is empty", !lodvarn_level(&s) && !lodvarn_ring_count(&s));
     lodvarn_kill(&s, LODVARN_BEGINNING_OF_BUFFER, 1, 0);
     lodvarn_yank(&s, 1);
     see("a yank was done", lodvarn_last_was_yank(&s) == LODVARN_TRUE && lodvarn_entries(&s) == 2);
     lodvarn_set_pos(&s, 0);
     see("something else was done", lodvarn_last_was_yank(&s) == LODVARN_FALSE);
+    lodvarn_close(&s);
+}
+
+/* What a movement covers, and where it goes, from a place of "one two\n  three x". NO where that is nothing. */
+enum { NO = 99 };
+static const struct covering {
+    size_t pos;
+    uint32_t movement;
+    uint16_t n;
+    uint32_t c;
+    size_t from, to, destination;
+} coverings[] = {
+    {12, LODVARN_WHOLE_LINE, 1, 0, 8, 17, NO},
+    {12, LODVARN_BEGINNING_OF_LINE, 1, 0, 8, 12, 8},
+    {8, LODVARN_BEGINNING_OF_LINE, 1, 0, NO, NO, NO},
+    {12, LODVARN_END_OF_LINE, 1, 0, 12, 17, 17},
+    {17, LODVARN_END_OF_LINE, 1, 0, NO, NO, NO},
+    {12, LODVARN_BACKWARD_EMACS_WORD, 1, 0, 10, 12, 10},
+    {12, LODVARN_BACKWARD_BIG_WORD, 2, 0, 4, 12, 4},
+    {12, LODVARN_FORWARD_EMACS_WORD_AFTER_END, 1, 0, 12, 15, 15},
+    {12, LODVARN_FORWARD_VI_WORD_START, 1, 0, 12, 16, 16},
+    {12, LODVARN_SEARCH_FORWARD, 1, 'x', 12, 17, 16},
+    {12, LODVARN_SEARCH_FORWARD_BEFORE, 1, 'x', 12, 16, 15},
+    {12, LODVARN_SEARCH_BACKWARD, 1, 'w', 5, 12, 5},
+    {12, LODVARN_SEARCH_BACKWARD_AFTER, 1, 'w', 6, 12, 6},
+    {12, LODVARN_SEARCH_FORWARD, 1, 'q', NO, NO, NO},
+    {12, LODVARN_FIRST_PRINT, 1, 0, 4, 12, NO},
+    {12, LODVARN_BACKWARD_CHAR, 2, 0, 10, 12, 10},
+    {12, LODVARN_FORWARD_CHAR, 2, 0, 12, 14, 14},
+    {12, LODVARN_FORWARD_CHAR, 0, 0, NO, NO, NO},
+    {12, LODVARN_LINE_UP, 1, 0, 0, 17, 4},
+    {12, LODVARN_LINE_DOWN, 1, 0, NO, NO, NO},
+    {2, LODVARN_LINE_DOWN, 1, 0, 0, 17, 10},
+    {12, LODVARN_WHOLE_BUFFER, 1, 0, 0, 17, NO},
+    {12, LODVARN_BEGINNING_OF_BUFFER, 1, 0, 0, 12, 0},
+    {12, LODVARN_END_OF_BUFFER, 1, 0, 12, 17, 17},
+    {12, LODVARN_FIRST_NONBLANK, 1, 0, 10, 12, 10},
+    {8, LODVARN_FIRST_NONBLANK, 1, 0, 8, 10, 10},
+    {10, LODVARN_FIRST_NONBLANK, 1, 0, NO, NO, NO},
+};
+
+static void movements_are_asked(void) {
+    lodvarn *s = opened("one two\n  three x", 0, 64);
+    for (size_t i = 0; i < sizeof coverings / sizeof *coverings; i++) {
+        const struct covering *row = &coverings[i];
+        size_t from = NO, to = NO, pos = NO;
+        char what[64];
+        lodvarn_set_pos(&s, row->pos);
+        uint32_t answer = lodvarn_covers(&s, row->movement, row->n, row->c, &from, &to);
+        snprintf(what, sizeof what, "movement %u at %zu covers", (unsigned)row->movement, row->pos);
+        see(what, answer == (row->from == NO ? LODVARN_NONE : LODVARN_DONE) && from == row->from && to == row->to);
+        if (from != row->from || to != row->to) printf("  got %zu, %zu\n", from, to);
+        answer = lodvarn_destination(&s, row->movement, row->n, row->c, &pos);
+        snprintf(what, sizeof what, "movement %u at %zu goes", (unsigned)row->movement, row->pos);
+        see(what, answer == (row->destination == NO ? LODVARN_NONE : LODVARN_DONE) && pos == row->destination);
+        if (pos != row->destination) printf("  got %zu\n", pos);
+    }
+    lodvarn_close(&s);
+}
+
+static void a_movement_goes_to_what_is_no_blank(void) {
+    lodvarn *s = opened("  one\n \t \n", 4, 64);
+    see("back to it", lodvarn_move(&s, LODVARN_FIRST_NONBLANK, 1, 0) == LODVARN_TRUE && lodvarn_pos(&s) == 2);
+    see("once", lodvarn_move(&s, LODVARN_FIRST_NONBLANK, 1, 0) == LODVARN_FALSE && lodvarn_pos(&s) == 2);
+    lodvarn_set_pos(&s, 6);
+    see("to the end of a line of blanks", lodvarn_move(&s, LODVARN_FIRST_NONBLANK, 1, 0) == LODVARN_TRUE);
+    see("which is before its newline", lodvarn_pos(&s) == 9);
+    lodvarn_set_pos(&s, 10);
+    see("nowhere on an empty line", lodvarn_move(&s, LODVARN_FIRST_NONBLANK, 1, 0) == LODVARN_FALSE);
+    lodvarn_set_pos(&s, 5);
+    lodvarn_kill(&s, LODVARN_BACKWARD_CHAR, 1, 0);
+    see("a kill back to it", lodvarn_kill(&s, LODVARN_FIRST_NONBLANK, 1, 0) == LODVARN_TRUE);
+    see("takes what stands between", stands(&s, "  \n \t \n", 2));
+    lodvarn_set_pos(&s, 0);
+    lodvarn_insert_str(&s, 2, "x", 1);
+    see("and ahead to it", lodvarn_kill(&s, LODVARN_FIRST_NONBLANK, 1, 0) == LODVARN_TRUE);
+    see("the blanks", stands(&s, "x\n \t \n", 0));
+    lodvarn_close(&s);
+}
+
+static void clusters_of_a_session_are_measured(void) {
+    static const struct { size_t place, end; uint16_t columns; } table[] = {
+        {0, 1, 1}, {1, 2, 1}, {2, 5, 2}, {6, 9, 1}, {7, 9, 0}, {9, 27, 2}, {16, 27, 2},
+    };
+    lodvarn *s = opened("ab漢\ne\u0301" FAMILY, 0, 64);
+    size_t end = NO;
+    for (size_t i = 0; i < sizeof table / sizeof *table; i++) {
+        uint16_t columns = NO;
+        uint32_t answer = lodvarn_cluster(&s, table[i].place, &end, &columns);
+        see("a cluster", answer == LODVARN_DONE && end == table[i].end && columns == table[i].columns);
+    }
+    see("a newline", lodvarn_cluster(&s, 5, &end, NULL) == LODVARN_DONE && end == 6);
+    lodvarn_close(&s);
+    if (lodvarn_open(&s, FAMILY, 18, 0, 64, 60, LODVARN_WC_WIDTH) != LODVARN_DONE) exit(2);
+    uint16_t columns = NO;
+    see("in the mode of the session", lodvarn_cluster(&s, 0, NULL, &columns) == LODVARN_DONE && columns == 6);
+    lodvarn_close(&s);
+}
+
+static void the_column_is_read(void) {
+    lodvarn *s = opened("ab\n漢d", 6, 64);
+    size_t line = NO;
+    uint16_t column = NO;
+    see("line and column", lodvarn_line_column(&s, &line, &column) == LODVARN_AT && line == 1 && column == 2);
+    lodvarn_set_prompt(&s, 5);
+    lodvarn_set_pos(&s, 1);
+    see("without the prompt", lodvarn_line_column(&s, &line, &column) == LODVARN_AT && line == 0 && column == 1);
     lodvarn_close(&s);
 }
 
@@ -143,8 +254,145 @@ static void reads_part_no_kills(void) {
     n = lodvarn_text(&s, out, sizeof out) + lodvarn_pos(&s) + lodvarn_line_number(&s) + lodvarn_line_count(&s)
         + lodvarn_limit(&s) + lodvarn_entries(&s) + lodvarn_last_was_yank(&s);
     see("the reads answer", n == 4 + 4 + 0 + 1 + 64 + 1 + LODVARN_FALSE);
+    n = lodvarn_level(&s) + lodvarn_ring_count(&s) + lodvarn_can_undo(&s) + lodvarn_can_redo(&s);
+    see("and those of the record and the ring", n == 0 + 1 + LODVARN_TRUE + LODVARN_FALSE);
+    n = lodvarn_ring_text(&s, 0, out, sizeof out, NULL) + lodvarn_line_range(&s, 0, NULL, NULL)
+        + lodvarn_line_column(&s, NULL, NULL) + lodvarn_cluster(&s, 0, NULL, NULL) + lodvarn_cluster(&s, 9, NULL, NULL)
+        + lodvarn_covers(&s, LODVARN_WHOLE_LINE, 1, 0, NULL, NULL)
+        + lodvarn_destination(&s, LODVARN_BACKWARD_CHAR, 1, 0, NULL);
+    see("and those of places", n == LODVARN_TEXT + LODVARN_DONE + LODVARN_AT + LODVARN_DONE + LODVARN_BAD_PLACE
+        + LODVARN_DONE + LODVARN_DONE);
+    n = lodvarn_set_prompt(&s, 2) + lodvarn_set_limit(&s, 9) + lodvarn_set_bound(&s, 100, 100);
+    see("and the settings are done", n == LODVARN_DONE);
     lodvarn_kill(&s, LODVARN_BACKWARD_EMACS_WORD, 1, 0);
     see("two kills are one text", lodvarn_yank(&s, 1) == LODVARN_TRUE && stands(&s, "one two", 7));
+    lodvarn_close(&s);
+}
+
+/* Whether the ring has that text, so many before the current one. */
+static int ring_has(lodvarn **s, size_t back, const char *wanted) {
+    char got[16];
+    size_t len = NO;
+    return lodvarn_ring_text(s, back, got, sizeof got, &len) == LODVARN_TEXT && len == strlen(wanted)
+        && !memcmp(got, wanted, len);
+}
+
+static void ranges_are_killed(void) {
+    lodvarn *s = opened("one two three", 13, 64);
+    see("a range is killed", lodvarn_kill_range(&s, 4, 8, LODVARN_KILL_FORWARD) == LODVARN_TRUE);
+    see("and the cursor goes there", stands(&s, "one three", 4) && ring_has(&s, 0, "two "));
+    see("the next goes to its front", lodvarn_kill_range(&s, 3, 4, LODVARN_KILL_BACKWARD) == LODVARN_TRUE);
+    see("or to its end", lodvarn_kill_range(&s, 3, 5, LODVARN_KILL_FORWARD) == LODVARN_TRUE);
+    see("as one text", stands(&s, "onehree", 3) && lodvarn_ring_count(&s) == 1 && ring_has(&s, 0, " two th"));
+    see("an empty range is none", lodvarn_kill_range(&s, 1, 1, LODVARN_KILL_FORWARD) == LODVARN_FALSE);
+    see("and leaves the cursor", stands(&s, "onehree", 3));
+    see("no range is refused", lodvarn_kill_range(&s, 2, 1, LODVARN_KILL_FORWARD) == LODVARN_BAD_PLACE);
+    see("a kill goes on after that", lodvarn_kill(&s, LODVARN_BACKWARD_EMACS_WORD, 1, 0) == LODVARN_TRUE);
+    see("in the same text", lodvarn_ring_count(&s) == 1 && ring_has(&s, 0, "one two th"));
+    see("which a yank puts back", lodvarn_yank(&s, 1) == LODVARN_FALSE && stands(&s, "one two three", 10));
+    see("no range after a yank", lodvarn_kill_range(&s, 0, 99, LODVARN_KILL_FORWARD) == LODVARN_BAD_PLACE);
+    see("leaves that a yank was done", lodvarn_last_was_yank(&s) == LODVARN_TRUE);
+    lodvarn_kill_range(&s, 0, 3, LODVARN_KILL_BACKWARD);
+    see("after a yank it begins a text", lodvarn_ring_count(&s) == 2 && ring_has(&s, 0, "one"));
+    see("an undo takes it back", lodvarn_undo(&s, 1) == LODVARN_TRUE && stands(&s, "one two three", 10));
+    lodvarn_close(&s);
+}
+
+static void texts_are_kept(void) {
+    lodvarn *s = opened("one two", 7, 64);
+    lodvarn_kill(&s, LODVARN_BACKWARD_EMACS_WORD, 1, 0);
+    see("a text is kept", lodvarn_keep(&s, "né", 3) == LODVARN_DONE && stands(&s, "one ", 4));
+    see("in a place of its own", lodvarn_ring_count(&s) == 2 && ring_has(&s, 0, "né") && ring_has(&s, 1, "two"));
+    see("without a change", lodvarn_entries(&s) == 1);
+    lodvarn_kill(&s, LODVARN_BACKWARD_EMACS_WORD, 1, 0);
+    see("a kill after it begins another", lodvarn_ring_count(&s) == 3 && ring_has(&s, 0, "one "));
+    see("there is no fourth", lodvarn_ring_text(&s, 3, NULL, 0, NULL) == LODVARN_NONE);
+    see("a yank gives the first", lodvarn_yank(&s, 1) == LODVARN_TRUE && stands(&s, "one ", 4));
+    see("a pop what was kept", lodvarn_yank_pop(&s) == LODVARN_TRUE && stands(&s, "né", 3));
+    see("which is the current one then", ring_has(&s, 0, "né") && ring_has(&s, 1, "two") && ring_has(&s, 2, "one "));
+    see("one kept after a yank", lodvarn_keep(&s, "x", 1) == LODVARN_DONE && lodvarn_yank_pop(&s) == LODVARN_NONE);
+    see("is what a yank gives", lodvarn_yank(&s, 1) == LODVARN_TRUE && stands(&s, "néx", 4));
+    see("two in a row are two", !lodvarn_keep(&s, "y", 1) && !lodvarn_keep(&s, "z", 1) && ring_has(&s, 0, "z"));
+    see("the one before", ring_has(&s, 1, "y"));
+    lodvarn_close(&s);
+    if (lodvarn_open(&s, "", 0, 0, 64, 2, LODVARN_UNICODE) != LODVARN_DONE) exit(2);
+    see("a ring of two", !lodvarn_keep(&s, "a", 1) && !lodvarn_keep(&s, "b", 1) && !lodvarn_keep(&s, "c", 1));
+    see("keeps two", lodvarn_ring_count(&s) == 2 && ring_has(&s, 0, "c") && ring_has(&s, 1, "b"));
+    lodvarn_close(&s);
+    if (lodvarn_open(&s, "", 0, 0, 64, 0, LODVARN_UNICODE) != LODVARN_DONE) exit(2);
+    see("a ring of none keeps nothing", lodvarn_keep(&s, "a", 1) == LODVARN_DONE && !lodvarn_ring_count(&s));
+    see("so nothing is yanked", lodvarn_yank(&s, 1) == LODVARN_NONE);
+    lodvarn_close(&s);
+}
+
+static void groups_are_closed_one_by_one(void) {
+    lodvarn *s = opened("", 0, 64);
+    see("no group is open", lodvarn_end_one(&s) == LODVARN_FALSE && !lodvarn_level(&s));
+    lodvarn_begin(&s, NULL);
+    lodvarn_insert(&s, 'a', 1);
+    lodvarn_begin(&s, NULL);
+    see("two are open", lodvarn_level(&s) == 2);
+    see("nothing is undone in the second", lodvarn_can_undo(&s) == LODVARN_FALSE);
+    lodvarn_insert(&s, 'b', 1);
+    see("until it has a change", lodvarn_can_undo(&s) == LODVARN_TRUE);
+    see("the second is closed", lodvarn_end_one(&s) == LODVARN_TRUE && lodvarn_level(&s) == 1);
+    lodvarn_begin(&s, NULL);
+    see("an empty one leaves no trace", lodvarn_end_one(&s) == LODVARN_FALSE && lodvarn_level(&s) == 1);
+    lodvarn_insert(&s, 'c', 1);
+    see("the first is closed", lodvarn_end_one(&s) == LODVARN_TRUE && !lodvarn_level(&s) && stands(&s, "abc", 3));
+    see("nothing can be redone", lodvarn_can_redo(&s) == LODVARN_FALSE);
+    see("one undo takes all back", lodvarn_undo(&s, 1) == LODVARN_TRUE && stands(&s, "", 0));
+    see("nothing more", lodvarn_can_undo(&s) == LODVARN_FALSE && lodvarn_can_redo(&s) == LODVARN_TRUE);
+    see("one redo makes it again", lodvarn_redo(&s) == LODVARN_TRUE && stands(&s, "abc", 3));
+    lodvarn_close(&s);
+}
+
+static void a_prompt_is_counted(void) {
+    lodvarn *s = opened("abcd\nefgh", 8, 64);
+    lodvarn_move(&s, LODVARN_LINE_UP, 1, 0);
+    see("without a prompt", lodvarn_pos(&s) == 3);
+    lodvarn_set_pos(&s, 8);
+    see("a prompt of two columns", lodvarn_set_prompt(&s, 2) == LODVARN_DONE && stands(&s, "abcd\nefgh", 8));
+    lodvarn_move(&s, LODVARN_LINE_UP, 1, 0);
+    see("is taken off in the first line", lodvarn_pos(&s) == 1);
+    lodvarn_move(&s, LODVARN_LINE_DOWN, 1, 0);
+    see("and added below it", lodvarn_pos(&s) == 8);
+    lodvarn_restart(&s, "ab\ncd", 5, 4);
+    lodvarn_move(&s, LODVARN_LINE_UP, 1, 0);
+    see("it stays for the next text", lodvarn_pos(&s) == 0);
+    lodvarn_close(&s);
+}
+
+static void a_limit_is_set(void) {
+    lodvarn *s = opened("abcd", 4, 4);
+    see("there is no room", lodvarn_insert(&s, 'e', 1) == LODVARN_NONE);
+    see("a greater limit", lodvarn_set_limit(&s, 5) == LODVARN_DONE && lodvarn_limit(&s) == 5 && stands(&s, "abcd", 4));
+    see("makes room", lodvarn_insert(&s, 'e', 1) == LODVARN_TRUE && lodvarn_insert(&s, 'f', 1) == LODVARN_NONE);
+    see("the text is the least limit", lodvarn_set_limit(&s, 2) == LODVARN_DONE && lodvarn_limit(&s) == 5);
+    lodvarn_backspace(&s, 1);
+    see("a smaller limit", lodvarn_set_limit(&s, 4) == LODVARN_DONE && lodvarn_insert(&s, 'e', 1) == LODVARN_NONE);
+    see("no limit", lodvarn_set_limit(&s, LODVARN_NO_LIMIT) == LODVARN_DONE && lodvarn_limit(&s) == LODVARN_NO_LIMIT);
+    see("has room for all", lodvarn_insert(&s, 'e', 60000) == LODVARN_TRUE && lodvarn_pos(&s) == 60004);
+    see("no limit from the start", lodvarn_open(&s, "a", 1, 1, LODVARN_NO_LIMIT, 60, LODVARN_UNICODE) == LODVARN_DONE);
+    see("is none", lodvarn_limit(&s) == LODVARN_NO_LIMIT && lodvarn_insert(&s, 'b', 1) == LODVARN_TRUE);
+    lodvarn_close(&s);
+}
+
+static void a_bound_is_set(void) {
+    lodvarn *s = opened("", 0, 64);
+    see("a bound of two entries", lodvarn_set_bound(&s, 2, LODVARN_NO_BOUND) == LODVARN_DONE);
+    for (const char *c = "-+*"; *c; c++) lodvarn_insert(&s, (uint32_t)*c, 1);
+    see("forgets the first of three", stands(&s, "-+*", 3) && lodvarn_entries(&s) == 2);
+    see("which is not undone", lodvarn_undo(&s, 9) == LODVARN_TRUE && stands(&s, "-", 1));
+    see("and nothing is before it", lodvarn_can_undo(&s) == LODVARN_FALSE);
+    lodvarn_open(&s, "", 0, 0, 64, 60, LODVARN_UNICODE);
+    for (const char *c = "-+*"; *c; c++) lodvarn_insert(&s, (uint32_t)*c, 1);
+    see("without a bound", lodvarn_entries(&s) == 3);
+    see("one is set later", lodvarn_set_bound(&s, LODVARN_NO_BOUND, 1) == LODVARN_DONE && lodvarn_entries(&s) == 1);
+    see("of one byte", lodvarn_undo(&s, 9) == LODVARN_TRUE && stands(&s, "-+", 2));
+    lodvarn_set_bound(&s, LODVARN_NO_BOUND, LODVARN_NO_BOUND);
+    for (const char *c = "-+*"; *c; c++) lodvarn_insert(&s, (uint32_t)*c, 1);
+    see("without a bound again", lodvarn_entries(&s) == 3);
     lodvarn_close(&s);
 }
 
@@ -203,40 +451,102 @@ static void cells_are_placed(void) {
     static const struct {
         const char *what, *text;
         size_t place;
-        uint16_t prompt, columns;
+        uint16_t prompt, columns, tab;
         uint32_t mode;
         size_t row, column;
     } table[] = {
-        {"nothing, without a prompt", "", 0, 0, 10, 0, 0, 0},
-        {"nothing, after a prompt", "", 0, 2, 10, 0, 0, 2},
-        {"two letters after a prompt", "ab", 2, 2, 10, 0, 0, 4},
-        {"a newline leads below, and to the left", "ab\ncd", 3, 2, 10, 0, 1, 0},
-        {"and letters go on there", "ab\ncd", 5, 2, 10, 0, 1, 2},
-        {"so does the one cluster of a carriage return and a newline", "ab\r\ncd", 5, 2, 10, 0, 1, 1},
-        {"newlines alone", "\n\n", 2, 5, 10, 0, 2, 0},
-        {"before the right edge", "abcd", 3, 0, 4, 0, 0, 3},
-        {"the right edge is the next row", "abcd", 4, 0, 4, 0, 1, 0},
-        {"and the next letter stands there", "abcde", 5, 0, 4, 0, 1, 1},
-        {"a prompt counts for its row alone", "abcdef", 6, 2, 4, 0, 2, 0},
-        {"a newline at the edge makes one row", "abcd\ne", 5, 0, 4, 0, 1, 0},
-        {"and the letter after it stands on that", "abcd\ne", 6, 0, 4, 0, 1, 1},
-        {"a wide letter that fits to the edge", "ab漢", 5, 0, 4, 0, 1, 0},
-        {"before a wide letter that does not fit", "abc漢", 3, 0, 4, 0, 0, 3},
-        {"a wide letter that does not fit is whole below", "abc漢", 6, 0, 4, 0, 1, 2},
-        {"a family is one cluster", FAMILY "x", 18, 0, 10, LODVARN_UNICODE, 0, 2},
-        {"or three characters", FAMILY "x", 18, 0, 10, LODVARN_WC_WIDTH, 0, 6},
-        {"or three parts", FAMILY "x", 18, 0, 10, LODVARN_NO_ZWJ, 0, 6},
-        {"a mark takes no column", "e\u0301x", 3, 0, 10, 0, 0, 1},
-        {"inside a cluster", "e\u0301x", 1, 0, 10, 0, 0, 1},
-        {"a prompt up to the edge", "", 0, 4, 4, 0, 1, 0},
-        {"a letter that is wider than the screen", "漢", 3, 0, 1, 0, 2, 0},
+        {"nothing, without a prompt", "", 0, 0, 10, 0, 0, 0, 0},
+        {"nothing, after a prompt", "", 0, 2, 10, 0, 0, 0, 2},
+        {"two letters after a prompt", "ab", 2, 2, 10, 0, 0, 0, 4},
+        {"a newline leads below, and to the left", "ab\ncd", 3, 2, 10, 0, 0, 1, 0},
+        {"and letters go on there", "ab\ncd", 5, 2, 10, 0, 0, 1, 2},
+        {"so does the one cluster of a carriage return and a newline", "ab\r\ncd", 5, 2, 10, 0, 0, 1, 1},
+        {"newlines alone", "\n\n", 2, 5, 10, 0, 0, 2, 0},
+        {"before the right edge", "abcd", 3, 0, 4, 0, 0, 0, 3},
+        {"the right edge is the next row", "abcd", 4, 0, 4, 0, 0, 1, 0},
+        {"and the next letter stands there", "abcde", 5, 0, 4, 0, 0, 1, 1},
+        {"a prompt counts for its row alone", "abcdef", 6, 2, 4, 0, 0, 2, 0},
+        {"a newline at the edge makes one row", "abcd\ne", 5, 0, 4, 0, 0, 1, 0},
+        {"and the letter after it stands on that", "abcd\ne", 6, 0, 4, 0, 0, 1, 1},
+        {"a wide letter that fits to the edge", "ab漢", 5, 0, 4, 0, 0, 1, 0},
+        {"before a wide letter that does not fit", "abc漢", 3, 0, 4, 0, 0, 0, 3},
+        {"a wide letter that does not fit is whole below", "abc漢", 6, 0, 4, 0, 0, 1, 2},
+        {"a family is one cluster", FAMILY "x", 18, 0, 10, 0, LODVARN_UNICODE, 0, 2},
+        {"or three characters", FAMILY "x", 18, 0, 10, 0, LODVARN_WC_WIDTH, 0, 6},
+        {"or three parts", FAMILY "x", 18, 0, 10, 0, LODVARN_NO_ZWJ, 0, 6},
+        {"a mark takes no column", "e\u0301x", 3, 0, 10, 0, 0, 0, 1},
+        {"inside a cluster", "e\u0301x", 1, 0, 10, 0, 0, 0, 1},
+        {"a prompt up to the edge", "", 0, 4, 4, 0, 0, 1, 0},
+        {"a letter that is wider than the screen", "漢", 3, 0, 1, 0, 0, 2, 0},
+        {"a tab as wide as it is measured", "a\tb", 3, 0, 80, 0, LODVARN_UNICODE, 0, 3},
+        {"or of no column", "a\tb", 3, 0, 80, 0, LODVARN_WC_WIDTH, 0, 2},
+        {"a tab to the next multiple", "a\tb", 2, 0, 80, 8, LODVARN_UNICODE, 0, 8},
+        {"in each mode", "a\tb", 2, 0, 80, 8, LODVARN_WC_WIDTH, 0, 8},
+        {"and the letter after it", "a\tb", 3, 0, 80, 8, 0, 0, 9},
+        {"before it", "a\tb", 1, 0, 80, 8, 0, 0, 1},
+        {"multiples of four", "a\tb", 2, 0, 80, 4, 0, 0, 4},
+        {"a tab at a multiple", "abcd\t", 5, 0, 80, 4, 0, 0, 8},
+        {"a tab after a prompt", "\t", 1, 2, 80, 8, 0, 0, 8},
+        {"a tab on the next line", "abc\n\t\t", 6, 2, 80, 8, 0, 1, 16},
+        {"a tab on a wrapped row", "abcdef\t", 7, 0, 5, 4, 0, 1, 4},
+        {"a tab ends at the right edge", "abcdefghi\t", 10, 0, 12, 8, 0, 1, 0},
+        {"and a letter after it stands on the next row", "abcdefghi\tj", 11, 0, 12, 8, 0, 1, 1},
+        {"a tab at the right edge goes to the next row", "abcd\t", 5, 0, 4, 3, 0, 1, 3},
+        {"a tab that is wider than the screen", "\t", 1, 0, 4, 8, 0, 1, 0},
     };
     for (size_t i = 0; i < sizeof table / sizeof *table; i++) {
         size_t row = 99, column = 99;
         uint32_t answer = lodvarn_cell(table[i].text, strlen(table[i].text), table[i].place, table[i].prompt,
-                                       table[i].columns, table[i].mode, &row, &column);
+                                       table[i].columns, table[i].tab, table[i].mode, &row, &column);
         see(table[i].what, answer == LODVARN_DONE && row == table[i].row && column == table[i].column);
         if (row != table[i].row || column != table[i].column) printf("  got %zu, %zu\n", row, column);
+    }
+}
+
+static void places_are_found(void) {
+    static const struct {
+        const char *what, *text;
+        size_t row, column;
+        uint16_t prompt, columns, tab;
+        uint32_t mode;
+        size_t place;
+    } table[] = {
+        {"no text", "", 0, 0, 0, 10, 0, 0, 0},
+        {"no text, far away", "", 7, 7, 2, 10, 0, 0, 0},
+        {"on the prompt", "ab\ncd", 0, 1, 2, 10, 0, 0, 0},
+        {"at the start", "ab\ncd", 0, 2, 2, 10, 0, 0, 0},
+        {"between two letters", "ab\ncd", 0, 3, 2, 10, 0, 0, 1},
+        {"at the end of a line", "ab\ncd", 0, 4, 2, 10, 0, 0, 2},
+        {"to the right of a line", "ab\ncd", 0, SIZE_MAX, 2, 10, 0, 0, 2},
+        {"at the start of the next line", "ab\ncd", 1, 0, 2, 10, 0, 0, 3},
+        {"inside it", "ab\ncd", 1, 1, 2, 10, 0, 0, 4},
+        {"to the right of the last line", "ab\ncd", 1, 9, 2, 10, 0, 0, 5},
+        {"below the last line", "ab\ncd", SIZE_MAX, 0, 2, 10, 0, 0, 5},
+        {"before a wide letter", "a漢b", 0, 1, 0, 10, 0, 0, 1},
+        {"in its right half", "a漢b", 0, 2, 0, 10, 0, 0, 1},
+        {"after it", "a漢b", 0, 3, 0, 10, 0, 0, 4},
+        {"before the right edge", "abcd", 0, 3, 0, 4, 0, 0, 3},
+        {"at the edge, which is the next row", "abcd", 1, 0, 0, 4, 0, 0, 4},
+        {"where a wide letter did not fit", "abc漢", 0, 3, 0, 4, 0, 0, 3},
+        {"where it stands", "abc漢", 1, 0, 0, 4, 0, 0, 3},
+        {"in its right half there", "abc漢", 1, 1, 0, 4, 0, 0, 3},
+        {"after it there", "abc漢", 1, 2, 0, 4, 0, 0, 6},
+        {"inside a tab", "a\tb", 0, 7, 0, 20, 8, 0, 1},
+        {"after a tab", "a\tb", 0, 8, 0, 20, 8, 0, 2},
+        {"a tab of one column", "a\tb", 0, 2, 0, 20, 0, LODVARN_UNICODE, 2},
+        {"two places at one cell", "a\tb", 0, 1, 0, 20, 0, LODVARN_WC_WIDTH, 2},
+        {"a mark is of its letter", "e\u0301x", 0, 0, 0, 10, 0, 0, 0},
+        {"after both", "e\u0301x", 0, 1, 0, 10, 0, 0, 3},
+        {"inside a family", FAMILY "x", 0, 1, 0, 10, 0, LODVARN_UNICODE, 0},
+        {"after a family of two columns", FAMILY "x", 0, 2, 0, 10, 0, LODVARN_UNICODE, 18},
+        {"or of six", FAMILY "x", 0, 5, 0, 10, 0, LODVARN_WC_WIDTH, 0},
+    };
+    for (size_t i = 0; i < sizeof table / sizeof *table; i++) {
+        size_t place = 99;
+        uint32_t answer = lodvarn_place_at(table[i].text, strlen(table[i].text), table[i].row, table[i].column,
+                                           table[i].prompt, table[i].columns, table[i].tab, table[i].mode, &place);
+        see(table[i].what, answer == LODVARN_DONE && place == table[i].place);
+        if (place != table[i].place) printf("  got %zu\n", place);
     }
 }
 
@@ -249,6 +559,11 @@ static uint32_t word_end(lodvarn **at, uint32_t word) { return lodvarn_delete_wo
 static uint32_t delete_to(lodvarn **at, uint32_t search) { return lodvarn_delete_to(at, search, 'x', 2); }
 static uint32_t indent(lodvarn **at, uint32_t direction) {
     return lodvarn_indent(at, LODVARN_WHOLE_BUFFER, 0, 0, 2, direction);
+}
+static uint32_t kill_range(lodvarn **at, uint32_t direction) {
+    lodvarn_kill(at, LODVARN_END_OF_LINE, 1, 0);
+    lodvarn_kill_range(at, 1, 5, direction);
+    return lodvarn_yank(at, 1);
 }
 
 static const struct meaning {
@@ -283,11 +598,13 @@ static const struct meaning {
     {kill, LODVARN_WHOLE_BUFFER, "kill buf"},
     {kill, LODVARN_BEGINNING_OF_BUFFER, "kill bob"},
     {kill, LODVARN_END_OF_BUFFER, "kill eob"},
+    {kill, LODVARN_FIRST_NONBLANK, "kill nonblank"},
     {move, LODVARN_BACKWARD_VI_WORD, "move bword 2 vi"},
     {move, LODVARN_FORWARD_VI_WORD_START, "move fword 2 start vi"},
     {move, LODVARN_SEARCH_BACKWARD_AFTER, "move find 2 T x"},
     {move, LODVARN_LINE_UP, "move up 2"},
     {move, LODVARN_LINE_DOWN, "move down 2"},
+    {move, LODVARN_FIRST_NONBLANK, "move nonblank"},
     {prev_word, LODVARN_BIG, "prevword 2 big"},
     {prev_word, LODVARN_EMACS, "prevword 2 emacs"},
     {prev_word, LODVARN_VI, "prevword 2 vi"},
@@ -306,12 +623,14 @@ static const struct meaning {
     {lodvarn_edit_word, LODVARN_UPPERCASE, "case up"},
     {indent, LODVARN_INDENT, "indent 2 buf"},
     {indent, LODVARN_DEDENT, "dedent 2 buf"},
+    {kill_range, LODVARN_KILL_FORWARD, "kill eol\nkillrange 1 5 f\nyank 1"},
+    {kill_range, LODVARN_KILL_BACKWARD, "kill eol\nkillrange 1 5 b\nyank 1"},
 };
 enum { MEANINGS = sizeof meanings / sizeof *meanings };
 
 /* On this text no two lines of a call do the same from both places of the cursor. */
-static const char amid[] = "text   x One\\nx-two\\ntwo_x/y z,x aB b_c,d e.f x\\n3x\\n4\\n5";
-static const char *const amid_places[] = {"pos 25", "pos 27"};
+static const char amid[] = "text   x One\\nx-two\\n two_x/y z,x aB b_c,d e.f x\\n3x\\n4\\n5";
+static const char *const amid_places[] = {"pos 26", "pos 28"};
 
 /* The last line of what was printed, which shows cursor and text. */
 static void copy_last_line(char *printed, char *to, size_t cap) {
@@ -443,8 +762,9 @@ static void nothing_is_open(void) {
     LEAVES(LODVARN_CLOSED, lodvarn_delete_range(&s, 0, 0));
     LEAVES(LODVARN_CLOSED, lodvarn_delete(&s, 1, out, sizeof out, &number));
     LEAVES(LODVARN_CLOSED, lodvarn_backspace(&s, 1));
-    LEAVES(LODVARN_CLOSED, lodvarn_kill_line(&s));
-    LEAVES(LODVARN_CLOSED, lodvarn_kill_buffer(&s));
+    LEAVES(LODVARN_CLOSED, lodvarn_delete(&s, 1, NULL, 0, &number));
+    LEAVES(LODVARN_CLOSED, lodvarn_delete_to_line_end(&s));
+    LEAVES(LODVARN_CLOSED, lodvarn_delete_to_end(&s));
     LEAVES(LODVARN_CLOSED, lodvarn_discard_line(&s));
     LEAVES(LODVARN_CLOSED, lodvarn_discard_buffer(&s));
     LEAVES(LODVARN_CLOSED, lodvarn_delete_prev_word(&s, LODVARN_EMACS, 1));
@@ -454,21 +774,35 @@ static void nothing_is_open(void) {
     LEAVES(LODVARN_CLOSED, lodvarn_transpose_words(&s, 1));
     LEAVES(LODVARN_CLOSED, lodvarn_edit_word(&s, LODVARN_CAPITALIZE));
     LEAVES(LODVARN_CLOSED, lodvarn_kill(&s, LODVARN_END_OF_LINE, 1, 0));
+    LEAVES(LODVARN_CLOSED, lodvarn_kill_range(&s, 0, 0, LODVARN_KILL_FORWARD));
+    LEAVES(LODVARN_CLOSED, lodvarn_keep(&s, "a", 1));
     LEAVES(LODVARN_CLOSED, lodvarn_copy(&s, LODVARN_END_OF_LINE, 1, 0, out, sizeof out, &number));
     LEAVES(LODVARN_CLOSED, lodvarn_indent(&s, LODVARN_WHOLE_LINE, 1, 0, 2, LODVARN_INDENT));
     LEAVES(LODVARN_CLOSED, lodvarn_begin(&s, &number));
     LEAVES(LODVARN_CLOSED, lodvarn_end(&s));
+    LEAVES(LODVARN_CLOSED, lodvarn_end_one(&s));
     LEAVES(LODVARN_CLOSED, lodvarn_undo(&s, 1));
     LEAVES(LODVARN_CLOSED, lodvarn_redo(&s));
     LEAVES(LODVARN_CLOSED, lodvarn_truncate(&s, 0));
     LEAVES(LODVARN_CLOSED, lodvarn_line_place(&s, &number, &columns));
+    LEAVES(LODVARN_CLOSED, lodvarn_set_prompt(&s, 1));
+    LEAVES(LODVARN_CLOSED, lodvarn_set_limit(&s, 1));
+    LEAVES(LODVARN_CLOSED, lodvarn_set_bound(&s, 1, 1));
     LEAVES(LODVARN_CLOSED, lodvarn_changed(&s, &places[0], &places[1], &places[2]));
     LEAVES(LODVARN_CLOSED, lodvarn_watch(&s, 1, 1));
     LEAVES(LODVARN_CLOSED, NEXT_REPORT(out, sizeof out));
     LEAVES(LODVARN_CLOSED, lodvarn_line_range(&s, 0, &number, &other));
+    LEAVES(LODVARN_CLOSED, lodvarn_line_column(&s, &number, &columns));
+    LEAVES(LODVARN_CLOSED, lodvarn_covers(&s, LODVARN_WHOLE_LINE, 1, 0, &number, &other));
+    LEAVES(LODVARN_CLOSED, lodvarn_destination(&s, LODVARN_END_OF_LINE, 1, 0, &number));
+    LEAVES(LODVARN_CLOSED, lodvarn_cluster(&s, 0, &number, &columns));
+    LEAVES(LODVARN_CLOSED, lodvarn_can_undo(&s));
+    LEAVES(LODVARN_CLOSED, lodvarn_can_redo(&s));
+    LEAVES(LODVARN_CLOSED, lodvarn_ring_text(&s, 0, out, sizeof out, &number));
     LEAVES(LODVARN_CLOSED, lodvarn_last_was_yank(&s));
     see("the reads of a closed session are 0", !lodvarn_text(&s, out, sizeof out) && !lodvarn_pos(&s)
-        && !lodvarn_line_number(&s) && !lodvarn_line_count(&s) && !lodvarn_limit(&s) && !lodvarn_entries(&s));
+        && !lodvarn_line_number(&s) && !lodvarn_line_count(&s) && !lodvarn_limit(&s) && !lodvarn_entries(&s)
+        && !lodvarn_level(&s) && !lodvarn_ring_count(&s));
     see("it stays closed", s == NULL && out[0] == '#');
 }
 
@@ -478,6 +812,8 @@ static void texts_of_no_bytes(void) {
     LEAVES(LODVARN_NONE, lodvarn_paste(&s, "a", 0, 1));
     LEAVES(LODVARN_FALSE, lodvarn_insert_str(&s, 0, NULL, 0));
     LEAVES(LODVARN_NONE, lodvarn_delete(&s, 0, NULL, 0, &number));
+    LEAVES(LODVARN_NONE, lodvarn_delete(&s, 0, out, 0, &number));
+    LEAVES(LODVARN_NONE, lodvarn_ring_text(&s, 1, NULL, 0, &number));
     LEAVES(LODVARN_NONE, lodvarn_copy(&s, LODVARN_FORWARD_CHAR, 0, 0, NULL, 0, &number));
     LEAVES(LODVARN_TRUE, lodvarn_insert(&s, 'a', 0));
     LEAVES(LODVARN_FALSE, lodvarn_backspace(&s, 0));
@@ -491,7 +827,10 @@ static void texts_of_no_bytes(void) {
     number = 77;
     see("no script prints nothing", lodvarn_script(NULL, 0, NULL, 0, &number) == LODVARN_DONE && number == 0);
     see("no text stands at the prompt",
-        lodvarn_cell(NULL, 0, 0, 3, 10, LODVARN_UNICODE, &number, &other) == LODVARN_DONE && number == 0 && other == 3);
+        !lodvarn_cell(NULL, 0, 0, 3, 10, 0, LODVARN_UNICODE, &number, &other) && number == 0 && other == 3);
+    number = 77;
+    see("whatever its cell", !lodvarn_place_at(NULL, 0, 5, 5, 3, 10, 0, LODVARN_UNICODE, &number) && number == 0);
+    see("no text is kept as one", !lodvarn_keep(&s, NULL, 0) && ring_has(&s, 0, "") && lodvarn_ring_count(&s) == 2);
     see("a session opens on no text",
         lodvarn_open(&s, NULL, 0, 0, 0, 0, LODVARN_UNICODE) == LODVARN_DONE && stands(&s, "", 0) && !lodvarn_limit(&s));
     see("its text may not grow", lodvarn_insert(&s, 'a', 1) == LODVARN_NONE);
@@ -514,7 +853,9 @@ static void texts_that_are_no_utf8(void) {
         LEAVES(LODVARN_NOT_UTF8, lodvarn_width(bad, len, LODVARN_UNICODE, &columns));
         LEAVES(LODVARN_NOT_UTF8, lodvarn_first_cluster(bad, len, &number));
         LEAVES(LODVARN_NOT_UTF8, lodvarn_last_cluster(bad, len, &number));
-        LEAVES(LODVARN_NOT_UTF8, lodvarn_cell(bad, len, 0, 0, 10, LODVARN_UNICODE, &number, &other));
+        LEAVES(LODVARN_NOT_UTF8, lodvarn_cell(bad, len, 0, 0, 10, 0, LODVARN_UNICODE, &number, &other));
+        LEAVES(LODVARN_NOT_UTF8, lodvarn_place_at(bad, len, 0, 0, 0, 10, 0, LODVARN_UNICODE, &number));
+        LEAVES(LODVARN_NOT_UTF8, lodvarn_keep(&s, bad, len));
     }
     see("a yank can still be popped", lodvarn_yank_pop(&s) == LODVARN_TRUE && stands(&s, "aé\nb", 5));
     uint32_t answer = lodvarn_script("\xff\n", 2, out, sizeof out, &number);
@@ -527,10 +868,14 @@ static void places_that_are_none(void) {
     LEAVES(LODVARN_BAD_PLACE, lodvarn_open(&s, "é", 2, 3, 64, 60, LODVARN_UNICODE));
     LEAVES(LODVARN_BAD_PLACE, lodvarn_restart(&s, "é", 2, 1));
     LEAVES(LODVARN_BAD_PLACE, lodvarn_restart(&s, "é", 2, 3));
-    LEAVES(LODVARN_BAD_PLACE, lodvarn_cell("é", 2, 1, 0, 10, LODVARN_UNICODE, &number, &other));
-    LEAVES(LODVARN_BAD_PLACE, lodvarn_cell("é", 2, 3, 0, 10, LODVARN_UNICODE, &number, &other));
+    LEAVES(LODVARN_BAD_PLACE, lodvarn_cell("é", 2, 1, 0, 10, 0, LODVARN_UNICODE, &number, &other));
+    LEAVES(LODVARN_BAD_PLACE, lodvarn_cell("é", 2, 3, 0, 10, 0, LODVARN_UNICODE, &number, &other));
     static const size_t bad[] = {2, 6, SIZE_MAX};
     for (size_t i = 0; i < sizeof bad / sizeof *bad; i++) {
+        LEAVES(LODVARN_BAD_PLACE, lodvarn_cluster(&s, bad[i], &number, &columns));
+        LEAVES(LODVARN_BAD_PLACE, lodvarn_kill_range(&s, 0, bad[i], LODVARN_KILL_FORWARD));
+        LEAVES(LODVARN_BAD_PLACE, lodvarn_kill_range(&s, bad[i], 5, LODVARN_KILL_BACKWARD));
+        see("a yank was still done last", lodvarn_last_was_yank(&s) == (i ? LODVARN_FALSE : LODVARN_TRUE));
         LEAVES(LODVARN_BAD_PLACE, lodvarn_set_pos(&s, bad[i]));
         LEAVES(LODVARN_BAD_PLACE, lodvarn_insert_str(&s, bad[i], "x", 1));
         LEAVES(LODVARN_BAD_PLACE, lodvarn_replace(&s, 0, bad[i], "x", 1));
@@ -540,6 +885,7 @@ static void places_that_are_none(void) {
     }
     LEAVES(LODVARN_BAD_PLACE, lodvarn_replace(&s, 3, 1, "x", 1));
     LEAVES(LODVARN_BAD_PLACE, lodvarn_delete_range(&s, 3, 1));
+    LEAVES(LODVARN_BAD_PLACE, lodvarn_kill_range(&s, 3, 1, LODVARN_KILL_FORWARD));
     LEAVES(LODVARN_BAD_PLACE, lodvarn_update(&s, "é", 2, 1));
     LEAVES(LODVARN_BAD_PLACE, lodvarn_update(&s, "é", 2, 3));
     lodvarn_set_pos(&s, 3);
@@ -557,6 +903,8 @@ static void numbers_that_name_nothing(void) {
             LEAVES(LODVARN_NO_SUCH_NUMBER, lodvarn_move(&s, m, 1, chars[i]));
             LEAVES(LODVARN_NO_SUCH_NUMBER, lodvarn_kill(&s, m, 1, chars[i]));
             LEAVES(LODVARN_NO_SUCH_NUMBER, lodvarn_copy(&s, m, 1, chars[i], out, sizeof out, &number));
+            LEAVES(LODVARN_NO_SUCH_NUMBER, lodvarn_covers(&s, m, 1, chars[i], &number, &other));
+            LEAVES(LODVARN_NO_SUCH_NUMBER, lodvarn_destination(&s, m, 1, chars[i], &number));
             LEAVES(LODVARN_NO_SUCH_NUMBER, lodvarn_indent(&s, m, 1, chars[i], 1, LODVARN_INDENT));
         }
     }
@@ -564,10 +912,13 @@ static void numbers_that_name_nothing(void) {
     for (size_t i = 0; i < sizeof past / sizeof *past; i++) {
         uint32_t by = past[i];
         LEAVES(LODVARN_NO_SUCH_NUMBER, lodvarn_open(&s, "", 0, 0, 64, 60, LODVARN_NO_ZWJ + 1 + by));
-        LEAVES(LODVARN_NO_SUCH_NUMBER, lodvarn_move(&s, LODVARN_END_OF_BUFFER + 1 + by, 1, 'a'));
-        LEAVES(LODVARN_NO_SUCH_NUMBER, lodvarn_kill(&s, LODVARN_END_OF_BUFFER + 1 + by, 1, 'a'));
-        LEAVES(LODVARN_NO_SUCH_NUMBER, lodvarn_copy(&s, LODVARN_END_OF_BUFFER + 1 + by, 1, 'a', out, 8, &number));
-        LEAVES(LODVARN_NO_SUCH_NUMBER, lodvarn_indent(&s, LODVARN_END_OF_BUFFER + 1 + by, 1, 'a', 1, LODVARN_INDENT));
+        LEAVES(LODVARN_NO_SUCH_NUMBER, lodvarn_move(&s, LODVARN_FIRST_NONBLANK + 1 + by, 1, 'a'));
+        LEAVES(LODVARN_NO_SUCH_NUMBER, lodvarn_kill(&s, LODVARN_FIRST_NONBLANK + 1 + by, 1, 'a'));
+        LEAVES(LODVARN_NO_SUCH_NUMBER, lodvarn_copy(&s, LODVARN_FIRST_NONBLANK + 1 + by, 1, 'a', out, 8, &number));
+        LEAVES(LODVARN_NO_SUCH_NUMBER, lodvarn_covers(&s, LODVARN_FIRST_NONBLANK + 1 + by, 1, 'a', &number, &other));
+        LEAVES(LODVARN_NO_SUCH_NUMBER, lodvarn_destination(&s, LODVARN_FIRST_NONBLANK + 1 + by, 1, 'a', &number));
+        LEAVES(LODVARN_NO_SUCH_NUMBER, lodvarn_kill_range(&s, 0, 1, LODVARN_KILL_BACKWARD + 1 + by));
+        LEAVES(LODVARN_NO_SUCH_NUMBER, lodvarn_indent(&s, LODVARN_FIRST_NONBLANK + 1 + by, 1, 'a', 1, LODVARN_INDENT));
         LEAVES(LODVARN_NO_SUCH_NUMBER, lodvarn_indent(&s, LODVARN_WHOLE_LINE, 1, 0, 1, LODVARN_DEDENT + 1 + by));
         LEAVES(LODVARN_NO_SUCH_NUMBER, lodvarn_delete_prev_word(&s, LODVARN_VI + 1 + by, 1));
         LEAVES(LODVARN_NO_SUCH_NUMBER, lodvarn_delete_word(&s, LODVARN_START, LODVARN_VI + 1 + by, 1));
@@ -575,9 +926,11 @@ static void numbers_that_name_nothing(void) {
         LEAVES(LODVARN_NO_SUCH_NUMBER, lodvarn_delete_to(&s, LODVARN_BACKWARD_AFTER + 1 + by, 'a', 1));
         LEAVES(LODVARN_NO_SUCH_NUMBER, lodvarn_edit_word(&s, LODVARN_UPPERCASE + 1 + by));
         LEAVES(LODVARN_NO_SUCH_NUMBER, lodvarn_width("a", 1, LODVARN_NO_ZWJ + 1 + by, &columns));
-        LEAVES(LODVARN_NO_SUCH_NUMBER, lodvarn_cell("a", 1, 1, 0, 10, LODVARN_NO_ZWJ + 1 + by, &number, &other));
+        LEAVES(LODVARN_NO_SUCH_NUMBER, lodvarn_cell("a", 1, 1, 0, 10, 8, LODVARN_NO_ZWJ + 1 + by, &number, &other));
+        LEAVES(LODVARN_NO_SUCH_NUMBER, lodvarn_place_at("a", 1, 0, 1, 0, 10, 8, LODVARN_NO_ZWJ + 1 + by, &number));
     }
-    LEAVES(LODVARN_NO_SUCH_NUMBER, lodvarn_cell("a", 1, 1, 0, 0, LODVARN_UNICODE, &number, &other));
+    LEAVES(LODVARN_NO_SUCH_NUMBER, lodvarn_cell("a", 1, 1, 0, 0, 8, LODVARN_UNICODE, &number, &other));
+    LEAVES(LODVARN_NO_SUCH_NUMBER, lodvarn_place_at("a", 1, 0, 1, 0, 0, 8, LODVARN_UNICODE, &number));
     see("a yank can still be popped", lodvarn_yank_pop(&s) == LODVARN_TRUE && stands(&s, "aé\nb", 5));
     see("a movement without a search ignores the character",
         lodvarn_move(&s, LODVARN_BACKWARD_CHAR, 1, UINT32_MAX) == LODVARN_TRUE && stands(&s, "aé\nb", 4));
@@ -593,8 +946,17 @@ static void buffers_that_are_too_small(void) {
     see("a deletion does not fit", answer == LODVARN_TOO_SMALL && number == 3 && out[0] == '#');
     see("and is not done", stands(&s, "aé\nb", 1) && lodvarn_entries(&s) == 2);
     number = 77;
-    answer = lodvarn_delete(&s, 1, NULL, 0, &number);
-    see("nor with no buffer", answer == LODVARN_TOO_SMALL && number == 2 && stands(&s, "aé\nb", 1));
+    answer = lodvarn_delete(&s, 1, out, 0, &number);
+    see("nor with a buffer of no bytes", answer == LODVARN_TOO_SMALL && number == 2 && stands(&s, "aé\nb", 1));
+    number = 77;
+    answer = lodvarn_copy(&s, LODVARN_FORWARD_CHAR, 2, 0, NULL, 0, &number);
+    see("nor does a copy with no buffer", answer == LODVARN_TOO_SMALL && number == 3);
+    number = 77;
+    answer = lodvarn_ring_text(&s, 0, out, 3, &number);
+    see("nor a text of the ring", answer == LODVARN_TOO_SMALL && number == 4 && out[0] == '#');
+    answer = lodvarn_ring_text(&s, 0, out, 4, &number);
+    see("which fits exactly", answer == LODVARN_TEXT && number == 4 && !memcmp(out, "é\nb#", 5));
+    memset(out, '#', sizeof out);
     answer = lodvarn_copy(&s, LODVARN_FORWARD_CHAR, 2, 0, out, 3, &number);
     see("a copy fits exactly", answer == LODVARN_TEXT && number == 3 && !memcmp(out, "é\n#", 4));
     answer = lodvarn_delete(&s, 2, out, 3, &number);
@@ -604,6 +966,70 @@ static void buffers_that_are_too_small(void) {
     see("as much of the text as there is room for", lodvarn_text(&s, out, 1) == 2 && out[0] == 'a' && out[1] == '#');
     answer = lodvarn_script("ins 1 x\n", 8, out, 3, &number);
     see("as much of a script's output", answer == LODVARN_DONE && number == 9 && !memcmp(out, "tru#", 4));
+}
+
+static void a_deletion_is_not_wanted(void) {
+    begin_bad_input();
+    lodvarn_set_pos(&s, 1);
+    see("clusters are deleted", lodvarn_delete(&s, 2, NULL, 0, &number) == LODVARN_TEXT && number == 3);
+    see("and not handed out", stands(&s, "ab", 1) && lodvarn_ring_count(&s) == 1);
+    number = 77;
+    see("nor is their length", lodvarn_delete(&s, 9, NULL, 0, NULL) == LODVARN_TEXT && stands(&s, "a", 1));
+    LEAVES(LODVARN_NONE, lodvarn_delete(&s, 1, NULL, 0, &number));
+    see("an undo puts all back", lodvarn_undo(&s, 1) == LODVARN_TRUE && stands(&s, "aé\nb", 1));
+}
+
+/* Each call that writes numbers does the same where they are not wanted. */
+static void numbers_that_are_not_wanted(void) {
+    begin_bad_input();
+    lodvarn_watch(&s, 9, 9);
+    see("a begin", lodvarn_begin(&s, NULL) == LODVARN_MARK && lodvarn_level(&s) == 1);
+    see("a deletion", lodvarn_set_pos(&s, 0) == LODVARN_DONE && lodvarn_delete(&s, 1, out, 8, NULL) == LODVARN_TEXT);
+    see("and its text", out[0] == 'a' && stands(&s, "é\nb", 0));
+    see("a copy", lodvarn_copy(&s, LODVARN_WHOLE_LINE, 1, 0, out, 8, NULL) == LODVARN_TEXT && !memcmp(out, "é", 2));
+    see("one that does not fit", lodvarn_copy(&s, LODVARN_WHOLE_LINE, 1, 0, out, 1, NULL) == LODVARN_TOO_SMALL);
+    see("a text of the ring", lodvarn_ring_text(&s, 0, out, 8, NULL) == LODVARN_TEXT && !memcmp(out, "é\nb", 4));
+    lodvarn_set_pos(&s, 4);
+    columns = number = other = 77;
+    see("a line", lodvarn_line_place(&s, &number, NULL) == LODVARN_AT && number == 1);
+    see("a column", lodvarn_line_place(&s, NULL, &columns) == LODVARN_AT && columns == 1);
+    columns = number = 77;
+    see("a line that is read", lodvarn_line_column(&s, &number, NULL) == LODVARN_AT && number == 1);
+    see("a column that is read", lodvarn_line_column(&s, NULL, &columns) == LODVARN_AT && columns == 1);
+    see("the start of a line", lodvarn_line_range(&s, 1, &number, NULL) == LODVARN_DONE && number == 3);
+    see("the end of a line", lodvarn_line_range(&s, 1, NULL, &number) == LODVARN_DONE && number == 4);
+    see("what is covered from", !lodvarn_covers(&s, LODVARN_WHOLE_LINE, 1, 0, &number, NULL) && number == 3);
+    see("what is covered to", !lodvarn_covers(&s, LODVARN_WHOLE_LINE, 1, 0, NULL, &number) && number == 4);
+    see("where a motion goes", lodvarn_destination(&s, LODVARN_BEGINNING_OF_LINE, 1, 0, NULL) == LODVARN_DONE);
+    see("nowhere", lodvarn_destination(&s, LODVARN_END_OF_LINE, 1, 0, NULL) == LODVARN_NONE);
+    see("the end of a cluster", lodvarn_cluster(&s, 0, &number, NULL) == LODVARN_DONE && number == 2);
+    columns = 77;
+    see("its columns", lodvarn_cluster(&s, 0, NULL, &columns) == LODVARN_DONE && columns == 1);
+    see("whether something changed", lodvarn_changed(&s, NULL, NULL, NULL) == LODVARN_DONE);
+    see("once", lodvarn_changed(&s, NULL, NULL, NULL) == LODVARN_NONE);
+    see("a report", lodvarn_next_report(&s, &kind, NULL, NULL, NULL, NULL, NULL, out, 8) == LODVARN_DONE);
+    see("its kind", kind == LODVARN_DELETED_FORWARD && out[0] == 'a');
+    see("no report", lodvarn_next_report(&s, NULL, NULL, NULL, NULL, NULL, NULL, NULL, 0) == LODVARN_NONE);
+    lodvarn_replace(&s, 0, 2, "xyz", 3);
+    uint32_t answer = lodvarn_next_report(&s, NULL, &number, NULL, &other, NULL, NULL, out, 8);
+    see("its place, and what came", answer == LODVARN_DONE && number == 0 && other == 3);
+    see("a script", lodvarn_script("ins 1 x\n", 8, out, 8, NULL) == LODVARN_DONE && !memcmp(out, "true 1 x", 8));
+    see("a width", lodvarn_width("a", 1, LODVARN_UNICODE, NULL) == LODVARN_DONE);
+    see("a first cluster", lodvarn_first_cluster("a", 1, NULL) == LODVARN_DONE);
+    see("a last cluster", lodvarn_last_cluster("\xff", 1, NULL) == LODVARN_NOT_UTF8);
+    see("a row", !lodvarn_cell("a\nbc", 4, 4, 0, 9, 0, LODVARN_UNICODE, &number, NULL) && number == 1);
+    see("its column", !lodvarn_cell("a\nbc", 4, 4, 0, 9, 0, LODVARN_UNICODE, NULL, &number) && number == 2);
+    see("a place", lodvarn_place_at("a", 1, 0, 0, 0, 9, 0, LODVARN_UNICODE, NULL) == LODVARN_DONE);
+}
+
+/* Calls by a name in parentheses, by a pointer, and by the old names. */
+static void calls_have_addresses(void) {
+    uint32_t (*width)(const char *, size_t, uint32_t, uint16_t *) = lodvarn_width;
+    uint32_t (*rest_of_line)(lodvarn **) = lodvarn_kill_line, (*rest)(lodvarn **) = lodvarn_kill_buffer;
+    columns = 77;
+    see("in parentheses", (lodvarn_width)("ab", 2, LODVARN_UNICODE, &columns) == LODVARN_DONE && columns == 2);
+    see("by a pointer", width("abc", 3, LODVARN_UNICODE, &columns) == LODVARN_DONE && columns == 3);
+    see("by an old name", rest_of_line == lodvarn_delete_to_line_end && rest == lodvarn_delete_to_end);
 }
 
 static void a_yank_is_kept_where_a_buffer_is_too_small(void) {
@@ -912,7 +1338,9 @@ static void what_changed_and_reports_are_apart(void) {
 
 static void memory_that_is_not_there(void) {
     begin_bad_input();
-    LEAVES(LODVARN_NO_MEMORY, lodvarn_open(&s, "a", 1, 0, SIZE_MAX, 60, LODVARN_UNICODE));
+    LEAVES(LODVARN_NO_MEMORY, lodvarn_watch(&s, SIZE_MAX / 2, 0));
+    see("a limit takes none", lodvarn_open(&s, "a", 1, 0, SIZE_MAX - 1, 60, LODVARN_UNICODE) == LODVARN_DONE);
+    see("and is as it was said", lodvarn_limit(&s) == SIZE_MAX - 1 && stands(&s, "a", 0));
 }
 
 int main(void) {
@@ -921,18 +1349,32 @@ int main(void) {
     answers_have_names();
     a_case_change_is_undone_at_once();
     reads_read();
+    movements_are_asked();
+    a_movement_goes_to_what_is_no_blank();
+    clusters_of_a_session_are_measured();
+    the_column_is_read();
     reads_part_no_kills();
+    ranges_are_killed();
+    texts_are_kept();
+    groups_are_closed_one_by_one();
+    a_prompt_is_counted();
+    a_limit_is_set();
+    a_bound_is_set();
     sessions_are_apart();
     numbers_mean_what_they_say();
     widths_are_measured();
     clusters_are_found();
     cells_are_placed();
+    places_are_found();
     nothing_is_open();
     texts_of_no_bytes();
     texts_that_are_no_utf8();
     places_that_are_none();
     numbers_that_name_nothing();
     buffers_that_are_too_small();
+    a_deletion_is_not_wanted();
+    numbers_that_are_not_wanted();
+    calls_have_addresses();
     a_yank_is_kept_where_a_buffer_is_too_small();
     a_pop_of_an_empty_text_takes_out_what_was_yanked();
     a_yank_of_no_times_is_one();
