@@ -62,8 +62,19 @@ static uint32_t step(unsigned which) {
     case 25: return lodvarn_update(&s, "one two", 7, 3);
     case 26: return lodvarn_delete_word(&s, LODVARN_AFTER_END, LODVARN_BIG, 1);
     case 27: return lodvarn_delete_to(&s, LODVARN_BACKWARD, 'o', 1);
-    case 28: return lodvarn_kill_line(&s);
+    case 28: return lodvarn_delete_to_line_end(&s);
     case 29: return lodvarn_discard_buffer(&s);
+    case 30: return lodvarn_paste(&s, "kept and killed", 15, 1);
+    case 31: return lodvarn_kill_range(&s, 2, 5, LODVARN_KILL_FORWARD);
+    case 32: return lodvarn_kill_range(&s, 0, 2, LODVARN_KILL_BACKWARD);
+    case 33: return lodvarn_keep(&s, "kept", 4);
+    case 34: return lodvarn_begin(&s, NULL);
+    case 35: return lodvarn_delete(&s, 1, NULL, 0, NULL);
+    case 36: return lodvarn_begin(&s, &len);
+    case 37: return lodvarn_kill(&s, LODVARN_FIRST_NONBLANK, 1, 0);
+    case 38: return lodvarn_insert(&s, 'x', 1);
+    case 39: return lodvarn_end_one(&s);
+    case 40: return lodvarn_end_one(&s);
     default: return UINT32_MAX;
     }
 }
@@ -73,7 +84,7 @@ static int stands(void) {
     static char text[1024];
     size_t len = lodvarn_text(&s, text, sizeof text), row, column;
     return len <= sizeof text && len <= lodvarn_limit(&s)
-        && lodvarn_cell(text, len, lodvarn_pos(&s), 0, 80, LODVARN_UNICODE, &row, &column) == LODVARN_DONE;
+        && lodvarn_cell(text, len, lodvarn_pos(&s), 0, 80, 8, LODVARN_UNICODE, &row, &column) == LODVARN_DONE;
 }
 
 /* After everything is undone the text is the first one. */
@@ -140,15 +151,28 @@ static uint32_t frugal_step(unsigned which) {
     case 14: return lodvarn_width(text, sizeof text - 1, LODVARN_NO_ZWJ, &columns);
     case 15: return lodvarn_first_cluster(text, sizeof text - 1, &a);
     case 16: return lodvarn_last_cluster(text, sizeof text - 1, &a);
-    case 17: return lodvarn_cell(text, sizeof text - 1, sizeof text - 1, 0, 2, LODVARN_UNICODE, &a, &b);
+    case 17: return lodvarn_cell(text, sizeof text - 1, sizeof text - 1, 0, 2, 8, LODVARN_UNICODE, &a, &b);
+    case 18: return lodvarn_place_at(text, sizeof text - 1, 1, 1, 0, 2, 8, LODVARN_UNICODE, &a);
+    case 19: return lodvarn_version() == 0;
+    case 20: return lodvarn_set_prompt(&s, 2);
+    case 21: return lodvarn_set_limit(&s, LODVARN_NO_LIMIT);
+    case 22: return lodvarn_set_bound(&s, 0, 0);
+    case 23: return lodvarn_line_column(&s, &a, &columns);
+    case 24: return lodvarn_cluster(&s, 1, &a, &columns);
+    case 25: return lodvarn_covers(&s, LODVARN_LINE_UP, 1, 0, &a, &b);
+    case 26: return lodvarn_destination(&s, LODVARN_FIRST_NONBLANK, 1, 0, &a);
+    case 27: return lodvarn_can_undo(&s) != LODVARN_TRUE || lodvarn_can_redo(&s) != LODVARN_FALSE;
+    case 28: return lodvarn_level(&s) + lodvarn_ring_count(&s) != 1;
+    case 29: return lodvarn_ring_text(&s, 0, out, sizeof out, &a);
     default: return UINT32_MAX;
     }
 }
 
 /* What the call of that number answers where every request is refused; -1 where it makes one. The session has a change
- * and a report to tell, and a ring of any size. */
+ * and a report to tell, and a ring of any size with one text. */
 static int64_t frugal_answer(unsigned which) {
     if (lodvarn_open(&s, start, 5, 5, 64, SIZE_MAX, LODVARN_UNICODE) != LODVARN_DONE) exit(2);
+    if (lodvarn_keep(&s, "kept", 4) != LODVARN_DONE) exit(2);
     if (lodvarn_watch(&s, 3, 40) != LODVARN_DONE || lodvarn_paste(&s, "\nab", 3, 1) != LODVARN_TRUE) exit(2);
     was_refused = 0;
     left = 0;
