@@ -15,6 +15,7 @@
 enum {
     LIMIT = 65536, /* bytes that a text may have */
     RING = 60,     /* killed texts that are kept */
+    TAB = 0,       /* for lodvarn_cell: a tab is drawn as a blank */
     WAIT = 200     /* milliseconds to wait for the rest of a key */
 };
 
@@ -156,7 +157,7 @@ static void begin_row(struct editor *e, struct spot *at, const struct view *view
     at->column = 0;
 }
 
-/* Draws a cluster, or begins the row after a newline. A tab takes one column. The terminal may measure a cluster of
+/* Draws a cluster, or begins the row after a newline. A tab is a blank. The terminal may measure a cluster of
  * several characters as the sum of their widths. So the cursor is placed after it, and at the right edge it is not
  * wrapped. */
 static void draw_cluster(struct editor *e, const char *bytes, size_t len, struct spot *at, const struct view *view) {
@@ -201,18 +202,18 @@ static struct spot spot_before(const char *bytes, size_t place, uint16_t columns
         lodvarn_last_cluster(bytes, place, &k);
         place -= k;
         if (place == 0) return (struct spot){0, 0, 0};
-        lodvarn_cell(bytes, place, place, prompt_columns, columns, LODVARN_UNICODE, &row, &column);
+        lodvarn_cell(bytes, place, place, prompt_columns, columns, TAB, LODVARN_UNICODE, &row, &column);
     } while (column == 0 && bytes[place - 1] != '\n');
     return (struct spot){place, row, column};
 }
 
 /* What of the text should be shown on a screen of that size, and the spot of the cursor. */
 static struct view view_of(struct editor *e, struct winsize size, struct spot *cursor) {
-    size_t last = 0, unused;
+    size_t last = 0;
     cursor->place = lodvarn_pos(&e->session);
-    lodvarn_cell(e->text, e->len, cursor->place, prompt_columns, size.ws_col, LODVARN_UNICODE, &cursor->row,
+    lodvarn_cell(e->text, e->len, cursor->place, prompt_columns, size.ws_col, TAB, LODVARN_UNICODE, &cursor->row,
                  &cursor->column);
-    lodvarn_cell(e->text, e->len, e->len, prompt_columns, size.ws_col, LODVARN_UNICODE, &last, &unused);
+    lodvarn_cell(e->text, e->len, e->len, prompt_columns, size.ws_col, TAB, LODVARN_UNICODE, &last, NULL);
     size_t top = cursor->row < size.ws_row ? 0 : cursor->row - size.ws_row + 1;
     size_t bottom = last - top < size.ws_row ? last : top + size.ws_row - 1;
     return (struct view){top, bottom, last, size.ws_col, size.ws_row};
@@ -356,15 +357,13 @@ static void yank(struct editor *e, uint32_t older) {
 
 /* The next two make several changes each. The group lets one undo take them back. */
 static void change_case(struct editor *e, uint32_t action) {
-    size_t mark;
-    hear(e, lodvarn_begin(&e->session, &mark));
+    hear(e, lodvarn_begin(&e->session, NULL));
     hear(e, lodvarn_edit_word(&e->session, action));
     hear(e, lodvarn_end(&e->session));
 }
 
 static void transpose(struct editor *e, uint32_t words) {
-    size_t mark;
-    hear(e, lodvarn_begin(&e->session, &mark));
+    hear(e, lodvarn_begin(&e->session, NULL));
     hear(e, words ? lodvarn_transpose_words(&e->session, 1) : lodvarn_transpose_chars(&e->session));
     hear(e, lodvarn_end(&e->session));
 }
@@ -516,6 +515,7 @@ int main(void) {
     static struct editor e;
     if (tcgetattr(0, &e.before)) return perror("edit"), 1;
     if (lodvarn_open(&e.session, "", 0, 0, LIMIT, RING, LODVARN_UNICODE) != LODVARN_DONE) return 1;
+    lodvarn_set_prompt(&e.session, prompt_columns);
     setvbuf(stdout, e.output, _IOFBF, sizeof e.output);
     hear_signals(&e);
     enter_raw(&e);

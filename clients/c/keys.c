@@ -29,8 +29,7 @@ static void undo(uint32_t again) { hear(again ? lodvarn_redo(&s) : lodvarn_undo(
 
 /* One undo takes back both changes. */
 static void change_case(uint32_t action) {
-    size_t mark;
-    hear(lodvarn_begin(&s, &mark));
+    hear(lodvarn_begin(&s, NULL));
     hear(lodvarn_edit_word(&s, action));
     hear(lodvarn_end(&s));
 }
