@@ -21,6 +21,7 @@ mod motions;
 mod replies;
 mod yanks;
 
+use crate::options::Options;
 use crate::pair::Pair;
 use rl_base::{
     At, CharSearch, GraphemeClusterMode, KillRing, Movement, NoListener, RepeatCount, Report,
@@ -151,7 +152,7 @@ pub enum Reply {
 pub struct Session {
     line: LineBuffer,
     pair: Pair,
-    mode: GraphemeClusterMode,
+    options: Options,
     alloc: Global,
 }
 
@@ -160,7 +161,7 @@ impl Model for Session {
 
     ghost Value = { State };
 
-    ghost view = { λ s. record { line = s.line; pair = s.pair; mode = s.mode } };
+    ghost view = { λ s. record { line = s.line; pair = s.pair; options = s.options } };
 
     ghost invariant = { λ s. AtRest s.line s.pair };
 }
@@ -233,7 +234,7 @@ impl Session {
                 changes: Changeset::new(alloc),
                 watch: Watch::new(),
             },
-            mode,
+            options: Options::new(mode),
             alloc,
         };
         session.stands();
