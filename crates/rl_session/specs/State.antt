@@ -54,6 +54,14 @@ with_watch watch s = record s { pair = record s.pair { watch = watch } }
 abbrev pub with_ring : Ring → State → State
 with_ring ring s = record s { pair = record s.pair { ring = ring } }
 
+-- the same with another limit on the text's length, which the text itself is within
+abbrev pub limited : ℕ → State → State
+limited limit s = record s { line = record s.line { limit = max limit (length s.line.text) } }
+
+-- the same with a prompt that ends at another column
+abbrev pub prompted : ℕ → State → State
+prompted column s = record s { options = record s.options { prompt = column } }
+
 -- nothing is recorded, and nothing was undone
 abbrev pub no_changes : Record
 no_changes = record { recorded = []; pending = []; fresh = Stale }
