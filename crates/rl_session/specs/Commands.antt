@@ -13,7 +13,6 @@ use Rattle.rl_base.specs.Event.{Event}
 use Rattle.rl_base.specs.Text.{HasText}
 use Rattle.rl_base.specs.Watch.{watch_step}
 use Rattle.rl_base.specs.declared.listeners.Refusal.{Refusal}
-use Rattle.rl_base.specs.Widths.{blank_layout}
 use Rattle.rl_base.specs.Words.{next_word, prev_word}
 use Rattle.rl_base.specs.declared.motion.Movement.{Movement}
 use Rattle.rl_base.specs.declared.motion.WordAction.{WordAction}
@@ -31,6 +30,7 @@ use Rattle.rl_line.specs.Record.{Record, replays_to}
 use Rattle.rl_line.specs.Transpositions.{transpose_chars_plan, transpose_words_plan}
 use Rattle.rl_line.specs.Undo.{CopiesBack, Undone, Redone, steps_ahead, steps_back, texts_ahead, texts_back}
 use Rattle.rl_line.specs.Units.{adds_end, begun, ended, last_of, level, redo_of, truncated}
+use Rattle.rl_session.specs.Options.{layout_of}
 use Rattle.rl_session.specs.Pair.{pair_step, pair_refused}
 use Rattle.rl_session.specs.declared.pair.Pair.{Pair}
 use Rattle.rl_session.specs.declared.session.Command.{Command}
@@ -40,7 +40,7 @@ use Rattle.rl_session.specs.declared.session.Reply.{Reply}
 use Rattle.rl_session.specs.declared.session.Reply.TheVariants as says
 use Rattle.rl_session.specs.State.{State, Follows, IsBounded, Stands, with_ring}
 
--- where a movement leads, if anywhere; columns are counted from the left edge, since the prompt's column is 0
+-- where a movement leads, if anywhere; over lines it counts columns from the prompt of the session's options
 abbrev pub destination : State → Movement → Option ℕ
 destination s BeginningOfLine = unless_there s.line (home s.line)
 destination s EndOfLine = unless_there s.line (line_end s.line)
@@ -49,20 +49,20 @@ destination s (ForwardWord n at word) = next_word s.line.text s.line.cursor at w
 destination s (ViCharSearch n cs) = find_place s.line.text s.line.cursor cs n
 destination s (BackwardChar n) = prev_pos s.line.text s.line.cursor n
 destination s (ForwardChar n) = next_pos s.line.text s.line.cursor n
-destination s (LineUp n) = place_above (blank_layout s.mode) s.line.text s.line.cursor n
-destination s (LineDown n) = place_below (blank_layout s.mode) s.line.text s.line.cursor n
+destination s (LineUp n) = place_above (layout_of s.options) s.line.text s.line.cursor n
+destination s (LineDown n) = place_below (layout_of s.options) s.line.text s.line.cursor n
 destination s BeginningOfBuffer = unless_there s.line 0
 destination s EndOfBuffer = unless_there s.line (length s.line.text)
 destination s _ = None
 
 -- where the cursor stands: the number of its line, from 0, and the columns from that line's start
 abbrev pub line_place : State → ℕ × ℕ
-line_place s = (line_number s.line.text s.line.cursor, columns_before (blank_layout s.mode) s.line.text s.line.cursor)
+line_place s = (line_number s.line.text s.line.cursor, columns_before (layout_of s.options) s.line.text s.line.cursor)
 
 -- an edit was done
 pub record Edited {A : Type 0} (plan : Plan A) (old new : State) (answer : A) : Type 0 where
   pub done : Done pair_step plan old.line new.line old.pair new.pair answer
-  pub mode : new.mode ≡ old.mode
+  pub options : new.options ≡ old.options
 
 -- what memory an edit takes besides its listener: none; at each step the room that the step needs; or, before its first step,
 -- the room for a copy of what it moves or hands out
@@ -80,7 +80,7 @@ refusal_of a_copy = pair_refused
 -- an edit was refused, since memory is out, after its first steps
 pub record CutShort {A : Type 0} (takes : Takes) (plan : Plan A) (old new : State) : Type 0 where
   pub halted : Halted pair_step (refusal_of takes) plan old.line new.line old.pair new.pair why.NoMemory
-  pub mode : new.mode ≡ old.mode
+  pub options : new.options ≡ old.options
 
 -- where it may not have begun: there is something of which it makes a copy
 abbrev pub unbegun : {A : Type 0} → Takes → Plan A → Type 0

@@ -8,7 +8,7 @@ ghost use Rattle.std.specs.Option.{option_map};
 ghost use Rattle.rl_base.specs.Reports.{new_queue, texts_of};
 ghost use Rattle.rl_base.specs.Splice.{Splices, told, untouched};
 ghost use Rattle.rl_base.specs.Watch.{RefusesQueue, ReportTells, next_note, past_next, watch_step};
-ghost use Rattle.rl_session.specs.State.{State, Begins, ChangedFrom, Follows, IsBounded, ReportedFrom, Stands, with_watch, Opens, RefusesRestart, Replays, origin, restarted};
+ghost use Rattle.rl_session.specs.State.{State, Begins, ChangedFrom, Follows, IsBounded, ReportedFrom, Stands, with_watch, Opens, RefusesRestart, Replays, fresh, limited, origin, prompted, restarted};
 ghost use Rattle.rl_session.specs.Commands.{CarriesOut, Does, Step};
 ghost use Rattle.rl_session.specs.Run.{Row, Run, AfterEach, commands_of, held_of, replies_of, reports, reports_of};
 ghost use Rattle.rl_session.specs.declared.session.Command.{Command};
@@ -21,6 +21,7 @@ mod motions;
 mod replies;
 mod yanks;
 
+use crate::options::Options;
 use crate::pair::Pair;
 use rl_base::{
     At, CharSearch, GraphemeClusterMode, KillRing, Movement, NoListener, RepeatCount, Report,
@@ -151,7 +152,7 @@ pub enum Reply {
 pub struct Session {
     line: LineBuffer,
     pair: Pair,
-    mode: GraphemeClusterMode,
+    options: Options,
     alloc: Global,
 }
 
@@ -160,21 +161,19 @@ impl Model for Session {
 
     ghost Value = { State };
 
-    ghost view = { λ s. record { line = s.line; pair = s.pair; mode = s.mode } };
+    ghost view = { λ s. record { line = s.line; pair = s.pair; options = s.options } };
 
     ghost invariant = { λ s. AtRest s.line s.pair };
 }
 
-// A line that holds the text, with the cursor at a place.
-fn line_of(alloc: Global, text: &str, pos: usize, limit: usize) -> Result<LineBuffer, Fault>
-    requires { IsCharBoundary text.now pos }
-    ensures ok { IfOk result (λ line. line ≡ record { text = text.now; cursor = pos; limit = max limit (length text.now); grow = false }) }
-    ensures err { IfErr result (λ f. (f ≡ Fault.NoMemory) × (0 < max limit (length text.now))) }
+// Puts a text into an empty line, with the cursor at a place.
+fn filled(line: LineBuffer, text: &str, pos: usize) -> Result<LineBuffer, Fault>
+    requires empty { line ≡ record { text = []; cursor = 0; limit = line.limit; grow = false } }
+    requires place { IsCharBoundary text.now pos }
+    ensures ok { IfOk result (λ made. made ≡ record { text = text.now; cursor = pos; limit = max line.limit (length text.now); grow = false }) }
+    ensures err { IfErr result (λ f. (f ≡ Fault.NoMemory) × (0 < length text.now)) }
 {
-    let mut line = match LineBuffer::with_capacity(alloc, limit) {
-        Ok(line) => line,
-        Err(_) => return Err(Fault::NoMemory),
-    };
+    let mut line = line;
     match line.insert_str(0, text, &mut NoListener) {
         Ok(_) => {
             line.set_pos(pos);
@@ -225,7 +224,53 @@ impl Session {
         if !text.is_char_boundary(pos) {
             return Err(Fault::BadPlace);
         }
-        let line = line_of(alloc, text, pos, limit)?;
+        match LineBuffer::with_capacity(alloc, limit) {
+            Ok(line) => Session::on(alloc, line, text, pos, ring_size, mode),
+            Err(_) => Err(Fault::NoMemory),
+        }
+    }
+
+    /// The same session, with room for the text alone: the line asks for more when it needs it. So the limit may be
+    /// any number, and `usize::MAX` is no limit at all. `NoMemory` comes only where the text is not empty.
+    pub fn open(
+        alloc: Global,
+        text: &str,
+        pos: usize,
+        limit: usize,
+        ring_size: usize,
+        mode: GraphemeClusterMode,
+    ) -> Result<Self, Fault>
+        ensures opens { Opens text.now pos limit ring_size mode result }
+        ensures some { IfErr result (λ fault. fault ≡ Fault.NoMemory → 0 < length text.now) }
+        ensures replays { IfOk result (Replays text.now) }
+        ensures begins { IfOk result (Begins text.now) }
+        ensures changed { IfOk result (ChangedFrom text.now) }
+    {
+        if !text.is_char_boundary(pos) {
+            return Err(Fault::BadPlace);
+        }
+        let line = LineBuffer::with_limit(alloc, limit);
+        Session::on(alloc, line, text, pos, ring_size, mode)
+    }
+
+    // The session on an empty line, once the text was put into it.
+    fn on(
+        alloc: Global,
+        line: LineBuffer,
+        text: &str,
+        pos: usize,
+        ring_size: usize,
+        mode: GraphemeClusterMode,
+    ) -> Result<Self, Fault>
+        requires empty { line ≡ record { text = []; cursor = 0; limit = line.limit; grow = false } }
+        requires place { IsCharBoundary text.now pos }
+        ensures ok { IfOk result (λ s. s ≡ fresh text.now pos line.limit ring_size mode) }
+        ensures replays { IfOk result (Replays text.now) }
+        ensures begins { IfOk result (Begins text.now) }
+        ensures changed { IfOk result (ChangedFrom text.now) }
+        ensures err { IfErr result (λ f. (f ≡ Fault.NoMemory) × (0 < length text.now)) }
+    {
+        let line = filled(line, text, pos)?;
         let session = Session {
             line,
             pair: Pair {
@@ -233,7 +278,7 @@ impl Session {
                 changes: Changeset::new(alloc),
                 watch: Watch::new(),
             },
-            mode,
+            options: Options::new(mode),
             alloc,
         };
         session.stands();
@@ -264,6 +309,28 @@ impl Session {
         self.stands();
         self.bounded();
         Ok(())
+    }
+
+    /// Sets the limit on the text's length, in bytes: to the text's length where that is greater. So a text that was
+    /// longer than its limit, and shrank, can have the limit back. `usize::MAX` is no limit at all.
+    pub fn set_limit(&mut self, limit: usize)
+        ensures set { self.new ≡ limited limit self.old }
+        ensures changed { (asked : List ℕ) → ChangedFrom asked self.old → ChangedFrom asked self.new }
+        ensures reported { (read : List ℕ) → ReportedFrom read self.old → ReportedFrom read self.new }
+    {
+        self.line.set_limit(limit);
+        self.stands();
+        self.bounded();
+    }
+
+    /// Sets the column at which the prompt ends. `LineUp` and `LineDown` count the columns of the text's first line from
+    /// there.
+    pub fn set_prompt(&mut self, column: Unit)
+        ensures set { self.new ≡ prompted column self.old }
+        ensures changed { (asked : List ℕ) → ChangedFrom asked self.old → ChangedFrom asked self.new }
+        ensures reported { (read : List ℕ) → ReportedFrom read self.old → ReportedFrom read self.new }
+    {
+        self.options.prompt = column;
     }
 
     /// The line.

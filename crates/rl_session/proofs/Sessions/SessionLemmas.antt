@@ -171,7 +171,7 @@ Follows-unwind r line f =
 Edited-nothing : {A : Type 0} (a : A) (s : State) → Edited (nothing s.line a) s s a
 Edited-nothing a s = record {
   done = record { last = s.line; taken = record { line = refl; listener = refl }; line = refl; answered = refl };
-  mode = refl;
+  options = refl;
 }
 
 -- nothing was lent, so nothing was done

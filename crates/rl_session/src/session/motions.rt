@@ -4,7 +4,7 @@ ghost use Rattle.rl_session.specs.declared.session.Command.{Command};
 
 use crate::session::replies::handed_out;
 use crate::session::{Fault, Reply, Session};
-use rl_base::{Layout, Movement};
+use rl_base::Movement;
 
 impl Session {
     pub(super) fn set_pos(&mut self, pos: usize) -> Reply
@@ -21,7 +21,7 @@ impl Session {
     pub(super) fn move_by(&mut self, movement: &Movement) -> Reply
         ensures { Does self.old (Command.Move movement.now) result self.new }
     {
-        let layout = Layout::new(self.mode);
+        let layout = self.options.layout();
         let line = &mut self.line;
         Reply::Answer(match movement {
             Movement::BeginningOfLine => line.move_home(),
@@ -53,7 +53,7 @@ impl Session {
         match line.line_range(k) {
             Some(range) => {
                 let before = &line.as_str()[range.start..line.pos()];
-                Reply::At(k, self.mode.width(before))
+                Reply::At(k, self.options.mode.width(before))
             }
             None => unreachable!(),
         }
