@@ -1,11 +1,15 @@
 -- What the calls that change nothing answer. A closed session has no text, and its numbers are 0.
-use Rattle.std.specs.Prelude.{◌≡◌, ℕ, List, [], length, Option, Some, None, is_some}
+use Rattle.std.specs.Prelude.{◌≡◌, ◌⊎◌, ℕ, ◌+◌, List, [], ◌∷◌, length, drop, Option, Some, None, is_some}
 use Rattle.std.specs.declared.ops.Range.{Range}
+use Rattle.std.specs.Str.{IsCharBoundary}
+use Rattle.rl_base.specs.Clusters.{clusters}
 use Rattle.rl_base.specs.KillRing.{yank_size}
 use Rattle.rl_base.specs.Lines.{lines, line_number}
+use Rattle.rl_base.specs.Widths.{width}
+use Rattle.rl_base.specs.declared.layout.GraphemeClusterMode.{GraphemeClusterMode}
 use Rattle.rl_line.specs.LineRanges.{range_of_line}
 use Rattle.rl_session.specs.State.{State}
-use Rattle.rl_ffi.specs.Numbers.{closed, done, none, truth_number}
+use Rattle.rl_ffi.specs.Numbers.{bad_place, closed, done, none, truth_number}
 
 abbrev pub text_of : Option State → List ℕ
 text_of None = []
@@ -44,3 +48,18 @@ RangeIn (Some r) n old new = (n ≡ done) × (new ≡ (r.start, r.end))
 abbrev pub RangeRead : Option State → ℕ → ℕ → ℕ × ℕ → ℕ × ℕ → Type 0
 RangeRead None line n old new = (n ≡ closed) × (new ≡ old)
 RangeRead (Some s) line n old new = RangeIn (range_of_line s.line.text line) n old new
+
+-- where the first of some clusters ends, which begins at a place, and its columns; the number says whether there is one
+abbrev pub FirstIn : GraphemeClusterMode → ℕ → List (List ℕ) → ℕ → ℕ × ℕ → ℕ × ℕ → Type 0
+FirstIn mode place [] n old new = (n ≡ none) × (new ≡ old)
+FirstIn mode place (cluster ∷ more) n old new = (n ≡ done) × (new ≡ (place + length cluster, width mode cluster))
+
+-- the same of the text from a place on
+abbrev pub ClusterIn : List ℕ → GraphemeClusterMode → ℕ → ℕ → ℕ × ℕ → ℕ × ℕ → Type 0
+ClusterIn text mode place n old new =
+    (IsCharBoundary text place × FirstIn mode place (clusters (drop place text)) n old new)
+    ⊎ ((¬ (IsCharBoundary text place)) × (n ≡ bad_place) × (new ≡ old))
+
+abbrev pub ClusterRead : Option State → ℕ → ℕ → ℕ × ℕ → ℕ × ℕ → Type 0
+ClusterRead None place n old new = (n ≡ closed) × (new ≡ old)
+ClusterRead (Some s) place n old new = ClusterIn s.line.text s.options.mode place n old new

@@ -1,14 +1,16 @@
 //! The calls that change nothing.
 ghost use Rattle.std.specs.Prelude.{◌≡◌, length};
 ghost use Rattle.rl_ffi.specs.Buffers.{written};
-ghost use Rattle.rl_ffi.specs.Reads.{text_of, pos_of, line_number_of, line_count_of, limit_of, entries_of, last_was_yank_of, RangeIn, RangeRead};
+ghost use Rattle.rl_ffi.specs.Reads.{ClusterIn, ClusterRead, text_of, pos_of, line_number_of, line_count_of, limit_of, entries_of, last_was_yank_of, RangeIn, RangeRead};
 ghost use Rattle.rl_line.specs.LineRanges.{range_of_line};
 
 use crate::buffers::write;
 use crate::handle::{Handle, of_session};
-use crate::numbers::{CLOSED, DONE, NONE, truth_number};
+use crate::numbers::{BAD_PLACE, CLOSED, DONE, NONE, truth_number};
+use rl_base::GraphemeClusterMode;
 use rl_line::LineBuffer;
 use std::alloc::Global;
+use unicode_segmentation::UnicodeSegmentation;
 
 /// Copies as many bytes of the text as fit, and answers how long the whole is, in bytes; 0 for a closed
 /// session.
@@ -103,4 +105,44 @@ pub extern "C" fn lodvarn_line_range(
     ensures kept { s.new.value ≡ s.old.value }
 {
     of_session!(s, alloc, session => range_in(session.line(), line, start, end), CLOSED)
+}
+
+// Writes where the first cluster of the text after a place ends, and how many columns it takes, if there is one.
+fn cluster_in(
+    text: &str,
+    place: usize,
+    mode: GraphemeClusterMode,
+    end: &mut usize,
+    columns: &mut u16,
+) -> u32
+    ensures { ClusterIn text.now mode place result (end.old, columns.old) (end.new, columns.new) }
+{
+    if !text.is_char_boundary(place) {
+        return BAD_PLACE;
+    }
+    match text[place..].graphemes(true).next() {
+        Some(cluster) => {
+            *end = place + cluster.len();
+            *columns = mode.width(cluster);
+            DONE
+        }
+        None => NONE,
+    }
+}
+
+/// Where the first grapheme cluster of the text from a byte place on ends, in bytes, and how many columns it takes, in
+/// time of that cluster: DONE, with both written. NONE, where the place is the text's end, BAD_PLACE and CLOSED leave
+/// both as they were.
+#[unsafe(no_mangle)]
+pub extern "C" fn lodvarn_cluster(
+    alloc: Global,
+    s: &mut Handle,
+    place: usize,
+    end: &mut usize,
+    columns: &mut u16,
+) -> u32
+    ensures value { ClusterRead s.old.value place result (end.old, columns.old) (end.new, columns.new) }
+    ensures kept { s.new.value ≡ s.old.value }
+{
+    of_session!(s, alloc, session => cluster_in(session.line().as_str(), place, session.options().mode, end, columns), CLOSED)
 }

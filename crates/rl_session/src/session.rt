@@ -354,6 +354,13 @@ impl Session {
         &self.pair.ring
     }
 
+    /// How it measures columns, and how much its record may hold.
+    pub fn options(&self) -> &Options
+        ensures { result.now ≡ self.now.options }
+    {
+        &self.options
+    }
+
     /// What changed in the text since this was asked last, or since the session was made, as one splice: what stands
     /// between two places of the text as it was then gave way to what stands between two places of the present text, all
     /// in bytes, and each between two characters. None where nothing changed. It is so whatever changed the text, also a
