@@ -3,9 +3,12 @@ use Rattle.std.specs.Prelude.{◌≡◌, ℕ, List, [], length, Option, Some, No
 use Rattle.std.specs.declared.ops.Range.{Range}
 use Rattle.rl_base.specs.KillRing.{yank_size}
 use Rattle.rl_base.specs.Lines.{lines, line_number}
+use Rattle.rl_base.specs.declared.motion.Movement.{Movement}
 use Rattle.rl_line.specs.LineRanges.{range_of_line}
+use Rattle.rl_line.specs.Ranges.{covered}
 use Rattle.rl_session.specs.State.{State}
-use Rattle.rl_ffi.specs.Numbers.{closed, done, none, truth_number}
+use Rattle.rl_session.specs.Commands.{destination}
+use Rattle.rl_ffi.specs.Numbers.{closed, done, no_such_number, none, truth_number}
 
 abbrev pub text_of : Option State → List ℕ
 text_of None = []
@@ -36,7 +39,7 @@ abbrev pub last_was_yank_of : Option State → ℕ
 last_was_yank_of None = closed
 last_was_yank_of (Some s) = truth_number (is_some (yank_size s.pair.ring))
 
--- a line's range in two numbers, and the number that says whether there is such a line
+-- a range in two numbers, and the number that says whether there is one
 abbrev pub RangeIn : Option (Range ℕ) → ℕ → ℕ × ℕ → ℕ × ℕ → Type 0
 RangeIn None n old new = (n ≡ none) × (new ≡ old)
 RangeIn (Some r) n old new = (n ≡ done) × (new ≡ (r.start, r.end))
@@ -44,3 +47,19 @@ RangeIn (Some r) n old new = (n ≡ done) × (new ≡ (r.start, r.end))
 abbrev pub RangeRead : Option State → ℕ → ℕ → ℕ × ℕ → ℕ × ℕ → Type 0
 RangeRead None line n old new = (n ≡ closed) × (new ≡ old)
 RangeRead (Some s) line n old new = RangeIn (range_of_line s.line.text line) n old new
+
+-- a place in a number, and the number that says whether there is one
+abbrev pub PlaceIn : Option ℕ → ℕ → ℕ → ℕ → Type 0
+PlaceIn None n old new = (n ≡ none) × (new ≡ old)
+PlaceIn (Some place) n old new = (n ≡ done) × (new ≡ place)
+
+-- what a movement covers, and where a motion by it goes, where the number names a movement
+abbrev pub CoversRead : Option Movement → Option State → ℕ → ℕ × ℕ → ℕ × ℕ → Type 0
+CoversRead movement None n old new = (n ≡ closed) × (new ≡ old)
+CoversRead None (Some s) n old new = (n ≡ no_such_number) × (new ≡ old)
+CoversRead (Some movement) (Some s) n old new = RangeIn (covered s.line movement) n old new
+
+abbrev pub DestinationRead : Option Movement → Option State → ℕ → ℕ → ℕ → Type 0
+DestinationRead movement None n old new = (n ≡ closed) × (new ≡ old)
+DestinationRead None (Some s) n old new = (n ≡ no_such_number) × (new ≡ old)
+DestinationRead (Some movement) (Some s) n old new = PlaceIn (destination s movement) n old new
