@@ -7,9 +7,12 @@ use Rattle.rl_base.specs.KillRing.{yank_size}
 use Rattle.rl_base.specs.Lines.{lines, line_number}
 use Rattle.rl_base.specs.Widths.{width}
 use Rattle.rl_base.specs.declared.layout.GraphemeClusterMode.{GraphemeClusterMode}
+use Rattle.rl_base.specs.declared.motion.Movement.{Movement}
 use Rattle.rl_line.specs.LineRanges.{range_of_line}
+use Rattle.rl_line.specs.Ranges.{covered}
 use Rattle.rl_session.specs.State.{State}
-use Rattle.rl_ffi.specs.Numbers.{bad_place, closed, done, none, truth_number}
+use Rattle.rl_ffi.specs.Numbers.{bad_place, closed, done, none, truth_number, no_such_number}
+use Rattle.rl_session.specs.Commands.{destination}
 
 abbrev pub text_of : Option State → List ℕ
 text_of None = []
@@ -40,7 +43,7 @@ abbrev pub last_was_yank_of : Option State → ℕ
 last_was_yank_of None = closed
 last_was_yank_of (Some s) = truth_number (is_some (yank_size s.pair.ring))
 
--- a line's range in two numbers, and the number that says whether there is such a line
+-- a range in two numbers, and the number that says whether there is one
 abbrev pub RangeIn : Option (Range ℕ) → ℕ → ℕ × ℕ → ℕ × ℕ → Type 0
 RangeIn None n old new = (n ≡ none) × (new ≡ old)
 RangeIn (Some r) n old new = (n ≡ done) × (new ≡ (r.start, r.end))
@@ -63,3 +66,19 @@ ClusterIn text mode place n old new =
 abbrev pub ClusterRead : Option State → ℕ → ℕ → ℕ × ℕ → ℕ × ℕ → Type 0
 ClusterRead None place n old new = (n ≡ closed) × (new ≡ old)
 ClusterRead (Some s) place n old new = ClusterIn s.line.text s.options.mode place n old new
+
+-- a place in a number, and the number that says whether there is one
+abbrev pub PlaceIn : Option ℕ → ℕ → ℕ → ℕ → Type 0
+PlaceIn None n old new = (n ≡ none) × (new ≡ old)
+PlaceIn (Some place) n old new = (n ≡ done) × (new ≡ place)
+
+-- what a movement covers, and where a motion by it goes, where the number names a movement
+abbrev pub CoversRead : Option Movement → Option State → ℕ → ℕ × ℕ → ℕ × ℕ → Type 0
+CoversRead movement None n old new = (n ≡ closed) × (new ≡ old)
+CoversRead None (Some s) n old new = (n ≡ no_such_number) × (new ≡ old)
+CoversRead (Some movement) (Some s) n old new = RangeIn (covered s.line movement) n old new
+
+abbrev pub DestinationRead : Option Movement → Option State → ℕ → ℕ → ℕ → Type 0
+DestinationRead movement None n old new = (n ≡ closed) × (new ≡ old)
+DestinationRead None (Some s) n old new = (n ≡ no_such_number) × (new ≡ old)
+DestinationRead (Some movement) (Some s) n old new = PlaceIn (destination s movement) n old new

@@ -47,8 +47,8 @@ CellIn screen prompt text place n old new =
     ⊎ (IsUtf8 text × (¬ (IsCharBoundary text place)) × (n ≡ bad_place) × (new ≡ old))
 
 -- the place of a cell
-abbrev pub PlaceIn : Screen → ℕ → List ℕ → ℕ × ℕ → ℕ → ℕ → ℕ → Type 0
-PlaceIn screen prompt text at n old new = Told text (place_at screen prompt text at) n old new
+abbrev pub PlaceTold : Screen → ℕ → List ℕ → ℕ × ℕ → ℕ → ℕ → ℕ → Type 0
+PlaceTold screen prompt text at n old new = Told text (place_at screen prompt text at) n old new
 
 -- the version 0.1.0 in one number
 abbrev pub version : ℕ

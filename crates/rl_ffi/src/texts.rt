@@ -2,7 +2,7 @@
 ghost use Rattle.std.specs.Prelude.{◌≡◌, ℕ, List, length};
 ghost use Rattle.rl_ffi.specs.Buffers.{written};
 ghost use Rattle.rl_ffi.specs.Numbers.{mode_of};
-ghost use Rattle.rl_ffi.specs.Texts.{CellIn, OnScreen, PlaceIn, Printed, Told, WidthTold, first_cluster, last_cluster, screen_of, version};
+ghost use Rattle.rl_ffi.specs.Texts.{CellIn, OnScreen, PlaceTold, Printed, Told, WidthTold, first_cluster, last_cluster, screen_of, version};
 
 use crate::buffers::write;
 use crate::cells::{Screen, cell, place_at};
@@ -156,7 +156,7 @@ pub extern "C" fn lodvarn_place_at(
     mode: u32,
     place: &mut usize,
 ) -> u32
-    ensures { OnScreen (screen_of (mode_of mode) columns tab) (λ screen. PlaceIn screen prompt text.now (row, column)) result place.old place.new }
+    ensures { OnScreen (screen_of (mode_of mode) columns tab) (λ screen. PlaceTold screen prompt text.now (row, column)) result place.old place.new }
 {
     let Some(screen) = screen_of(mode, columns, tab) else {
         return NO_SUCH_NUMBER;

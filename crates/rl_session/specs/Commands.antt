@@ -5,22 +5,19 @@ use Rattle.std.specs.Option.{option_map}
 use Rattle.std.specs.String.{string_bytes}
 use Rattle.std.specs.Str.{IsCharBoundary}
 use Rattle.rl_base.specs.declared.listeners.Refusal.TheVariants as why
-use Rattle.rl_base.specs.Clusters.{next_pos, prev_pos}
 use Rattle.rl_base.specs.KillRing.{reset, yank, yanked, yank_size, yank_pop, yank_popped}
 use Rattle.rl_base.specs.Lines.{line_number}
-use Rattle.rl_base.specs.Search.{find_place}
 use Rattle.rl_base.specs.Event.{Event}
 use Rattle.rl_base.specs.Text.{HasText}
 use Rattle.rl_base.specs.Watch.{watch_step}
 use Rattle.rl_base.specs.declared.listeners.Refusal.{Refusal}
-use Rattle.rl_base.specs.Words.{next_word, prev_word}
 use Rattle.rl_base.specs.declared.motion.Movement.{Movement}
 use Rattle.rl_base.specs.declared.motion.WordAction.{WordAction}
-use Rattle.rl_base.specs.declared.motion.Movement.TheVariants.{BeginningOfLine, EndOfLine, BackwardWord, ForwardWord, ViCharSearch, BackwardChar, ForwardChar, LineUp, LineDown, BeginningOfBuffer, EndOfBuffer}
+use Rattle.rl_base.specs.declared.motion.Movement.TheVariants.{BeginningOfLine, EndOfLine, BackwardWord, ForwardWord, ViCharSearch, BackwardChar, BeginningOfBuffer, EndOfBuffer}
 use Rattle.rl_line.specs.LineRanges.{IsRange}
 use Rattle.rl_line.specs.Line.{Line, NeedsRoom}
-use Rattle.rl_line.specs.LineMotions.{columns_before, home, line_end, place_above, place_below}
-use Rattle.rl_line.specs.Motions.{Moved, unless_there}
+use Rattle.rl_line.specs.LineMotions.{columns_before}
+use Rattle.rl_line.specs.Motions.{Moved, destination as destination_in}
 use Rattle.rl_line.specs.Plan.{Step as PlanStep, Plan, nothing, Done, Halted, or_no_memory, bytes_of, listener_after}
 use Rattle.rl_line.specs.Edits.{insert_plan, insert_str_plan, yank_plan, yank_pop_plan, update_plan, replace_plan, delete_range_plan}
 use Rattle.rl_line.specs.Indents.{indent_plan}
@@ -42,18 +39,7 @@ use Rattle.rl_session.specs.State.{State, Follows, IsBounded, Stands, with_ring}
 
 -- where a movement leads, if anywhere; over lines it counts columns from the prompt of the session's options
 abbrev pub destination : State → Movement → Option ℕ
-destination s BeginningOfLine = unless_there s.line (home s.line)
-destination s EndOfLine = unless_there s.line (line_end s.line)
-destination s (BackwardWord n word) = prev_word s.line.text s.line.cursor word n
-destination s (ForwardWord n at word) = next_word s.line.text s.line.cursor at word n
-destination s (ViCharSearch n cs) = find_place s.line.text s.line.cursor cs n
-destination s (BackwardChar n) = prev_pos s.line.text s.line.cursor n
-destination s (ForwardChar n) = next_pos s.line.text s.line.cursor n
-destination s (LineUp n) = place_above (layout_of s.options) s.line.text s.line.cursor n
-destination s (LineDown n) = place_below (layout_of s.options) s.line.text s.line.cursor n
-destination s BeginningOfBuffer = unless_there s.line 0
-destination s EndOfBuffer = unless_there s.line (length s.line.text)
-destination s _ = None
+destination s movement = destination_in (layout_of s.options) s.line movement
 
 -- where the cursor stands: the number of its line, from 0, and the columns from that line's start
 abbrev pub line_place : State → ℕ × ℕ

@@ -15,7 +15,7 @@ use Rattle.rl_base.specs.declared.motion.At.TheVariants.{Start, BeforeEnd, After
 use Rattle.rl_base.specs.declared.motion.CharSearch.{CharSearch}
 use Rattle.rl_base.specs.declared.motion.CharSearch.TheVariants.{Forward, ForwardBefore, Backward, BackwardAfter}
 use Rattle.rl_base.specs.declared.motion.Movement.{Movement}
-use Rattle.rl_base.specs.declared.motion.Movement.TheVariants.{WholeLine, BeginningOfLine, EndOfLine, BackwardWord, ForwardWord, ViCharSearch, ViFirstPrint, BackwardChar, ForwardChar, LineUp, LineDown, WholeBuffer, BeginningOfBuffer, EndOfBuffer}
+use Rattle.rl_base.specs.declared.motion.Movement.TheVariants.{WholeLine, BeginningOfLine, EndOfLine, BackwardWord, ForwardWord, ViCharSearch, ViFirstPrint, FirstNonBlank, BackwardChar, ForwardChar, LineUp, LineDown, WholeBuffer, BeginningOfBuffer, EndOfBuffer}
 use Rattle.rl_base.specs.declared.motion.Word.{Word}
 use Rattle.rl_base.specs.declared.motion.Word.TheVariants.{Big, Emacs, Vi}
 use Rattle.rl_base.specs.declared.motion.WordAction.{WordAction}
@@ -92,6 +92,7 @@ pub data Names : List ℕ → Option (List ℕ) → Movement → Type 0 where
   fword : {given : List ℕ} {n : ℕ} {a : At} {w : Word} → CountAtWord given n a w → Names (codes "fword") (Some given) (ForwardWord n a w)
   find : {given : List ℕ} {n : ℕ} {cs : CharSearch} → CountSearch given n cs → Names (codes "find") (Some given) (ViCharSearch n cs)
   first : Names (codes "first") None ViFirstPrint
+  nonblank : Names (codes "nonblank") None FirstNonBlank
   bchar : {digits : List ℕ} {n : ℕ} → number_of 65535 digits ≡ Some n → Names (codes "bchar") (Some digits) (BackwardChar n)
   fchar : {digits : List ℕ} {n : ℕ} → number_of 65535 digits ≡ Some n → Names (codes "fchar") (Some digits) (ForwardChar n)
   up : {digits : List ℕ} {n : ℕ} → number_of 65535 digits ≡ Some n → Names (codes "up") (Some digits) (LineUp n)

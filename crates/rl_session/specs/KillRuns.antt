@@ -4,7 +4,7 @@ use Rattle.rl_base.specs.KillRing.{yank}
 use Rattle.rl_base.specs.declared.kill_ring.Action.{Action}
 use Rattle.rl_base.specs.declared.kill_ring.Action.TheVariants.{Kill}
 use Rattle.rl_base.specs.declared.motion.Movement.{Movement}
-use Rattle.rl_base.specs.declared.motion.Movement.TheVariants.{BeginningOfLine, EndOfLine, BackwardWord, ForwardWord, ViCharSearch, BeginningOfBuffer, EndOfBuffer}
+use Rattle.rl_base.specs.declared.motion.Movement.TheVariants.{BeginningOfLine, EndOfLine, FirstNonBlank, BackwardWord, ForwardWord, ViCharSearch, BeginningOfBuffer, EndOfBuffer}
 use Rattle.rl_session.specs.declared.session.Reply.{Reply}
 use Rattle.rl_session.specs.declared.session.Reply.TheVariants as says
 use Rattle.rl_session.specs.State.{State}
@@ -13,6 +13,7 @@ use Rattle.rl_session.specs.State.{State}
 abbrev pub IsDirected : Movement → Type 0
 IsDirected BeginningOfLine = Unit {0}
 IsDirected EndOfLine = Unit {0}
+IsDirected FirstNonBlank = Unit {0}
 IsDirected (BackwardWord _ _) = Unit {0}
 IsDirected (ForwardWord _ _ _) = Unit {0}
 IsDirected (ViCharSearch _ _) = Unit {0}

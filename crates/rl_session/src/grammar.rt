@@ -147,6 +147,7 @@ fn lone_movement(word: &str) -> Option<Movement>
         "home" => Some(Movement::BeginningOfLine),
         "eol" => Some(Movement::EndOfLine),
         "first" => Some(Movement::ViFirstPrint),
+        "nonblank" => Some(Movement::FirstNonBlank),
         "buf" => Some(Movement::WholeBuffer),
         "bob" => Some(Movement::BeginningOfBuffer),
         "eob" => Some(Movement::EndOfBuffer),

@@ -9,7 +9,7 @@ use Rattle.rl_base.specs.Event.{Event, Delete, Start, Stop}
 use Rattle.rl_base.specs.declared.listeners.Direction.{Direction}
 use Rattle.rl_base.specs.declared.listeners.Direction.TheVariants.{Forward}
 use Rattle.rl_base.specs.declared.motion.Movement.{Movement}
-use Rattle.rl_base.specs.declared.motion.Movement.TheVariants.{WholeLine, BeginningOfLine, EndOfLine, BackwardWord, ForwardWord, ViCharSearch, ViFirstPrint, BackwardChar, ForwardChar, LineUp, LineDown, WholeBuffer, BeginningOfBuffer, EndOfBuffer}
+use Rattle.rl_base.specs.declared.motion.Movement.TheVariants.{WholeLine, BeginningOfLine, EndOfLine, BackwardWord, ForwardWord, ViCharSearch, ViFirstPrint, FirstNonBlank, BackwardChar, ForwardChar, LineUp, LineDown, WholeBuffer, BeginningOfBuffer, EndOfBuffer}
 use Rattle.rl_line.specs.Line.{Line}
 use Rattle.rl_line.specs.Plan.{nothing, single, answering}
 use Rattle.rl_line.specs.Ranges.{covered, killed, text_in}
@@ -18,7 +18,7 @@ use Rattle.rl_line.specs.Kills.{Told, delete_plan, is_exact, kill_plan, removal,
 pub kill_plan-nothing : (line : Line) (mvt : Movement) → None ≡ killed line mvt → kill_plan line mvt ≡ nothing line false
 kill_plan-nothing line mvt e = rw (← e) refl
 
-pub kill_plan-some : (line : Line) (mvt : Movement) (r : Range ℕ) (side : Direction) → Some r ≡ killed line mvt → side ≡ side_of mvt
+pub kill_plan-some : (line : Line) (mvt : Movement) (r : Range ℕ) (side : Direction) → Some r ≡ killed line mvt → side ≡ side_of line mvt
     → kill_plan line mvt ≡ single (Delete r.start (text_in line r) side) r.start true
 kill_plan-some line mvt r side e f = rw (← e, f) refl
 
@@ -56,6 +56,7 @@ killed-exact line (BackwardWord n word) e = refl
 killed-exact line (ForwardWord n at word) e = refl
 killed-exact line (ViCharSearch n cs) e = refl
 killed-exact line ViFirstPrint e = absurd (cc e)
+killed-exact line FirstNonBlank e = refl
 killed-exact line (BackwardChar n) e = refl
 killed-exact line (ForwardChar n) e = refl
 killed-exact line (LineUp n) e = refl

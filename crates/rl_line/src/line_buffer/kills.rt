@@ -9,7 +9,7 @@ ghost use Rattle.rl_base.specs.declared.motion.Movement.{Movement};
 ghost use Rattle.rl_base.specs.declared.motion.Movement.TheVariants.{BeginningOfLine, EndOfLine, BackwardWord, ForwardWord, ViCharSearch, BackwardChar, BeginningOfBuffer, EndOfBuffer};
 ghost use Rattle.rl_line.specs.Line.{Line};
 ghost use Rattle.rl_line.specs.Plan.{Done, Halted, Stopped};
-ghost use Rattle.rl_line.specs.Kills.{Told, copied, delete_plan, is_by_characters, is_exact, kill_plan, side_of};
+ghost use Rattle.rl_line.specs.Kills.{Told, copied, delete_plan, is_by_characters, is_exact, kill_plan, side_of, side_of_place};
 ghost use Rattle.rl_line.specs.Ranges.{text_in};
 ghost use Rattle.rl_line.specs.LineRanges.{IsRange};
 
@@ -62,6 +62,40 @@ impl LineBuffer {
         }
     }
 
+    // The side of the cursor that a movement takes text from.
+    fn side_of(&self, mvt: &Movement) -> Direction
+        ensures { result ≡ side_of self.now mvt.now }
+    {
+        match mvt {
+            Movement::BeginningOfLine
+            | Movement::BackwardWord(_, _)
+            | Movement::ViCharSearch(_, CharSearch::Backward(_) | CharSearch::BackwardAfter(_))
+            | Movement::BackwardChar(_)
+            | Movement::BeginningOfBuffer => Direction::Backward,
+            Movement::FirstNonBlank => self.side_of_place(self.first_nonblank()),
+            Movement::WholeLine
+            | Movement::EndOfLine
+            | Movement::ForwardWord(_, _, _)
+            | Movement::ViCharSearch(_, CharSearch::Forward(_) | CharSearch::ForwardBefore(_))
+            | Movement::ViFirstPrint
+            | Movement::ForwardChar(_)
+            | Movement::LineUp(_)
+            | Movement::LineDown(_)
+            | Movement::WholeBuffer
+            | Movement::EndOfBuffer => Direction::Forward,
+        }
+    }
+
+    // The side of the cursor on which a place lies.
+    fn side_of_place(&self, place: usize) -> Direction
+        ensures { result ≡ side_of_place self.now place }
+    {
+        if place < self.pos() {
+            return Direction::Backward;
+        }
+        Direction::Forward
+    }
+
     // Deletes what a movement kills, if anything. Answers whether there was something.
     fn delete_by<L: DeleteListener>(
         &mut self,
@@ -73,7 +107,8 @@ impl LineBuffer {
     {
         match self.killed(mvt) {
             Some(range) => {
-                self.take_out(range, side_of(mvt), listener)?;
+                let side = self.side_of(mvt);
+                self.take_out(range, side, listener)?;
                 Ok(true)
             }
             None => Ok(false),
@@ -200,29 +235,6 @@ impl LineBuffer {
     }
 }
 
-// The side of the cursor that a movement takes text from.
-fn side_of(mvt: &Movement) -> Direction
-    ensures { result ≡ side_of mvt.now }
-{
-    match mvt {
-        Movement::BeginningOfLine
-        | Movement::BackwardWord(_, _)
-        | Movement::ViCharSearch(_, CharSearch::Backward(_) | CharSearch::BackwardAfter(_))
-        | Movement::BackwardChar(_)
-        | Movement::BeginningOfBuffer => Direction::Backward,
-        Movement::WholeLine
-        | Movement::EndOfLine
-        | Movement::ForwardWord(_, _, _)
-        | Movement::ViCharSearch(_, CharSearch::Forward(_) | CharSearch::ForwardBefore(_))
-        | Movement::ViFirstPrint
-        | Movement::ForwardChar(_)
-        | Movement::LineUp(_)
-        | Movement::LineDown(_)
-        | Movement::WholeBuffer
-        | Movement::EndOfBuffer => Direction::Forward,
-    }
-}
-
 fn is_by_characters(mvt: &Movement) -> bool
     ensures { result ≡ is_by_characters mvt.now }
 {
@@ -235,6 +247,6 @@ fn is_by_characters(mvt: &Movement) -> bool
 pub fn kill_agrees_with_copy()
     ensures answer { (line : Line) (mvt : Movement) → is_exact mvt ≡ true → ((kill_plan line mvt).answer ≡ true) ↔ IsSome (copied line mvt) }
     ensures text { (line : Line) (mvt : Movement) (s : List ℕ) → is_exact mvt ≡ true → copied line mvt ≡ Some s
-        → (place : ℕ) × ((kill_plan line mvt).steps ≡ (Delete place s (side_of mvt), place) ∷ []) }
+        → (place : ℕ) × ((kill_plan line mvt).steps ≡ (Delete place s (side_of line mvt), place) ∷ []) }
     ensures nothing { (line : Line) (mvt : Movement) → is_exact mvt ≡ true → copied line mvt ≡ None → (kill_plan line mvt).steps ≡ [] }
 {}

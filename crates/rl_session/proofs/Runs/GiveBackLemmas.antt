@@ -204,14 +204,14 @@ asks-quietly line r e (asks.InsertStr i s) u at = λ adds. Settles-insert_str li
 asks-quietly line r e (asks.Replace i j s) u at = λ adds. Settles-replace line i j (string_bytes s)
 asks-quietly line r e (asks.DeleteRange i j) u at = once line r e _ i tt tt
 asks-quietly line r e (asks.Delete n) u at = λ adds. Settles-delete line n
-asks-quietly line r e (asks.Backspace n) u at = removed line r e (killed line (BackwardChar n)) (side_of (BackwardChar n))
-asks-quietly line r e asks.KillLine u at = removed line r e (killed line EndOfLine) (side_of EndOfLine)
-asks-quietly line r e asks.KillBuffer u at = removed line r e (killed line EndOfBuffer) (side_of EndOfBuffer)
-asks-quietly line r e asks.DiscardLine u at = removed line r e (killed line BeginningOfLine) (side_of BeginningOfLine)
-asks-quietly line r e asks.DiscardBuffer u at = removed line r e (killed line BeginningOfBuffer) (side_of BeginningOfBuffer)
-asks-quietly line r e (asks.DeletePrevWord word n) u at = removed line r e (killed line (BackwardWord n word)) (side_of (BackwardWord n word))
-asks-quietly line r e (asks.DeleteWord place word n) u at = removed line r e (killed line (ForwardWord n place word)) (side_of (ForwardWord n place word))
-asks-quietly line r e (asks.DeleteTo cs n) u at = removed line r e (killed line (ViCharSearch n cs)) (side_of (ViCharSearch n cs))
+asks-quietly line r e (asks.Backspace n) u at = removed line r e (killed line (BackwardChar n)) (side_of line (BackwardChar n))
+asks-quietly line r e asks.KillLine u at = removed line r e (killed line EndOfLine) (side_of line EndOfLine)
+asks-quietly line r e asks.KillBuffer u at = removed line r e (killed line EndOfBuffer) (side_of line EndOfBuffer)
+asks-quietly line r e asks.DiscardLine u at = removed line r e (killed line BeginningOfLine) (side_of line BeginningOfLine)
+asks-quietly line r e asks.DiscardBuffer u at = removed line r e (killed line BeginningOfBuffer) (side_of line BeginningOfBuffer)
+asks-quietly line r e (asks.DeletePrevWord word n) u at = removed line r e (killed line (BackwardWord n word)) (side_of line (BackwardWord n word))
+asks-quietly line r e (asks.DeleteWord place word n) u at = removed line r e (killed line (ForwardWord n place word)) (side_of line (ForwardWord n place word))
+asks-quietly line r e (asks.DeleteTo cs n) u at = removed line r e (killed line (ViCharSearch n cs)) (side_of line (ViCharSearch n cs))
 asks-quietly line r e asks.TransposeChars u at = λ adds. Settles-transpose_chars line clusters-some u at
 asks-quietly line r e (asks.TransposeWords n) u at = λ adds. Settles-transpose_words line n places-before_end u at
 asks-quietly line r e (asks.Indent m amount dedent) u at = λ adds. Settles-indent line m amount dedent
@@ -242,7 +242,7 @@ other-adds old (asks.EditWord action) (says.Answer a) new e u at i d w adds =
     (respelled old.line old.pair.changes e action (word_ahead old.line) d.made (λ word found. d.ascii word found (i word found))) d.holds adds
 other-adds old (asks.EditWord action) (says.Refused f) new e u at i d w adds = absurd (w tt)
 other-adds old (asks.Kill m) (says.Answer a) new e u at i d w adds =
-    kill-adds (is_by_characters m) (kill_plan old.line m) old new a e u (λ r. removed old.line r e (killed old.line m) (side_of m)) d adds
+    kill-adds (is_by_characters m) (kill_plan old.line m) old new a e u (λ r. removed old.line r e (killed old.line m) (side_of old.line m)) d adds
 other-adds old (asks.Kill m) (says.Refused f) new e u at i d w adds = absurd (w tt)
 other-adds old (asks.Yank n) (says.Inserted a) new e u at i d w adds =
     edited-adds (lent_plan old.line (yank old.pair.ring) n) (lent old) new a e u (λ one. lent-quietly old.line (yank old.pair.ring) n) d adds

@@ -18,7 +18,7 @@ use Rattle.rl_base.specs.declared.listeners.Direction.{Direction}
 use Rattle.rl_base.specs.declared.listeners.Direction.TheVariants.{Forward, Backward}
 use Rattle.rl_base.specs.declared.listeners.Refusal.{Refusal}
 use Rattle.rl_base.specs.declared.motion.Movement.{Movement}
-use Rattle.rl_base.specs.declared.motion.Movement.TheVariants.{BeginningOfLine, EndOfLine, BackwardWord, ForwardWord, ViCharSearch, BeginningOfBuffer, EndOfBuffer}
+use Rattle.rl_base.specs.declared.motion.Movement.TheVariants.{BeginningOfLine, EndOfLine, FirstNonBlank, BackwardWord, ForwardWord, ViCharSearch, BeginningOfBuffer, EndOfBuffer}
 use Rattle.rl_base.proofs.Ring.KillGroupLemmas.{lent-size, ring_step-size}
 use Rattle.rl_base.proofs.Ring.RingLemmas.{next_index-is}
 use Rattle.rl_base.proofs.Texts.SwapLemmas.{Swaps, Swaps-back, Swaps-Delete, Swaps-after, Swaps-before, apply-InsertStr-Swaps}
@@ -28,7 +28,7 @@ use Rattle.rl_line.specs.Edits.{too_long, yank_plan}
 use Rattle.rl_line.specs.Kills.{Between, Told, removal, side_of, is_by_characters}
 use Rattle.rl_line.specs.Ranges.{killed as killed_range, text_in}
 use Rattle.rl_line.proofs.Plans.EditLemmas.{yank_plan-nothing, yank_plan-some}
-use Rattle.rl_line.proofs.Plans.SideLemmas.{LiesOn, BeginningOfLine-side, EndOfLine-side, BackwardWord-side, ForwardWord-side, ViCharSearch-side, BeginningOfBuffer-side, EndOfBuffer-side}
+use Rattle.rl_line.proofs.Plans.SideLemmas.{LiesOn, BeginningOfLine-side, EndOfLine-side, FirstNonBlank-side, BackwardWord-side, ForwardWord-side, ViCharSearch-side, BeginningOfBuffer-side, EndOfBuffer-side}
 use Rattle.rl_session.specs.Pair.{pair_step, pair_refused}
 use Rattle.rl_session.specs.State.{State, Stands, with_ring}
 use Rattle.rl_session.specs.Commands.{Course, never, when, stays, goes, edits, stops, respells, lends, pops, tells, Came, Effect, by_steps, puts_begin, puts_ends, shortens, takes_back, puts_again, Became, effect, Edited, Step, is_vain_yank, lent as lent_state, lent_plan, popped, readied}
@@ -182,9 +182,10 @@ Roomy-Leads (row ∷ rows) old new l h =
     Roomy-Leads rows row.after new l.1 (Roomy-Step row.before row.command row.reply row.after some row.step)
 
 -- ---- a kill by a directed movement
-killed-side : (line : Line) (m : Movement) → IsDirected m → IsUtf8 line.text → IsCharBoundary line.text line.cursor → IfSome (killed_range line m) (LiesOn (side_of m) line.cursor)
+killed-side : (line : Line) (m : Movement) → IsDirected m → IsUtf8 line.text → IsCharBoundary line.text line.cursor → IfSome (killed_range line m) (LiesOn (side_of line m) line.cursor)
 killed-side line BeginningOfLine h u at = BeginningOfLine-side line at.0
 killed-side line EndOfLine h u at = EndOfLine-side line
+killed-side line FirstNonBlank h u at = FirstNonBlank-side line
 killed-side line (BackwardWord n word) h u at = BackwardWord-side line n word u at
 killed-side line (ForwardWord n stop word) h u at = ForwardWord-side line n stop word
 killed-side line (ViCharSearch n cs) h u at = ViCharSearch-side line n cs u at
@@ -195,6 +196,7 @@ killed-side line _ h u at = absurd h
 not_by_characters : (m : Movement) → IsDirected m → is_by_characters m ≡ false
 not_by_characters BeginningOfLine h = refl
 not_by_characters EndOfLine h = refl
+not_by_characters FirstNonBlank h = refl
 not_by_characters (BackwardWord n word) h = refl
 not_by_characters (ForwardWord n stop word) h = refl
 not_by_characters (ViCharSearch n cs) h = refl
@@ -264,7 +266,7 @@ Kill-outcome : (old new : State) (m : Movement) (a : Bool) → IsDirected m → 
 Kill-outcome old new m a directed h s =
     let told = told_whole (is_by_characters m) _ old s.left.pair (not_by_characters m directed) s.does in
     subst (Outcome a old) (sym s.settles)
-    (removed old s.left (killed_range old.line m) (side_of m) a h.cursor.0 (killed-side old.line m directed h.utf8 h.cursor) told)
+    (removed old s.left (killed_range old.line m) (side_of old.line m) a h.cursor.0 (killed-side old.line m directed h.utf8 h.cursor) told)
 
 -- ---- the rows of a run: before the first kill that takes a text nothing is missing of the start
 record Ready (start : List ℕ) (now : State) : Type 0 where

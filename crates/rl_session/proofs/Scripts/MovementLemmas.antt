@@ -8,7 +8,7 @@ use Rattle.rl_base.specs.declared.motion.Movement.{Movement}
 use Rattle.rl_base.specs.declared.motion.Movement.TheVariants.{BackwardChar, ForwardChar, LineUp, LineDown}
 use Rattle.rl_base.specs.declared.motion.Word.{Word}
 use Rattle.rl_base.specs.declared.motion.WordAction.{WordAction}
-use Rattle.rl_session.specs.Grammar.{NamesWord, big, emacs, vi, NamesAt, start, before, after, NamesSearch, onto, till, back_onto, back_till, NamesAction, cap, low, upper, NamesMode, unicode, wcwidth, nozwj, CountWord, CountAtWord, CountSearch, Names, whole, home, eol, bword, fword, find, first, bchar, fchar, up, down, buf, bob, eob, AmountMovement}
+use Rattle.rl_session.specs.Grammar.{NamesWord, big, emacs, vi, NamesAt, start, before, after, NamesSearch, onto, till, back_onto, back_till, NamesAction, cap, low, upper, NamesMode, unicode, wcwidth, nozwj, CountWord, CountAtWord, CountSearch, Names, whole, home, eol, bword, fword, find, first, nonblank, bchar, fchar, up, down, buf, bob, eob, AmountMovement}
 use Rattle.rl_session.specs.Spelling.{word, rest, SpellsChar, Numbered}
 use Rattle.rl_session.specs.Reads.{HasNoWord, HasNoAt, HasNoSearch, NamesNothing}
 use Rattle.rl_session.proofs.Scripts.NumberLemmas.{some_same}
@@ -75,6 +75,7 @@ Names-one (bword p) (bword q) = let same = CountWord-one p q in rw (same.0, same
 Names-one (fword p) (fword q) = let same = CountAtWord-one p q in rw (same.0, same.1, same.2) refl
 Names-one (find p) (find q) = let same = CountSearch-one p q in rw (same.0, same.1) refl
 Names-one first first = refl
+Names-one nonblank nonblank = refl
 Names-one (bchar p) (bchar q) = ap (λ x. BackwardChar x) (some_same _ p q)
 Names-one (fchar p) (fchar q) = ap (λ x. ForwardChar x) (some_same _ p q)
 Names-one (up p) (up q) = ap (λ x. LineUp x) (some_same _ p q)

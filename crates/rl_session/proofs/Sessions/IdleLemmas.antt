@@ -116,7 +116,7 @@ NoneStarts-removal line None side = tt
 NoneStarts-removal line (Some range) side = (tt, tt)
 
 pub NoneStarts-kill : (line : Line) (m : Movement) → NoneStarts (kill_plan line m).steps
-NoneStarts-kill line m = NoneStarts-removal line (killed line m) (side_of m)
+NoneStarts-kill line m = NoneStarts-removal line (killed line m) (side_of line m)
 
 NoneStarts-pulled_back : (line : Line) (around : Option (ℕ × Range ℕ)) → NoneStarts (pulled_back line around).steps
 NoneStarts-pulled_back line None = tt
