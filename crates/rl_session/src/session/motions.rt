@@ -1,10 +1,11 @@
 //! Motions, copying by one, and where the cursor stands.
-ghost use Rattle.rl_session.specs.Commands.{Does};
+ghost use Rattle.std.specs.Prelude.{◌≡◌};
+ghost use Rattle.rl_session.specs.Commands.{Does, line_place};
 ghost use Rattle.rl_session.specs.declared.session.Command.{Command};
 
 use crate::session::replies::handed_out;
 use crate::session::{Fault, Reply, Session};
-use rl_base::{Layout, Movement};
+use rl_base::{Layout, Movement, Unit};
 
 impl Session {
     pub(super) fn set_pos(&mut self, pos: usize) -> Reply
@@ -48,12 +49,21 @@ impl Session {
     pub(super) fn line_place(&self) -> Reply
         ensures { Does self.now Command.LinePlace result self.now }
     {
+        let (k, columns) = self.line_column();
+        Reply::At(k, columns)
+    }
+
+    /// Where the cursor stands, as `LinePlace` answers it: the number of its line, from 0, and the columns from that
+    /// line's start to the cursor. It cuts clusters of that part of the line alone, and as a read it parts no run of kills.
+    pub fn line_column(&self) -> (usize, Unit)
+        ensures { result ≡ line_place self.now }
+    {
         let line = &self.line;
         let k = line.line_number();
         match line.line_range(k) {
             Some(range) => {
                 let before = &line.as_str()[range.start..line.pos()];
-                Reply::At(k, self.mode.width(before))
+                (k, self.mode.width(before))
             }
             None => unreachable!(),
         }
