@@ -11,8 +11,9 @@ use Rattle.rl_base.specs.declared.motion.Movement.{Movement}
 use Rattle.rl_line.specs.LineRanges.{range_of_line}
 use Rattle.rl_line.specs.Ranges.{covered}
 use Rattle.rl_session.specs.State.{State}
-use Rattle.rl_ffi.specs.Numbers.{bad_place, closed, done, none, truth_number, no_such_number}
-use Rattle.rl_session.specs.Commands.{destination}
+use Rattle.rl_ffi.specs.Numbers.{bad_place, closed, done, none, truth_number, no_such_number, at_number}
+use Rattle.rl_session.specs.Commands.{destination, line_place}
+use Rattle.rl_line.specs.Units.{has_change, last_of, level, redo_of}
 
 abbrev pub text_of : Option State → List ℕ
 text_of None = []
@@ -37,6 +38,25 @@ limit_of (Some s) = s.line.limit
 abbrev pub entries_of : Option State → ℕ
 entries_of None = 0
 entries_of (Some s) = length s.pair.changes.recorded
+
+-- the numbers that say whether an undo of one unit would find a change, and whether a redo would
+abbrev pub can_undo_of : Option State → ℕ
+can_undo_of None = closed
+can_undo_of (Some s) = truth_number (has_change (last_of 1 s.pair.changes.recorded))
+
+abbrev pub can_redo_of : Option State → ℕ
+can_redo_of None = closed
+can_redo_of (Some s) = truth_number (has_change (redo_of s.pair.changes.pending))
+
+-- how many groups are open
+abbrev pub level_of : Option State → ℕ
+level_of None = 0
+level_of (Some s) = level s.pair.changes.recorded
+
+-- where the cursor stands, in two numbers
+abbrev pub PlaceRead : Option State → ℕ → ℕ × ℕ → ℕ × ℕ → Type 0
+PlaceRead None n old new = (n ≡ closed) × (new ≡ old)
+PlaceRead (Some s) n old new = (n ≡ at_number) × (new ≡ line_place s)
 
 -- the number that says whether the ring's last action was a yank
 abbrev pub last_was_yank_of : Option State → ℕ

@@ -344,6 +344,15 @@ pub extern "C" fn lodvarn_end(alloc: Global, s: &mut Handle) -> u32
     call(alloc, s, Ok(Command::End))
 }
 
+/// Closes the group of changes that was opened last, and leaves the others open: TRUE or FALSE, whether it held a change.
+/// NO_MEMORY and CLOSED change nothing.
+#[unsafe(no_mangle)]
+pub extern "C" fn lodvarn_end_one(alloc: Global, s: &mut Handle) -> u32
+    ensures { Called (Ok Command.EndOne) s.old.value result s.new.value }
+{
+    call(alloc, s, Ok(Command::EndOne))
+}
+
 /// Undoes n units, one for 0, and all where there are fewer: TRUE or FALSE, whether a change was undone. NO_MEMORY and
 /// CLOSED change no text.
 #[unsafe(no_mangle)]

@@ -1,13 +1,16 @@
 //! The calls that change nothing.
 ghost use Rattle.std.specs.Prelude.{◌≡◌, length};
 ghost use Rattle.rl_ffi.specs.Buffers.{written};
-ghost use Rattle.rl_ffi.specs.Reads.{ClusterIn, ClusterRead, text_of, pos_of, line_number_of, line_count_of, limit_of, entries_of, last_was_yank_of, RangeIn, RangeRead, CoversRead, DestinationRead, PlaceIn};
+ghost use Rattle.rl_ffi.specs.Reads.{ClusterIn, ClusterRead, text_of, pos_of, line_number_of, line_count_of, limit_of, entries_of, last_was_yank_of, RangeIn, RangeRead, CoversRead, DestinationRead, PlaceIn, can_undo_of, can_redo_of, level_of, PlaceRead};
 ghost use Rattle.rl_line.specs.LineRanges.{range_of_line};
 use crate::buffers::write;
 use crate::handle::{Handle, of_session};
-use crate::numbers::{BAD_PLACE, CLOSED, DONE, NONE, truth_number, NO_SUCH_NUMBER, movement_of};
+use crate::numbers::{BAD_PLACE, CLOSED, DONE, NONE, truth_number, NO_SUCH_NUMBER, movement_of, AT};
 use rl_base::GraphemeClusterMode;
+ghost use Rattle.rl_ffi.specs.Numbers.{at_number};
+ghost use Rattle.rl_session.specs.Commands.{line_place};
 use rl_line::LineBuffer;
+use rl_session::Session;
 use std::alloc::Global;
 use unicode_segmentation::UnicodeSegmentation;
 ghost use Rattle.rl_ffi.specs.Numbers.{movement_of};
@@ -67,6 +70,56 @@ pub extern "C" fn lodvarn_entries(alloc: Global, s: &mut Handle) -> usize
     ensures kept { s.new.value ≡ s.old.value }
 {
     of_session!(s, alloc, session => session.record().len(), 0)
+}
+
+/// Whether an undo of one unit would find a change: TRUE or FALSE, or CLOSED.
+#[unsafe(no_mangle)]
+pub extern "C" fn lodvarn_can_undo(alloc: Global, s: &mut Handle) -> u32
+    ensures value { result ≡ can_undo_of s.old.value }
+    ensures kept { s.new.value ≡ s.old.value }
+{
+    of_session!(s, alloc, session => truth_number(session.can_undo()), CLOSED)
+}
+
+/// Whether a redo would find a change: TRUE or FALSE, or CLOSED.
+#[unsafe(no_mangle)]
+pub extern "C" fn lodvarn_can_redo(alloc: Global, s: &mut Handle) -> u32
+    ensures value { result ≡ can_redo_of s.old.value }
+    ensures kept { s.new.value ≡ s.old.value }
+{
+    of_session!(s, alloc, session => truth_number(session.can_redo()), CLOSED)
+}
+
+/// How many groups of changes are open; 0 for a closed session.
+#[unsafe(no_mangle)]
+pub extern "C" fn lodvarn_level(alloc: Global, s: &mut Handle) -> usize
+    ensures value { result ≡ level_of s.old.value }
+    ensures kept { s.new.value ≡ s.old.value }
+{
+    of_session!(s, alloc, session => session.level(), 0)
+}
+
+// Writes where the cursor stands.
+fn place_in(session: &Session, line: &mut usize, column: &mut u16) -> u32
+    ensures { (result ≡ at_number) × ((line.new, column.new) ≡ line_place session.now) }
+{
+    (*line, *column) = session.line_column();
+    AT
+}
+
+/// Where the cursor is: AT, with the number of its line, from 0, and the columns from the line's start written. CLOSED
+/// leaves both as they were. It answers as `lodvarn_line_place`, and parts no run of kills.
+#[unsafe(no_mangle)]
+pub extern "C" fn lodvarn_line_column(
+    alloc: Global,
+    s: &mut Handle,
+    line: &mut usize,
+    column: &mut u16,
+) -> u32
+    ensures value { PlaceRead s.old.value result (line.old, column.old) (line.new, column.new) }
+    ensures kept { s.new.value ≡ s.old.value }
+{
+    of_session!(s, alloc, session => place_in(session, line, column), CLOSED)
 }
 
 /// Whether the last action of the ring was a yank or a yank-pop, also with count 0: TRUE or FALSE, or CLOSED.

@@ -1,5 +1,5 @@
 -- What each command does.
-use Rattle.std.specs.Prelude.{◌≡◌, ℕ, ◌-◌, ◌<◌, ◌≤◌, Bool, true, false, not, length, List, [], Any, Option, Some, None, ◌⊎◌, if◌then◌else◌}
+use Rattle.std.specs.Prelude.{◌≡◌, ℕ, ◌-◌, ◌<◌, ◌≤◌, min, Bool, true, false, not, length, List, [], Any, Option, Some, None, ◌⊎◌, if◌then◌else◌}
 use Rattle.std.specs.List.{insert_slice}
 use Rattle.std.specs.Option.{option_map}
 use Rattle.std.specs.String.{string_bytes}
@@ -26,12 +26,12 @@ use Rattle.rl_line.specs.LetterCase.{edit_word_plan, Recased}
 use Rattle.rl_line.specs.Record.{Record, replays_to}
 use Rattle.rl_line.specs.Transpositions.{transpose_chars_plan, transpose_words_plan}
 use Rattle.rl_line.specs.Undo.{CopiesBack, Undone, Redone, steps_ahead, steps_back, texts_ahead, texts_back}
-use Rattle.rl_line.specs.Units.{adds_end, begun, ended, last_of, level, redo_of, truncated}
+use Rattle.rl_line.specs.Units.{adds_end, begun, ended, last_of, level, redo_of, truncated, ended_one}
 use Rattle.rl_session.specs.Options.{layout_of}
 use Rattle.rl_session.specs.Pair.{pair_step, pair_refused}
 use Rattle.rl_session.specs.declared.pair.Pair.{Pair}
 use Rattle.rl_session.specs.declared.session.Command.{Command}
-use Rattle.rl_session.specs.declared.session.Command.TheVariants.{SetPos, Move, Insert, Paste, Yank, YankPop, Update, InsertStr, Replace, DeleteRange, Delete, Backspace, KillLine, KillBuffer, DiscardLine, DiscardBuffer, DeletePrevWord, DeleteWord, DeleteTo, TransposeChars, TransposeWords, EditWord, Kill, Copy, Indent, Begin, End, Undo, Redo, Truncate, LinePlace}
+use Rattle.rl_session.specs.declared.session.Command.TheVariants.{SetPos, Move, Insert, Paste, Yank, YankPop, Update, InsertStr, Replace, DeleteRange, Delete, Backspace, KillLine, KillBuffer, DiscardLine, DiscardBuffer, DeletePrevWord, DeleteWord, DeleteTo, TransposeChars, TransposeWords, EditWord, Kill, Copy, Indent, Begin, End, EndOne, Undo, Redo, Truncate, LinePlace}
 use Rattle.rl_session.specs.declared.session.Fault.TheVariants.{NoMemory, BadPlace, BadYankSize, NotReplaying}
 use Rattle.rl_session.specs.declared.session.Reply.{Reply}
 use Rattle.rl_session.specs.declared.session.Reply.TheVariants as says
@@ -150,6 +150,7 @@ pub data Effect : Type 1 where
   by_steps : Course → Effect
   puts_begin : ℕ → Effect
   puts_ends : Bool → Effect
+  puts_end : Bool → Effect
   shortens : ℕ → Effect
   takes_back : ℕ → Bool → Effect
   puts_again : Bool → Effect
@@ -159,6 +160,8 @@ Became (by_steps course) old new = Came course old new
 Became (puts_begin n) old new = (n ≡ length old.pair.changes.recorded) × (new ≡ with_changes (begun old.pair.changes) old)
 Became (puts_ends a) old new =
     (a ≡ adds_end (level old.pair.changes.recorded) old.pair.changes.recorded) × (new ≡ with_changes (ended old.pair.changes) old)
+Became (puts_end a) old new =
+    (a ≡ adds_end (min 1 (level old.pair.changes.recorded)) old.pair.changes.recorded) × (new ≡ with_changes (ended_one old.pair.changes) old)
 Became (shortens len) old new =
     (replays_to len old.pair.changes old.line.text ≡ true) × (new ≡ with_changes (truncated len old.pair.changes) old)
 Became (takes_back n a) old new =
@@ -239,6 +242,8 @@ other_course old YankPop (says.Refused NoMemory) =
     (pops (stops (HasText (option_map (λ (p : ℕ × List ℕ). p.1) (yank_pop old.pair.ring))) room_by_step (popped_plan old.line (yank_pop old.pair.ring))))
 other_course old Begin (says.Refused NoMemory) = when (old.pair.changes.pending ≡ []) stays
 other_course old End (says.Refused NoMemory) = when (adds_end (level old.pair.changes.recorded) old.pair.changes.recorded ≡ true) stays
+other_course old EndOne (says.Refused NoMemory) =
+    when (adds_end (min 1 (level old.pair.changes.recorded)) old.pair.changes.recorded ≡ true) stays
 other_course old (Undo n) (says.Refused NoMemory) =
     when (Any (NeedsRoom old.line.text) (texts_back (last_of n old.pair.changes.recorded) old.line.text)) stays
 other_course old Redo (says.Refused NoMemory) =
@@ -259,6 +264,7 @@ course_of other old command reply = other_course old command reply
 abbrev pub effect : State → Command → Reply → Effect
 effect old Begin (says.Mark n) = puts_begin n
 effect old End (says.Answer a) = puts_ends a
+effect old EndOne (says.Answer a) = puts_end a
 effect old (Truncate len) says.Done = shortens len
 effect old (Undo n) (says.Answer a) = takes_back n a
 effect old Redo (says.Answer a) = puts_again a

@@ -339,6 +339,7 @@ fn lone_command(word: &str) -> Option<Command>
         "tchars" => Some(Command::TransposeChars),
         "begin" => Some(Command::Begin),
         "end" => Some(Command::End),
+        "endone" => Some(Command::EndOne),
         "redo" => Some(Command::Redo),
         "where" => Some(Command::LinePlace),
         _ => None,

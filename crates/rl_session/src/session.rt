@@ -90,6 +90,8 @@ pub enum Command {
     Begin,
     /// Closes all open groups.
     End,
+    /// Closes the group that was opened last.
+    EndOne,
     /// Undoes the given number of units: one for 0, and all where there are fewer.
     Undo(RepeatCount),
     /// Redoes what was undone last.
@@ -477,6 +479,7 @@ impl Session {
             Command::Indent(movement, amount, dedent) => self.indent(movement, *amount, *dedent),
             Command::Begin => self.begin(),
             Command::End => self.end(),
+            Command::EndOne => self.end_one(),
             Command::Undo(n) => self.undo(*n),
             Command::Redo => self.redo(),
             Command::Truncate(len) => self.truncate(*len),

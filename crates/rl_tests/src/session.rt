@@ -320,8 +320,10 @@ fn every_command_does_something(rt: HostRuntime) -> Result<(), Fail> {
         Command::Backspace(1),
         Command::Truncate(0),
         Command::Begin,
+        Command::Begin,
         Command::SetPos(0),
         Command::Paste(spaced, 1),
+        Command::EndOne,
         Command::End,
         Command::Undo(1),
         Command::Redo,
@@ -356,8 +358,10 @@ fn every_command_does_something(rt: HostRuntime) -> Result<(), Fail> {
         Reply::Answer(true),
         Reply::Done,
         Reply::Mark(0),
+        Reply::Mark(1),
         Reply::Done,
         Reply::Inserted(Some(false)),
+        Reply::Answer(true),
         Reply::Answer(true),
         Reply::Answer(true),
         Reply::Answer(true),
@@ -430,6 +434,56 @@ fn a_group_runs_and_is_undone_with_its_beginning(rt: HostRuntime) -> Result<(), 
     let mut session = Session::new(alloc, "", 0, 64, 2, GraphemeClusterMode::Unicode)?;
     runs(&rt, &mut session, &commands, &wanted, "a", 1)?;
     records(&rt, &session, 1, 0);
+    Ok(())
+}
+
+// What a session answers: whether an undo and a redo would find a change, how many groups are open, and where the cursor
+// stands.
+type Reads = (bool, bool, usize, (usize, u16));
+
+// The session does the commands, and is read after each.
+fn is_read(rt: &impl Abort, session: &mut Session, rows: &[(Command, Reads)]) {
+    for (i, (command, wanted)) in rows.iter().enumerate() {
+        let _ = session.apply(command);
+        let answered = (
+            session.can_undo(),
+            session.can_redo(),
+            session.level(),
+            session.line_column(),
+        );
+        assert!(rt; answered == *wanted, "what is read after command {i}");
+    }
+}
+
+#[test]
+fn reads_part_no_run_of_kills(rt: HostRuntime) -> Result<(), Fail> {
+    let alloc = rt.alloc();
+    let text = "ab\ncd ef gh";
+    let mut session = Session::new(alloc, text, 3, 64, 2, GraphemeClusterMode::Unicode)?;
+    let rows = [
+        (
+            Command::Kill(Movement::ForwardWord(1, At::AfterEnd, Word::Emacs)),
+            (true, false, 0, (1, 0)),
+        ),
+        (
+            Command::Kill(Movement::ForwardWord(1, At::AfterEnd, Word::Emacs)),
+            (true, false, 0, (1, 0)),
+        ),
+        // both come back, since they are one run
+        (Command::Yank(1), (true, false, 0, (1, 5))),
+        // an undo would take the open begin alone
+        (Command::Begin, (false, false, 1, (1, 5))),
+        (Command::EndOne, (true, false, 0, (1, 5))),
+        (Command::Undo(1), (true, true, 0, (1, 0))),
+        (Command::SetPos(2), (true, true, 0, (0, 2))),
+        (Command::Undo(2), (false, true, 0, (1, 0))),
+    ];
+    is_read(&rt, &mut session, &rows);
+    is_so(
+        &rt,
+        session.line().as_str() == text,
+        "the text of the start",
+    );
     Ok(())
 }
 

@@ -255,6 +255,7 @@ other-adds old (asks.Move m) reply new e u at i d w adds = absurd i
 other-adds old (asks.Copy m) reply new e u at i d w adds = absurd i
 other-adds old asks.Begin reply new e u at i d w adds = absurd i
 other-adds old asks.End reply new e u at i d w adds = absurd i
+other-adds old asks.EndOne reply new e u at i d w adds = absurd i
 other-adds old (asks.Undo n) reply new e u at i d w adds = absurd i
 other-adds old asks.Redo reply new e u at i d w adds = absurd i
 other-adds old (asks.Truncate len) reply new e u at i d w adds = absurd i
@@ -271,6 +272,7 @@ asked-adds other old command reply new e u at quiet i d w adds = other-adds old 
 by_course : (old : State) (command : Command) (reply : Reply) (new : State) → IsEdit old.line command → Does old command reply new → Came (course_of (asked old.line command) old command reply) old new
 by_course old asks.Begin reply new i d = absurd i
 by_course old asks.End reply new i d = absurd i
+by_course old asks.EndOne reply new i d = absurd i
 by_course old (asks.Undo n) reply new i d = absurd i
 by_course old asks.Redo reply new i d = absurd i
 by_course old (asks.Truncate len) reply new i d = absurd i

@@ -31,7 +31,7 @@ use Rattle.rl_line.proofs.Plans.EditLemmas.{yank_plan-nothing, yank_plan-some}
 use Rattle.rl_line.proofs.Plans.SideLemmas.{LiesOn, BeginningOfLine-side, EndOfLine-side, FirstNonBlank-side, BackwardWord-side, ForwardWord-side, ViCharSearch-side, BeginningOfBuffer-side, EndOfBuffer-side}
 use Rattle.rl_session.specs.Pair.{pair_step, pair_refused}
 use Rattle.rl_session.specs.State.{State, Stands, with_ring}
-use Rattle.rl_session.specs.Commands.{Course, never, when, stays, goes, edits, stops, respells, lends, pops, tells, Came, Effect, by_steps, puts_begin, puts_ends, shortens, takes_back, puts_again, Became, effect, Edited, Step, is_vain_yank, lent as lent_state, lent_plan, popped, readied}
+use Rattle.rl_session.specs.Commands.{Course, never, when, stays, goes, edits, stops, respells, lends, pops, tells, Came, Effect, by_steps, puts_begin, puts_ends, puts_end, shortens, takes_back, puts_again, Became, effect, Edited, Step, is_vain_yank, lent as lent_state, lent_plan, popped, readied}
 use Rattle.rl_session.specs.KillRuns.{IsDirected, AllDirected, IsNoKill, AnyTook, NoneRefused, GivenBack}
 use Rattle.rl_session.specs.Run.{Row, Leads, Run, before_last, commands_of, replies_of}
 use Rattle.rl_session.specs.declared.pair.Pair.{Pair}
@@ -150,6 +150,7 @@ Became-size : (effect : Effect) (old new : State) → Became effect old new → 
 Became-size (by_steps course) old new d = Came-size course old new d
 Became-size (puts_begin n) old new d = ap (λ (s : State). s.pair.ring.size) d.1
 Became-size (puts_ends a) old new d = ap (λ (s : State). s.pair.ring.size) d.1
+Became-size (puts_end a) old new d = ap (λ (s : State). s.pair.ring.size) d.1
 Became-size (shortens len) old new d = ap (λ (s : State). s.pair.ring.size) d.1
 Became-size (takes_back n a) old new d = ap (λ (s : State). s.pair.ring.size) d.1
 Became-size (puts_again a) old new d = ap (λ (s : State). s.pair.ring.size) d.1

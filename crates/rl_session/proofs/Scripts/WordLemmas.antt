@@ -5,7 +5,7 @@ use Rattle.std.proofs.lemmas.Bool.Decides.{nat_tests}
 use Rattle.rl_base.specs.declared.motion.WordAction.{WordAction}
 use Rattle.rl_session.specs.declared.session.Command.TheVariants.{SetPos, Move, Yank, Delete, Backspace, TransposeWords, EditWord, Kill, Copy, Undo, Truncate}
 use Rattle.rl_session.specs.declared.settings.Setting.TheVariants.{Limit, RingSize, Mode}
-use Rattle.rl_session.specs.Grammar.{NamesAction, Meaning, NewText, Set, Do, RangeText, Says, no_text, text, pos, move, ins, paste, yank, yankpop, update, str, rep, range, del, back, killline, killbuf, discline, discbuf, prevword, nextword, to, tchars, twords, cased, kill, copy, indent, dedent, begin, end, undo, redo, trunc, limit, ring, mode, Means, Same, same, pastes, updates, puts_in, replaces, line_place}
+use Rattle.rl_session.specs.Grammar.{NamesAction, Meaning, NewText, Set, Do, RangeText, Says, no_text, text, pos, move, ins, paste, yank, yankpop, update, str, rep, range, del, back, killline, killbuf, discline, discbuf, prevword, nextword, to, tchars, twords, cased, kill, copy, indent, dedent, begin, end, endone, undo, redo, trunc, limit, ring, mode, Means, Same, same, pastes, updates, puts_in, replaces, line_place}
 use Rattle.rl_session.specs.Spelling.{number_of, word, rest, SpellsChar, Numbered, SpellsRest, NumberedText}
 use Rattle.rl_session.specs.Reads.{SpellsNoChar, HasNoNumber, HasNoWord, HasNoAt, HasNoSearch, HasNoMovement, NamesNoMovement, SaysNoDeletion, SaysNoCommand}
 use Rattle.rl_session.proofs.Scripts.NumberLemmas.{some_same, none_holds}
@@ -85,6 +85,7 @@ Says-one (indent p) (indent q) = let both = AmountMovement-one p q in same (rw (
 Says-one (dedent p) (dedent q) = let both = AmountMovement-one p q in same (rw (both.0, both.1) refl)
 Says-one begin begin = same refl
 Says-one end end = same refl
+Says-one endone endone = same refl
 Says-one (undo p) (undo q) = same (ap (λ x. Do (Undo x)) (some_same _ p q))
 Says-one redo redo = same refl
 Says-one (trunc p) (trunc q) = same (ap (λ x. Do (Truncate x)) (some_same _ p q))

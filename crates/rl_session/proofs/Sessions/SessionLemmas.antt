@@ -18,7 +18,7 @@ use Rattle.rl_line.specs.LetterCase.{edit_word_plan, Recased}
 use Rattle.rl_line.specs.Record.{Record, agree, replays_to, unwind}
 use Rattle.rl_line.proofs.Records.JoinLemmas.{record_step-Start, record_step-Stop}
 use Rattle.rl_line.specs.Undo.{Redone, Undone}
-use Rattle.rl_line.specs.Units.{adds_end, begun, ended, level}
+use Rattle.rl_line.specs.Units.{adds_end, begun, with_closed}
 use Rattle.rl_session.specs.State.{State, AtRest, Follows}
 use Rattle.rl_line.proofs.Plans.PlanLemmas.{first_step}
 use Rattle.rl_session.specs.Commands.{Takes, nothing_more, room_by_step, a_copy, Edited, lent, lent_plan, popped, popped_plan}
@@ -32,7 +32,7 @@ use Rattle.rl_line.specs.Undo.{line_back}
 use Rattle.std.proofs.lemmas.Slice.Eq.{bytes_eq-Decides}
 use Rattle.rl_line.proofs.Records.RecordLemmas.{value_of}
 use Rattle.rl_line.proofs.Records.UndoLemmas.{line_back-unwind}
-use Rattle.rl_line.proofs.Records.WalkLemmas.{Walks-Done, Walks-Halted, Walks-Redone, Walks-Undone, Walks-ahead, Walks-back, Walks-begun, Walks-ended}
+use Rattle.rl_line.proofs.Records.WalkLemmas.{Walks-Done, Walks-Halted, Walks-Redone, Walks-Undone, Walks-ahead, Walks-back, Walks-begun, Walks-closed}
 use Rattle.std.proofs.lemmas.Option.{same_Some}
 
 -- a text that goes into an empty line
@@ -146,10 +146,10 @@ pub Walks-begin : (X : Type 0) (r now : Record) (line : Line) (result : Result �
 Walks-begin X r now line (Ok a) d h w = subst (λ (k : Record). Walks k line.text) (sym d.1) (Walks-begun r line.text w)
 Walks-begin X r now line (Err v) d h w = subst (λ (k : Record). Walks k line.text) (sym h.1) w
 
-pub Walks-end : (X : Type 0) (r now : Record) (line : Line) (result : Result Bool Refusal) → IfOk result (λ a. (a ≡ adds_end (level r.recorded) r.recorded) × (now ≡ ended r))
+pub Walks-end : (X : Type 0) (n : ℕ) (r now : Record) (line : Line) (result : Result Bool Refusal) → IfOk result (λ a. (a ≡ adds_end n r.recorded) × (now ≡ with_closed n r))
     → IfErr result (λ w. (w ≡ why.NoMemory) × (now ≡ r) × X) → Walks r line.text → Walks now line.text
-Walks-end X r now line (Ok a) d h w = subst (λ (k : Record). Walks k line.text) (sym d.1) (Walks-ended r line.text w)
-Walks-end X r now line (Err v) d h w = subst (λ (k : Record). Walks k line.text) (sym h.1) w
+Walks-end X n r now line (Ok a) d h w = subst (λ (k : Record). Walks k line.text) (sym d.1) (Walks-closed n r line.text w)
+Walks-end X n r now line (Err v) d h w = subst (λ (k : Record). Walks k line.text) (sym h.1) w
 
 -- all entries lead to the text
 pub replays-all : (len : ℕ) (r : Record) (line : Line) → IsCharBoundary line.text line.cursor → length r.recorded ≤ len → Walks r line.text → replays_to len r line.text ≡ true

@@ -2,12 +2,12 @@
 ghost use Rattle.std.specs.Prelude.{◌≡◌, ◌≤◌, IfSome};
 ghost use Rattle.std.specs.Str.{IsCharBoundary};
 ghost use Rattle.rl_line.specs.Ranges.{covered};
-ghost use Rattle.rl_session.specs.Commands.{Does, destination};
+ghost use Rattle.rl_session.specs.Commands.{Does, destination, line_place};
 ghost use Rattle.rl_session.specs.declared.session.Command.{Command};
 
 use crate::session::replies::handed_out;
 use crate::session::{Fault, Reply, Session};
-use rl_base::Movement;
+use rl_base::{Movement, Unit};
 use std::ops::Range;
 
 impl Session {
@@ -57,12 +57,21 @@ impl Session {
     pub(super) fn line_place(&self) -> Reply
         ensures { Does self.now Command.LinePlace result self.now }
     {
+        let (k, columns) = self.line_column();
+        Reply::At(k, columns)
+    }
+
+    /// Where the cursor stands, as `LinePlace` answers it: the number of its line, from 0, and the columns from that
+    /// line's start to the cursor. It cuts clusters of that part of the line alone, and as a read it parts no run of kills.
+    pub fn line_column(&self) -> (usize, Unit)
+        ensures { result ≡ line_place self.now }
+    {
         let line = &self.line;
         let k = line.line_number();
         match line.line_range(k) {
             Some(range) => {
                 let before = &line.as_str()[range.start..line.pos()];
-                Reply::At(k, self.options.mode.width(before))
+                (k, self.options.mode.width(before))
             }
             None => unreachable!(),
         }
