@@ -157,7 +157,7 @@ new-holds (suc n) h = record {
 }
 
 -- a ring keeps its size
-killed_as-size : (size : ℕ) (last : Action) (text : List ℕ) (mode : Mode) (r : Ring) → (killed_as size last text mode r).size ≡ r.size
+pub killed_as-size : (size : ℕ) (last : Action) (text : List ℕ) (mode : Mode) (r : Ring) → (killed_as size last text mode r).size ≡ r.size
 killed_as-size zero last text mode r = refl
 killed_as-size (suc n) Kill text mode r = refl
 killed_as-size (suc n) (Yank m) text mode r = refl
