@@ -12,7 +12,7 @@ use Rattle.rl_base.specs.declared.motion.Movement.TheVariants.{WholeLine, Beginn
 use Rattle.rl_line.specs.Line.{Line}
 use Rattle.rl_line.specs.LineMotions.{first_nonblank}
 use Rattle.rl_line.specs.Plan.{Plan, nothing, single, answering}
-use Rattle.rl_line.specs.Ranges.{covered, killed, text_in}
+use Rattle.rl_line.specs.Ranges.{covered, killed, text_in, unless_empty}
 
 -- what a movement copies
 abbrev pub copied : Line → Movement → Option (List ℕ)
@@ -54,7 +54,11 @@ removal line (Some r) side = single (Delete r.start (text_in line r) side) r.sta
 abbrev pub kill_plan : Line → Movement → Plan Bool
 kill_plan line mvt = removal line (killed line mvt) (side_of line mvt)
 
--- the same, and the answer is the text that goes
+-- what stands between two places goes
+abbrev pub kill_range_plan : Line → ℕ → ℕ → Direction → Plan Bool
+kill_range_plan line i j side = removal line (unless_empty i j) side
+
+-- what a movement kills goes, and the answer is its text
 abbrev pub delete_plan : Line → ℕ → Plan (Option (List ℕ))
 delete_plan line n = answering (copied line (ForwardChar n)) (kill_plan line (ForwardChar n))
 

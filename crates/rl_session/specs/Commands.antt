@@ -4,8 +4,10 @@ use Rattle.std.specs.List.{insert_slice}
 use Rattle.std.specs.Option.{option_map}
 use Rattle.std.specs.String.{string_bytes}
 use Rattle.std.specs.Str.{IsCharBoundary}
+use Rattle.rl_base.specs.declared.kill_ring.Mode.TheVariants.{Append}
 use Rattle.rl_base.specs.declared.listeners.Refusal.TheVariants as why
-use Rattle.rl_base.specs.KillRing.{reset, yank, yanked, yank_size, yank_pop, yank_popped}
+use Rattle.rl_base.specs.KillRing.{reset, yank, yanked, yank_size, yank_pop, yank_popped, Enlarges, killed}
+use Rattle.rl_base.specs.Clusters.{next_pos, prev_pos}
 use Rattle.rl_base.specs.Lines.{line_number}
 use Rattle.rl_base.specs.Event.{Event}
 use Rattle.rl_base.specs.Text.{HasText}
@@ -21,7 +23,7 @@ use Rattle.rl_line.specs.Motions.{Moved, destination as destination_in}
 use Rattle.rl_line.specs.Plan.{Step as PlanStep, Plan, nothing, Done, Halted, or_no_memory, bytes_of, listener_after}
 use Rattle.rl_line.specs.Edits.{insert_plan, insert_str_plan, yank_plan, yank_pop_plan, update_plan, replace_plan, delete_range_plan}
 use Rattle.rl_line.specs.Indents.{indent_plan}
-use Rattle.rl_line.specs.Kills.{copied, delete_plan, kill_plan, is_by_characters, Told}
+use Rattle.rl_line.specs.Kills.{copied, delete_plan, kill_plan, kill_range_plan, is_by_characters, Told}
 use Rattle.rl_line.specs.LetterCase.{edit_word_plan, Recased}
 use Rattle.rl_line.specs.Record.{Record, replays_to}
 use Rattle.rl_line.specs.Transpositions.{transpose_chars_plan, transpose_words_plan}
@@ -31,7 +33,7 @@ use Rattle.rl_session.specs.Options.{layout_of}
 use Rattle.rl_session.specs.Pair.{pair_step, pair_refused}
 use Rattle.rl_session.specs.declared.pair.Pair.{Pair}
 use Rattle.rl_session.specs.declared.session.Command.{Command}
-use Rattle.rl_session.specs.declared.session.Command.TheVariants.{SetPos, Move, Insert, Paste, Yank, YankPop, Update, InsertStr, Replace, DeleteRange, Delete, Backspace, KillLine, KillBuffer, DiscardLine, DiscardBuffer, DeletePrevWord, DeleteWord, DeleteTo, TransposeChars, TransposeWords, EditWord, Kill, Copy, Indent, Begin, End, EndOne, Undo, Redo, Truncate, LinePlace}
+use Rattle.rl_session.specs.declared.session.Command.TheVariants.{SetPos, Move, Insert, Paste, Yank, YankPop, Update, InsertStr, Replace, DeleteRange, Delete, Backspace, KillLine, KillBuffer, DiscardLine, DiscardBuffer, DeletePrevWord, DeleteWord, DeleteTo, TransposeChars, TransposeWords, EditWord, Kill, Copy, Indent, Begin, End, EndOne, Undo, Redo, Truncate, LinePlace, KillRange, Keep}
 use Rattle.rl_session.specs.declared.session.Fault.TheVariants.{NoMemory, BadPlace, BadYankSize, NotReplaying}
 use Rattle.rl_session.specs.declared.session.Reply.{Reply}
 use Rattle.rl_session.specs.declared.session.Reply.TheVariants as says
@@ -145,7 +147,7 @@ Came (pops course) old new = Came course (popped old) new
 Came (tells by_characters course) old new =
     Told pair_step by_characters (λ before now. Came course (record old { pair = before }) (record new { pair = now })) old.pair new.pair
 
--- what a command did: a course by steps, or what one command alone does to the record, with what it answers
+-- what a command did: a course by steps, or what one command alone does to the record or the ring, with what it answers
 pub data Effect : Type 1 where
   by_steps : Course → Effect
   puts_begin : ℕ → Effect
@@ -154,6 +156,7 @@ pub data Effect : Type 1 where
   shortens : ℕ → Effect
   takes_back : ℕ → Bool → Effect
   puts_again : Bool → Effect
+  keeps : List ℕ → Effect
 
 abbrev pub Became : Effect → State → State → Type 0
 Became (by_steps course) old new = Came course old new
@@ -168,6 +171,7 @@ Became (takes_back n a) old new =
     Undone n old.pair.changes new.pair.changes old.line new.line a × KeepsRing old new × WatchHears (steps_back old.line.cursor (last_of n old.pair.changes.recorded)) old new
 Became (puts_again a) old new =
     Redone old.pair.changes new.pair.changes old.line new.line a × KeepsRing old new × WatchHears (steps_ahead old.line.cursor (redo_of old.pair.changes.pending)) old new
+Became (keeps text) old new = new ≡ with_ring (reset (killed text Append old.pair.ring)) old
 
 -- how a reply tells the answer of an edit
 pub data Telling : Type 0 → Type 1 where
@@ -230,6 +234,11 @@ other_course old (EditWord action) (says.Refused NoMemory) =
     respells action (λ made. let plan = edit_word_plan old.line made in stops (unbegun a_copy plan) a_copy plan)
 other_course old (Kill m) (says.Answer a) = tells (is_by_characters m) (edits (kill_plan old.line m) a)
 other_course old (Kill m) (says.Refused NoMemory) = tells (is_by_characters m) (stops ⊥ nothing_more (kill_plan old.line m))
+other_course old (KillRange i j side) (says.Answer a) = when (IsRange old.line.text i j) (tells false (edits (kill_range_plan old.line i j side) a))
+other_course old (KillRange i j side) (says.Refused BadPlace) = when (¬ (IsRange old.line.text i j)) stays
+other_course old (KillRange i j side) (says.Refused NoMemory) =
+    when (IsRange old.line.text i j) (tells false (stops ⊥ nothing_more (kill_range_plan old.line i j side)))
+other_course old (Keep t) (says.Refused NoMemory) = when (Enlarges (string_bytes t) Append old.pair.ring) stays
 -- a yanked text is copied out of the ring, which may run out of memory too, unless the text is empty
 other_course old (Yank n) (says.Inserted a) = lends (edits (lent_plan old.line (yank old.pair.ring) n) a)
 other_course old (Yank n) (says.Refused NoMemory) =
@@ -268,6 +277,7 @@ effect old EndOne (says.Answer a) = puts_end a
 effect old (Truncate len) says.Done = shortens len
 effect old (Undo n) (says.Answer a) = takes_back n a
 effect old Redo (says.Answer a) = puts_again a
+effect old (Keep t) says.Done = keeps (string_bytes t)
 effect old command reply = by_steps (course_of (asked old.line command) old command reply)
 
 -- from old, the command may have this reply and lead to new, the ring's resets aside
@@ -277,6 +287,7 @@ Does old command reply new = Became (effect old command reply) old new
 -- the commands before which the ring is not reset: they go on from what it did last
 abbrev pub continues : Command → Bool
 continues (Kill m) = not (is_by_characters m)
+continues (KillRange _ _ _) = true
 continues (Yank _) = true
 continues YankPop = true
 continues _ = false

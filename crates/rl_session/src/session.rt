@@ -24,8 +24,8 @@ mod yanks;
 use crate::options::Options;
 use crate::pair::Pair;
 use rl_base::{
-    At, CharSearch, GraphemeClusterMode, KillRing, Movement, NoListener, RepeatCount, Report,
-    Splice, Unit, Watch, WatchFault, Word, WordAction,
+    At, CharSearch, Direction, GraphemeClusterMode, KillRing, Movement, NoListener, RepeatCount,
+    Report, Splice, Unit, Watch, WatchFault, Word, WordAction,
 };
 use rl_line::{Changeset, LineBuffer};
 use std::alloc::Global;
@@ -82,6 +82,11 @@ pub enum Command {
     EditWord(WordAction),
     /// Kills by a movement. The killed text goes to the ring, except where the movement is by clusters.
     Kill(Movement),
+    /// Kills the text between two places, told with a direction: `Forward` joins it at the end of the text that was
+    /// killed right before it, `Backward` at its front.
+    KillRange(usize, usize, Direction),
+    /// Puts a text into the ring as a kill of its own. The line stays.
+    Keep(String),
     /// Copies what a movement covers.
     Copy(Movement),
     /// Indents the lines of a movement by a number of spaces, or dedents them by at most that many bytes of blanks.
@@ -475,6 +480,8 @@ impl Session {
             Command::TransposeWords(n) => self.transpose_words(*n),
             Command::EditWord(action) => self.edit_word(*action),
             Command::Kill(movement) => self.kill(movement),
+            Command::KillRange(from, to, dir) => self.kill_range(*from, *to, *dir),
+            Command::Keep(text) => self.keep(text),
             Command::Copy(movement) => self.copy(movement),
             Command::Indent(movement, amount, dedent) => self.indent(movement, *amount, *dedent),
             Command::Begin => self.begin(),
@@ -498,7 +505,8 @@ impl Session {
             return self.insert(*c, *n);
         }
         match command {
-            Command::Kill(_) | Command::Yank(_) | Command::YankPop => self.go_on(command),
+            Command::Kill(_) | Command::KillRange(_, _, _) | Command::Yank(_) | Command::YankPop =>
+                self.go_on(command),
             _ => {
                 self.pair.ring.reset();
                 self.obey(command)
@@ -517,10 +525,10 @@ impl Session {
         reply
     }
 
-    /// Does one command. The ring is reset first, unless the command is a yank, or a kill by a movement other than
-    /// by clusters. It is also reset after a yank whose reply is not `Inserted(Some(..))`. Whatever the reply, the
-    /// recorded changes lead from the starting text to the present one, and back to the same text as before. Inlined,
-    /// so that a reply is not copied on its way.
+    /// Does one command. The ring is reset first, unless the command is a yank, a kill of a range, or a kill by a
+    /// movement other than by clusters. It is also reset after a yank whose reply is not `Inserted(Some(..))`.
+    /// Whatever the reply, the recorded changes lead from the starting text to the present one, and back to the same
+    /// text as before. Inlined, so that a reply is not copied on its way.
     #[inline(always)]
     pub fn apply(&mut self, command: &Command) -> Reply
         ensures step { Step self.old command.now result self.new }

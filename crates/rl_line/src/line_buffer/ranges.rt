@@ -162,7 +162,7 @@ impl LineBuffer {
     }
 
     // A range of the text, unless it is empty.
-    fn unless_empty(&self, start: usize, end: usize) -> Option<Range<usize>>
+    pub(super) fn unless_empty(&self, start: usize, end: usize) -> Option<Range<usize>>
         requires order { start ≤ end }
         requires start { IsCharBoundary self.now.text start }
         requires end { IsCharBoundary self.now.text end }

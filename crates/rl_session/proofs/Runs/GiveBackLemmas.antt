@@ -16,11 +16,11 @@ use Rattle.rl_base.specs.declared.listeners.Direction.TheVariants.{Forward}
 use Rattle.rl_base.specs.declared.motion.Movement.TheVariants.{BackwardChar, EndOfLine, EndOfBuffer, BeginningOfLine, BeginningOfBuffer, BackwardWord, ForwardWord, ViCharSearch}
 use Rattle.rl_base.specs.declared.motion.WordAction.{WordAction}
 use Rattle.rl_base.specs.declared.motion.WordAction.TheVariants.{Capitalize, Lowercase, Uppercase}
-use Rattle.rl_line.specs.Kills.{is_by_characters, kill_plan, removal, side_of}
+use Rattle.rl_line.specs.Kills.{is_by_characters, kill_plan, kill_range_plan, removal, side_of}
 use Rattle.rl_line.specs.LetterCase.{edit_word_plan, put_for, recased, word_ahead}
 use Rattle.rl_line.specs.Line.{Line}
 use Rattle.rl_line.specs.Plan.{Step as PlanStep, Plan, single, listener_after, listener_after_step, Done}
-use Rattle.rl_line.specs.Ranges.{killed, text_in}
+use Rattle.rl_line.specs.Ranges.{killed, text_in, unless_empty}
 use Rattle.rl_line.specs.Record.{Entry, Begin, End, Changed, Record, cursors_of, entries_after, entries_of, entries_told, event_of, inverse, record_step}
 use Rattle.rl_line.specs.Undo.{cursor_after, cursor_told, line_after, line_ahead, line_back, place_after, Redone, Undone}
 use Rattle.rl_line.specs.Units.{is_change, last_of, redo_of}
@@ -244,6 +244,9 @@ other-adds old (asks.EditWord action) (says.Refused f) new e u at i d w adds = a
 other-adds old (asks.Kill m) (says.Answer a) new e u at i d w adds =
     kill-adds (is_by_characters m) (kill_plan old.line m) old new a e u (λ r. removed old.line r e (killed old.line m) (side_of old.line m)) d adds
 other-adds old (asks.Kill m) (says.Refused f) new e u at i d w adds = absurd (w tt)
+other-adds old (asks.KillRange i j side) (says.Answer a) new e u at c d w adds =
+    kill-adds false (kill_range_plan old.line i j side) old new a e u (λ r. removed old.line r e (unless_empty i j) side) d.1 adds
+other-adds old (asks.KillRange i j side) (says.Refused f) new e u at c d w adds = absurd (w tt)
 other-adds old (asks.Yank n) (says.Inserted a) new e u at i d w adds =
     edited-adds (lent_plan old.line (yank old.pair.ring) n) (lent old) new a e u (λ one. lent-quietly old.line (yank old.pair.ring) n) d adds
 other-adds old (asks.Yank n) (says.Refused f) new e u at i d w adds = absurd (w tt)
@@ -259,6 +262,7 @@ other-adds old asks.EndOne reply new e u at i d w adds = absurd i
 other-adds old (asks.Undo n) reply new e u at i d w adds = absurd i
 other-adds old asks.Redo reply new e u at i d w adds = absurd i
 other-adds old (asks.Truncate len) reply new e u at i d w adds = absurd i
+other-adds old (asks.Keep t) reply new e u at i d w adds = absurd i
 other-adds old asks.LinePlace reply new e u at i d w adds = absurd i
 other-adds old command reply new e u at i d w adds = absurd d
 
@@ -276,6 +280,7 @@ by_course old asks.EndOne reply new i d = absurd i
 by_course old (asks.Undo n) reply new i d = absurd i
 by_course old asks.Redo reply new i d = absurd i
 by_course old (asks.Truncate len) reply new i d = absurd i
+by_course old (asks.Keep t) reply new i d = absurd i
 by_course old command reply new i d = d
 
 -- an edit of a session, in a row

@@ -11,10 +11,12 @@ use Rattle.rl_line.proofs.Records.RecordLemmas.{replay-IsUtf8}
 use Rattle.rl_line.proofs.Records.RedoLemmas.{redos-give-back}
 use Rattle.rl_line.proofs.Records.UndoLemmas.{line_ahead-replay, line_back-unwind}
 use Rattle.rl_line.proofs.Records.UnitLemmas.{kept-last}
-use Rattle.rl_session.specs.Commands.{Effect, by_steps, puts_begin, puts_ends, puts_end, shortens, takes_back, puts_again, Became, effect, Step, Does, readied, with_changes}
+use Rattle.rl_session.specs.Commands.{Effect, by_steps, puts_begin, puts_ends, puts_end, shortens, takes_back, puts_again, Became, effect, Step, Does, readied, with_changes, keeps}
 use Rattle.rl_session.specs.History.{AllRedone, History, Holds, WasHeld, WasRefused}
 use Rattle.rl_session.specs.Run.{Row, Leads, Run, held, held_by, held_of, steps_in, texts_of_steps}
-use Rattle.rl_session.specs.State.{Begins, State}
+use Rattle.rl_session.specs.State.{Begins, State, with_ring}
+use Rattle.rl_base.specs.KillRing.{killed, reset}
+use Rattle.rl_base.specs.declared.kill_ring.Mode.TheVariants.{Append}
 use Rattle.rl_session.specs.declared.session.Command.{Command}
 use Rattle.rl_session.specs.declared.session.Command.TheVariants.{Undo, Redo}
 use Rattle.rl_session.specs.declared.session.Reply.{Reply}
@@ -67,6 +69,7 @@ Holds-Became start held (shortens len) old new d h =
     let r = old.pair.changes in
     let same = agree-same (unwind r.recorded old.line.text) (unwind (take len r.recorded) old.line.text) d.0 in
     History-changes start held new (with_changes (truncated len r) old) (History-truncated len start held old.line.text r h same) d.1
+Holds-Became start held (keeps text) old new d h = History-changes start held new (with_ring (reset (killed text Append old.pair.ring)) old) h d
 Holds-Became start held (takes_back n a) old new d h = History-TookBack _ start held _ old new a h d.0
 Holds-Became start held (puts_again a) old new d h = History-PutAgain start held _ old new a h d.0
 

@@ -12,7 +12,7 @@ use Rattle.rl_line.proofs.Records.RecordLemmas.{unwind-replay, replay-unwind, re
 use Rattle.rl_session.specs.declared.session.Command.{Command}
 use Rattle.rl_session.specs.declared.session.Reply.{Reply}
 use Rattle.rl_session.specs.State.{State, Replays, origin}
-use Rattle.rl_session.specs.Commands.{Effect, by_steps, puts_begin, puts_ends, puts_end, shortens, takes_back, puts_again, Became, effect, Step, readied}
+use Rattle.rl_session.specs.Commands.{Effect, by_steps, puts_begin, puts_ends, puts_end, shortens, takes_back, puts_again, Became, effect, Step, readied, keeps}
 use Rattle.rl_session.specs.Run.{Row, held, held_of, Leads, Run, AfterEach, commands_of, replies_of, steps_in}
 use Rattle.rl_session.proofs.Sessions.CourseLemmas.{Heard, Heard-Came}
 
@@ -31,6 +31,7 @@ Kept-Became (puts_begin n) old new u d = subst (KeepsOrigin old) (sym d.1) (Kept
 Kept-Became (puts_ends a) old new u d = subst (KeepsOrigin old) (sym d.1) (Kept-closed (level old.pair.changes.recorded) old.pair.changes old.line u)
 Kept-Became (puts_end a) old new u d = subst (KeepsOrigin old) (sym d.1) (Kept-closed (min 1 (level old.pair.changes.recorded)) old.pair.changes old.line u)
 Kept-Became (shortens len) old new u d = subst (KeepsOrigin old) (sym d.1) (Kept-truncated len old.pair.changes old.line u d.0)
+Kept-Became (keeps text) old new u d = subst (KeepsOrigin old) (sym d) (record { origin_is = λ start e. e; utf8 = u })
 Kept-Became (takes_back n a) old new u d = Kept-Undone _ old.pair.changes new.pair.changes old.line new.line a u d.0
 Kept-Became (puts_again a) old new u d = Kept-Redone old.pair.changes new.pair.changes old.line new.line a u d.0
 

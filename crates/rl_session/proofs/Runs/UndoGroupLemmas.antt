@@ -8,10 +8,13 @@ use Rattle.rl_line.proofs.Records.GroupLemmas.{has_change-append, Inside, Inside
 use Rattle.rl_line.proofs.Records.EndLemmas.{closed_group, end_one-cases, end_one-past, level-group}
 use Rattle.rl_line.proofs.Records.MatchLemmas.{Lower-end_one, Lower-end_times, end_one-cons}
 use Rattle.rl_line.proofs.Records.UndoLemmas.{line_back-unwind}
-use Rattle.rl_session.specs.Commands.{Effect, by_steps, puts_begin, Became, effect, Does, readied, with_changes}
+use Rattle.rl_session.specs.Commands.{Effect, by_steps, puts_begin, Became, effect, Does, readied, with_changes, keeps}
+use Rattle.rl_line.proofs.Records.UnitLemmas.{AllGood, AllGood-reverse, Gathers, Gathers-more, Gathers-nil, Settles-group, cut_more-append, on, opens-reverse, together-reverse, together-units, units-good}
 use Rattle.rl_session.specs.History.{AllStandInGroup, Holds, MayStandInGroup, WasRefused}
 use Rattle.rl_session.specs.Run.{Leads, Row, Run, held, held_of, steps_in}
-use Rattle.rl_session.specs.State.{Begins, State}
+use Rattle.rl_session.specs.State.{Begins, State, with_ring}
+use Rattle.rl_base.specs.KillRing.{killed, reset}
+use Rattle.rl_base.specs.declared.kill_ring.Mode.TheVariants.{Append}
 use Rattle.rl_session.specs.declared.session.Command.{Command}
 use Rattle.rl_session.specs.declared.session.Command.TheVariants as asks
 use Rattle.rl_session.specs.declared.session.Reply.{Reply}
@@ -71,6 +74,7 @@ Inside-same front old new k e = subst (λ (s : State). Inside front s.pair.chang
 abbrev StaysOpen : Effect → Type 0
 StaysOpen (by_steps _) = Unit {0}
 StaysOpen (puts_begin _) = Unit {0}
+StaysOpen (keeps _) = Unit {0}
 StaysOpen _ = ⊥
 
 stays_open : (old : State) (command : Command) (reply : Reply) → MayStandInGroup command reply → StaysOpen (effect old command reply)
@@ -80,12 +84,14 @@ stays_open old (asks.Undo n) (says.Answer a) i = absurd i
 stays_open old asks.Redo (says.Answer a) i = absurd i
 stays_open old (asks.Truncate len) says.Done i = absurd i
 stays_open old asks.Begin (says.Mark n) i = tt
+stays_open old (asks.Keep t) says.Done i = tt
 stays_open old _ _ i = tt
 
 Inside-Became : (front : List Entry) (effect : Effect) (old new : State) → StaysOpen effect → Became effect old new → Inside front old.pair.changes → Inside front new.pair.changes
 Inside-Became front (by_steps course) old new i d k =
     subst (λ (r : Record). Inside front r) (sym (Heard-Came course old new d).taken.listener) (Inside-steps old.line.cursor (steps_in course old new d) front old.pair.changes k)
 Inside-Became front (puts_begin n) old new i d k = Inside-same front (with_changes (begun old.pair.changes) old) new (Inside-begun front old.pair.changes k) d.1
+Inside-Became front (keeps text) old new i d k = Inside-same front (with_ring (reset (killed text Append old.pair.ring)) old) new k d
 Inside-Became front _ old new i d k = absurd i
 
 Inside-row : (front : List Entry) (row : Row) → MayStandInGroup row.command row.reply → Inside front row.before.pair.changes → Inside front row.after.pair.changes

@@ -3,13 +3,15 @@ use Rattle.std.proofs.Common.{Bool, true, false, inr, inl, ◌≡◌, ◌∙◌,
 use Rattle.std.specs.Prelude.{ℕ, Any, Bool, Option, IfOk, IfErr, OnOk, OnErr}
 use Rattle.std.specs.Option.{option_map}
 use Rattle.rl_base.specs.Event.{Start}
+use Rattle.rl_base.specs.declared.listeners.Direction.{Direction}
 use Rattle.rl_base.specs.declared.listeners.Refusal.{Refusal}
 use Rattle.rl_base.specs.declared.listeners.Refusal.TheVariants as why
 use Rattle.rl_base.specs.declared.motion.Movement.{Movement}
 use Rattle.rl_base.specs.declared.motion.WordAction.{WordAction}
 use Rattle.rl_line.specs.Line.{Line, NeedsRoom}
 use Rattle.rl_line.specs.Plan.{Plan, Done, Halted}
-use Rattle.rl_line.specs.Kills.{Told, copied, is_by_characters, kill_plan}
+use Rattle.rl_line.specs.Kills.{Told, copied, is_by_characters, kill_plan, kill_range_plan}
+use Rattle.rl_line.specs.LineRanges.{IsRange}
 use Rattle.rl_line.specs.LetterCase.{edit_word_plan, Recased}
 use Rattle.rl_line.specs.Record.{Record}
 use Rattle.rl_line.specs.Undo.{Undone, Redone, steps_ahead, steps_back, texts_ahead, texts_back}
@@ -21,7 +23,7 @@ use Rattle.rl_session.specs.Pair.{pair_step, pair_refused}
 use Rattle.rl_session.specs.declared.pair.Pair.{Pair}
 use Rattle.rl_session.specs.Replies.{replied}
 use Rattle.rl_session.specs.State.{State}
-use Rattle.rl_session.specs.declared.session.Command.TheVariants.{Copy, EditWord, Kill, Redo, Undo}
+use Rattle.rl_session.specs.declared.session.Command.TheVariants.{Copy, EditWord, Kill, KillRange, Redo, Undo}
 use Rattle.rl_session.specs.declared.session.Reply.{Reply}
 use Rattle.rl_session.specs.declared.session.Reply.TheVariants as says
 use Rattle.rl_session.proofs.Sessions.PairLemmas.{Stopped, Halted-pair}
@@ -101,6 +103,17 @@ Kill-replied m {inside} new (Ok a) v e options d h =
     carried (λ s r. Does s (Kill m) r new) v e (Told-each (is_by_characters m) _ _ inside.pair new.pair (λ before now i. record { done = i; options = options }) d)
 Kill-replied m {inside} new (Err w) v e options d h =
     carried (λ s r. Does s (Kill m) r new) v e (Told-each (is_by_characters m) _ _ inside.pair new.pair (λ before now i. inr (record { halted = Halted-pair nothing_more (kill_plan inside.line m) inside.line new.line before now w i; options = options })) h)
+
+pub KillRange-replied : (i j : ℕ) (side : Direction) {inside old : State} (new : State) (outcome : Result Bool Refusal) {reply : Reply} → inside ≡ old → IsRange old.line.text i j → reply ≡ replied says.Answer outcome
+    → new.options ≡ inside.options
+    → IfOk outcome (λ a. Told pair_step false (λ before now. Done pair_step (kill_range_plan inside.line i j side) inside.line new.line before now a) inside.pair new.pair)
+    → IfErr outcome (λ w. Told pair_step false (λ before now. Halted pair_step pair_refused (kill_range_plan inside.line i j side) inside.line new.line before now w) inside.pair new.pair)
+    → Does old (KillRange i j side) reply new
+KillRange-replied i j side {inside} new (Ok a) v range e options d h =
+    carried (λ s r. Does s (KillRange i j side) r new) v e (subst (λ (s : State). IsRange s.line.text i j) (sym v) range, Told-each false _ _ inside.pair new.pair (λ before now k. record { done = k; options = options }) d)
+KillRange-replied i j side {inside} new (Err w) v range e options d h =
+    carried (λ s r. Does s (KillRange i j side) r new) v e
+    (subst (λ (s : State). IsRange s.line.text i j) (sym v) range, Told-each false _ _ inside.pair new.pair (λ before now k. inr (record { halted = Halted-pair nothing_more (kill_range_plan inside.line i j side) inside.line new.line before now w k; options = options })) h)
 
 pub EditWord-replied : (action : WordAction) {inside old : State} (new : State) (outcome : Result Bool Refusal) {reply : Reply} → inside ≡ old → reply ≡ replied says.Answer outcome → new.options ≡ inside.options
     → IfOk outcome (λ a. Recased inside.line action (λ made. Done pair_step (edit_word_plan inside.line made) inside.line new.line inside.pair new.pair a))

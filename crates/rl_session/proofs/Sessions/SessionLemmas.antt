@@ -114,18 +114,24 @@ Walks-Told true P p q old new keeps t = keeps p q t
 Walks-Told false P p q old new keeps t =
     past_telling (λ r now. Walks r old.text → Walks now new.text) p t.last q t.ended (keeps (pair_step p Start) t.last t.inside)
 
+pub AtRest-told : (b : Bool) (plan : Plan Bool) (p q : Pair) (old new : Line) (result : Result Bool Refusal) → IsCharBoundary old.text old.cursor → NoneStarts plan.steps
+    → IfOk result (λ a. Told pair_step b (λ before now. Done pair_step plan old new before now a) p q)
+    → IfErr result (λ w. Told pair_step b (λ before now. Halted pair_step pair_refused plan old new before now w) p q)
+    → AtRest old p → AtRest new q
+AtRest-told b plan p q old new (Ok a) at none d h r = record {
+  walks = Walks-Told b _ p q old new (λ before now i. Walks-pair plan before now old new a at i) d r.walks;
+  idle = idle-Told b _ p q (λ i. idle-Done plan old new p q a none i r.idle) d;
+}
+AtRest-told b plan p q old new (Err w) at none d h r = record {
+  walks = Walks-Told b _ p q old new (λ before now i. Walks-refused plan before now old new w at (Halted-own nothing_more plan old new before now w i)) h r.walks;
+  idle = idle-Told b _ p q (λ i. idle-Halted plan old new p q w none (Halted-own nothing_more plan old new p q w i) r.idle) h;
+}
+
 pub AtRest-kill : (m : Movement) (p q : Pair) (old new : Line) (result : Result Bool Refusal) → IsCharBoundary old.text old.cursor
     → IfOk result (λ a. Told pair_step (is_by_characters m) (λ before now. Done pair_step (kill_plan old m) old new before now a) p q)
     → IfErr result (λ w. Told pair_step (is_by_characters m) (λ before now. Halted pair_step pair_refused (kill_plan old m) old new before now w) p q)
     → AtRest old p → AtRest new q
-AtRest-kill m p q old new (Ok a) at d h r = record {
-  walks = Walks-Told (is_by_characters m) _ p q old new (λ before now i. Walks-pair (kill_plan old m) before now old new a at i) d r.walks;
-  idle = idle-Told (is_by_characters m) _ p q (λ i. idle-Done (kill_plan old m) old new p q a (NoneStarts-kill old m) i r.idle) d;
-}
-AtRest-kill m p q old new (Err w) at d h r = record {
-  walks = Walks-Told (is_by_characters m) _ p q old new (λ before now i. Walks-refused (kill_plan old m) before now old new w at (Halted-own nothing_more (kill_plan old m) old new before now w i)) h r.walks;
-  idle = idle-Told (is_by_characters m) _ p q (λ i. idle-Halted (kill_plan old m) old new p q w (NoneStarts-kill old m) (Halted-own nothing_more (kill_plan old m) old new p q w i) r.idle) h;
-}
+AtRest-kill m p q old new result at = AtRest-told (is_by_characters m) (kill_plan old m) p q old new result at (NoneStarts-kill old m)
 
 -- nothing was done, since memory is out
 Walks-same : (r now : Record) (old new : Line) → (now ≡ r) × (new ≡ old) → Walks r old.text → Walks now new.text
