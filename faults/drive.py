@@ -306,7 +306,7 @@ def random_movement(chance):
 FORMS = (
     "pos Q;move M;ins N C;paste N T;yank N;yankpop;update 0 T;str Q T;rep Q Q T;range Q Q;del N;back N;"
     "killline;killbuf;discline;discbuf;prevword N S;nextword N A S;to N X C;tchars;twords N;case L;kill M;"
-    "copy M;indent I M;dedent I M;begin;end;undo N;redo;trunc K;where;text T;limit K;ring N;mode W"
+    "copy M;indent I M;dedent I M;begin;end;endone;undo N;redo;trunc K;where;text T;limit K;ring N;mode W"
 ).split(";")
 
 

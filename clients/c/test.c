@@ -1339,8 +1339,12 @@ static void what_changed_and_reports_are_apart(void) {
 static void memory_that_is_not_there(void) {
     begin_bad_input();
     LEAVES(LODVARN_NO_MEMORY, lodvarn_watch(&s, SIZE_MAX / 2, 0));
-    see("a limit takes none", lodvarn_open(&s, "a", 1, 0, SIZE_MAX - 1, 60, LODVARN_UNICODE) == LODVARN_DONE);
-    see("and is as it was said", lodvarn_limit(&s) == SIZE_MAX - 1 && stands(&s, "a", 0));
+}
+
+static void a_limit_takes_no_memory(void) {
+    see("the greatest limit opens",
+        lodvarn_open(&s, "a", 1, 1, SIZE_MAX, 60, LODVARN_UNICODE) == LODVARN_DONE && lodvarn_limit(&s) == SIZE_MAX);
+    see("and the text grows", lodvarn_insert(&s, 'b', 2) == LODVARN_TRUE && stands(&s, "abb", 3));
 }
 
 int main(void) {
@@ -1380,6 +1384,7 @@ int main(void) {
     a_yank_of_no_times_is_one();
     great_input_is_met();
     memory_that_is_not_there();
+    a_limit_takes_no_memory();
     what_changed_is_told();
     a_session_begins_anew();
     asking_what_changed_parts_nothing();

@@ -346,12 +346,21 @@ static uint32_t command(lodvarn **s, const char *name, char *rest) {
     return 0;
 }
 
+/* Whether there is memory for the limit, for which a script asks and lodvarn_open does not. */
+static int has_room(size_t limit) {
+    void *volatile room = malloc(limit ? limit : 1);
+    int has = room != NULL;
+    free(room);
+    return has;
+}
+
 /* Runs a line that sets something or opens a session, or else a command. */
 static uint32_t run(struct typed *t, const char *name, char *rest) {
     static const char *const modes[] = {"unicode", "wcwidth", "nozwj", NULL};
     if (!strcmp(name, "text")) {
         size_t len;
         const char *given = text(rest, &len);
+        if (!has_room(t->limit)) return LODVARN_NO_MEMORY;
         uint32_t answer = lodvarn_open(&t->s, given, len, len, t->limit, t->ring, t->mode);
         if (answer == LODVARN_DONE) t->own_mode = t->mode;
         return answer;

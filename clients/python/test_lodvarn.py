@@ -263,7 +263,12 @@ class Faults(Case):
         self.refuses(lodvarn.NoSuchNumber, session, session.insert, "\ud800")
         self.refuses(UnicodeEncodeError, session, session.paste, "\ud800")
         self.assertRaises(lodvarn.BadPlace, Session, "é", 1)
-        self.assertRaises(lodvarn.NoMemory, Session, "a", 1, 2**64 - 1)
+
+    def test_a_limit_takes_no_memory(self):
+        session = Session("a", 1, 2**64 - 1)
+        self.assertEqual(session.limit, 2**64 - 1)
+        self.assertTrue(session.insert("b"))
+        self.assertEqual(session.text, "ab")
 
     def test_faults_are_those_of_python_too(self):
         session, closed = Session("é"), Session("")

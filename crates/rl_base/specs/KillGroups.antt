@@ -1,5 +1,5 @@
 -- The groups of consecutive kills, which the slots of a ring stand for.
-use Rattle.std.specs.Prelude.{ℕ, ⊤, ◌+◌, Bool, true, false, List, [], ◌∷◌, ◌++◌, take, drop, reverse}
+use Rattle.std.specs.Prelude.{ℕ, ⊤, Bool, true, false, List, [], ◌∷◌}
 use Rattle.rl_base.specs.declared.kill_ring.Mode.{Mode}
 use Rattle.rl_base.specs.declared.listeners.Direction.{Direction}
 use Rattle.rl_base.specs.Event.{Event, InsertChar, InsertStr, Delete, Replace, Start, Stop, Cursors}
@@ -74,14 +74,6 @@ group_done (d ∷ ds) g = group_done ds (group_do d g)
 -- the groups of a list of doings, the newest first
 abbrev pub groups_of : List Doing → List (List ℕ)
 groups_of ds = (group_done ds no_groups).groups
-
--- the slots from the one at i backwards, round the ring, to the one after it
-abbrev pub back_from : ℕ → List (List ℕ) → List (List ℕ)
-back_from i slots = reverse (take (i + 1) slots) ++ reverse (drop (i + 1) slots)
-
--- the slots of a ring, the newest first
-abbrev pub newest_first : Ring → List (List ℕ)
-newest_first r = back_from r.index r.slots
 
 -- kills and nothing else
 abbrev pub AllKills : List Doing → Type 0

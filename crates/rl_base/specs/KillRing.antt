@@ -1,5 +1,5 @@
 -- A ring of killed texts, and what each of its steps makes of it.
-use Rattle.std.specs.Prelude.{◌≡◌, ℕ, ◌+◌, ◌-◌, ◌==◌, zero, suc, Bool, true, false, List, [], ◌∷◌, ◌++◌, max, ◌<◌, ◌≤◌, ◌⊎◌, length, slice_set, slice_get, Option, Some, None, option_map, if◌then◌else◌}
+use Rattle.std.specs.Prelude.{◌≡◌, ℕ, ◌+◌, ◌-◌, ◌==◌, zero, suc, Bool, true, false, List, [], ◌∷◌, ◌++◌, max, ◌<◌, ◌≤◌, ◌⊎◌, length, slice_set, slice_get, Option, Some, None, option_map, if◌then◌else◌, take, drop, reverse}
 use Rattle.rl_base.specs.declared.kill_ring.Action.{Action}
 use Rattle.rl_base.specs.declared.kill_ring.Action.TheVariants.{Kill, Yank, Other}
 use Rattle.rl_base.specs.declared.kill_ring.Mode.{Mode}
@@ -128,6 +128,18 @@ popped_ring (Some size) r = yanked (turned r)
 -- the ring after a yank_pop
 abbrev pub yank_popped : Ring → Ring
 yank_popped r = popped_ring (yank_size r) r
+
+-- the slots from the one at i backwards, round the ring, to the one after it
+abbrev pub back_from : ℕ → List (List ℕ) → List (List ℕ)
+back_from i slots = reverse (take (i + 1) slots) ++ reverse (drop (i + 1) slots)
+
+-- the slots of a ring, from the current one back
+abbrev pub newest_first : Ring → List (List ℕ)
+newest_first r = back_from r.index r.slots
+
+-- the text that stands so many before the current one, round the ring, if there are as many
+abbrev pub text_back : ℕ → Ring → Option (List ℕ)
+text_back back r = slice_get (newest_first r) back
 
 -- the end at which a text from a side of the cursor is joined
 abbrev pub side_mode : Direction → Mode

@@ -1,13 +1,13 @@
 //! The ring of killed texts, from which they are yanked back.
-ghost use Rattle.std.specs.Prelude.{◌≡◌, ◌<◌, ◌≤◌, ◌⊎◌, Some, None, max, length, slice_get, option_map, MatchOption, IfErr, OnOk, ℕ, List, ◌∷◌, ◌++◌, false, take};
+ghost use Rattle.std.specs.Prelude.{◌≡◌, ◌+◌, ◌<◌, ◌≤◌, ◌⊎◌, Some, None, max, length, slice_get, option_map, MatchOption, IfErr, OnOk, ℕ, List, ◌∷◌, ◌++◌, false, take};
 ghost use Rattle.std.specs.String.{string_bytes};
 ghost use Rattle.std.specs.Borrow.{sem};
 ghost use Rattle.rl_base.specs.declared.listeners.Refusal.TheVariants.{NoMemory};
 ghost use Rattle.rl_base.specs.Gathered.{IsPackedAt, texts};
-ghost use Rattle.rl_base.specs.KillRing.{Enlarges, IsRing, index_before, join_at, joined, killed, new_ring, next_index, put_at, reset, yank, yank_pop, yank_popped, yank_size, yanked};
+ghost use Rattle.rl_base.specs.KillRing.{Enlarges, IsRing, Ring, back_from, index_before, join_at, joined, killed, new_ring, newest_first, next_index, put_at, reset, text_back, turned, yank, yank_pop, yank_popped, yank_size, yanked};
 ghost use Rattle.rl_base.specs.RingLends.{EndsAs};
 ghost use Rattle.rl_base.specs.declared.kill_ring.Mode.{Mode};
-ghost use Rattle.rl_base.specs.KillGroups.{Doing, Kills, ring_done, group_done, no_groups, groups_of, newest_first, AllKills, all_joined};
+ghost use Rattle.rl_base.specs.KillGroups.{Doing, Kills, ring_done, group_done, no_groups, groups_of, AllKills, all_joined};
 
 use crate::gathered::Gathered;
 use crate::listeners::{DeleteListener, Direction, Refusal};
@@ -129,6 +129,25 @@ impl KillRing {
         Some((size, slot))
     }
 
+    /// How many texts it holds.
+    pub fn len(&self) -> usize
+        ensures { result ≡ length self.now.slots }
+    {
+        self.slots.len()
+    }
+
+    /// The text that is `back` texts before the current one, round the ring: 0 is the one that a yank gives, 1 the one
+    /// that a `yank_pop` would come to next, and so on. `None` from `len` on. It takes no memory.
+    pub fn text_back(&self, back: usize) -> Option<&str>
+        ensures { MatchOption result (text_back back self.now ≡ None) (λ s. text_back back self.now ≡ Some s.now) }
+    {
+        let at = index_back(self.index, back, &self.slots)?;
+        match self.slots.get(at) {
+            Some(slot) => Some(slot.as_str()),
+            None => None,
+        }
+    }
+
     /// The length in bytes of the text that was yanked, where a `yank` or `yank_pop` was the last thing done.
     pub fn yank_size(&self) -> Option<usize>
         ensures size { result ≡ yank_size self.now }
@@ -189,6 +208,21 @@ fn index_before(index: usize, slots: &[Gathered]) -> usize
         return slots.len().saturating_sub(1);
     }
     index - 1
+}
+
+// The index of the slot that is so many slots before, round the ring, where there are as many.
+fn index_back(index: usize, back: usize, slots: &[Gathered]) -> Option<usize>
+    requires { index < max 1 (length slots.now) }
+    ensures { MatchOption result (slice_get (back_from index (texts slots.now)) back ≡ None)
+        (λ i. slice_get (back_from index (texts slots.now)) back ≡ slice_get (texts slots.now) i) }
+{
+    if back >= slots.len() {
+        return None;
+    }
+    if back <= index {
+        return Some(index - back);
+    }
+    Some(index + (slots.len() - back))
 }
 
 // Puts a text over the slot at an index, or after all slots.
@@ -259,4 +293,13 @@ pub fn ring_holds_groups()
     ensures none { (doings : List Doing) → yank (ring_done doings (new_ring 0)) ≡ None }
     ensures groups { (doings kills : List Doing) (text : List ℕ) (mode : Mode) → (group_done doings no_groups).growing ≡ false → AllKills kills
         → groups_of (doings ++ (Kills text mode ∷ kills)) ≡ all_joined text kills ∷ groups_of doings }
+{}
+
+/// The texts of a ring are those that yanks give: the first is what a yank gives, and where there is another, each
+/// `yank_pop` goes one further back.
+pub fn texts_back_are_yanked()
+    ensures yank { (r : Ring) → IsRing r → text_back 0 r ≡ yank r }
+    ensures yank_pop { (r : Ring) (size back : ℕ) → IsRing r → yank_size r ≡ Some size → back + 1 < length r.slots
+        → text_back back (yank_popped r) ≡ text_back (back + 1) r }
+    ensures none { (r : Ring) (back : ℕ) → length r.slots ≤ back → text_back back r ≡ None }
 {}

@@ -75,6 +75,9 @@ pub enum Movement {
     ViCharSearch(RepeatCount, CharSearch),
     /// To the first place after the text's start where a `Big` word starts (modelled on vi's `^`).
     ViFirstPrint,
+    /// To the first character of the cursor's line that is no blank (White_Space), or to the line's end where there is none
+    /// (vi's `^`, Emacs's `back-to-indentation`).
+    FirstNonBlank,
     /// Back by grapheme clusters (readline's `backward-char`, vi's `h`).
     BackwardChar(RepeatCount),
     /// Ahead by grapheme clusters (readline's `forward-char`, vi's `l`).

@@ -7,4 +7,5 @@ pub mod Handle
 pub mod Numbers
 pub mod Opening
 pub mod Reads
+pub mod Settings
 pub mod Texts

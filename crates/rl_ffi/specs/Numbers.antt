@@ -9,7 +9,7 @@ use Rattle.rl_base.specs.declared.motion.At.TheVariants.{Start, BeforeEnd, After
 use Rattle.rl_base.specs.declared.motion.CharSearch.{CharSearch}
 use Rattle.rl_base.specs.declared.motion.CharSearch.TheVariants.{Forward, ForwardBefore, Backward, BackwardAfter}
 use Rattle.rl_base.specs.declared.motion.Movement.{Movement}
-use Rattle.rl_base.specs.declared.motion.Movement.TheVariants.{WholeLine, BeginningOfLine, EndOfLine, BackwardWord, ForwardWord, ViCharSearch, ViFirstPrint, BackwardChar, ForwardChar, LineUp, LineDown, WholeBuffer, BeginningOfBuffer, EndOfBuffer}
+use Rattle.rl_base.specs.declared.motion.Movement.TheVariants.{WholeLine, BeginningOfLine, EndOfLine, BackwardWord, ForwardWord, ViCharSearch, ViFirstPrint, FirstNonBlank, BackwardChar, ForwardChar, LineUp, LineDown, WholeBuffer, BeginningOfBuffer, EndOfBuffer}
 use Rattle.rl_base.specs.declared.motion.Word.{Word}
 use Rattle.rl_base.specs.declared.motion.Word.TheVariants.{Big, Emacs, Vi}
 use Rattle.rl_base.specs.declared.motion.WordAction.{WordAction}
@@ -163,4 +163,5 @@ movement_of k n c =
     if k == 24 then Some WholeBuffer else
     if k == 25 then Some BeginningOfBuffer else
     if k == 26 then Some EndOfBuffer else
+    if k == 27 then Some FirstNonBlank else
     None

@@ -1,29 +1,52 @@
 //! Laying a text out on a screen.
-ghost use Rattle.std.specs.Prelude.{◌≡◌, ◌+◌, ◌≤◌, ◌<◌, ◌^◌};
-ghost use Rattle.rl_ffi.specs.Cells.{after, cell, wrapped};
+ghost use Rattle.std.specs.Prelude.{◌≡◌, ◌+◌, ◌≤◌, ◌<◌, ◌^◌, length};
+ghost use Rattle.rl_base.specs.Clusters.{clusters};
+ghost use Rattle.rl_ffi.specs.Cells.{after, cell, is_within, place_at, tabbed, wrapped};
 
 use rl_base::GraphemeClusterMode;
 use unicode_segmentation::UnicodeSegmentation;
 
+// How many columns a screen has, how far its tab stops are apart, where 0 is none, and how columns are counted.
+#[derive(Clone, Copy)]
+pub(crate) struct Screen {
+    pub(crate) mode: GraphemeClusterMode,
+    pub(crate) columns: u16,
+    pub(crate) tab: u16,
+}
+
+// The row and column after a tab, which goes to the next tab stop, or to the right edge where that is nearer.
+fn tabbed(screen: &Screen, row: usize, column: usize) -> (usize, usize)
+    requires row { row < 2 ^ 63 }
+    requires tab { 0 < screen.now.tab }
+    ensures place { result ≡ tabbed screen.now (row, column) }
+    ensures row { result.0 ≤ row + 1 }
+    ensures column { result.1 ≤ 65535 }
+{
+    let columns = usize::from(screen.columns);
+    let tab = usize::from(screen.tab);
+    if column < columns {
+        (row, columns.min(column + (tab - column % tab)))
+    } else {
+        (row + 1, columns.min(tab))
+    }
+}
+
 // The row and column after a cluster that is laid out at a row and column.
-fn after(
-    mode: GraphemeClusterMode,
-    columns: u16,
-    row: usize,
-    column: usize,
-    cluster: &str,
-) -> (usize, usize)
+fn after(screen: &Screen, row: usize, column: usize, cluster: &str) -> (usize, usize)
     requires row { row < 2 ^ 63 }
     requires column { column ≤ 65535 }
-    ensures place { result ≡ after mode columns (row, column) cluster.now }
+    ensures place { result ≡ after screen.now (row, column) cluster.now }
     ensures row { result.0 ≤ row + 1 }
     ensures column { result.1 ≤ 65535 }
 {
     if cluster == "\n" || cluster == "\r\n" {
         return (row + 1, 0);
     }
-    let width = usize::from(mode.width(cluster));
-    if column + width <= usize::from(columns) {
+    if cluster == "\t" && screen.tab > 0 {
+        return tabbed(screen, row, column);
+    }
+    let width = usize::from(screen.mode.width(cluster));
+    if column + width <= usize::from(screen.columns) {
         (row, column + width)
     } else {
         (row + 1, width)
@@ -43,18 +66,41 @@ fn wrapped(columns: u16, row: usize, column: usize) -> (usize, usize)
 }
 
 // The row and column after a text that begins at a column of row 0.
-pub(crate) fn cell(
-    mode: GraphemeClusterMode,
-    columns: u16,
-    prompt: u16,
-    text: &str,
-) -> (usize, usize)
-    ensures { result ≡ cell mode columns prompt text.now }
+pub(crate) fn cell(screen: &Screen, prompt: u16, text: &str) -> (usize, usize)
+    ensures { result ≡ cell screen.now prompt text.now }
 {
     let mut row: usize = 0;
     let mut column = usize::from(prompt);
     for cluster in text.graphemes(true) {
-        (row, column) = after(mode, columns, row, column, cluster);
+        (row, column) = after(screen, row, column, cluster);
     }
-    wrapped(columns, row, column)
+    wrapped(screen.columns, row, column)
+}
+
+// Whether a cell is another, or before it: in a row above, or in its row and not to the right of it.
+fn is_within(at: (usize, usize), cell: (usize, usize)) -> bool
+    ensures { result ≡ is_within at cell }
+{
+    at.0 < cell.0 || (at.0 == cell.0 && at.1 <= cell.1)
+}
+
+// The last place between two clusters of a text whose cell is not after the given one; 0 where there is none.
+pub(crate) fn place_at(screen: &Screen, prompt: u16, text: &str, cell: (usize, usize)) -> usize
+    ensures { result ≡ place_at screen.now prompt text.now cell }
+{
+    let mut row: usize = 0;
+    let mut column = usize::from(prompt);
+    let mut place: usize = 0;
+    let mut found: usize = 0;
+    for cluster in text.graphemes(true) {
+        if is_within(wrapped(screen.columns, row, column), cell) {
+            found = place;
+        }
+        (row, column) = after(screen, row, column, cluster);
+        place += cluster.len();
+    }
+    if is_within(wrapped(screen.columns, row, column), cell) {
+        found = place;
+    }
+    found
 }

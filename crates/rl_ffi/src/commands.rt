@@ -190,7 +190,7 @@ pub extern "C" fn lodvarn_backspace(alloc: Global, s: &mut Handle, n: u16) -> u3
 /// Deletes from the cursor to the end of its line, or the newline there: TRUE or FALSE, whether there was anything.
 /// NO_MEMORY and CLOSED change no text.
 #[unsafe(no_mangle)]
-pub extern "C" fn lodvarn_kill_line(alloc: Global, s: &mut Handle) -> u32
+pub extern "C" fn lodvarn_delete_to_line_end(alloc: Global, s: &mut Handle) -> u32
     ensures { Called (Ok Command.KillLine) s.old.value result s.new.value }
 {
     call(alloc, s, Ok(Command::KillLine))
@@ -199,7 +199,7 @@ pub extern "C" fn lodvarn_kill_line(alloc: Global, s: &mut Handle) -> u32
 /// Deletes from the cursor to the end of the text: TRUE or FALSE, whether there was anything. NO_MEMORY and CLOSED
 /// change no text.
 #[unsafe(no_mangle)]
-pub extern "C" fn lodvarn_kill_buffer(alloc: Global, s: &mut Handle) -> u32
+pub extern "C" fn lodvarn_delete_to_end(alloc: Global, s: &mut Handle) -> u32
     ensures { Called (Ok Command.KillBuffer) s.old.value result s.new.value }
 {
     call(alloc, s, Ok(Command::KillBuffer))
@@ -342,6 +342,15 @@ pub extern "C" fn lodvarn_end(alloc: Global, s: &mut Handle) -> u32
     ensures { Called (Ok Command.End) s.old.value result s.new.value }
 {
     call(alloc, s, Ok(Command::End))
+}
+
+/// Closes the group of changes that was opened last, and leaves the others open: TRUE or FALSE, whether it held a change.
+/// NO_MEMORY and CLOSED change nothing.
+#[unsafe(no_mangle)]
+pub extern "C" fn lodvarn_end_one(alloc: Global, s: &mut Handle) -> u32
+    ensures { Called (Ok Command.EndOne) s.old.value result s.new.value }
+{
+    call(alloc, s, Ok(Command::EndOne))
 }
 
 /// Undoes n units, one for 0, and all where there are fewer: TRUE or FALSE, whether a change was undone. NO_MEMORY and

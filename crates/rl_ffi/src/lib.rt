@@ -12,4 +12,5 @@ mod numbers;
 mod opening;
 mod parts;
 mod reads;
+mod settings;
 mod texts;

@@ -211,6 +211,7 @@ pub(crate) fn movement_of(number: u32, n: RepeatCount, c: u32) -> Option<Movemen
         24 => Some(Movement::WholeBuffer),
         25 => Some(Movement::BeginningOfBuffer),
         26 => Some(Movement::EndOfBuffer),
+        27 => Some(Movement::FirstNonBlank),
         _ => None,
     }
 }

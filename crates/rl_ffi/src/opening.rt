@@ -25,7 +25,7 @@ fn opened(
     let Ok(text) = std::str::from_utf8(text) else {
         return Err(NOT_UTF8);
     };
-    match Session::new(alloc, text, pos, limit, ring_size, mode) {
+    match Session::open(alloc, text, pos, limit, ring_size, mode) {
         Ok(session) => match Box::new(alloc, session) {
             Ok(session) => Ok(session),
             Err(_) => Err(NO_MEMORY),
@@ -35,8 +35,9 @@ fn opened(
 }
 
 /// Opens a session on a text, with the cursor at the byte place `pos`, and closes the session that was there: DONE.
-/// The line's limit is `limit` bytes, or the text's length where that is greater; the ring has room for `ring_size`
-/// texts. NO_SUCH_NUMBER (of the mode), NOT_UTF8, BAD_PLACE and NO_MEMORY leave the session that was there.
+/// The line's limit is `limit` bytes, or the text's length where that is greater, and `usize::MAX` is no limit at all:
+/// room is found for the text alone. The ring has room for `ring_size` texts. NO_SUCH_NUMBER (of the mode), NOT_UTF8,
+/// BAD_PLACE and NO_MEMORY leave the session that was there.
 #[unsafe(no_mangle)]
 pub extern "C" fn lodvarn_open(
     alloc: Global,

@@ -1,14 +1,20 @@
 //! The calls that change nothing.
 ghost use Rattle.std.specs.Prelude.{◌≡◌, length};
 ghost use Rattle.rl_ffi.specs.Buffers.{written};
-ghost use Rattle.rl_ffi.specs.Reads.{text_of, pos_of, line_number_of, line_count_of, limit_of, entries_of, last_was_yank_of, RangeIn, RangeRead};
+ghost use Rattle.rl_ffi.specs.Reads.{ClusterIn, ClusterRead, text_of, pos_of, line_number_of, line_count_of, limit_of, entries_of, last_was_yank_of, RangeIn, RangeRead, CoversRead, DestinationRead, PlaceIn, can_undo_of, can_redo_of, level_of, PlaceRead};
 ghost use Rattle.rl_line.specs.LineRanges.{range_of_line};
-
 use crate::buffers::write;
 use crate::handle::{Handle, of_session};
-use crate::numbers::{CLOSED, DONE, NONE, truth_number};
+use crate::numbers::{BAD_PLACE, CLOSED, DONE, NONE, truth_number, NO_SUCH_NUMBER, movement_of, AT};
+use rl_base::GraphemeClusterMode;
+ghost use Rattle.rl_ffi.specs.Numbers.{at_number};
+ghost use Rattle.rl_session.specs.Commands.{line_place};
 use rl_line::LineBuffer;
+use rl_session::Session;
 use std::alloc::Global;
+use unicode_segmentation::UnicodeSegmentation;
+ghost use Rattle.rl_ffi.specs.Numbers.{movement_of};
+use std::ops::Range;
 
 /// Copies as many bytes of the text as fit, and answers how long the whole is, in bytes; 0 for a closed
 /// session.
@@ -66,6 +72,56 @@ pub extern "C" fn lodvarn_entries(alloc: Global, s: &mut Handle) -> usize
     of_session!(s, alloc, session => session.record().len(), 0)
 }
 
+/// Whether an undo of one unit would find a change: TRUE or FALSE, or CLOSED.
+#[unsafe(no_mangle)]
+pub extern "C" fn lodvarn_can_undo(alloc: Global, s: &mut Handle) -> u32
+    ensures value { result ≡ can_undo_of s.old.value }
+    ensures kept { s.new.value ≡ s.old.value }
+{
+    of_session!(s, alloc, session => truth_number(session.can_undo()), CLOSED)
+}
+
+/// Whether a redo would find a change: TRUE or FALSE, or CLOSED.
+#[unsafe(no_mangle)]
+pub extern "C" fn lodvarn_can_redo(alloc: Global, s: &mut Handle) -> u32
+    ensures value { result ≡ can_redo_of s.old.value }
+    ensures kept { s.new.value ≡ s.old.value }
+{
+    of_session!(s, alloc, session => truth_number(session.can_redo()), CLOSED)
+}
+
+/// How many groups of changes are open; 0 for a closed session.
+#[unsafe(no_mangle)]
+pub extern "C" fn lodvarn_level(alloc: Global, s: &mut Handle) -> usize
+    ensures value { result ≡ level_of s.old.value }
+    ensures kept { s.new.value ≡ s.old.value }
+{
+    of_session!(s, alloc, session => session.level(), 0)
+}
+
+// Writes where the cursor stands.
+fn place_in(session: &Session, line: &mut usize, column: &mut u16) -> u32
+    ensures { (result ≡ at_number) × ((line.new, column.new) ≡ line_place session.now) }
+{
+    (*line, *column) = session.line_column();
+    AT
+}
+
+/// Where the cursor is: AT, with the number of its line, from 0, and the columns from the line's start written. CLOSED
+/// leaves both as they were. It answers as `lodvarn_line_place`, and parts no run of kills.
+#[unsafe(no_mangle)]
+pub extern "C" fn lodvarn_line_column(
+    alloc: Global,
+    s: &mut Handle,
+    line: &mut usize,
+    column: &mut u16,
+) -> u32
+    ensures value { PlaceRead s.old.value result (line.old, column.old) (line.new, column.new) }
+    ensures kept { s.new.value ≡ s.old.value }
+{
+    of_session!(s, alloc, session => place_in(session, line, column), CLOSED)
+}
+
 /// Whether the last action of the ring was a yank or a yank-pop, also with count 0: TRUE or FALSE, or CLOSED.
 #[unsafe(no_mangle)]
 pub extern "C" fn lodvarn_last_was_yank(alloc: Global, s: &mut Handle) -> u32
@@ -75,11 +131,11 @@ pub extern "C" fn lodvarn_last_was_yank(alloc: Global, s: &mut Handle) -> u32
     of_session!(s, alloc, session => truth_number(session.ring().yank_size().is_some()), CLOSED)
 }
 
-// Writes where a line's text begins and ends, if there is such a line.
-fn range_in(line: &LineBuffer, i: usize, start: &mut usize, end: &mut usize) -> u32
-    ensures { RangeIn (range_of_line line.now.text i) result (start.old, end.old) (start.new, end.new) }
+// Writes where a range begins and ends, if there is one.
+fn range_in(range: Option<Range<usize>>, start: &mut usize, end: &mut usize) -> u32
+    ensures { RangeIn range result (start.old, end.old) (start.new, end.new) }
 {
-    match line.line_range(i) {
+    match range {
         Some(range) => {
             *start = range.start;
             *end = range.end;
@@ -102,5 +158,99 @@ pub extern "C" fn lodvarn_line_range(
     ensures value { RangeRead s.old.value line result (start.old, end.old) (start.new, end.new) }
     ensures kept { s.new.value ≡ s.old.value }
 {
-    of_session!(s, alloc, session => range_in(session.line(), line, start, end), CLOSED)
+    of_session!(s, alloc, session => range_in(session.line().line_range(line), start, end), CLOSED)
+}
+
+/// Where what a movement covers begins and ends, in bytes: DONE, with both written. That is what a copy by it copies. NONE,
+/// where it covers nothing, NO_SUCH_NUMBER and CLOSED leave both as they were.
+#[unsafe(no_mangle)]
+pub extern "C" fn lodvarn_covers(
+    alloc: Global,
+    s: &mut Handle,
+    movement: u32,
+    n: u16,
+    c: u32,
+    from: &mut usize,
+    to: &mut usize,
+) -> u32
+    ensures value { CoversRead (movement_of movement n c) s.old.value result (from.old, to.old) (from.new, to.new) }
+    ensures kept { s.new.value ≡ s.old.value }
+{
+    of_session!(s, alloc, session => match movement_of(movement, n, c) {
+        Some(movement) => range_in(session.covers(&movement), from, to),
+        None => NO_SUCH_NUMBER,
+    }, CLOSED)
+}
+
+// Writes a place, if there is one.
+fn place_in(place: Option<usize>, pos: &mut usize) -> u32
+    ensures { PlaceIn place result pos.old pos.new }
+{
+    match place {
+        Some(place) => {
+            *pos = place;
+            DONE
+        }
+        None => NONE,
+    }
+}
+
+/// Where a motion by a movement goes, in bytes: DONE, with the place written. NONE, where it answers that it goes nowhere,
+/// NO_SUCH_NUMBER and CLOSED leave it as it was.
+#[unsafe(no_mangle)]
+pub extern "C" fn lodvarn_destination(
+    alloc: Global,
+    s: &mut Handle,
+    movement: u32,
+    n: u16,
+    c: u32,
+    pos: &mut usize,
+) -> u32
+    ensures value { DestinationRead (movement_of movement n c) s.old.value result pos.old pos.new }
+    ensures kept { s.new.value ≡ s.old.value }
+{
+    of_session!(s, alloc, session => match movement_of(movement, n, c) {
+        Some(movement) => place_in(session.destination(&movement), pos),
+        None => NO_SUCH_NUMBER,
+    }, CLOSED)
+}
+
+// Writes where the first cluster of the text after a place ends, and how many columns it takes, if there is one.
+fn cluster_in(
+    text: &str,
+    place: usize,
+    mode: GraphemeClusterMode,
+    end: &mut usize,
+    columns: &mut u16,
+) -> u32
+    ensures { ClusterIn text.now mode place result (end.old, columns.old) (end.new, columns.new) }
+{
+    if !text.is_char_boundary(place) {
+        return BAD_PLACE;
+    }
+    match text[place..].graphemes(true).next() {
+        Some(cluster) => {
+            *end = place + cluster.len();
+            *columns = mode.width(cluster);
+            DONE
+        }
+        None => NONE,
+    }
+}
+
+/// Where the first grapheme cluster of the text from a byte place on ends, in bytes, and how many columns it takes, in
+/// time of that cluster: DONE, with both written. NONE, where the place is the text's end, BAD_PLACE and CLOSED leave
+/// both as they were.
+#[unsafe(no_mangle)]
+pub extern "C" fn lodvarn_cluster(
+    alloc: Global,
+    s: &mut Handle,
+    place: usize,
+    end: &mut usize,
+    columns: &mut u16,
+) -> u32
+    ensures value { ClusterRead s.old.value place result (end.old, columns.old) (end.new, columns.new) }
+    ensures kept { s.new.value ≡ s.old.value }
+{
+    of_session!(s, alloc, session => cluster_in(session.line().as_str(), place, session.options().mode, end, columns), CLOSED)
 }

@@ -9,6 +9,7 @@ pub mod UnitLemmas
 pub mod MatchLemmas
 pub mod MarkLemmas
 pub mod LevelLemmas
+pub mod EndLemmas
 pub mod GroupLemmas
 pub mod HeardLemmas
 pub mod MoveLemmas

@@ -1,5 +1,5 @@
 -- What copying, deleting and killing by a movement do.
-use Rattle.std.specs.Prelude.{◌≡◌, ℕ, Bool, true, false, List, Option, Some, None}
+use Rattle.std.specs.Prelude.{◌≡◌, ℕ, nat_lt, Bool, true, false, List, Option, Some, None, if◌then◌else◌}
 use Rattle.std.specs.Option.{option_map}
 use Rattle.std.specs.declared.ops.Range.{Range}
 use Rattle.rl_base.specs.Event.{Event, Delete, Start, Stop}
@@ -8,14 +8,19 @@ use Rattle.rl_base.specs.declared.listeners.Direction.TheVariants.{Forward, Back
 use Rattle.rl_base.specs.declared.motion.CharSearch.{CharSearch}
 use Rattle.rl_base.specs.declared.motion.CharSearch.TheVariants as to
 use Rattle.rl_base.specs.declared.motion.Movement.{Movement}
-use Rattle.rl_base.specs.declared.motion.Movement.TheVariants.{WholeLine, BeginningOfLine, EndOfLine, BackwardWord, ViCharSearch, ViFirstPrint, BackwardChar, ForwardChar, BeginningOfBuffer}
+use Rattle.rl_base.specs.declared.motion.Movement.TheVariants.{WholeLine, BeginningOfLine, EndOfLine, BackwardWord, ViCharSearch, ViFirstPrint, FirstNonBlank, BackwardChar, ForwardChar, BeginningOfBuffer}
 use Rattle.rl_line.specs.Line.{Line}
+use Rattle.rl_line.specs.LineMotions.{first_nonblank}
 use Rattle.rl_line.specs.Plan.{Plan, nothing, single, answering}
-use Rattle.rl_line.specs.Ranges.{covered, killed, text_in}
+use Rattle.rl_line.specs.Ranges.{covered, killed, text_in, unless_empty}
 
 -- what a movement copies
 abbrev pub copied : Line → Movement → Option (List ℕ)
 copied line mvt = option_map (text_in line) (covered line mvt)
+
+-- the side of the cursor on which a place lies
+abbrev pub side_of_place : Line → ℕ → Direction
+side_of_place line place = if nat_lt place line.cursor then Backward else Forward
 
 -- the side of the cursor that a search, and a movement, takes text from
 abbrev pub side_of_search : CharSearch → Direction
@@ -23,13 +28,14 @@ side_of_search (to.Backward _) = Backward
 side_of_search (to.BackwardAfter _) = Backward
 side_of_search _ = Forward
 
-abbrev pub side_of : Movement → Direction
-side_of BeginningOfLine = Backward
-side_of (BackwardWord _ _) = Backward
-side_of (ViCharSearch _ cs) = side_of_search cs
-side_of (BackwardChar _) = Backward
-side_of BeginningOfBuffer = Backward
-side_of _ = Forward
+abbrev pub side_of : Line → Movement → Direction
+side_of line BeginningOfLine = Backward
+side_of line (BackwardWord _ _) = Backward
+side_of line (ViCharSearch _ cs) = side_of_search cs
+side_of line FirstNonBlank = side_of_place line (first_nonblank line)
+side_of line (BackwardChar _) = Backward
+side_of line BeginningOfBuffer = Backward
+side_of line _ = Forward
 
 -- the movements that kill exactly what they copy
 abbrev pub is_exact : Movement → Bool
@@ -46,9 +52,13 @@ removal line (Some r) side = single (Delete r.start (text_in line r) side) r.sta
 
 -- what a movement kills goes
 abbrev pub kill_plan : Line → Movement → Plan Bool
-kill_plan line mvt = removal line (killed line mvt) (side_of mvt)
+kill_plan line mvt = removal line (killed line mvt) (side_of line mvt)
 
--- the same, and the answer is the text that goes
+-- what stands between two places goes
+abbrev pub kill_range_plan : Line → ℕ → ℕ → Direction → Plan Bool
+kill_range_plan line i j side = removal line (unless_empty i j) side
+
+-- what a movement kills goes, and the answer is its text
 abbrev pub delete_plan : Line → ℕ → Plan (Option (List ℕ))
 delete_plan line n = answering (copied line (ForwardChar n)) (kill_plan line (ForwardChar n))
 

@@ -1,6 +1,7 @@
 -- Where the motions over lines go.
-use Rattle.std.specs.Prelude.{ℕ, ◌+◌, ◌-◌, ◌==◌, List, drop, slice_range, min, max, count_by, Option, Some, None, if◌then◌else◌}
+use Rattle.std.specs.Prelude.{ℕ, ◌+◌, ◌-◌, ◌==◌, List, length, drop, slice_range, min, max, count_by, Option, Some, None, if◌then◌else◌}
 use Rattle.std.specs.Option.{option_map}
+use Rattle.rl_base.specs.Blanks.{without_leading_blanks}
 use Rattle.rl_base.specs.Lines.{is_newline, last_line, line_number, start_of_line, end_of_line, text_of_line, place_of_column}
 use Rattle.rl_base.specs.Widths.{width}
 use Rattle.rl_base.specs.declared.layout.Layout.{Layout}
@@ -12,6 +13,12 @@ home line = start_of_line line.text (line_number line.text line.cursor)
 
 abbrev pub line_end : Line → ℕ
 line_end line = end_of_line line.text (line_number line.text line.cursor)
+
+-- the first character of the cursor's line that is no blank, or the line's end where there is none
+abbrev pub first_nonblank : Line → ℕ
+first_nonblank line =
+    let text = text_of_line line.text (line_number line.text line.cursor) in
+    home line + (length text - length (without_leading_blanks text))
 
 -- the n-th line above that of the place, at least one, or the first; none on the first
 abbrev pub line_above : List ℕ → ℕ → ℕ → Option ℕ

@@ -1,7 +1,14 @@
 -- What the motions of a line do.
 use Rattle.std.specs.Prelude.{◌≡◌, ℕ, ◌≤◌, ◌==◌, Bool, true, false, length, Option, Some, None, if◌then◌else◌}
 use Rattle.std.specs.Str.{trim_end}
+use Rattle.rl_base.specs.Clusters.{next_pos, prev_pos}
+use Rattle.rl_base.specs.Search.{find_place}
+use Rattle.rl_base.specs.Words.{next_word, prev_word}
+use Rattle.rl_base.specs.declared.layout.Layout.{Layout}
+use Rattle.rl_base.specs.declared.motion.Movement.{Movement}
+use Rattle.rl_base.specs.declared.motion.Movement.TheVariants.{BeginningOfLine, EndOfLine, FirstNonBlank, BackwardWord, ForwardWord, ViCharSearch, BackwardChar, ForwardChar, LineUp, LineDown, BeginningOfBuffer, EndOfBuffer}
 use Rattle.rl_line.specs.Line.{Line}
+use Rattle.rl_line.specs.LineMotions.{first_nonblank, home, line_end, place_above, place_below}
 
 -- a motion to a place, if there is one: true with the cursor there, else false, and nothing else changes
 abbrev pub Moved : Option ℕ → Line → Line → Bool → Type 0
@@ -11,6 +18,22 @@ Moved None old new answer = (answer ≡ false) × (new ≡ old)
 -- a place other than the cursor's
 abbrev pub unless_there : Line → ℕ → Option ℕ
 unless_there line place = if line.cursor == place then None else Some place
+
+-- where a movement leads from the cursor, if anywhere
+abbrev pub destination : Layout → Line → Movement → Option ℕ
+destination layout line BeginningOfLine = unless_there line (home line)
+destination layout line EndOfLine = unless_there line (line_end line)
+destination layout line FirstNonBlank = unless_there line (first_nonblank line)
+destination layout line (BackwardWord n word) = prev_word line.text line.cursor word n
+destination layout line (ForwardWord n at word) = next_word line.text line.cursor at word n
+destination layout line (ViCharSearch n cs) = find_place line.text line.cursor cs n
+destination layout line (BackwardChar n) = prev_pos line.text line.cursor n
+destination layout line (ForwardChar n) = next_pos line.text line.cursor n
+destination layout line (LineUp n) = place_above layout line.text line.cursor n
+destination layout line (LineDown n) = place_below layout line.text line.cursor n
+destination layout line BeginningOfBuffer = unless_there line 0
+destination layout line EndOfBuffer = unless_there line (length line.text)
+destination layout line _ = None
 
 -- nothing but blanks stands from the cursor on
 abbrev pub IsEndOfInput : Line → Type 0

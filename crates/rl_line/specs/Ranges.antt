@@ -1,5 +1,5 @@
 -- What each movement covers: the one table that copying, killing and indenting share, with the exceptions of the last two beside it.
-use Rattle.std.specs.Prelude.{ℕ, ◌+◌, ◌-◌, ◌==◌, nat_le, min, count_by, List, length, drop, slice_range, Option, Some, None, option_and_then, unwrap_or, if◌then◌else◌}
+use Rattle.std.specs.Prelude.{ℕ, ◌+◌, ◌-◌, ◌==◌, nat_le, min, max, count_by, List, length, drop, slice_range, Option, Some, None, option_and_then, unwrap_or, if◌then◌else◌}
 use Rattle.std.specs.Char.{len_utf8}
 use Rattle.std.specs.Option.{option_map, option_or}
 use Rattle.std.specs.declared.ops.Range.{Range}
@@ -11,10 +11,10 @@ use Rattle.rl_base.specs.declared.motion.At.TheVariants.{Start}
 use Rattle.rl_base.specs.declared.motion.CharSearch.{CharSearch}
 use Rattle.rl_base.specs.declared.motion.CharSearch.TheVariants.{Forward, ForwardBefore, Backward, BackwardAfter}
 use Rattle.rl_base.specs.declared.motion.Movement.{Movement}
-use Rattle.rl_base.specs.declared.motion.Movement.TheVariants.{WholeLine, BeginningOfLine, EndOfLine, BackwardWord, ForwardWord, ViCharSearch, ViFirstPrint, BackwardChar, ForwardChar, LineUp, LineDown, WholeBuffer, BeginningOfBuffer, EndOfBuffer}
+use Rattle.rl_base.specs.declared.motion.Movement.TheVariants.{WholeLine, BeginningOfLine, EndOfLine, BackwardWord, ForwardWord, ViCharSearch, ViFirstPrint, FirstNonBlank, BackwardChar, ForwardChar, LineUp, LineDown, WholeBuffer, BeginningOfBuffer, EndOfBuffer}
 use Rattle.rl_base.specs.declared.motion.Word.TheVariants.{Big}
 use Rattle.rl_line.specs.Line.{Line, between}
-use Rattle.rl_line.specs.LineMotions.{home, line_end}
+use Rattle.rl_line.specs.LineMotions.{first_nonblank, home, line_end}
 
 -- the text of a range
 abbrev pub text_in : Line → Range ℕ → List ℕ
@@ -30,6 +30,10 @@ from_place line place = option_map (λ q. between q line.cursor) place
 
 abbrev pub to_place : Line → Option ℕ → Option (Range ℕ)
 to_place line place = option_map (λ q. between line.cursor q) place
+
+-- between a place and the cursor, whichever comes first; none where the cursor is there
+abbrev pub either_way : Line → ℕ → Option (Range ℕ)
+either_way line place = unless_empty (min place line.cursor) (max place line.cursor)
 
 -- between the cursor and a hit: with the hit's character for Forward and Backward, else without it
 abbrev pub to_hit : CharSearch → ℕ → ℕ → Range ℕ
@@ -70,6 +74,7 @@ covered line (BackwardWord n word) = from_place line (prev_word line.text line.c
 covered line (ForwardWord n at word) = to_place line (next_word line.text line.cursor at word n)
 covered line (ViCharSearch n cs) = option_map (to_hit cs line.cursor) (chosen_hit line.text line.cursor cs n)
 covered line ViFirstPrint = from_first_print line.text line.cursor
+covered line FirstNonBlank = either_way line (first_nonblank line)
 covered line (BackwardChar n) = from_place line (prev_pos line.text line.cursor n)
 covered line (ForwardChar n) = to_place line (next_pos line.text line.cursor n)
 covered line (LineUp n) = lines_up line.text line.cursor n
@@ -103,6 +108,7 @@ indented line BeginningOfLine = here line
 indented line EndOfLine = here line
 indented line (ViCharSearch _ _) = here line
 indented line ViFirstPrint = here line
+indented line FirstNonBlank = here line
 indented line (BackwardChar _) = here line
 indented line (ForwardChar _) = here line
 indented line mvt = unwrap_or (covered line mvt) (here line)

@@ -1,5 +1,5 @@
 -- Undo groups: the units that an undo takes off and a redo puts back, and what each call makes of the record.
-use Rattle.std.specs.Prelude.{◌≡◌, ℕ, zero, suc, max, not, ◌||◌, Bool, true, false, List, [], ◌∷◌, ◌++◌, length, take, drop, reverse, Option, Some, None, IsSome, IsTrue, option_and_then, if◌then◌else◌}
+use Rattle.std.specs.Prelude.{◌≡◌, ℕ, zero, suc, max, min, not, ◌||◌, Bool, true, false, List, [], ◌∷◌, ◌++◌, length, map, take, drop, reverse, Option, Some, None, IsSome, IsTrue, option_and_then, if◌then◌else◌}
 use Rattle.rl_base.specs.Event.{Event}
 use Rattle.rl_line.specs.declared.change.Freshness.TheVariants.{Stale}
 use Rattle.rl_line.specs.Record.{Entry, Begin, End, Changed, Record, record_step}
@@ -105,8 +105,15 @@ adds_end (suc n) es = not (ends_in_begin es) || adds_end n (end_one es)
 abbrev pub begun : Record → Record
 begun r = record { recorded = r.recorded ++ Begin ∷ []; pending = []; fresh = Stale }
 
+-- after n groups were closed, the one that was opened last first; after all were; after one was, where one is open
+abbrev pub with_closed : ℕ → Record → Record
+with_closed n r = record { recorded = end_times n r.recorded; pending = []; fresh = Stale }
+
 abbrev pub ended : Record → Record
-ended r = record { recorded = end_times (level r.recorded) r.recorded; pending = []; fresh = Stale }
+ended r = with_closed (level r.recorded) r
+
+abbrev pub ended_one : Record → Record
+ended_one r = with_closed (min 1 (level r.recorded)) r
 
 abbrev pub undone : ℕ → Record → Record
 undone n r = record { recorded = kept_of n r.recorded; pending = last_of n r.recorded ++ r.pending; fresh = Stale }
@@ -166,3 +173,7 @@ abbrev pub after_in_group : List InGroup → Record → Record
 after_in_group [] r = r
 after_in_group (Hears event ∷ steps) r = after_in_group steps (record_step r event)
 after_in_group (Begins ∷ steps) r = after_in_group steps (begun r)
+
+-- the record after a group was begun, and these events
+abbrev pub in_group : List Event → Record → Record
+in_group events r = after_in_group (map Hears events) (begun r)

@@ -372,6 +372,17 @@ pub(crate) fn next_alone(entries: &[Change]) -> Option<&Change>
     if next.is_change() { Some(next) } else { None }
 }
 
+/// Whether there is a change in the last unit. Only the Begin of an open group has none.
+pub(crate) fn last_has_change(entries: &[Change]) -> bool
+    requires { IsMatched (map entry_of entries.now) }
+    ensures { result ≡ has_change (last_of 1 (map entry_of entries.now)) }
+{
+    match entries.last() {
+        Some(last) => !last.is_begin(),
+        None => false,
+    }
+}
+
 /// How many entries the last `n` units have, or the last one where `n` is 0.
 pub(crate) fn last_len(entries: &[Change], n: RepeatCount) -> usize
     requires { IsMatched (map entry_of entries.now) }

@@ -1,5 +1,5 @@
 //! The line: its text, its cursor, and the few steps through which every change of its text goes.
-ghost use Rattle.std.specs.Prelude.{◌≡◌, ℕ, List, [], ◌∷◌, ◌+◌, ◌^◌, ◌<◌, ◌≤◌, ◌↔◌, true, false, length, slice_range, encode_utf8, Any, IsTrue, IsSome, Some, IfOk, IfErr, OnOk, OnErr};
+ghost use Rattle.std.specs.Prelude.{◌≡◌, ℕ, List, [], ◌∷◌, ◌+◌, ◌^◌, ◌<◌, ◌≤◌, ◌↔◌, true, false, length, max, slice_range, encode_utf8, Any, IsTrue, IsSome, Some, IfOk, IfErr, OnOk, OnErr};
 ghost use Rattle.std.specs.Str.{IsCharBoundary, IsUtf8};
 ghost use Rattle.std.specs.String.{string_bytes};
 ghost use Rattle.std.specs.List.{insert_slice, remove_range, replace_range};
@@ -95,6 +95,20 @@ impl LineBuffer {
         })
     }
 
+    /// An empty line with that limit, which has asked for no memory: it asks when it needs room. It may not grow.
+    /// `usize::MAX` is no limit at all, since no text is that long.
+    pub fn with_limit(alloc: Global, limit: usize) -> Self
+        ensures { result ≡ record { text = []; cursor = 0; limit = limit; grow = false } }
+    {
+        LineBuffer {
+            buf: String::new(alloc),
+            starts: LineStarts::new(alloc),
+            pos: 0,
+            limit,
+            can_growth: false,
+        }
+    }
+
     /// The line, with or without leave to grow past its limit.
     pub fn can_growth(self, can_growth: bool) -> Self
         ensures { result ≡ record self { grow = can_growth } }
@@ -149,6 +163,14 @@ impl LineBuffer {
         ensures within { length self.now.text ≤ result }
     {
         self.limit
+    }
+
+    /// Sets the limit on the text's length, in bytes: to the text's length where that is greater. So a text that was
+    /// longer than the limit, and shrank, can have its limit back. `usize::MAX` is no limit at all.
+    pub fn set_limit(&mut self, limit: usize)
+        ensures { self.new ≡ record self.old { limit = max limit (length self.old.text) } }
+    {
+        self.limit = limit.max(self.buf.len());
     }
 
     /// Whether there is no text.

@@ -1,9 +1,9 @@
 //! The record of the changes of a line, which undoes them, in groups where they were made in groups, and redoes them.
-ghost use Rattle.std.specs.Prelude.{◌≡◌, ◌<◌, ◌≤◌, ◌↔◌, ℕ, List, Bool, [], ◌∷◌, ◌++◌, suc, true, false, drop, is_some, length, All, Any, IsSome, Some, IfOk, IfErr, OnOk, OnErr};
+ghost use Rattle.std.specs.Prelude.{◌≡◌, ◌<◌, ◌≤◌, ◌↔◌, ℕ, List, Bool, [], ◌∷◌, ◌++◌, min, suc, true, false, drop, is_some, length, All, Any, IsSome, Some, IfOk, IfErr, OnOk, OnErr};
 ghost use Rattle.std.specs.Option.{option_map};
 ghost use Rattle.std.specs.String.{string_bytes};
 ghost use Rattle.std.specs.Str.{IsCharBoundary, IsUtf8};
-ghost use Rattle.rl_base.specs.Event.{InsertChar, InsertStr, Delete, Replace};
+ghost use Rattle.rl_base.specs.Event.{Event, InsertChar, InsertStr, Delete, Replace};
 ghost use Rattle.rl_base.specs.Text.{HasText};
 ghost use Rattle.rl_base.specs.declared.listeners.Direction.TheVariants.{Forward};
 ghost use Rattle.rl_base.specs.declared.listeners.Refusal.TheVariants.{NoMemory};
@@ -12,7 +12,7 @@ ghost use Rattle.rl_line.specs.Line.{Line, NeedsRoom};
 ghost use Rattle.rl_line.specs.Plan.{NeverRefuses, after, listener_after};
 ghost use Rattle.rl_line.specs.Record.{Entry, End, IsOfKind, Record, last_insert, record_step, replay_entries, replays_to, unwind};
 ghost use Rattle.rl_line.specs.Undo.{CopiesAhead, CopiesBack, Redone, Redos, StandAfter, StandBefore, Undone, line_ahead, line_back, steps_ahead, steps_back, texts_ahead, texts_back};
-ghost use Rattle.rl_line.specs.Units.{BothMatched, GroupAt, InGroup, IsMatched, adds_end, after_in_group, begun, ended, has_change, last_of, last_units, level, opens, redo_of, truncated};
+ghost use Rattle.rl_line.specs.Units.{BothMatched, GroupAt, InGroup, IsMatched, adds_end, after_in_group, begun, ended, ended_one, has_change, in_group, kept_of, last_of, last_units, level, opens, redo_of, truncated, with_closed};
 
 use crate::change::{Change, Freshness, Way, text_over};
 use crate::entries;
@@ -83,6 +83,22 @@ impl Changeset {
         self.level
     }
 
+    /// Whether an undo of one unit would find a change: something is recorded, and the last entry is not the begin of an
+    /// open group. It looks at that entry alone.
+    pub fn has_undo(&self) -> bool
+        ensures { result ≡ has_change (last_of 1 self.now.recorded) }
+    {
+        entries::last_has_change(&self.entries[..self.recorded])
+    }
+
+    /// Whether a redo would find a change: one waits to be redone. It looks at the begins of groups that wait before
+    /// that change, and at no other entry.
+    pub fn has_redo(&self) -> bool
+        ensures { result ≡ has_change (redo_of self.now.pending) }
+    {
+        entries::has_change(&self.entries[self.recorded..])
+    }
+
     /// Opens a group, whose changes are undone and redone together once it is closed. Answers how many entries
     /// stand before it, a mark that `truncate` takes.
     pub fn begin(&mut self) -> Result<usize, Refusal>
@@ -103,13 +119,33 @@ impl Changeset {
         ensures done { IfOk result (λ answer. (answer ≡ adds_end (level self.old.recorded) self.old.recorded) × (self.new ≡ ended self.old)) }
         ensures err { IfErr result (λ r. (r ≡ NoMemory) × (self.new ≡ self.old) × (adds_end (level self.old.recorded) self.old.recorded ≡ true)) }
     {
-        let added = entries::adds_end(&self.entries[..self.recorded], self.level);
-        entries::find_ends(&mut self.entries, added, self.level)?;
+        let open = self.level();
+        self.close(open)
+    }
+
+    /// Closes the group that was opened last, and leaves the others open; one that holds nothing is removed from the
+    /// record. Answers whether it holds something, and false where no group is open.
+    pub fn end_one(&mut self) -> Result<bool, Refusal>
+        ensures done { IfOk result (λ answer. (answer ≡ adds_end (min 1 (level self.old.recorded)) self.old.recorded) × (self.new ≡ ended_one self.old)) }
+        ensures err { IfErr result (λ r. (r ≡ NoMemory) × (self.new ≡ self.old) × (adds_end (min 1 (level self.old.recorded)) self.old.recorded ≡ true)) }
+    {
+        let open = self.level();
+        self.close(open.min(1))
+    }
+
+    // Closes so many groups, the one that was opened last first. Answers whether one of them holds something.
+    fn close(&mut self, count: usize) -> Result<bool, Refusal>
+        requires { count ≤ level self.old.recorded }
+        ensures done { IfOk result (λ answer. (answer ≡ adds_end count self.old.recorded) × (self.new ≡ with_closed count self.old)) }
+        ensures err { IfErr result (λ r. (r ≡ NoMemory) × (self.new ≡ self.old) × (adds_end count self.old.recorded ≡ true)) }
+    {
+        let added = entries::adds_end(&self.entries[..self.recorded], count);
+        entries::find_ends(&mut self.entries, added, count)?;
         entries::keep(&mut self.entries, self.recorded);
-        entries::close_groups(&mut self.entries, self.level);
+        entries::close_groups(&mut self.entries, count);
         self.recorded = self.entries.len();
         self.fresh = Freshness::Stale;
-        self.level = 0;
+        self.level -= count;
         Ok(added)
     }
 
@@ -461,6 +497,23 @@ pub fn empty_group_leaves_the_record()
     ensures answer { (r : Record) (steps : List InGroup) → level r.recorded ≡ 0
         → has_change (drop (suc (length r.recorded)) (after_in_group steps (begun r)).recorded) ≡ false
         → adds_end (level (after_in_group steps (begun r)).recorded) (after_in_group steps (begun r)).recorded ≡ false }
+{}
+
+/// Whatever groups are open, where a group is begun in them, and these events are recorded, `end_one` closes that group
+/// alone. It answers whether a change was recorded in it. Where one was, all from its begin on is one unit, so that an
+/// undo of one keeps what was recorded before; otherwise the group leaves no trace.
+pub fn group_is_closed_alone()
+    ensures answer { (r : Record) (events : List Event) → IsMatched r.recorded
+        → adds_end (min 1 (level (in_group events r).recorded)) (in_group events r).recorded ≡ has_change (drop (length r.recorded) (in_group events r).recorded) }
+    ensures unit { (r : Record) (events : List Event) → IsMatched r.recorded
+        → has_change (drop (length r.recorded) (in_group events r).recorded) ≡ true
+        → (last_of 1 (ended_one (in_group events r)).recorded ≡ drop (length r.recorded) (in_group events r).recorded ++ End ∷ [])
+        × (kept_of 1 (ended_one (in_group events r)).recorded ≡ r.recorded) }
+    ensures nothing { (r : Record) (events : List Event) → IsMatched r.recorded
+        → has_change (drop (length r.recorded) (in_group events r).recorded) ≡ false
+        → (ended_one (in_group events r)).recorded ≡ r.recorded }
+    ensures level { (r : Record) (events : List Event) → IsMatched r.recorded
+        → level (ended_one (in_group events r)).recorded ≡ level r.recorded }
 {}
 
 /// One redo for each unit that an undo took gives back the text, what was recorded and what was undone before, unless

@@ -7,13 +7,15 @@ use rl_session::{Command, Fault, Reply};
 use std::alloc::{AllocError, Global};
 
 // Commands that insert, kill, yank, transpose, indent, replace, undo and copy.
-fn commands(alloc: Global) -> Result<[Command; 16], AllocError> {
+fn commands(alloc: Global) -> Result<[Command; 18], AllocError> {
     let pasted = String::from_str(alloc, "x\ny")?;
     let put_instead = String::from_str(alloc, "zz")?;
     Ok([
         Command::Insert('é', 1),
         Command::Begin,
+        Command::Begin,
         Command::Paste(pasted, 2),
+        Command::EndOne,
         Command::Kill(Movement::BeginningOfLine),
         Command::End,
         Command::Yank(1),

@@ -1,68 +1,56 @@
 -- What each command does.
-use Rattle.std.specs.Prelude.{◌≡◌, ℕ, ◌-◌, ◌<◌, ◌≤◌, Bool, true, false, not, length, List, [], Any, Option, Some, None, ◌⊎◌, if◌then◌else◌}
+use Rattle.std.specs.Prelude.{◌≡◌, ℕ, ◌-◌, ◌<◌, ◌≤◌, min, Bool, true, false, not, length, List, [], Any, Option, Some, None, ◌⊎◌, if◌then◌else◌}
 use Rattle.std.specs.List.{insert_slice}
 use Rattle.std.specs.Option.{option_map}
 use Rattle.std.specs.String.{string_bytes}
 use Rattle.std.specs.Str.{IsCharBoundary}
+use Rattle.rl_base.specs.declared.kill_ring.Mode.TheVariants.{Append}
 use Rattle.rl_base.specs.declared.listeners.Refusal.TheVariants as why
+use Rattle.rl_base.specs.KillRing.{reset, yank, yanked, yank_size, yank_pop, yank_popped, Enlarges, killed}
 use Rattle.rl_base.specs.Clusters.{next_pos, prev_pos}
-use Rattle.rl_base.specs.KillRing.{reset, yank, yanked, yank_size, yank_pop, yank_popped}
 use Rattle.rl_base.specs.Lines.{line_number}
-use Rattle.rl_base.specs.Search.{find_place}
 use Rattle.rl_base.specs.Event.{Event}
 use Rattle.rl_base.specs.Text.{HasText}
 use Rattle.rl_base.specs.Watch.{watch_step}
 use Rattle.rl_base.specs.declared.listeners.Refusal.{Refusal}
-use Rattle.rl_base.specs.Widths.{blank_layout}
-use Rattle.rl_base.specs.Words.{next_word, prev_word}
 use Rattle.rl_base.specs.declared.motion.Movement.{Movement}
 use Rattle.rl_base.specs.declared.motion.WordAction.{WordAction}
-use Rattle.rl_base.specs.declared.motion.Movement.TheVariants.{BeginningOfLine, EndOfLine, BackwardWord, ForwardWord, ViCharSearch, BackwardChar, ForwardChar, LineUp, LineDown, BeginningOfBuffer, EndOfBuffer}
+use Rattle.rl_base.specs.declared.motion.Movement.TheVariants.{BeginningOfLine, EndOfLine, BackwardWord, ForwardWord, ViCharSearch, BackwardChar, BeginningOfBuffer, EndOfBuffer}
 use Rattle.rl_line.specs.LineRanges.{IsRange}
 use Rattle.rl_line.specs.Line.{Line, NeedsRoom}
-use Rattle.rl_line.specs.LineMotions.{columns_before, home, line_end, place_above, place_below}
-use Rattle.rl_line.specs.Motions.{Moved, unless_there}
+use Rattle.rl_line.specs.LineMotions.{columns_before}
+use Rattle.rl_line.specs.Motions.{Moved, destination as destination_in}
 use Rattle.rl_line.specs.Plan.{Step as PlanStep, Plan, nothing, Done, Halted, or_no_memory, bytes_of, listener_after}
 use Rattle.rl_line.specs.Edits.{insert_plan, insert_str_plan, yank_plan, yank_pop_plan, update_plan, replace_plan, delete_range_plan}
 use Rattle.rl_line.specs.Indents.{indent_plan}
-use Rattle.rl_line.specs.Kills.{copied, delete_plan, kill_plan, is_by_characters, Told}
+use Rattle.rl_line.specs.Kills.{copied, delete_plan, kill_plan, kill_range_plan, is_by_characters, Told}
 use Rattle.rl_line.specs.LetterCase.{edit_word_plan, Recased}
 use Rattle.rl_line.specs.Record.{Record, replays_to}
 use Rattle.rl_line.specs.Transpositions.{transpose_chars_plan, transpose_words_plan}
 use Rattle.rl_line.specs.Undo.{CopiesBack, Undone, Redone, steps_ahead, steps_back, texts_ahead, texts_back}
-use Rattle.rl_line.specs.Units.{adds_end, begun, ended, last_of, level, redo_of, truncated}
+use Rattle.rl_line.specs.Units.{adds_end, begun, ended, last_of, level, redo_of, truncated, ended_one}
+use Rattle.rl_session.specs.Options.{layout_of}
 use Rattle.rl_session.specs.Pair.{pair_step, pair_refused}
 use Rattle.rl_session.specs.declared.pair.Pair.{Pair}
 use Rattle.rl_session.specs.declared.session.Command.{Command}
-use Rattle.rl_session.specs.declared.session.Command.TheVariants.{SetPos, Move, Insert, Paste, Yank, YankPop, Update, InsertStr, Replace, DeleteRange, Delete, Backspace, KillLine, KillBuffer, DiscardLine, DiscardBuffer, DeletePrevWord, DeleteWord, DeleteTo, TransposeChars, TransposeWords, EditWord, Kill, Copy, Indent, Begin, End, Undo, Redo, Truncate, LinePlace}
+use Rattle.rl_session.specs.declared.session.Command.TheVariants.{SetPos, Move, Insert, Paste, Yank, YankPop, Update, InsertStr, Replace, DeleteRange, Delete, Backspace, KillLine, KillBuffer, DiscardLine, DiscardBuffer, DeletePrevWord, DeleteWord, DeleteTo, TransposeChars, TransposeWords, EditWord, Kill, Copy, Indent, Begin, End, EndOne, Undo, Redo, Truncate, LinePlace, KillRange, Keep}
 use Rattle.rl_session.specs.declared.session.Fault.TheVariants.{NoMemory, BadPlace, BadYankSize, NotReplaying}
 use Rattle.rl_session.specs.declared.session.Reply.{Reply}
 use Rattle.rl_session.specs.declared.session.Reply.TheVariants as says
 use Rattle.rl_session.specs.State.{State, Follows, IsBounded, Stands, with_ring}
 
--- where a movement leads, if anywhere; columns are counted from the left edge, since the prompt's column is 0
+-- where a movement leads, if anywhere; over lines it counts columns from the prompt of the session's options
 abbrev pub destination : State → Movement → Option ℕ
-destination s BeginningOfLine = unless_there s.line (home s.line)
-destination s EndOfLine = unless_there s.line (line_end s.line)
-destination s (BackwardWord n word) = prev_word s.line.text s.line.cursor word n
-destination s (ForwardWord n at word) = next_word s.line.text s.line.cursor at word n
-destination s (ViCharSearch n cs) = find_place s.line.text s.line.cursor cs n
-destination s (BackwardChar n) = prev_pos s.line.text s.line.cursor n
-destination s (ForwardChar n) = next_pos s.line.text s.line.cursor n
-destination s (LineUp n) = place_above (blank_layout s.mode) s.line.text s.line.cursor n
-destination s (LineDown n) = place_below (blank_layout s.mode) s.line.text s.line.cursor n
-destination s BeginningOfBuffer = unless_there s.line 0
-destination s EndOfBuffer = unless_there s.line (length s.line.text)
-destination s _ = None
+destination s movement = destination_in (layout_of s.options) s.line movement
 
 -- where the cursor stands: the number of its line, from 0, and the columns from that line's start
 abbrev pub line_place : State → ℕ × ℕ
-line_place s = (line_number s.line.text s.line.cursor, columns_before (blank_layout s.mode) s.line.text s.line.cursor)
+line_place s = (line_number s.line.text s.line.cursor, columns_before (layout_of s.options) s.line.text s.line.cursor)
 
 -- an edit was done
 pub record Edited {A : Type 0} (plan : Plan A) (old new : State) (answer : A) : Type 0 where
   pub done : Done pair_step plan old.line new.line old.pair new.pair answer
-  pub mode : new.mode ≡ old.mode
+  pub options : new.options ≡ old.options
 
 -- what memory an edit takes besides its listener: none; at each step the room that the step needs; or, before its first step,
 -- the room for a copy of what it moves or hands out
@@ -80,7 +68,7 @@ refusal_of a_copy = pair_refused
 -- an edit was refused, since memory is out, after its first steps
 pub record CutShort {A : Type 0} (takes : Takes) (plan : Plan A) (old new : State) : Type 0 where
   pub halted : Halted pair_step (refusal_of takes) plan old.line new.line old.pair new.pair why.NoMemory
-  pub mode : new.mode ≡ old.mode
+  pub options : new.options ≡ old.options
 
 -- where it may not have begun: there is something of which it makes a copy
 abbrev pub unbegun : {A : Type 0} → Takes → Plan A → Type 0
@@ -159,26 +147,31 @@ Came (pops course) old new = Came course (popped old) new
 Came (tells by_characters course) old new =
     Told pair_step by_characters (λ before now. Came course (record old { pair = before }) (record new { pair = now })) old.pair new.pair
 
--- what a command did: a course by steps, or what one command alone does to the record, with what it answers
+-- what a command did: a course by steps, or what one command alone does to the record or the ring, with what it answers
 pub data Effect : Type 1 where
   by_steps : Course → Effect
   puts_begin : ℕ → Effect
   puts_ends : Bool → Effect
+  puts_end : Bool → Effect
   shortens : ℕ → Effect
   takes_back : ℕ → Bool → Effect
   puts_again : Bool → Effect
+  keeps : List ℕ → Effect
 
 abbrev pub Became : Effect → State → State → Type 0
 Became (by_steps course) old new = Came course old new
 Became (puts_begin n) old new = (n ≡ length old.pair.changes.recorded) × (new ≡ with_changes (begun old.pair.changes) old)
 Became (puts_ends a) old new =
     (a ≡ adds_end (level old.pair.changes.recorded) old.pair.changes.recorded) × (new ≡ with_changes (ended old.pair.changes) old)
+Became (puts_end a) old new =
+    (a ≡ adds_end (min 1 (level old.pair.changes.recorded)) old.pair.changes.recorded) × (new ≡ with_changes (ended_one old.pair.changes) old)
 Became (shortens len) old new =
     (replays_to len old.pair.changes old.line.text ≡ true) × (new ≡ with_changes (truncated len old.pair.changes) old)
 Became (takes_back n a) old new =
     Undone n old.pair.changes new.pair.changes old.line new.line a × KeepsRing old new × WatchHears (steps_back old.line.cursor (last_of n old.pair.changes.recorded)) old new
 Became (puts_again a) old new =
     Redone old.pair.changes new.pair.changes old.line new.line a × KeepsRing old new × WatchHears (steps_ahead old.line.cursor (redo_of old.pair.changes.pending)) old new
+Became (keeps text) old new = new ≡ with_ring (reset (killed text Append old.pair.ring)) old
 
 -- how a reply tells the answer of an edit
 pub data Telling : Type 0 → Type 1 where
@@ -241,6 +234,11 @@ other_course old (EditWord action) (says.Refused NoMemory) =
     respells action (λ made. let plan = edit_word_plan old.line made in stops (unbegun a_copy plan) a_copy plan)
 other_course old (Kill m) (says.Answer a) = tells (is_by_characters m) (edits (kill_plan old.line m) a)
 other_course old (Kill m) (says.Refused NoMemory) = tells (is_by_characters m) (stops ⊥ nothing_more (kill_plan old.line m))
+other_course old (KillRange i j side) (says.Answer a) = when (IsRange old.line.text i j) (tells false (edits (kill_range_plan old.line i j side) a))
+other_course old (KillRange i j side) (says.Refused BadPlace) = when (¬ (IsRange old.line.text i j)) stays
+other_course old (KillRange i j side) (says.Refused NoMemory) =
+    when (IsRange old.line.text i j) (tells false (stops ⊥ nothing_more (kill_range_plan old.line i j side)))
+other_course old (Keep t) (says.Refused NoMemory) = when (Enlarges (string_bytes t) Append old.pair.ring) stays
 -- a yanked text is copied out of the ring, which may run out of memory too, unless the text is empty
 other_course old (Yank n) (says.Inserted a) = lends (edits (lent_plan old.line (yank old.pair.ring) n) a)
 other_course old (Yank n) (says.Refused NoMemory) =
@@ -253,6 +251,8 @@ other_course old YankPop (says.Refused NoMemory) =
     (pops (stops (HasText (option_map (λ (p : ℕ × List ℕ). p.1) (yank_pop old.pair.ring))) room_by_step (popped_plan old.line (yank_pop old.pair.ring))))
 other_course old Begin (says.Refused NoMemory) = when (old.pair.changes.pending ≡ []) stays
 other_course old End (says.Refused NoMemory) = when (adds_end (level old.pair.changes.recorded) old.pair.changes.recorded ≡ true) stays
+other_course old EndOne (says.Refused NoMemory) =
+    when (adds_end (min 1 (level old.pair.changes.recorded)) old.pair.changes.recorded ≡ true) stays
 other_course old (Undo n) (says.Refused NoMemory) =
     when (Any (NeedsRoom old.line.text) (texts_back (last_of n old.pair.changes.recorded) old.line.text)) stays
 other_course old Redo (says.Refused NoMemory) =
@@ -273,9 +273,11 @@ course_of other old command reply = other_course old command reply
 abbrev pub effect : State → Command → Reply → Effect
 effect old Begin (says.Mark n) = puts_begin n
 effect old End (says.Answer a) = puts_ends a
+effect old EndOne (says.Answer a) = puts_end a
 effect old (Truncate len) says.Done = shortens len
 effect old (Undo n) (says.Answer a) = takes_back n a
 effect old Redo (says.Answer a) = puts_again a
+effect old (Keep t) says.Done = keeps (string_bytes t)
 effect old command reply = by_steps (course_of (asked old.line command) old command reply)
 
 -- from old, the command may have this reply and lead to new, the ring's resets aside
@@ -285,6 +287,7 @@ Does old command reply new = Became (effect old command reply) old new
 -- the commands before which the ring is not reset: they go on from what it did last
 abbrev pub continues : Command → Bool
 continues (Kill m) = not (is_by_characters m)
+continues (KillRange _ _ _) = true
 continues (Yank _) = true
 continues YankPop = true
 continues _ = false

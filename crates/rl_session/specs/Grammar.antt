@@ -5,17 +5,19 @@ use Rattle.std.specs.String.{string_bytes}
 use Rattle.std.specs.declared.alloc.Global.{Global}
 use Rattle.rl_session.specs.Spelling.{number_of, Spells, SpellsChar, word, rest, Numbered, NumberedText}
 use Rattle.rl_session.specs.declared.session.Command.{Command}
-use Rattle.rl_session.specs.declared.session.Command.TheVariants.{SetPos, Move, Insert, Paste, Yank, YankPop, Update, InsertStr, Replace, DeleteRange, Delete, Backspace, KillLine, KillBuffer, DiscardLine, DiscardBuffer, DeletePrevWord, DeleteWord, DeleteTo, TransposeChars, TransposeWords, EditWord, Kill, Copy, Indent, Begin, End, Undo, Redo, Truncate, LinePlace}
+use Rattle.rl_session.specs.declared.session.Command.TheVariants.{SetPos, Move, Insert, Paste, Yank, YankPop, Update, InsertStr, Replace, DeleteRange, Delete, Backspace, KillLine, KillBuffer, DiscardLine, DiscardBuffer, DeletePrevWord, DeleteWord, DeleteTo, TransposeChars, TransposeWords, EditWord, Kill, Copy, Indent, Begin, End, EndOne, Undo, Redo, Truncate, LinePlace, KillRange, Keep}
 use Rattle.rl_session.specs.declared.settings.Setting.{Setting}
 use Rattle.rl_session.specs.declared.settings.Setting.TheVariants.{Limit, RingSize, Mode}
 use Rattle.rl_base.specs.declared.layout.GraphemeClusterMode.{GraphemeClusterMode}
 use Rattle.rl_base.specs.declared.layout.GraphemeClusterMode.TheVariants.{Unicode, WcWidth, NoZwj}
+use Rattle.rl_base.specs.declared.listeners.Direction.{Direction}
+use Rattle.rl_base.specs.declared.listeners.Direction.TheVariants as told
 use Rattle.rl_base.specs.declared.motion.At.{At}
 use Rattle.rl_base.specs.declared.motion.At.TheVariants.{Start, BeforeEnd, AfterEnd}
 use Rattle.rl_base.specs.declared.motion.CharSearch.{CharSearch}
 use Rattle.rl_base.specs.declared.motion.CharSearch.TheVariants.{Forward, ForwardBefore, Backward, BackwardAfter}
 use Rattle.rl_base.specs.declared.motion.Movement.{Movement}
-use Rattle.rl_base.specs.declared.motion.Movement.TheVariants.{WholeLine, BeginningOfLine, EndOfLine, BackwardWord, ForwardWord, ViCharSearch, ViFirstPrint, BackwardChar, ForwardChar, LineUp, LineDown, WholeBuffer, BeginningOfBuffer, EndOfBuffer}
+use Rattle.rl_base.specs.declared.motion.Movement.TheVariants.{WholeLine, BeginningOfLine, EndOfLine, BackwardWord, ForwardWord, ViCharSearch, ViFirstPrint, FirstNonBlank, BackwardChar, ForwardChar, LineUp, LineDown, WholeBuffer, BeginningOfBuffer, EndOfBuffer}
 use Rattle.rl_base.specs.declared.motion.Word.{Word}
 use Rattle.rl_base.specs.declared.motion.Word.TheVariants.{Big, Emacs, Vi}
 use Rattle.rl_base.specs.declared.motion.WordAction.{WordAction}
@@ -45,6 +47,11 @@ pub data NamesSearch : List ℕ → ℕ → CharSearch → Type 0 where
   till : {c : ℕ} → NamesSearch (codes "t") c (ForwardBefore c)
   back_onto : {c : ℕ} → NamesSearch (codes "F") c (Backward c)
   back_till : {c : ℕ} → NamesSearch (codes "T") c (BackwardAfter c)
+
+-- the letters for the direction of a kill
+pub data NamesDirection : List ℕ → Direction → Type 0 where
+  ahead : NamesDirection (codes "f") told.Forward
+  backward : NamesDirection (codes "b") told.Backward
 
 -- the words for changes of the letter case
 pub data NamesAction : List ℕ → WordAction → Type 0 where
@@ -92,6 +99,7 @@ pub data Names : List ℕ → Option (List ℕ) → Movement → Type 0 where
   fword : {given : List ℕ} {n : ℕ} {a : At} {w : Word} → CountAtWord given n a w → Names (codes "fword") (Some given) (ForwardWord n a w)
   find : {given : List ℕ} {n : ℕ} {cs : CharSearch} → CountSearch given n cs → Names (codes "find") (Some given) (ViCharSearch n cs)
   first : Names (codes "first") None ViFirstPrint
+  nonblank : Names (codes "nonblank") None FirstNonBlank
   bchar : {digits : List ℕ} {n : ℕ} → number_of 65535 digits ≡ Some n → Names (codes "bchar") (Some digits) (BackwardChar n)
   fchar : {digits : List ℕ} {n : ℕ} → number_of 65535 digits ≡ Some n → Names (codes "fchar") (Some digits) (ForwardChar n)
   up : {digits : List ℕ} {n : ℕ} → number_of 65535 digits ≡ Some n → Names (codes "up") (Some digits) (LineUp n)
@@ -115,6 +123,14 @@ pub record RangeText (given : List ℕ) (a b : ℕ) (text : List ℕ) : Type 0 w
   pub after : List ℕ
   pub starts : Numbered (2 ^ 64 - 1) given a after
   pub ends : NumberedText (2 ^ 64 - 1) after b text
+
+-- the ends of a range and the direction of a kill
+pub record RangeDirection (given : List ℕ) (a b : ℕ) (side : Direction) : Type 0 where
+  pub after : List ℕ
+  pub letter : List ℕ
+  pub starts : Numbered (2 ^ 64 - 1) given a after
+  pub ends : Numbered (2 ^ 64 - 1) after b letter
+  pub named : NamesDirection letter side
 
 -- the words that begin a line, each with its argument
 pub data Says : List ℕ → Option (List ℕ) → Meaning → Type 0 where
@@ -146,6 +162,8 @@ pub data Says : List ℕ → Option (List ℕ) → Meaning → Type 0 where
   twords : {digits : List ℕ} {n : ℕ} → number_of 65535 digits ≡ Some n → Says (codes "twords") (Some digits) (Do (TransposeWords n))
   cased : {bytes : List ℕ} {action : WordAction} → NamesAction bytes action → Says (codes "case") (Some bytes) (Do (EditWord action))
   kill : {bytes : List ℕ} {movement : Movement} → NamesMovement bytes movement → Says (codes "kill") (Some bytes) (Do (Kill movement))
+  killrange : {given : List ℕ} {a b : ℕ} {side : Direction} → RangeDirection given a b side → Says (codes "killrange") (Some given) (Do (KillRange a b side))
+  keep : {bytes : List ℕ} {t : String Global} → Spells bytes (string_bytes t) → Says (codes "keep") (Some bytes) (Do (Keep t))
   copy : {bytes : List ℕ} {movement : Movement} → NamesMovement bytes movement → Says (codes "copy") (Some bytes) (Do (Copy movement))
   indent : {given : List ℕ} {amount : ℕ} {movement : Movement} → AmountMovement given amount movement
       → Says (codes "indent") (Some given) (Do (Indent movement amount false))
@@ -153,6 +171,7 @@ pub data Says : List ℕ → Option (List ℕ) → Meaning → Type 0 where
       → Says (codes "dedent") (Some given) (Do (Indent movement amount true))
   begin : Says (codes "begin") None (Do Begin)
   end : Says (codes "end") None (Do End)
+  endone : Says (codes "endone") None (Do EndOne)
   undo : {digits : List ℕ} {n : ℕ} → number_of 65535 digits ≡ Some n → Says (codes "undo") (Some digits) (Do (Undo n))
   redo : Says (codes "redo") None (Do Redo)
   trunc : {digits : List ℕ} {len : ℕ} → number_of (2 ^ 64 - 1) digits ≡ Some len → Says (codes "trunc") (Some digits) (Do (Truncate len))
@@ -175,4 +194,5 @@ pub data Same : Meaning → Meaning → Type 0 where
   pastes : {s t : String Global} {n : ℕ} → string_bytes s ≡ string_bytes t → Same (Do (Paste s n)) (Do (Paste t n))
   updates : {s t : String Global} {place : ℕ} → string_bytes s ≡ string_bytes t → Same (Do (Update s place)) (Do (Update t place))
   puts_in : {s t : String Global} {place : ℕ} → string_bytes s ≡ string_bytes t → Same (Do (InsertStr place s)) (Do (InsertStr place t))
+  keeps : {s t : String Global} → string_bytes s ≡ string_bytes t → Same (Do (Keep s)) (Do (Keep t))
   replaces : {s t : String Global} {a b : ℕ} → string_bytes s ≡ string_bytes t → Same (Do (Replace a b s)) (Do (Replace a b t))

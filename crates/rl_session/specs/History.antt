@@ -8,7 +8,7 @@ use Rattle.rl_line.specs.Ranges.{text_in}
 use Rattle.rl_line.specs.Record.{Entry, Record, replay_entries}
 use Rattle.rl_line.specs.Units.{BothMatched}
 use Rattle.rl_session.specs.declared.session.Command.{Command}
-use Rattle.rl_session.specs.declared.session.Command.TheVariants.{EditWord, End, Kill, Redo, Truncate, Undo, Yank, YankPop}
+use Rattle.rl_session.specs.declared.session.Command.TheVariants.{EditWord, End, EndOne, Kill, Redo, Truncate, Undo, Yank, YankPop, KillRange}
 use Rattle.rl_session.specs.declared.session.Reply.{Reply}
 use Rattle.rl_session.specs.declared.session.Reply.TheVariants as says
 use Rattle.rl_session.specs.Commands.{Asked, asked, edit, other}
@@ -64,6 +64,7 @@ IsAsked other = ⊥
 -- an edit: one of the table, a kill, a yank, or an edit of an ASCII word
 abbrev pub IsEdit : Line → Command → Type 0
 IsEdit line (Kill _) = Unit {0}
+IsEdit line (KillRange _ _ _) = Unit {0}
 IsEdit line (Yank _) = Unit {0}
 IsEdit line YankPop = Unit {0}
 IsEdit line (EditWord _) = FindsAsciiWord line
@@ -72,6 +73,7 @@ IsEdit line command = IsAsked (asked line command)
 -- what may happen inside a group: an end, an undo, a redo or a truncation may only where it was refused
 abbrev pub MayStandInGroup : Command → Reply → Type 0
 MayStandInGroup End reply = WasRefused reply
+MayStandInGroup EndOne reply = WasRefused reply
 MayStandInGroup (Undo _) reply = WasRefused reply
 MayStandInGroup Redo reply = WasRefused reply
 MayStandInGroup (Truncate _) reply = WasRefused reply

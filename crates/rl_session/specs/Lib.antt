@@ -1,3 +1,4 @@
+pub mod Options
 pub mod Pair
 pub mod Settings
 pub mod State

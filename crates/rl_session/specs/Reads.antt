@@ -5,15 +5,16 @@ use Rattle.std.specs.Str.{IsUtf8}
 use Rattle.std.specs.String.{string_bytes}
 use Rattle.rl_session.specs.declared.grammar.ScriptLine.{ScriptLine}
 use Rattle.rl_session.specs.declared.grammar.ScriptLine.TheVariants as made
-use Rattle.rl_session.specs.Grammar.{Meaning, NewText, Set, Do, RangeText, CountWord, CountAtWord, CountSearch, Names, NamesMovement, AmountMovement, Says}
+use Rattle.rl_session.specs.Grammar.{Meaning, NewText, Set, Do, RangeText, CountWord, CountAtWord, CountSearch, RangeDirection, Names, NamesMovement, AmountMovement, Says}
 use Rattle.rl_session.specs.Spelling.{Escapes, Spells, SpellsChar, word, rest, Numbered, NumberedText}
 use Rattle.rl_session.specs.declared.settings.Setting.{Setting}
+use Rattle.rl_base.specs.declared.listeners.Direction.{Direction}
 use Rattle.rl_base.specs.declared.motion.At.{At}
 use Rattle.rl_base.specs.declared.motion.CharSearch.{CharSearch}
 use Rattle.rl_base.specs.declared.motion.Movement.{Movement}
 use Rattle.rl_base.specs.declared.motion.Word.{Word}
 use Rattle.rl_session.specs.declared.session.Command.{Command}
-use Rattle.rl_session.specs.declared.session.Command.TheVariants.{Paste, Update, InsertStr, Replace, DeleteRange, Delete, Backspace, DeletePrevWord, DeleteWord, DeleteTo}
+use Rattle.rl_session.specs.declared.session.Command.TheVariants.{Paste, Update, InsertStr, Replace, DeleteRange, Delete, Backspace, DeletePrevWord, DeleteWord, DeleteTo, KillRange, Keep}
 
 -- what a line of the program means
 abbrev pub meaning_of : ScriptLine → Meaning
@@ -80,6 +81,10 @@ HasNoAt given = (n : ℕ) (a : At) (w : Word) → CountAtWord given n a w → �
 abbrev pub HasNoSearch : List ℕ → Type 0
 HasNoSearch given = (n : ℕ) (cs : CharSearch) → CountSearch given n cs → ⊥
 
+-- the bytes are no ends of a range and direction
+abbrev pub HasNoDirection : List ℕ → Type 0
+HasNoDirection given = (a b : ℕ) (side : Direction) → RangeDirection given a b side → ⊥
+
 -- the bytes are no amount to indent by and movement
 abbrev pub HasNoMovement : List ℕ → Type 0
 HasNoMovement given = (amount : ℕ) (movement : Movement) → AmountMovement given amount movement → ⊥
@@ -102,6 +107,7 @@ pub data SaysText : List ℕ → List ℕ → List ℕ → Type 0 where
   pasted : {given text : List ℕ} {n : ℕ} → NumberedText 65535 given n text → SaysText (codes "paste") given text
   updated : {given text : List ℕ} {place : ℕ} → NumberedText (2 ^ 64 - 1) given place text → SaysText (codes "update") given text
   put_in : {given text : List ℕ} {place : ℕ} → NumberedText (2 ^ 64 - 1) given place text → SaysText (codes "str") given text
+  kept : {bytes text : List ℕ} → Spells bytes text → SaysText (codes "keep") bytes text
   replaced : {given text : List ℕ} {a b : ℕ} → RangeText given a b text → SaysText (codes "rep") given text
 
 -- the same of a text that is not empty: only this takes memory
@@ -118,13 +124,14 @@ holds_text (Paste _ _) = true
 holds_text (Update _ _) = true
 holds_text (InsertStr _ _) = true
 holds_text (Replace _ _ _) = true
+holds_text (Keep _) = true
 holds_text _ = false
 
 -- the word says no command that holds a text, with what stands after its space
 abbrev pub SaysNoTextCommand : List ℕ → List ℕ → Type 0
 SaysNoTextCommand word given = (command : Command) → holds_text command ≡ true → Says word (Some given) (Do command) → ⊥
 
--- whether a command is a deletion by a count or a range
+-- whether a command is a deletion by a count or a range, or a kill of a range
 abbrev pub deletes : Command → Bool
 deletes (DeleteRange _ _) = true
 deletes (Delete _) = true
@@ -132,6 +139,7 @@ deletes (Backspace _) = true
 deletes (DeletePrevWord _ _) = true
 deletes (DeleteWord _ _ _) = true
 deletes (DeleteTo _ _) = true
+deletes (KillRange _ _ _) = true
 deletes _ = false
 
 -- the word says no such deletion, with what stands after its space

@@ -12,6 +12,8 @@ use Rattle.rl_line.specs.Line.{Line, NeedsRoom}
 use Rattle.rl_line.specs.Record.{Record, replay_entries, unwind}
 use Rattle.rl_line.specs.Undo.{line_ahead, line_back}
 use Rattle.rl_line.specs.Walk.{Walks}
+use Rattle.rl_session.specs.Options.{plain}
+use Rattle.rl_session.specs.declared.options.Options.{Options}
 use Rattle.rl_session.specs.declared.pair.Pair.{Pair}
 use Rattle.rl_session.specs.declared.session.Fault.{Fault}
 use Rattle.rl_session.specs.declared.session.Fault.TheVariants.{NoMemory, BadPlace}
@@ -19,7 +21,7 @@ use Rattle.rl_session.specs.declared.session.Fault.TheVariants.{NoMemory, BadPla
 pub record State : Type 0 where
   pub line : Line
   pub pair : Pair
-  pub mode : GraphemeClusterMode
+  pub options : Options
 
 -- the line can go back over the recorded changes, and ahead over what was undone
 pub record Follows (line : Line) (r : Record) : Type 0 where
@@ -52,6 +54,14 @@ with_watch watch s = record s { pair = record s.pair { watch = watch } }
 abbrev pub with_ring : Ring → State → State
 with_ring ring s = record s { pair = record s.pair { ring = ring } }
 
+-- the same with another limit on the text's length, which the text itself is within
+abbrev pub limited : ℕ → State → State
+limited limit s = record s { line = record s.line { limit = max limit (length s.line.text) } }
+
+-- the same with a prompt that ends at another column
+abbrev pub prompted : ℕ → State → State
+prompted column s = record s { options = record s.options { prompt = column } }
+
 -- nothing is recorded, and nothing was undone
 abbrev pub no_changes : Record
 no_changes = record { recorded = []; pending = []; fresh = Stale }
@@ -61,7 +71,7 @@ abbrev pub fresh : List ℕ → ℕ → ℕ → ℕ → GraphemeClusterMode → 
 fresh text pos limit ring_size mode = record {
   line = record { text = text; cursor = pos; limit = max limit (length text); grow = false };
   pair = record { ring = new_ring ring_size; changes = no_changes; watch = new_watch };
-  mode = mode;
+  options = plain mode;
 }
 
 -- a session begins with a text, as a new one and one that was restarted do: nothing is recorded yet
@@ -80,7 +90,7 @@ restarted text pos s = record {
     changes = no_changes;
     watch = watch_step (watch_step s.pair.watch (Replace 0 s.line.text text)) (Cursors s.line.cursor (length text));
   };
-  mode = s.mode;
+  options = s.options;
 }
 
 -- why a session is not restarted: the place is no boundary of the text, or memory is out for a text that needs more room

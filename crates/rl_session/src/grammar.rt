@@ -1,8 +1,9 @@
 //! Reads a line of a script: what each word says, with what it wants after it.
 ghost use Rattle.std.specs.Prelude.{◌≡◌, ℕ, Some, None, IfOk, OnErr, MatchOption, codes};
-ghost use Rattle.rl_session.specs.Grammar.{Set, Do, NamesWord, NamesAt, NamesSearch, NamesAction, NamesMode, CountWord, CountAtWord, CountSearch, Names, NamesMovement, AmountMovement, Says, Means, MeansNothing};
-ghost use Rattle.rl_session.specs.Reads.{HoldsText, LineHoldsText, HasNoWord, HasNoAt, HasNoSearch, HasNoMovement, NamesNothing, NamesNoMovement, SaysNothing, SaysNoTextCommand, SaysNoDeletion, SaysNoCommand, SaysNoSetting, SaysNoneWithoutText, SaysNoLoneCommand, meaning_of};
+ghost use Rattle.rl_session.specs.Grammar.{Set, Do, NamesWord, NamesAt, NamesSearch, NamesDirection, NamesAction, NamesMode, CountWord, CountAtWord, CountSearch, RangeDirection, Names, NamesMovement, AmountMovement, Says, Means, MeansNothing};
+ghost use Rattle.rl_session.specs.Reads.{HoldsText, LineHoldsText, HasNoWord, HasNoAt, HasNoSearch, HasNoDirection, HasNoMovement, NamesNothing, NamesNoMovement, SaysNothing, SaysNoTextCommand, SaysNoDeletion, SaysNoCommand, SaysNoSetting, SaysNoneWithoutText, SaysNoLoneCommand, meaning_of};
 ghost use Rattle.rl_base.specs.declared.layout.GraphemeClusterMode.{GraphemeClusterMode};
+ghost use Rattle.rl_base.specs.declared.listeners.Direction.{Direction};
 ghost use Rattle.rl_base.specs.declared.motion.At.{At};
 ghost use Rattle.rl_base.specs.declared.motion.CharSearch.{CharSearch};
 ghost use Rattle.rl_base.specs.declared.motion.Word.{Word};
@@ -13,7 +14,7 @@ use crate::settings::Setting;
 use crate::spelling::{
     character, count, counted, first_word, number, numbered, numbered_text, unescape,
 };
-use rl_base::{At, CharSearch, GraphemeClusterMode, Movement, Word, WordAction};
+use rl_base::{At, CharSearch, Direction, GraphemeClusterMode, Movement, Word, WordAction};
 use std::alloc::{AllocError, Global};
 
 /// What a line says.
@@ -57,6 +58,17 @@ fn named_search(named: &str, c: char) -> Option<CharSearch>
         "t" => Some(CharSearch::ForwardBefore(c)),
         "F" => Some(CharSearch::Backward(c)),
         "T" => Some(CharSearch::BackwardAfter(c)),
+        _ => None,
+    }
+}
+
+// The direction of a kill that is named.
+fn named_direction(named: &str) -> Option<Direction>
+    ensures { MatchOption result ((side : Direction) → NamesDirection named.now side → ⊥) (λ side. NamesDirection named.now side) }
+{
+    match named {
+        "f" => Some(Direction::Forward),
+        "b" => Some(Direction::Backward),
         _ => None,
     }
 }
@@ -147,6 +159,7 @@ fn lone_movement(word: &str) -> Option<Movement>
         "home" => Some(Movement::BeginningOfLine),
         "eol" => Some(Movement::EndOfLine),
         "first" => Some(Movement::ViFirstPrint),
+        "nonblank" => Some(Movement::FirstNonBlank),
         "buf" => Some(Movement::WholeBuffer),
         "bob" => Some(Movement::BeginningOfBuffer),
         "eob" => Some(Movement::EndOfBuffer),
@@ -182,6 +195,15 @@ fn range_deletion(given: &str) -> Option<Command>
     Some(Command::DeleteRange(start, number(after, usize::MAX)?))
 }
 
+// The ends of a range and the direction of a kill.
+fn range_and_direction(given: &str) -> Option<(usize, usize, Direction)>
+    ensures { MatchOption result (HasNoDirection given.now) (λ found. RangeDirection given.now found.0 found.1 found.2) }
+{
+    let (start, after) = numbered(given, usize::MAX)?;
+    let (end, letter) = numbered(after, usize::MAX)?;
+    Some((start, end, named_direction(letter)?))
+}
+
 // An amount to indent by and a movement.
 fn amount_and_movement(given: &str) -> Option<(u8, Movement)>
     ensures { MatchOption result (HasNoMovement given.now) (λ found. AmountMovement given.now found.0 found.1) }
@@ -190,7 +212,7 @@ fn amount_and_movement(given: &str) -> Option<(u8, Movement)>
     Some((amount as u8, movement(named)?))
 }
 
-// The deletion of a word and of what stands after its space.
+// The deletion, or the kill of a range, of a word and of what stands after its space.
 fn deletion(word: &str, given: &str) -> Option<Command>
     ensures { MatchOption result (SaysNoDeletion word.now given.now)
         (λ command. Says word.now (Some given.now) (Do command)) }
@@ -210,6 +232,10 @@ fn deletion(word: &str, given: &str) -> Option<Command>
         "to" => {
             let (n, search) = count_and_search(given)?;
             Some(Command::DeleteTo(search, n))
+        }
+        "killrange" => {
+            let (start, end, dir) = range_and_direction(given)?;
+            Some(Command::KillRange(start, end, dir))
         }
         _ => None,
     }
@@ -279,6 +305,10 @@ fn text_command(alloc: Global, word: &str, given: &str) -> Result<Option<Command
             None => Ok(None),
         },
         "rep" => replacement(alloc, given),
+        "keep" => match unescape(alloc, given)? {
+            Some(text) => Ok(Some(Command::Keep(text))),
+            None => Ok(None),
+        },
         _ => Ok(None),
     }
 }
@@ -338,6 +368,7 @@ fn lone_command(word: &str) -> Option<Command>
         "tchars" => Some(Command::TransposeChars),
         "begin" => Some(Command::Begin),
         "end" => Some(Command::End),
+        "endone" => Some(Command::EndOne),
         "redo" => Some(Command::Redo),
         "where" => Some(Command::LinePlace),
         _ => None,

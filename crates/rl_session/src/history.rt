@@ -7,7 +7,7 @@ ghost use Rattle.rl_session.specs.History.{AllRedone, AllStandInGroup, Holds, Is
 ghost use Rattle.rl_session.specs.Run.{Row, Run, held_of};
 ghost use Rattle.rl_session.specs.State.{Begins, State};
 ghost use Rattle.rl_session.specs.declared.session.Command.{Command};
-ghost use Rattle.rl_session.specs.declared.session.Command.TheVariants.{Begin, End, Redo, Undo};
+ghost use Rattle.rl_session.specs.declared.session.Command.TheVariants.{Begin, End, EndOne, Redo, Undo};
 ghost use Rattle.rl_session.specs.declared.session.Reply.{Reply};
 
 /// The recorded entries, followed by the undone ones, are placed among the texts that were held: each prefix of them
@@ -57,6 +57,22 @@ pub fn group_is_undone_at_once()
         → run.rows ≡ earlier ++ (b ∷ (inside ++ (e ∷ (u ∷ later))))
         → b.command ≡ Begin → ¬ (WasRefused b.reply) → level b.before.pair.changes.recorded ≡ 0
         → AllStandInGroup inside → e.command ≡ End → ¬ (WasRefused e.reply)
+        → has_change (drop (suc (length b.before.pair.changes.recorded)) e.before.pair.changes.recorded) ≡ true
+        → u.command ≡ Undo 1 → ¬ (WasRefused u.reply)
+        → u.after.line.text ≡ b.before.line.text }
+{}
+
+/// The same of the end of one group, whatever groups it stands in. Conditions: none of the three was refused, it was the
+/// only group that was opened since and is open, a change was recorded in it, and each end, undo, redo or truncation inside
+/// was refused.
+pub fn group_closed_alone_is_undone_at_once()
+    ensures { (text : List ℕ) (old new : State) (commands : List Command) (replies : List Reply)
+        (earlier inside later : List Row) (b e u : Row)
+        → Begins text old → (run : Run old commands replies new)
+        → run.rows ≡ earlier ++ (b ∷ (inside ++ (e ∷ (u ∷ later))))
+        → b.command ≡ Begin → ¬ (WasRefused b.reply)
+        → AllStandInGroup inside → e.command ≡ EndOne → ¬ (WasRefused e.reply)
+        → level e.before.pair.changes.recorded ≡ suc (level b.before.pair.changes.recorded)
         → has_change (drop (suc (length b.before.pair.changes.recorded)) e.before.pair.changes.recorded) ≡ true
         → u.command ≡ Undo 1 → ¬ (WasRefused u.reply)
         → u.after.line.text ≡ b.before.line.text }

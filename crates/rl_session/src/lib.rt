@@ -4,6 +4,7 @@
 mod grammar;
 pub mod history;
 pub mod kill_runs;
+pub mod options;
 pub mod pair;
 mod print;
 pub mod script;
@@ -11,6 +12,7 @@ pub mod session;
 mod settings;
 mod spelling;
 
+pub use options::{Bound, Options};
 pub use pair::Pair;
 pub use script::{ScriptFault, run_script};
 pub use session::{Command, Fault, Reply, Session};

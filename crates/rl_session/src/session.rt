@@ -8,7 +8,7 @@ ghost use Rattle.std.specs.Option.{option_map};
 ghost use Rattle.rl_base.specs.Reports.{new_queue, texts_of};
 ghost use Rattle.rl_base.specs.Splice.{Splices, told, untouched};
 ghost use Rattle.rl_base.specs.Watch.{RefusesQueue, ReportTells, next_note, past_next, watch_step};
-ghost use Rattle.rl_session.specs.State.{State, Begins, ChangedFrom, Follows, IsBounded, ReportedFrom, Stands, with_watch, Opens, RefusesRestart, Replays, origin, restarted};
+ghost use Rattle.rl_session.specs.State.{State, Begins, ChangedFrom, Follows, IsBounded, ReportedFrom, Stands, with_watch, Opens, RefusesRestart, Replays, fresh, limited, origin, prompted, restarted};
 ghost use Rattle.rl_session.specs.Commands.{CarriesOut, Does, Step};
 ghost use Rattle.rl_session.specs.Run.{Row, Run, AfterEach, commands_of, held_of, replies_of, reports, reports_of};
 ghost use Rattle.rl_session.specs.declared.session.Command.{Command};
@@ -21,10 +21,11 @@ mod motions;
 mod replies;
 mod yanks;
 
+use crate::options::Options;
 use crate::pair::Pair;
 use rl_base::{
-    At, CharSearch, GraphemeClusterMode, KillRing, Movement, NoListener, RepeatCount, Report,
-    Splice, Unit, Watch, WatchFault, Word, WordAction,
+    At, CharSearch, Direction, GraphemeClusterMode, KillRing, Movement, NoListener, RepeatCount,
+    Report, Splice, Unit, Watch, WatchFault, Word, WordAction,
 };
 use rl_line::{Changeset, LineBuffer};
 use std::alloc::Global;
@@ -81,6 +82,11 @@ pub enum Command {
     EditWord(WordAction),
     /// Kills by a movement. The killed text goes to the ring, except where the movement is by clusters.
     Kill(Movement),
+    /// Kills the text between two places, told with a direction: `Forward` joins it at the end of the text that was
+    /// killed right before it, `Backward` at its front.
+    KillRange(usize, usize, Direction),
+    /// Puts a text into the ring as a kill of its own. The line stays.
+    Keep(String),
     /// Copies what a movement covers.
     Copy(Movement),
     /// Indents the lines of a movement by a number of spaces, or dedents them by at most that many bytes of blanks.
@@ -89,6 +95,8 @@ pub enum Command {
     Begin,
     /// Closes all open groups.
     End,
+    /// Closes the group that was opened last.
+    EndOne,
     /// Undoes the given number of units: one for 0, and all where there are fewer.
     Undo(RepeatCount),
     /// Redoes what was undone last.
@@ -151,7 +159,7 @@ pub enum Reply {
 pub struct Session {
     line: LineBuffer,
     pair: Pair,
-    mode: GraphemeClusterMode,
+    options: Options,
     alloc: Global,
 }
 
@@ -160,21 +168,19 @@ impl Model for Session {
 
     ghost Value = { State };
 
-    ghost view = { λ s. record { line = s.line; pair = s.pair; mode = s.mode } };
+    ghost view = { λ s. record { line = s.line; pair = s.pair; options = s.options } };
 
     ghost invariant = { λ s. AtRest s.line s.pair };
 }
 
-// A line that holds the text, with the cursor at a place.
-fn line_of(alloc: Global, text: &str, pos: usize, limit: usize) -> Result<LineBuffer, Fault>
-    requires { IsCharBoundary text.now pos }
-    ensures ok { IfOk result (λ line. line ≡ record { text = text.now; cursor = pos; limit = max limit (length text.now); grow = false }) }
-    ensures err { IfErr result (λ f. (f ≡ Fault.NoMemory) × (0 < max limit (length text.now))) }
+// Puts a text into an empty line, with the cursor at a place.
+fn filled(line: LineBuffer, text: &str, pos: usize) -> Result<LineBuffer, Fault>
+    requires empty { line ≡ record { text = []; cursor = 0; limit = line.limit; grow = false } }
+    requires place { IsCharBoundary text.now pos }
+    ensures ok { IfOk result (λ made. made ≡ record { text = text.now; cursor = pos; limit = max line.limit (length text.now); grow = false }) }
+    ensures err { IfErr result (λ f. (f ≡ Fault.NoMemory) × (0 < length text.now)) }
 {
-    let mut line = match LineBuffer::with_capacity(alloc, limit) {
-        Ok(line) => line,
-        Err(_) => return Err(Fault::NoMemory),
-    };
+    let mut line = line;
     match line.insert_str(0, text, &mut NoListener) {
         Ok(_) => {
             line.set_pos(pos);
@@ -225,7 +231,53 @@ impl Session {
         if !text.is_char_boundary(pos) {
             return Err(Fault::BadPlace);
         }
-        let line = line_of(alloc, text, pos, limit)?;
+        match LineBuffer::with_capacity(alloc, limit) {
+            Ok(line) => Session::on(alloc, line, text, pos, ring_size, mode),
+            Err(_) => Err(Fault::NoMemory),
+        }
+    }
+
+    /// The same session, with room for the text alone: the line asks for more when it needs it. So the limit may be
+    /// any number, and `usize::MAX` is no limit at all. `NoMemory` comes only where the text is not empty.
+    pub fn open(
+        alloc: Global,
+        text: &str,
+        pos: usize,
+        limit: usize,
+        ring_size: usize,
+        mode: GraphemeClusterMode,
+    ) -> Result<Self, Fault>
+        ensures opens { Opens text.now pos limit ring_size mode result }
+        ensures some { IfErr result (λ fault. fault ≡ Fault.NoMemory → 0 < length text.now) }
+        ensures replays { IfOk result (Replays text.now) }
+        ensures begins { IfOk result (Begins text.now) }
+        ensures changed { IfOk result (ChangedFrom text.now) }
+    {
+        if !text.is_char_boundary(pos) {
+            return Err(Fault::BadPlace);
+        }
+        let line = LineBuffer::with_limit(alloc, limit);
+        Session::on(alloc, line, text, pos, ring_size, mode)
+    }
+
+    // The session on an empty line, once the text was put into it.
+    fn on(
+        alloc: Global,
+        line: LineBuffer,
+        text: &str,
+        pos: usize,
+        ring_size: usize,
+        mode: GraphemeClusterMode,
+    ) -> Result<Self, Fault>
+        requires empty { line ≡ record { text = []; cursor = 0; limit = line.limit; grow = false } }
+        requires place { IsCharBoundary text.now pos }
+        ensures ok { IfOk result (λ s. s ≡ fresh text.now pos line.limit ring_size mode) }
+        ensures replays { IfOk result (Replays text.now) }
+        ensures begins { IfOk result (Begins text.now) }
+        ensures changed { IfOk result (ChangedFrom text.now) }
+        ensures err { IfErr result (λ f. (f ≡ Fault.NoMemory) × (0 < length text.now)) }
+    {
+        let line = filled(line, text, pos)?;
         let session = Session {
             line,
             pair: Pair {
@@ -233,7 +285,7 @@ impl Session {
                 changes: Changeset::new(alloc),
                 watch: Watch::new(),
             },
-            mode,
+            options: Options::new(mode),
             alloc,
         };
         session.stands();
@@ -266,6 +318,28 @@ impl Session {
         Ok(())
     }
 
+    /// Sets the limit on the text's length, in bytes: to the text's length where that is greater. So a text that was
+    /// longer than its limit, and shrank, can have the limit back. `usize::MAX` is no limit at all.
+    pub fn set_limit(&mut self, limit: usize)
+        ensures set { self.new ≡ limited limit self.old }
+        ensures changed { (asked : List ℕ) → ChangedFrom asked self.old → ChangedFrom asked self.new }
+        ensures reported { (read : List ℕ) → ReportedFrom read self.old → ReportedFrom read self.new }
+    {
+        self.line.set_limit(limit);
+        self.stands();
+        self.bounded();
+    }
+
+    /// Sets the column at which the prompt ends. `LineUp` and `LineDown` count the columns of the text's first line from
+    /// there.
+    pub fn set_prompt(&mut self, column: Unit)
+        ensures set { self.new ≡ prompted column self.old }
+        ensures changed { (asked : List ℕ) → ChangedFrom asked self.old → ChangedFrom asked self.new }
+        ensures reported { (read : List ℕ) → ReportedFrom read self.old → ReportedFrom read self.new }
+    {
+        self.options.prompt = column;
+    }
+
     /// The line.
     pub fn line(&self) -> &LineBuffer
         ensures { result.now ≡ self.now.line }
@@ -285,6 +359,13 @@ impl Session {
         ensures { result.now ≡ self.now.pair.ring }
     {
         &self.pair.ring
+    }
+
+    /// How it measures columns, and how much its record may hold.
+    pub fn options(&self) -> &Options
+        ensures { result.now ≡ self.now.options }
+    {
+        &self.options
     }
 
     /// What changed in the text since this was asked last, or since the session was made, as one splice: what stands
@@ -399,10 +480,13 @@ impl Session {
             Command::TransposeWords(n) => self.transpose_words(*n),
             Command::EditWord(action) => self.edit_word(*action),
             Command::Kill(movement) => self.kill(movement),
+            Command::KillRange(from, to, dir) => self.kill_range(*from, *to, *dir),
+            Command::Keep(text) => self.keep(text),
             Command::Copy(movement) => self.copy(movement),
             Command::Indent(movement, amount, dedent) => self.indent(movement, *amount, *dedent),
             Command::Begin => self.begin(),
             Command::End => self.end(),
+            Command::EndOne => self.end_one(),
             Command::Undo(n) => self.undo(*n),
             Command::Redo => self.redo(),
             Command::Truncate(len) => self.truncate(*len),
@@ -421,7 +505,8 @@ impl Session {
             return self.insert(*c, *n);
         }
         match command {
-            Command::Kill(_) | Command::Yank(_) | Command::YankPop => self.go_on(command),
+            Command::Kill(_) | Command::KillRange(_, _, _) | Command::Yank(_) | Command::YankPop =>
+                self.go_on(command),
             _ => {
                 self.pair.ring.reset();
                 self.obey(command)
@@ -440,10 +525,10 @@ impl Session {
         reply
     }
 
-    /// Does one command. The ring is reset first, unless the command is a yank, or a kill by a movement other than
-    /// by clusters. It is also reset after a yank whose reply is not `Inserted(Some(..))`. Whatever the reply, the
-    /// recorded changes lead from the starting text to the present one, and back to the same text as before. Inlined,
-    /// so that a reply is not copied on its way.
+    /// Does one command. The ring is reset first, unless the command is a yank, a kill of a range, or a kill by a
+    /// movement other than by clusters. It is also reset after a yank whose reply is not `Inserted(Some(..))`.
+    /// Whatever the reply, the recorded changes lead from the starting text to the present one, and back to the same
+    /// text as before. Inlined, so that a reply is not copied on its way.
     #[inline(always)]
     pub fn apply(&mut self, command: &Command) -> Reply
         ensures step { Step self.old command.now result self.new }

@@ -1,6 +1,6 @@
 //! Rows of sessions.
 use crate::script::is_so;
-use rl_base::{At, CharSearch, GraphemeClusterMode, Movement, Word, WordAction};
+use rl_base::{At, CharSearch, GraphemeClusterMode, Movement, RepeatCount, Unit, Word, WordAction};
 use rl_session::{Command, Fault, Reply, Session};
 use std::alloc::Global;
 use std::process::Abort;
@@ -106,6 +106,164 @@ fn sessions_open(rt: HostRuntime) {
     }
 }
 
+// Opens a session on "abc" with that limit, deletes that many clusters from its end, and sets the other limit. The line has
+// the third one then, and takes so many letters, where it has room for them.
+fn sets_limit(
+    rt: &impl Abort,
+    alloc: Global,
+    what: &str,
+    opened: usize,
+    gone: RepeatCount,
+    set: usize,
+    limit: usize,
+    letters: RepeatCount,
+    answer: Option<bool>,
+) -> Result<(), Fail> {
+    let mut session = Session::open(alloc, "abc", 3, opened, 60, GraphemeClusterMode::Unicode)?;
+    is_so(rt, session.line().limit() == opened.max(3), what);
+    session.apply(&Command::Backspace(gone));
+    session.set_limit(set);
+    is_so(rt, session.line().limit() == limit, what);
+    let inserted = session.apply(&Command::Insert('x', letters));
+    is_so(rt, inserted == Reply::Inserted(answer), what);
+    is_so(rt, session.line().limit() == limit, what);
+    Ok(())
+}
+
+#[test]
+fn limits_are_set(rt: HostRuntime) -> Result<(), Fail> {
+    // what, the limit that it opens with, how many clusters go, the limit that is set, the limit, letters, their answer
+    const ROWS: &[(
+        &str,
+        usize,
+        RepeatCount,
+        usize,
+        usize,
+        RepeatCount,
+        Option<bool>,
+    )] = &[
+        ("shrunk, limit back", 2, 2, 2, 2, 1, Some(true)),
+        ("shrunk, no room past it", 2, 2, 2, 2, 2, None),
+        ("still longer than it", 2, 0, 2, 3, 1, None),
+        ("less than the text", 9, 1, 1, 2, 1, None),
+        ("none at all", 9, 0, 0, 3, 0, Some(true)),
+        ("greater", 3, 0, 5, 5, 2, Some(true)),
+        ("the greatest", 3, 0, usize::MAX, usize::MAX, 9, Some(true)),
+        ("from the greatest", usize::MAX, 0, 4, 4, 1, Some(true)),
+        ("from the greatest, no room", usize::MAX, 0, 4, 4, 2, None),
+    ];
+    for (what, opened, gone, set, limit, letters, answer) in ROWS {
+        sets_limit(
+            &rt,
+            rt.alloc(),
+            what,
+            *opened,
+            *gone,
+            *set,
+            *limit,
+            *letters,
+            *answer,
+        )?;
+    }
+    Ok(())
+}
+
+// With `open` a limit needs no memory; with `new` there is room for as many bytes.
+#[test]
+fn the_greatest_limit_opens(rt: HostRuntime) -> Result<(), Fail> {
+    let alloc = rt.alloc();
+    let mode = GraphemeClusterMode::Unicode;
+    let refused = match Session::new(alloc, "ab", 1, usize::MAX, 60, mode) {
+        Ok(_) => None,
+        Err(fault) => Some(fault),
+    };
+    is_so(&rt, refused == Some(Fault::NoMemory), "room for all bytes");
+    let session = Session::open(alloc, "ab", 1, usize::MAX, 60, mode)?;
+    is_so(&rt, session.line().limit() == usize::MAX, "the limit");
+    is_so(&rt, session.line().as_str() == "ab", "the text");
+    is_so(&rt, session.line().pos() == 1, "the cursor");
+    Ok(())
+}
+
+// From that place of that text, with a prompt that ends at that column, the motions go to these places. A motion that goes
+// nowhere answers false.
+fn goes_by_lines(
+    rt: &impl Abort,
+    alloc: Global,
+    text: &str,
+    pos: usize,
+    prompt: Unit,
+    motions: &[(Movement, usize)],
+) -> Result<(), Fail> {
+    let mut session = Session::open(alloc, text, pos, 64, 60, GraphemeClusterMode::Unicode)?;
+    session.set_prompt(prompt);
+    for (movement, wanted) in motions {
+        let before = session.line().pos();
+        let moved = session.apply(&Command::Move(movement.clone()?));
+        is_so(rt, session.line().pos() == *wanted, text);
+        is_so(rt, moved == Reply::Answer(before != *wanted), text);
+    }
+    Ok(())
+}
+
+#[test]
+fn motions_over_lines_count_from_the_prompt(rt: HostRuntime) -> Result<(), Fail> {
+    // a text, the cursor, the column at which the prompt ends, and motions with the places to which they lead
+    const ROWS: &[(&str, usize, Unit, &[(Movement, usize)])] = &[
+        (
+            "aa123\nsdf bc\nasdf",
+            14,
+            0,
+            &[(Movement::LineUp(1), 7), (Movement::LineUp(1), 1)],
+        ),
+        (
+            "aa123\nsdf bc\nasdf",
+            14,
+            2,
+            &[
+                (Movement::LineUp(1), 7),
+                (Movement::LineUp(1), 0),
+                (Movement::LineDown(1), 8),
+                (Movement::LineUp(2), 0),
+                (Movement::LineDown(2), 15),
+            ],
+        ),
+        (
+            "ab\ncd",
+            1,
+            65535,
+            &[(Movement::LineDown(1), 5), (Movement::LineUp(1), 0)],
+        ),
+    ];
+    for (text, pos, prompt, motions) in ROWS {
+        goes_by_lines(&rt, rt.alloc(), text, *pos, *prompt, motions)?;
+    }
+    Ok(())
+}
+
+// The prompt is no part of where the cursor stands, and setting it, or the limit, parts no run of kills. What is not set
+// stays after a restart.
+#[test]
+fn settings_part_no_kills(rt: HostRuntime) -> Result<(), Fail> {
+    let alloc = rt.alloc();
+    let mut session = Session::open(alloc, "ab cd", 2, 2, 60, GraphemeClusterMode::Unicode)?;
+    session.set_prompt(7);
+    let place = session.apply(&Command::LinePlace);
+    is_so(&rt, place == Reply::At(0, 2), "the columns of the line");
+    session.apply(&Command::Kill(Movement::EndOfLine));
+    session.set_prompt(1);
+    session.set_limit(5);
+    session.apply(&Command::Kill(Movement::BeginningOfLine));
+    session.restart("\nx", 2)?;
+    let yanked = session.apply(&Command::Yank(1));
+    is_so(&rt, yanked == Reply::Inserted(None), "the limit stays");
+    session.set_limit(7);
+    let yanked = session.apply(&Command::Yank(1));
+    is_so(&rt, yanked == Reply::Inserted(Some(true)), "there is room");
+    is_so(&rt, session.line().as_str() == "\nxab cd", "the two kills");
+    Ok(())
+}
+
 #[test]
 fn a_run_goes_on_past_a_refusal(rt: HostRuntime) -> Result<(), Fail> {
     let commands = [
@@ -162,8 +320,10 @@ fn every_command_does_something(rt: HostRuntime) -> Result<(), Fail> {
         Command::Backspace(1),
         Command::Truncate(0),
         Command::Begin,
+        Command::Begin,
         Command::SetPos(0),
         Command::Paste(spaced, 1),
+        Command::EndOne,
         Command::End,
         Command::Undo(1),
         Command::Redo,
@@ -198,8 +358,10 @@ fn every_command_does_something(rt: HostRuntime) -> Result<(), Fail> {
         Reply::Answer(true),
         Reply::Done,
         Reply::Mark(0),
+        Reply::Mark(1),
         Reply::Done,
         Reply::Inserted(Some(false)),
+        Reply::Answer(true),
         Reply::Answer(true),
         Reply::Answer(true),
         Reply::Answer(true),
@@ -272,6 +434,56 @@ fn a_group_runs_and_is_undone_with_its_beginning(rt: HostRuntime) -> Result<(), 
     let mut session = Session::new(alloc, "", 0, 64, 2, GraphemeClusterMode::Unicode)?;
     runs(&rt, &mut session, &commands, &wanted, "a", 1)?;
     records(&rt, &session, 1, 0);
+    Ok(())
+}
+
+// What a session answers: whether an undo and a redo would find a change, how many groups are open, and where the cursor
+// stands.
+type Reads = (bool, bool, usize, (usize, u16));
+
+// The session does the commands, and is read after each.
+fn is_read(rt: &impl Abort, session: &mut Session, rows: &[(Command, Reads)]) {
+    for (i, (command, wanted)) in rows.iter().enumerate() {
+        let _ = session.apply(command);
+        let answered = (
+            session.can_undo(),
+            session.can_redo(),
+            session.level(),
+            session.line_column(),
+        );
+        assert!(rt; answered == *wanted, "what is read after command {i}");
+    }
+}
+
+#[test]
+fn reads_part_no_run_of_kills(rt: HostRuntime) -> Result<(), Fail> {
+    let alloc = rt.alloc();
+    let text = "ab\ncd ef gh";
+    let mut session = Session::new(alloc, text, 3, 64, 2, GraphemeClusterMode::Unicode)?;
+    let rows = [
+        (
+            Command::Kill(Movement::ForwardWord(1, At::AfterEnd, Word::Emacs)),
+            (true, false, 0, (1, 0)),
+        ),
+        (
+            Command::Kill(Movement::ForwardWord(1, At::AfterEnd, Word::Emacs)),
+            (true, false, 0, (1, 0)),
+        ),
+        // both come back, since they are one run
+        (Command::Yank(1), (true, false, 0, (1, 5))),
+        // an undo would take the open begin alone
+        (Command::Begin, (false, false, 1, (1, 5))),
+        (Command::EndOne, (true, false, 0, (1, 5))),
+        (Command::Undo(1), (true, true, 0, (1, 0))),
+        (Command::SetPos(2), (true, true, 0, (0, 2))),
+        (Command::Undo(2), (false, true, 0, (1, 0))),
+    ];
+    is_read(&rt, &mut session, &rows);
+    is_so(
+        &rt,
+        session.line().as_str() == text,
+        "the text of the start",
+    );
     Ok(())
 }
 

@@ -66,7 +66,10 @@ pub(crate) enum Call {
     Told(Event),
     Begin,
     End,
+    EndOne,
     Truncate(usize),
+    HasUndo,
+    HasRedo,
     CanUndo,
     CanRedo,
     Replays(usize),
@@ -151,10 +154,13 @@ pub(crate) fn make(
         Call::Told(event) => tell(record, event).and(Ok(1)),
         Call::Begin => record.begin(),
         Call::End => truth(record.end()),
+        Call::EndOne => truth(record.end_one()),
         Call::Truncate(len) => {
             record.truncate(len);
             Ok(1)
         }
+        Call::HasUndo => Ok(usize::from(record.has_undo())),
+        Call::HasRedo => Ok(usize::from(record.has_redo())),
         Call::CanUndo => truth(record.can_undo(line)),
         Call::CanRedo => truth(record.can_redo(line)),
         Call::Replays(len) => truth(record.replays_to(len, line)),
@@ -273,6 +279,61 @@ fn groups_nest(rt: HostRuntime) -> Result<(), Fail> {
 }
 
 #[test]
+fn the_last_group_is_closed_alone(rt: HostRuntime) -> Result<(), Fail> {
+    const STEPS: &[Step] = &[
+        (Call::EndOne, 0, "", 0, 0, 0),
+        (Call::Begin, 0, "", 0, 1, 1),
+        (Call::Yank("a"), 1, "a", 1, 2, 1),
+        (Call::Begin, 2, "a", 1, 3, 2),
+        (Call::Yank("b"), 1, "ab", 2, 4, 2),
+        (Call::Yank("c"), 1, "abc", 3, 5, 2),
+        (Call::EndOne, 1, "abc", 3, 6, 1),
+        // the inner group goes as one, and the outer one stays open
+        (Call::Undo(1), 1, "a", 1, 2, 1),
+        (Call::Redo, 1, "abc", 3, 6, 1),
+        // a group that holds nothing leaves no trace
+        (Call::Begin, 6, "abc", 3, 7, 2),
+        (Call::EndOne, 0, "abc", 3, 6, 1),
+        (Call::EndOne, 1, "abc", 3, 7, 0),
+        (Call::Undo(1), 1, "", 0, 0, 0),
+    ];
+    goes(&rt, rt.alloc(), "", STEPS)
+}
+
+#[test]
+fn a_record_tells_whether_an_undo_finds_a_change(rt: HostRuntime) -> Result<(), Fail> {
+    const STEPS: &[Step] = &[
+        (Call::HasUndo, 0, "", 0, 0, 0),
+        (Call::HasRedo, 0, "", 0, 0, 0),
+        (Call::Yank("a"), 1, "a", 1, 1, 0),
+        (Call::HasUndo, 1, "a", 1, 1, 0),
+        (Call::HasRedo, 0, "a", 1, 1, 0),
+        // an undo would take the open begin alone
+        (Call::Begin, 1, "a", 1, 2, 1),
+        (Call::HasUndo, 0, "a", 1, 2, 1),
+        (Call::Yank("b"), 1, "ab", 2, 3, 1),
+        (Call::HasUndo, 1, "ab", 2, 3, 1),
+        (Call::End, 1, "ab", 2, 4, 0),
+        (Call::HasUndo, 1, "ab", 2, 4, 0),
+        (Call::Undo(2), 1, "", 0, 0, 0),
+        (Call::HasUndo, 0, "", 0, 0, 0),
+        (Call::HasRedo, 1, "", 0, 0, 0),
+        // a closed group waits, and then a begin alone
+        (Call::Redo, 1, "a", 1, 1, 0),
+        (Call::HasRedo, 1, "a", 1, 1, 0),
+        (Call::Begin, 1, "a", 1, 2, 1),
+        (Call::Undo(1), 0, "a", 1, 1, 0),
+        (Call::HasRedo, 0, "a", 1, 1, 0),
+        // a begin waits, and a change after it
+        (Call::Redo, 0, "a", 1, 2, 1),
+        (Call::Yank("b"), 1, "ab", 2, 3, 1),
+        (Call::Undo(2), 1, "a", 1, 1, 0),
+        (Call::HasRedo, 1, "a", 1, 1, 0),
+    ];
+    goes(&rt, rt.alloc(), "", STEPS)
+}
+
+#[test]
 fn every_call_keeps_count_of_the_open_groups(rt: HostRuntime) -> Result<(), Fail> {
     // two nested groups: both are open again where their ends are cut off, and are cut off themselves then
     const NESTED: &[Step] = &[
@@ -356,6 +417,12 @@ fn other_calls_drop_what_was_undone(rt: HostRuntime) -> Result<(), Fail> {
         ("a text of length 0", Call::Insert('b', 0), false),
         ("a begin", Call::Begin, false),
         ("an end of nothing", Call::End, false),
+        (
+            "an end of one group where none is open",
+            Call::EndOne,
+            false,
+        ),
+        ("whether a redo would find it", Call::HasRedo, true),
         ("a truncation that cuts nothing", Call::Truncate(1), false),
         ("an insertion of nothing, not told", Call::Yank(""), true),
         ("a deletion of nothing, not told", Call::Back(0), true),

@@ -51,8 +51,8 @@ impl<'t> SessionBuilder<'t> {
         SessionBuilder { pos, ..self }
     }
 
-    /// Lets the text grow to so many bytes. A text that is longer already may stay as long as it is. Room for them is
-    /// found at once.
+    /// Lets the text grow to so many bytes. A text that is longer already may stay as long as it is. A limit takes no
+    /// memory, and `usize::MAX` is none at all.
     pub fn limit(self, limit: usize) -> Self {
         SessionBuilder { limit, ..self }
     }

@@ -256,13 +256,17 @@ fn long_texts_are_handed_out() {
 }
 
 #[test]
+fn a_limit_takes_no_memory() {
+    let mut session = Session::builder().text("a").limit(usize::MAX).open().unwrap();
+    assert_eq!(session.limit(), usize::MAX);
+    assert_eq!(session.insert('b', 2), Ok(Some(true)));
+    stands(&session, "abb", 3);
+}
+
+#[test]
 fn what_is_refused_says_why_and_changes_nothing() {
-    for (text, pos, limit, fault) in [
-        ("é", 1, 64, Fault::BadPlace),
-        ("é", 3, 64, Fault::BadPlace),
-        ("a", 1, usize::MAX, Fault::NoMemory),
-    ] {
-        let opened = Session::builder().text(text).pos(pos).limit(limit).open();
+    for (text, pos, fault) in [("é", 1, Fault::BadPlace), ("é", 3, Fault::BadPlace)] {
+        let opened = Session::builder().text(text).pos(pos).open();
         assert_eq!(opened.map(drop), Err(fault), "{text:?} at {pos}");
     }
     let mut session = opened("aé", 3);

@@ -6,8 +6,8 @@ use Rattle.rl_base.specs.Event.{Event, InsertChar, InsertStr, Delete, Replace, S
 use Rattle.rl_base.specs.declared.kill_ring.Action.{Action}
 use Rattle.rl_base.specs.declared.kill_ring.Action.TheVariants.{Kill, Yank, Other}
 use Rattle.rl_base.specs.declared.kill_ring.Mode.{Mode}
-use Rattle.rl_base.specs.KillRing.{Ring, in_new_slot, joined, new_ring, side_mode, next_index, put_at, killed_as, killed, yank, lent, after_deletion, ring_step, IsRing}
-use Rattle.rl_base.specs.KillGroups.{Doing, Kills, Resets, Yanks, Hears, ring_do, ring_done, Groups, no_groups, grown, with_kill, with_deletion, group_step, group_do, group_done, groups_of, back_from, newest_first, AllKills, all_joined}
+use Rattle.rl_base.specs.KillRing.{Ring, in_new_slot, joined, new_ring, side_mode, next_index, put_at, killed_as, killed, yank, lent, after_deletion, back_from, newest_first, ring_step, IsRing}
+use Rattle.rl_base.specs.KillGroups.{Doing, Kills, Resets, Yanks, Hears, ring_do, ring_done, Groups, no_groups, grown, with_kill, with_deletion, group_step, group_do, group_done, groups_of, AllKills, all_joined}
 use Rattle.rl_base.proofs.Ring.RingLemmas.{IsRing-killed, length-join}
 use Rattle.rl_base.proofs.Ring.SlotLemmas.{Puts, puts, take-grown, back-join, back-first}
 
@@ -157,7 +157,7 @@ new-holds (suc n) h = record {
 }
 
 -- a ring keeps its size
-killed_as-size : (size : ℕ) (last : Action) (text : List ℕ) (mode : Mode) (r : Ring) → (killed_as size last text mode r).size ≡ r.size
+pub killed_as-size : (size : ℕ) (last : Action) (text : List ℕ) (mode : Mode) (r : Ring) → (killed_as size last text mode r).size ≡ r.size
 killed_as-size zero last text mode r = refl
 killed_as-size (suc n) Kill text mode r = refl
 killed_as-size (suc n) (Yank m) text mode r = refl

@@ -5,8 +5,8 @@ use Rattle.std.proofs.lemmas.List.{length-set, reverse-append, length-reverse}
 use Rattle.std.proofs.Math.Seq.{set-append_seam}
 use Rattle.std.specs.Prelude.{max, ◌==◌, slice_set, slice_get}
 use Rattle.rl_base.specs.declared.kill_ring.Mode.{Mode}
-use Rattle.rl_base.specs.KillRing.{joined, raised, next_index, put_at, join_at}
-use Rattle.rl_base.specs.KillGroups.{grown, back_from}
+use Rattle.rl_base.specs.KillRing.{back_from, joined, raised, next_index, put_at, join_at}
+use Rattle.rl_base.specs.KillGroups.{grown}
 use Rattle.rl_base.proofs.Ring.RingLemmas.{Next, next_index-is}
 
 -- a list, cut at a slot

@@ -9,6 +9,7 @@ use Rattle.std.proofs.lemmas.Bool.Decides.{nat_tests}
 use Rattle.std.proofs.lemmas.List.{length-take-le, drop-drop, append-nil, get_or-drop, get_or-take, take-append-drop, take-take, length-drop}
 use Rattle.std.proofs.lemmas.List.Sums.{sum_by-append, sum_by-cons}
 use Rattle.std.proofs.lemmas.List.Edits.{length-between}
+use Rattle.std.proofs.lemmas.Str.{IsCharBoundary-end, IsCharBoundary-from_drop}
 use Rattle.std.proofs.lemmas.Str.Ascii.{IsAscii-nil, IsAscii-cons}
 use Rattle.std.proofs.lemmas.Option.{same_Some}
 use Rattle.rl_base.specs.Event.{Event, InsertStr, Delete, apply}
@@ -122,6 +123,21 @@ IsCharBoundary-pulled text i j n cursor u le is start end at = from (nat_lt curs
 -- ---- the blanks at the start of a line's text
 front-between : (text : List ℕ) (i j n : ℕ) → n ≤ j - i → take n (slice_range text i j) ≡ slice_range text i (i + n)
 front-between text i j n le = take-take n (j - i) (drop i text) le ∙ ap (λ m. take m (drop i text)) (omega arith)
+
+-- what is left of a text without its leading blanks begins between two characters
+pub IsCharBoundary-trimmed : (text rest : List ℕ) (n : ℕ) → rest ≡ drop n text → IsUtf8 rest → IsCharBoundary text (length text - length rest)
+IsCharBoundary-trimmed text rest n is u = from (nat_lt (length text) n) refl
+  where
+    width : length rest ≡ length text - n
+    width = ap length is ∙ length-drop n text
+
+    from : (b : Bool) → nat_lt (length text) n ≡ b → IsCharBoundary text (length text - length rest)
+    from true e =
+        let past : length text < n = ltb-true (length text) n e in
+        subst (IsCharBoundary text) (omega (arith, width)) (IsCharBoundary-end text)
+    from false e =
+        let within : n ≤ length text = ltb-false (length text) n e in
+        subst (IsCharBoundary text) (omega (arith, width)) (IsCharBoundary-from_drop text n within (subst IsUtf8 is u))
 
 -- the plan of a dedent, where `part` is the line's text, `rest` what follows its blanks, and `gone` the greatest boundary within `least`
 pub line_plan-dedent : (text : List ℕ) (i j n least gone cursor place : ℕ) (part rest : List ℕ) → i ≤ j → j ≤ length text → part ≡ slice_range text i j → rest ≡ trim_start part

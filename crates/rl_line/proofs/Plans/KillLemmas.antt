@@ -9,18 +9,17 @@ use Rattle.rl_base.specs.Event.{Event, Delete, Start, Stop}
 use Rattle.rl_base.specs.declared.listeners.Direction.{Direction}
 use Rattle.rl_base.specs.declared.listeners.Direction.TheVariants.{Forward}
 use Rattle.rl_base.specs.declared.motion.Movement.{Movement}
-use Rattle.rl_base.specs.declared.motion.Movement.TheVariants.{WholeLine, BeginningOfLine, EndOfLine, BackwardWord, ForwardWord, ViCharSearch, ViFirstPrint, BackwardChar, ForwardChar, LineUp, LineDown, WholeBuffer, BeginningOfBuffer, EndOfBuffer}
+use Rattle.rl_base.specs.declared.motion.Movement.TheVariants.{WholeLine, BeginningOfLine, EndOfLine, BackwardWord, ForwardWord, ViCharSearch, ViFirstPrint, FirstNonBlank, BackwardChar, ForwardChar, LineUp, LineDown, WholeBuffer, BeginningOfBuffer, EndOfBuffer}
 use Rattle.rl_line.specs.Line.{Line}
 use Rattle.rl_line.specs.Plan.{nothing, single, answering}
 use Rattle.rl_line.specs.Ranges.{covered, killed, text_in}
 use Rattle.rl_line.specs.Kills.{Told, delete_plan, is_exact, kill_plan, removal, side_of}
 
-pub kill_plan-nothing : (line : Line) (mvt : Movement) → None ≡ killed line mvt → kill_plan line mvt ≡ nothing line false
-kill_plan-nothing line mvt e = rw (← e) refl
+pub removal-nothing : (line : Line) (o : Option (Range ℕ)) (side : Direction) → None ≡ o → removal line o side ≡ nothing line false
+removal-nothing line o side e = rw (← e) refl
 
-pub kill_plan-some : (line : Line) (mvt : Movement) (r : Range ℕ) (side : Direction) → Some r ≡ killed line mvt → side ≡ side_of mvt
-    → kill_plan line mvt ≡ single (Delete r.start (text_in line r) side) r.start true
-kill_plan-some line mvt r side e f = rw (← e, f) refl
+pub removal-some : (line : Line) (o : Option (Range ℕ)) (r : Range ℕ) (side : Direction) → Some r ≡ o → removal line o side ≡ single (Delete r.start (text_in line r) side) r.start true
+removal-some line o r side e = rw (← e) refl
 
 pub delete_plan-nothing : (line : Line) (n : ℕ) → None ≡ covered line (ForwardChar n) → delete_plan line n ≡ nothing line None
 delete_plan-nothing line n e = ap (λ (o : Option (Range ℕ)). answering (option_map (text_in line) o) (removal line o Forward)) (sym e)
@@ -56,6 +55,7 @@ killed-exact line (BackwardWord n word) e = refl
 killed-exact line (ForwardWord n at word) e = refl
 killed-exact line (ViCharSearch n cs) e = refl
 killed-exact line ViFirstPrint e = absurd (cc e)
+killed-exact line FirstNonBlank e = refl
 killed-exact line (BackwardChar n) e = refl
 killed-exact line (ForwardChar n) e = refl
 killed-exact line (LineUp n) e = refl

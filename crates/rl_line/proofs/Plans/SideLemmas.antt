@@ -1,8 +1,8 @@
 -- What a kill by a movement takes begins at the cursor, or ends there.
-use Rattle.std.proofs.Common.{◌≡◌, ℕ, ◌+◌, ◌≤◌, Bool, true, false, cond, length, Option, Some, None, refl, sym, arith}
+use Rattle.std.proofs.Common.{◌≡◌, ℕ, ◌+◌, ◌<◌, ◌≤◌, min, max, Bool, true, false, cond, length, Option, Some, None, refl, sym, arith, ltb-true, ltb-false}
 use Rattle.std.proofs.lemmas.Bool.{eqb-true}
 use Rattle.std.specs.Option.{option_map, option_or}
-use Rattle.std.specs.Prelude.{IfSome, List, ◌==◌}
+use Rattle.std.specs.Prelude.{IfSome, List, ◌==◌, nat_lt}
 use Rattle.std.specs.Str.{IsCharBoundary, IsUtf8}
 use Rattle.std.specs.declared.ops.Range.{Range}
 use Rattle.rl_base.specs.Clusters.{prev_pos}
@@ -13,15 +13,15 @@ use Rattle.rl_base.specs.declared.listeners.Direction.TheVariants.{Forward, Back
 use Rattle.rl_base.specs.declared.motion.At.{At}
 use Rattle.rl_base.specs.declared.motion.CharSearch.{CharSearch}
 use Rattle.rl_base.specs.declared.motion.CharSearch.TheVariants as to
-use Rattle.rl_base.specs.declared.motion.Movement.TheVariants.{BeginningOfLine, EndOfLine, BackwardWord, ForwardWord, ViCharSearch, BeginningOfBuffer, EndOfBuffer}
+use Rattle.rl_base.specs.declared.motion.Movement.TheVariants.{BeginningOfLine, EndOfLine, FirstNonBlank, BackwardWord, ForwardWord, ViCharSearch, BeginningOfBuffer, EndOfBuffer}
 use Rattle.rl_base.specs.declared.motion.Word.{Word}
 use Rattle.rl_base.proofs.Texts.LineLemmas.{start-before}
 use Rattle.rl_base.proofs.Clusters.SearchLemmas.{IsHitOf, chosen_hit-is}
 use Rattle.rl_base.proofs.Clusters.WordLemmas.{IsBefore-start_before}
-use Rattle.rl_line.specs.Kills.{side_of_search}
+use Rattle.rl_line.specs.Kills.{side_of_place, side_of_search}
 use Rattle.rl_line.specs.Line.{Line, between}
-use Rattle.rl_line.specs.LineMotions.{home, line_end}
-use Rattle.rl_line.specs.Ranges.{from_place, killed, newline_at, to_hit, to_place, unless_empty}
+use Rattle.rl_line.specs.LineMotions.{first_nonblank, home, line_end}
+use Rattle.rl_line.specs.Ranges.{either_way, from_place, killed, newline_at, to_hit, to_place, unless_empty}
 
 -- the range lies on that side of the place, and touches it
 abbrev pub LiesOn : Direction → ℕ → Range ℕ → Type 0
@@ -60,6 +60,17 @@ hit-side (to.ForwardBefore c) pos hit h = refl
 hit-side (to.Backward c) pos hit h = (refl, omega arith)
 hit-side (to.BackwardAfter c) pos hit h = (refl, h)
 
+either_way-side : (line : Line) (place : ℕ) → IfSome (either_way line place) (LiesOn (side_of_place line place) line.cursor)
+either_way-side line place = from (nat_lt place line.cursor) refl
+  where
+    from : (b : Bool) → nat_lt place line.cursor ≡ b → IfSome (either_way line place) (LiesOn (cond b Backward Forward) line.cursor)
+    from true e =
+        let before : place < line.cursor = ltb-true place line.cursor e in
+        unless (LiesOn Backward line.cursor) _ (between (min place line.cursor) (max place line.cursor)) (omega arith, omega arith)
+    from false e =
+        let after : line.cursor ≤ place = ltb-false place line.cursor e in
+        unless (LiesOn Forward line.cursor) _ (between (min place line.cursor) (max place line.cursor)) (omega arith)
+
 -- the range of each movement
 pub BeginningOfLine-side : (line : Line) → line.cursor ≤ length line.text → IfSome (killed line BeginningOfLine) (LiesOn Backward line.cursor)
 BeginningOfLine-side line within =
@@ -74,6 +85,9 @@ EndOfLine-side line = from (line.cursor == line_end line) refl
         → IfSome (option_or (cond b None (Some (between line.cursor (line_end line)))) (newline_at line.text (line_end line))) (LiesOn Forward line.cursor)
     from true e = unless (LiesOn Forward line.cursor) _ (between (line_end line) (line_end line + 1)) (sym (eqb-true line.cursor (line_end line) e))
     from false e = refl
+
+pub FirstNonBlank-side : (line : Line) → IfSome (killed line FirstNonBlank) (LiesOn (side_of_place line (first_nonblank line)) line.cursor)
+FirstNonBlank-side line = either_way-side line (first_nonblank line)
 
 pub BackwardWord-side : (line : Line) (n : ℕ) (word : Word) → IsUtf8 line.text → IsCharBoundary line.text line.cursor
     → IfSome (killed line (BackwardWord n word)) (LiesOn Backward line.cursor)

@@ -231,11 +231,17 @@ adds-before xs m n x lt e some h =
 
 -- ---- one change alone
 -- the last entry of the list
-last-split : (xs : List Change) (x : Change) → Some x ≡ slice_get xs (length xs - 1) → (front : List Change) × (xs ≡ front ++ x ∷ [])
+pub last-split : (xs : List Change) (x : Change) → Some x ≡ slice_get xs (length xs - 1) → (front : List Change) × (xs ≡ front ++ x ∷ [])
 last-split [] x e = cc
 last-split (y ∷ []) x e = ([], ap (λ z. z ∷ []) (same_Some y x (sym e)))
 last-split (y ∷ (z ∷ zs)) x e =
     let p = last-split (z ∷ zs) x (e ∙ ap (slice_get (y ∷ (z ∷ zs))) (two (length zs))) in (y ∷ p.0, ap (λ l. y ∷ l) p.1)
+
+pub none-last : (xs : List Change) → None ≡ slice_get xs (length xs - 1) → xs ≡ []
+none-last [] e = refl
+none-last (y ∷ []) e = cc
+none-last (y ∷ (z ∷ zs)) e =
+    let none : z ∷ zs ≡ [] = none-last (z ∷ zs) (e ∙ ap (slice_get (y ∷ (z ∷ zs))) (two (length zs))) in cc
 
 pub last-alone : (n : ℕ) (xs : List Change) (x : Change) → n ≤ 1 → Some x ≡ slice_get xs (length xs - 1) → is_change (entry_of x) ≡ true → last_of n (map entry_of xs) ≡ entry_of x ∷ []
 last-alone n xs x few e is =

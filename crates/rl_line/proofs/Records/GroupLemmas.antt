@@ -31,13 +31,17 @@ stays_quiet (End ∷ es) (false ∷ fs) gs c q h = cc
 stays_quiet (End ∷ es) (true ∷ fs) gs c q h = cc
 stays_quiet (Changed k s ∷ es) fs gs c q h = cc
 
-Settles-change : (es : List Entry) → Settles es → has_change es ≡ true
+-- entries by which an open group comes to hold a change
+pub touching : (es : List Entry) → marks es (false ∷ []) ≡ Some (true ∷ []) → has_change es ≡ true
 unfolding quiet
-Settles-change es s = go (has_change es) refl
+touching es flags = go (has_change es) refl
   where
     go : (b : Bool) → has_change es ≡ b → has_change es ≡ true
     go true e = e
-    go false e = let q = stays_quiet es (false ∷ []) (true ∷ []) e refl (s.flags (false ∷ [])) in cc
+    go false e = let q = stays_quiet es (false ∷ []) (true ∷ []) e refl flags in cc
+
+pub Settles-change : (es : List Entry) → Settles es → has_change es ≡ true
+Settles-change es s = touching es (s.flags (false ∷ []))
 
 -- what a close makes: whole units stand between the Begin and the End
 pub record Closes (us : List UndoUnit) (inner : List Entry) : Type 0 where
@@ -116,12 +120,12 @@ all_begins (End ∷ es) (true ∷ fs) c q h = cc
 all_begins (Changed k s ∷ es) fs c q h = cc
 
 -- a Begin at the end is what an end takes off
-end_one-begin : (es : List Entry) → end_one (es ++ Begin ∷ []) ≡ es
+pub end_one-begin : (es : List Entry) → end_one (es ++ Begin ∷ []) ≡ es
 end_one-begin [] = refl
 end_one-begin (e ∷ []) = end_one-cons e Begin []
 end_one-begin (e ∷ (d ∷ ds)) = end_one-cons e d (ds ++ Begin ∷ []) ∙ ap (λ x. e ∷ x) (end_one-begin (d ∷ ds))
 
-ends_in_begin-begin : (es : List Entry) → ends_in_begin (es ++ Begin ∷ []) ≡ true
+pub ends_in_begin-begin : (es : List Entry) → ends_in_begin (es ++ Begin ∷ []) ≡ true
 ends_in_begin-begin [] = refl
 ends_in_begin-begin (Begin ∷ []) = refl
 ends_in_begin-begin (End ∷ []) = refl
@@ -197,7 +201,7 @@ Inside-begun front r k = record {
   matched = IsMatched-begin k.inner k.matched;
 }
 
-Inside-steps : (steps : List InGroup) (front : List Entry) (r : Record) → Inside front r → Inside front (after_in_group steps r)
+pub Inside-steps : (steps : List InGroup) (front : List Entry) (r : Record) → Inside front r → Inside front (after_in_group steps r)
 Inside-steps [] front r k = k
 Inside-steps (Hears event ∷ steps) front r k = Inside-steps steps front (record_step r event) (Inside-event event front r k)
 Inside-steps (Begins ∷ steps) front r k = Inside-steps steps front (begun r) (Inside-begun front r k)

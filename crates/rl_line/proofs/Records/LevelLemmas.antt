@@ -8,11 +8,11 @@ use Rattle.std.specs.Prelude.{max}
 use Rattle.rl_base.specs.Event.{Event}
 use Rattle.rl_line.specs.declared.change.Change.{Change}
 use Rattle.rl_line.specs.Record.{Entry, Begin, End, Changed, Record, entries_after, entries_of, entry_of, joined, record_step, recorded_after}
-use Rattle.rl_line.specs.Units.{AtLevel, IsMatched, begun, ended, is_change, kept_of, last_of, level, mark, marks, opens, redo_of, redone, touched, truncated, undone, units}
+use Rattle.rl_line.specs.Units.{AtLevel, IsMatched, begun, is_change, kept_of, last_of, level, mark, marks, opens, redo_of, redone, touched, truncated, undone, units, with_closed}
 use Rattle.rl_line.specs.Entries.{deep}
 use Rattle.rl_line.proofs.Records.CountLemmas.{level-counted}
 use Rattle.rl_line.proofs.Records.EntryLemmas.{deep-append}
-use Rattle.rl_line.proofs.Records.MatchLemmas.{AllGood-take, BothMatched-begun, BothMatched-ended, BothMatched-redone, BothMatched-step, BothMatched-truncated, BothMatched-undone, Lower-end_times, Redoes-of, length-touched, level-is, marks-last}
+use Rattle.rl_line.proofs.Records.MatchLemmas.{AllGood-take, BothMatched-begun, BothMatched-closed, BothMatched-redone, BothMatched-step, BothMatched-truncated, BothMatched-undone, Lower-end_times, Redoes-of, length-touched, level-is, marks-last}
 use Rattle.rl_line.proofs.Records.RecordLemmas.{joins, none_or_one, value_of}
 use Rattle.rl_line.proofs.Records.UnitLemmas.{IsMatched-front, IsMatched-together, cut_more-append, kept-last, opens-append, units-append, units-good}
 use Rattle.rl_line.proofs.Records.ToldLemmas.{recorded-cases, last_told-deep}
@@ -69,10 +69,12 @@ level-within es h = omega (arith, level-counted es h, deep-within 0 es)
 pub AtLevel-begun : (n : ℕ) (r : Record) → AtLevel n r → AtLevel (n + 1) (begun r)
 AtLevel-begun n r a = record { matched = BothMatched-begun r a.matched; level = omega (arith, a.level, level-begin r.recorded) }
 
-pub AtLevel-ended : (n : ℕ) (r : Record) → AtLevel n r → AtLevel 0 (ended r)
-AtLevel-ended n r a = record {
-  matched = BothMatched-ended r a.matched;
-  level = sym (Lower-end_times (level r.recorded) r.recorded a.matched.recorded refl).level_is;
+pub AtLevel-closed : (count n : ℕ) (r : Record) → count ≤ level r.recorded → AtLevel n r → AtLevel (n - count) (with_closed count r)
+AtLevel-closed count n r few a = record {
+  matched = BothMatched-closed count r few a.matched;
+  level =
+      let left : level r.recorded ≡ count + (n - count) = omega (arith, few, a.level) in
+      sym (Lower-end_times count (n - count) r.recorded a.matched.recorded left).level_is;
 }
 
 -- ---- units that are moved

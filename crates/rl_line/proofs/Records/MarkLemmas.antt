@@ -8,7 +8,7 @@ use Rattle.rl_base.specs.Event.{apply}
 use Rattle.rl_line.specs.Line.{Line}
 use Rattle.rl_line.specs.Record.{Entry, Begin, End, Changed, Record, event_of, inverse, agree, replays_to, unwind}
 use Rattle.rl_line.specs.Undo.{Redone}
-use Rattle.rl_line.specs.Units.{UndoUnit, Open, Whole, units, together, level, begun, end_one, end_times, ended, redo_from, redo_of, truncated}
+use Rattle.rl_line.specs.Units.{UndoUnit, Open, Whole, units, together, begun, end_one, end_times, redo_from, redo_of, truncated, with_closed}
 use Rattle.rl_line.proofs.Records.OriginLemmas.{Kept}
 use Rattle.rl_line.proofs.Records.RecordLemmas.{replay-IsUtf8, unwind-append, unwind-replay}
 use Rattle.rl_line.proofs.Records.UndoLemmas.{line_ahead-replay}
@@ -30,9 +30,6 @@ unwind-end_one (e ∷ (d ∷ ds)) text = ap (option_and_then (apply (event_of (i
 unwind-end_times : (n : ℕ) (es : List Entry) (text : List ℕ) → unwind (end_times n es) text ≡ unwind es text
 unwind-end_times zero es text = refl
 unwind-end_times (suc n) es text = unwind-end_times n (end_one es) text ∙ unwind-end_one es text
-
-pub unwind-ended : (r : Record) (text : List ℕ) → unwind (ended r).recorded text ≡ unwind r.recorded text
-unwind-ended r text = unwind-end_times (level r.recorded) r.recorded text
 
 agree-same : (o p : Option (List ℕ)) → agree o p ≡ true → o ≡ p
 agree-same (Some a) (Some b) h = ap (λ t. Some t) (same_text a b (sym h))
@@ -64,8 +61,8 @@ unwind-redone r now old new x u d =
 pub Kept-begun : (r : Record) (line : Line) → IsUtf8 line.text → Kept r (begun r) line line
 Kept-begun r line u = record { origin_is = λ start e. unwind-begun r line.text ∙ e; utf8 = u }
 
-pub Kept-ended : (r : Record) (line : Line) → IsUtf8 line.text → Kept r (ended r) line line
-Kept-ended r line u = record { origin_is = λ start e. unwind-ended r line.text ∙ e; utf8 = u }
+pub Kept-closed : (n : ℕ) (r : Record) (line : Line) → IsUtf8 line.text → Kept r (with_closed n r) line line
+Kept-closed n r line u = record { origin_is = λ start e. unwind-end_times n r.recorded line.text ∙ e; utf8 = u }
 
 pub Kept-truncated : (len : ℕ) (r : Record) (line : Line) → IsUtf8 line.text → replays_to len r line.text ≡ true → Kept r (truncated len r) line line
 Kept-truncated len r line u h = record { origin_is = λ start e. unwind-truncated len r line.text h ∙ e; utf8 = u }

@@ -1,12 +1,12 @@
 -- Every operation keeps the marks matched, and a change in each closed group.
-use Rattle.std.proofs.Common.{◌≡◌, ℕ, suc, arith, Bool, true, false, List, [], ◌∷◌, ◌++◌, length, take, drop, reverse, Option, Some, None, refl, sym, ap, subst, ◌∙◌, ◌⊎◌, inl, inr, append-nil, drop_at}
+use Rattle.std.proofs.Common.{◌≡◌, ℕ, ◌+◌, ◌-◌, ◌≤◌, suc, arith, Bool, true, false, List, [], ◌∷◌, ◌++◌, length, take, drop, reverse, Option, Some, None, refl, sym, ap, subst, ◌∙◌, ◌⊎◌, inl, inr, append-nil, drop_at}
 use Rattle.std.proofs.lemmas.List.{take-append-drop, reverse-append, reverse-reverse}
 use Rattle.std.specs.Option.{option_map_or}
 use Rattle.std.specs.Prelude.{option_and_then, IsSome, zero, max}
 use Rattle.rl_base.proofs.Texts.SwapLemmas.{some_is}
 use Rattle.rl_base.specs.Event.{Event, InsertChar, InsertStr, Delete, Replace, Start, Stop, Cursors}
 use Rattle.rl_line.specs.Record.{Entry, Begin, End, Changed, Record, entries_of, joined, entries_after, pending_after, record_step}
-use Rattle.rl_line.specs.Units.{UndoUnit, Open, Whole, units, together, opens, level, last_of, kept_of, redo_from, redo_of, end_one, end_times, begun, ended, undone, redone, truncated, touched, mark, marks, IsMatched, BothMatched}
+use Rattle.rl_line.specs.Units.{UndoUnit, Open, Whole, units, together, opens, level, last_of, kept_of, redo_from, redo_of, end_one, end_times, begun, undone, redone, truncated, with_closed, touched, mark, marks, IsMatched, BothMatched}
 use Rattle.rl_line.proofs.Records.RecordLemmas.{joins, none_or_one, through, value_of}
 use Rattle.rl_line.proofs.Records.UnitLemmas.{AllGood, flags_on, marks-append, IsMatched-front, IsMatched-append, IsMatched-together, AllGood-left, AllGood-right, units-good, together-units, together-append, kept-last, cut_good}
 use Rattle.rl_line.proofs.Records.ToldLemmas.{recorded-cases, last_told-marks}
@@ -162,13 +162,13 @@ Lower-end_one (e ∷ es) n h k =
         let l = marks-last c.front c.last fs (ap (λ x. marks x []) (sym c.list_is) ∙ j) in
         subst (λ x. Lower x n) (sym c.after_is) (closes fs j long (mark_other c.last l.0 fs c.other l.2))
 
-pub Lower-end_times : (n : ℕ) (es : List Entry) → IsMatched es → level es ≡ n → Lower (end_times n es) 0
-Lower-end_times zero es h k = record { matched = h; level_is = k }
-Lower-end_times (suc n) es h k = let l = Lower-end_one es n h k in Lower-end_times n (end_one es) l.matched l.level_is
+pub Lower-end_times : (n left : ℕ) (es : List Entry) → IsMatched es → level es ≡ n + left → Lower (end_times n es) left
+Lower-end_times zero left es h k = record { matched = h; level_is = omega (arith, k) }
+Lower-end_times (suc n) left es h k = let l = Lower-end_one es (n + left) h (omega (arith, k)) in Lower-end_times n left (end_one es) l.matched l.level_is
 
--- an end closes all groups
-pub BothMatched-ended : (r : Record) → BothMatched r → BothMatched (ended r)
-BothMatched-ended r b = record { recorded = (Lower-end_times (level r.recorded) r.recorded b.recorded refl).matched; pending = refl }
+-- so many groups are closed, as long as there are so many
+pub BothMatched-closed : (n : ℕ) (r : Record) → n ≤ level r.recorded → BothMatched r → BothMatched (with_closed n r)
+BothMatched-closed n r few b = record { recorded = (Lower-end_times n (level r.recorded - n) r.recorded b.recorded (omega (arith, few))).matched; pending = refl }
 
 pub AllGood-take : (n : ℕ) (us : List UndoUnit) → AllGood us → AllGood (take n us)
 AllGood-take n us g = AllGood-left (take n us) (drop n us) (subst AllGood (sym (take-append-drop n us)) g)

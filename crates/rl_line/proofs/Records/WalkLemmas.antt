@@ -16,7 +16,7 @@ use Rattle.rl_line.specs.Line.{Line, stepped}
 use Rattle.rl_line.specs.Plan.{Step, Plan, after, listener_after, listener_after_step, Taken, Done, Halted}
 use Rattle.rl_line.specs.Record.{Kind, Swap, Entry, Begin, End, Changed, Record, cursors_of, entries_after, entries_of, entries_told, event_of, freshness_added, freshness_joined, freshness_of, inverse, joined, record_step, replay_entries, replays_to, unwind, with_cursors}
 use Rattle.rl_line.specs.Undo.{cursor_after, cursor_told, line_ahead, line_back, Redone, Undone, cursor_stands}
-use Rattle.rl_line.specs.Units.{begun, end_one, end_times, ended, kept_of, last_of, level, redo_of, truncated}
+use Rattle.rl_line.specs.Units.{begun, end_one, end_times, kept_of, last_of, redo_of, truncated, with_closed}
 use Rattle.rl_line.specs.Walk.{LeadsTo, Walk, Walks}
 use Rattle.rl_line.proofs.Records.JoinLemmas.{record_step-Start, record_step-Stop}
 use Rattle.rl_line.proofs.Records.MarkLemmas.{redo-parts, unwind-truncated}
@@ -264,9 +264,9 @@ Walk-end_times : (n : ℕ) (es : List Entry) (x y : List ℕ) → Walk es x y �
 Walk-end_times zero es x y w = w
 Walk-end_times (suc n) es x y w = Walk-end_times n (end_one es) x y (Walk-end_one es x y w)
 
-pub Walks-ended : (r : Record) (text : List ℕ) → Walks r text → Walks (ended r) text
-Walks-ended r text w =
-    record { start = w.start; is_text = w.is_text; back = Walk-end_times (level r.recorded) r.recorded w.start text w.back; end = text; ahead = refl; stale = refl }
+pub Walks-closed : (n : ℕ) (r : Record) (text : List ℕ) → Walks r text → Walks (with_closed n r) text
+Walks-closed n r text w =
+    record { start = w.start; is_text = w.is_text; back = Walk-end_times n r.recorded w.start text w.back; end = text; ahead = refl; stale = refl }
 
 -- entries that lead to the text by themselves pass through the same texts
 pub Walks-truncated : (len : ℕ) (r : Record) (text : List ℕ) → replays_to len r text ≡ true → Walks r text → Walks (truncated len r) text

@@ -1,5 +1,5 @@
 //! Copying, deleting and killing by a movement.
-ghost use Rattle.std.specs.Prelude.{◌≡◌, ◌<◌, ◌↔◌, length, OnErr, ◌∷◌, [], ℕ, List, true, Some, None, IfOk, IfErr, IsSome};
+ghost use Rattle.std.specs.Prelude.{◌≡◌, ◌<◌, ◌↔◌, length, OnErr, ◌∷◌, [], ℕ, List, true, false, Some, None, IfOk, IfErr, IfSome, IsSome};
 ghost use Rattle.std.specs.Option.{option_map};
 ghost use Rattle.std.specs.String.{string_bytes};
 ghost use Rattle.rl_base.specs.Event.{Delete};
@@ -9,7 +9,7 @@ ghost use Rattle.rl_base.specs.declared.motion.Movement.{Movement};
 ghost use Rattle.rl_base.specs.declared.motion.Movement.TheVariants.{BeginningOfLine, EndOfLine, BackwardWord, ForwardWord, ViCharSearch, BackwardChar, BeginningOfBuffer, EndOfBuffer};
 ghost use Rattle.rl_line.specs.Line.{Line};
 ghost use Rattle.rl_line.specs.Plan.{Done, Halted, Stopped};
-ghost use Rattle.rl_line.specs.Kills.{Told, copied, delete_plan, is_by_characters, is_exact, kill_plan, side_of};
+ghost use Rattle.rl_line.specs.Kills.{Told, copied, delete_plan, is_by_characters, is_exact, kill_plan, kill_range_plan, removal, side_of, side_of_place};
 ghost use Rattle.rl_line.specs.Ranges.{text_in};
 ghost use Rattle.rl_line.specs.LineRanges.{IsRange};
 
@@ -62,6 +62,77 @@ impl LineBuffer {
         }
     }
 
+    // The side of the cursor that a movement takes text from.
+    fn side_of(&self, mvt: &Movement) -> Direction
+        ensures { result ≡ side_of self.now mvt.now }
+    {
+        match mvt {
+            Movement::BeginningOfLine
+            | Movement::BackwardWord(_, _)
+            | Movement::ViCharSearch(_, CharSearch::Backward(_) | CharSearch::BackwardAfter(_))
+            | Movement::BackwardChar(_)
+            | Movement::BeginningOfBuffer => Direction::Backward,
+            Movement::FirstNonBlank => self.side_of_place(self.first_nonblank()),
+            Movement::WholeLine
+            | Movement::EndOfLine
+            | Movement::ForwardWord(_, _, _)
+            | Movement::ViCharSearch(_, CharSearch::Forward(_) | CharSearch::ForwardBefore(_))
+            | Movement::ViFirstPrint
+            | Movement::ForwardChar(_)
+            | Movement::LineUp(_)
+            | Movement::LineDown(_)
+            | Movement::WholeBuffer
+            | Movement::EndOfBuffer => Direction::Forward,
+        }
+    }
+
+    // The side of the cursor on which a place lies.
+    fn side_of_place(&self, place: usize) -> Direction
+        ensures { result ≡ side_of_place self.now place }
+    {
+        if place < self.pos() {
+            return Direction::Backward;
+        }
+        Direction::Forward
+    }
+
+    // Deletes a range, if there is one. Answers whether there is.
+    fn remove<L: DeleteListener>(
+        &mut self,
+        range: Option<Range<usize>>,
+        side: Direction,
+        listener: &mut L,
+    ) -> Result<bool, Refusal>
+        requires { IfSome range (λ r. IsRange self.old.text r.start r.end) }
+        ensures done { IfOk result (λ answer. Done L.step (removal self.old range side) self.old self.new listener.old listener.new answer) }
+        ensures halted { IfErr result (λ r. Halted L.step L.refused (removal self.old range side) self.old self.new listener.old listener.new r) }
+    {
+        match range {
+            Some(range) => {
+                self.take_out(range, side, listener)?;
+                Ok(true)
+            }
+            None => Ok(false),
+        }
+    }
+
+    // The same as a kill: the listener hears its start first and its end last.
+    fn kill_some<L: DeleteListener>(
+        &mut self,
+        range: Option<Range<usize>>,
+        side: Direction,
+        listener: &mut L,
+    ) -> Result<bool, Refusal>
+        requires { IfSome range (λ r. IsRange self.old.text r.start r.end) }
+        ensures done { IfOk result (λ answer. Told L.step false (λ before now. Done L.step (removal self.old range side) self.old self.new before now answer) listener.old listener.new) }
+        ensures halted { IfErr result (λ r. Told L.step false (λ before now. Halted L.step L.refused (removal self.old range side) self.old self.new before now r) listener.old listener.new) }
+    {
+        listener.start_killing();
+        let answer = self.remove(range, side, listener);
+        listener.stop_killing();
+        answer
+    }
+
     // Deletes what a movement kills, if anything. Answers whether there was something.
     fn delete_by<L: DeleteListener>(
         &mut self,
@@ -71,13 +142,9 @@ impl LineBuffer {
         ensures done { IfOk result (λ answer. Done L.step (kill_plan self.old mvt.now) self.old self.new listener.old listener.new answer) }
         ensures halted { IfErr result (λ r. Halted L.step L.refused (kill_plan self.old mvt.now) self.old self.new listener.old listener.new r) }
     {
-        match self.killed(mvt) {
-            Some(range) => {
-                self.take_out(range, side_of(mvt), listener)?;
-                Ok(true)
-            }
-            None => Ok(false),
-        }
+        let side = self.side_of(mvt);
+        let range = self.killed(mvt);
+        self.remove(range, side, listener)
     }
 
     /// Kills by a movement: deletes what it covers. Where that is nothing, `WholeLine` and `EndOfLine` kill the
@@ -96,10 +163,27 @@ impl LineBuffer {
         if is_by_characters(mvt) {
             return self.delete_by(mvt, listener);
         }
-        listener.start_killing();
-        let answer = self.delete_by(mvt, listener);
-        listener.stop_killing();
-        answer
+        let side = self.side_of(mvt);
+        let range = self.killed(mvt);
+        self.kill_some(range, side, listener)
+    }
+
+    /// Kills a range of byte places as a kill by a movement does: the listener hears the start of a kill, the deletion
+    /// with the given direction, and the end. Moves the cursor to the range's start, and answers true; where the range
+    /// is empty it stays, and the answer is false. It takes no memory; where its listener refuses, the line stays as it
+    /// was.
+    pub fn kill_range<L: DeleteListener>(
+        &mut self,
+        range: Range<usize>,
+        dir: Direction,
+        listener: &mut L,
+    ) -> Result<bool, Refusal>
+        requires { IsRange self.old.text range.start range.end }
+        ensures done { IfOk result (λ answer. Told L.step false (λ before now. Done L.step (kill_range_plan self.old range.start range.end dir) self.old self.new before now answer) listener.old listener.new) }
+        ensures halted { IfErr result (λ r. Told L.step false (λ before now. Halted L.step L.refused (kill_range_plan self.old range.start range.end dir) self.old self.new before now r) listener.old listener.new) }
+    {
+        let some = self.unless_empty(range.start, range.end);
+        self.kill_some(some, dir, listener)
     }
 
     /// Deletes the last `n` grapheme clusters before the cursor (GNU readline: backward-delete-char).
@@ -200,29 +284,6 @@ impl LineBuffer {
     }
 }
 
-// The side of the cursor that a movement takes text from.
-fn side_of(mvt: &Movement) -> Direction
-    ensures { result ≡ side_of mvt.now }
-{
-    match mvt {
-        Movement::BeginningOfLine
-        | Movement::BackwardWord(_, _)
-        | Movement::ViCharSearch(_, CharSearch::Backward(_) | CharSearch::BackwardAfter(_))
-        | Movement::BackwardChar(_)
-        | Movement::BeginningOfBuffer => Direction::Backward,
-        Movement::WholeLine
-        | Movement::EndOfLine
-        | Movement::ForwardWord(_, _, _)
-        | Movement::ViCharSearch(_, CharSearch::Forward(_) | CharSearch::ForwardBefore(_))
-        | Movement::ViFirstPrint
-        | Movement::ForwardChar(_)
-        | Movement::LineUp(_)
-        | Movement::LineDown(_)
-        | Movement::WholeBuffer
-        | Movement::EndOfBuffer => Direction::Forward,
-    }
-}
-
 fn is_by_characters(mvt: &Movement) -> bool
     ensures { result ≡ is_by_characters mvt.now }
 {
@@ -235,6 +296,6 @@ fn is_by_characters(mvt: &Movement) -> bool
 pub fn kill_agrees_with_copy()
     ensures answer { (line : Line) (mvt : Movement) → is_exact mvt ≡ true → ((kill_plan line mvt).answer ≡ true) ↔ IsSome (copied line mvt) }
     ensures text { (line : Line) (mvt : Movement) (s : List ℕ) → is_exact mvt ≡ true → copied line mvt ≡ Some s
-        → (place : ℕ) × ((kill_plan line mvt).steps ≡ (Delete place s (side_of mvt), place) ∷ []) }
+        → (place : ℕ) × ((kill_plan line mvt).steps ≡ (Delete place s (side_of line mvt), place) ∷ []) }
     ensures nothing { (line : Line) (mvt : Movement) → is_exact mvt ≡ true → copied line mvt ≡ None → (kill_plan line mvt).steps ≡ [] }
 {}

@@ -2,7 +2,7 @@
 ghost use Rattle.std.specs.Prelude.{◌≡◌, ◌≤◌, IfSome};
 ghost use Rattle.std.specs.Str.{IsCharBoundary};
 ghost use Rattle.rl_base.specs.Lines.{last_line, line_number, place_of_column};
-ghost use Rattle.rl_line.specs.LineMotions.{column_above, column_below, columns_before, home, line_end, place_above, place_below, place_in_line};
+ghost use Rattle.rl_line.specs.LineMotions.{column_above, column_below, columns_before, first_nonblank, home, line_end, place_above, place_below, place_in_line};
 ghost use Rattle.rl_line.specs.Motions.{Moved, unless_there};
 
 use crate::line_buffer::LineBuffer;
@@ -48,7 +48,19 @@ impl LineBuffer {
         self.move_to_place(place)
     }
 
-    fn place_above(&self, n: RepeatCount, layout: &Layout) -> Option<usize>
+    // The first character of the cursor's line that is no blank, or the line's end where there is none.
+    pub(super) fn first_nonblank(&self) -> usize
+        ensures value { result ≡ first_nonblank self.now }
+        ensures boundary { IsCharBoundary self.now.text result }
+    {
+        let k = self.line_number();
+        let start = self.start_of_line(k);
+        let text = &self.as_str()[start..self.end_of_line(k)];
+        start + (text.len() - text.trim_start().len())
+    }
+
+    // The place that a motion up by `n` lines goes to.
+    pub(super) fn place_above(&self, n: RepeatCount, layout: &Layout) -> Option<usize>
         ensures value { result ≡ place_above layout.now self.now.text self.now.cursor n }
         ensures boundary { IfSome result (IsCharBoundary self.now.text) }
     {
@@ -58,7 +70,8 @@ impl LineBuffer {
         Some(self.place_in_line(target, column))
     }
 
-    fn place_below(&self, n: RepeatCount, layout: &Layout) -> Option<usize>
+    // The place that a motion down by `n` lines goes to.
+    pub(super) fn place_below(&self, n: RepeatCount, layout: &Layout) -> Option<usize>
         ensures value { result ≡ place_below layout.now self.now.text self.now.cursor n }
         ensures boundary { IfSome result (IsCharBoundary self.now.text) }
     {

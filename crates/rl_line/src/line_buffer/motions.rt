@@ -4,11 +4,11 @@ ghost use Rattle.std.specs.Str.{IsCharBoundary};
 ghost use Rattle.rl_base.specs.Clusters.{next_pos, prev_pos};
 ghost use Rattle.rl_base.specs.Words.{next_word, prev_word};
 ghost use Rattle.rl_base.specs.Search.{find_place};
-ghost use Rattle.rl_line.specs.Motions.{Moved, unless_there, IsEndOfInput};
+ghost use Rattle.rl_line.specs.Motions.{Moved, destination, unless_there, IsEndOfInput};
 
 use crate::line_buffer::LineBuffer;
 use rl_base::places::{find_place, next_pos, next_word, prev_pos, prev_word};
-use rl_base::{At, CharSearch, RepeatCount, Word};
+use rl_base::{At, CharSearch, Layout, Movement, RepeatCount, Word};
 
 impl LineBuffer {
     /// Whether nothing but blanks stands from the cursor on.
@@ -46,10 +46,54 @@ impl LineBuffer {
         requires { IsCharBoundary self.old.text place }
         ensures { Moved (unless_there self.old place) self.old self.new result }
     {
-        if self.pos == place {
-            return false;
+        let place = self.unless_there(place);
+        self.move_to_place(place)
+    }
+
+    // The place, where the cursor is elsewhere.
+    fn unless_there(&self, place: usize) -> Option<usize>
+        requires { IsCharBoundary self.now.text place }
+        ensures value { result ≡ unless_there self.now place }
+        ensures boundary { IfSome result (IsCharBoundary self.now.text) }
+    {
+        if self.pos() == place {
+            return None;
         }
-        self.move_to_place(Some(place))
+        Some(place)
+    }
+
+    /// The byte place that a motion by the movement goes to. None where there is none, and where the cursor stands there
+    /// already; `WholeLine`, `WholeBuffer` and `ViFirstPrint` lead nowhere. The layout counts columns, as for
+    /// `move_to_line_up`.
+    pub fn destination(&self, mvt: &Movement, layout: &Layout) -> Option<usize>
+        ensures value { result ≡ destination layout.now self.now mvt.now }
+        ensures boundary { IfSome result (IsCharBoundary self.now.text) }
+    {
+        let text = self.as_str();
+        let at = self.pos();
+        match mvt {
+            Movement::BeginningOfLine => self.unless_there(self.home()),
+            Movement::EndOfLine => self.unless_there(self.line_end()),
+            Movement::FirstNonBlank => self.unless_there(self.first_nonblank()),
+            Movement::BackwardWord(n, word) => prev_word(text, at, *word, *n),
+            Movement::ForwardWord(n, stop, word) => next_word(text, at, *stop, *word, *n),
+            Movement::ViCharSearch(n, cs) => find_place(text, at, *cs, *n),
+            Movement::BackwardChar(n) => prev_pos(text, at, *n),
+            Movement::ForwardChar(n) => next_pos(text, at, *n),
+            Movement::LineUp(n) => self.place_above(*n, layout),
+            Movement::LineDown(n) => self.place_below(*n, layout),
+            Movement::BeginningOfBuffer => self.unless_there(0),
+            Movement::EndOfBuffer => self.unless_there(text.len()),
+            Movement::WholeLine | Movement::ViFirstPrint | Movement::WholeBuffer => None,
+        }
+    }
+
+    /// Moves by the movement: to its `destination`, if there is one. Answers whether there is.
+    pub fn move_by(&mut self, mvt: &Movement, layout: &Layout) -> bool
+        ensures { Moved (destination layout.now self.old mvt.now) self.old self.new result }
+    {
+        let place = self.destination(mvt, layout);
+        self.move_to_place(place)
     }
 
     /// Moves back by `n` grapheme clusters, or to the start (GNU readline: backward-char). Answers whether

@@ -4,7 +4,7 @@ ghost use Rattle.std.specs.Option.{option_map};
 ghost use Rattle.std.specs.Str.{IsCharBoundary};
 ghost use Rattle.rl_base.specs.Search.{chosen_hit};
 ghost use Rattle.rl_line.specs.LineMotions.{line_end};
-ghost use Rattle.rl_line.specs.Ranges.{covered, from_first_print, indented, killed, lines_down, lines_up, newline_at, to_hit, unless_empty};
+ghost use Rattle.rl_line.specs.Ranges.{covered, either_way, from_first_print, indented, killed, lines_down, lines_up, newline_at, to_hit, unless_empty};
 
 use crate::line_buffer::LineBuffer;
 use rl_base::places::{next_pos, next_word, prev_pos, prev_word, search};
@@ -12,8 +12,8 @@ use rl_base::{At, CharSearch, Movement, RepeatCount, Word};
 use std::ops::Range;
 
 impl LineBuffer {
-    // What the movement covers.
-    pub(super) fn covered(&self, mvt: &Movement) -> Option<Range<usize>>
+    /// The byte range that the movement covers, whose text `copy` copies. None where that is nothing.
+    pub fn covered(&self, mvt: &Movement) -> Option<Range<usize>>
         ensures value { result ≡ covered self.now mvt.now }
         ensures order { IfSome result (λ r. r.start ≤ r.end) }
         ensures start { IfSome result (λ r. IsCharBoundary self.now.text r.start) }
@@ -31,6 +31,7 @@ impl LineBuffer {
             }
             Movement::ViCharSearch(n, cs) => to_hit(text, at, *cs, *n),
             Movement::ViFirstPrint => from_first_print(text, at),
+            Movement::FirstNonBlank => self.either_way(self.first_nonblank()),
             Movement::BackwardChar(n) => Some(prev_pos(text, at, *n)?..at),
             Movement::ForwardChar(n) => Some(at..next_pos(text, at, *n)?),
             Movement::LineUp(n) => self.lines_up(*n),
@@ -61,6 +62,7 @@ impl LineBuffer {
             Movement::BackwardWord(_, _)
             | Movement::ForwardWord(_, _, _)
             | Movement::ViCharSearch(_, _)
+            | Movement::FirstNonBlank
             | Movement::BackwardChar(_)
             | Movement::ForwardChar(_)
             | Movement::LineUp(_)
@@ -85,6 +87,7 @@ impl LineBuffer {
             | Movement::EndOfLine
             | Movement::ViCharSearch(_, _)
             | Movement::ViFirstPrint
+            | Movement::FirstNonBlank
             | Movement::BackwardChar(_)
             | Movement::ForwardChar(_) => at..at,
             Movement::BackwardWord(_, _)
@@ -143,8 +146,23 @@ impl LineBuffer {
         Some(start..self.after_line(final_line))
     }
 
+    // Between a place and the cursor, whichever comes first.
+    fn either_way(&self, place: usize) -> Option<Range<usize>>
+        requires { IsCharBoundary self.now.text place }
+        ensures value { result ≡ either_way self.now place }
+        ensures order { IfSome result (λ r. r.start ≤ r.end) }
+        ensures start { IfSome result (λ r. IsCharBoundary self.now.text r.start) }
+        ensures end { IfSome result (λ r. IsCharBoundary self.now.text r.end) }
+    {
+        let at = self.pos();
+        if place < at {
+            return self.unless_empty(place, at);
+        }
+        self.unless_empty(at, place)
+    }
+
     // A range of the text, unless it is empty.
-    fn unless_empty(&self, start: usize, end: usize) -> Option<Range<usize>>
+    pub(super) fn unless_empty(&self, start: usize, end: usize) -> Option<Range<usize>>
         requires order { start ≤ end }
         requires start { IsCharBoundary self.now.text start }
         requires end { IsCharBoundary self.now.text end }

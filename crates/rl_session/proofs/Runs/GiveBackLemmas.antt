@@ -16,11 +16,11 @@ use Rattle.rl_base.specs.declared.listeners.Direction.TheVariants.{Forward}
 use Rattle.rl_base.specs.declared.motion.Movement.TheVariants.{BackwardChar, EndOfLine, EndOfBuffer, BeginningOfLine, BeginningOfBuffer, BackwardWord, ForwardWord, ViCharSearch}
 use Rattle.rl_base.specs.declared.motion.WordAction.{WordAction}
 use Rattle.rl_base.specs.declared.motion.WordAction.TheVariants.{Capitalize, Lowercase, Uppercase}
-use Rattle.rl_line.specs.Kills.{is_by_characters, kill_plan, removal, side_of}
+use Rattle.rl_line.specs.Kills.{is_by_characters, kill_plan, kill_range_plan, removal, side_of}
 use Rattle.rl_line.specs.LetterCase.{edit_word_plan, put_for, recased, word_ahead}
 use Rattle.rl_line.specs.Line.{Line}
 use Rattle.rl_line.specs.Plan.{Step as PlanStep, Plan, single, listener_after, listener_after_step, Done}
-use Rattle.rl_line.specs.Ranges.{killed, text_in}
+use Rattle.rl_line.specs.Ranges.{killed, text_in, unless_empty}
 use Rattle.rl_line.specs.Record.{Entry, Begin, End, Changed, Record, cursors_of, entries_after, entries_of, entries_told, event_of, inverse, record_step}
 use Rattle.rl_line.specs.Undo.{cursor_after, cursor_told, line_after, line_ahead, line_back, place_after, Redone, Undone}
 use Rattle.rl_line.specs.Units.{is_change, last_of, redo_of}
@@ -204,14 +204,14 @@ asks-quietly line r e (asks.InsertStr i s) u at = λ adds. Settles-insert_str li
 asks-quietly line r e (asks.Replace i j s) u at = λ adds. Settles-replace line i j (string_bytes s)
 asks-quietly line r e (asks.DeleteRange i j) u at = once line r e _ i tt tt
 asks-quietly line r e (asks.Delete n) u at = λ adds. Settles-delete line n
-asks-quietly line r e (asks.Backspace n) u at = removed line r e (killed line (BackwardChar n)) (side_of (BackwardChar n))
-asks-quietly line r e asks.KillLine u at = removed line r e (killed line EndOfLine) (side_of EndOfLine)
-asks-quietly line r e asks.KillBuffer u at = removed line r e (killed line EndOfBuffer) (side_of EndOfBuffer)
-asks-quietly line r e asks.DiscardLine u at = removed line r e (killed line BeginningOfLine) (side_of BeginningOfLine)
-asks-quietly line r e asks.DiscardBuffer u at = removed line r e (killed line BeginningOfBuffer) (side_of BeginningOfBuffer)
-asks-quietly line r e (asks.DeletePrevWord word n) u at = removed line r e (killed line (BackwardWord n word)) (side_of (BackwardWord n word))
-asks-quietly line r e (asks.DeleteWord place word n) u at = removed line r e (killed line (ForwardWord n place word)) (side_of (ForwardWord n place word))
-asks-quietly line r e (asks.DeleteTo cs n) u at = removed line r e (killed line (ViCharSearch n cs)) (side_of (ViCharSearch n cs))
+asks-quietly line r e (asks.Backspace n) u at = removed line r e (killed line (BackwardChar n)) (side_of line (BackwardChar n))
+asks-quietly line r e asks.KillLine u at = removed line r e (killed line EndOfLine) (side_of line EndOfLine)
+asks-quietly line r e asks.KillBuffer u at = removed line r e (killed line EndOfBuffer) (side_of line EndOfBuffer)
+asks-quietly line r e asks.DiscardLine u at = removed line r e (killed line BeginningOfLine) (side_of line BeginningOfLine)
+asks-quietly line r e asks.DiscardBuffer u at = removed line r e (killed line BeginningOfBuffer) (side_of line BeginningOfBuffer)
+asks-quietly line r e (asks.DeletePrevWord word n) u at = removed line r e (killed line (BackwardWord n word)) (side_of line (BackwardWord n word))
+asks-quietly line r e (asks.DeleteWord place word n) u at = removed line r e (killed line (ForwardWord n place word)) (side_of line (ForwardWord n place word))
+asks-quietly line r e (asks.DeleteTo cs n) u at = removed line r e (killed line (ViCharSearch n cs)) (side_of line (ViCharSearch n cs))
 asks-quietly line r e asks.TransposeChars u at = λ adds. Settles-transpose_chars line clusters-some u at
 asks-quietly line r e (asks.TransposeWords n) u at = λ adds. Settles-transpose_words line n places-before_end u at
 asks-quietly line r e (asks.Indent m amount dedent) u at = λ adds. Settles-indent line m amount dedent
@@ -242,8 +242,11 @@ other-adds old (asks.EditWord action) (says.Answer a) new e u at i d w adds =
     (respelled old.line old.pair.changes e action (word_ahead old.line) d.made (λ word found. d.ascii word found (i word found))) d.holds adds
 other-adds old (asks.EditWord action) (says.Refused f) new e u at i d w adds = absurd (w tt)
 other-adds old (asks.Kill m) (says.Answer a) new e u at i d w adds =
-    kill-adds (is_by_characters m) (kill_plan old.line m) old new a e u (λ r. removed old.line r e (killed old.line m) (side_of m)) d adds
+    kill-adds (is_by_characters m) (kill_plan old.line m) old new a e u (λ r. removed old.line r e (killed old.line m) (side_of old.line m)) d adds
 other-adds old (asks.Kill m) (says.Refused f) new e u at i d w adds = absurd (w tt)
+other-adds old (asks.KillRange i j side) (says.Answer a) new e u at c d w adds =
+    kill-adds false (kill_range_plan old.line i j side) old new a e u (λ r. removed old.line r e (unless_empty i j) side) d.1 adds
+other-adds old (asks.KillRange i j side) (says.Refused f) new e u at c d w adds = absurd (w tt)
 other-adds old (asks.Yank n) (says.Inserted a) new e u at i d w adds =
     edited-adds (lent_plan old.line (yank old.pair.ring) n) (lent old) new a e u (λ one. lent-quietly old.line (yank old.pair.ring) n) d adds
 other-adds old (asks.Yank n) (says.Refused f) new e u at i d w adds = absurd (w tt)
@@ -255,9 +258,11 @@ other-adds old (asks.Move m) reply new e u at i d w adds = absurd i
 other-adds old (asks.Copy m) reply new e u at i d w adds = absurd i
 other-adds old asks.Begin reply new e u at i d w adds = absurd i
 other-adds old asks.End reply new e u at i d w adds = absurd i
+other-adds old asks.EndOne reply new e u at i d w adds = absurd i
 other-adds old (asks.Undo n) reply new e u at i d w adds = absurd i
 other-adds old asks.Redo reply new e u at i d w adds = absurd i
 other-adds old (asks.Truncate len) reply new e u at i d w adds = absurd i
+other-adds old (asks.Keep t) reply new e u at i d w adds = absurd i
 other-adds old asks.LinePlace reply new e u at i d w adds = absurd i
 other-adds old command reply new e u at i d w adds = absurd d
 
@@ -271,9 +276,11 @@ asked-adds other old command reply new e u at quiet i d w adds = other-adds old 
 by_course : (old : State) (command : Command) (reply : Reply) (new : State) → IsEdit old.line command → Does old command reply new → Came (course_of (asked old.line command) old command reply) old new
 by_course old asks.Begin reply new i d = absurd i
 by_course old asks.End reply new i d = absurd i
+by_course old asks.EndOne reply new i d = absurd i
 by_course old (asks.Undo n) reply new i d = absurd i
 by_course old asks.Redo reply new i d = absurd i
 by_course old (asks.Truncate len) reply new i d = absurd i
+by_course old (asks.Keep t) reply new i d = absurd i
 by_course old command reply new i d = d
 
 -- an edit of a session, in a row

@@ -1,27 +1,29 @@
 -- Rows of a session: what they make of its history, and what undos and redos among them do.
-use Rattle.std.proofs.Common.{◌≡◌, ℕ, Bool, true, suc, List, [], ◌∷◌, ◌++◌, length, take, Option, Some, None, refl, sym, ap, subst, ◌∙◌, append-nil, append_assoc}
+use Rattle.std.proofs.Common.{◌≡◌, ℕ, Bool, true, suc, List, [], ◌∷◌, ◌++◌, length, min, arith, take, Option, Some, None, refl, sym, ap, subst, ◌∙◌, append-nil, append_assoc}
 use Rattle.std.proofs.lemmas.Slice.Eq.{bytes_eq-Decides}
 use Rattle.std.specs.Str.{IsUtf8}
 use Rattle.rl_line.specs.Line.{Line}
 use Rattle.rl_line.specs.Plan.{Step as PlanStep, listener_after}
 use Rattle.rl_line.specs.Record.{Record, agree, record_step, unwind}
 use Rattle.rl_line.specs.Undo.{Undone, Redone, Redos}
-use Rattle.rl_line.specs.Units.{begun, ended, last_of, last_units, opens, redo_of, truncated, undone}
+use Rattle.rl_line.specs.Units.{begun, ended, ended_one, level, last_of, last_units, opens, redo_of, truncated, undone}
 use Rattle.rl_line.proofs.Records.RecordLemmas.{replay-IsUtf8}
 use Rattle.rl_line.proofs.Records.RedoLemmas.{redos-give-back}
 use Rattle.rl_line.proofs.Records.UndoLemmas.{line_ahead-replay, line_back-unwind}
 use Rattle.rl_line.proofs.Records.UnitLemmas.{kept-last}
-use Rattle.rl_session.specs.Commands.{Effect, by_steps, puts_begin, puts_ends, shortens, takes_back, puts_again, Became, effect, Step, Does, readied, with_changes}
+use Rattle.rl_session.specs.Commands.{Effect, by_steps, puts_begin, puts_ends, puts_end, shortens, takes_back, puts_again, Became, effect, Step, Does, readied, with_changes, keeps}
 use Rattle.rl_session.specs.History.{AllRedone, History, Holds, WasHeld, WasRefused}
 use Rattle.rl_session.specs.Run.{Row, Leads, Run, held, held_by, held_of, steps_in, texts_of_steps}
-use Rattle.rl_session.specs.State.{Begins, State}
+use Rattle.rl_session.specs.State.{Begins, State, with_ring}
+use Rattle.rl_base.specs.KillRing.{killed, reset}
+use Rattle.rl_base.specs.declared.kill_ring.Mode.TheVariants.{Append}
 use Rattle.rl_session.specs.declared.session.Command.{Command}
 use Rattle.rl_session.specs.declared.session.Command.TheVariants.{Undo, Redo}
 use Rattle.rl_session.specs.declared.session.Reply.{Reply}
 use Rattle.rl_session.specs.declared.session.Reply.TheVariants as says
 use Rattle.rl_session.proofs.Sessions.CourseLemmas.{Heard, Heard-Came}
 use Rattle.rl_session.proofs.Runs.RowLemmas.{Leads-split}
-use Rattle.rl_session.proofs.Runs.PlaceLemmas.{History-more, History-steps, History-begun, History-ended, History-undone, History-redone, History-truncated, undo-held}
+use Rattle.rl_session.proofs.Runs.PlaceLemmas.{History-more, History-steps, History-begun, History-closed, History-undone, History-redone, History-truncated, undo-held}
 
 -- ---- the history
 History-Heard : (start : List ℕ) (held : List (List ℕ)) (steps : List PlanStep) (old : Line) (r : Record) (text : List ℕ) (now : Record) → History start held old.text r
@@ -60,11 +62,14 @@ Holds-Became start held (by_steps course) old new d h =
 Holds-Became start held (puts_begin n) old new d h =
     History-changes start held new (with_changes (begun old.pair.changes) old) (History-begun start held old.line.text old.pair.changes h) d.1
 Holds-Became start held (puts_ends a) old new d h =
-    History-changes start held new (with_changes (ended old.pair.changes) old) (History-ended start held old.line.text old.pair.changes h) d.1
+    History-changes start held new (with_changes (ended old.pair.changes) old) (History-closed start held old.line.text (level old.pair.changes.recorded) old.pair.changes (omega arith) h) d.1
+Holds-Became start held (puts_end a) old new d h =
+    History-changes start held new (with_changes (ended_one old.pair.changes) old) (History-closed start held old.line.text (min 1 (level old.pair.changes.recorded)) old.pair.changes (omega arith) h) d.1
 Holds-Became start held (shortens len) old new d h =
     let r = old.pair.changes in
     let same = agree-same (unwind r.recorded old.line.text) (unwind (take len r.recorded) old.line.text) d.0 in
     History-changes start held new (with_changes (truncated len r) old) (History-truncated len start held old.line.text r h same) d.1
+Holds-Became start held (keeps text) old new d h = History-changes start held new (with_ring (reset (killed text Append old.pair.ring)) old) h d
 Holds-Became start held (takes_back n a) old new d h = History-TookBack _ start held _ old new a h d.0
 Holds-Became start held (puts_again a) old new d h = History-PutAgain start held _ old new a h d.0
 

@@ -2,7 +2,7 @@
 use Rattle.std.proofs.Common.{◌≡◌, ℕ, ◌+◌, ◌*◌, ◌<◌, ◌≤◌, ◌⊎◌, inl, inr, zero, suc, Bool, true, false, not, cond, List, [], ◌∷◌, ◌++◌, map, length, Option, Some, None, refl, sym, ap, subst, ◌∙◌, arith, length-append, append-nil}
 use Rattle.std.proofs.Math.Bool.{and-false}
 use Rattle.std.proofs.lemmas.Bool.{eqb-true, eqb-false, le-ltb}
-use Rattle.std.proofs.lemmas.List.{nil_from_length}
+use Rattle.std.proofs.lemmas.List.{map-append, nil_from_length}
 use Rattle.std.proofs.lemmas.List.Edits.{length-between}
 use Rattle.std.proofs.lemmas.Option.{same_Some}
 use Rattle.std.specs.Prelude.{max, ◌==◌, slice_get, slice_set, slice_range, IfSome}
@@ -14,29 +14,30 @@ use Rattle.rl_base.specs.KillRing.{Ring, IsRing, joined, next_index, put_at, joi
 use Rattle.rl_base.specs.declared.kill_ring.Action.{Action}
 use Rattle.rl_base.specs.declared.kill_ring.Action.TheVariants as did
 use Rattle.rl_base.specs.declared.kill_ring.Mode.{Mode}
+use Rattle.rl_base.specs.declared.kill_ring.Mode.TheVariants.{Append}
 use Rattle.rl_base.specs.declared.listeners.Direction.{Direction}
 use Rattle.rl_base.specs.declared.listeners.Direction.TheVariants.{Forward, Backward}
 use Rattle.rl_base.specs.declared.listeners.Refusal.{Refusal}
 use Rattle.rl_base.specs.declared.motion.Movement.{Movement}
-use Rattle.rl_base.specs.declared.motion.Movement.TheVariants.{BeginningOfLine, EndOfLine, BackwardWord, ForwardWord, ViCharSearch, BeginningOfBuffer, EndOfBuffer}
-use Rattle.rl_base.proofs.Ring.KillGroupLemmas.{lent-size, ring_step-size}
+use Rattle.rl_base.specs.declared.motion.Movement.TheVariants.{BeginningOfLine, EndOfLine, FirstNonBlank, BackwardWord, ForwardWord, ViCharSearch, BeginningOfBuffer, EndOfBuffer}
+use Rattle.rl_base.proofs.Ring.KillGroupLemmas.{lent-size, ring_step-size, killed_as-size}
 use Rattle.rl_base.proofs.Ring.RingLemmas.{next_index-is}
 use Rattle.rl_base.proofs.Texts.SwapLemmas.{Swaps, Swaps-back, Swaps-Delete, Swaps-after, Swaps-before, apply-InsertStr-Swaps}
-use Rattle.rl_line.specs.Line.{Line, stepped}
+use Rattle.rl_line.specs.Line.{Line, between, stepped}
 use Rattle.rl_line.specs.Plan.{Step as PlanStep, Plan, nothing, single, listener_after as heard_steps, listener_after_step, Taken, Done, Halted, or_no_memory}
 use Rattle.rl_line.specs.Edits.{too_long, yank_plan}
 use Rattle.rl_line.specs.Kills.{Between, Told, removal, side_of, is_by_characters}
-use Rattle.rl_line.specs.Ranges.{killed as killed_range, text_in}
+use Rattle.rl_line.specs.Ranges.{killed as killed_range, text_in, unless_empty}
 use Rattle.rl_line.proofs.Plans.EditLemmas.{yank_plan-nothing, yank_plan-some}
-use Rattle.rl_line.proofs.Plans.SideLemmas.{LiesOn, BeginningOfLine-side, EndOfLine-side, BackwardWord-side, ForwardWord-side, ViCharSearch-side, BeginningOfBuffer-side, EndOfBuffer-side}
+use Rattle.rl_line.proofs.Plans.SideLemmas.{LiesOn, BeginningOfLine-side, EndOfLine-side, FirstNonBlank-side, BackwardWord-side, ForwardWord-side, ViCharSearch-side, BeginningOfBuffer-side, EndOfBuffer-side}
 use Rattle.rl_session.specs.Pair.{pair_step, pair_refused}
 use Rattle.rl_session.specs.State.{State, Stands, with_ring}
-use Rattle.rl_session.specs.Commands.{Course, never, when, stays, goes, edits, stops, respells, lends, pops, tells, Came, Effect, by_steps, puts_begin, puts_ends, shortens, takes_back, puts_again, Became, effect, Edited, Step, is_vain_yank, lent as lent_state, lent_plan, popped, readied}
-use Rattle.rl_session.specs.KillRuns.{IsDirected, AllDirected, IsNoKill, AnyTook, NoneRefused, GivenBack}
+use Rattle.rl_session.specs.Commands.{Course, never, when, stays, goes, edits, stops, respells, lends, pops, tells, Came, Effect, by_steps, puts_begin, puts_ends, puts_end, shortens, takes_back, puts_again, Became, effect, Edited, Step, is_vain_yank, lent as lent_state, lent_plan, popped, readied, keeps}
+use Rattle.rl_session.specs.KillRuns.{IsDirected, AllDirected, IsNoKill, AnyTook, NoneRefused, GivenBack, IsDirectedKill, AllKill}
 use Rattle.rl_session.specs.Run.{Row, Leads, Run, before_last, commands_of, replies_of}
 use Rattle.rl_session.specs.declared.pair.Pair.{Pair}
 use Rattle.rl_session.specs.declared.session.Command.{Command}
-use Rattle.rl_session.specs.declared.session.Command.TheVariants.{Yank, Kill}
+use Rattle.rl_session.specs.declared.session.Command.TheVariants.{Yank, Kill, KillRange}
 use Rattle.rl_session.specs.declared.session.Reply.{Reply}
 use Rattle.rl_session.specs.declared.session.Reply.TheVariants as says
 use Rattle.rl_session.proofs.Sessions.PairLemmas.{Halted-own}
@@ -150,9 +151,11 @@ Became-size : (effect : Effect) (old new : State) → Became effect old new → 
 Became-size (by_steps course) old new d = Came-size course old new d
 Became-size (puts_begin n) old new d = ap (λ (s : State). s.pair.ring.size) d.1
 Became-size (puts_ends a) old new d = ap (λ (s : State). s.pair.ring.size) d.1
+Became-size (puts_end a) old new d = ap (λ (s : State). s.pair.ring.size) d.1
 Became-size (shortens len) old new d = ap (λ (s : State). s.pair.ring.size) d.1
 Became-size (takes_back n a) old new d = ap (λ (s : State). s.pair.ring.size) d.1
 Became-size (puts_again a) old new d = ap (λ (s : State). s.pair.ring.size) d.1
+Became-size (keeps text) old new d = ap (λ (s : State). s.pair.ring.size) d ∙ killed_as-size old.pair.ring.size old.pair.ring.last text Append old.pair.ring
 
 reset-size : (b : Bool) (r : Ring) → (cond b (reset r) r).size ≡ r.size
 reset-size true r = refl
@@ -182,9 +185,10 @@ Roomy-Leads (row ∷ rows) old new l h =
     Roomy-Leads rows row.after new l.1 (Roomy-Step row.before row.command row.reply row.after some row.step)
 
 -- ---- a kill by a directed movement
-killed-side : (line : Line) (m : Movement) → IsDirected m → IsUtf8 line.text → IsCharBoundary line.text line.cursor → IfSome (killed_range line m) (LiesOn (side_of m) line.cursor)
+killed-side : (line : Line) (m : Movement) → IsDirected m → IsUtf8 line.text → IsCharBoundary line.text line.cursor → IfSome (killed_range line m) (LiesOn (side_of line m) line.cursor)
 killed-side line BeginningOfLine h u at = BeginningOfLine-side line at.0
 killed-side line EndOfLine h u at = EndOfLine-side line
+killed-side line FirstNonBlank h u at = FirstNonBlank-side line
 killed-side line (BackwardWord n word) h u at = BackwardWord-side line n word u at
 killed-side line (ForwardWord n stop word) h u at = ForwardWord-side line n stop word
 killed-side line (ViCharSearch n cs) h u at = ViCharSearch-side line n cs u at
@@ -195,6 +199,7 @@ killed-side line _ h u at = absurd h
 not_by_characters : (m : Movement) → IsDirected m → is_by_characters m ≡ false
 not_by_characters BeginningOfLine h = refl
 not_by_characters EndOfLine h = refl
+not_by_characters FirstNonBlank h = refl
 not_by_characters (BackwardWord n word) h = refl
 not_by_characters (ForwardWord n stop word) h = refl
 not_by_characters (ViCharSearch n cs) h = refl
@@ -264,7 +269,25 @@ Kill-outcome : (old new : State) (m : Movement) (a : Bool) → IsDirected m → 
 Kill-outcome old new m a directed h s =
     let told = told_whole (is_by_characters m) _ old s.left.pair (not_by_characters m directed) s.does in
     subst (Outcome a old) (sym s.settles)
-    (removed old s.left (killed_range old.line m) (side_of m) a h.cursor.0 (killed-side old.line m directed h.utf8 h.cursor) told)
+    (removed old s.left (killed_range old.line m) (side_of old.line m) a h.cursor.0 (killed-side old.line m directed h.utf8 h.cursor) told)
+
+-- of a kill of a range that begins or ends at the cursor
+lies-between : (line : Line) (i j : ℕ) (side : Direction) → i ≤ j → IsDirectedKill line (KillRange i j side) → LiesOn side line.cursor (between i j)
+lies-between line i j Forward le at = at
+lies-between line i j Backward le at = (at, omega (arith, le, at))
+
+range-side : (line : Line) (i j : ℕ) (side : Direction) → i ≤ j → IsDirectedKill line (KillRange i j side) → IfSome (unless_empty i j) (LiesOn side line.cursor)
+range-side line i j side le at = by_test (i == j)
+  where
+    by_test : (b : Bool) → IfSome (cond b None (Some (between i j))) (LiesOn side line.cursor)
+    by_test true = tt
+    by_test false = lies-between line i j side le at
+
+KillRange-outcome : (old new : State) (i j : ℕ) (side : Direction) (a : Bool) → IsDirectedKill old.line (KillRange i j side) → Stands old → Step old (KillRange i j side) (says.Answer a) new
+    → Outcome a old new
+KillRange-outcome old new i j side a directed h s =
+    subst (Outcome a old) (sym s.settles)
+    (removed old s.left (unless_empty i j) side a h.cursor.0 (range-side old.line i j side s.does.0.0 directed) s.does.1)
 
 -- ---- the rows of a run: before the first kill that takes a text nothing is missing of the start
 record Ready (start : List ℕ) (now : State) : Type 0 where
@@ -353,6 +376,27 @@ Going-Kill start old new m (says.Inserted a) more directed s none g = absurd s.d
 Going-Kill start old new m (says.Text t) more directed s none g = absurd s.does
 Going-Kill start old new m (says.Mark n) more directed s none g = absurd s.does
 Going-Kill start old new m (says.At k columns) more directed s none g = absurd s.does
+
+Going-KillRange : (start : List ℕ) (old new : State) (i j : ℕ) (side : Direction) (reply : Reply) (more : List Reply) → IsDirectedKill old.line (KillRange i j side)
+    → Step old (KillRange i j side) reply new → NoneRefused (reply ∷ more) → Going start old (reply ∷ more) → Going start new more × NoneRefused more
+Going-KillRange start old new i j side (says.Answer true) more directed s none g =
+    let roomy = Roomy-Going start old (says.Answer true ∷ more) g in
+    (Going-took start old new more (Roomy-Step old (KillRange i j side) _ new roomy.some s) (KillRange-outcome old new i j side true directed roomy.stands s) g, none)
+Going-KillRange start old new i j side (says.Answer false) more directed s none g =
+    let roomy = Roomy-Going start old (says.Answer false ∷ more) g in
+    (Going-nothing start old new more (Roomy-Step old (KillRange i j side) _ new roomy.some s) (KillRange-outcome old new i j side false directed roomy.stands s) g, none)
+Going-KillRange start old new i j side (says.Refused f) more directed s none g = absurd none
+Going-KillRange start old new i j side says.Done more directed s none g = absurd s.does
+Going-KillRange start old new i j side (says.Inserted a) more directed s none g = absurd s.does
+Going-KillRange start old new i j side (says.Text t) more directed s none g = absurd s.does
+Going-KillRange start old new i j side (says.Mark n) more directed s none g = absurd s.does
+Going-KillRange start old new i j side (says.At k columns) more directed s none g = absurd s.does
+
+Going-directed : (start : List ℕ) (old new : State) (command : Command) (reply : Reply) (more : List Reply) → IsDirectedKill old.line command → Step old command reply new
+    → NoneRefused (reply ∷ more) → Going start old (reply ∷ more) → Going start new more × NoneRefused more
+Going-directed start old new (Kill m) reply more directed s none g = Going-Kill start old new m reply more directed s none g
+Going-directed start old new (KillRange i j side) reply more directed s none g = Going-KillRange start old new i j side reply more directed s none g
+Going-directed start old new _ reply more directed s none g = absurd directed
 
 -- ---- the yank: with its slot the text is as long as at the start, so it is not too long
 Missing-length : (start : List ℕ) (now : State) (m : Missing start now) → length now.line.text + length m.slot ≡ length start
@@ -507,3 +551,22 @@ kills-yank first old new earlier said movements replies last stands some before 
     let ready : Ready old.line.text old = record { text_is = refl; within = roomy.stands.within; roomy = roomy; no_kill = no_kill } in
     GivenBack-rows movements run.rows old old new old directed run.leads run.asked (subst NoneRefused (sym run.answered) none)
     (inr (ready, subst AnyTook (sym run.answered) (AnyTook-append replies (last ∷ []) took)))
+
+-- the same of any kills at the cursor, row by row
+GivenBack-directed : (kills : List Row) (back : Row) (old now new : State) → AllKill kills → Leads now (kills ++ (back ∷ [])) new → back.command ≡ Yank 1
+    → NoneRefused (replies_of (kills ++ (back ∷ []))) → Going old.line.text now (replies_of (kills ++ (back ∷ []))) → GivenBack old back.before new
+GivenBack-directed [] back old now new all l asked none g = GivenBack-last old now new back g none l.0 asked l.1
+GivenBack-directed (row ∷ rows) back old now new all l asked none g =
+    let directed = subst (λ (s : State). IsDirectedKill s.line row.command) l.0 all.0 in
+    let on = Going-directed old.line.text now row.after row.command row.reply (replies_of (rows ++ (back ∷ []))) directed (step_of row now row.command l.0 refl) none g in
+    GivenBack-directed rows back old row.after new all.1 l.1 asked on.1 on.0
+
+pub directed-yank : (first old new : State) (earlier commands : List Command) (said replies : List Reply) (kills : List Row) (back : Row)
+    → Stands first → 0 < first.pair.ring.size → Run first earlier said old → (run : Run old commands replies new) → run.rows ≡ kills ++ (back ∷ []) → back.command ≡ Yank 1
+    → IsNoKill old.pair.ring.last → AllKill kills → AnyTook (replies_of kills) → NoneRefused replies → GivenBack old back.before new
+directed-yank first old new earlier commands said replies kills back stands some before run is asked no_kill all took none =
+    let roomy = Roomy-Leads before.rows first old before.leads (record { stands = stands; some = some }) in
+    let ready : Ready old.line.text old = record { text_is = refl; within = roomy.stands.within; roomy = roomy; no_kill = no_kill } in
+    let any = subst AnyTook (sym (map-append (λ (r : Row). r.reply) kills (back ∷ []))) (AnyTook-append (replies_of kills) (back.reply ∷ []) took) in
+    GivenBack-directed kills back old old new all (subst (λ rows. Leads old rows new) is run.leads) asked
+    (subst (λ rows. NoneRefused (replies_of rows)) is (subst NoneRefused (sym run.answered) none)) (inr (ready, any))

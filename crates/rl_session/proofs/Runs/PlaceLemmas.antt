@@ -1,5 +1,5 @@
 -- A record is placed among the texts that were held, whatever it hears.
-use Rattle.std.proofs.Common.{◌≡◌, ℕ, zero, suc, List, [], ◌∷◌, ◌++◌, length, take, drop, map, reverse, Option, Some, None, refl, sym, ap, subst, ◌∙◌, ◌⊎◌, inl, inr, append-nil, append_assoc}
+use Rattle.std.proofs.Common.{◌≡◌, ◌≤◌, ℕ, zero, suc, List, [], ◌∷◌, ◌++◌, length, take, drop, map, reverse, Option, Some, None, refl, sym, ap, subst, ◌∙◌, ◌⊎◌, inl, inr, append-nil, append_assoc}
 use Rattle.std.proofs.lemmas.List.{take-append-drop, reverse-append, reverse-reverse, map-append}
 use Rattle.std.specs.Option.{option_map_or}
 use Rattle.std.specs.Prelude.{option_and_then, IsSome}
@@ -9,9 +9,10 @@ use Rattle.rl_base.proofs.Texts.SwapLemmas.{apply-IsUtf8}
 use Rattle.rl_line.specs.Line.{Line, stepped}
 use Rattle.rl_line.specs.Plan.{Step, after, listener_after, listener_after_step}
 use Rattle.rl_line.specs.Record.{Entry, Begin, End, Changed, Record, entries_of, entries_after, joined, record_step, replay_entries, unwind, event_of, entries_told, last_told, freshness_of}
-use Rattle.rl_line.specs.Units.{level, last_of, kept_of, redo_of, end_one, end_times, begun, ended, undone, redone, truncated}
+use Rattle.rl_line.specs.Units.{level, last_of, kept_of, redo_of, end_one, end_times, begun, undone, redone, truncated, with_closed}
 use Rattle.rl_line.proofs.Records.JoinLemmas.{record_step-Start, record_step-Stop}
-use Rattle.rl_line.proofs.Records.MatchLemmas.{IsMatched-after, BothMatched-begun, BothMatched-ended, BothMatched-undone, BothMatched-redone, BothMatched-truncated, EndsOne, end_one-cons, Redoes-of, BothMatched-step}
+use Rattle.rl_line.proofs.Records.EndLemmas.{end_one-cases}
+use Rattle.rl_line.proofs.Records.MatchLemmas.{IsMatched-after, BothMatched-begun, BothMatched-closed, BothMatched-undone, BothMatched-redone, BothMatched-truncated, Redoes-of, BothMatched-step}
 use Rattle.rl_line.proofs.Records.RecordLemmas.{none_or_one, then_some, through, replay-append, replay-IsUtf8, replay-unwind, unwind-replay, entries_after-unwind}
 use Rattle.rl_line.proofs.Records.UnitLemmas.{kept-last}
 use Rattle.rl_session.specs.History.{StandsAfter, WasHeld, PlacedBack, Placed, History}
@@ -96,19 +97,7 @@ replay-end : (es : List Entry) (start : List ℕ) → replay_entries (es ++ (End
 unfolding apply
 replay-end es start = replay-append es (End ∷ []) start ∙ then_some (replay_entries es start)
 
--- an end takes off a Begin, or adds an End
-pub end_one-cases : (es : List Entry) → EndsOne es ⊎ (end_one es ≡ es ++ (End ∷ []))
-end_one-cases [] = inr refl
-end_one-cases (Begin ∷ []) = inl (record { front = []; list_is = refl; after_is = refl })
-end_one-cases (End ∷ []) = inr refl
-end_one-cases (Changed k c ∷ []) = inr refl
-end_one-cases (e ∷ (d ∷ ds)) =
-    elim (end_one-cases (d ∷ ds)) [
-      | inl c ↦ inl (record { front = e ∷ c.front; list_is = ap (λ x. e ∷ x) c.list_is; after_is = end_one-cons e d ds ∙ ap (λ x. e ∷ x) c.after_is })
-      | inr c ↦ inr (end_one-cons e d ds ∙ ap (λ x. e ∷ x) c)
-    ]
-
--- either keeps where the entries lead, and their place
+-- an end takes off a Begin, or adds an End; either keeps where the entries lead, and their place
 replay-end_one : (es : List Entry) (start : List ℕ) → replay_entries (end_one es) start ≡ replay_entries es start
 replay-end_one es start =
     elim (end_one-cases es) [
@@ -284,12 +273,12 @@ History-begun start held text r h = record {
   matched = BothMatched-begun r h.matched;
 }
 
-pub History-ended : (start : List ℕ) (held : List (List ℕ)) (text : List ℕ) (r : Record) → History start held text r → History start held text (ended r)
-History-ended start held text r h = record {
+pub History-closed : (start : List ℕ) (held : List (List ℕ)) (text : List ℕ) (n : ℕ) (r : Record) → n ≤ level r.recorded → History start held text r → History start held text (with_closed n r)
+History-closed start held text n r few h = record {
   is_text = h.is_text;
-  leads = replay-end_times (level r.recorded) r.recorded start ∙ h.leads;
-  placed = alone start (end_times (level r.recorded) r.recorded) held (Placed-end_times (level r.recorded) r.recorded start held (recorded-placed start held text r h));
-  matched = BothMatched-ended r h.matched;
+  leads = replay-end_times n r.recorded start ∙ h.leads;
+  placed = alone start (end_times n r.recorded) held (Placed-end_times n r.recorded start held (recorded-placed start held text r h));
+  matched = BothMatched-closed n r few h.matched;
 }
 
 -- a replay of two lists goes through a text

@@ -1,17 +1,18 @@
 -- What each row of a session keeps, and how a run goes on.
 use Rattle.std.proofs.Common.{List, [], ◌∷◌, ◌++◌, ◌≡◌, ◌∙◌, ap, refl, subst, sym, append_assoc}
 use Rattle.std.proofs.lemmas.List.{map-append}
-use Rattle.std.specs.Prelude.{ℕ, IsSome}
+use Rattle.std.specs.Prelude.{ℕ, IsSome, min}
 use Rattle.std.specs.Str.{IsUtf8}
 use Rattle.rl_line.specs.Plan.{Step as PlanStep}
 use Rattle.rl_line.specs.Record.{unwind}
-use Rattle.rl_line.proofs.Records.MarkLemmas.{Kept-begun, Kept-ended, Kept-Redone, Kept-truncated}
+use Rattle.rl_line.specs.Units.{level}
+use Rattle.rl_line.proofs.Records.MarkLemmas.{Kept-begun, Kept-closed, Kept-Redone, Kept-truncated}
 use Rattle.rl_line.proofs.Records.OriginLemmas.{Kept, Kept-Taken, Kept-Undone}
 use Rattle.rl_line.proofs.Records.RecordLemmas.{unwind-replay, replay-unwind, replay-IsUtf8, value_of}
 use Rattle.rl_session.specs.declared.session.Command.{Command}
 use Rattle.rl_session.specs.declared.session.Reply.{Reply}
 use Rattle.rl_session.specs.State.{State, Replays, origin}
-use Rattle.rl_session.specs.Commands.{Effect, by_steps, puts_begin, puts_ends, shortens, takes_back, puts_again, Became, effect, Step, readied}
+use Rattle.rl_session.specs.Commands.{Effect, by_steps, puts_begin, puts_ends, puts_end, shortens, takes_back, puts_again, Became, effect, Step, readied, keeps}
 use Rattle.rl_session.specs.Run.{Row, held, held_of, Leads, Run, AfterEach, commands_of, replies_of, steps_in}
 use Rattle.rl_session.proofs.Sessions.CourseLemmas.{Heard, Heard-Came}
 
@@ -27,8 +28,10 @@ Kept-Heard steps old new u h =
 Kept-Became : (effect : Effect) (old new : State) → IsUtf8 old.line.text → Became effect old new → KeepsOrigin old new
 Kept-Became (by_steps course) old new u d = Kept-Heard (steps_in course old new d) old new u (Heard-Came course old new d)
 Kept-Became (puts_begin n) old new u d = subst (KeepsOrigin old) (sym d.1) (Kept-begun old.pair.changes old.line u)
-Kept-Became (puts_ends a) old new u d = subst (KeepsOrigin old) (sym d.1) (Kept-ended old.pair.changes old.line u)
+Kept-Became (puts_ends a) old new u d = subst (KeepsOrigin old) (sym d.1) (Kept-closed (level old.pair.changes.recorded) old.pair.changes old.line u)
+Kept-Became (puts_end a) old new u d = subst (KeepsOrigin old) (sym d.1) (Kept-closed (min 1 (level old.pair.changes.recorded)) old.pair.changes old.line u)
 Kept-Became (shortens len) old new u d = subst (KeepsOrigin old) (sym d.1) (Kept-truncated len old.pair.changes old.line u d.0)
+Kept-Became (keeps text) old new u d = subst (KeepsOrigin old) (sym d) (record { origin_is = λ start e. e; utf8 = u })
 Kept-Became (takes_back n a) old new u d = Kept-Undone _ old.pair.changes new.pair.changes old.line new.line a u d.0
 Kept-Became (puts_again a) old new u d = Kept-Redone old.pair.changes new.pair.changes old.line new.line a u d.0
 

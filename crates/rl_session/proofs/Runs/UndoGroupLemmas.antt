@@ -1,19 +1,20 @@
 -- A group that was closed is one unit, whatever happened inside, so that one undo takes it off.
-use Rattle.std.proofs.Common.{◌≡◌, ℕ, ◌+◌, inl, inr, zero, suc, Bool, true, false, List, [], ◌∷◌, ◌++◌, length, drop, reverse, Some, refl, sym, ap, subst, ◌∙◌, arith, append_assoc}
-use Rattle.std.proofs.lemmas.List.{reverse-reverse}
-use Rattle.std.specs.Prelude.{max, ◌||◌}
+use Rattle.std.proofs.Common.{◌≡◌, ℕ, inl, inr, zero, suc, Bool, true, false, List, [], ◌∷◌, ◌++◌, length, drop, Some, refl, sym, ap, subst, ◌∙◌, arith}
+use Rattle.std.specs.Prelude.{min, ◌||◌}
 use Rattle.rl_line.specs.Plan.{Step, listener_after, listener_after_step}
 use Rattle.rl_line.specs.Record.{Begin, End, Entry, Record, record_step, replay_entries}
-use Rattle.rl_line.specs.Units.{UndoUnit, Open, Whole, IsMatched, begun, end_one, end_times, ended, has_change, kept_of, last_of, level, opens, together, units}
+use Rattle.rl_line.specs.Units.{IsMatched, begun, end_one, end_times, ended, ended_one, has_change, kept_of, last_of, level}
 use Rattle.rl_line.proofs.Records.GroupLemmas.{has_change-append, Inside, Inside-event, Inside-begun, past_begin}
-use Rattle.rl_line.proofs.Records.LevelLemmas.{level-append}
-use Rattle.rl_line.proofs.Records.MatchLemmas.{EndsOne, Lower-end_one, Lower-end_times, end_one-cons}
+use Rattle.rl_line.proofs.Records.EndLemmas.{closed_group, end_one-cases, end_one-past, level-group}
+use Rattle.rl_line.proofs.Records.MatchLemmas.{Lower-end_one, Lower-end_times, end_one-cons}
 use Rattle.rl_line.proofs.Records.UndoLemmas.{line_back-unwind}
+use Rattle.rl_session.specs.Commands.{Effect, by_steps, puts_begin, Became, effect, Does, readied, with_changes, keeps}
 use Rattle.rl_line.proofs.Records.UnitLemmas.{AllGood, AllGood-reverse, Gathers, Gathers-more, Gathers-nil, Settles-group, cut_more-append, on, opens-reverse, together-reverse, together-units, units-good}
-use Rattle.rl_session.specs.Commands.{Effect, by_steps, puts_begin, Became, effect, Does, readied, with_changes}
 use Rattle.rl_session.specs.History.{AllStandInGroup, Holds, MayStandInGroup, WasRefused}
 use Rattle.rl_session.specs.Run.{Leads, Row, Run, held, held_of, steps_in}
-use Rattle.rl_session.specs.State.{Begins, State}
+use Rattle.rl_session.specs.State.{Begins, State, with_ring}
+use Rattle.rl_base.specs.KillRing.{killed, reset}
+use Rattle.rl_base.specs.declared.kill_ring.Mode.TheVariants.{Append}
 use Rattle.rl_session.specs.declared.session.Command.{Command}
 use Rattle.rl_session.specs.declared.session.Command.TheVariants as asks
 use Rattle.rl_session.specs.declared.session.Reply.{Reply}
@@ -21,15 +22,10 @@ use Rattle.rl_session.specs.declared.session.Reply.TheVariants as says
 use Rattle.rl_session.proofs.Runs.RowLemmas.{Leads-split}
 use Rattle.rl_session.proofs.Sessions.CourseLemmas.{Heard-Came}
 use Rattle.rl_session.proofs.Runs.HistoryLemmas.{Holds-Leads, Holds-row, at_row, does_as, undo-row}
-use Rattle.rl_session.proofs.Runs.PlaceLemmas.{end_one-cases, kept-leads}
+use Rattle.rl_session.proofs.Runs.PlaceLemmas.{kept-leads}
 use Rattle.rl_base.specs.Event.{Cursors}
 
 -- ---- the end of a group
-end_one-past : (xs : List Entry) (y : Entry) (ys : List Entry) → end_one (xs ++ (y ∷ ys)) ≡ xs ++ end_one (y ∷ ys)
-end_one-past [] y ys = refl
-end_one-past (x ∷ []) y ys = end_one-cons x y ys
-end_one-past (x ∷ (z ∷ zs)) y ys = end_one-cons x z (zs ++ (y ∷ ys)) ∙ ap (λ l. x ∷ l) (end_one-past (z ∷ zs) y ys)
-
 -- the ends of the groups inside, then the end of the group itself
 ends_inside : (k : ℕ) (xs inner : List Entry) → IsMatched inner → level inner ≡ k → end_times (suc k) (xs ++ (Begin ∷ inner)) ≡ end_one (xs ++ (Begin ∷ end_times k inner))
 ends_inside zero xs inner h l = refl
@@ -55,57 +51,12 @@ has_change-end_times : (n : ℕ) (es : List Entry) → has_change (end_times n e
 has_change-end_times zero es = refl
 has_change-end_times (suc n) es = has_change-end_times n (end_one es) ∙ has_change-end_one es
 
--- whole units inside a group are gathered by its End
-Gathers-on : (v : UndoUnit) (vs : List UndoUnit) → AllGood (v ∷ vs) → opens (v ∷ vs) ≡ 0 → Gathers true (on (v ∷ vs))
-Gathers-on Open vs g o = absurd (omega arith)
-Gathers-on (Whole es) [] g o = Gathers-more false es [] g.0 Gathers-nil
-Gathers-on (Whole es) (w ∷ ws) g o = Gathers-more true es (on (w ∷ ws)) g.0 (Gathers-on w ws g.1 o)
-
-Gathers-closed : (e : Entry) (es : List Entry) → IsMatched (e ∷ es) → level (e ∷ es) ≡ 0 → Gathers true (e ∷ es)
-Gathers-closed e es h l = by_units (reverse (units (e ∷ es))) refl
-  where
-    all : (vs : List UndoUnit) → reverse (units (e ∷ es)) ≡ vs → on vs ≡ e ∷ es
-    all vs k = sym (together-reverse vs) ∙ ap (λ x. together (reverse x)) (sym k) ∙ ap together (reverse-reverse (units (e ∷ es))) ∙ together-units (e ∷ es)
-
-    by_units : (vs : List UndoUnit) → reverse (units (e ∷ es)) ≡ vs → Gathers true (e ∷ es)
-    by_units [] k = let none : [] ≡ e ∷ es = all [] k in cc
-    by_units (v ∷ vs) k =
-        subst (Gathers true) (all (v ∷ vs) k)
-        (Gathers-on v vs (subst AllGood k (AllGood-reverse (units (e ∷ es)) (units-good (e ∷ es) h)))
-        (ap opens (sym k) ∙ opens-reverse (units (e ∷ es)) ∙ l))
-
--- what ends in a Begin has an open group
-not_open : (es : List Entry) → level es ≡ 0 → EndsOne es → ⊥
-not_open es l k =
-    let cut : units es ≡ Open ∷ units k.front = ap units k.list_is ∙ cut_more-append [] k.front (Begin ∷ []) in
-    let n : suc (opens (units k.front)) ≡ 0 = sym (ap opens cut) ∙ l in
-    omega arith
-
--- the last End of a group with a change: all of it is one unit
-closed_group : (xs inner : List Entry) → IsMatched inner → level inner ≡ 0 → has_change inner ≡ true → kept_of 1 (end_one (xs ++ (Begin ∷ inner))) ≡ xs
-closed_group xs [] h l c = cc
-closed_group xs (e ∷ es) h l c =
-    elim (end_one-cases (e ∷ es)) [
-      | inl k ↦ absurd (not_open (e ∷ es) l k)
-      | inr k ↦
-          let all : end_one (xs ++ (Begin ∷ (e ∷ es))) ≡ xs ++ (Begin ∷ ((e ∷ es) ++ (End ∷ []))) =
-          end_one-past xs Begin (e ∷ es) ∙ ap (λ x. xs ++ x) (end_one-cons Begin e es) ∙ ap (λ x. xs ++ (Begin ∷ x)) k in
-          let cut : units (xs ++ (Begin ∷ ((e ∷ es) ++ (End ∷ [])))) ≡ Whole (Begin ∷ ((e ∷ es) ++ (End ∷ []))) ∷ units xs =
-          cut_more-append [] xs (Begin ∷ ((e ∷ es) ++ (End ∷ []))) ∙ (Settles-group (e ∷ es) (Gathers-closed e es h l)).cuts (units xs) in
-          ap (kept_of 1) all ∙ ap (λ us. together (drop (max 1 1) us)) cut ∙ together-units xs
-    ]
-
-level-group : (xs inner : List Entry) → IsMatched inner → level (xs ++ (Begin ∷ inner)) ≡ level inner + suc (level xs)
-level-group xs inner h =
-    ap level (sym (append_assoc xs (Begin ∷ []) inner)) ∙ level-append (xs ++ (Begin ∷ [])) inner h
-    ∙ ap (λ us. level inner + opens us) (cut_more-append [] xs (Begin ∷ []))
-
 -- after the end of a group, an undo of one unit keeps what was recorded before its begin
 ended_group : (xs inner : List Entry) → IsMatched inner → level xs ≡ 0 → has_change inner ≡ true
     → kept_of 1 (end_times (level (xs ++ (Begin ∷ inner))) (xs ++ (Begin ∷ inner))) ≡ xs
 ended_group xs inner h none c =
     let n : level (xs ++ (Begin ∷ inner)) ≡ suc (level inner) = level-group xs inner h ∙ (omega arith) in
-    let low = Lower-end_times (level inner) inner h refl in
+    let low = Lower-end_times (level inner) 0 inner h (omega arith) in
     ap (λ k. kept_of 1 (end_times k (xs ++ (Begin ∷ inner)))) n
     ∙ ap (kept_of 1) (ends_inside (level inner) xs inner h refl)
     ∙ closed_group xs (end_times (level inner) inner) low.matched low.level_is (has_change-end_times (level inner) inner ∙ c)
@@ -123,20 +74,24 @@ Inside-same front old new k e = subst (λ (s : State). Inside front s.pair.chang
 abbrev StaysOpen : Effect → Type 0
 StaysOpen (by_steps _) = Unit {0}
 StaysOpen (puts_begin _) = Unit {0}
+StaysOpen (keeps _) = Unit {0}
 StaysOpen _ = ⊥
 
 stays_open : (old : State) (command : Command) (reply : Reply) → MayStandInGroup command reply → StaysOpen (effect old command reply)
 stays_open old asks.End (says.Answer a) i = absurd i
+stays_open old asks.EndOne (says.Answer a) i = absurd i
 stays_open old (asks.Undo n) (says.Answer a) i = absurd i
 stays_open old asks.Redo (says.Answer a) i = absurd i
 stays_open old (asks.Truncate len) says.Done i = absurd i
 stays_open old asks.Begin (says.Mark n) i = tt
+stays_open old (asks.Keep t) says.Done i = tt
 stays_open old _ _ i = tt
 
 Inside-Became : (front : List Entry) (effect : Effect) (old new : State) → StaysOpen effect → Became effect old new → Inside front old.pair.changes → Inside front new.pair.changes
 Inside-Became front (by_steps course) old new i d k =
     subst (λ (r : Record). Inside front r) (sym (Heard-Came course old new d).taken.listener) (Inside-steps old.line.cursor (steps_in course old new d) front old.pair.changes k)
 Inside-Became front (puts_begin n) old new i d k = Inside-same front (with_changes (begun old.pair.changes) old) new (Inside-begun front old.pair.changes k) d.1
+Inside-Became front (keeps text) old new i d k = Inside-same front (with_ring (reset (killed text Append old.pair.ring)) old) new k d
 Inside-Became front _ old new i d k = absurd i
 
 Inside-row : (front : List Entry) (row : Row) → MayStandInGroup row.command row.reply → Inside front row.before.pair.changes → Inside front row.after.pair.changes
@@ -167,6 +122,14 @@ End-done old left _ d w = absurd d
 end-row : (row : Row) → row.command ≡ asks.End → ¬ (WasRefused row.reply) → row.after.pair.changes ≡ ended row.before.pair.changes
 end-row row e w = let d = does_as row asks.End e in d.3 ∙ End-done (readied asks.End row.before) d.0 row.reply d.1 w
 
+EndOne-done : (old left : State) (reply : Reply) → Does old asks.EndOne reply left → ¬ (WasRefused reply) → left.pair.changes ≡ ended_one old.pair.changes
+EndOne-done old left (says.Answer a) d w = ap (λ (s : State). s.pair.changes) d.1
+EndOne-done old left (says.Refused f) d w = absurd (w tt)
+EndOne-done old left _ d w = absurd d
+
+end_one-row : (row : Row) → row.command ≡ asks.EndOne → ¬ (WasRefused row.reply) → row.after.pair.changes ≡ ended_one row.before.pair.changes
+end_one-row row e w = let d = does_as row asks.EndOne e in d.3 ∙ EndOne-done (readied asks.EndOne row.before) d.0 row.reply d.1 w
+
 -- what an undo keeps, right after the end of a group
 kept-before : (front : List Entry) (r : Record) → Inside front r → level front ≡ 0 → has_change (drop (suc (length front)) r.recorded) ≡ true
     → kept_of 1 (ended r).recorded ≡ front
@@ -174,20 +137,30 @@ kept-before front r i none change =
     let inner_is : drop (suc (length front)) r.recorded ≡ i.inner = ap (drop (suc (length front))) i.is ∙ past_begin front i.inner in
     ap (λ x. kept_of 1 (end_times (level x) x)) i.is ∙ ended_group front i.inner i.matched none (ap has_change (sym inner_is) ∙ change)
 
--- the text before rows that began and ended a group is the one after an undo right after them
-group-undone : (start : List ℕ) (texts : List (List ℕ)) (inside : List Row) (b e u : Row) (mid : State) → Holds start texts b.before
-    → b.command ≡ asks.Begin → ¬ (WasRefused b.reply) → level b.before.pair.changes.recorded ≡ 0
-    → AllStandInGroup inside → Leads b.after inside mid → e.before ≡ mid → e.command ≡ asks.End → ¬ (WasRefused e.reply)
-    → has_change (drop (suc (length b.before.pair.changes.recorded)) e.before.pair.changes.recorded) ≡ true
-    → u.before ≡ e.after → u.command ≡ asks.Undo 1 → ¬ (WasRefused u.reply) → u.after.line.text ≡ b.before.line.text
-group-undone start texts inside b e u mid h is_begin begins none all l to_end is_end ends change to_undo is_undo undoes =
+-- the same right after the end of one group alone, where no group is open that was begun in it
+kept-alone : (front : List Entry) (r : Record) → Inside front r → level r.recorded ≡ suc (level front) → has_change (drop (suc (length front)) r.recorded) ≡ true
+    → kept_of 1 (ended_one r).recorded ≡ front
+kept-alone front r i last change =
+    let inner_is : drop (suc (length front)) r.recorded ≡ i.inner = ap (drop (suc (length front))) i.is ∙ past_begin front i.inner in
+    let one : min 1 (level r.recorded) ≡ 1 = omega (arith, last) in
+    let closed : level i.inner ≡ 0 = omega (arith, last, ap level i.is, level-group front i.inner i.matched) in
+    ap (λ n. kept_of 1 (end_times n r.recorded)) one ∙ ap (λ x. kept_of 1 (end_one x)) i.is ∙ closed_group front i.inner i.matched closed (ap has_change (sym inner_is) ∙ change)
+
+-- what stands in the record after the begin of a group, once rows stood in it
+group-inside : (inside : List Row) (b e : Row) (mid : State) → b.command ≡ asks.Begin → ¬ (WasRefused b.reply) → AllStandInGroup inside → Leads b.after inside mid → e.before ≡ mid
+    → Inside b.before.pair.changes.recorded e.before.pair.changes
+group-inside inside b e mid is_begin begins all l to_end =
     let front = b.before.pair.changes.recorded in
     let first : Inside front b.after.pair.changes =
     subst (λ (r : Record). Inside front r) (sym (begin-row b is_begin begins)) (record { inner = []; is = refl; matched = refl }) in
-    let i = subst (λ (s : State). Inside front s.pair.changes) (sym to_end) (Inside-Leads front inside b.after mid all l first) in
-    let kept : kept_of 1 u.before.pair.changes.recorded ≡ front =
-    ap (λ (s : State). kept_of 1 s.pair.changes.recorded) to_undo ∙ ap (λ (r : Record). kept_of 1 r.recorded) (end-row e is_end ends)
-    ∙ kept-before front e.before.pair.changes i none change in
+    subst (λ (s : State). Inside front s.pair.changes) (sym to_end) (Inside-Leads front inside b.after mid all l first)
+
+-- where an undo keeps what was recorded before rows, the text before them is the one after it
+group-undone : (start : List ℕ) (texts : List (List ℕ)) (inside : List Row) (b e u : Row) (mid : State) → Holds start texts b.before → Leads b.after inside mid → e.before ≡ mid
+    → kept_of 1 e.after.pair.changes.recorded ≡ b.before.pair.changes.recorded
+    → u.before ≡ e.after → u.command ≡ asks.Undo 1 → ¬ (WasRefused u.reply) → u.after.line.text ≡ b.before.line.text
+group-undone start texts inside b e u mid h l to_end keeps to_undo is_undo undoes =
+    let kept : kept_of 1 u.before.pair.changes.recorded ≡ b.before.pair.changes.recorded = ap (λ (s : State). kept_of 1 s.pair.changes.recorded) to_undo ∙ keeps in
     let at_mid = Holds-Leads start inside (texts ++ held b) b.after mid (Holds-row start texts b h) l in
     let texts_mid = (texts ++ held b) ++ held_of inside in
     let at_end = Holds-row start texts_mid e (subst (λ s. Holds start texts_mid s) (sym to_end) at_mid) in
@@ -208,4 +181,21 @@ pub group-in_run : (text : List ℕ) (old new : State) (commands : List Command)
 group-in_run text old new commands replies earlier inside later b e u first run rows is_begin begins none all is_end ends change is_undo undoes =
     let at = at_row text old new commands replies earlier (inside ++ (e ∷ (u ∷ later))) b first run rows in
     let p = Leads-split inside (e ∷ (u ∷ later)) b.after new at.goes_on in
-    group-undone text (text ∷ held_of earlier) inside b e u p.0 at.holds is_begin begins none all p.1 p.2.0 is_end ends change p.2.1.0 is_undo undoes
+    let i = group-inside inside b e p.0 is_begin begins all p.1 p.2.0 in
+    let keeps = ap (λ (r : Record). kept_of 1 r.recorded) (end-row e is_end ends) ∙ kept-before b.before.pair.changes.recorded e.before.pair.changes i none change in
+    group-undone text (text ∷ held_of earlier) inside b e u p.0 at.holds p.1 p.2.0 keeps p.2.1.0 is_undo undoes
+
+pub group-alone-in_run : (text : List ℕ) (old new : State) (commands : List Command) (replies : List Reply)
+    (earlier inside later : List Row) (b e u : Row) → Begins text old → (run : Run old commands replies new)
+    → run.rows ≡ earlier ++ (b ∷ (inside ++ (e ∷ (u ∷ later))))
+    → b.command ≡ asks.Begin → ¬ (WasRefused b.reply)
+    → AllStandInGroup inside → e.command ≡ asks.EndOne → ¬ (WasRefused e.reply)
+    → level e.before.pair.changes.recorded ≡ suc (level b.before.pair.changes.recorded)
+    → has_change (drop (suc (length b.before.pair.changes.recorded)) e.before.pair.changes.recorded) ≡ true
+    → u.command ≡ asks.Undo 1 → ¬ (WasRefused u.reply) → u.after.line.text ≡ b.before.line.text
+group-alone-in_run text old new commands replies earlier inside later b e u first run rows is_begin begins all is_end ends last change is_undo undoes =
+    let at = at_row text old new commands replies earlier (inside ++ (e ∷ (u ∷ later))) b first run rows in
+    let p = Leads-split inside (e ∷ (u ∷ later)) b.after new at.goes_on in
+    let i = group-inside inside b e p.0 is_begin begins all p.1 p.2.0 in
+    let keeps = ap (λ (r : Record). kept_of 1 r.recorded) (end_one-row e is_end ends) ∙ kept-alone b.before.pair.changes.recorded e.before.pair.changes i last change in
+    group-undone text (text ∷ held_of earlier) inside b e u p.0 at.holds p.1 p.2.0 keeps p.2.1.0 is_undo undoes

@@ -1,14 +1,15 @@
 -- One movement at most is named, by what stands after its word.
-use Rattle.std.proofs.Common.{◌≡◌, ℕ, List, Option, Some, refl, sym, ap, subst, ◌∙◌}
+use Rattle.std.proofs.Common.{◌≡◌, ℕ, ◌-◌, ◌^◌, List, Option, Some, refl, sym, ap, subst, ◌∙◌}
 use Rattle.std.specs.Prelude.{codes}
 use Rattle.rl_base.specs.declared.layout.GraphemeClusterMode.{GraphemeClusterMode}
+use Rattle.rl_base.specs.declared.listeners.Direction.{Direction}
 use Rattle.rl_base.specs.declared.motion.At.{At}
 use Rattle.rl_base.specs.declared.motion.CharSearch.{CharSearch}
 use Rattle.rl_base.specs.declared.motion.Movement.{Movement}
 use Rattle.rl_base.specs.declared.motion.Movement.TheVariants.{BackwardChar, ForwardChar, LineUp, LineDown}
 use Rattle.rl_base.specs.declared.motion.Word.{Word}
 use Rattle.rl_base.specs.declared.motion.WordAction.{WordAction}
-use Rattle.rl_session.specs.Grammar.{NamesWord, big, emacs, vi, NamesAt, start, before, after, NamesSearch, onto, till, back_onto, back_till, NamesAction, cap, low, upper, NamesMode, unicode, wcwidth, nozwj, CountWord, CountAtWord, CountSearch, Names, whole, home, eol, bword, fword, find, first, bchar, fchar, up, down, buf, bob, eob, AmountMovement}
+use Rattle.rl_session.specs.Grammar.{NamesWord, big, emacs, vi, NamesAt, start, before, after, NamesSearch, onto, till, back_onto, back_till, NamesAction, cap, low, upper, NamesMode, unicode, wcwidth, nozwj, CountWord, CountAtWord, CountSearch, Names, whole, home, eol, bword, fword, find, first, nonblank, bchar, fchar, up, down, buf, bob, eob, AmountMovement, NamesDirection, ahead, backward, RangeDirection}
 use Rattle.rl_session.specs.Spelling.{word, rest, SpellsChar, Numbered}
 use Rattle.rl_session.specs.Reads.{HasNoWord, HasNoAt, HasNoSearch, NamesNothing}
 use Rattle.rl_session.proofs.Scripts.NumberLemmas.{some_same}
@@ -36,6 +37,10 @@ pub NamesAction-one : {bytes : List ℕ} {a b : WordAction} → NamesAction byte
 NamesAction-one cap cap = refl
 NamesAction-one low low = refl
 NamesAction-one upper upper = refl
+
+NamesDirection-one : {bytes : List ℕ} {d e : Direction} → NamesDirection bytes d → NamesDirection bytes e → d ≡ e
+NamesDirection-one ahead ahead = refl
+NamesDirection-one backward backward = refl
 
 pub NamesMode-one : {bytes : List ℕ} {m n : GraphemeClusterMode} → NamesMode bytes m → NamesMode bytes n → m ≡ n
 NamesMode-one unicode unicode = refl
@@ -65,6 +70,12 @@ CountSearch-one {t = t} p q =
     let char : p.c ≡ q.c = SpellsChar-one p.char (subst (λ l. SpellsChar l q.c) (sym bytes) q.char) in
     let named : NamesSearch (word p.after) p.c t = rw (same.1, char) q.named in (same.0, NamesSearch-one p.named named)
 
+pub RangeDirection-one : {given : List ℕ} {i j k l : ℕ} {d e : Direction} → RangeDirection given i j d → RangeDirection given k l e → (i ≡ k) × (j ≡ l) × (d ≡ e)
+RangeDirection-one {l = l} {e = e} p q =
+    let starts = Numbered-one p.starts q.starts in
+    let ends = Numbered-one p.ends (subst (λ b. Numbered (2 ^ 64 - 1) b l q.letter) (sym starts.1) q.ends) in
+    (starts.0, ends.0, NamesDirection-one p.named (subst (λ b. NamesDirection b e) (sym ends.1) q.named))
+
 -- one movement at most
 
 pub Names-one : {word : List ℕ} {given : Option (List ℕ)} {m n : Movement} → Names word given m → Names word given n → m ≡ n
@@ -75,6 +86,7 @@ Names-one (bword p) (bword q) = let same = CountWord-one p q in rw (same.0, same
 Names-one (fword p) (fword q) = let same = CountAtWord-one p q in rw (same.0, same.1, same.2) refl
 Names-one (find p) (find q) = let same = CountSearch-one p q in rw (same.0, same.1) refl
 Names-one first first = refl
+Names-one nonblank nonblank = refl
 Names-one (bchar p) (bchar q) = ap (λ x. BackwardChar x) (some_same _ p q)
 Names-one (fchar p) (fchar q) = ap (λ x. ForwardChar x) (some_same _ p q)
 Names-one (up p) (up q) = ap (λ x. LineUp x) (some_same _ p q)

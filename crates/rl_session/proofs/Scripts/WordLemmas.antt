@@ -1,17 +1,18 @@
 -- The parts of a line, its one meaning, and where it says nothing.
 use Rattle.std.proofs.Common.{arith, ◌≡◌, ◌≢◌, ℕ, ◌-◌, ◌^◌, List, [], ◌∷◌, ◌++◌, Option, Some, None, false, refl, sym, ap, subst, ◌∙◌}
 use Rattle.std.specs.Prelude.{codes, ◌==◌}
+use Rattle.std.specs.String.{string_bytes}
 use Rattle.std.proofs.lemmas.Bool.Decides.{nat_tests}
 use Rattle.rl_base.specs.declared.motion.WordAction.{WordAction}
 use Rattle.rl_session.specs.declared.session.Command.TheVariants.{SetPos, Move, Yank, Delete, Backspace, TransposeWords, EditWord, Kill, Copy, Undo, Truncate}
 use Rattle.rl_session.specs.declared.settings.Setting.TheVariants.{Limit, RingSize, Mode}
-use Rattle.rl_session.specs.Grammar.{NamesAction, Meaning, NewText, Set, Do, RangeText, Says, no_text, text, pos, move, ins, paste, yank, yankpop, update, str, rep, range, del, back, killline, killbuf, discline, discbuf, prevword, nextword, to, tchars, twords, cased, kill, copy, indent, dedent, begin, end, undo, redo, trunc, limit, ring, mode, Means, Same, same, pastes, updates, puts_in, replaces, line_place}
+use Rattle.rl_session.specs.Grammar.{NamesAction, Meaning, NewText, Set, Do, RangeText, Says, no_text, text, pos, move, ins, paste, yank, yankpop, update, str, rep, range, del, back, killline, killbuf, discline, discbuf, prevword, nextword, to, tchars, twords, cased, kill, copy, indent, dedent, begin, end, endone, undo, redo, trunc, limit, ring, mode, Means, Same, same, pastes, updates, puts_in, replaces, line_place, killrange, keep, keeps}
 use Rattle.rl_session.specs.Spelling.{number_of, word, rest, SpellsChar, Numbered, SpellsRest, NumberedText}
-use Rattle.rl_session.specs.Reads.{SpellsNoChar, HasNoNumber, HasNoWord, HasNoAt, HasNoSearch, HasNoMovement, NamesNoMovement, SaysNoDeletion, SaysNoCommand}
+use Rattle.rl_session.specs.Reads.{SpellsNoChar, HasNoNumber, HasNoWord, HasNoAt, HasNoSearch, HasNoDirection, HasNoMovement, NamesNoMovement, SaysNoDeletion, SaysNoCommand}
 use Rattle.rl_session.proofs.Scripts.NumberLemmas.{some_same, none_holds}
 use Rattle.rl_session.proofs.Scripts.PartLemmas.{Lacks}
 use Rattle.rl_session.proofs.Scripts.SpellingLemmas.{Spells-one, SpellsChar-one}
-use Rattle.rl_session.proofs.Scripts.MovementLemmas.{NamesAction-one, NamesMode-one, Numbered-one, CountWord-one, CountAtWord-one, CountSearch-one, Names-one, AmountMovement-one}
+use Rattle.rl_session.proofs.Scripts.MovementLemmas.{NamesAction-one, NamesMode-one, Numbered-one, CountWord-one, CountAtWord-one, CountSearch-one, RangeDirection-one, Names-one, AmountMovement-one}
 
 other : (b c : ℕ) → b ≢ c → (b == c) ≡ false
 other b c h = grind (arith, nat_tests)
@@ -80,11 +81,14 @@ Says-one tchars tchars = same refl
 Says-one (twords p) (twords q) = same (ap (λ x. Do (TransposeWords x)) (some_same _ p q))
 Says-one (cased p) (cased q) = same (ap (λ x. Do (EditWord x)) (NamesAction-one p q))
 Says-one (kill p) (kill q) = same (ap (λ x. Do (Kill x)) (Names-one p q))
+Says-one (killrange p) (killrange q) = let both = RangeDirection-one p q in same (rw (both.0, both.1, both.2) refl)
+Says-one (keep {bytes = bytes} {t = t} p) (keep {t = u} q) = keeps (Spells-one bytes (string_bytes t) (string_bytes u) p q)
 Says-one (copy p) (copy q) = same (ap (λ x. Do (Copy x)) (Names-one p q))
 Says-one (indent p) (indent q) = let both = AmountMovement-one p q in same (rw (both.0, both.1) refl)
 Says-one (dedent p) (dedent q) = let both = AmountMovement-one p q in same (rw (both.0, both.1) refl)
 Says-one begin begin = same refl
 Says-one end end = same refl
+Says-one endone endone = same refl
 Says-one (undo p) (undo q) = same (ap (λ x. Do (Undo x)) (some_same _ p q))
 Says-one redo redo = same refl
 Says-one (trunc p) (trunc q) = same (ap (λ x. Do (Truncate x)) (some_same _ p q))
@@ -142,6 +146,9 @@ no-nextword given none command even (nextword p) = none _ _ _ p
 
 pub no-to : (given : List ℕ) → HasNoSearch given → SaysNoDeletion (codes "to") given
 no-to given none command even (to p) = none _ _ p
+
+pub no-killrange : (given : List ℕ) → HasNoDirection given → SaysNoDeletion (codes "killrange") given
+no-killrange given none command even (killrange p) = none _ _ _ p
 
 pub no-case : (given : List ℕ) → ((action : WordAction) → NamesAction given action → ⊥) → SaysNoCommand (codes "case") given
 no-case given none command even (cased p) = none _ p

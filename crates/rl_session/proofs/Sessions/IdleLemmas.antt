@@ -1,10 +1,13 @@
 -- No kill is on between the commands of a session: only a kill tells its start, and it tells its end too.
-use Rattle.std.proofs.Common.{◌≡◌, ℕ, ◌+◌, ◌-◌, ◌*◌, ◌==◌, ◌||◌, Bool, true, false, List, [], ◌∷◌, ◌++◌, length, Option, Some, None, refl, ap, subst, ◌∙◌, cond, inl, inr}
+use Rattle.std.proofs.Common.{◌≡◌, ℕ, ◌+◌, ◌-◌, ◌*◌, ◌==◌, ◌||◌, zero, suc, Bool, true, false, List, [], ◌∷◌, ◌++◌, length, Option, Some, None, refl, ap, subst, ◌∙◌, cond, inl, inr}
 use Rattle.std.specs.Prelude.{encode_utf8, ℕ}
 use Rattle.std.specs.List.{remove_range}
 use Rattle.std.specs.declared.ops.Range.{Range}
 use Rattle.rl_base.specs.Event.{Event, InsertChar, InsertStr, Delete, Replace, Start, Stop, Cursors}
-use Rattle.rl_base.specs.KillRing.{Ring, after_deletion, lent, popped_ring, ring_step, turned, yank, yank_popped, yank_size, yanked}
+use Rattle.rl_base.specs.declared.kill_ring.Action.{Action}
+use Rattle.rl_base.specs.declared.kill_ring.Action.TheVariants as did
+use Rattle.rl_base.specs.declared.kill_ring.Mode.{Mode}
+use Rattle.rl_base.specs.KillRing.{Ring, after_deletion, killed_as, lent, popped_ring, ring_step, turned, yank, yank_popped, yank_size, yanked}
 use Rattle.rl_base.specs.declared.listeners.Direction.{Direction}
 use Rattle.rl_base.specs.declared.listeners.Refusal.{Refusal}
 use Rattle.rl_base.specs.declared.motion.Movement.{Movement}
@@ -77,6 +80,13 @@ pub idle-Told : (b : Bool) (P : Pair → Pair → Type 0) (p q : Pair) → (P p 
 idle-Told true P p q alone t = alone t
 idle-Told false P p q alone t = ap (λ (k : Pair). k.ring.killing) t.ended
 
+-- a kill that is no step of a line leaves whether one is on
+pub killed_as-killing : (size : ℕ) (last : Action) (text : List ℕ) (mode : Mode) (r : Ring) → (killed_as size last text mode r).killing ≡ r.killing
+killed_as-killing zero last text mode r = refl
+killed_as-killing (suc n) did.Kill text mode r = refl
+killed_as-killing (suc n) (did.Yank m) text mode r = refl
+killed_as-killing (suc n) did.Other text mode r = refl
+
 -- a ring that lends a text stays idle
 idle-lent : (slot : Option (List ℕ)) (r : Ring) → r.killing ≡ false → (lent slot r).killing ≡ false
 idle-lent None r h = h
@@ -111,12 +121,12 @@ NoneStarts-yank line s n = NoneStarts-either ((length s == 0) || too_long line (
 pub NoneStarts-yank_pop : (line : Line) (z : ℕ) (s : List ℕ) → NoneStarts (yank_pop_plan line z s).steps
 NoneStarts-yank_pop line z s = (tt, NoneStarts-yank (stepped line (remove_range line.text (line.cursor - z) line.cursor) (line.cursor - z)) s 1)
 
-NoneStarts-removal : (line : Line) (range : Option (Range ℕ)) (side : Direction) → NoneStarts (removal line range side).steps
+pub NoneStarts-removal : (line : Line) (range : Option (Range ℕ)) (side : Direction) → NoneStarts (removal line range side).steps
 NoneStarts-removal line None side = tt
 NoneStarts-removal line (Some range) side = (tt, tt)
 
 pub NoneStarts-kill : (line : Line) (m : Movement) → NoneStarts (kill_plan line m).steps
-NoneStarts-kill line m = NoneStarts-removal line (killed line m) (side_of m)
+NoneStarts-kill line m = NoneStarts-removal line (killed line m) (side_of line m)
 
 NoneStarts-pulled_back : (line : Line) (around : Option (ℕ × Range ℕ)) → NoneStarts (pulled_back line around).steps
 NoneStarts-pulled_back line None = tt

@@ -122,7 +122,7 @@ Settles-removal line None side h = Settles-nothing line false
 Settles-removal line (Some r) side h = Settles-single line (Delete r.start (text_in line r) side) r.start true (λ e. h (empty-deleted r.start (text_in line r) side e)) tt
 
 pub Settles-kill : (line : Line) (m : Movement) → MovesBy line (killed line m) → Settles line (kill_plan line m)
-Settles-kill line m h = Settles-removal line (killed line m) (side_of m) h
+Settles-kill line m h = Settles-removal line (killed line m) (side_of line m) h
 
 MovesBy-to_place : (line : Line) (place : Option ℕ) → MovesBy line (to_place line place)
 MovesBy-to_place line None = tt

@@ -3,13 +3,15 @@ use Rattle.std.proofs.Common.{Bool, true, false, inr, inl, ◌≡◌, ◌∙◌,
 use Rattle.std.specs.Prelude.{ℕ, Any, Bool, Option, IfOk, IfErr, OnOk, OnErr}
 use Rattle.std.specs.Option.{option_map}
 use Rattle.rl_base.specs.Event.{Start}
+use Rattle.rl_base.specs.declared.listeners.Direction.{Direction}
 use Rattle.rl_base.specs.declared.listeners.Refusal.{Refusal}
 use Rattle.rl_base.specs.declared.listeners.Refusal.TheVariants as why
 use Rattle.rl_base.specs.declared.motion.Movement.{Movement}
 use Rattle.rl_base.specs.declared.motion.WordAction.{WordAction}
 use Rattle.rl_line.specs.Line.{Line, NeedsRoom}
 use Rattle.rl_line.specs.Plan.{Plan, Done, Halted}
-use Rattle.rl_line.specs.Kills.{Told, copied, is_by_characters, kill_plan}
+use Rattle.rl_line.specs.Kills.{Told, copied, is_by_characters, kill_plan, kill_range_plan}
+use Rattle.rl_line.specs.LineRanges.{IsRange}
 use Rattle.rl_line.specs.LetterCase.{edit_word_plan, Recased}
 use Rattle.rl_line.specs.Record.{Record}
 use Rattle.rl_line.specs.Undo.{Undone, Redone, steps_ahead, steps_back, texts_ahead, texts_back}
@@ -21,21 +23,21 @@ use Rattle.rl_session.specs.Pair.{pair_step, pair_refused}
 use Rattle.rl_session.specs.declared.pair.Pair.{Pair}
 use Rattle.rl_session.specs.Replies.{replied}
 use Rattle.rl_session.specs.State.{State}
-use Rattle.rl_session.specs.declared.session.Command.TheVariants.{Copy, EditWord, Kill, Redo, Undo}
+use Rattle.rl_session.specs.declared.session.Command.TheVariants.{Copy, EditWord, Kill, KillRange, Redo, Undo}
 use Rattle.rl_session.specs.declared.session.Reply.{Reply}
 use Rattle.rl_session.specs.declared.session.Reply.TheVariants as says
 use Rattle.rl_session.proofs.Sessions.PairLemmas.{Stopped, Halted-pair}
 
-CutShort-refused : {A : Type 0} (takes : Takes) (plan : Plan A) (old new : State) (w : Refusal) → new.mode ≡ old.mode
+CutShort-refused : {A : Type 0} (takes : Takes) (plan : Plan A) (old new : State) (w : Refusal) → new.options ≡ old.options
     → Halted pair_step (refusal_of takes) plan old.line new.line old.pair new.pair w → CutShort takes plan old new
-CutShort-refused takes plan old new w m h = record { halted = Halted-pair takes plan old.line new.line old.pair new.pair w h; mode = m }
+CutShort-refused takes plan old new w m h = record { halted = Halted-pair takes plan old.line new.line old.pair new.pair w h; options = m }
 
 -- a state whose parts stayed
-same_parts : (old new : State) → new.mode ≡ old.mode → new.line ≡ old.line → new.pair ≡ old.pair → new ≡ old
+same_parts : (old new : State) → new.options ≡ old.options → new.line ≡ old.line → new.pair ≡ old.pair → new ≡ old
 same_parts old new m l p =
-    ap (λ (x : Line). record new { line = x }) l ∙ ap (λ (x : Pair). record new { line = old.line; pair = x }) p ∙ ap (λ x. record old { mode = x }) m
+    ap (λ (x : Line). record new { line = x }) l ∙ ap (λ (x : Pair). record new { line = old.line; pair = x }) p ∙ ap (λ x. record old { options = x }) m
 
-Stopped-cut : {A : Type 0} (takes : Takes) (plan : Plan A) (old new : State) (w : Refusal) → new.mode ≡ old.mode → Stopped takes plan old.line new.line old.pair new.pair w
+Stopped-cut : {A : Type 0} (takes : Takes) (plan : Plan A) (old new : State) (w : Refusal) → new.options ≡ old.options → Stopped takes plan old.line new.line old.pair new.pair w
     → Came (stops (unbegun takes plan) takes plan) old new
 Stopped-cut nothing_more plan old new w m h = inr (CutShort-refused nothing_more plan old new w m h)
 Stopped-cut room_by_step plan old new w m h = inr (CutShort-refused room_by_step plan old new w m h)
@@ -66,7 +68,7 @@ said is_done _ = says.Done
 module _ {A : Type 0} (takes : Takes) (telling : Telling A) (plan : Plan A) (old new : State) (outcome : Result (Handed telling) Refusal) where
   -- what an edit of a line promises, in a session whose other parts stay
   pub record Outcome : Type 0 where
-    pub mode : new.mode ≡ old.mode
+    pub options : new.options ≡ old.options
     pub done : IfOk outcome (λ b. Done pair_step plan old.line new.line old.pair new.pair (shown telling b))
     pub halted : IfErr outcome (λ w. Stopped takes plan old.line new.line old.pair new.pair w)
 
@@ -76,11 +78,11 @@ carried P {reply = reply} v e p = subst (λ s. P s reply) v (subst (P _) (sym e)
 
 Edits-told : {A : Type 0} (takes : Takes) (telling : Telling A) (condition : Type 0) (plan : Plan A) (old new : State) (outcome : Result (Handed telling) Refusal) → condition
     → Outcome takes telling plan old new outcome → Came (edit_course takes condition plan telling (replied (said telling) outcome)) old new
-Edits-told takes answers condition plan old new (Ok a) c o = (c, record { done = o.done; mode = o.mode })
-Edits-told takes inserts condition plan old new (Ok a) c o = (c, record { done = o.done; mode = o.mode })
-Edits-told takes hands_out condition plan old new (Ok a) c o = (c, record { done = o.done; mode = o.mode })
-Edits-told takes is_done condition plan old new (Ok a) c o = (c, record { done = o.done; mode = o.mode })
-Edits-told takes telling condition plan old new (Err w) c o = (c, Stopped-cut takes plan old new w o.mode o.halted)
+Edits-told takes answers condition plan old new (Ok a) c o = (c, record { done = o.done; options = o.options })
+Edits-told takes inserts condition plan old new (Ok a) c o = (c, record { done = o.done; options = o.options })
+Edits-told takes hands_out condition plan old new (Ok a) c o = (c, record { done = o.done; options = o.options })
+Edits-told takes is_done condition plan old new (Ok a) c o = (c, record { done = o.done; options = o.options })
+Edits-told takes telling condition plan old new (Err w) c o = (c, Stopped-cut takes plan old new w o.options o.halted)
 
 -- an edit of a line is one of the session
 pub Edits-replied : {A : Type 0} (takes : Takes) (telling : Telling A) {condition : Type 0} (plan : Line → Plan A) {inside old new : State} {outcome : Result (Handed telling) Refusal} {reply : Reply}
@@ -93,23 +95,34 @@ Told-each : (b : Bool) (P Q : Pair → Pair → Type 0) (p q : Pair) → ((befor
 Told-each true P Q p q f t = f p q t
 Told-each false P Q p q f t = record { last = t.last; inside = f (pair_step p Start) t.last t.inside; ended = t.ended }
 
-pub Kill-replied : (m : Movement) {inside old : State} (new : State) (outcome : Result Bool Refusal) {reply : Reply} → inside ≡ old → reply ≡ replied says.Answer outcome → new.mode ≡ inside.mode
+pub Kill-replied : (m : Movement) {inside old : State} (new : State) (outcome : Result Bool Refusal) {reply : Reply} → inside ≡ old → reply ≡ replied says.Answer outcome → new.options ≡ inside.options
     → IfOk outcome (λ a. Told pair_step (is_by_characters m) (λ before now. Done pair_step (kill_plan inside.line m) inside.line new.line before now a) inside.pair new.pair)
     → IfErr outcome (λ w. Told pair_step (is_by_characters m) (λ before now. Halted pair_step pair_refused (kill_plan inside.line m) inside.line new.line before now w) inside.pair new.pair)
     → Does old (Kill m) reply new
-Kill-replied m {inside} new (Ok a) v e mode d h =
-    carried (λ s r. Does s (Kill m) r new) v e (Told-each (is_by_characters m) _ _ inside.pair new.pair (λ before now i. record { done = i; mode = mode }) d)
-Kill-replied m {inside} new (Err w) v e mode d h =
-    carried (λ s r. Does s (Kill m) r new) v e (Told-each (is_by_characters m) _ _ inside.pair new.pair (λ before now i. inr (record { halted = Halted-pair nothing_more (kill_plan inside.line m) inside.line new.line before now w i; mode = mode })) h)
+Kill-replied m {inside} new (Ok a) v e options d h =
+    carried (λ s r. Does s (Kill m) r new) v e (Told-each (is_by_characters m) _ _ inside.pair new.pair (λ before now i. record { done = i; options = options }) d)
+Kill-replied m {inside} new (Err w) v e options d h =
+    carried (λ s r. Does s (Kill m) r new) v e (Told-each (is_by_characters m) _ _ inside.pair new.pair (λ before now i. inr (record { halted = Halted-pair nothing_more (kill_plan inside.line m) inside.line new.line before now w i; options = options })) h)
 
-pub EditWord-replied : (action : WordAction) {inside old : State} (new : State) (outcome : Result Bool Refusal) {reply : Reply} → inside ≡ old → reply ≡ replied says.Answer outcome → new.mode ≡ inside.mode
+pub KillRange-replied : (i j : ℕ) (side : Direction) {inside old : State} (new : State) (outcome : Result Bool Refusal) {reply : Reply} → inside ≡ old → IsRange old.line.text i j → reply ≡ replied says.Answer outcome
+    → new.options ≡ inside.options
+    → IfOk outcome (λ a. Told pair_step false (λ before now. Done pair_step (kill_range_plan inside.line i j side) inside.line new.line before now a) inside.pair new.pair)
+    → IfErr outcome (λ w. Told pair_step false (λ before now. Halted pair_step pair_refused (kill_range_plan inside.line i j side) inside.line new.line before now w) inside.pair new.pair)
+    → Does old (KillRange i j side) reply new
+KillRange-replied i j side {inside} new (Ok a) v range e options d h =
+    carried (λ s r. Does s (KillRange i j side) r new) v e (subst (λ (s : State). IsRange s.line.text i j) (sym v) range, Told-each false _ _ inside.pair new.pair (λ before now k. record { done = k; options = options }) d)
+KillRange-replied i j side {inside} new (Err w) v range e options d h =
+    carried (λ s r. Does s (KillRange i j side) r new) v e
+    (subst (λ (s : State). IsRange s.line.text i j) (sym v) range, Told-each false _ _ inside.pair new.pair (λ before now k. inr (record { halted = Halted-pair nothing_more (kill_range_plan inside.line i j side) inside.line new.line before now w k; options = options })) h)
+
+pub EditWord-replied : (action : WordAction) {inside old : State} (new : State) (outcome : Result Bool Refusal) {reply : Reply} → inside ≡ old → reply ≡ replied says.Answer outcome → new.options ≡ inside.options
     → IfOk outcome (λ a. Recased inside.line action (λ made. Done pair_step (edit_word_plan inside.line made) inside.line new.line inside.pair new.pair a))
     → IfErr outcome (λ w. Recased inside.line action (λ made. Stopped a_copy (edit_word_plan inside.line made) inside.line new.line inside.pair new.pair w))
     → Does old (EditWord action) reply new
-EditWord-replied action {inside} new (Ok a) v e mode d h =
-    carried (λ s r. Does s (EditWord action) r new) v e (record { made = d.made; utf8 = d.utf8; ascii = d.ascii; holds = record { done = d.holds; mode = mode } })
-EditWord-replied action {inside} new (Err w) v e mode d h =
-    carried (λ s r. Does s (EditWord action) r new) v e (record { made = h.made; utf8 = h.utf8; ascii = h.ascii; holds = Stopped-cut a_copy (edit_word_plan inside.line h.made) inside new w mode h.holds })
+EditWord-replied action {inside} new (Ok a) v e options d h =
+    carried (λ s r. Does s (EditWord action) r new) v e (record { made = d.made; utf8 = d.utf8; ascii = d.ascii; holds = record { done = d.holds; options = options } })
+EditWord-replied action {inside} new (Err w) v e options d h =
+    carried (λ s r. Does s (EditWord action) r new) v e (record { made = h.made; utf8 = h.utf8; ascii = h.ascii; holds = Stopped-cut a_copy (edit_word_plan inside.line h.made) inside new w options h.holds })
 
 pub Copy-replied : (m : Movement) {inside s : State} (outcome : Result (Option (String Global)) Refusal) {reply : Reply} → inside ≡ s → reply ≡ replied says.Text outcome
     → IfOk outcome (λ t. option_map string_bytes t ≡ copied inside.line m) → IfErr outcome (λ w. (w ≡ why.NoMemory) × HasText (copied inside.line m)) → Does s (Copy m) reply s

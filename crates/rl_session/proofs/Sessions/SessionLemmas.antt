@@ -18,7 +18,7 @@ use Rattle.rl_line.specs.LetterCase.{edit_word_plan, Recased}
 use Rattle.rl_line.specs.Record.{Record, agree, replays_to, unwind}
 use Rattle.rl_line.proofs.Records.JoinLemmas.{record_step-Start, record_step-Stop}
 use Rattle.rl_line.specs.Undo.{Redone, Undone}
-use Rattle.rl_line.specs.Units.{adds_end, begun, ended, level}
+use Rattle.rl_line.specs.Units.{adds_end, begun, with_closed}
 use Rattle.rl_session.specs.State.{State, AtRest, Follows}
 use Rattle.rl_line.proofs.Plans.PlanLemmas.{first_step}
 use Rattle.rl_session.specs.Commands.{Takes, nothing_more, room_by_step, a_copy, Edited, lent, lent_plan, popped, popped_plan}
@@ -32,7 +32,7 @@ use Rattle.rl_line.specs.Undo.{line_back}
 use Rattle.std.proofs.lemmas.Slice.Eq.{bytes_eq-Decides}
 use Rattle.rl_line.proofs.Records.RecordLemmas.{value_of}
 use Rattle.rl_line.proofs.Records.UndoLemmas.{line_back-unwind}
-use Rattle.rl_line.proofs.Records.WalkLemmas.{Walks-Done, Walks-Halted, Walks-Redone, Walks-Undone, Walks-ahead, Walks-back, Walks-begun, Walks-ended}
+use Rattle.rl_line.proofs.Records.WalkLemmas.{Walks-Done, Walks-Halted, Walks-Redone, Walks-Undone, Walks-ahead, Walks-back, Walks-begun, Walks-closed}
 use Rattle.std.proofs.lemmas.Option.{same_Some}
 
 -- a text that goes into an empty line
@@ -114,18 +114,24 @@ Walks-Told true P p q old new keeps t = keeps p q t
 Walks-Told false P p q old new keeps t =
     past_telling (λ r now. Walks r old.text → Walks now new.text) p t.last q t.ended (keeps (pair_step p Start) t.last t.inside)
 
+pub AtRest-told : (b : Bool) (plan : Plan Bool) (p q : Pair) (old new : Line) (result : Result Bool Refusal) → IsCharBoundary old.text old.cursor → NoneStarts plan.steps
+    → IfOk result (λ a. Told pair_step b (λ before now. Done pair_step plan old new before now a) p q)
+    → IfErr result (λ w. Told pair_step b (λ before now. Halted pair_step pair_refused plan old new before now w) p q)
+    → AtRest old p → AtRest new q
+AtRest-told b plan p q old new (Ok a) at none d h r = record {
+  walks = Walks-Told b _ p q old new (λ before now i. Walks-pair plan before now old new a at i) d r.walks;
+  idle = idle-Told b _ p q (λ i. idle-Done plan old new p q a none i r.idle) d;
+}
+AtRest-told b plan p q old new (Err w) at none d h r = record {
+  walks = Walks-Told b _ p q old new (λ before now i. Walks-refused plan before now old new w at (Halted-own nothing_more plan old new before now w i)) h r.walks;
+  idle = idle-Told b _ p q (λ i. idle-Halted plan old new p q w none (Halted-own nothing_more plan old new p q w i) r.idle) h;
+}
+
 pub AtRest-kill : (m : Movement) (p q : Pair) (old new : Line) (result : Result Bool Refusal) → IsCharBoundary old.text old.cursor
     → IfOk result (λ a. Told pair_step (is_by_characters m) (λ before now. Done pair_step (kill_plan old m) old new before now a) p q)
     → IfErr result (λ w. Told pair_step (is_by_characters m) (λ before now. Halted pair_step pair_refused (kill_plan old m) old new before now w) p q)
     → AtRest old p → AtRest new q
-AtRest-kill m p q old new (Ok a) at d h r = record {
-  walks = Walks-Told (is_by_characters m) _ p q old new (λ before now i. Walks-pair (kill_plan old m) before now old new a at i) d r.walks;
-  idle = idle-Told (is_by_characters m) _ p q (λ i. idle-Done (kill_plan old m) old new p q a (NoneStarts-kill old m) i r.idle) d;
-}
-AtRest-kill m p q old new (Err w) at d h r = record {
-  walks = Walks-Told (is_by_characters m) _ p q old new (λ before now i. Walks-refused (kill_plan old m) before now old new w at (Halted-own nothing_more (kill_plan old m) old new before now w i)) h r.walks;
-  idle = idle-Told (is_by_characters m) _ p q (λ i. idle-Halted (kill_plan old m) old new p q w (NoneStarts-kill old m) (Halted-own nothing_more (kill_plan old m) old new p q w i) r.idle) h;
-}
+AtRest-kill m p q old new result at = AtRest-told (is_by_characters m) (kill_plan old m) p q old new result at (NoneStarts-kill old m)
 
 -- nothing was done, since memory is out
 Walks-same : (r now : Record) (old new : Line) → (now ≡ r) × (new ≡ old) → Walks r old.text → Walks now new.text
@@ -146,10 +152,10 @@ pub Walks-begin : (X : Type 0) (r now : Record) (line : Line) (result : Result �
 Walks-begin X r now line (Ok a) d h w = subst (λ (k : Record). Walks k line.text) (sym d.1) (Walks-begun r line.text w)
 Walks-begin X r now line (Err v) d h w = subst (λ (k : Record). Walks k line.text) (sym h.1) w
 
-pub Walks-end : (X : Type 0) (r now : Record) (line : Line) (result : Result Bool Refusal) → IfOk result (λ a. (a ≡ adds_end (level r.recorded) r.recorded) × (now ≡ ended r))
+pub Walks-end : (X : Type 0) (n : ℕ) (r now : Record) (line : Line) (result : Result Bool Refusal) → IfOk result (λ a. (a ≡ adds_end n r.recorded) × (now ≡ with_closed n r))
     → IfErr result (λ w. (w ≡ why.NoMemory) × (now ≡ r) × X) → Walks r line.text → Walks now line.text
-Walks-end X r now line (Ok a) d h w = subst (λ (k : Record). Walks k line.text) (sym d.1) (Walks-ended r line.text w)
-Walks-end X r now line (Err v) d h w = subst (λ (k : Record). Walks k line.text) (sym h.1) w
+Walks-end X n r now line (Ok a) d h w = subst (λ (k : Record). Walks k line.text) (sym d.1) (Walks-closed n r line.text w)
+Walks-end X n r now line (Err v) d h w = subst (λ (k : Record). Walks k line.text) (sym h.1) w
 
 -- all entries lead to the text
 pub replays-all : (len : ℕ) (r : Record) (line : Line) → IsCharBoundary line.text line.cursor → length r.recorded ≤ len → Walks r line.text → replays_to len r line.text ≡ true
@@ -171,7 +177,7 @@ Follows-unwind r line f =
 Edited-nothing : {A : Type 0} (a : A) (s : State) → Edited (nothing s.line a) s s a
 Edited-nothing a s = record {
   done = record { last = s.line; taken = record { line = refl; listener = refl }; line = refl; answered = refl };
-  mode = refl;
+  options = refl;
 }
 
 -- nothing was lent, so nothing was done

@@ -16,7 +16,7 @@ use Rattle.rl_line.specs.Undo.{steps_ahead, steps_back}
 use Rattle.rl_line.specs.Units.{last_of, redo_of}
 use Rattle.rl_line.proofs.Records.HeardLemmas.{after-steps_ahead, after-steps_back}
 use Rattle.rl_line.proofs.Plans.HearingLemmas.{Keeps-after}
-use Rattle.rl_session.specs.Commands.{Effect, by_steps, puts_begin, puts_ends, shortens, takes_back, puts_again, Became, Step, effect, readied, Course, never, when, stays, goes, edits, stops, respells, lends, pops, tells, Came, WatchHears, lent, popped}
+use Rattle.rl_session.specs.Commands.{Effect, by_steps, puts_begin, puts_ends, puts_end, shortens, takes_back, puts_again, Became, Step, effect, readied, Course, never, when, stays, goes, edits, stops, respells, lends, pops, tells, Came, WatchHears, lent, popped, keeps}
 use Rattle.rl_session.specs.Pair.{pair_step}
 use Rattle.rl_session.specs.State.{State, ChangedFrom, IsBounded, ReportedFrom, Stands, restarted, with_watch}
 use Rattle.rl_session.specs.Run.{Row, Leads, Run}
@@ -99,7 +99,9 @@ module _ (Keeps : Watched → List ℕ → Type 0)
   Kept-Became (by_steps course) old new t d k = Kept-Came course old new t d k
   Kept-Became (puts_begin n) old new t d k = subst Kept (sym d.1) k
   Kept-Became (puts_ends a) old new t d k = subst Kept (sym d.1) k
+  Kept-Became (puts_end a) old new t d k = subst Kept (sym d.1) k
   Kept-Became (shortens len) old new t d k = subst Kept (sym d.1) k
+  Kept-Became (keeps text) old new t d k = subst Kept (sym d) k
   Kept-Became (takes_back n a) old new t d k =
       let back = last_of n old.pair.changes.recorded in
       let steps = after-steps_back back old.line new.line t.at t.within d.0.line_is in

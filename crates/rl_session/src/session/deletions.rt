@@ -1,5 +1,6 @@
 //! Deletions. What they take out does not go to the ring.
-ghost use Rattle.std.specs.Prelude.{◌≡◌, true, false, IfOk, IfErr};
+ghost use Rattle.std.specs.Prelude.{◌≡◌, ◌≢◌, true, false, IfOk, IfErr};
+ghost use Rattle.rl_base.specs.declared.motion.Movement.{Movement};
 ghost use Rattle.rl_line.specs.Kills.{kill_plan};
 ghost use Rattle.rl_line.specs.LineRanges.{IsRange};
 ghost use Rattle.rl_line.specs.Plan.{Done, Halted};
@@ -52,7 +53,8 @@ impl Session {
     // command is chosen.
     #[inline(always)]
     pub(super) fn delete_by(&mut self, movement: &Movement) -> Reply
-        requires { IsDirected movement.now }
+        requires directed { IsDirected movement.now }
+        requires called { movement.now ≢ Movement.FirstNonBlank }
         ensures { Came (edit_course nothing_more (Unit {0}) (kill_plan self.old.line movement.now) answers result) self.old self.new }
     {
         self.stands();
@@ -60,10 +62,11 @@ impl Session {
     }
 }
 
-// Deletes by a movement to one side of the cursor: the line has a call for each.
+// Deletes by a movement to one side of the cursor. The line has a call for each but `FirstNonBlank`.
 #[inline(never)]
 fn delete_in(line: &mut LineBuffer, movement: &Movement, pair: &mut Pair) -> Result<bool, Refusal>
-    requires { IsDirected movement.now }
+    requires directed { IsDirected movement.now }
+    requires called { movement.now ≢ Movement.FirstNonBlank }
     ensures done { IfOk result (λ answer. Done pair_step (kill_plan line.old movement.now) line.old line.new pair.old pair.new answer) }
     ensures halted { IfErr result (λ r. Halted pair_step pair_refused (kill_plan line.old movement.now) line.old line.new pair.old pair.new r) }
 {

@@ -1,4 +1,6 @@
-//! Groups of changes, undo, redo, and truncation of the record.
+//! Groups of changes, undo, redo, and truncation of the record, and what can be asked about them.
+ghost use Rattle.std.specs.Prelude.{◌≡◌};
+ghost use Rattle.rl_line.specs.Units.{has_change, last_of, level, redo_of};
 ghost use Rattle.rl_session.specs.Commands.{Does};
 ghost use Rattle.rl_session.specs.declared.session.Command.{Command};
 
@@ -7,6 +9,27 @@ use crate::session::{Fault, Reply, Session};
 use rl_base::RepeatCount;
 
 impl Session {
+    /// Whether an undo of one unit would find a change (`Changeset::has_undo`). As a read it parts no run of kills.
+    pub fn can_undo(&self) -> bool
+        ensures { result ≡ has_change (last_of 1 self.now.pair.changes.recorded) }
+    {
+        self.pair.changes.has_undo()
+    }
+
+    /// Whether a redo would find a change (`Changeset::has_redo`). A read too.
+    pub fn can_redo(&self) -> bool
+        ensures { result ≡ has_change (redo_of self.now.pair.changes.pending) }
+    {
+        self.pair.changes.has_redo()
+    }
+
+    /// How many groups are open. A read too.
+    pub fn level(&self) -> usize
+        ensures { result ≡ level self.now.pair.changes.recorded }
+    {
+        self.pair.changes.level()
+    }
+
     pub(super) fn begin(&mut self) -> Reply
         ensures { Does self.old Command.Begin result self.new }
     {
@@ -20,6 +43,12 @@ impl Session {
         ensures { Does self.old Command.End result self.new }
     {
         answered(self.pair.changes.end())
+    }
+
+    pub(super) fn end_one(&mut self) -> Reply
+        ensures { Does self.old Command.EndOne result self.new }
+    {
+        answered(self.pair.changes.end_one())
     }
 
     pub(super) fn undo(&mut self, n: RepeatCount) -> Reply

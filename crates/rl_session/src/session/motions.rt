@@ -1,10 +1,14 @@
-//! Motions, copying by one, and where the cursor stands.
-ghost use Rattle.rl_session.specs.Commands.{Does};
+//! Motions, where each leads and what it covers, copying by one, and where the cursor stands.
+ghost use Rattle.std.specs.Prelude.{◌≡◌, ◌≤◌, IfSome};
+ghost use Rattle.std.specs.Str.{IsCharBoundary};
+ghost use Rattle.rl_line.specs.Ranges.{covered};
+ghost use Rattle.rl_session.specs.Commands.{Does, destination, line_place};
 ghost use Rattle.rl_session.specs.declared.session.Command.{Command};
 
 use crate::session::replies::handed_out;
 use crate::session::{Fault, Reply, Session};
-use rl_base::{Layout, Movement};
+use rl_base::{Movement, Unit};
+use std::ops::Range;
 
 impl Session {
     pub(super) fn set_pos(&mut self, pos: usize) -> Reply
@@ -18,25 +22,30 @@ impl Session {
         }
     }
 
+    /// The byte range that the movement covers, whose text `Command::Copy` by it copies. None where that is nothing.
+    pub fn covers(&self, movement: &Movement) -> Option<Range<usize>>
+        ensures value { result ≡ covered self.now.line movement.now }
+        ensures order { IfSome result (λ r. r.start ≤ r.end) }
+        ensures start { IfSome result (λ r. IsCharBoundary self.now.line.text r.start) }
+        ensures end { IfSome result (λ r. IsCharBoundary self.now.line.text r.end) }
+    {
+        self.line.covered(movement)
+    }
+
+    /// The byte place that `Command::Move` by the movement goes to. None where that answers false: where there is no such
+    /// place, and where the cursor stands there already.
+    pub fn destination(&self, movement: &Movement) -> Option<usize>
+        ensures value { result ≡ destination self.now movement.now }
+        ensures boundary { IfSome result (IsCharBoundary self.now.line.text) }
+    {
+        self.line.destination(movement, &self.options.layout())
+    }
+
     pub(super) fn move_by(&mut self, movement: &Movement) -> Reply
         ensures { Does self.old (Command.Move movement.now) result self.new }
     {
-        let layout = Layout::new(self.mode);
-        let line = &mut self.line;
-        Reply::Answer(match movement {
-            Movement::BeginningOfLine => line.move_home(),
-            Movement::EndOfLine => line.move_end(),
-            Movement::BackwardWord(n, word) => line.move_to_prev_word(*word, *n),
-            Movement::ForwardWord(n, at, word) => line.move_to_next_word(*at, *word, *n),
-            Movement::ViCharSearch(n, cs) => line.move_to(*cs, *n),
-            Movement::BackwardChar(n) => line.move_backward(*n),
-            Movement::ForwardChar(n) => line.move_forward(*n),
-            Movement::LineUp(n) => line.move_to_line_up(*n, &layout),
-            Movement::LineDown(n) => line.move_to_line_down(*n, &layout),
-            Movement::BeginningOfBuffer => line.move_buffer_start(),
-            Movement::EndOfBuffer => line.move_buffer_end(),
-            Movement::WholeLine | Movement::ViFirstPrint | Movement::WholeBuffer => false,
-        })
+        let layout = self.options.layout();
+        Reply::Answer(self.line.move_by(movement, &layout))
     }
 
     pub(super) fn copy(&self, movement: &Movement) -> Reply
@@ -48,12 +57,21 @@ impl Session {
     pub(super) fn line_place(&self) -> Reply
         ensures { Does self.now Command.LinePlace result self.now }
     {
+        let (k, columns) = self.line_column();
+        Reply::At(k, columns)
+    }
+
+    /// Where the cursor stands, as `LinePlace` answers it: the number of its line, from 0, and the columns from that
+    /// line's start to the cursor. It cuts clusters of that part of the line alone, and as a read it parts no run of kills.
+    pub fn line_column(&self) -> (usize, Unit)
+        ensures { result ≡ line_place self.now }
+    {
         let line = &self.line;
         let k = line.line_number();
         match line.line_range(k) {
             Some(range) => {
                 let before = &line.as_str()[range.start..line.pos()];
-                Reply::At(k, self.mode.width(before))
+                (k, self.options.mode.width(before))
             }
             None => unreachable!(),
         }

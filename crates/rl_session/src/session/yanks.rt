@@ -9,7 +9,7 @@ ghost use Rattle.rl_session.specs.declared.session.Command.{Command};
 
 use crate::session::replies::{answered, inserted};
 use crate::session::{Command, Fault, Reply, Session};
-use rl_base::{KillRing, Movement, RepeatCount};
+use rl_base::{Direction, KillRing, Mode, Movement, RepeatCount};
 use std::alloc::{AllocError, Global};
 
 impl Session {
@@ -18,6 +18,29 @@ impl Session {
     {
         self.stands();
         answered(self.line.kill(movement, &mut self.pair))
+    }
+
+    pub(super) fn kill_range(&mut self, from: usize, to: usize, dir: Direction) -> Reply
+        ensures { Does self.old (Command.KillRange from to dir) result self.new }
+    {
+        self.stands();
+        if !self.is_range(from, to) {
+            return Reply::Refused(Fault::BadPlace);
+        }
+        answered(self.line.kill_range(from..to, dir, &mut self.pair))
+    }
+
+    // The ring was reset, so it begins a text; it is reset again, so that a kill begins another.
+    pub(super) fn keep(&mut self, text: &String) -> Reply
+        ensures { Does self.old (Command.Keep text.now) result self.new }
+    {
+        match self.pair.ring.kill(text.as_str(), Mode::Append) {
+            Ok(()) => {
+                self.pair.ring.reset();
+                Reply::Done
+            }
+            Err(_) => Reply::Refused(Fault::NoMemory),
+        }
     }
 
     pub(super) fn yank(&mut self, n: RepeatCount) -> Reply
@@ -84,7 +107,8 @@ fn continues(command: &Command) -> bool
 {
     match command {
         Command::Kill(Movement::BackwardChar(_) | Movement::ForwardChar(_)) => false,
-        Command::Kill(_) | Command::Yank(_) | Command::YankPop => true,
+        Command::Kill(_) | Command::KillRange(_, _, _) | Command::Yank(_) | Command::YankPop =>
+            true,
         _ => false,
     }
 }

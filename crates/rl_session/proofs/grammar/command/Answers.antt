@@ -1,6 +1,6 @@
 use Rattle.std.proofs.Common.{◌≡◌, ℕ, true, false, List, Option, None, Some, refl, sym}
 use Rattle.std.specs.Prelude.{MatchOption}
-use Rattle.rl_session.specs.Grammar.{Says, Do, pos, move, ins, paste, yank, update, str, rep, range, del, back, prevword, nextword, to, twords, cased, kill, copy, indent, dedent, undo, trunc}
+use Rattle.rl_session.specs.Grammar.{Says, Do, pos, move, ins, paste, yank, update, str, rep, range, del, back, prevword, nextword, to, twords, cased, kill, killrange, keep, copy, indent, dedent, undo, trunc}
 use Rattle.rl_session.proofs.Scripts.WordLemmas.{no-pos, no-move, no-yank, no-twords, no-case, no-kill, no-copy, no-indent, no-dedent, no-undo, no-trunc}
 use Rattle.rl_session.specs.Reads.{holds_text, deletes, SaysNoDeletion, SaysNoCommand}
 use Rattle.rl_session.specs.declared.session.Command.{Command}
@@ -88,6 +88,8 @@ others c w given command e even (to p) = refl
 others c w given command e even (twords p) = absurd (c.in_default.not-twords e)
 others c w given command e even (cased p) = absurd (c.in_default.not-case e)
 others c w given command e even (kill p) = absurd (c.in_default.not-kill e)
+others c w given command e even (killrange p) = refl
+others c w given command e even (keep p) = absurd cc
 others c w given command e even (copy p) = absurd (c.in_default.not-copy e)
 others c w given command e even (indent p) = absurd (c.in_default.not-indent e)
 others c w given command e even (dedent p) = absurd (c.in_default.not-dedent e)

@@ -1,6 +1,6 @@
 use Rattle.std.proofs.Common.{◌≡◌, ℕ, true, List, Some, refl, sym}
-use Rattle.rl_session.specs.Grammar.{Says, Do, pos, move, ins, paste, yank, update, str, rep, range, del, back, prevword, nextword, to, twords, cased, kill, copy, indent, dedent, undo, trunc}
-use Rattle.rl_session.proofs.Scripts.WordLemmas.{no-del, no-back, no-prevword, no-nextword, no-to}
+use Rattle.rl_session.specs.Grammar.{Says, Do, pos, move, ins, paste, yank, update, str, rep, range, del, back, prevword, nextword, to, twords, cased, kill, killrange, keep, copy, indent, dedent, undo, trunc}
+use Rattle.rl_session.proofs.Scripts.WordLemmas.{no-del, no-back, no-prevword, no-nextword, no-to, no-killrange}
 use Rattle.rl_session.specs.Reads.{deletes}
 use Rattle.rl_session.specs.declared.session.Command.{Command}
 use Rattle.rl_session.proofs.grammar.deletion.Goals as goal
@@ -36,6 +36,12 @@ returns-in_err-n-in-to c = rw (c.in-to.is, c.from_residual-in_err-n-in-to.ensure
 pub returns-in_ok-n-in-to : goal.returns-in_ok-n-in-to
 returns-in_ok-n-in-to c = rw c.in-to.is (to c.in_ok-n-in-to.ensures)
 
+pub returns-in_err-start-in-killrange : goal.returns-in_err-start-in-killrange
+returns-in_err-start-in-killrange c = rw (c.in-killrange.is, c.from_residual-in_err-start-in-killrange.ensures) (no-killrange c.args.given.now c.in_err-start-in-killrange.ensures)
+
+pub returns-in_ok-start-in-killrange : goal.returns-in_ok-start-in-killrange
+returns-in_ok-start-in-killrange c = rw c.in-killrange.is (killrange c.in_ok-start-in-killrange.ensures)
+
 -- none of these words stands there
 others : (c : In_default) (w given : List ℕ) (command : Command) → c.args.word.now ≡ w → deletes command ≡ true → Says w (Some given) (Do command) → ⊥
 others c w given command e gone (ins p s) = absurd cc
@@ -51,6 +57,8 @@ others c w given command e gone (to p) = c.in_default.not-to e
 others c w given command e gone (twords p) = absurd cc
 others c w given command e gone (cased p) = absurd cc
 others c w given command e gone (kill p) = absurd cc
+others c w given command e gone (killrange p) = c.in_default.not-killrange e
+others c w given command e gone (keep p) = absurd cc
 others c w given command e gone (copy p) = absurd cc
 others c w given command e gone (indent p) = absurd cc
 others c w given command e gone (dedent p) = absurd cc

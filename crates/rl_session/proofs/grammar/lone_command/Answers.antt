@@ -1,4 +1,4 @@
-use Rattle.rl_session.specs.Grammar.{yankpop, killline, killbuf, discline, discbuf, tchars, begin, end, redo, line_place}
+use Rattle.rl_session.specs.Grammar.{yankpop, killline, killbuf, discline, discbuf, tchars, begin, end, endone, redo, line_place}
 use Rattle.rl_session.proofs.grammar.lone_command.Goals as goal
 
 pub returns-in-yankpop : goal.returns-in-yankpop
@@ -24,6 +24,9 @@ returns-in-begin c = rw c.in-begin.is begin
 
 pub returns-in-end : goal.returns-in-end
 returns-in-end c = rw c.in-end.is end
+
+pub returns-in-endone : goal.returns-in-endone
+returns-in-endone c = rw c.in-endone.is endone
 
 pub returns-in-redo : goal.returns-in-redo
 returns-in-redo c = rw c.in-redo.is redo

@@ -1,4 +1,4 @@
-use Rattle.rl_session.specs.Grammar.{whole, home, eol, first, buf, bob, eob}
+use Rattle.rl_session.specs.Grammar.{whole, home, eol, first, nonblank, buf, bob, eob}
 use Rattle.rl_session.proofs.grammar.lone_movement.Goals as goal
 
 pub returns-in-line : goal.returns-in-line
@@ -12,6 +12,9 @@ returns-in-eol c = rw c.in-eol.is eol
 
 pub returns-in-first : goal.returns-in-first
 returns-in-first c = rw c.in-first.is first
+
+pub returns-in-nonblank : goal.returns-in-nonblank
+returns-in-nonblank c = rw c.in-nonblank.is nonblank
 
 pub returns-in-buf : goal.returns-in-buf
 returns-in-buf c = rw c.in-buf.is buf

@@ -1,6 +1,6 @@
-use Rattle.rl_session.specs.Grammar.{paste, update, str}
+use Rattle.rl_session.specs.Grammar.{paste, update, str, keep}
 use Rattle.std.proofs.lemmas.Result.{err_from_is_err_and}
-use Rattle.rl_session.specs.Reads.{pasted, updated, put_in}
+use Rattle.rl_session.specs.Reads.{pasted, updated, put_in, kept}
 use Rattle.rl_session.proofs.grammar.text_command.Goals as goal
 
 pub returns-in-Some-clause-ok : goal.returns-in-Some-clause-ok
@@ -29,3 +29,12 @@ returns-in_err-pos-in-str-clause-err c =
     let p = err_from_is_err_and c.from_residual-in_err-pos-in-str.result c.from_residual-in_err-pos-in-str.ensures.1 in
     let text = c.in_err-pos-in-str.ensures.err in
     rw (p.1, c.in-str.is) (text.1, put_in text.2, text.3)
+
+pub returns-in-Some-4-clause-ok : goal.returns-in-Some-4-clause-ok
+returns-in-Some-4-clause-ok c = rw c.in-keep.is (keep (rw c.in-Some-4.is at c.in_ok-text-in-keep.ensures.ok))
+
+pub returns-in_err-text-in-keep-clause-err : goal.returns-in_err-text-in-keep-clause-err
+returns-in_err-text-in-keep-clause-err c =
+    let p = err_from_is_err_and c.from_residual-in_err-text-in-keep.result c.from_residual-in_err-text-in-keep.ensures.1 in
+    let text = c.in_err-text-in-keep.ensures.err in
+    rw (p.1, c.in-keep.is) (text.0, kept text.1, text.2)

@@ -13,4 +13,4 @@ invariant_of-self c =
 
 pub returns : goal.returns
 returns c =
-    Edits-replied nothing_more answers (λ l. kill_plan l (BackwardChar c.args.n)) c.self.view_is tt c.answered.ensures (record { mode = refl; done = c.backspace.ensures.done; halted = c.backspace.ensures.halted })
+    Edits-replied nothing_more answers (λ l. kill_plan l (BackwardChar c.args.n)) c.self.view_is tt c.answered.ensures (record { options = refl; done = c.backspace.ensures.done; halted = c.backspace.ensures.halted })

@@ -15,4 +15,4 @@ invariant_of-self c =
 
 pub returns : goal.returns
 returns c =
-    Edits-replied a_copy hands_out (λ l. delete_plan l c.args.n) c.self.view_is tt c.handed_out.ensures (record { mode = refl; done = c.delete.ensures.done; halted = c.delete.ensures.halted })
+    Edits-replied a_copy hands_out (λ l. delete_plan l c.args.n) c.self.view_is tt c.handed_out.ensures (record { options = refl; done = c.delete.ensures.done; halted = c.delete.ensures.halted })

@@ -12,4 +12,4 @@ invariant_of-self c =
 
 pub returns : goal.returns
 returns c =
-    Edits-replied nothing_more answers (λ l. kill_plan l c.args.movement.now) c.self.view_is tt c.answered.ensures (record { mode = refl; done = c.delete_in.ensures.done; halted = c.delete_in.ensures.halted })
+    Edits-replied nothing_more answers (λ l. kill_plan l c.args.movement.now) c.self.view_is tt c.answered.ensures (record { options = refl; done = c.delete_in.ensures.done; halted = c.delete_in.ensures.halted })

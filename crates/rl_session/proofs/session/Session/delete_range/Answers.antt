@@ -11,4 +11,4 @@ invariant_of-self c =
 
 pub returns : goal.returns
 returns c =
-    Edits-replied nothing_more is_done (λ l. delete_range_plan l c.args.from c.args.to) c.self.view_is (c.is_range.ensures.yes c.if-not-is_range.false) c.done.ensures (record { mode = refl; done = c.delete_range.ensures.done; halted = c.delete_range.ensures.halted })
+    Edits-replied nothing_more is_done (λ l. delete_range_plan l c.args.from c.args.to) c.self.view_is (c.is_range.ensures.yes c.if-not-is_range.false) c.done.ensures (record { options = refl; done = c.delete_range.ensures.done; halted = c.delete_range.ensures.halted })

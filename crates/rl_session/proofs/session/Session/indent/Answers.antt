@@ -12,4 +12,4 @@ invariant_of-self c =
 
 pub returns : goal.returns
 returns c =
-    Edits-replied room_by_step answers (λ l. indent_plan l c.args.movement.now c.args.amount c.args.dedent) c.self.view_is tt c.answered.ensures (record { mode = refl; done = c.indent.ensures.done; halted = c.indent.ensures.halted })
+    Edits-replied room_by_step answers (λ l. indent_plan l c.args.movement.now c.args.amount c.args.dedent) c.self.view_is tt c.answered.ensures (record { options = refl; done = c.indent.ensures.done; halted = c.indent.ensures.halted })

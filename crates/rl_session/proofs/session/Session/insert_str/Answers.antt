@@ -11,4 +11,4 @@ invariant_of-self c =
 
 pub returns : goal.returns
 returns c =
-    rw (← c.as_str-2.ensures.value) (Edits-replied room_by_step answers (λ l. insert_str_plan l c.args.idx c.as_str-2.result.now) c.self.view_is (search rules) c.answered.ensures (record { mode = refl; done = c.insert_str.ensures.done; halted = c.insert_str.ensures.halted }))
+    rw (← c.as_str-2.ensures.value) (Edits-replied room_by_step answers (λ l. insert_str_plan l c.args.idx c.as_str-2.result.now) c.self.view_is (search rules) c.answered.ensures (record { options = refl; done = c.insert_str.ensures.done; halted = c.insert_str.ensures.halted }))

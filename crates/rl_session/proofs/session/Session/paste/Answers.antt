@@ -12,4 +12,4 @@ invariant_of-self c =
 
 pub returns : goal.returns
 returns c =
-    rw (← c.as_str.ensures.value) (Edits-replied room_by_step inserts (λ l. yank_plan l c.as_str.result.now c.args.n) c.self.view_is tt c.inserted.ensures (record { mode = refl; done = c.yank.ensures.done; halted = c.yank.ensures.halted }))
+    rw (← c.as_str.ensures.value) (Edits-replied room_by_step inserts (λ l. yank_plan l c.as_str.result.now c.args.n) c.self.view_is tt c.inserted.ensures (record { options = refl; done = c.yank.ensures.done; halted = c.yank.ensures.halted }))

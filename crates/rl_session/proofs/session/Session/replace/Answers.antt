@@ -11,4 +11,4 @@ invariant_of-self c =
 
 pub returns : goal.returns
 returns c =
-    rw (← c.as_str.ensures.value) (Edits-replied room_by_step is_done (λ l. replace_plan l c.args.from c.args.to c.as_str.result.now) c.self.view_is (c.is_range.ensures.yes c.if-not-is_range.false) c.done.ensures (record { mode = refl; done = c.replace.ensures.done; halted = c.replace.ensures.halted }))
+    rw (← c.as_str.ensures.value) (Edits-replied room_by_step is_done (λ l. replace_plan l c.args.from c.args.to c.as_str.result.now) c.self.view_is (c.is_range.ensures.yes c.if-not-is_range.false) c.done.ensures (record { options = refl; done = c.replace.ensures.done; halted = c.replace.ensures.halted }))

@@ -12,4 +12,4 @@ invariant_of-self c =
 
 pub returns : goal.returns
 returns c =
-    Edits-replied a_copy answers (λ l. transpose_chars_plan l) c.self.view_is tt c.answered.ensures (record { mode = refl; done = c.transpose_chars.ensures.done; halted = c.transpose_chars.ensures.halted })
+    Edits-replied a_copy answers (λ l. transpose_chars_plan l) c.self.view_is tt c.answered.ensures (record { options = refl; done = c.transpose_chars.ensures.done; halted = c.transpose_chars.ensures.halted })

@@ -12,4 +12,4 @@ invariant_of-self c =
 
 pub returns : goal.returns
 returns c =
-    Edits-replied a_copy answers (λ l. transpose_words_plan l c.args.n) c.self.view_is tt c.answered.ensures (record { mode = refl; done = c.transpose_words.ensures.done; halted = c.transpose_words.ensures.halted })
+    Edits-replied a_copy answers (λ l. transpose_words_plan l c.args.n) c.self.view_is tt c.answered.ensures (record { options = refl; done = c.transpose_words.ensures.done; halted = c.transpose_words.ensures.halted })

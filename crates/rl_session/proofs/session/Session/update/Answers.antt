@@ -11,4 +11,4 @@ invariant_of-self c =
 
 pub returns : goal.returns
 returns c =
-    rw (← c.as_str-2.ensures.value) (Edits-replied room_by_step is_done (λ l. update_plan l c.as_str-2.result.now c.args.pos) c.self.view_is (search rules) c.done.ensures (record { mode = refl; done = c.update.ensures.done; halted = c.update.ensures.halted }))
+    rw (← c.as_str-2.ensures.value) (Edits-replied room_by_step is_done (λ l. update_plan l c.as_str-2.result.now c.args.pos) c.self.view_is (search rules) c.done.ensures (record { options = refl; done = c.update.ensures.done; halted = c.update.ensures.halted }))

@@ -5,7 +5,7 @@ use Rattle.rl_session.specs.Commands.{room_by_step}
 use Rattle.rl_session.proofs.session.Session.yank.Goals as goal
 
 pub returns-in-Ok-None : goal.returns-in-Ok-None
-returns-in-Ok-None c = rw (← c.self.view_is) (nothing_lent _ (record { line = c.self.inside.line; pair = c.self.inside.pair; mode = c.self.inside.mode }) _ (sym (rw c.in-Ok-None.field-0-is at c.in-Ok-None.ensures.text)) _ (rw c.in-Ok-None.ensures.ring refl))
+returns-in-Ok-None c = rw (← c.self.view_is) (nothing_lent _ (record { line = c.self.inside.line; pair = c.self.inside.pair; options = c.self.inside.options }) _ (sym (rw c.in-Ok-None.field-0-is at c.in-Ok-None.ensures.text)) _ (rw c.in-Ok-None.ensures.ring refl))
 
 pub returns-in-Err : goal.returns-in-Err
 returns-in-Err c = rw (← c.self.view_is) (inl (c.in-Err.ensures.lent, rw c.in-Err.ensures.ring refl))

@@ -1,6 +1,6 @@
 use Rattle.std.proofs.Common.{sym, ◌∙◌, rules}
 use Rattle.rl_line.proofs.Lines.LineReadLemmas.{range-before, range-some}
-use Rattle.rl_session.proofs.session.Session.line_place.Goals as goal
+use Rattle.rl_session.proofs.session.Session.line_column.Goals as goal
 
 pub range-before-requires-clause-start_le_end : goal.range-before-requires-clause-start_le_end
 range-before-requires-clause-start_le_end c =

@@ -1,0 +1,19 @@
+-- How a session measures columns, and how much its record may hold.
+use Rattle.std.specs.Prelude.{◌^◌, ◌-◌}
+use Rattle.rl_base.specs.Widths.{blank_layout, origin}
+use Rattle.rl_base.specs.declared.layout.GraphemeClusterMode.{GraphemeClusterMode}
+use Rattle.rl_base.specs.declared.layout.Layout.{Layout}
+use Rattle.rl_session.specs.declared.options.Bound.{Bound}
+use Rattle.rl_session.specs.declared.options.Options.{Options}
+
+-- no bound: the greatest `usize` stands for each
+abbrev pub no_bound : Bound
+no_bound = record { entries = 2 ^ 64 - 1; bytes = 2 ^ 64 - 1 }
+
+-- the options of a new session: a prompt that ends at column 0, and no bound
+abbrev pub plain : GraphemeClusterMode → Options
+plain mode = record { mode = mode; prompt = 0; bound = no_bound }
+
+-- the layout by which motions over lines go: the prompt ends at its column
+abbrev pub layout_of : Options → Layout
+layout_of options = record (blank_layout options.mode) { prompt_size = record origin { col = options.prompt } }

@@ -1,0 +1,59 @@
+//! How a session measures columns, and how much its record may hold.
+ghost use Rattle.std.specs.Prelude.{◌≡◌};
+ghost use Rattle.rl_session.specs.Options.{layout_of, no_bound, plain};
+
+use rl_base::{GraphemeClusterMode, Layout, Unit};
+
+/// How much a session's record may hold. `usize::MAX` is no bound.
+#[derive(Clone, Copy, Debug, PartialEq, Eq)]
+pub struct Bound {
+    /// How many entries.
+    pub entries: usize,
+    /// How many bytes of text, of all entries together.
+    pub bytes: usize,
+}
+
+impl Bound {
+    /// No bound on either.
+    pub fn none() -> Self
+        ensures { result ≡ no_bound }
+    {
+        Bound {
+            entries: usize::MAX,
+            bytes: usize::MAX,
+        }
+    }
+}
+
+/// What may be chosen of a session, beside its limit and the size of its ring.
+#[derive(Clone, Copy, Debug, PartialEq, Eq)]
+pub struct Options {
+    /// How columns are counted.
+    pub mode: GraphemeClusterMode,
+    /// The column at which the prompt ends: the first line of the text begins there, and every other line at 0.
+    pub prompt: Unit,
+    /// How much the record may hold.
+    pub bound: Bound,
+}
+
+impl Options {
+    /// The options of a new session: a prompt that ends at column 0, and no bound.
+    pub fn new(mode: GraphemeClusterMode) -> Self
+        ensures { result ≡ plain mode }
+    {
+        Options {
+            mode,
+            prompt: 0,
+            bound: Bound::none(),
+        }
+    }
+
+    // The layout by which motions over lines go.
+    pub(crate) fn layout(&self) -> Layout
+        ensures { result ≡ layout_of self.now }
+    {
+        let mut layout = Layout::new(self.mode);
+        layout.prompt_size.col = self.prompt;
+        layout
+    }
+}
