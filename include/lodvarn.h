@@ -417,9 +417,10 @@ uint32_t lodvarn_set_prompt(lodvarn **s, uint16_t column);
  * room is reserved. Answers DONE. */
 uint32_t lodvarn_set_limit(lodvarn **s, size_t limit);
 
-/* Bounds the record, now and after each later call on the session: where it has more than that many entries, or its
- * entries have more than that many bytes of text, it forgets the oldest changes and groups, which can't be undone then.
- * LODVARN_NO_BOUND for any number. Answers DONE. */
+/* Bounds the record, now and after each later command: as long as it has more than that many entries, or they more than
+ * that many bytes of text, of what went and of what came, it forgets the oldest change or closed group, which can't be
+ * undone then. A group that is open stays, with all after its begin, and so does what was undone. Numbers of entries
+ * that were told before count what is gone. LODVARN_NO_BOUND for any number. Answers DONE. */
 uint32_t lodvarn_set_bound(lodvarn **s, size_t entries, size_t bytes);
 
 /* A report of a change: what its kind is of. Its place is at; old_len bytes went there, and new_len bytes came. */
