@@ -396,9 +396,7 @@ uint32_t lodvarn_undo(lodvarn **s, uint16_t n);
 uint32_t lodvarn_redo(lodvarn **s);
 
 /* Keeps the first entries of the record, as many as the argument says, and forgets the others and what was undone.
- * The kept ones must lead to the present text. Answers DONE. Errors: NOT_REPLAYING where they do not, NO_MEMORY. After
- * lodvarn_update to the empty text it may keep 0 entries in a session that was opened on the empty text. That is how
- * the next line begins with the kill ring of the last one. */
+ * The kept ones must lead to the present text. Answers DONE. Errors: NOT_REPLAYING where they do not, NO_MEMORY. */
 uint32_t lodvarn_truncate(lodvarn **s, size_t entries);
 
 /* Asks where the cursor is. Answers AT with the number of its line in *line, and in *column the width of the text
