@@ -283,9 +283,9 @@ static void ranges_are_killed(void) {
     see("and the cursor goes there", stands(&s, "one three", 4) && ring_has(&s, 0, "two "));
     see("the next goes to its front", lodvarn_kill_range(&s, 3, 4, LODVARN_KILL_BACKWARD) == LODVARN_TRUE);
     see("or to its end", lodvarn_kill_range(&s, 3, 5, LODVARN_KILL_FORWARD) == LODVARN_TRUE);
-    see("as one text", stands(&s, "onehree", 3) && lodvarn_ring_count(&s) == 1 && ring_has(&s, 0, " two th"));
+    see("as one text", stands(&s, "oneree", 3) && lodvarn_ring_count(&s) == 1 && ring_has(&s, 0, " two th"));
     see("an empty range is none", lodvarn_kill_range(&s, 1, 1, LODVARN_KILL_FORWARD) == LODVARN_FALSE);
-    see("and leaves the cursor", stands(&s, "onehree", 3));
+    see("and leaves the cursor", stands(&s, "oneree", 3));
     see("no range is refused", lodvarn_kill_range(&s, 2, 1, LODVARN_KILL_FORWARD) == LODVARN_BAD_PLACE);
     see("a kill goes on after that", lodvarn_kill(&s, LODVARN_BACKWARD_EMACS_WORD, 1, 0) == LODVARN_TRUE);
     see("in the same text", lodvarn_ring_count(&s) == 1 && ring_has(&s, 0, "one two th"));
