@@ -299,7 +299,7 @@ def random_text(chance):
 
 def random_movement(chance):
     """A movement as a script writes it, with all its arguments."""
-    forms = "line;home;eol;bword N S;fword N A S;find N X C;first;bchar N;fchar N;up N;down N;buf;bob;eob"
+    forms = "line;home;eol;bword N S;fword N A S;find N X C;first;nonblank;bchar N;fchar N;up N;down N;buf;bob;eob"
     return filled(chance, chance.choice(forms.split(";")))
 
 

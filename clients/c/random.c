@@ -46,7 +46,7 @@ static const char *const ats[] = {"start", "before", "after"};
 static const char *const searches[] = {"f", "t", "F", "T"};
 
 static void add_movement(void) {
-    static const char *const plain[] = {"line", "home", "eol", "first", "buf", "bob", "eob"};
+    static const char *const plain[] = {"line", "home", "eol", "first", "nonblank", "buf", "bob", "eob"};
     static const char *const counted[] = {"bchar", "fchar", "up", "down"};
     switch (below(8)) {
     case 0: case 1: add(" %s", ONE_OF(plain)); break;

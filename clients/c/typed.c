@@ -105,7 +105,7 @@ struct movement {
 
 static struct movement movement(char *rest) {
     static const char *const plain[] = {"line", "home", "eol", NULL};
-    static const char *const others[] = {"first", "bchar", "fchar", "up", "down", "buf", "bob", "eob", NULL};
+    static const char *const others[] = {"first", "bchar", "fchar", "up", "down", "buf", "bob", "eob", "nonblank", NULL};
     struct movement m = {0, 0, 0};
     const char *name = word(&rest);
     if (!strcmp(name, "bword")) {

@@ -254,6 +254,27 @@ fn deletions_to_places(rt: HostRuntime) -> Result<(), Fail> {
         ),
         ("ab", 1, Call::Kill(Movement::ViFirstPrint), None),
         (
+            "a\n \tb c\nd",
+            7,
+            Call::Kill(Movement::FirstNonBlank),
+            Some((4, "b c", BACK)),
+        ),
+        (
+            "a\n \tb c\nd",
+            3,
+            Call::Kill(Movement::FirstNonBlank),
+            Some((3, "\t", AHEAD)),
+        ),
+        ("a\n \tb c\nd", 4, Call::Kill(Movement::FirstNonBlank), None),
+        // of a line of blanks to its end
+        (
+            " \u{3000}\na",
+            0,
+            Call::Kill(Movement::FirstNonBlank),
+            Some((0, " \u{3000}", AHEAD)),
+        ),
+        (" \u{3000}\na", 4, Call::Kill(Movement::FirstNonBlank), None),
+        (
             "a\nb\nc",
             2,
             Call::Kill(Movement::LineDown(0)),
@@ -311,6 +332,9 @@ fn copies(rt: HostRuntime) -> Result<(), Fail> {
         (THREE, 5, "copy find 1 T b", "text:\\ncd 5 ab\\ncd ef\\ngh"),
         (THREE, 5, "copy find 1 F b", "text:b\\ncd 5 ab\\ncd ef\\ngh"),
         (THREE, 5, "copy first", "text:cd 5 ab\\ncd ef\\ngh"),
+        (THREE, 5, "copy nonblank", "text:cd 5 ab\\ncd ef\\ngh"),
+        ("  ab", 1, "copy nonblank", "text:\\s 1   ab"),
+        ("  ab", 2, "copy nonblank", "none 2   ab"),
         (THREE, 5, "copy bchar 2", "text:cd 5 ab\\ncd ef\\ngh"),
         (THREE, 5, "copy fchar 2", "text:\\se 5 ab\\ncd ef\\ngh"),
         (
@@ -367,7 +391,7 @@ fn copies(rt: HostRuntime) -> Result<(), Fail> {
 }
 
 // Each movement with that count.
-fn movements(n: RepeatCount) -> [Movement; 31] {
+fn movements(n: RepeatCount) -> [Movement; 32] {
     [
         Movement::WholeLine,
         Movement::BeginningOfLine,
@@ -393,6 +417,7 @@ fn movements(n: RepeatCount) -> [Movement; 31] {
         Movement::ViCharSearch(n, Backward('\n')),
         Movement::ViCharSearch(n, BackwardAfter('\n')),
         Movement::ViFirstPrint,
+        Movement::FirstNonBlank,
         Movement::BackwardChar(n),
         Movement::ForwardChar(n),
         Movement::LineUp(n),
