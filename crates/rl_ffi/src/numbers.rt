@@ -22,7 +22,7 @@ const TEXT: u32 = 4;
 
 const MARK: u32 = 5;
 
-const AT: u32 = 6;
+pub(crate) const AT: u32 = 6;
 
 pub(crate) const NO_MEMORY: u32 = 11;
 

@@ -119,7 +119,7 @@ pub extern "C" fn lodvarn_line_column(
     ensures value { PlaceRead s.old.value result (line.old, column.old) (line.new, column.new) }
     ensures kept { s.new.value ≡ s.old.value }
 {
-    of_session!(s, alloc, session => place_in(session, line, column), CLOSED)
+    of_session!(s, alloc, session => place_in(&session, line, column), CLOSED)
 }
 
 /// Whether the last action of the ring was a yank or a yank-pop, also with count 0: TRUE or FALSE, or CLOSED.
