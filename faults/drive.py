@@ -306,7 +306,8 @@ def random_movement(chance):
 FORMS = (
     "pos Q;move M;ins N C;paste N T;yank N;yankpop;update 0 T;str Q T;rep Q Q T;range Q Q;del N;back N;"
     "killline;killbuf;discline;discbuf;prevword N S;nextword N A S;to N X C;tchars;twords N;case L;kill M;"
-    "copy M;indent I M;dedent I M;begin;end;endone;undo N;redo;trunc K;where;text T;limit K;ring N;mode W"
+    "killrange Q Q D;keep T;copy M;indent I M;dedent I M;begin;end;endone;undo N;redo;trunc K;where;text T;limit K;"
+    "ring N;mode W"
 ).split(";")
 
 
@@ -315,6 +316,7 @@ def filled(chance, form):
     made = {
         "A": lambda: chance.choice(["start", "before", "after"]),
         "C": lambda: chance.choice(["a", "o", "é", "\\n", "\\s"]),
+        "D": lambda: chance.choice("fb"),
         "I": lambda: str(chance.choice([0, 1, 4, 40])),
         "K": lambda: str(chance.choice([0, 1, 3, 9, 40, 4096])),
         "L": lambda: chance.choice(["cap", "low", "up"]),

@@ -22,6 +22,22 @@ enum Call {
     NextWord(At, Word, RepeatCount),
     To(CharSearch, RepeatCount),
     Kill(Movement),
+    KillRange(usize, usize, Direction),
+}
+
+// Kills the range, where it is one.
+fn kill_range(
+    line: &mut LineBuffer,
+    from: usize,
+    to: usize,
+    dir: Direction,
+    heard: &mut RefuseAt,
+) -> Result<bool, Refusal> {
+    let text = line.as_str();
+    if from <= to && text.is_char_boundary(from) && text.is_char_boundary(to) {
+        return line.kill_range(from..to, dir, heard);
+    }
+    Ok(false)
 }
 
 fn make(line: &mut LineBuffer, call: &Call, heard: &mut RefuseAt) -> Result<bool, Refusal> {
@@ -35,6 +51,7 @@ fn make(line: &mut LineBuffer, call: &Call, heard: &mut RefuseAt) -> Result<bool
         Call::NextWord(at, word, n) => line.delete_word(*at, *word, *n, heard),
         Call::To(cs, n) => line.delete_to(*cs, *n, heard),
         Call::Kill(mvt) => line.kill(mvt, heard),
+        Call::KillRange(from, to, dir) => kill_range(line, *from, *to, *dir, heard),
     }
 }
 
@@ -42,7 +59,7 @@ fn make(line: &mut LineBuffer, call: &Call, heard: &mut RefuseAt) -> Result<bool
 fn is_told_as_a_kill(call: &Call) -> bool {
     match call {
         Call::Kill(Movement::BackwardChar(_) | Movement::ForwardChar(_)) => false,
-        Call::Kill(_) => true,
+        Call::Kill(_) | Call::KillRange(_, _, _) => true,
         _ => false,
     }
 }
@@ -287,6 +304,14 @@ fn deletions_to_places(rt: HostRuntime) -> Result<(), Fail> {
             Some((0, "a\nb\n", AHEAD)),
         ),
         ("c", 0, Call::Kill(Movement::LineUp(1)), None),
+        (GREEK, 2, Call::KillRange(4, 8, BACK), Some((4, "γδ", BACK))),
+        (
+            "ab\ncd",
+            5,
+            Call::KillRange(1, 4, AHEAD),
+            Some((1, "b\nc", AHEAD)),
+        ),
+        ("ab", 0, Call::KillRange(1, 1, AHEAD), None),
         // a last, empty line is killed as an empty text
         (
             "\n",

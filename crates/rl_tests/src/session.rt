@@ -1,6 +1,6 @@
 //! Rows of sessions.
 use crate::script::is_so;
-use rl_base::{At, CharSearch, GraphemeClusterMode, Movement, RepeatCount, Unit, Word, WordAction};
+use rl_base::{At, CharSearch, GraphemeClusterMode, Movement, RepeatCount, Unit, Word, WordAction, Direction};
 use rl_session::{Command, Fault, Reply, Session};
 use std::alloc::Global;
 use std::process::Abort;
@@ -315,6 +315,7 @@ fn every_command_does_something(rt: HostRuntime) -> Result<(), Fail> {
     let lines = String::from_str(alloc, "cd\ne")?;
     let copied = String::from_str(alloc, "x  ")?;
     let deleted = String::from_str(alloc, "t")?;
+    let kept = String::from_str(alloc, "x y")?;
     let commands = [
         Command::Insert('e', 1),
         Command::Backspace(1),
@@ -353,6 +354,9 @@ fn every_command_does_something(rt: HostRuntime) -> Result<(), Fail> {
         Command::KillBuffer,
         Command::DiscardLine,
         Command::DiscardBuffer,
+        Command::Keep(kept),
+        Command::Yank(1),
+        Command::KillRange(0, 3, Direction::Backward),
     ];
     let wanted = [
         Reply::Inserted(Some(true)),
@@ -391,6 +395,9 @@ fn every_command_does_something(rt: HostRuntime) -> Result<(), Fail> {
         Reply::Answer(true),
         Reply::Answer(true),
         Reply::Answer(true),
+        Reply::Answer(true),
+        Reply::Done,
+        Reply::Inserted(Some(true)),
         Reply::Answer(true),
     ];
     let mut session = Session::new(alloc, "ab cd", 5, 64, 2, GraphemeClusterMode::Unicode)?;
