@@ -299,14 +299,15 @@ def random_text(chance):
 
 def random_movement(chance):
     """A movement as a script writes it, with all its arguments."""
-    forms = "line;home;eol;bword N S;fword N A S;find N X C;first;bchar N;fchar N;up N;down N;buf;bob;eob"
+    forms = "line;home;eol;bword N S;fword N A S;find N X C;first;nonblank;bchar N;fchar N;up N;down N;buf;bob;eob"
     return filled(chance, chance.choice(forms.split(";")))
 
 
 FORMS = (
     "pos Q;move M;ins N C;paste N T;yank N;yankpop;update 0 T;str Q T;rep Q Q T;range Q Q;del N;back N;"
     "killline;killbuf;discline;discbuf;prevword N S;nextword N A S;to N X C;tchars;twords N;case L;kill M;"
-    "copy M;indent I M;dedent I M;begin;end;endone;undo N;redo;trunc K;where;text T;limit K;ring N;mode W"
+    "killrange Q Q D;keep T;copy M;indent I M;dedent I M;begin;end;endone;undo N;redo;trunc K;where;text T;limit K;"
+    "ring N;mode W"
 ).split(";")
 
 
@@ -315,6 +316,7 @@ def filled(chance, form):
     made = {
         "A": lambda: chance.choice(["start", "before", "after"]),
         "C": lambda: chance.choice(["a", "o", "é", "\\n", "\\s"]),
+        "D": lambda: chance.choice("fb"),
         "I": lambda: str(chance.choice([0, 1, 4, 40])),
         "K": lambda: str(chance.choice([0, 1, 3, 9, 40, 4096])),
         "L": lambda: chance.choice(["cap", "low", "up"]),

@@ -4,6 +4,8 @@ use Rattle.std.specs.Int.{is_in_range}
 use Rattle.std.specs.Option.{option_map}
 use Rattle.rl_base.specs.declared.layout.GraphemeClusterMode.{GraphemeClusterMode}
 use Rattle.rl_base.specs.declared.layout.GraphemeClusterMode.TheVariants.{Unicode, WcWidth, NoZwj}
+use Rattle.rl_base.specs.declared.listeners.Direction.{Direction}
+use Rattle.rl_base.specs.declared.listeners.Direction.TheVariants as told
 use Rattle.rl_base.specs.declared.motion.At.{At}
 use Rattle.rl_base.specs.declared.motion.At.TheVariants.{Start, BeforeEnd, AfterEnd}
 use Rattle.rl_base.specs.declared.motion.CharSearch.{CharSearch}
@@ -123,6 +125,10 @@ mode_of k = if k == 0 then Some Unicode else if k == 1 then Some WcWidth else if
 -- whether the direction of an indent means dedent
 abbrev pub dedents_of : ℕ → Option Bool
 dedents_of k = if k == 0 then Some false else if k == 1 then Some true else None
+
+-- the direction of a kill
+abbrev pub direction_of : ℕ → Option Direction
+direction_of k = if k == 0 then Some told.Forward else if k == 1 then Some told.Backward else None
 
 -- a search, by its number and the number of its character
 abbrev pub search_of : ℕ → ℕ → Option CharSearch

@@ -1,9 +1,9 @@
 -- What the calls that change nothing answer. A closed session has no text, and its numbers are 0.
-use Rattle.std.specs.Prelude.{◌≡◌, ◌⊎◌, ℕ, ◌+◌, List, [], ◌∷◌, length, drop, Option, Some, None, is_some}
+use Rattle.std.specs.Prelude.{◌≡◌, ◌⊎◌, ℕ, ◌+◌, List, [], ◌∷◌, length, drop, Option, Some, None, is_some, ◌<◌, ◌≤◌}
 use Rattle.std.specs.declared.ops.Range.{Range}
 use Rattle.std.specs.Str.{IsCharBoundary}
 use Rattle.rl_base.specs.Clusters.{clusters}
-use Rattle.rl_base.specs.KillRing.{yank_size}
+use Rattle.rl_base.specs.KillRing.{yank_size, text_back}
 use Rattle.rl_base.specs.Lines.{lines, line_number}
 use Rattle.rl_base.specs.Widths.{width}
 use Rattle.rl_base.specs.declared.layout.GraphemeClusterMode.{GraphemeClusterMode}
@@ -11,9 +11,10 @@ use Rattle.rl_base.specs.declared.motion.Movement.{Movement}
 use Rattle.rl_line.specs.LineRanges.{range_of_line}
 use Rattle.rl_line.specs.Ranges.{covered}
 use Rattle.rl_session.specs.State.{State}
-use Rattle.rl_ffi.specs.Numbers.{bad_place, closed, done, none, truth_number, no_such_number, at_number}
+use Rattle.rl_ffi.specs.Numbers.{bad_place, closed, done, none, truth_number, no_such_number, at_number, text_number, too_small}
 use Rattle.rl_session.specs.Commands.{destination, line_place}
 use Rattle.rl_line.specs.Units.{has_change, last_of, level, redo_of}
+use Rattle.rl_ffi.specs.Buffers.{put}
 
 abbrev pub text_of : Option State → List ℕ
 text_of None = []
@@ -62,6 +63,22 @@ PlaceRead (Some s) n old new = (n ≡ at_number) × (new ≡ line_place s)
 abbrev pub last_was_yank_of : Option State → ℕ
 last_was_yank_of None = closed
 last_was_yank_of (Some s) = truth_number (is_some (yank_size s.pair.ring))
+
+abbrev pub ring_count_of : Option State → ℕ
+ring_count_of None = 0
+ring_count_of (Some s) = length s.pair.ring.slots
+
+-- a text in a buffer, with its length, where there is a text; one that does not fit writes its length alone
+abbrev pub TextIn : Option (List ℕ) → ℕ → List ℕ × ℕ → List ℕ × ℕ → Type 0
+TextIn None n outs outs' = (n ≡ none) × (outs' ≡ outs)
+TextIn (Some text) n outs outs' =
+    ((length text ≤ length outs.0) × (n ≡ text_number) × (outs' ≡ (put text outs.0, length text)))
+    ⊎ ((length outs.0 < length text) × (n ≡ too_small) × (outs' ≡ (outs.0, length text)))
+
+-- the ring's text so many before the current one
+abbrev pub RingRead : Option State → ℕ → ℕ → List ℕ × ℕ → List ℕ × ℕ → Type 0
+RingRead None back n outs outs' = (n ≡ closed) × (outs' ≡ outs)
+RingRead (Some s) back n outs outs' = TextIn (text_back back s.pair.ring) n outs outs'
 
 -- a range in two numbers, and the number that says whether there is one
 abbrev pub RangeIn : Option (Range ℕ) → ℕ → ℕ × ℕ → ℕ × ℕ → Type 0

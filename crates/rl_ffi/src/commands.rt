@@ -1,19 +1,29 @@
 //! The calls that ask a session for a command, and answer the number of its reply.
 ghost use Rattle.std.specs.Prelude.{◌≡◌, Ok};
 ghost use Rattle.rl_session.specs.declared.session.Command.{Command};
-ghost use Rattle.rl_ffi.specs.Numbers.{action_of, at_of, char_of, dedents_of, movement_of, search_of, word_of};
-ghost use Rattle.rl_ffi.specs.Commands.{Called, CalledWith, IsTextOf, Replies, both_named, named, number_of};
+ghost use Rattle.rl_ffi.specs.Numbers.{action_of, at_of, char_of, dedents_of, direction_of, movement_of, search_of, word_of};
+ghost use Rattle.rl_ffi.specs.Commands.{Called, CalledWith, IsTextOf, Replies, both_named, named, number_of, Obeys};
 
 use crate::handle::{Handle, of_session};
 use crate::numbers::{
     CLOSED, NO_MEMORY, NO_SUCH_NUMBER, NOT_UTF8, action_of, at_of, char_of, dedents_of,
-    movement_of, reply_number, search_of, word_of,
+    direction_of, movement_of, reply_number, search_of, word_of,
 };
-use rl_session::{Command, Reply};
+use rl_session::{Command, Reply, Session};
 use std::alloc::Global;
 
-// Applies the command to the session, unless a number says why there is none. Inlined here and below, so that each
-// call's command is known when it is compiled.
+// Does the command, and then forgets what is beyond the bound of the record. Inlined here and below, so that each call's
+// command is known when it is compiled.
+#[inline(always)]
+pub(crate) fn obey(session: &mut Session, command: &Command) -> Reply
+    ensures { Obeys session.old command.now result session.new }
+{
+    let reply = session.apply(command);
+    session.forget();
+    reply
+}
+
+// Asks the session for the command, unless a number says why there is none.
 #[inline(always)]
 pub(crate) fn ask(
     alloc: Global,
@@ -23,7 +33,7 @@ pub(crate) fn ask(
     ensures { Replies command s.old.value result s.new.value }
 {
     of_session!(s, alloc, session => match command {
-        Ok(command) => Ok(session.apply(&command)),
+        Ok(command) => Ok(obey(&mut session, &command)),
         Err(number) => Err(number),
     }, Err(CLOSED))
 }
@@ -309,6 +319,37 @@ pub extern "C" fn lodvarn_kill(alloc: Global, s: &mut Handle, movement: u32, n: 
     match movement_of(movement, n, c) {
         Some(movement) => call(alloc, s, Ok(Command::Kill(movement))),
         None => call(alloc, s, Err(NO_SUCH_NUMBER)),
+    }
+}
+
+/// Kills what stands between two byte places, in a direction: TRUE, or FALSE where nothing does. Right after another kill,
+/// FORWARD joins the text at the end of what was killed, and BACKWARD at its front. NO_SUCH_NUMBER, BAD_PLACE, NO_MEMORY
+/// and CLOSED change no text.
+#[unsafe(no_mangle)]
+pub extern "C" fn lodvarn_kill_range(
+    alloc: Global,
+    s: &mut Handle,
+    from: usize,
+    to: usize,
+    direction: u32,
+) -> u32
+    ensures { Called (named (λ d. Command.KillRange from to d) (direction_of direction)) s.old.value result s.new.value }
+{
+    match direction_of(direction) {
+        Some(dir) => call(alloc, s, Ok(Command::KillRange(from, to, dir))),
+        None => call(alloc, s, Err(NO_SUCH_NUMBER)),
+    }
+}
+
+/// Puts a text into the ring as a kill of its own, which no kill joins: DONE. NOT_UTF8 and CLOSED change nothing.
+/// NO_MEMORY leaves the ring its texts.
+#[unsafe(no_mangle)]
+pub extern "C" fn lodvarn_keep(alloc: Global, s: &mut Handle, text: &[u8]) -> u32
+    ensures { CalledWith text.now Command.Keep s.old.value result s.new.value }
+{
+    match text_of(alloc, text) {
+        Ok(text) => call(alloc, s, Ok(Command::Keep(text))),
+        Err(number) => call(alloc, s, Err(number)),
     }
 }
 

@@ -2,11 +2,11 @@
 ghost use Rattle.std.specs.Prelude.{◌≡◌};
 ghost use Rattle.std.specs.Option.{option_map};
 ghost use Rattle.rl_base.specs.declared.motion.Movement.{Movement};
-ghost use Rattle.rl_ffi.specs.Numbers.{truth_number, fault_number, kind_number, watch_fault_number, reply_number, char_of, word_of, at_of, action_of, mode_of, dedents_of, search_of, movement_of};
+ghost use Rattle.rl_ffi.specs.Numbers.{truth_number, fault_number, kind_number, watch_fault_number, reply_number, char_of, word_of, at_of, action_of, mode_of, dedents_of, direction_of, search_of, movement_of};
 
 use rl_base::{
-    At, CharSearch, GraphemeClusterMode, Movement, RepeatCount, ReportKind, WatchFault, Word,
-    WordAction,
+    At, CharSearch, Direction, GraphemeClusterMode, Movement, RepeatCount, ReportKind, WatchFault,
+    Word, WordAction,
 };
 use rl_session::{Fault, Reply};
 
@@ -18,11 +18,11 @@ const FALSE: u32 = 2;
 
 pub(crate) const NONE: u32 = 3;
 
-const TEXT: u32 = 4;
+pub(crate) const TEXT: u32 = 4;
 
 const MARK: u32 = 5;
 
-const AT: u32 = 6;
+pub(crate) const AT: u32 = 6;
 
 pub(crate) const NO_MEMORY: u32 = 11;
 
@@ -154,6 +154,16 @@ pub(crate) fn dedents_of(number: u32) -> Option<bool>
     match number {
         0 => Some(false),
         1 => Some(true),
+        _ => None,
+    }
+}
+
+pub(crate) fn direction_of(number: u32) -> Option<Direction>
+    ensures { result ≡ direction_of number }
+{
+    match number {
+        0 => Some(Direction::Forward),
+        1 => Some(Direction::Backward),
         _ => None,
     }
 }

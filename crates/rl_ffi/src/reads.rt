@@ -1,20 +1,23 @@
 //! The calls that change nothing.
 ghost use Rattle.std.specs.Prelude.{◌≡◌, length};
+ghost use Rattle.rl_base.specs.KillRing.{text_back};
 ghost use Rattle.rl_ffi.specs.Buffers.{written};
-ghost use Rattle.rl_ffi.specs.Reads.{ClusterIn, ClusterRead, text_of, pos_of, line_number_of, line_count_of, limit_of, entries_of, last_was_yank_of, RangeIn, RangeRead, CoversRead, DestinationRead, PlaceIn, can_undo_of, can_redo_of, level_of, PlaceRead};
+ghost use Rattle.rl_ffi.specs.Reads.{ClusterIn, ClusterRead, text_of, pos_of, line_number_of, line_count_of, limit_of, entries_of, last_was_yank_of, RangeIn, RangeRead, CoversRead, DestinationRead, PlaceIn, can_undo_of, can_redo_of, level_of, PlaceRead, ring_count_of, RingRead, TextIn};
 ghost use Rattle.rl_line.specs.LineRanges.{range_of_line};
-use crate::buffers::write;
-use crate::handle::{Handle, of_session};
-use crate::numbers::{BAD_PLACE, CLOSED, DONE, NONE, truth_number, NO_SUCH_NUMBER, movement_of, AT};
-use rl_base::GraphemeClusterMode;
 ghost use Rattle.rl_ffi.specs.Numbers.{at_number};
 ghost use Rattle.rl_session.specs.Commands.{line_place};
+ghost use Rattle.rl_ffi.specs.Numbers.{movement_of};
+
+use crate::buffers::{put, write};
+use crate::handle::{Handle, of_session};
+use crate::numbers::{BAD_PLACE, CLOSED, DONE, NONE, truth_number, NO_SUCH_NUMBER, movement_of, AT, TEXT, TOO_SMALL};
+use rl_base::GraphemeClusterMode;
+use rl_base::KillRing;
 use rl_line::LineBuffer;
 use rl_session::Session;
 use std::alloc::Global;
-use unicode_segmentation::UnicodeSegmentation;
-ghost use Rattle.rl_ffi.specs.Numbers.{movement_of};
 use std::ops::Range;
+use unicode_segmentation::UnicodeSegmentation;
 
 /// Copies as many bytes of the text as fit, and answers how long the whole is, in bytes; 0 for a closed
 /// session.
@@ -119,7 +122,7 @@ pub extern "C" fn lodvarn_line_column(
     ensures value { PlaceRead s.old.value result (line.old, column.old) (line.new, column.new) }
     ensures kept { s.new.value ≡ s.old.value }
 {
-    of_session!(s, alloc, session => place_in(session, line, column), CLOSED)
+    of_session!(s, alloc, session => place_in(&session, line, column), CLOSED)
 }
 
 /// Whether the last action of the ring was a yank or a yank-pop, also with count 0: TRUE or FALSE, or CLOSED.
@@ -129,6 +132,47 @@ pub extern "C" fn lodvarn_last_was_yank(alloc: Global, s: &mut Handle) -> u32
     ensures kept { s.new.value ≡ s.old.value }
 {
     of_session!(s, alloc, session => truth_number(session.ring().yank_size().is_some()), CLOSED)
+}
+
+/// How many texts the ring has; 0 for a closed session.
+#[unsafe(no_mangle)]
+pub extern "C" fn lodvarn_ring_count(alloc: Global, s: &mut Handle) -> usize
+    ensures value { result ≡ ring_count_of s.old.value }
+    ensures kept { s.new.value ≡ s.old.value }
+{
+    of_session!(s, alloc, session => session.ring().len(), 0)
+}
+
+// Writes out a text of a ring and its length, if there is such a text.
+fn ring_text(ring: &KillRing, back: usize, out: &mut [u8], out_len: &mut usize) -> u32
+    ensures { TextIn (text_back back ring.now) result (out.old, out_len.old) (out.new, out_len.new) }
+{
+    let Some(text) = ring.text_back(back) else {
+        return NONE;
+    };
+    *out_len = text.len();
+    if text.len() > out.len() {
+        return TOO_SMALL;
+    }
+    put(text.as_bytes(), out);
+    TEXT
+}
+
+/// The ring's text that is `back` texts before the current one, round the ring: TEXT, with the text in `out` and its
+/// bytes in `out_len`. 0 is the one that a yank inserts, 1 the one that a yank-pop would come to next. TOO_SMALL writes
+/// the bytes needed to `out_len`. NONE, from `lodvarn_ring_count` on, and CLOSED write nothing.
+#[unsafe(no_mangle)]
+pub extern "C" fn lodvarn_ring_text(
+    alloc: Global,
+    s: &mut Handle,
+    back: usize,
+    out: &mut [u8],
+    out_len: &mut usize,
+) -> u32
+    ensures value { RingRead s.old.value back result (out.old, out_len.old) (out.new, out_len.new) }
+    ensures kept { s.new.value ≡ s.old.value }
+{
+    of_session!(s, alloc, session => ring_text(session.ring(), back, out, out_len), CLOSED)
 }
 
 // Writes where a range begins and ends, if there is one.

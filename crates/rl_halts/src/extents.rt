@@ -34,6 +34,15 @@ fn line_end(line: &mut LineBuffer) -> usize {
     line.pos()
 }
 
+// The end of the blanks at the start of the cursor's line.
+fn past_blanks(line: &LineBuffer) -> usize {
+    let Some(range) = line.line_range(line.line_number()) else {
+        return line.len();
+    };
+    let text = line.as_str().get(range.start..range.end).unwrap_or("");
+    range.end.saturating_sub(text.trim_start().len())
+}
+
 // Past the newline of a line, if it has one; the lines are counted from 0.
 fn past_line(line: &LineBuffer, number: usize) -> usize {
     let last = line.line_count().saturating_sub(1);
@@ -81,6 +90,7 @@ fn other_end(line: &mut LineBuffer, reach: Reach, n: RepeatCount) -> usize {
             }
         }
         Reach::EndOfLine => return line_end(line),
+        Reach::FirstNonBlank => return past_blanks(line),
         Reach::BackwardWord(word) => {
             line.move_to_prev_word(word, n);
         }

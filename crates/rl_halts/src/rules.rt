@@ -40,6 +40,23 @@ fn is_hit(cs: CharSearch, before: &str, after: &str) -> bool {
     }
 }
 
+// Whether the line that the text ends with has a character that is no blank.
+fn is_past_blanks(before: &str) -> bool {
+    let line = match before.rsplit_once('\n') {
+        Some((_, line)) => line,
+        None => before,
+    };
+    !line.trim_start().is_empty()
+}
+
+// Whether the text begins with a blank that is no newline.
+fn stands_before_blank(after: &str) -> bool {
+    match after.chars().next() {
+        Some(c) => c != '\n' && c.is_whitespace(),
+        None => false,
+    }
+}
+
 // Whether a kill with the cursor between the two texts deletes anything.
 fn kills(reach: Reach, n: RepeatCount, before: &str, after: &str) -> bool {
     match reach {
@@ -54,6 +71,7 @@ fn kills(reach: Reach, n: RepeatCount, before: &str, after: &str) -> bool {
         Reach::ForwardWord(_, _) => n != 0 && first_len(after) < after.len(),
         Reach::ViCharSearch(cs) => n != 0 && is_hit(cs, before, after),
         Reach::ViFirstPrint => false,
+        Reach::FirstNonBlank => is_past_blanks(before) || stands_before_blank(after),
         Reach::BackwardChar => n != 0 && !before.is_empty(),
         Reach::ForwardChar => n != 0 && !after.is_empty(),
         Reach::LineUp => before.contains('\n'),
@@ -63,8 +81,11 @@ fn kills(reach: Reach, n: RepeatCount, before: &str, after: &str) -> bool {
 }
 
 // The side of the cursor from which a deletion by the movement is told.
-fn side(reach: Reach) -> Direction {
+fn side(case: &Case, reach: Reach) -> Direction {
     match reach {
+        Reach::FirstNonBlank if case.text.get(..case.cursor).is_some_and(is_past_blanks) => {
+            Direction::Backward
+        }
         Reach::BeginningOfLine
         | Reach::BeginningOfBuffer
         | Reach::BackwardWord(_)
@@ -79,7 +100,7 @@ fn side(reach: Reach) -> Direction {
 /// Whether each deletion is told from the edit's side.
 pub(crate) fn are_sides(case: &Case, events: &[TextEvent]) -> bool {
     let wanted = match case.edit {
-        Edit::By(deletion) => side(reach_of(deletion)),
+        Edit::By(deletion) => side(case, reach_of(deletion)),
         _ => Direction::Forward,
     };
     for event in events {

@@ -3,7 +3,7 @@ use Rattle.std.specs.Prelude.{◌≡◌, ℕ, ◌-◌, ◌^◌, true, false, Lis
 use Rattle.std.specs.Str.{IsUtf8}
 use Rattle.std.specs.String.{string_bytes}
 use Rattle.std.specs.declared.alloc.Global.{Global}
-use Rattle.rl_session.specs.Spelling.{number_of, Spells, SpellsChar, word, rest, Numbered, NumberedText}
+use Rattle.rl_session.specs.Spelling.{number_of, Spells, SpellsChar, SpellsRest, word, rest, Numbered, NumberedText}
 use Rattle.rl_session.specs.declared.session.Command.{Command}
 use Rattle.rl_session.specs.declared.session.Command.TheVariants.{SetPos, Move, Insert, Paste, Yank, YankPop, Update, InsertStr, Replace, DeleteRange, Delete, Backspace, KillLine, KillBuffer, DiscardLine, DiscardBuffer, DeletePrevWord, DeleteWord, DeleteTo, TransposeChars, TransposeWords, EditWord, Kill, Copy, Indent, Begin, End, EndOne, Undo, Redo, Truncate, LinePlace, KillRange, Keep}
 use Rattle.rl_session.specs.declared.settings.Setting.{Setting}
@@ -163,7 +163,7 @@ pub data Says : List ℕ → Option (List ℕ) → Meaning → Type 0 where
   cased : {bytes : List ℕ} {action : WordAction} → NamesAction bytes action → Says (codes "case") (Some bytes) (Do (EditWord action))
   kill : {bytes : List ℕ} {movement : Movement} → NamesMovement bytes movement → Says (codes "kill") (Some bytes) (Do (Kill movement))
   killrange : {given : List ℕ} {a b : ℕ} {side : Direction} → RangeDirection given a b side → Says (codes "killrange") (Some given) (Do (KillRange a b side))
-  keep : {bytes : List ℕ} {t : String Global} → Spells bytes (string_bytes t) → Says (codes "keep") (Some bytes) (Do (Keep t))
+  keep : {given : Option (List ℕ)} {t : String Global} → SpellsRest given (string_bytes t) → Says (codes "keep") given (Do (Keep t))
   copy : {bytes : List ℕ} {movement : Movement} → NamesMovement bytes movement → Says (codes "copy") (Some bytes) (Do (Copy movement))
   indent : {given : List ℕ} {amount : ℕ} {movement : Movement} → AmountMovement given amount movement
       → Says (codes "indent") (Some given) (Do (Indent movement amount false))

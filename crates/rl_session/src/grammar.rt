@@ -356,11 +356,12 @@ fn with_given(alloc: Global, word: &str, given: &str) -> Result<Option<ScriptLin
 }
 
 // The command of a word that no space follows.
-fn lone_command(word: &str) -> Option<Command>
+fn lone_command(alloc: Global, word: &str) -> Option<Command>
     ensures { MatchOption result (SaysNoLoneCommand word.now) (λ command. Says word.now None (Do command)) }
 {
     match word {
         "yankpop" => Some(Command::YankPop),
+        "keep" => Some(Command::Keep(String::new(alloc))),
         "killline" => Some(Command::KillLine),
         "killbuf" => Some(Command::KillBuffer),
         "discline" => Some(Command::DiscardLine),
@@ -382,7 +383,7 @@ fn alone(alloc: Global, word: &str) -> Option<ScriptLine>
 {
     match word {
         "text" => Some(ScriptLine::NewText(String::new(alloc))),
-        _ => Some(ScriptLine::Do(lone_command(word)?)),
+        _ => Some(ScriptLine::Do(lone_command(alloc, word)?)),
     }
 }
 

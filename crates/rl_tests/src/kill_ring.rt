@@ -5,7 +5,7 @@ use std::alloc::Global;
 use std::process::Abort;
 use std::test::Fail;
 
-// A call of a ring, with the answer that is expected of a yank.
+// A call of a ring, with the answer that is expected of a yank or a question.
 #[derive(Clone, Copy)]
 enum Call {
     Kill(&'static str),
@@ -15,6 +15,9 @@ enum Call {
     YankNone,
     Pop(usize, &'static str),
     PopNone,
+    Count(usize),
+    At(usize, &'static str),
+    NoneAt(usize),
     Start,
     Ahead(&'static str),
     Back(&'static str),
@@ -26,6 +29,14 @@ enum Call {
 fn lends(slot: Option<&String>, text: &str) -> bool {
     match slot {
         Some(slot) => slot.as_str() == text,
+        None => false,
+    }
+}
+
+// Whether the ring has this text, so many before its current one.
+fn is_at(ring: &KillRing, back: usize, wanted: &str) -> bool {
+    match ring.text_back(back) {
+        Some(text) => text == wanted,
         None => false,
     }
 }
@@ -45,6 +56,9 @@ fn make(ring: &mut KillRing, call: Call) -> Result<bool, Fail> {
             };
         }
         Call::PopNone => return Ok(ring.yank_pop().is_none()),
+        Call::Count(texts) => return Ok(ring.len() == texts),
+        Call::At(back, text) => return Ok(is_at(ring, back, text)),
+        Call::NoneAt(back) => return Ok(ring.text_back(back).is_none()),
         Call::Start => ring.start_killing(),
         Call::Ahead(text) => ring.delete(0, text, Direction::Forward)?,
         Call::Back(text) => ring.delete(0, text, Direction::Backward)?,
@@ -78,6 +92,7 @@ fn kills_join(rt: HostRuntime) -> Result<(), Fail> {
         (Call::Kill("word1"), None),
         (Call::Kill(" word2"), None),
         (Call::Yank("word1 word2"), Some(11)),
+        (Call::Count(1), Some(11)),
         // a yank ends the text
         (Call::KillBack("word1"), None),
         (Call::KillBack("word2 "), None),
@@ -92,12 +107,21 @@ fn a_pop_goes_round(rt: HostRuntime) -> Result<(), Fail> {
     const STEPS: &[Step] = &[
         (Call::PopNone, None),
         (Call::Kill("word1"), None),
+        (Call::Count(1), None),
+        (Call::At(0, "word1"), None),
+        (Call::NoneAt(1), None),
         // a reset leaves the text
         (Call::Reset, None),
         (Call::Kill("longword2"), None),
         (Call::PopNone, None),
+        (Call::At(0, "longword2"), None),
+        (Call::At(1, "word1"), None),
+        (Call::NoneAt(2), None),
         (Call::Yank("longword2"), Some(9)),
         (Call::Pop(9, "word1"), Some(5)),
+        (Call::Count(2), Some(5)),
+        (Call::At(0, "word1"), Some(5)),
+        (Call::At(1, "longword2"), Some(5)),
         (Call::Pop(5, "longword2"), Some(9)),
         (Call::Pop(9, "word1"), Some(5)),
         (Call::Reset, None),
@@ -120,6 +144,21 @@ fn a_kill_overwrites_the_text_after_the_current_one(rt: HostRuntime) -> Result<(
         (Call::Yank("c"), Some(1)),
         (Call::Pop(1, "a"), Some(1)),
         (Call::Pop(1, "c"), Some(1)),
+        (Call::Count(2), Some(1)),
+        (Call::Reset, None),
+        (Call::Kill("d"), None),
+        (Call::Count(3), None),
+        (Call::At(0, "d"), None),
+        (Call::At(1, "c"), None),
+        (Call::At(2, "a"), None),
+        (Call::NoneAt(3), None),
+        (Call::NoneAt(usize::MAX), None),
+        // from the middle it goes round
+        (Call::Yank("d"), Some(1)),
+        (Call::Pop(1, "c"), Some(1)),
+        (Call::At(0, "c"), Some(1)),
+        (Call::At(1, "a"), Some(1)),
+        (Call::At(2, "d"), Some(1)),
     ];
     goes(&rt, rt.alloc(), 3, STEPS)
 }
@@ -130,6 +169,8 @@ fn the_smallest_rings(rt: HostRuntime) -> Result<(), Fail> {
         (Call::YankNone, None),
         (Call::PopNone, None),
         (Call::Kill("x"), None),
+        (Call::Count(0), None),
+        (Call::NoneAt(0), None),
         (Call::KillBack("y"), None),
         (Call::Start, None),
         (Call::Ahead("z"), None),

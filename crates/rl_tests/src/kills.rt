@@ -22,6 +22,22 @@ enum Call {
     NextWord(At, Word, RepeatCount),
     To(CharSearch, RepeatCount),
     Kill(Movement),
+    KillRange(usize, usize, Direction),
+}
+
+// Kills the range, where it is one.
+fn kill_range(
+    line: &mut LineBuffer,
+    from: usize,
+    to: usize,
+    dir: Direction,
+    heard: &mut RefuseAt,
+) -> Result<bool, Refusal> {
+    let text = line.as_str();
+    if from <= to && text.is_char_boundary(from) && text.is_char_boundary(to) {
+        return line.kill_range(from..to, dir, heard);
+    }
+    Ok(false)
 }
 
 fn make(line: &mut LineBuffer, call: &Call, heard: &mut RefuseAt) -> Result<bool, Refusal> {
@@ -35,6 +51,7 @@ fn make(line: &mut LineBuffer, call: &Call, heard: &mut RefuseAt) -> Result<bool
         Call::NextWord(at, word, n) => line.delete_word(*at, *word, *n, heard),
         Call::To(cs, n) => line.delete_to(*cs, *n, heard),
         Call::Kill(mvt) => line.kill(mvt, heard),
+        Call::KillRange(from, to, dir) => kill_range(line, *from, *to, *dir, heard),
     }
 }
 
@@ -42,7 +59,7 @@ fn make(line: &mut LineBuffer, call: &Call, heard: &mut RefuseAt) -> Result<bool
 fn is_told_as_a_kill(call: &Call) -> bool {
     match call {
         Call::Kill(Movement::BackwardChar(_) | Movement::ForwardChar(_)) => false,
-        Call::Kill(_) => true,
+        Call::Kill(_) | Call::KillRange(_, _, _) => true,
         _ => false,
     }
 }
@@ -254,6 +271,27 @@ fn deletions_to_places(rt: HostRuntime) -> Result<(), Fail> {
         ),
         ("ab", 1, Call::Kill(Movement::ViFirstPrint), None),
         (
+            "a\n \tb c\nd",
+            7,
+            Call::Kill(Movement::FirstNonBlank),
+            Some((4, "b c", BACK)),
+        ),
+        (
+            "a\n \tb c\nd",
+            3,
+            Call::Kill(Movement::FirstNonBlank),
+            Some((3, "\t", AHEAD)),
+        ),
+        ("a\n \tb c\nd", 4, Call::Kill(Movement::FirstNonBlank), None),
+        // of a line of blanks to its end
+        (
+            " \u{3000}\na",
+            0,
+            Call::Kill(Movement::FirstNonBlank),
+            Some((0, " \u{3000}", AHEAD)),
+        ),
+        (" \u{3000}\na", 4, Call::Kill(Movement::FirstNonBlank), None),
+        (
             "a\nb\nc",
             2,
             Call::Kill(Movement::LineDown(0)),
@@ -266,6 +304,14 @@ fn deletions_to_places(rt: HostRuntime) -> Result<(), Fail> {
             Some((0, "a\nb\n", AHEAD)),
         ),
         ("c", 0, Call::Kill(Movement::LineUp(1)), None),
+        (GREEK, 2, Call::KillRange(4, 8, BACK), Some((4, "γδ", BACK))),
+        (
+            "ab\ncd",
+            5,
+            Call::KillRange(1, 4, AHEAD),
+            Some((1, "b\nc", AHEAD)),
+        ),
+        ("ab", 0, Call::KillRange(1, 1, AHEAD), None),
         // a last, empty line is killed as an empty text
         (
             "\n",
@@ -311,6 +357,9 @@ fn copies(rt: HostRuntime) -> Result<(), Fail> {
         (THREE, 5, "copy find 1 T b", "text:\\ncd 5 ab\\ncd ef\\ngh"),
         (THREE, 5, "copy find 1 F b", "text:b\\ncd 5 ab\\ncd ef\\ngh"),
         (THREE, 5, "copy first", "text:cd 5 ab\\ncd ef\\ngh"),
+        (THREE, 5, "copy nonblank", "text:cd 5 ab\\ncd ef\\ngh"),
+        ("  ab", 1, "copy nonblank", "text:\\s 1   ab"),
+        ("  ab", 2, "copy nonblank", "none 2   ab"),
         (THREE, 5, "copy bchar 2", "text:cd 5 ab\\ncd ef\\ngh"),
         (THREE, 5, "copy fchar 2", "text:\\se 5 ab\\ncd ef\\ngh"),
         (
@@ -367,7 +416,7 @@ fn copies(rt: HostRuntime) -> Result<(), Fail> {
 }
 
 // Each movement with that count.
-fn movements(n: RepeatCount) -> [Movement; 31] {
+fn movements(n: RepeatCount) -> [Movement; 32] {
     [
         Movement::WholeLine,
         Movement::BeginningOfLine,
@@ -393,6 +442,7 @@ fn movements(n: RepeatCount) -> [Movement; 31] {
         Movement::ViCharSearch(n, Backward('\n')),
         Movement::ViCharSearch(n, BackwardAfter('\n')),
         Movement::ViFirstPrint,
+        Movement::FirstNonBlank,
         Movement::BackwardChar(n),
         Movement::ForwardChar(n),
         Movement::LineUp(n),

@@ -1,11 +1,12 @@
 //! Motions over lines, and their numbers, with answers from outside.
 use crate::line_buffer::{holds, line_of};
-use rl_base::{GraphemeClusterMode, Layout, RepeatCount, Unit};
+use rl_base::{GraphemeClusterMode, Layout, Movement, RepeatCount, Unit};
 use rl_line::LineBuffer;
 use std::alloc::Global;
 use std::process::Abort;
 use std::test::Fail;
 
+#[derive(Drop)]
 enum Step {
     Home,
     End,
@@ -13,6 +14,7 @@ enum Step {
     BufferEnd,
     Up(RepeatCount),
     Down(RepeatCount),
+    By(Movement),
 }
 
 fn take(line: &mut LineBuffer, step: &Step, layout: &Layout) -> bool {
@@ -23,6 +25,10 @@ fn take(line: &mut LineBuffer, step: &Step, layout: &Layout) -> bool {
         Step::BufferEnd => line.move_buffer_end(),
         Step::Up(n) => line.move_to_line_up(*n, layout),
         Step::Down(n) => line.move_to_line_down(*n, layout),
+        Step::By(mvt) => {
+            let place = line.destination(mvt, layout);
+            line.move_by(mvt, layout) && place == Some(line.pos())
+        }
     }
 }
 
@@ -139,6 +145,37 @@ fn lines_above_and_below(rt: HostRuntime) -> Result<(), Fail> {
             1,
             0,
             &[(Step::Down(0), true, 2), (Step::Up(9), true, 0)],
+        ),
+    ];
+    go_all(&rt, rt.alloc(), ROWS)
+}
+
+// A step by a movement also says before where it goes.
+#[test]
+fn movements_lead_to_places(rt: HostRuntime) -> Result<(), Fail> {
+    const ROWS: &[Row] = &[
+        (
+            "  ab\n cd",
+            3,
+            0,
+            &[
+                (Step::By(Movement::FirstNonBlank), true, 2),
+                (Step::By(Movement::FirstNonBlank), false, 2),
+                (Step::By(Movement::BeginningOfLine), true, 0),
+                (Step::By(Movement::FirstNonBlank), true, 2),
+                (Step::By(Movement::LineDown(1)), true, 7),
+                (Step::By(Movement::FirstNonBlank), true, 6),
+                (Step::By(Movement::WholeLine), false, 6),
+                (Step::By(Movement::BackwardChar(2)), true, 4),
+                (Step::By(Movement::EndOfLine), false, 4),
+                (Step::By(Movement::EndOfBuffer), true, 8),
+            ],
+        ),
+        (
+            "ab\ncd",
+            1,
+            7,
+            &[(Step::By(Movement::LineDown(1)), true, 5)],
         ),
     ];
     go_all(&rt, rt.alloc(), ROWS)

@@ -45,6 +45,12 @@ fn motions_repeated(rt: HostRuntime) -> Result<(), Fail> {
         ("ö\u{332}g\u{308}", 0, "move fchar 0", &[]),
         ("αß", 2, "move bob", &[0]),
         ("αß", 2, "move eob", &[4]),
+        ("a\\n  b c\\nd", 7, "move nonblank", &[4]),
+        ("a\\n  b c\\nd", 2, "move nonblank", &[4]),
+        ("a\\n  b c\\nd", 1, "move nonblank", &[0]),
+        ("\u{3000}\u{e9}", 5, "move nonblank", &[3]),
+        (" \\n ", 0, "move nonblank", &[1]),
+        (" \\n ", 3, "move nonblank", &[]),
         (BETA, 19, "move bword 1 vi", &[17, 15, 12, 11, 7, 6, 0]),
         (BETA, 19, "move bword 1 big", &[17, 6, 0]),
         (

@@ -186,6 +186,26 @@ fn kills_come_back(rt: HostRuntime) -> Result<(), Fail> {
             b"ok 5 a\\nb\\nc\nok 2 a\\nb\\nc\ntrue 1 ac\ntrue 2 a\\nb\\nc\nok 2 a\\nb\\nc\ntrue 0 c\ntrue 2 a\\nb\\nc\nok 2 a\\nb\\nc\ntrue 2 a\\n\\nc\ntrue 2 a\\nc\nfalse 2 a\\nc\ntrue 0 \ntrue 5 b\\na\\nc\n",
         ),
         (
+            "killed ranges are joined on their side, and neither a bad place nor an empty range parts them",
+            b"text one two three\npos 4\nkillrange 4 7 f\nkillrange 9 3 f\nkillrange 0 4 b\nkillrange 2 2 f\nkill eol\nyank 1\n",
+            b"ok 13 one two three\nok 4 one two three\ntrue 4 one  three\nrefused:2 4 one  three\ntrue 0  three\nfalse 0  three\ntrue 0 \ntrue 13 one two three\n",
+        ),
+        (
+            "a killed range may stand apart from the cursor, which goes to its start; one undo takes it back",
+            b"text one two\nkillrange 0 4 f\nyank 1\nundo 1\nundo 1\n",
+            b"ok 7 one two\ntrue 0 two\nfalse 4 one two\ntrue 0 two\ntrue 7 one two\n",
+        ),
+        (
+            "a text that is kept is joined by no kill before it or after it",
+            b"text ab cd\nkill bword 1 emacs\nkeep x\\sy\nkill bob\nyank 1\nyankpop\nyankpop\n",
+            b"ok 5 ab cd\ntrue 3 ab \nok 3 ab \ntrue 0 \ntrue 3 ab \ntrue 3 x y\ntrue 2 cd\n",
+        ),
+        (
+            "an empty text is kept too, but not by a ring without slots",
+            b"text ab\nkeep c\nkeep\nyank 1\nkill bob\nyank 1\nyankpop\nyankpop\nring 0\ntext ab\nkeep c\nyank 1\n",
+            b"ok 2 ab\nok 2 ab\nok 2 ab\nnone 2 ab\ntrue 0 \ntrue 2 ab\nnone 0 \nnone 0 \nok 0 \nok 2 ab\nok 2 ab\nnone 2 ab\n",
+        ),
+        (
             "there is nothing to yank from an empty ring, nor from one without slots",
             b"text ab\nyank 1\nyankpop\nring 0\ntext ab\nyank 1\nyankpop\nkill home\nyank 1\nyankpop\n",
             b"ok 2 ab\nnone 2 ab\nnone 2 ab\nok 2 ab\nok 2 ab\nnone 2 ab\nnone 2 ab\ntrue 0 \nnone 0 \nnone 0 \n",
@@ -386,8 +406,8 @@ fn texts_and_places_are_commanded(rt: HostRuntime) -> Result<(), Fail> {
 fn every_word_does_something(rt: HostRuntime) -> Result<(), Fail> {
     const ROWS: &[Row] = &[(
         "each word once, but two begins, and two kills before the yanks",
-        b"text ab cd\nins 1 e\nback 1\ntrunc 0\nbegin\nbegin\npos 0\npaste 1 x y\nendone\nend\nundo 1\nredo\nprevword 1 emacs\nnextword 1 after emacs\ncase up\nto 1 F C\nmove bob\nkill eol\nupdate 7 one two\ntwords 1\ntchars\nkill bword 1 emacs\nyank 1\nyankpop\ncopy bword 1 emacs\nstr 0 ab\\n\nindent 2 buf\ndedent 1 line\nrep 0 4 cd\\ne\nwhere\nrange 5 6\ndel 1\npos 3\nkillline\nkillbuf\ndiscline\ndiscbuf\n",
-        b"ok 5 ab cd\ntrue 6 ab cde\ntrue 5 ab cd\nok 5 ab cd\nmark:0 5 ab cd\nmark:1 5 ab cd\nok 0 ab cd\nfalse 3 x yab cd\ntrue 3 x yab cd\ntrue 3 x yab cd\ntrue 0 ab cd\ntrue 3 x yab cd\ntrue 2 x ab cd\ntrue 2 x  cd\ntrue 5 x  CD\ntrue 3 x  \ntrue 0 x  \ntrue 0 \nok 7 one two\ntrue 7 two one\ntrue 7 two oen\ntrue 4 two \ntrue 7 two oen\ntrue 7 two x  \ntext:x\\s\\s 7 two x  \nfalse 7 ab\\ntwo x  \ntrue 11   ab\\n  two x  \ntrue 10   ab\\n two x  \nok 4 cd\\ne\\n two x  \nat:1:1 4 cd\\ne\\n two x  \nok 5 cd\\ne\\ntwo x  \ntext:t 5 cd\\ne\\nwo x  \nok 3 cd\\ne\\nwo x  \ntrue 3 cd\\n\\nwo x  \ntrue 3 cd\\n\ntrue 2 cd\ntrue 0 \n",
+        b"text ab cd\nins 1 e\nback 1\ntrunc 0\nbegin\nbegin\npos 0\npaste 1 x y\nendone\nend\nundo 1\nredo\nprevword 1 emacs\nnextword 1 after emacs\ncase up\nto 1 F C\nmove bob\nkill eol\nupdate 7 one two\ntwords 1\ntchars\nkill bword 1 emacs\nyank 1\nyankpop\ncopy bword 1 emacs\nstr 0 ab\\n\nindent 2 buf\ndedent 1 line\nrep 0 4 cd\\ne\nwhere\nmove nonblank\nrange 5 6\ndel 1\npos 3\nkillline\nkillbuf\ndiscline\ndiscbuf\nkeep x\\sy\nyank 1\nkillrange 0 3 b\n",
+        b"ok 5 ab cd\ntrue 6 ab cde\ntrue 5 ab cd\nok 5 ab cd\nmark:0 5 ab cd\nmark:1 5 ab cd\nok 0 ab cd\nfalse 3 x yab cd\ntrue 3 x yab cd\ntrue 3 x yab cd\ntrue 0 ab cd\ntrue 3 x yab cd\ntrue 2 x ab cd\ntrue 2 x  cd\ntrue 5 x  CD\ntrue 3 x  \ntrue 0 x  \ntrue 0 \nok 7 one two\ntrue 7 two one\ntrue 7 two oen\ntrue 4 two \ntrue 7 two oen\ntrue 7 two x  \ntext:x\\s\\s 7 two x  \nfalse 7 ab\\ntwo x  \ntrue 11   ab\\n  two x  \ntrue 10   ab\\n two x  \nok 4 cd\\ne\\n two x  \nat:1:1 4 cd\\ne\\n two x  \ntrue 3 cd\\ne\\n two x  \nok 5 cd\\ne\\ntwo x  \ntext:t 5 cd\\ne\\nwo x  \nok 3 cd\\ne\\nwo x  \ntrue 3 cd\\n\\nwo x  \ntrue 3 cd\\n\ntrue 2 cd\ntrue 0 \nok 0 \ntrue 3 x y\ntrue 0 \n",
     )];
     print_all(&rt, rt.alloc(), ROWS)
 }
@@ -483,7 +503,7 @@ fn malformed_lines_print_bad(rt: HostRuntime) -> Result<(), Fail> {
         ),
         (
             "backslashes that say nothing",
-            b"text \\\ntext \\q\npaste 1 \\\nstr 0 \\q",
+            b"text \\\ntext \\q\npaste 1 \\\nstr 0 \\q\nkeep \\q",
         ),
         (
             "not one character",
@@ -498,16 +518,16 @@ fn malformed_lines_print_bad(rt: HostRuntime) -> Result<(), Fail> {
             b"move fchar 1 \nmove home 1\nkill bword 1 big \ndedent 1 line 2",
         ),
         (
-            "kinds of words and of searches that are none",
-            b"move bword 1 word\nmove bword 1  big\nmove fword 1 end vi\nmove fword 1 big start\nmove find 1 x a\nto 1 x a\nprevword big 1\nnextword 1 big",
+            "kinds of words, of searches and of directions that are none",
+            b"killrange 0 1 x\nkillrange 0 1 F\nkillrange f 0 1\nmove bword 1 word\nmove bword 1  big\nmove fword 1 end vi\nmove fword 1 big start\nmove find 1 x a\nto 1 x a\nprevword big 1\nnextword 1 big",
         ),
         (
             "words without their arguments",
-            b"yank\ndel\npaste\npaste a\nupdate\nstr ab\nrep 0\nrep 0 a\nrange 1\nprevword 1\ntwords\ncase\ntrunc\nlimit\nmode\nindent line",
+            b"yank\ndel\npaste\npaste a\nupdate\nstr ab\nrep 0\nrep 0 a\nrange 1\nkillrange\nkillrange 0 1\nkillrange 0 f\nprevword 1\ntwords\ncase\ntrunc\nlimit\nmode\nindent line",
         ),
         (
             "words with more than they want",
-            b"yankpop 1\nkillline 1\ndiscbuf \nbegin 1\nend \nredo 1\nrange 0 1 2\nrange 0 1 \nnextword 1 after vi \nwhere \nwhere 1",
+            b"yankpop 1\nkillline 1\ndiscbuf \nbegin 1\nend \nredo 1\nrange 0 1 2\nrange 0 1 \nkillrange 0 1 f \nkillrange 0 1 f 2\nnextword 1 after vi \nwhere \nwhere 1",
         ),
         (
             "arguments of another kind",

@@ -1,6 +1,6 @@
 //! Rows of sessions.
 use crate::script::is_so;
-use rl_base::{At, CharSearch, GraphemeClusterMode, Movement, RepeatCount, Unit, Word, WordAction};
+use rl_base::{At, CharSearch, GraphemeClusterMode, Movement, RepeatCount, Unit, Word, WordAction, Direction};
 use rl_session::{Command, Fault, Reply, Session};
 use std::alloc::Global;
 use std::process::Abort;
@@ -315,6 +315,7 @@ fn every_command_does_something(rt: HostRuntime) -> Result<(), Fail> {
     let lines = String::from_str(alloc, "cd\ne")?;
     let copied = String::from_str(alloc, "x  ")?;
     let deleted = String::from_str(alloc, "t")?;
+    let kept = String::from_str(alloc, "x y")?;
     let commands = [
         Command::Insert('e', 1),
         Command::Backspace(1),
@@ -345,6 +346,7 @@ fn every_command_does_something(rt: HostRuntime) -> Result<(), Fail> {
         Command::Indent(Movement::WholeLine, 1, true),
         Command::Replace(0, 4, lines),
         Command::LinePlace,
+        Command::Move(Movement::FirstNonBlank),
         Command::DeleteRange(5, 6),
         Command::Delete(1),
         Command::SetPos(3),
@@ -352,6 +354,9 @@ fn every_command_does_something(rt: HostRuntime) -> Result<(), Fail> {
         Command::KillBuffer,
         Command::DiscardLine,
         Command::DiscardBuffer,
+        Command::Keep(kept),
+        Command::Yank(1),
+        Command::KillRange(0, 3, Direction::Backward),
     ];
     let wanted = [
         Reply::Inserted(Some(true)),
@@ -383,12 +388,16 @@ fn every_command_does_something(rt: HostRuntime) -> Result<(), Fail> {
         Reply::Answer(true),
         Reply::Done,
         Reply::At(1, 1),
+        Reply::Answer(true),
         Reply::Done,
         Reply::Text(Some(deleted)),
         Reply::Done,
         Reply::Answer(true),
         Reply::Answer(true),
         Reply::Answer(true),
+        Reply::Answer(true),
+        Reply::Done,
+        Reply::Inserted(Some(true)),
         Reply::Answer(true),
     ];
     let mut session = Session::new(alloc, "ab cd", 5, 64, 2, GraphemeClusterMode::Unicode)?;
@@ -507,6 +516,62 @@ fn kills_run_and_come_back(rt: HostRuntime) -> Result<(), Fail> {
     let text = "one two three";
     let mut session = Session::new(alloc, text, 13, 64, 2, GraphemeClusterMode::Unicode)?;
     runs(&rt, &mut session, &commands, &wanted, text, 13)
+}
+
+// What the movement covers, and where it leads.
+type Led<'a> = (&'a Movement, Option<(usize, usize)>, Option<usize>);
+
+// The session says that of the movement.
+fn leads(rt: &impl Abort, session: &Session, (movement, covered, place): Led) {
+    let covers = session
+        .covers(movement)
+        .map(|range| (range.start, range.end));
+    assert_eq!(rt; covers, covered, "what {movement:?} covers");
+    assert_eq!(rt;
+        session.destination(movement),
+        place,
+        "where {movement:?} leads"
+    );
+}
+
+#[test]
+fn movements_cover_and_lead(rt: HostRuntime) -> Result<(), Fail> {
+    let rows = [
+        (&Movement::FirstNonBlank, Some((1, 2)), Some(2)),
+        (&Movement::EndOfLine, Some((1, 4)), Some(4)),
+        (&Movement::BeginningOfLine, Some((0, 1)), Some(0)),
+        (&Movement::WholeLine, Some((0, 4)), None),
+        (&Movement::LineDown(1), Some((0, 7)), Some(6)),
+        (&Movement::LineUp(1), None, None),
+        (&Movement::BackwardChar(0), None, None),
+    ];
+    let session = Session::new(
+        rt.alloc(),
+        "  ab\ncd",
+        1,
+        9,
+        60,
+        GraphemeClusterMode::Unicode,
+    )?;
+    for row in rows {
+        leads(&rt, &session, row);
+    }
+    let session = Session::new(rt.alloc(), "ab\n", 2, 9, 60, GraphemeClusterMode::Unicode)?;
+    // a kill would take the newline
+    leads(&rt, &session, (&Movement::EndOfLine, None, None));
+    Ok(())
+}
+
+#[test]
+fn questions_part_no_run_of_kills(rt: HostRuntime) -> Result<(), Fail> {
+    let text = "  ab cd";
+    let mut session = Session::new(rt.alloc(), text, 5, 9, 60, GraphemeClusterMode::Unicode)?;
+    let back = [Command::Kill(Movement::FirstNonBlank)];
+    runs(&rt, &mut session, &back, &[Reply::Answer(true)], "  cd", 2)?;
+    leads(&rt, &session, (&Movement::EndOfLine, Some((2, 4)), Some(4)));
+    let on = [Command::Kill(Movement::EndOfLine), Command::Yank(1)];
+    let wanted = [Reply::Answer(true), Reply::Inserted(Some(true))];
+    runs(&rt, &mut session, &on, &wanted, text, 7)
 }
 
 // What may be handed to another thread: whoever calls the library for C relies on it.

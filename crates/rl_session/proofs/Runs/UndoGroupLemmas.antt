@@ -159,8 +159,8 @@ group-inside inside b e mid is_begin begins all l to_end =
 group-undone : (start : List ℕ) (texts : List (List ℕ)) (inside : List Row) (b e u : Row) (mid : State) → Holds start texts b.before → Leads b.after inside mid → e.before ≡ mid
     → kept_of 1 e.after.pair.changes.recorded ≡ b.before.pair.changes.recorded
     → u.before ≡ e.after → u.command ≡ asks.Undo 1 → ¬ (WasRefused u.reply) → u.after.line.text ≡ b.before.line.text
-group-undone start texts inside b e u mid h l to_end keeps to_undo is_undo undoes =
-    let kept : kept_of 1 u.before.pair.changes.recorded ≡ b.before.pair.changes.recorded = ap (λ (s : State). kept_of 1 s.pair.changes.recorded) to_undo ∙ keeps in
+group-undone start texts inside b e u mid h l to_end still to_undo is_undo undoes =
+    let kept : kept_of 1 u.before.pair.changes.recorded ≡ b.before.pair.changes.recorded = ap (λ (s : State). kept_of 1 s.pair.changes.recorded) to_undo ∙ still in
     let at_mid = Holds-Leads start inside (texts ++ held b) b.after mid (Holds-row start texts b h) l in
     let texts_mid = (texts ++ held b) ++ held_of inside in
     let at_end = Holds-row start texts_mid e (subst (λ s. Holds start texts_mid s) (sym to_end) at_mid) in

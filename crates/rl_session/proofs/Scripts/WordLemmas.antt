@@ -82,7 +82,7 @@ Says-one (twords p) (twords q) = same (ap (λ x. Do (TransposeWords x)) (some_sa
 Says-one (cased p) (cased q) = same (ap (λ x. Do (EditWord x)) (NamesAction-one p q))
 Says-one (kill p) (kill q) = same (ap (λ x. Do (Kill x)) (Names-one p q))
 Says-one (killrange p) (killrange q) = let both = RangeDirection-one p q in same (rw (both.0, both.1, both.2) refl)
-Says-one (keep {bytes = bytes} {t = t} p) (keep {t = u} q) = keeps (Spells-one bytes (string_bytes t) (string_bytes u) p q)
+Says-one (keep {given = given} {t = t} p) (keep {t = u} q) = keeps (SpellsRest-one given (string_bytes t) (string_bytes u) p q)
 Says-one (copy p) (copy q) = same (ap (λ x. Do (Copy x)) (Names-one p q))
 Says-one (indent p) (indent q) = let both = AmountMovement-one p q in same (rw (both.0, both.1) refl)
 Says-one (dedent p) (dedent q) = let both = AmountMovement-one p q in same (rw (both.0, both.1) refl)

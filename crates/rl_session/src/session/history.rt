@@ -9,14 +9,15 @@ use crate::session::{Fault, Reply, Session};
 use rl_base::RepeatCount;
 
 impl Session {
-    /// Whether an undo of one unit would find a change (`Changeset::has_undo`). As a read it parts no run of kills.
+    /// Whether an undo of one unit would find a change (`Changeset::has_undo`), so that it would answer true. As a read it
+    /// parts no run of kills.
     pub fn can_undo(&self) -> bool
         ensures { result ≡ has_change (last_of 1 self.now.pair.changes.recorded) }
     {
         self.pair.changes.has_undo()
     }
 
-    /// Whether a redo would find a change (`Changeset::has_redo`). A read too.
+    /// Whether a redo would find a change (`Changeset::has_redo`), so that it would answer true. A read too.
     pub fn can_redo(&self) -> bool
         ensures { result ≡ has_change (redo_of self.now.pair.changes.pending) }
     {

@@ -1,4 +1,4 @@
-use Rattle.rl_session.specs.Grammar.{yankpop, killline, killbuf, discline, discbuf, tchars, begin, end, endone, redo, line_place}
+use Rattle.rl_session.specs.Grammar.{yankpop, killline, killbuf, discline, discbuf, tchars, begin, end, endone, redo, line_place, keep}
 use Rattle.rl_session.proofs.grammar.lone_command.Goals as goal
 
 pub returns-in-yankpop : goal.returns-in-yankpop
@@ -33,3 +33,6 @@ returns-in-redo c = rw c.in-redo.is redo
 
 pub returns-in-where : goal.returns-in-where
 returns-in-where c = rw c.in-where.is line_place
+
+pub returns-in-keep : goal.returns-in-keep
+returns-in-keep c = rw c.in-keep.is (keep c.new.ensures.bytes)
