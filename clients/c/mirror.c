@@ -12,6 +12,7 @@ enum { COMMANDS = 60000, LIMIT = 300, LONG = 600, ROOM = 1 << 16 };
 
 static lodvarn *s;
 static unsigned refused_of; /* one of so many requests is refused, none where it is 0 */
+static size_t most;         /* a bound of the record now and then, in entries and in bytes */
 static int passed, failed;
 
 void *__real_malloc(size_t size);
@@ -108,7 +109,7 @@ static uint32_t run_command(void) {
     case 31: return lodvarn_truncate(&s, lodvarn_entries(&s) - below(3));
     case 32: return lodvarn_kill_range(&s, from, to, below(2));
     case 33: return lodvarn_keep(&s, text, strlen(text));
-    case 34: return lodvarn_set_bound(&s, below(2) ? below(40) : LODVARN_NO_BOUND, below(2) ? below(400) : ROOM);
+    case 34: return lodvarn_set_bound(&s, below(2) ? most : LODVARN_NO_BOUND, below(2) ? most : LODVARN_NO_BOUND);
     default: return lodvarn_insert(&s, c, n);
     }
 }
@@ -127,6 +128,7 @@ static void run(size_t reports, size_t text_bytes, unsigned one_of) {
     told.holds = changed.holds = 1;
     if (lodvarn_open(&s, "", 0, 0, LIMIT, 3, LODVARN_UNICODE) || lodvarn_watch(&s, reports, text_bytes)) exit(2);
     refused_of = one_of;
+    most = reports < 1000 ? 40 : LODVARN_NO_BOUND; /* an undo of more changes folds the reports of a long queue */
     for (i = 0; i < COMMANDS && told.holds && changed.holds; i++) {
         int is_refused = run_command() == LODVARN_NO_MEMORY;
         refused += is_refused;
