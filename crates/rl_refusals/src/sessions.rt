@@ -7,7 +7,7 @@ use rl_session::{Command, Fault, Reply};
 use std::alloc::{AllocError, Global};
 
 // Commands that insert, kill, keep, yank, transpose, indent, replace, undo and copy.
-fn commands(alloc: Global) -> Result<[Command; 18], AllocError> {
+fn commands(alloc: Global) -> Result<[Command; 20], AllocError> {
     let pasted = String::from_str(alloc, "x\ny")?;
     let put_instead = String::from_str(alloc, "zz")?;
     let kept = String::from_str(alloc, "kept")?;
