@@ -103,7 +103,7 @@ pub extern "C" fn lodvarn_level(alloc: Global, s: &mut Handle) -> usize
 }
 
 // Writes where the cursor stands.
-fn place_in(session: &Session, line: &mut usize, column: &mut u16) -> u32
+fn line_column_in(session: &Session, line: &mut usize, column: &mut u16) -> u32
     ensures { (result ≡ at_number) × ((line.new, column.new) ≡ line_place session.now) }
 {
     (*line, *column) = session.line_column();
@@ -122,7 +122,7 @@ pub extern "C" fn lodvarn_line_column(
     ensures value { PlaceRead s.old.value result (line.old, column.old) (line.new, column.new) }
     ensures kept { s.new.value ≡ s.old.value }
 {
-    of_session!(s, alloc, session => place_in(&session, line, column), CLOSED)
+    of_session!(s, alloc, session => line_column_in(&session, line, column), CLOSED)
 }
 
 /// Whether the last action of the ring was a yank or a yank-pop, also with count 0: TRUE or FALSE, or CLOSED.

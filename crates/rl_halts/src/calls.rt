@@ -5,7 +5,7 @@ ghost use Rattle.std.specs.List.{insert_slice};
 
 use crate::cases::{Case, Deletion, Edit};
 use rl_base::testing::RefuseAt;
-use rl_base::{Refusal, RepeatCount};
+use rl_base::{Direction, Refusal, RepeatCount};
 use rl_line::LineBuffer;
 
 /// What an edit answers.
@@ -128,6 +128,20 @@ fn replace(
     Ok(Some(Answer::Nothing))
 }
 
+// Kills the range.
+fn kill_range(
+    line: &mut LineBuffer,
+    from: usize,
+    to: usize,
+    dir: Direction,
+    heard: &mut RefuseAt,
+) -> Result<Option<Answer>, Refusal> {
+    if !is_range(line, from, to) {
+        return Ok(None);
+    }
+    Ok(Some(Answer::Flag(line.kill_range(from..to, dir, heard)?)))
+}
+
 /// Makes the edit, and hands out its answer: None where the edit's places are not places of the line.
 pub(crate) fn make(
     line: &mut LineBuffer,
@@ -143,6 +157,7 @@ pub(crate) fn make(
         Edit::Update(text, pos) => return update(line, text, pos, heard),
         Edit::Replace(from, to, text) => return replace(line, from, to, Some(text), heard),
         Edit::DeleteRange(from, to) => return replace(line, from, to, None, heard),
+        Edit::KillRange(from, to, dir) => return kill_range(line, from, to, dir, heard),
         Edit::Delete => Answer::Text(line.delete(n, heard)?),
         Edit::By(deletion) => Answer::Flag(delete(line, deletion, n, heard)?),
         Edit::TransposeChars => Answer::Flag(line.transpose_chars(heard)?),

@@ -1,6 +1,6 @@
 //! The edits that are made, and the texts that they are made in.
 use rl_base::CharSearch::{Backward, BackwardAfter, Forward, ForwardBefore};
-use rl_base::{At, CharSearch, Movement, RepeatCount, Word, WordAction};
+use rl_base::{At, CharSearch, Direction, Movement, RepeatCount, Word, WordAction};
 
 /// A movement without its count.
 #[derive(Clone, Copy, Debug)]
@@ -69,6 +69,7 @@ pub(crate) enum Edit {
     Update(&'static str, usize),
     Replace(usize, usize, &'static str),
     DeleteRange(usize, usize),
+    KillRange(usize, usize, Direction),
     Delete,
     By(Deletion),
     TransposeChars,
@@ -113,6 +114,9 @@ pub(crate) const AMOUNTS: &[u8] = &[0, 1, 3, 40];
 
 /// What comes in at each place.
 pub(crate) const PARTS: &[&str] = &["", "x", "\u{301}\n"];
+
+/// The directions of a kill of a range.
+pub(crate) const DIRECTIONS: &[Direction] = &[Direction::Forward, Direction::Backward];
 
 pub(crate) const COUNTED_REACHES: &[Reach] = &[
     Reach::BackwardWord(Word::Big),

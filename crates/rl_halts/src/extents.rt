@@ -139,7 +139,11 @@ pub(crate) fn is_first(
         Edit::YankPop(size, _) => (case.cursor.saturating_sub(size), size, 0),
         Edit::Update(_, _) => (0, case.text.len(), 0),
         Edit::Replace(from, to, text) => (from, to.saturating_sub(from), text.len()),
-        Edit::DeleteRange(from, to) => (from, to.saturating_sub(from), 0),
+        Edit::DeleteRange(from, to) | Edit::KillRange(from, to, _) => (
+            from,
+            to.saturating_sub(from),
+            0,
+        ),
         Edit::Delete => {
             let (at, out) = killed(alloc, case, Reach::ForwardChar)?;
             (at, out, 0)

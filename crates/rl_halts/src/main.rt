@@ -15,8 +15,8 @@ ghost use Rattle.std.specs.Prelude.{◌≡◌, OnOk, OnErr};
 ghost use Rattle.std.specs.Process.{exit_status};
 
 use cases::{
-    AMOUNTS, COUNTED_EDITS, COUNTED_REACHES, COUNTS, Case, Deletion, Edit, ONCE, OTHER_EDITS,
-    OTHER_REACHES, PARTS, Reach, TEXTS,
+    AMOUNTS, COUNTED_EDITS, COUNTED_REACHES, COUNTS, Case, DIRECTIONS, Deletion, Edit, ONCE,
+    OTHER_EDITS, OTHER_REACHES, PARTS, Reach, TEXTS,
 };
 use check::{Fault, Tally, check_case};
 use rl_base::RepeatCount;
@@ -79,6 +79,9 @@ fn check_ranges(alloc: Global) -> Result<Tally, Fault> {
         }
         for to in from..=longest() {
             check_everywhere(alloc, Edit::DeleteRange(from, to), ONCE, &mut tally)?;
+            for dir in DIRECTIONS {
+                check_everywhere(alloc, Edit::KillRange(from, to, *dir), ONCE, &mut tally)?;
+            }
             for part in PARTS {
                 check_everywhere(alloc, Edit::Replace(from, to, part), ONCE, &mut tally)?;
             }

@@ -101,6 +101,7 @@ fn side(case: &Case, reach: Reach) -> Direction {
 pub(crate) fn are_sides(case: &Case, events: &[TextEvent]) -> bool {
     let wanted = match case.edit {
         Edit::By(deletion) => side(case, reach_of(deletion)),
+        Edit::KillRange(_, _, dir) => dir,
         _ => Direction::Forward,
     };
     for event in events {
@@ -117,7 +118,7 @@ pub(crate) fn are_sides(case: &Case, events: &[TextEvent]) -> bool {
 pub(crate) fn kill_count(case: &Case) -> u16 {
     match case.edit {
         Edit::By(Deletion::Kill(Reach::BackwardChar | Reach::ForwardChar)) => 0,
-        Edit::By(Deletion::Kill(_)) => 1,
+        Edit::By(Deletion::Kill(_)) | Edit::KillRange(_, _, _) => 1,
         _ => 0,
     }
 }
@@ -173,6 +174,7 @@ pub(crate) fn answer(
             inserted(case, !text.is_empty() && fits(case, held, text.len(), 1))
         }
         Edit::Update(_, _) | Edit::Replace(_, _, _) | Edit::DeleteRange(_, _) => Answer::Nothing,
+        Edit::KillRange(from, to, _) => Answer::Flag(from < to),
         Edit::Delete => Answer::Text(gone(alloc, events)?),
         Edit::By(deletion) => Answer::Flag(killed(case, reach_of(deletion))),
         Edit::TransposeChars | Edit::TransposeWords | Edit::EditWord(_) => {
@@ -192,7 +194,9 @@ pub(crate) fn is_count(case: &Case, answer: &Answer, count: usize) -> bool {
         Answer::Nothing => true,
     };
     match case.edit {
-        Edit::Insert(_) | Edit::Yank(_) | Edit::By(_) => count == usize::from(is_made),
+        Edit::Insert(_) | Edit::Yank(_) | Edit::By(_) | Edit::KillRange(_, _, _) => {
+            count == usize::from(is_made)
+        }
         Edit::Delete => count == usize::from(killed(case, Reach::ForwardChar)),
         Edit::InsertStr(_, _) | Edit::Replace(_, _, _) | Edit::DeleteRange(_, _) => count == 1,
         Edit::YankPop(_, _) => count == if is_made { 2 } else { 1 },

@@ -1,15 +1,16 @@
 //! The sessions that are run. Each answers how much of it was refused.
 use crate::checks::{Failed, holds};
 use crate::watched::{Watched, stands};
-use rl_base::{Movement, Word, WordAction};
+use rl_base::{Direction, Movement, Word, WordAction};
 use rl_line::{Changeset, LineBuffer};
 use rl_session::{Command, Fault, Reply};
 use std::alloc::{AllocError, Global};
 
-// Commands that insert, kill, yank, transpose, indent, replace, undo and copy.
-fn commands(alloc: Global) -> Result<[Command; 18], AllocError> {
+// Commands that insert, kill, keep, yank, transpose, indent, replace, undo and copy.
+fn commands(alloc: Global) -> Result<[Command; 20], AllocError> {
     let pasted = String::from_str(alloc, "x\ny")?;
     let put_instead = String::from_str(alloc, "zz")?;
+    let kept = String::from_str(alloc, "kept")?;
     Ok([
         Command::Insert('é', 1),
         Command::Begin,
@@ -29,6 +30,8 @@ fn commands(alloc: Global) -> Result<[Command; 18], AllocError> {
         Command::Undo(2),
         Command::Redo,
         Command::Copy(Movement::WholeBuffer),
+        Command::Keep(kept),
+        Command::KillRange(0, 2, Direction::Backward),
     ])
 }
 

@@ -70,6 +70,7 @@ pub(crate) enum Call {
     Truncate(usize),
     HasUndo,
     HasRedo,
+    Forget(usize, usize),
     CanUndo,
     CanRedo,
     Replays(usize),
@@ -161,6 +162,10 @@ pub(crate) fn make(
         }
         Call::HasUndo => Ok(usize::from(record.has_undo())),
         Call::HasRedo => Ok(usize::from(record.has_redo())),
+        Call::Forget(entries, bytes) => {
+            record.forget(entries, bytes);
+            Ok(1)
+        }
         Call::CanUndo => truth(record.can_undo(line)),
         Call::CanRedo => truth(record.can_redo(line)),
         Call::Replays(len) => truth(record.replays_to(len, line)),

@@ -1,7 +1,7 @@
 -- The end of one group: it leaves one unit, or no trace. And whether the last unit, and the next one, holds a change.
-use Rattle.std.proofs.Common.{◌≡◌, ℕ, ◌+◌, suc, Bool, true, false, List, [], ◌∷◌, ◌++◌, length, ◌-◌, take, drop, map, min, refl, sym, ap, subst, ◌∙◌, ◌⊎◌, inl, inr, arith, append-nil, append_assoc, drop_at}
+use Rattle.std.proofs.Common.{◌≡◌, ℕ, ◌+◌, suc, Bool, true, false, List, [], ◌∷◌, ◌++◌, length, ◌-◌, take, drop, map, min, refl, sym, ap, subst, ◌∙◌, ◌⊎◌, inl, inr, arith, append_assoc, drop_at}
 use Rattle.std.proofs.lemmas.List.{reverse-reverse}
-use Rattle.std.specs.Prelude.{max, not, ◌||◌, reverse, slice_get, Some, None, Option}
+use Rattle.std.specs.Prelude.{max, not, ◌||◌, reverse, slice_get, Some, None}
 use Rattle.rl_base.specs.Event.{Event}
 use Rattle.rl_line.specs.declared.change.Change.{Change}
 use Rattle.rl_line.specs.Record.{Entry, Begin, End, Changed, Record, entry_of, record_step}

@@ -3,7 +3,7 @@ use Rattle.std.proofs.lemmas.Str.{IsCharBoundary-start}
 use Rattle.std.specs.Str.{IsCharBoundary}
 use Rattle.rl_line.specs.Line.{Line}
 use Rattle.rl_session.proofs.Sessions.RestartLemmas.{Kept, Renewed}
-use Rattle.rl_session.proofs.session.renew.Goals as goal
+use Rattle.rl_session.proofs.session.opening.renew.Goals as goal
 
 pub replace-requires-clause-start : goal.replace-requires-clause-start
 replace-requires-clause-start c = IsCharBoundary-start c.args.line.now.text c.pos-pos.ensures.utf8

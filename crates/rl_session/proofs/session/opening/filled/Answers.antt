@@ -4,7 +4,7 @@ use Rattle.std.specs.Str.{IsCharBoundary}
 use Rattle.std.proofs.lemmas.Str.{IsCharBoundary-start}
 use Rattle.rl_line.specs.Line.{Line}
 use Rattle.rl_session.proofs.Sessions.SessionLemmas.{put_first}
-use Rattle.rl_session.proofs.session.filled.Goals as goal
+use Rattle.rl_session.proofs.session.opening.filled.Goals as goal
 
 pub insert_str-requires-clause-stays : goal.insert_str-requires-clause-stays
 insert_str-requires-clause-stays c =

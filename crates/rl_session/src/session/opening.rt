@@ -1,0 +1,182 @@
+//! Opening a session, beginning anew in it, and setting what was chosen then.
+ghost use Rattle.std.specs.Prelude.{◌≡◌, ◌<◌, [], List, ℕ, max, length, false, IfOk, IfErr, OnErr, OnOk};
+ghost use Rattle.std.specs.Str.{IsCharBoundary};
+ghost use Rattle.rl_base.specs.Event.{Cursors, Replace};
+ghost use Rattle.rl_base.specs.Watch.{watch_step};
+ghost use Rattle.rl_line.specs.Line.{NeedsRoom};
+ghost use Rattle.rl_session.specs.State.{Begins, ChangedFrom, Opens, RefusesRestart, Replays, ReportedFrom, fresh, limited, prompted, restarted};
+
+use crate::options::Options;
+use crate::pair::Pair;
+use crate::session::{Fault, Session};
+use rl_base::{GraphemeClusterMode, KillRing, NoListener, Unit, Watch};
+use rl_line::{Changeset, LineBuffer};
+use std::alloc::Global;
+
+// Puts a text into an empty line, with the cursor at a place.
+fn filled(line: LineBuffer, text: &str, pos: usize) -> Result<LineBuffer, Fault>
+    requires empty { line ≡ record { text = []; cursor = 0; limit = line.limit; grow = false } }
+    requires place { IsCharBoundary text.now pos }
+    ensures ok { IfOk result (λ made. made ≡ record { text = text.now; cursor = pos; limit = max line.limit (length text.now); grow = false }) }
+    ensures err { IfErr result (λ f. (f ≡ Fault.NoMemory) × (0 < length text.now)) }
+{
+    let mut line = line;
+    match line.insert_str(0, text, &mut NoListener) {
+        Ok(_) => {
+            line.set_pos(pos);
+            Ok(line)
+        }
+        Err(_) => Err(Fault::NoMemory),
+    }
+}
+
+// Puts a text in the place of a line's, with the cursor at a place, and tells the watch.
+fn renew(line: &mut LineBuffer, text: &str, pos: usize, watch: &mut Watch) -> Result<(), Fault>
+    requires { IsCharBoundary text.now pos }
+    ensures line { OnOk result (line.new ≡ record line.old { text = text.now; cursor = pos; limit = max line.old.limit (length text.now) }) }
+    ensures told { OnOk result (watch.new ≡ watch_step (watch_step watch.old (Replace 0 line.old.text text.now)) (Cursors line.old.cursor (length text.now))) }
+    ensures err { IfErr result (λ f. (f ≡ Fault.NoMemory) × NeedsRoom line.old.text text.now) }
+    ensures kept { OnErr result ((line.new ≡ line.old) × (watch.new ≡ watch.old)) }
+{
+    // So the proof knows that this is UTF-8.
+    let _pos = line.pos();
+    let end = line.len();
+    match line.replace(0..end, text, watch) {
+        Ok(()) => {
+            line.set_pos(pos);
+            Ok(())
+        }
+        Err(_) => Err(Fault::NoMemory),
+    }
+}
+
+impl Session {
+    /// A session on a text, with the cursor at the byte place `pos`. Its line has the limit `limit`, in bytes,
+    /// or the text's length where that is greater, and may not grow; its ring has room for `ring_size` texts;
+    /// `mode` says how columns are counted. `BadPlace` comes exactly where `pos` is no boundary: a place between
+    /// two characters, or an end of the text. `NoMemory` comes only where the limit or the text's length is above 0.
+    pub fn new(
+        alloc: Global,
+        text: &str,
+        pos: usize,
+        limit: usize,
+        ring_size: usize,
+        mode: GraphemeClusterMode,
+    ) -> Result<Self, Fault>
+        ensures opens { Opens text.now pos limit ring_size mode result }
+        ensures replays { IfOk result (Replays text.now) }
+        ensures begins { IfOk result (Begins text.now) }
+        ensures changed { IfOk result (ChangedFrom text.now) }
+    {
+        if !text.is_char_boundary(pos) {
+            return Err(Fault::BadPlace);
+        }
+        match LineBuffer::with_capacity(alloc, limit) {
+            Ok(line) => Session::on(alloc, line, text, pos, ring_size, mode),
+            Err(_) => Err(Fault::NoMemory),
+        }
+    }
+
+    /// The same session, with room for the text alone: the line asks for more when it needs it. So the limit may be
+    /// any number, and `usize::MAX` is no limit at all. `NoMemory` comes only where the text is not empty.
+    pub fn open(
+        alloc: Global,
+        text: &str,
+        pos: usize,
+        limit: usize,
+        ring_size: usize,
+        mode: GraphemeClusterMode,
+    ) -> Result<Self, Fault>
+        ensures opens { Opens text.now pos limit ring_size mode result }
+        ensures some { IfErr result (λ fault. fault ≡ Fault.NoMemory → 0 < length text.now) }
+        ensures replays { IfOk result (Replays text.now) }
+        ensures begins { IfOk result (Begins text.now) }
+        ensures changed { IfOk result (ChangedFrom text.now) }
+    {
+        if !text.is_char_boundary(pos) {
+            return Err(Fault::BadPlace);
+        }
+        let line = LineBuffer::with_limit(alloc, limit);
+        Session::on(alloc, line, text, pos, ring_size, mode)
+    }
+
+    // The session on an empty line, once the text was put into it.
+    fn on(
+        alloc: Global,
+        line: LineBuffer,
+        text: &str,
+        pos: usize,
+        ring_size: usize,
+        mode: GraphemeClusterMode,
+    ) -> Result<Self, Fault>
+        requires empty { line ≡ record { text = []; cursor = 0; limit = line.limit; grow = false } }
+        requires place { IsCharBoundary text.now pos }
+        ensures ok { IfOk result (λ s. s ≡ fresh text.now pos line.limit ring_size mode) }
+        ensures replays { IfOk result (Replays text.now) }
+        ensures begins { IfOk result (Begins text.now) }
+        ensures changed { IfOk result (ChangedFrom text.now) }
+        ensures err { IfErr result (λ f. (f ≡ Fault.NoMemory) × (0 < length text.now)) }
+    {
+        let line = filled(line, text, pos)?;
+        let session = Session {
+            line,
+            pair: Pair {
+                ring: KillRing::new(alloc, ring_size),
+                changes: Changeset::new(alloc),
+                watch: Watch::new(),
+            },
+            options: Options::new(mode),
+            alloc,
+        };
+        session.stands();
+        session.bounded();
+        Ok(session)
+    }
+
+    /// Begins anew with a text, with the cursor at the byte place `pos`, as an editor does with the next line: nothing is
+    /// recorded yet, and the ring keeps its slots, so what was killed before can be yanked. A kill begins a new slot, and
+    /// nothing was yanked last. The limit is raised where the text is longer. What tells of changes tells of this one too:
+    /// all the old text gave way to the new one. Refused, it changes nothing: `BadPlace` comes exactly where `pos` is no
+    /// boundary of the text, and `NoMemory` only where the text needs more room than the old one.
+    pub fn restart(&mut self, text: &str, pos: usize) -> Result<(), Fault>
+        ensures ok { OnOk result (IsCharBoundary text.now pos × (self.new ≡ restarted text.now pos self.old)) }
+        ensures begins { OnOk result (Begins text.now self.new) }
+        ensures changed { (asked : List ℕ) → ChangedFrom asked self.old → ChangedFrom asked self.new }
+        ensures reported { (read : List ℕ) → ReportedFrom read self.old → ReportedFrom read self.new }
+        ensures err { IfErr result (λ fault. RefusesRestart fault text.now pos self.old × (self.new ≡ self.old)) }
+    {
+        self.stands();
+        self.bounded();
+        if !text.is_char_boundary(pos) {
+            return Err(Fault::BadPlace);
+        }
+        renew(&mut self.line, text, pos, &mut self.pair.watch)?;
+        self.pair.ring.reset();
+        self.pair.changes = Changeset::new(self.alloc);
+        self.stands();
+        self.bounded();
+        Ok(())
+    }
+
+    /// Sets the limit on the text's length, in bytes: to the text's length where that is greater. So a text that was
+    /// longer than its limit, and shrank, can have the limit back. `usize::MAX` is no limit at all.
+    pub fn set_limit(&mut self, limit: usize)
+        ensures set { self.new ≡ limited limit self.old }
+        ensures changed { (asked : List ℕ) → ChangedFrom asked self.old → ChangedFrom asked self.new }
+        ensures reported { (read : List ℕ) → ReportedFrom read self.old → ReportedFrom read self.new }
+    {
+        self.line.set_limit(limit);
+        self.stands();
+        self.bounded();
+    }
+
+    /// Sets the column at which the prompt ends. `LineUp` and `LineDown` count the columns of the text's first line from
+    /// there.
+    pub fn set_prompt(&mut self, column: Unit)
+        ensures set { self.new ≡ prompted column self.old }
+        ensures changed { (asked : List ℕ) → ChangedFrom asked self.old → ChangedFrom asked self.new }
+        ensures reported { (read : List ℕ) → ReportedFrom read self.old → ReportedFrom read self.new }
+    {
+        self.options.prompt = column;
+    }
+}
