@@ -18,4 +18,5 @@ pub mod RoomLemmas
 pub mod UndoLemmas
 pub mod WayLemmas
 pub mod WalkLemmas
+pub mod ForgettingLemmas
 pub mod RedoLemmas

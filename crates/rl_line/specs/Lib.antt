@@ -14,5 +14,6 @@ pub mod Record
 pub mod Change
 pub mod Entries
 pub mod Units
+pub mod Forgetting
 pub mod Undo
 pub mod Walk

@@ -3,6 +3,7 @@
 
 mod change;
 mod entries;
+mod forgetting;
 pub mod line_buffer;
 mod line_starts;
 mod steps;

@@ -8,6 +8,7 @@ ghost use Rattle.rl_base.specs.Text.{HasText};
 ghost use Rattle.rl_base.specs.declared.listeners.Direction.TheVariants.{Forward};
 ghost use Rattle.rl_base.specs.declared.listeners.Refusal.TheVariants.{NoMemory};
 ghost use Rattle.rl_line.specs.declared.change.Freshness.TheVariants.{Stale};
+ghost use Rattle.rl_line.specs.Forgetting.{fits, forgotten, gone_within, kept_within};
 ghost use Rattle.rl_line.specs.Line.{Line, NeedsRoom};
 ghost use Rattle.rl_line.specs.Plan.{NeverRefuses, after, listener_after};
 ghost use Rattle.rl_line.specs.Record.{Entry, End, IsOfKind, Record, last_insert, record_step, replay_entries, replays_to, unwind};
@@ -15,8 +16,8 @@ ghost use Rattle.rl_line.specs.Undo.{CopiesAhead, CopiesBack, Redone, Redos, Sta
 ghost use Rattle.rl_line.specs.Units.{BothMatched, GroupAt, InGroup, IsMatched, adds_end, after_in_group, begun, ended, has_change, last_of, last_units, level, opens, redo_of, truncated};
 
 use crate::change::{Change, Freshness, Way, text_over};
-use crate::entries;
 use crate::line_buffer::LineBuffer;
+use crate::{entries, forgetting};
 use rl_base::{ChangeListener, DeleteListener, Direction, NoListener, Refusal, RepeatCount};
 use std::alloc::Global;
 use std::marker::Model;
@@ -309,6 +310,35 @@ impl Changeset {
         self.fresh = Freshness::Stale;
     }
 
+    /// Forgets the oldest changes and closed groups, one after another, as long as more than `entries` entries are
+    /// recorded, or as their texts, old and new, have more than `bytes` bytes; `usize::MAX` is no bound. It never forgets
+    /// a part of a group: it stops at the begin of an open one. What was undone stays, and an undo goes back to the text
+    /// with which the rest begins. It takes no memory. With no bound on bytes it costs nothing where so few are recorded.
+    // Inlined, so that it is a comparison then. Where nothing is left recorded, the next change joins nothing, and
+    // cursors that are told go to none, whatever `fresh` says.
+    #[inline(always)]
+    pub fn forget(&mut self, entries: usize, bytes: usize)
+        ensures { self.new ≡ forgotten entries bytes self.old }
+    {
+        if self.recorded > entries {
+            self.forget_oldest(entries, bytes);
+            return;
+        }
+        if bytes < usize::MAX {
+            self.forget_oldest(entries, bytes);
+        }
+    }
+
+    // Forgets what is beyond the bound, if anything is.
+    #[inline(never)]
+    fn forget_oldest(&mut self, entries: usize, bytes: usize)
+        ensures { self.new ≡ forgotten entries bytes self.old }
+    {
+        let count = forgetting::oldest_len(&self.entries[..self.recorded], entries, bytes);
+        forgetting::drop_first(&mut self.entries, count);
+        self.recorded -= count;
+    }
+
     /// A copy of what the last change put in, where it is an insertion or a replacement; ends of groups after
     /// it are passed over.
     pub fn last_insert(&self) -> Result<Option<String>, Refusal>
@@ -470,4 +500,17 @@ pub fn redos_of_a_line_give_back()
         → opens (last_units n r.recorded) ≡ 0 → Undone n r mid line back answer
         → Redos (length (last_units n r.recorded)) mid now back ahead
         → (now.recorded ≡ r.recorded) × (now.pending ≡ r.pending) × (ahead.text ≡ line.text) }
+{}
+
+/// Forgetting takes whole changes and closed groups off the front of a record: what goes and what is left are the record,
+/// and what goes has matched marks and leaves no group open. So what was recorded, from the text with which it began, leads
+/// to a text with which what is left begins, and that leads on to the same end. What is left fits the bound, unless a group
+/// is open; and entries that fit it all stay.
+pub fn what_is_left_replays()
+    ensures parts { (most bytes : ℕ) (es : List Entry) → gone_within most bytes es ++ kept_within most bytes es ≡ es }
+    ensures whole { (most bytes : ℕ) (es : List Entry) → IsMatched es → IsMatched (gone_within most bytes es) × (level (gone_within most bytes es) ≡ 0) }
+    ensures replays { (most bytes : ℕ) (es : List Entry) (start text : List ℕ) → replay_entries es start ≡ Some text
+        → (begin : List ℕ) × (replay_entries (gone_within most bytes es) start ≡ Some begin) × (replay_entries (kept_within most bytes es) begin ≡ Some text) }
+    ensures bound { (most bytes : ℕ) (es : List Entry) → level es ≡ 0 → fits most bytes (kept_within most bytes es) ≡ true }
+    ensures stays { (most bytes : ℕ) (es : List Entry) → fits most bytes es ≡ true → kept_within most bytes es ≡ es }
 {}

@@ -1,0 +1,383 @@
+-- Forgetting the oldest units: where entries fit a bound, which units go, and what is left.
+use Rattle.std.proofs.Common.{◌≡◌, ℕ, Some, zero, suc, ◌+◌, ◌-◌, ◌≤◌, ◌<◌, ◌⊎◌, inl, inr, leb, cond, arith, Bool, true, false, List, [], ◌∷◌, ◌++◌, length, length-append, take, drop, take_at, drop_at, drop-cons, get_or, map, append-nil, reverse, refl, sym, ap, subst, ◌∙◌}
+use Rattle.std.proofs.lemmas.Bool.{le-leb, leb-false, leb-true, lt-leb}
+use Rattle.std.proofs.lemmas.List.{drop-drop, drop-map, drop-take, length-drop, length-map, length-take-le, reverse-append, reverse-reverse, take-map}
+use Rattle.std.specs.Prelude.{nat_le, ◌&&◌, ◌||◌}
+use Rattle.rl_line.specs.declared.change.Change.{Change}
+use Rattle.rl_line.specs.Record.{Entry, Record, entry_of, new_text, old_text, replay_entries}
+use Rattle.rl_line.specs.Walk.{Walk, Walks}
+use Rattle.rl_line.proofs.Records.WalkLemmas.{Walk-IsUtf8, Walk-split}
+use Rattle.rl_line.proofs.Records.RecordLemmas.{replay-append, through}
+use Rattle.rl_line.specs.Units.{AtLevel, IsMatched, Open, UndoUnit, Whole, level, opens, redo_from, redo_of, together, units}
+use Rattle.rl_line.specs.declared.change.Freshness.{Freshness}
+use Rattle.rl_line.specs.Entries.{cut_at}
+use Rattle.std.specs.List.{remove_range}
+use Rattle.rl_line.specs.Forgetting.{FitsFrom, ForgetsFirst, bytes_held, fits, forgotten, gone_within, kept_within, unbounded, units_kept}
+use Rattle.rl_line.proofs.Records.MatchLemmas.{Redoes-of}
+use Rattle.rl_line.proofs.Records.UnitLemmas.{AllGood, AllGood-left, AllGood-reverse, AllGood-right, IsMatched-together, Settles, good_cuts, opens-reverse, together-append, together-units, units-good}
+
+-- ---- where entries fit
+-- fewer entries hold no more bytes
+pub bytes-after : (es : List Entry) (i j : ℕ) → i ≤ j → bytes_held (drop j es) ≤ bytes_held (drop i es)
+bytes-after es zero zero h = omega arith
+bytes-after [] zero (suc j) h = omega arith
+bytes-after [] (suc i) zero h = omega arith
+bytes-after [] (suc i) (suc j) h = omega arith
+bytes-after (e ∷ es) zero (suc j) h = omega (arith, bytes-after es zero j (omega arith))
+bytes-after (e ∷ es) (suc i) zero h = absurd (omega arith)
+bytes-after (e ∷ es) (suc i) (suc j) h = bytes-after es i j (omega arith)
+
+pub fits-any : (most bytes : ℕ) (es : List Entry) → length es ≤ most → unbounded ≤ bytes → fits most bytes es ≡ true
+fits-any most bytes es few free = rw (le-leb (length es) most few, le-leb unbounded bytes free) refl
+
+pub fits-counted : (most bytes : ℕ) (es : List Entry) → length es ≤ most → bytes_held es ≤ bytes → fits most bytes es ≡ true
+fits-counted most bytes es few light = rw (le-leb (length es) most few, le-leb (bytes_held es) bytes light) (or-true (leb unbounded bytes))
+  where
+    or-true : (b : Bool) → (b || true) ≡ true
+    or-true true = refl
+    or-true false = refl
+
+pub fits-long : (most bytes : ℕ) (es : List Entry) → most < length es → fits most bytes es ≡ false
+fits-long most bytes es long = rw (lt-leb (length es) most long) refl
+
+pub fits-heavy : (most bytes : ℕ) (es : List Entry) → bytes < unbounded → bytes < bytes_held es → fits most bytes es ≡ false
+fits-heavy most bytes es bound heavy = rw (lt-leb unbounded bytes bound, lt-leb (bytes_held es) bytes heavy) (and-false (leb (length es) most))
+  where
+    and-false : (b : Bool) → (b && false) ≡ false
+    and-false true = refl
+    and-false false = refl
+
+-- the answer to whether they fit, from the two cases
+from-cases : (most bytes k : ℕ) (es : List Entry) → ((j : ℕ) → k ≤ j → fits most bytes (drop j es) ≡ true) → ((j : ℕ) → j < k → fits most bytes (drop j es) ≡ false)
+    → (j : ℕ) → fits most bytes (drop j es) ≡ nat_le k j
+from-cases most bytes k es inside outside j = go (leb k j) refl
+  where
+    go : (b : Bool) → leb k j ≡ b → fits most bytes (drop j es) ≡ leb k j
+    go true h = inside j (leb-true k j h) ∙ sym h
+    go false h = outside j (leb-false k j h) ∙ sym h
+
+-- any number of bytes fits
+pub FitsFrom-any : (most bytes k : ℕ) (xs : List Change) → k ≡ length xs - most → bytes ≡ unbounded → FitsFrom most bytes (map entry_of xs) k
+FitsFrom-any most bytes k xs e free =
+    let n = length-map xs entry_of in
+    record {
+      within = omega arith;
+      from = from-cases most bytes k (map entry_of xs)
+          (λ j le. fits-any most bytes (drop j (map entry_of xs)) (omega (arith, length-drop j (map entry_of xs), le)) (omega (arith, free)))
+          (λ j lt. fits-long most bytes (drop j (map entry_of xs)) (omega (arith, length-drop j (map entry_of xs), lt)));
+    }
+
+-- from the place `at` on the bytes were counted, and so many more fit
+pub record Counted (most bytes first : ℕ) (xs : List Change) (at left : ℕ) : Type 0 where
+  pub first_is : first ≡ length xs - most
+  pub after : first ≤ at
+  pub within : at ≤ length xs
+  pub count : left + bytes_held (drop at (map entry_of xs)) ≡ bytes
+
+-- no more than `most` entries are left
+pub FitsFrom-counted : (most bytes first at left : ℕ) (xs : List Change) → at ≤ first → Counted most bytes first xs at left → FitsFrom most bytes (map entry_of xs) at
+FitsFrom-counted most bytes first at left xs end c =
+    let es = map entry_of xs in
+    let n = length-map xs entry_of in
+    record {
+      within = omega (arith, c.within);
+      from = from-cases most bytes at es
+          (λ j le. fits-counted most bytes (drop j es) (omega (arith, length-drop j es, le, c.first_is, c.after)) (omega (arith, c.count, bytes-after es at j le)))
+          (λ j lt. fits-long most bytes (drop j es) (omega (arith, length-drop j es, lt, c.first_is, c.after, c.within)));
+    }
+
+-- the entries from a place on hold what the one there does and what those after it do
+held-read : (xs : List Change) (at : ℕ) (x : Change) → 0 < at → get_or xs (at - 1) x ≡ x → at ≤ length xs
+    → bytes_held (drop (at - 1) (map entry_of xs)) ≡ (length (old_text (entry_of x)) + length (new_text (entry_of x))) + bytes_held (drop at (map entry_of xs))
+held-read xs at x some e within =
+    let k : suc (at - 1) ≡ at = omega arith in
+    ap bytes_held (drop-map entry_of (at - 1) xs ∙ ap (map entry_of) (drop-cons xs (at - 1) x (omega arith)))
+    ∙ ap (λ (y : Change). bytes_held (entry_of y ∷ map entry_of (drop (suc (at - 1)) xs))) e
+    ∙ ap (λ j. (length (old_text (entry_of x)) + length (new_text (entry_of x))) + bytes_held j) (ap (λ j. map entry_of (drop j xs)) k ∙ sym (drop-map entry_of at xs))
+
+-- an entry was counted
+pub Counted-next : (most bytes first at left size : ℕ) (xs : List Change) (x : Change) → first < at → size ≤ left → get_or xs (at - 1) x ≡ x
+    → size ≡ length (old_text (entry_of x)) + length (new_text (entry_of x)) → Counted most bytes first xs at left → Counted most bytes first xs (at - 1) (left - size)
+Counted-next most bytes first at left size xs x lt le e s c =
+    let one = held-read xs at x (omega (arith, lt)) e c.within in
+    record { first_is = c.first_is; after = omega (arith, lt); within = omega (arith, c.within); count = omega (arith, c.count, one, s, le) }
+
+-- the one before does not fit any more
+pub FitsFrom-stopped : (most bytes first at left size : ℕ) (xs : List Change) (x : Change) → bytes < unbounded → first < at → left < size → get_or xs (at - 1) x ≡ x
+    → size ≡ length (old_text (entry_of x)) + length (new_text (entry_of x)) → Counted most bytes first xs at left → FitsFrom most bytes (map entry_of xs) at
+FitsFrom-stopped most bytes first at left size xs x bound lt heavy e s c =
+    let es = map entry_of xs in
+    let n = length-map xs entry_of in
+    let one = held-read xs at x (omega (arith, lt)) e c.within in
+    record {
+      within = omega (arith, c.within);
+      from = from-cases most bytes at es
+          (λ j le. fits-counted most bytes (drop j es) (omega (arith, length-drop j es, le, c.first_is, c.after)) (omega (arith, c.count, bytes-after es at j le)))
+          (λ j less. fits-heavy most bytes (drop j es) bound (omega (arith, c.count, bytes-after es j (at - 1) (omega arith), one, s, heavy)));
+    }
+
+-- ---- which units go
+-- what a list is, from its units, the oldest first
+pieces : (es : List Entry) (rs : List UndoUnit) → reverse (units es) ≡ rs → units es ≡ reverse rs
+pieces es rs e = sym (reverse-reverse (units es)) ∙ ap reverse e
+
+whole-list : (es : List Entry) (rs : List UndoUnit) → reverse (units es) ≡ rs → together (reverse rs) ≡ es
+whole-list es rs e = ap together (sym (pieces es rs e)) ∙ together-units es
+
+-- how many groups are open, from the units, the oldest first
+level-of : (es : List Entry) (rs : List UndoUnit) → reverse (units es) ≡ rs → level es ≡ opens rs
+level-of es rs e = sym (opens-reverse (units es)) ∙ ap opens e
+
+level-whole : (inner : List Entry) → Settles inner → level inner ≡ 0
+level-whole inner s = ap opens (s.cuts [])
+
+whole-some : (inner : List Entry) → Settles inner → 0 < length inner
+whole-some [] s = let h = s.flags (false ∷ []) in cc
+whole-some (e ∷ es) s = omega arith
+
+-- the unit that is redone first is the oldest, and it is whole where it opens no group
+pub record OldestIsWhole (es : List Entry) : Type 0 where
+  pub some : 0 < length (redo_of es)
+  pub first : reverse (units es) ≡ Whole (redo_of es) ∷ reverse (units (drop (length (redo_of es)) es))
+
+pub oldest-whole : (es : List Entry) → IsMatched es → 0 < length es → level (redo_of es) ≡ 0 → OldestIsWhole es
+oldest-whole es m long none = go (reverse (units es)) refl none
+  where
+    go : (rs : List UndoUnit) → reverse (units es) ≡ rs → level (redo_from es rs) ≡ 0 → OldestIsWhole es
+    go [] e n = absurd (omega (arith, long, ap length (whole-list es [] e)))
+    go (Open ∷ rs) e n = absurd (omega (arith, n, level-of es (Open ∷ rs) e))
+    go (Whole inner ∷ rs) e n =
+        let us : units es ≡ reverse rs ++ (Whole inner ∷ []) = pieces es (Whole inner ∷ rs) e ∙ reverse-append (Whole inner ∷ []) rs in
+        let good = subst AllGood us (units-good es m) in
+        let all : inner ++ together (reverse rs) ≡ es = sym (together-append (reverse rs) (Whole inner ∷ [])) ∙ ap together (sym us) ∙ together-units es in
+        let rest : drop (length inner) es ≡ together (reverse rs) = ap (drop (length inner)) (sym all) ∙ drop_at inner (together (reverse rs)) (length inner) refl in
+        let is : redo_of es ≡ inner = ap (redo_from es) e in
+        let others : rs ≡ reverse (units (drop (length inner) es)) =
+        sym (ap (λ l. reverse (units l)) rest ∙ ap reverse (good_cuts (reverse rs) [] (AllGood-left (reverse rs) (Whole inner ∷ []) good) ∙ append-nil (reverse rs)) ∙ reverse-reverse rs) in
+        record {
+          some = subst (λ l. 0 < length l) (sym is) (whole-some inner (AllGood-right (reverse rs) (Whole inner ∷ []) good).0);
+          first = e ∙ ap (λ l. Whole inner ∷ l) others ∙ ap (λ l. Whole l ∷ reverse (units (drop (length l) es))) (sym is);
+        }
+
+-- entries that fit stay
+pub fitting-stay : (most bytes : ℕ) (es : List Entry) → fits most bytes es ≡ true → kept_within most bytes es ≡ es
+fitting-stay most bytes es h = go (reverse (units es)) refl
+  where
+    go : (rs : List UndoUnit) → reverse (units es) ≡ rs → together (reverse (units_kept most bytes rs)) ≡ es
+    go [] e = whole-list es [] e
+    go (Open ∷ rs) e = whole-list es (Open ∷ rs) e
+    go (Whole inner ∷ rs) e =
+        let all = whole-list es (Whole inner ∷ rs) e in
+        ap (λ b. together (reverse (cond b (Whole inner ∷ rs) (units_kept most bytes rs)))) (ap (fits most bytes) all ∙ h) ∙ all
+
+-- so do those of an open group
+pub open-stays : (most bytes : ℕ) (es : List Entry) → IsMatched es → 0 < level (redo_of es) → kept_within most bytes es ≡ es
+open-stays most bytes es m h = go (reverse (units es)) refl h
+  where
+    go : (rs : List UndoUnit) → reverse (units es) ≡ rs → 0 < level (redo_from es rs) → together (reverse (units_kept most bytes rs)) ≡ es
+    go [] e n = whole-list es [] e
+    go (Open ∷ rs) e n = whole-list es (Open ∷ rs) e
+    go (Whole inner ∷ rs) e n =
+        let us : units es ≡ reverse rs ++ (Whole inner ∷ []) = pieces es (Whole inner ∷ rs) e ∙ reverse-append (Whole inner ∷ []) rs in
+        let good = AllGood-right (reverse rs) (Whole inner ∷ []) (subst AllGood us (units-good es m)) in
+        absurd (omega (arith, n, level-whole inner good.0))
+
+-- a whole unit goes where it and what comes after it do not fit
+pub whole-goes : (most bytes : ℕ) (es : List Entry) → fits most bytes es ≡ false → OldestIsWhole es
+    → kept_within most bytes es ≡ kept_within most bytes (drop (length (redo_of es)) es)
+whole-goes most bytes es h o =
+    let us = Whole (redo_of es) ∷ reverse (units (drop (length (redo_of es)) es)) in
+    ap (λ vs. together (reverse (units_kept most bytes vs))) o.first
+    ∙ ap (λ b. together (reverse (cond b us (units_kept most bytes (reverse (units (drop (length (redo_of es)) es))))))) (ap (fits most bytes) (whole-list es us o.first) ∙ h)
+
+-- the units before the place `at` went
+pub record Forgetting (most bytes : ℕ) (xs : List Change) (at : ℕ) : Type 0 where
+  pub within : at ≤ length xs
+  pub matched : IsMatched (map entry_of (drop at xs))
+  pub kept : kept_within most bytes (map entry_of (drop at xs)) ≡ kept_within most bytes (map entry_of xs)
+
+pub Forgetting-stops : (most bytes at : ℕ) (xs : List Change) → kept_within most bytes (map entry_of (drop at xs)) ≡ map entry_of (drop at xs)
+    → Forgetting most bytes xs at → ForgetsFirst most bytes (map entry_of xs) at
+Forgetting-stops most bytes at xs e f = (omega (arith, f.within, length-map xs entry_of), drop-map entry_of at xs ∙ sym e ∙ f.kept)
+
+pub Forgetting-fits : (most bytes first at : ℕ) (xs : List Change) → first ≤ at → FitsFrom most bytes (map entry_of xs) first → Forgetting most bytes xs at
+    → ForgetsFirst most bytes (map entry_of xs) at
+Forgetting-fits most bytes first at xs le c f =
+    Forgetting-stops most bytes at xs
+    (fitting-stay most bytes (map entry_of (drop at xs)) (ap (fits most bytes) (sym (drop-map entry_of at xs)) ∙ c.from at ∙ le-leb first at le)) f
+
+-- the part of a list that is its oldest unit
+pub unit-is : (n : ℕ) (xs : List Change) → IsMatched (map entry_of xs) → n ≡ length (redo_of (map entry_of xs)) → map entry_of (take n xs) ≡ redo_of (map entry_of xs)
+unit-is n xs m e =
+    let es = map entry_of xs in
+    let d = Redoes-of es m in
+    sym (take-map entry_of n xs) ∙ ap (take n) (sym d.list_is) ∙ take_at (redo_of es) (drop (length (redo_of es)) es) n (sym e)
+
+pub unit-within : (n : ℕ) (xs : List Change) → IsMatched (map entry_of xs) → n ≡ length (redo_of (map entry_of xs)) → n ≤ length xs
+unit-within n xs m e =
+    let es = map entry_of xs in
+    omega (arith, e, length-map xs entry_of, ap length (Redoes-of es m).list_is, length-append (redo_of es) (drop (length (redo_of es)) es))
+
+-- one whole unit more goes
+pub Forgetting-next : (most bytes first at n : ℕ) (xs : List Change) → at < first → FitsFrom most bytes (map entry_of xs) first
+    → n ≡ length (redo_of (map entry_of (drop at xs))) → level (redo_of (map entry_of (drop at xs))) ≡ 0 → Forgetting most bytes xs at
+    → (0 < n) × Forgetting most bytes xs (at + n)
+Forgetting-next most bytes first at n xs lt c e none f =
+    let left = map entry_of (drop at xs) in
+    let long : 0 < length left = omega (arith, length-map (drop at xs) entry_of, length-drop at xs, lt, c.within, length-map xs entry_of) in
+    let o = oldest-whole left f.matched long none in
+    let rest : drop (length (redo_of left)) left ≡ map entry_of (drop (at + n) xs) =
+    ap (λ k. drop k left) (sym e) ∙ drop-map entry_of n (drop at xs) ∙ ap (map entry_of) (drop-drop n at xs) in
+    let over : fits most bytes left ≡ false = ap (fits most bytes) (sym (drop-map entry_of at xs)) ∙ c.from at ∙ lt-leb first at lt in (
+      subst (λ k. 0 < k) (sym e) o.some,
+      record {
+        within = omega (arith, unit-within n (drop at xs) f.matched e, length-drop at xs, f.within);
+        matched = subst IsMatched rest (Redoes-of left f.matched).rest_matched;
+        kept = ap (kept_within most bytes) (sym rest) ∙ sym (whole-goes most bytes left over o) ∙ f.kept;
+      },
+    )
+
+-- ---- what is left
+units_kept-good : (most bytes : ℕ) (us : List UndoUnit) → AllGood us → AllGood (units_kept most bytes us)
+units_kept-good most bytes [] g = g
+units_kept-good most bytes (Open ∷ us) g = g
+units_kept-good most bytes (Whole es ∷ us) g = from (fits most bytes (together (reverse (Whole es ∷ us)))) (units_kept-good most bytes us g.1)
+  where
+    from : (b : Bool) → AllGood (units_kept most bytes us) → AllGood (cond b (Whole es ∷ us) (units_kept most bytes us))
+    from true rest = g
+    from false rest = rest
+
+units_kept-opens : (most bytes : ℕ) (us : List UndoUnit) → opens (units_kept most bytes us) ≡ opens us
+units_kept-opens most bytes [] = refl
+units_kept-opens most bytes (Open ∷ us) = refl
+units_kept-opens most bytes (Whole es ∷ us) = from (fits most bytes (together (reverse (Whole es ∷ us)))) (units_kept-opens most bytes us)
+  where
+    from : (b : Bool) → opens (units_kept most bytes us) ≡ opens us → opens (cond b (Whole es ∷ us) (units_kept most bytes us)) ≡ opens us
+    from true rest = refl
+    from false rest = rest
+
+kept-good : (most bytes : ℕ) (es : List Entry) → IsMatched es → AllGood (reverse (units_kept most bytes (reverse (units es))))
+kept-good most bytes es m =
+    AllGood-reverse (units_kept most bytes (reverse (units es))) (units_kept-good most bytes (reverse (units es)) (AllGood-reverse (units es) (units-good es m)))
+
+-- the marks match, and as many groups are open
+pub IsMatched-kept : (most bytes : ℕ) (es : List Entry) → IsMatched es → IsMatched (kept_within most bytes es)
+IsMatched-kept most bytes es m = IsMatched-together (reverse (units_kept most bytes (reverse (units es)))) (kept-good most bytes es m)
+
+pub level-kept : (most bytes : ℕ) (es : List Entry) → IsMatched es → level (kept_within most bytes es) ≡ level es
+level-kept most bytes es m =
+    let us = units_kept most bytes (reverse (units es)) in
+    ap opens (good_cuts (reverse us) [] (kept-good most bytes es m) ∙ append-nil (reverse us)) ∙ opens-reverse us
+    ∙ units_kept-opens most bytes (reverse (units es)) ∙ opens-reverse (units es)
+
+pub AtLevel-forgotten : (most bytes n : ℕ) (r : Record) → AtLevel n r → AtLevel n (forgotten most bytes r)
+AtLevel-forgotten most bytes n r a = record {
+  matched = record { recorded = IsMatched-kept most bytes r.recorded a.matched.recorded; pending = a.matched.pending };
+  level = a.level ∙ sym (level-kept most bytes r.recorded a.matched.recorded);
+}
+
+-- a list that lost its first entries
+pub removed-front : (n : ℕ) (xs ys : List Change) → ys ≡ remove_range xs 0 n → map entry_of ys ≡ drop n (map entry_of xs)
+removed-front n xs ys e = ap (map entry_of) e ∙ sym (drop-map entry_of n xs)
+
+abbrev lists : List Entry → List Entry → Freshness → Record
+lists recorded pending fresh = record { recorded = recorded; pending = pending; fresh = fresh }
+
+-- where the record is cut once its list lost its first entries
+pub forgotten-view : (most bytes n count k : ℕ) (r : Record) (es now : List Entry) (fresh : Freshness) → n ≤ length es → cut_at n es fresh ≡ r → ForgetsFirst most bytes (take n es) count
+    → now ≡ drop count es → k ≡ n - count → (k ≤ length now) × (cut_at k now fresh ≡ forgotten most bytes r)
+forgotten-view most bytes n count k r es now fresh within v f e at =
+    let len : length (take n es) ≡ n = length-take-le n es within in
+    let less : count ≤ n = omega (arith, f.0, len) in
+    let sum : count + (n - count) ≡ n = omega (arith, less) in
+    let first : take k now ≡ kept_within most bytes (take n es) =
+    ap (take k) e ∙ ap (λ j. take j (drop count es)) at ∙ sym (drop-take count (n - count) es) ∙ ap (λ j. drop count (take j es)) sum ∙ f.1 in
+    let rest : drop k now ≡ drop n es = ap (drop k) e ∙ ap (λ j. drop j (drop count es)) at ∙ drop-drop (n - count) count es ∙ ap (λ j. drop j es) sum in (
+      omega (arith, ap length e, length-drop count es, at, within),
+      ap (λ x. lists x (drop k now) fresh) first ∙ ap (λ x. lists (kept_within most bytes (take n es)) x fresh) rest ∙ ap (forgotten most bytes) v,
+    )
+
+-- within the bound nothing goes
+pub forgotten-same : (most bytes : ℕ) (r : Record) → length r.recorded ≤ most → unbounded ≤ bytes → forgotten most bytes r ≡ r
+forgotten-same most bytes r few free = ap (λ es. record r { recorded = es }) (fitting-stay most bytes r.recorded (fits-any most bytes r.recorded few free))
+
+-- ---- what went, and what that led to
+-- whole units went, the oldest ones
+pub went : (most bytes : ℕ) (us : List UndoUnit) → (front : List UndoUnit) × (front ++ units_kept most bytes us ≡ us) × (opens front ≡ 0)
+went most bytes [] = ([], refl, refl)
+went most bytes (Open ∷ us) = ([], refl, refl)
+went most bytes (Whole es ∷ us) = from (fits most bytes (together (reverse (Whole es ∷ us)))) (went most bytes us)
+  where
+    from : (b : Bool) → (front : List UndoUnit) × (front ++ units_kept most bytes us ≡ us) × (opens front ≡ 0)
+        → (front : List UndoUnit) × (front ++ cond b (Whole es ∷ us) (units_kept most bytes us) ≡ Whole es ∷ us) × (opens front ≡ 0)
+    from true rest = ([], refl, refl)
+    from false rest = (Whole es ∷ rest.0, ap (λ vs. Whole es ∷ vs) rest.1, rest.2)
+
+-- their entries, and those that are left
+went-list : (most bytes : ℕ) (es : List Entry) → together (reverse (went most bytes (reverse (units es))).0) ++ kept_within most bytes es ≡ es
+went-list most bytes es =
+    let w = went most bytes (reverse (units es)) in
+    let ks = units_kept most bytes (reverse (units es)) in
+    sym (together-append (reverse ks) (reverse w.0)) ∙ ap together (sym (reverse-append w.0 ks)) ∙ ap (λ us. together (reverse us)) w.1
+    ∙ whole-list es (reverse (units es)) refl
+
+gone-is : (most bytes : ℕ) (es : List Entry) → gone_within most bytes es ≡ together (reverse (went most bytes (reverse (units es))).0)
+gone-is most bytes es =
+    let gone = together (reverse (went most bytes (reverse (units es))).0) in
+    let kept = kept_within most bytes es in
+    let all = went-list most bytes es in
+    let n : length es - length kept ≡ length gone = omega (arith, ap length all, length-append gone kept) in
+    ap (λ k. take k es) n ∙ ap (take (length gone)) (sym all) ∙ take_at gone kept (length gone) refl
+
+pub gone-kept : (most bytes : ℕ) (es : List Entry) → gone_within most bytes es ++ kept_within most bytes es ≡ es
+gone-kept most bytes es = ap (λ gone. gone ++ kept_within most bytes es) (gone-is most bytes es) ∙ went-list most bytes es
+
+-- what went is matched by itself, and leaves no group open
+gone-good : (most bytes : ℕ) (es : List Entry) → IsMatched es → AllGood (reverse (went most bytes (reverse (units es))).0)
+gone-good most bytes es m =
+    let w = went most bytes (reverse (units es)) in
+    AllGood-reverse w.0 (AllGood-left w.0 (units_kept most bytes (reverse (units es))) (subst AllGood (sym w.1) (AllGood-reverse (units es) (units-good es m))))
+
+pub gone-matched : (most bytes : ℕ) (es : List Entry) → IsMatched es → IsMatched (gone_within most bytes es)
+gone-matched most bytes es m =
+    subst IsMatched (sym (gone-is most bytes es)) (IsMatched-together (reverse (went most bytes (reverse (units es))).0) (gone-good most bytes es m))
+
+pub gone-level : (most bytes : ℕ) (es : List Entry) → IsMatched es → level (gone_within most bytes es) ≡ 0
+gone-level most bytes es m =
+    let w = went most bytes (reverse (units es)) in
+    ap level (gone-is most bytes es) ∙ ap opens (good_cuts (reverse w.0) [] (gone-good most bytes es m) ∙ append-nil (reverse w.0)) ∙ opens-reverse w.0 ∙ w.2
+
+-- what is left fits, or begins with the Begin of an open group
+pub kept-fits : (most bytes : ℕ) (us : List UndoUnit) → (fits most bytes (together (reverse (units_kept most bytes us))) ≡ true) ⊎ (0 < opens us)
+kept-fits most bytes [] = inl (fits-counted most bytes [] (omega arith) (omega arith))
+kept-fits most bytes (Open ∷ us) = inr (omega arith)
+kept-fits most bytes (Whole es ∷ us) = from (fits most bytes (together (reverse (Whole es ∷ us)))) refl (kept-fits most bytes us)
+  where
+    from : (b : Bool) → fits most bytes (together (reverse (Whole es ∷ us))) ≡ b → (fits most bytes (together (reverse (units_kept most bytes us))) ≡ true) ⊎ (0 < opens us)
+        → (fits most bytes (together (reverse (cond b (Whole es ∷ us) (units_kept most bytes us)))) ≡ true) ⊎ (0 < opens us)
+    from true h rest = inl h
+    from false h rest = rest
+
+pub left-fits : (most bytes : ℕ) (es : List Entry) → level es ≡ 0 → fits most bytes (kept_within most bytes es) ≡ true
+left-fits most bytes es none =
+    elim (kept-fits most bytes (reverse (units es))) [
+      | inl h ↦ h
+      | inr some ↦ absurd (omega (arith, some, opens-reverse (units es), none))
+    ]
+
+-- what is left replays from the text that what went led to
+pub left-replays : (most bytes : ℕ) (es : List Entry) (start text : List ℕ) → replay_entries es start ≡ Some text
+    → (begin : List ℕ) × (replay_entries (gone_within most bytes es) start ≡ Some begin) × (replay_entries (kept_within most bytes es) begin ≡ Some text)
+left-replays most bytes es start text h =
+    let gone = gone_within most bytes es in
+    let kept = kept_within most bytes es in
+    let all = sym (replay-append gone kept start) ∙ ap (λ l. replay_entries l start) (gone-kept most bytes es) ∙ h in
+    let mid = through (replay_entries kept) (replay_entries gone start) text all in
+    (mid.0, mid.1, mid.2)
+
+pub Walks-forgotten : (most bytes : ℕ) (r : Record) (text : List ℕ) → Walks r text → Walks (forgotten most bytes r) text
+Walks-forgotten most bytes r text w =
+    let gone = gone_within most bytes r.recorded in
+    let kept = kept_within most bytes r.recorded in
+    let (mid, first, after) = Walk-split gone kept w.start text (subst (λ es. Walk es w.start text) (sym (gone-kept most bytes r.recorded)) w.back) in
+    record { start = mid; is_text = Walk-IsUtf8 gone w.start mid w.is_text first; back = after; end = w.end; ahead = w.ahead; stale = w.stale }

@@ -1,0 +1,45 @@
+-- Forgetting: the oldest units of a record go where more of it is kept than is wanted.
+use Rattle.std.specs.Prelude.{◌≡◌, ℕ, ◌+◌, ◌-◌, ◌^◌, ◌≤◌, ◌&&◌, ◌||◌, nat_le, Bool, List, [], ◌∷◌, length, take, drop, reverse, if◌then◌else◌}
+use Rattle.rl_line.specs.Record.{Entry, Record, new_text, old_text}
+use Rattle.rl_line.specs.Units.{UndoUnit, Open, Whole, together, units}
+
+-- how many bytes of text entries hold: what their changes took out, and what they put in
+abbrev pub bytes_held : List Entry → ℕ
+bytes_held [] = 0
+bytes_held (e ∷ es) = (length (old_text e) + length (new_text e)) + bytes_held es
+
+-- the bound on bytes that is none
+abbrev pub unbounded : ℕ
+unbounded = 2 ^ 64 - 1
+
+-- whether entries are within a bound: no more than so many, which hold no more than so many bytes
+abbrev pub fits : ℕ → ℕ → List Entry → Bool
+fits most bytes es = nat_le (length es) most && (nat_le unbounded bytes || nat_le (bytes_held es) bytes)
+
+-- the units that stay, listed the oldest first: a change or a closed group goes as long as it and what comes after it do not fit.
+-- The Begin of an open group stays, and all after it
+abbrev pub units_kept : ℕ → ℕ → List UndoUnit → List UndoUnit
+units_kept most bytes [] = []
+units_kept most bytes (Open ∷ us) = Open ∷ us
+units_kept most bytes (Whole es ∷ us) =
+    if fits most bytes (together (reverse (Whole es ∷ us))) then Whole es ∷ us else units_kept most bytes us
+
+-- the entries that stay, and those before them, which go
+abbrev pub kept_within : ℕ → ℕ → List Entry → List Entry
+kept_within most bytes es = together (reverse (units_kept most bytes (reverse (units es))))
+
+abbrev pub gone_within : ℕ → ℕ → List Entry → List Entry
+gone_within most bytes es = take (length es - length (kept_within most bytes es)) es
+
+-- the record once its oldest units were forgotten. What was undone stays
+abbrev pub forgotten : ℕ → ℕ → Record → Record
+forgotten most bytes r = record r { recorded = kept_within most bytes r.recorded }
+
+-- what private functions say of it: from the place k on entries fit, and from none before it
+pub record FitsFrom (most bytes : ℕ) (es : List Entry) (k : ℕ) : Type 0 where
+  pub within : k ≤ length es
+  pub from : (j : ℕ) → fits most bytes (drop j es) ≡ nat_le k j
+
+-- the first n entries go, and no others
+abbrev pub ForgetsFirst : ℕ → ℕ → List Entry → ℕ → Type 0
+ForgetsFirst most bytes es n = (n ≤ length es) × (drop n es ≡ kept_within most bytes es)

@@ -1,0 +1,67 @@
+//! How many of the oldest entries of a record go, where it is to stay within a bound.
+ghost use Rattle.std.specs.Prelude.{◌≡◌, ◌+◌, ◌≤◌, length, drop, map};
+ghost use Rattle.rl_line.specs.Record.{entry_of, new_text, old_text};
+ghost use Rattle.rl_line.specs.Units.{IsMatched};
+ghost use Rattle.rl_line.specs.Forgetting.{FitsFrom, ForgetsFirst};
+
+use crate::change::{Change, Way};
+use crate::entries::{level, next_len};
+
+/// How many entries the oldest units have that go where no more than `most` entries are to stay, with no more than
+/// `bytes` bytes. It stops at the begin of an open group.
+pub(crate) fn oldest_len(entries: &[Change], most: usize, bytes: usize) -> usize
+    requires { IsMatched (map entry_of entries.now) }
+    ensures { ForgetsFirst most bytes (map entry_of entries.now) result }
+{
+    let first = first_that_fits(entries, most, bytes);
+    let mut at = 0;
+    while at < first {
+        let left = &entries[at..];
+        let len = next_len(left);
+        if level(&left[..len]) > 0 {
+            return at;
+        }
+        at += len;
+    }
+    at
+}
+
+// The first place from which on the entries fit. It counts back from the last entry, and counts no bytes where any
+// number of them fits.
+fn first_that_fits(entries: &[Change], most: usize, bytes: usize) -> usize
+    ensures { FitsFrom most bytes (map entry_of entries.now) result }
+{
+    let first = entries.len().saturating_sub(most);
+    if bytes == usize::MAX {
+        return first;
+    }
+    let mut left = bytes;
+    let mut at = entries.len();
+    while at > first {
+        let size = bytes_held(&entries[at - 1]);
+        if size > left {
+            return at;
+        }
+        left -= size;
+        at -= 1;
+    }
+    at
+}
+
+// How many bytes of text an entry holds.
+fn bytes_held(entry: &Change) -> usize
+    ensures { result ≡ length (old_text (entry_of entry.now)) + length (new_text (entry_of entry.now)) }
+{
+    let (new, old) = entry.texts(Way::Back);
+    old.len() + new.len()
+}
+
+/// Drops the first `count` entries. The others move once.
+pub(crate) fn drop_first(entries: &mut Vec<Change>, count: usize)
+    requires { count ≤ length entries.old.items }
+    ensures { map entry_of entries.new.items ≡ drop count (map entry_of entries.old.items) }
+{
+    if count > 0 {
+        entries.drain(..count);
+    }
+}
