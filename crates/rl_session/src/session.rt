@@ -15,6 +15,7 @@ ghost use Rattle.rl_session.specs.declared.session.Reply.{Reply};
 
 mod deletions;
 mod edits;
+pub mod forgetting;
 mod history;
 mod motions;
 mod opening;

@@ -1,0 +1,26 @@
+use Rattle.rl_line.specs.Forgetting.{gone_within}
+use Rattle.rl_line.proofs.Records.ForgettingLemmas.{left-replays}
+use Rattle.rl_line.proofs.Records.RecordLemmas.{replay-IsUtf8}
+use Rattle.rl_session.specs.Forgetting.{within_bound}
+use Rattle.rl_session.specs.State.{State, Stands}
+use Rattle.rl_session.proofs.session.forgetting.what_is_left_replays.Goals as goal
+
+still : (s : State) → Stands s → Stands (within_bound s)
+still s h = record { utf8 = h.utf8; cursor = h.cursor; within = h.within; ring = h.ring; idle = h.idle }
+
+pub returns-clause-replays : goal.returns-clause-replays
+returns-clause-replays c = λ start s from.
+    let es = s.pair.changes.recorded in
+    let bound = s.options.bound in
+    let left = left-replays bound.entries bound.bytes es start s.line.text from.leads in
+    record {
+      begin = left.0;
+      made = left.1;
+      replays = record { is_text = replay-IsUtf8 (gone_within bound.entries bound.bytes es) start left.0 from.is_text left.1; leads = left.2 };
+    }
+
+pub returns-clause-changed : goal.returns-clause-changed
+returns-clause-changed c = λ asked s from. record { stands = still s from.stands; bounded = from.bounded; covers = from.covers }
+
+pub returns-clause-reported : goal.returns-clause-reported
+returns-clause-reported c = λ read s from. record { stands = still s from.stands; bounded = from.bounded; text = from.text; leads = from.leads }

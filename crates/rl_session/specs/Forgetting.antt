@@ -1,0 +1,21 @@
+-- The bound of a session's record, and what the session forgets beyond it.
+use Rattle.std.specs.Prelude.{◌≡◌, List, ℕ, Some}
+use Rattle.rl_line.specs.Forgetting.{forgotten, gone_within}
+use Rattle.rl_line.specs.Record.{replay_entries}
+use Rattle.rl_session.specs.declared.options.Bound.{Bound}
+use Rattle.rl_session.specs.State.{State, Replays}
+
+-- the same with another bound
+abbrev pub bounded_by : Bound → State → State
+bounded_by bound s = record s { options = record s.options { bound = bound } }
+
+-- the same once the oldest units beyond its bound were forgotten
+abbrev pub within_bound : State → State
+within_bound s =
+    record s { pair = record s.pair { changes = forgotten s.options.bound.entries s.options.bound.bytes s.pair.changes } }
+
+-- the text that what was forgotten made of the start is the one from which what is left leads to the present text
+pub record ReplaysOn (start : List ℕ) (old : State) : Type 0 where
+  pub begin : List ℕ
+  pub made : replay_entries (gone_within old.options.bound.entries old.options.bound.bytes old.pair.changes.recorded) start ≡ Some begin
+  pub replays : Replays begin (within_bound old)

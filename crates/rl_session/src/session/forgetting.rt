@@ -1,0 +1,45 @@
+//! The bound of a session's record, beyond which the session forgets the oldest changes.
+ghost use Rattle.std.specs.Prelude.{◌≡◌, List, ℕ};
+ghost use Rattle.rl_session.specs.State.{ChangedFrom, Follows, Replays, ReportedFrom, Stands, State};
+ghost use Rattle.rl_session.specs.Forgetting.{ReplaysOn, bounded_by, within_bound};
+
+use crate::options::Bound;
+use crate::session::Session;
+
+impl Session {
+    /// Sets how much the record may hold, and forgets at once what is beyond that, as `forget` does. A new session has no
+    /// bound.
+    pub fn set_bound(&mut self, bound: Bound)
+        ensures set { self.new ≡ within_bound (bounded_by bound self.old) }
+        ensures stays { Stands self.new × Follows self.new.line self.new.pair.changes }
+    {
+        self.options.bound = bound;
+        self.forget();
+    }
+
+    /// Forgets the oldest changes and closed groups, as long as the record has more entries than its bound, or more bytes
+    /// of text in them, old and new. It stops at the begin of an open group. An undo goes back to the text with which the
+    /// rest begins, and what was undone can be redone as before; text, cursor, ring and reports stay. It takes no memory.
+    ///
+    /// `apply`, `run` and scripts never forget by themselves. So what is said of runs holds between two calls of `forget`,
+    /// from the text with which the record begins then (`what_is_left_replays`).
+    #[inline(always)]
+    pub fn forget(&mut self)
+        ensures forgets { self.new ≡ within_bound self.old }
+        ensures stays { Stands self.new × Follows self.new.line self.new.pair.changes }
+    {
+        let bound = self.options.bound;
+        self.pair.changes.forget(bound.entries, bound.bytes);
+        self.stands();
+        self.follows();
+    }
+}
+
+/// What a session's record forgets leads from the text with which it began to another, and what is left leads from that to
+/// the present text. Where nothing is forgotten, that is the text with which it began. What tells of changes has nothing to
+/// tell of it.
+pub fn what_is_left_replays()
+    ensures replays { (start : List ℕ) (s : State) → Replays start s → ReplaysOn start s }
+    ensures changed { (asked : List ℕ) (s : State) → ChangedFrom asked s → ChangedFrom asked (within_bound s) }
+    ensures reported { (read : List ℕ) (s : State) → ReportedFrom read s → ReportedFrom read (within_bound s) }
+{}
