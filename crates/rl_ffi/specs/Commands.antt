@@ -4,17 +4,22 @@ use Rattle.std.specs.Str.{IsUtf8}
 use Rattle.std.specs.String.{string_bytes}
 use Rattle.std.specs.declared.alloc.Global.{Global}
 use Rattle.rl_session.specs.Commands.{Step}
+use Rattle.rl_session.specs.Forgetting.{within_bound}
 use Rattle.rl_session.specs.State.{State}
 use Rattle.rl_session.specs.declared.session.Command.{Command}
 use Rattle.rl_session.specs.declared.session.Reply.{Reply}
 use Rattle.rl_ffi.specs.Numbers.{closed, no_memory, no_such_number, not_utf8, reply_number}
+
+-- a command was done, and then the record forgot what was beyond its bound
+abbrev pub Obeys : State → Command → Reply → State → Type 0
+Obeys s command reply new = (left : State) × Step s command reply left × (new ≡ within_bound left)
 
 -- a command is given, or the number says what is wrong with the arguments. A closed session answers that it is closed. Wrong
 -- arguments change nothing; otherwise the command is done.
 abbrev pub Replies : Result Command ℕ → Option State → Result Reply ℕ → Option State → Type 0
 Replies asked None answer new = (answer ≡ Err closed) × (new ≡ None)
 Replies (Err why) (Some s) answer new = (answer ≡ Err why) × (new ≡ Some s)
-Replies (Ok command) (Some s) (Ok reply) new = (t : State) × Step s command reply t × (new ≡ Some t)
+Replies (Ok command) (Some s) (Ok reply) new = (t : State) × Obeys s command reply t × (new ≡ Some t)
 Replies (Ok command) (Some s) (Err why) new = ⊥
 
 abbrev pub number_of : Result Reply ℕ → ℕ

@@ -5,13 +5,13 @@ use Rattle.rl_base.specs.Text.{HasText}
 use Rattle.rl_base.specs.declared.motion.Movement.{Movement}
 use Rattle.rl_base.specs.declared.motion.Movement.TheVariants.{ForwardChar}
 use Rattle.rl_line.specs.Kills.{copied}
-use Rattle.rl_session.specs.Commands.{Step}
 use Rattle.rl_session.specs.State.{State}
 use Rattle.rl_session.specs.declared.session.Command.{Command}
 use Rattle.rl_session.specs.declared.session.Command.TheVariants.{Copy, Delete}
 use Rattle.rl_session.specs.declared.session.Reply.{Reply}
 use Rattle.rl_session.specs.declared.session.Reply.TheVariants.{Text, Mark, At}
 use Rattle.rl_ffi.specs.Buffers.{put}
+use Rattle.rl_ffi.specs.Commands.{Obeys}
 use Rattle.rl_ffi.specs.Numbers.{closed, no_memory, no_such_number, reply_number, too_small}
 
 -- what an answer writes to a number of C: a mark; the number of a line, and a column
@@ -47,7 +47,7 @@ HasRoom (Some text) out = length text ≤ length out
 
 -- the command is done in s, and its text is written out
 abbrev pub HandsOut : State → Command → ℕ → State → List ℕ × ℕ → List ℕ × ℕ → Type 0
-HandsOut s command n t outs outs' = (reply : Reply) × Step s command reply t × (n ≡ reply_number reply) × (outs' ≡ handed reply outs)
+HandsOut s command n t outs outs' = (reply : Reply) × Obeys s command reply t × (n ≡ reply_number reply) × (outs' ≡ handed reply outs)
 
 -- the text does not fit: nothing is done, and its length is written
 abbrev pub LacksRoom : Option (List ℕ) → State → ℕ → State → List ℕ × ℕ → List ℕ × ℕ → Type 0

@@ -2,18 +2,28 @@
 ghost use Rattle.std.specs.Prelude.{◌≡◌, Ok};
 ghost use Rattle.rl_session.specs.declared.session.Command.{Command};
 ghost use Rattle.rl_ffi.specs.Numbers.{action_of, at_of, char_of, dedents_of, movement_of, search_of, word_of};
-ghost use Rattle.rl_ffi.specs.Commands.{Called, CalledWith, IsTextOf, Replies, both_named, named, number_of};
+ghost use Rattle.rl_ffi.specs.Commands.{Called, CalledWith, IsTextOf, Obeys, Replies, both_named, named, number_of};
 
 use crate::handle::{Handle, of_session};
 use crate::numbers::{
     CLOSED, NO_MEMORY, NO_SUCH_NUMBER, NOT_UTF8, action_of, at_of, char_of, dedents_of,
     movement_of, reply_number, search_of, word_of,
 };
-use rl_session::{Command, Reply};
+use rl_session::{Command, Reply, Session};
 use std::alloc::Global;
 
-// Applies the command to the session, unless a number says why there is none. Inlined here and below, so that each
-// call's command is known when it is compiled.
+// Does the command, and then forgets what is beyond the bound of the record. Inlined here and below, so that each call's
+// command is known when it is compiled.
+#[inline(always)]
+pub(crate) fn obey(session: &mut Session, command: &Command) -> Reply
+    ensures { Obeys session.old command.now result session.new }
+{
+    let reply = session.apply(command);
+    session.forget();
+    reply
+}
+
+// Asks the session for the command, unless a number says why there is none.
 #[inline(always)]
 pub(crate) fn ask(
     alloc: Global,
@@ -23,7 +33,7 @@ pub(crate) fn ask(
     ensures { Replies command s.old.value result s.new.value }
 {
     of_session!(s, alloc, session => match command {
-        Ok(command) => Ok(session.apply(&command)),
+        Ok(command) => Ok(obey(&mut session, &command)),
         Err(number) => Err(number),
     }, Err(CLOSED))
 }

@@ -10,7 +10,7 @@ ghost use Rattle.rl_ffi.specs.Commands.{Replies, number_of};
 ghost use Rattle.rl_ffi.specs.Handed.{CopyCalled, Copies, DeleteCalled, Deletes, Fits, column_in, handed, line_in, mark_in, text_length};
 
 use crate::buffers::put;
-use crate::commands::{ask, number_of};
+use crate::commands::{ask, number_of, obey};
 use crate::handle::{Handle, of_session};
 use crate::numbers::{CLOSED, NO_MEMORY, NO_SUCH_NUMBER, TOO_SMALL, movement_of, reply_number};
 use rl_base::places::next_pos;
@@ -84,7 +84,7 @@ fn delete(session: &mut Session, n: RepeatCount, out: &mut [u8], len: &mut usize
         *len = ahead;
         return TOO_SMALL;
     }
-    let reply = session.apply(&Command::Delete(n));
+    let reply = obey(session, &Command::Delete(n));
     hand_out(&reply, out, len)
 }
 
@@ -116,7 +116,7 @@ fn copy(session: &mut Session, movement: Movement, out: &mut [u8], len: &mut usi
         *len = needed;
         return TOO_SMALL;
     }
-    let reply = session.apply(&Command::Copy(movement));
+    let reply = obey(session, &Command::Copy(movement));
     hand_out(&reply, out, len)
 }
 
