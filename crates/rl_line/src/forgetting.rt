@@ -36,16 +36,16 @@ fn first_that_fits(entries: &[Change], most: usize, bytes: usize) -> usize
         return first;
     }
     let mut left = bytes;
-    let mut at = entries.len();
-    while at > first {
-        let size = bytes_held(&entries[at - 1]);
+    let mut start = entries.len();
+    while start > first {
+        let size = bytes_held(&entries[start - 1]);
         if size > left {
-            return at;
+            return start;
         }
         left -= size;
-        at -= 1;
+        start -= 1;
     }
-    at
+    start
 }
 
 // How many bytes of text an entry holds.

@@ -12,6 +12,8 @@ mod cursors;
 #[cfg(test)]
 mod edits;
 #[cfg(test)]
+mod forgetting;
+#[cfg(test)]
 mod gathered;
 #[cfg(test)]
 mod halts;

@@ -1,7 +1,7 @@
 //! Rows of sessions.
 use crate::script::is_so;
 use rl_base::{At, CharSearch, GraphemeClusterMode, Movement, RepeatCount, Unit, Word, WordAction};
-use rl_session::{Command, Fault, Reply, Session};
+use rl_session::{Bound, Command, Fault, Reply, Session};
 use std::alloc::Global;
 use std::process::Abort;
 use std::test::Fail;
@@ -241,7 +241,7 @@ fn motions_over_lines_count_from_the_prompt(rt: HostRuntime) -> Result<(), Fail>
     Ok(())
 }
 
-// The prompt is no part of where the cursor stands, and setting it, or the limit, parts no run of kills. What is not set
+// The prompt is no part of where the cursor stands, and setting it, the limit or the bound parts no run of kills. What is not set
 // stays after a restart.
 #[test]
 fn settings_part_no_kills(rt: HostRuntime) -> Result<(), Fail> {
@@ -253,6 +253,10 @@ fn settings_part_no_kills(rt: HostRuntime) -> Result<(), Fail> {
     session.apply(&Command::Kill(Movement::EndOfLine));
     session.set_prompt(1);
     session.set_limit(5);
+    session.set_bound(Bound {
+        entries: 0,
+        bytes: 0,
+    });
     session.apply(&Command::Kill(Movement::BeginningOfLine));
     session.restart("\nx", 2)?;
     let yanked = session.apply(&Command::Yank(1));

@@ -67,6 +67,7 @@ pub(crate) enum Call {
     Begin,
     End,
     Truncate(usize),
+    Forget(usize, usize),
     CanUndo,
     CanRedo,
     Replays(usize),
@@ -153,6 +154,10 @@ pub(crate) fn make(
         Call::End => truth(record.end()),
         Call::Truncate(len) => {
             record.truncate(len);
+            Ok(1)
+        }
+        Call::Forget(entries, bytes) => {
+            record.forget(entries, bytes);
             Ok(1)
         }
         Call::CanUndo => truth(record.can_undo(line)),

@@ -7,14 +7,14 @@ returns-then-bytes-eq18446744073709551615 c = FitsFrom-any c.args.most c.args.by
 
 pub returns-then-size-left : goal.returns-then-size-left
 returns-then-size-left c =
-    FitsFrom-stopped c.args.most c.args.bytes c.saturating_sub-first.result c.loop-at.at c.loop-at.left c.bytes_held-size.result c.args.entries.now c.index-entries-at.result
-    (omega (arith, c.if-bytes-eq18446744073709551615.false, c.ranges.bytes)) c.loop-at-test.true c.if-size-left.true (sym c.index-entries-at.is) c.bytes_held-size.ensures c.loop-at.invariant
+    FitsFrom-stopped c.args.most c.args.bytes c.saturating_sub-first.result c.loop-start.start c.loop-start.left c.bytes_held-size.result c.args.entries.now c.index-entries-start.result
+    (omega (arith, c.if-bytes-eq18446744073709551615.false, c.ranges.bytes)) c.loop-start-test.true c.if-size-left.true (sym c.index-entries-start.is) c.bytes_held-size.ensures c.loop-start.invariant
 
-pub loop-at-preserved : goal.loop-at-preserved
-loop-at-preserved c =
-    Counted-next c.args.most c.args.bytes c.saturating_sub-first.result c.loop-at.at c.loop-at.left c.bytes_held-size.result c.args.entries.now c.index-entries-at.result
-    c.loop-at-test.true c.if-size-left.false (sym c.index-entries-at.is) c.bytes_held-size.ensures c.loop-at.invariant
+pub loop-start-preserved : goal.loop-start-preserved
+loop-start-preserved c =
+    Counted-next c.args.most c.args.bytes c.saturating_sub-first.result c.loop-start.start c.loop-start.left c.bytes_held-size.result c.args.entries.now c.index-entries-start.result
+    c.loop-start-test.true c.if-size-left.false (sym c.index-entries-start.is) c.bytes_held-size.ensures c.loop-start.invariant
 
 pub returns : goal.returns
 returns c =
-    FitsFrom-counted c.args.most c.args.bytes c.saturating_sub-first.result c.loop-at.at c.loop-at.left c.args.entries.now (omega (arith, c.loop-at-test.false)) c.loop-at.invariant
+    FitsFrom-counted c.args.most c.args.bytes c.saturating_sub-first.result c.loop-start.start c.loop-start.left c.args.entries.now (omega (arith, c.loop-start-test.false)) c.loop-start.invariant
