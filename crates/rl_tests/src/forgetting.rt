@@ -40,7 +40,7 @@ fn the_oldest_changes_are_forgotten(rt: HostRuntime) -> Result<(), Fail> {
     const BYTES: &[Step] = &[
         (Call::Replace(1, 3, "é"), 1, "aéd", 3, 1, 0),
         (Call::Back(1), 1, "ad", 1, 2, 0),
-        (Call::Yank("xyz"), 1, "axyzd", 4, 3, 0),
+        (Call::Yank("xyz"), 0, "axyzd", 4, 3, 0),
         (Call::Forget(ANY, 9), 1, "axyzd", 4, 3, 0),
         (Call::Forget(ANY, 8), 1, "axyzd", 4, 2, 0),
         (Call::Forget(3, 4), 1, "axyzd", 4, 1, 0),
