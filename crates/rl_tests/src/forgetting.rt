@@ -99,9 +99,13 @@ fn does(
     entries: usize,
 ) {
     let reply = session.apply(command);
-    is_so(rt, reply == *wanted, text);
-    is_so(rt, session.line().as_str() == text, text);
-    is_so(rt, session.record().len() == entries, text);
+    is_so(rt, reply == *wanted, "the reply");
+    is_so(rt, session.line().as_str() == text, "the text after it");
+    is_so(
+        rt,
+        session.record().len() == entries,
+        "the entries after it",
+    );
 }
 
 // It undoes so many units, and answers whether there was a change.
