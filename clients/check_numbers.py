@@ -18,8 +18,6 @@ TOP = Path(__file__).resolve().parent.parent
 # The enums that the crate or a client names otherwise, and the numbers of one, which are a bool in the crate.
 ENUMS = {"dedents": "indent_direction", "report_kind": "report"}
 DIRECTIONS = {"false": "INDENT", "true": "DEDENT"}
-# What begins the header's names of an enum, where Python has the rest of them alone.
-BEGINNINGS = {"direction": "KILL_"}
 
 
 def snake(name):
@@ -89,8 +87,7 @@ def numbers_of_python(source):
         if isinstance(kind, ast.ClassDef) and [ast.unparse(base) for base in kind.bases] == ["IntEnum"]:
             members = [it for it in kind.body if isinstance(it, ast.Assign)]
             enum = enum_of(kind.name.lstrip("_"))
-            begins = BEGINNINGS.get(enum, "")
-            found += [(enum, begins + it.targets[0].id, ast.literal_eval(it.value)) for it in members]
+            found += [(enum, it.targets[0].id, ast.literal_eval(it.value)) for it in members]
     return found
 
 

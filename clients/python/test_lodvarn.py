@@ -107,17 +107,17 @@ class Editing(Case):
         self.stands(session, "one two three", 13)
 
     def test_a_range_is_killed(self):
-        for text, pos, given, done, left, ring in [
-            ("one two", 0, (4, 7), True, "one ", ["two"]),
-            ("one two", 7, (0, 4, Direction.BACKWARD), True, "two", ["one "]),
-            ("one two", 2, (1, 6, Direction.FORWARD), True, "oo", ["ne tw"]),
-            ("aé漢b", 7, (1, 6), True, "ab", ["é漢"]),
-            ("ab", 1, (1, 1), False, "ab", []),
-            ("", 0, (0, 0, Direction.BACKWARD), False, "", []),
+        for text, pos, given, done, left, place, ring in [
+            ("one two", 0, (4, 7), True, "one ", 4, ["two"]),
+            ("one two", 7, (0, 4, Direction.BACKWARD), True, "two", 0, ["one "]),
+            ("one two", 2, (1, 6, Direction.FORWARD), True, "oo", 1, ["ne tw"]),
+            ("aé漢b", 7, (1, 6), True, "ab", 1, ["é漢"]),
+            ("ab", 2, (1, 1), False, "ab", 2, []),
+            ("", 0, (0, 0, Direction.BACKWARD), False, "", 0, []),
         ]:
             with self.subTest(text=text, given=given), Session(text, pos) as session:
                 self.assertIs(session.kill_range(*given), done)
-                self.stands(session, left, given[0])
+                self.stands(session, left, place)
                 self.assertEqual(session.ring, ring)
                 self.assertIs(session.undo(), done)
                 self.stands(session, text, pos)
@@ -210,8 +210,6 @@ class Editing(Case):
         for limit, fault in [(-1, OverflowError), (2**64, OverflowError), ("9", TypeError), (9.0, TypeError)]:
             self.assertRaises(fault, setattr, session, "limit", limit)
             self.assertEqual(session.limit, 3)
-        for limit in (None, 2**64 - 1):
-            self.assertIsNone(Session("a", limit=limit).limit)
 
     def test_the_record_is_bounded(self):
         session = Session("")
@@ -392,7 +390,7 @@ class Reading(Case):
         for call, given, wanted in [
             (session.begin, (), (False, False, 1)),
             (session.insert, ("a",), (True, False, 1)),
-            (session.begin, (), (True, False, 2)),
+            (session.begin, (), (False, False, 2)),
             (session.end, (), (True, False, 0)),
             (session.insert, ("-",), (True, False, 0)),
             (session.undo, (), (True, True, 0)),
@@ -632,6 +630,13 @@ class Faults(Case):
         self.refuses(UnicodeEncodeError, session, session.paste, "\ud800")
         self.refuses(UnicodeEncodeError, session, session.keep, "\ud800")
         self.assertRaises(lodvarn.BadPlace, Session, "é", 1)
+
+    def test_a_limit_takes_no_memory(self):
+        for limit in (None, 2**64 - 1):
+            session = Session("a", 1, limit)
+            self.assertIsNone(session.limit)
+            self.assertTrue(session.insert("b"))
+            self.stands(session, "ab", 2)
 
     def test_faults_are_those_of_python_too(self):
         session, closed = Session("é"), Session("")
@@ -1225,8 +1230,12 @@ class Texts(Case):
             ("a\tb", 2, 2, 20, 4, (0, 4)),
             ("a\tb", 2, 3, 20, 4, (0, 8)),
             ("漢\n\t", 5, 3, 20, 4, (1, 4)),
+            ("x" * 17 + "\ty", 19, 0, 20, 8, (1, 1)),
+            ("x" * 20 + "\t", 21, 0, 20, 8, (1, 8)),
+            ("a\tb", 3, 0, 20, 0, (0, 3)),
         ]:
             self.assertEqual(lodvarn.cell(text, place, prompt, columns, tab=tab), wanted)
+        self.assertEqual(lodvarn.cell("a\tb", 3, 0, 20, Mode.WC_WIDTH), (0, 2))
 
     def test_a_cell_has_a_place(self):
         for text, prompt, columns, tab, places in [

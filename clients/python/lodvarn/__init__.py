@@ -715,7 +715,7 @@ class Session:
         """Kills what stands between two places, as from a selection. The cursor goes to the first.
 
         It goes on from a kill right before it: the ring puts the text after that one, or before it where `direction` is
-        BACKWARD. False where the places are the same. Raises BadPlace.
+        BACKWARD. False where the places are the same, and then the cursor stays. Raises BadPlace.
         """
         return self._do("kill_range", start, end, direction) == _TRUE
 
@@ -975,16 +975,16 @@ class Session:
         return self._size(_library.lodvarn_entries)
 
     def set_bound(self, entries: Optional[int] = None, bytes: Optional[int] = None) -> None:
-        """Bounds the record to so many entries and so many bytes of their texts; where one is None, that is no bound.
+        """Bounds the record to so many entries and so many bytes of their texts; None is no bound.
 
-        The oldest changes and groups beyond it are forgotten, at once and by each later call, and no undo takes them
-        back.
+        The oldest changes and groups beyond it are forgotten, now and after each later call, and no undo takes them
+        back. An open group is kept whole.
         """
         _call("set_bound", self._handle, (_or_most(entries), _or_most(bytes)))
 
     @property
     def can_undo(self) -> bool:
-        """Whether an undo would find a change."""
+        """Whether an undo would find a change. Right after a `begin` it would not."""
         return _call("can_undo", self._handle, ()) == _TRUE
 
     @property
@@ -1060,8 +1060,9 @@ def cell(
 ) -> tuple[int, int]:
     """The row and column of a place of a text on a screen with `columns` columns.
 
-    The text begins at the column `prompt` of row 0. A tab goes to the next multiple of `tab` columns of its row; where
-    that is 0 it is no column wide. Raises BadPlace, and NoSuchNumber where `columns` is 0.
+    The text begins at the column `prompt` of row 0. A tab goes to the next multiple of `tab` columns, or to the right
+    edge where that is nearer; where `tab` is 0 it is as wide as `width` says. Raises BadPlace, and NoSuchNumber where
+    `columns` is 0.
     """
     row, column, given = _SIZE(), _SIZE(), _utf8(text)
     _call("cell", (), (given, len(given), place, prompt, columns, tab, mode), (row, column))
@@ -1073,8 +1074,8 @@ def place_at(
 ) -> int:
     """The place of a text that stands in a row and column of a screen, as where the mouse was pressed.
 
-    It is the last place between two clusters whose `cell` does not come after that one, 0 where there is none. Raises
-    NoSuchNumber where `columns` is 0.
+    It is the last place between two clusters whose `cell` is that one or comes before it, and 0 where all come after
+    it. Raises NoSuchNumber where `columns` is 0.
     """
     place, given = _SIZE(), _utf8(text)
     _call("place_at", (), (given, len(given), row, column, prompt, columns, tab, mode), (place,))
