@@ -28,7 +28,7 @@ class Vi(Session):
     def draw(self) -> None:
         """Draws the rows that fit, the cursor's among them, with the selection, and then the mode."""
         (columns, height), text, (start, end) = os.get_terminal_size(1), self.text, self.selected()
-        row, column = cell(text, self.pos, 0, columns, tab=TAB)
+        row, column = cell(text, self.pos, 0, columns := columns or 80, tab=TAB)
         first, data, rows = max(row - height + 2, 0), text.encode(), ""
         places = [place_at(text, first + it, 0, 0, columns, tab=TAB) for it in range(height)]
         for number, (a, b) in enumerate(zip(places, places[1:]), 1):

@@ -476,6 +476,8 @@ class Session:
         # What the library writes to, for as long as it is decoded.
         self._out: Any = ctypes.create_string_buffer(_ROOM)
         self._length = _SIZE()
+        # What reads write to, made once, since they are short.
+        self._places, self._column = (_SIZE(), _SIZE()), _U16()
         self._prompt = 0
         given = _utf8(text)
         size = len(given)
@@ -899,13 +901,13 @@ class Session:
 
     def covers(self, movement: Movement, n: int = 1, c: str = "\0") -> Optional[tuple[int, int]]:
         """The two places between which stands what a copy by a movement would take, or None where that is nothing."""
-        start, end = _SIZE(), _SIZE()
-        answer = _call("covers", self._handle, (movement, n, ord(c)), (start, end))
+        start, end = self._places
+        answer = _call("covers", self._handle, (movement, n, ord(c)), self._places)
         return (start.value, end.value) if answer == _DONE else None
 
     def destination(self, movement: Movement, n: int = 1, c: str = "\0") -> Optional[int]:
         """The place where a move would go, or None where there is nowhere to go."""
-        place = _SIZE()
+        place, _ = self._places
         answer = _call("destination", self._handle, (movement, n, ord(c)), (place,))
         return place.value if answer == _DONE else None
 
@@ -914,7 +916,7 @@ class Session:
 
         It looks at that cluster alone, however long the text is. Raises BadPlace.
         """
-        end, columns = _SIZE(), _U16()
+        (end, _), columns = self._places, self._column
         answer = _call("cluster", self._handle, (place,), (end, columns))
         return (end.value, columns.value) if answer == _DONE else None
 
@@ -937,7 +939,7 @@ class Session:
     @property
     def line_column(self) -> tuple[int, int]:
         """The number of the cursor's line, and the width of that line before the cursor."""
-        line, column = _SIZE(), _U16()
+        (line, _), column = self._places, self._column
         _call("line_column", self._handle, (), (line, column))
         return line.value, column.value
 
