@@ -79,9 +79,9 @@ def calls_of(source, call, mark):
 
 
 def calls_of_python(source):
-    """The calls of the client for Python, in the same form: those of its tables, and close, which answers nothing."""
+    """The calls of the client for Python, in the same form: those of its tables, and two that it has beside them."""
     tables = {"_CALLS": "uint32_t", "_SIZES": "size_t"}
-    found = {"lodvarn_close": ("void", ["lodvarn **"])}
+    found = {"lodvarn_close": ("void", ["lodvarn **"]), "lodvarn_version": ("uint32_t", [])}
     for it in ast.parse(source).body:
         name = it.target.id if isinstance(it, ast.AnnAssign) and isinstance(it.target, ast.Name) else None
         if name in tables:

@@ -1,22 +1,24 @@
 """A calculator's prompt in a terminal: PYTHONPATH=clients/python python3 clients/python/examples/repl.py"""
 
-import codecs
 import os
 import re
-import select
-import signal
-import sys
-import termios
-import tty
 from typing import Callable, Dict, Iterator
 
 from arithmetic import LIMIT, evaluate
 from lodvarn import Movement, Session, cell, first_cluster, width
+from raw_terminal import RawTerminal
 
 PROMPT, SECONDS = "> ", 0.2  # The seconds are those to wait for the rest of a key.
 # A key is a character, or an escape with what belongs to it, which may be cut short. None is found where it may go on.
 KEY = re.compile(r"\x1b\[[ -?]*[@-~]|\x1bO[ -~]|\x1b[^\[O\0-\x1f]|\x1b(\[[ -?]*|O)?(?=[^ -~])|[^\x1b]")
 SAME = {f"M-[{end}": f"C-{c}" for end, c in zip("A B C D H 1~ F 4~".split(), "pnfbaaee")}  # Arrows, Home, End.
+
+def transpose(session: Session) -> bool:
+    """Exchanges two characters. One undo takes back both of its changes."""
+    with session.group():
+        return session.transpose_chars()
+
+
 KEYS: Dict[str, Callable[[Session], object]] = {
     "C-a": lambda it: it.move(Movement.BEGINNING_OF_LINE), "C-e": lambda it: it.move(Movement.END_OF_LINE),
     "C-b": lambda it: it.move(Movement.BACKWARD_CHAR), "C-f": lambda it: it.move(Movement.FORWARD_CHAR),
@@ -24,7 +26,7 @@ KEYS: Dict[str, Callable[[Session], object]] = {
     "M-f": lambda it: it.move(Movement.FORWARD_EMACS_WORD_AFTER_END), "C-d": Session.delete, "\x7f": Session.backspace,
     "M-d": lambda it: it.kill(Movement.FORWARD_EMACS_WORD_AFTER_END), "C-y": Session.yank, "M-y": Session.yank_pop,
     "C-u": lambda it: it.kill(Movement.BEGINNING_OF_LINE), "C-w": lambda it: it.kill(Movement.BACKWARD_BIG_WORD),
-    "C-_": Session.undo, "M-_": Session.redo, "C-t": lambda it: (it.begin(), it.transpose_chars(), it.end()),
+    "C-_": Session.undo, "M-_": Session.redo, "C-t": transpose,
 }
 
 
@@ -41,18 +43,15 @@ def draw(session: Session) -> None:
     print(f"{row}\x1b[{len(PROMPT) + cursor - first + 1}G", end="", flush=True)
 
 
-def read_keys(session: Session) -> Iterator[str]:
+def read_keys(session: Session, terminal: RawTerminal) -> Iterator[str]:
     """The names of the keys, up to the end of input. It draws where it has to wait, once for all that came together."""
-    decoder, keys, (woken, waking) = codecs.getincrementaldecoder("utf-8")("replace"), "", os.pipe2(os.O_NONBLOCK)
-    signal.set_wakeup_fd(waking)
-    signal.signal(signal.SIGWINCH, lambda *_: None)  # It ends the wait, as all signals do that are heard.
+    keys = ""
     while True:
         draw(session)
-        ready = select.select([0, woken], [], [], SECONDS if keys else None)[0]
-        came = os.read(ready[0], 4096) if ready else b""
-        if ready and not came:
+        came = terminal.read(SECONDS if keys else None)
+        if came is None:
             return
-        keys = keys + decoder.decode(came) if 0 in ready else ""
+        keys = keys + came if came else ""
         while key := KEY.match(keys):
             keys = keys[key.end() :]
             name = key[0].replace("\x1bO", "\x1b[").replace("\x1b", "M-")
@@ -60,10 +59,10 @@ def read_keys(session: Session) -> Iterator[str]:
             yield SAME.get(name, name)
 
 
-def edit(session: Session) -> None:
+def edit(session: Session, terminal: RawTerminal) -> None:
     """Evaluates lines until the input ends. All are edited in one session, so what was killed can be yanked later."""
     lines, at = [""], 0  # The lines of before and, last, the one that is typed now. The one that is shown is lines[at].
-    for key in read_keys(session):
+    for key in read_keys(session, terminal):
         text, step = session.text, {"C-p": -1, "C-n": 1}.get(key, 0)
         if key == "C-d" and not text:
             return
@@ -81,18 +80,15 @@ def edit(session: Session) -> None:
 
 
 def main() -> None:
-    """Leaves the terminal with the modes that it had, however the editor ends."""
+    """Edits lines in a terminal, and otherwise evaluates those of the input."""
     if not (os.isatty(0) and os.isatty(1)):
         for line in open(0, encoding="utf-8", errors="replace"):
             print(evaluate(line), flush=True)
         return
-    signal.signal(signal.SIGTERM, lambda number, _: sys.exit(128 + number))  # So that `finally` is run.
-    modes = termios.tcgetattr(0)
     try:
-        tty.setraw(0, termios.TCSADRAIN)
-        edit(Session(limit=LIMIT))
+        with RawTerminal() as terminal:
+            edit(Session(limit=LIMIT), terminal)
     finally:
-        termios.tcsetattr(0, termios.TCSADRAIN, modes)
         print()
 
 

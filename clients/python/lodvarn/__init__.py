@@ -22,6 +22,7 @@ import ctypes.util
 import operator
 import os
 import struct
+from contextlib import contextmanager
 from dataclasses import dataclass
 from enum import IntEnum
 from itertools import takewhile
@@ -35,6 +36,7 @@ __all__ = [
     "BadPlace",
     "BadYankSize",
     "Closed",
+    "Direction",
     "Fault",
     "IsWatched",
     "Mode",
@@ -52,11 +54,13 @@ __all__ = [
     "cell",
     "first_cluster",
     "last_cluster",
+    "place_at",
     "run_script",
+    "version",
     "width",
 ]
 
-# That of include/lodvarn.h.
+# That of include/lodvarn.h, and of the library.
 __version__ = "0.1.0"
 
 
@@ -101,6 +105,14 @@ class Action(IntEnum):
     UPPERCASE = 2
 
 
+class Direction(IntEnum):
+    """On which side of the cursor a killed text stood: after the cursor, so that the ring puts it after what was killed
+    right before, or before the cursor, so that the ring puts it in front of that."""
+
+    FORWARD = 0
+    BACKWARD = 1
+
+
 class _IndentDirection(IntEnum):
     INDENT = 0
     DEDENT = 1
@@ -136,6 +148,7 @@ class Movement(IntEnum):
     WHOLE_BUFFER = 24
     BEGINNING_OF_BUFFER = 25
     END_OF_BUFFER = 26
+    FIRST_NONBLANK = 27
 
 
 class ReportKind(IntEnum):
@@ -258,6 +271,9 @@ _TEXT, _OUT, _SIZE = ctypes.c_char_p, ctypes.POINTER(ctypes.c_char), ctypes.c_si
 _U32, _U16, _U8 = ctypes.c_uint32, ctypes.c_uint16, ctypes.c_uint8
 _TO_SIZE, _TO_U32, _TO_U16 = ctypes.POINTER(_SIZE), ctypes.POINTER(_U32), ctypes.POINTER(_U16)
 
+# The greatest size, which means no limit and no bound.
+_NO_LIMIT = _SIZE(-1).value
+
 # What each call takes. Each answers one of _Answer.
 _CALLS: dict[str, list[Any]] = {
     "open": [_HANDLE, _TEXT, _SIZE, _SIZE, _SIZE, _SIZE, _U32],
@@ -274,8 +290,8 @@ _CALLS: dict[str, list[Any]] = {
     "delete_range": [_HANDLE, _SIZE, _SIZE],
     "delete": [_HANDLE, _U16, _OUT, _SIZE, _TO_SIZE],
     "backspace": [_HANDLE, _U16],
-    "kill_line": [_HANDLE],
-    "kill_buffer": [_HANDLE],
+    "delete_to_line_end": [_HANDLE],
+    "delete_to_end": [_HANDLE],
     "discard_line": [_HANDLE],
     "discard_buffer": [_HANDLE],
     "delete_prev_word": [_HANDLE, _U32, _U16],
@@ -285,10 +301,13 @@ _CALLS: dict[str, list[Any]] = {
     "transpose_words": [_HANDLE, _U16],
     "edit_word": [_HANDLE, _U32],
     "kill": [_HANDLE, _U32, _U16, _U32],
+    "kill_range": [_HANDLE, _SIZE, _SIZE, _U32],
+    "keep": [_HANDLE, _TEXT, _SIZE],
     "copy": [_HANDLE, _U32, _U16, _U32, _OUT, _SIZE, _TO_SIZE],
     "indent": [_HANDLE, _U32, _U16, _U32, _U8, _U32],
     "begin": [_HANDLE, _TO_SIZE],
     "end": [_HANDLE],
+    "end_one": [_HANDLE],
     "undo": [_HANDLE, _U16],
     "redo": [_HANDLE],
     "truncate": [_HANDLE, _SIZE],
@@ -296,13 +315,24 @@ _CALLS: dict[str, list[Any]] = {
     "changed": [_HANDLE, _TO_SIZE, _TO_SIZE, _TO_SIZE],
     "watch": [_HANDLE, _SIZE, _SIZE],
     "next_report": [_HANDLE, _TO_U32, _TO_SIZE, _TO_SIZE, _TO_SIZE, _TO_SIZE, _TO_SIZE, _OUT, _SIZE],
+    "set_limit": [_HANDLE, _SIZE],
+    "set_bound": [_HANDLE, _SIZE, _SIZE],
+    "set_prompt": [_HANDLE, _U16],
+    "covers": [_HANDLE, _U32, _U16, _U32, _TO_SIZE, _TO_SIZE],
+    "destination": [_HANDLE, _U32, _U16, _U32, _TO_SIZE],
+    "cluster": [_HANDLE, _SIZE, _TO_SIZE, _TO_U16],
     "line_range": [_HANDLE, _SIZE, _TO_SIZE, _TO_SIZE],
+    "line_column": [_HANDLE, _TO_SIZE, _TO_U16],
+    "ring_text": [_HANDLE, _SIZE, _OUT, _SIZE, _TO_SIZE],
+    "can_undo": [_HANDLE],
+    "can_redo": [_HANDLE],
     "last_was_yank": [_HANDLE],
     "script": [_TEXT, _SIZE, _OUT, _SIZE, _TO_SIZE],
     "width": [_TEXT, _SIZE, _U32, _TO_U16],
     "first_cluster": [_TEXT, _SIZE, _TO_SIZE],
     "last_cluster": [_TEXT, _SIZE, _TO_SIZE],
-    "cell": [_TEXT, _SIZE, _SIZE, _U16, _U16, _U32, _TO_SIZE, _TO_SIZE],
+    "cell": [_TEXT, _SIZE, _SIZE, _U16, _U16, _U16, _U32, _TO_SIZE, _TO_SIZE],
+    "place_at": [_TEXT, _SIZE, _SIZE, _SIZE, _U16, _U16, _U16, _U32, _TO_SIZE],
 }
 
 # The calls that answer a size.
@@ -313,6 +343,8 @@ _SIZES: dict[str, list[Any]] = {
     "line_count": [_HANDLE],
     "limit": [_HANDLE],
     "entries": [_HANDLE],
+    "level": [_HANDLE],
+    "ring_count": [_HANDLE],
 }
 
 
@@ -327,10 +359,25 @@ def _library_path() -> str:
     return found
 
 
+def _version_of(library: ctypes.PyDLL) -> str:
+    """The version that a library says it has, such as "1.2.3", or an empty text where it has no call that says so."""
+    function = getattr(library, "lodvarn_version", None)
+    if not function:
+        return ""
+    function.argtypes, function.restype = [], _U32
+    number: int = function()
+    return f"{number >> 16}.{number >> 8 & 255}.{number & 255}"
+
+
 def _load() -> ctypes.PyDLL:
-    """The library, with what its calls take and answer."""
+    """The library, with what its calls take and answer. Raises ImportError where it is not of the package's version."""
+    path = _library_path()
     # A PyDLL keeps the interpreter's lock, so that no two threads are in a call on a session at once.
-    library = ctypes.PyDLL(_library_path())
+    library = ctypes.PyDLL(path)
+    found = _version_of(library)
+    if found != __version__:
+        has = f"has version {found}" if found else "does not say its version, as an older one or another"
+        raise ImportError(f"this is lodvarn {__version__} for Python, and the library {path} {has}: the two must agree")
     kinds: list[tuple[dict[str, list[Any]], Any]] = [(_CALLS, _U32), (_SIZES, _SIZE), ({"close": [_HANDLE]}, None)]
     for calls, answer in kinds:
         for call, takes in calls.items():
@@ -390,6 +437,11 @@ def _yes(answer: int) -> Optional[bool]:
     return None if answer == _NONE else answer == _TRUE
 
 
+def _or_most(size: Optional[int]) -> int:
+    """A limit or a bound as the library takes it, where None is none."""
+    return _NO_LIMIT if size is None else size
+
+
 # How many bytes the library writes without a buffer made for it.
 _ROOM = 4096
 # How many characters of each side of the cursor repr shows.
@@ -407,14 +459,14 @@ class Session:
         self,
         text: str = "",
         pos: Optional[int] = None,
-        limit: int = 65536,
+        limit: Optional[int] = 65536,
         ring_size: int = 60,
         mode: Mode = Mode.UNICODE,
     ) -> None:
         """Opens a session on a text, with the cursor at the place pos, by default at the end.
 
-        The text may grow to `limit` bytes, or stay as long as it is. The kill ring keeps up to `ring_size` texts.
-        Raises BadPlace, NoMemory.
+        The text may grow to `limit` bytes, or stay as long as it is; without end where that is None. The kill ring
+        keeps up to `ring_size` texts. Raises BadPlace, NoMemory.
         """
         self._at = ctypes.c_void_p()
         self._handle = (self._at,)
@@ -424,9 +476,13 @@ class Session:
         # What the library writes to, for as long as it is decoded.
         self._out: Any = ctypes.create_string_buffer(_ROOM)
         self._length = _SIZE()
+        # What reads write to, made once, since they are short.
+        self._places, self._column = (_SIZE(), _SIZE()), _U16()
+        self._prompt = 0
         given = _utf8(text)
         size = len(given)
-        _call("open", self._handle, (given, size, size if pos is None else pos, limit, ring_size, mode))
+        pos = size if pos is None else pos
+        _call("open", self._handle, (given, size, pos, _or_most(limit), ring_size, mode))
 
     def close(self) -> None:
         """Closes the session. Whatever is asked of it later raises Closed, except to close it again and its repr."""
@@ -487,15 +543,19 @@ class Session:
         finally:
             self._tell()
 
+    def _text_of(self, name: str, *given: Any) -> Optional[str]:
+        """The text that a call hands out, in a larger buffer where it does not fit at once. None where it has none."""
+        out, room, length = self._out, _ROOM, self._length
+        while (answer := _call(name, self._handle, given, (out, room, length))) == _TOO_SMALL:
+            room = length.value
+            out = ctypes.create_string_buffer(room)
+        text: Optional[str] = out[: length.value].decode() if answer == _GIVEN else None
+        return text
+
     def _do_for_text(self, name: str, *given: Any) -> Optional[str]:
         """Does a command that hands out a text, which is decoded before on_change is told, as that reads there too."""
-        out, room, length = self._out, _ROOM, self._length
         try:
-            while (answer := _call(name, self._handle, given, (out, room, length))) == _TOO_SMALL:
-                room = length.value
-                out = ctypes.create_string_buffer(room)
-            text: Optional[str] = out[: length.value].decode() if answer == _GIVEN else None
-            return text
+            return self._text_of(name, *given)
         finally:
             if self._on_change is not None:
                 self._tell()
@@ -603,13 +663,16 @@ class Session:
         """Deletes n clusters before the cursor. False where there are none."""
         return self._do("backspace", n) == _TRUE
 
-    def kill_line(self) -> bool:
+    def delete_to_line_end(self) -> bool:
         """Deletes to the end of the cursor's line, or the newline there. The ring does not keep it."""
-        return self._do("kill_line") == _TRUE
+        return self._do("delete_to_line_end") == _TRUE
 
-    def kill_buffer(self) -> bool:
+    def delete_to_end(self) -> bool:
         """Deletes to the end of the text. The ring does not keep it."""
-        return self._do("kill_buffer") == _TRUE
+        return self._do("delete_to_end") == _TRUE
+
+    # The names that these two had, which say that the ring keeps what they take.
+    kill_line, kill_buffer = delete_to_line_end, delete_to_end
 
     def discard_line(self) -> bool:
         """Deletes to the start of the cursor's line, or the newline before it, CR LF as one. Not for the ring."""
@@ -650,6 +713,19 @@ class Session:
         """
         return self._do("kill", movement, n, ord(c)) == _TRUE
 
+    def kill_range(self, start: int, end: int, direction: Direction = Direction.FORWARD) -> bool:
+        """Kills what stands between two places, as from a selection. The cursor goes to the first.
+
+        It goes on from a kill right before it: the ring puts the text after that one, or before it where `direction` is
+        BACKWARD. False where the places are the same, and then the cursor stays. Raises BadPlace.
+        """
+        return self._do("kill_range", start, end, direction) == _TRUE
+
+    def keep(self, text: str) -> None:
+        """Puts a text into the ring, as a kill by itself would: a yank gives it, and a kill after it begins another."""
+        given = _utf8(text)
+        self._do("keep", given, len(given))
+
     def copy(self, movement: Movement, n: int = 1, c: str = "\0") -> Optional[str]:
         """The text that a movement covers, or None where it covers nothing."""
         return self._do_for_text("copy", movement, n, ord(c))
@@ -672,6 +748,25 @@ class Session:
         """Closes all open groups. False where they have no change, or none is open."""
         return self._do("end") == _TRUE
 
+    def end_one(self) -> bool:
+        """Closes the group that was begun last. False where it has no change, or none is open."""
+        return self._do("end_one") == _TRUE
+
+    @contextmanager
+    def group(self) -> Iterator[None]:
+        """Makes one undo of the changes that are made inside of a `with`, also where an exception ends it.
+
+        It closes the groups that were begun inside of it, and no others, so one may stand in another.
+        """
+        level = self.level
+        self.begin()
+        try:
+            yield
+        finally:
+            # The group may have been ended or undone there, or the session closed.
+            while self._at and self.level > level:
+                self.end_one()
+
     def undo(self, n: int = 1) -> bool:
         """Undoes the last n changes and groups. False where there was no change."""
         return self._do("undo", n) == _TRUE
@@ -690,7 +785,7 @@ class Session:
     def line_place(self) -> tuple[int, int]:
         """The number of the cursor's line, and the width of that line before the cursor.
 
-        This is a command: a kill after it begins a new text of the ring.
+        This is a command: a kill after it begins a new text of the ring. `line_column` is the same without that.
         """
         line, column = _SIZE(), _U16()
         self._do("line_place", written=(line, column))
@@ -804,6 +899,27 @@ class Session:
             raise BadPlace(f"index: {index} is not from 0 to {len(text)}")
         self.set_pos(len(_utf8(text[:index])))
 
+    def covers(self, movement: Movement, n: int = 1, c: str = "\0") -> Optional[tuple[int, int]]:
+        """The two places between which stands what a copy by a movement would take, or None where that is nothing."""
+        start, end = self._places
+        answer = _call("covers", self._handle, (movement, n, ord(c)), self._places)
+        return (start.value, end.value) if answer == _DONE else None
+
+    def destination(self, movement: Movement, n: int = 1, c: str = "\0") -> Optional[int]:
+        """The place where a move would go, or None where there is nowhere to go."""
+        place, _ = self._places
+        answer = _call("destination", self._handle, (movement, n, ord(c)), (place,))
+        return place.value if answer == _DONE else None
+
+    def cluster(self, place: int) -> Optional[tuple[int, int]]:
+        """The place where the first cluster after a place ends, and its columns, or None at the end of the text.
+
+        It looks at that cluster alone, however long the text is. Raises BadPlace.
+        """
+        (end, _), columns = self._places, self._column
+        answer = _call("cluster", self._handle, (place,), (end, columns))
+        return (end.value, columns.value) if answer == _DONE else None
+
     @property
     def line_number(self) -> int:
         """The number of the cursor's line, from 0."""
@@ -821,19 +937,92 @@ class Session:
         return (start.value, end.value) if answer == _DONE else None
 
     @property
-    def limit(self) -> int:
-        """How many bytes the text may have."""
-        return self._size(_library.lodvarn_limit)
+    def line_column(self) -> tuple[int, int]:
+        """The number of the cursor's line, and the width of that line before the cursor."""
+        (line, _), column = self._places, self._column
+        _call("line_column", self._handle, (), (line, column))
+        return line.value, column.value
+
+    @property
+    def prompt(self) -> int:
+        """The column at which the prompt before the first line ends, 0 at first. LINE_UP and LINE_DOWN heed it."""
+        self._see_open()
+        return self._prompt
+
+    @prompt.setter
+    def prompt(self, column: int) -> None:
+        self.set_prompt(column)
+
+    def set_prompt(self, column: int) -> None:
+        """Says at which column the prompt ends, so that a motion into or out of the first line keeps the column."""
+        _call("set_prompt", self._handle, (column,))
+        self._prompt = column
+
+    @property
+    def limit(self) -> Optional[int]:
+        """How many bytes the text may have, or None where there is no limit.
+
+        It can be set. Where the text is longer than that, the limit becomes its length.
+        """
+        limit = self._size(_library.lodvarn_limit)
+        return None if limit == _NO_LIMIT else limit
+
+    @limit.setter
+    def limit(self, limit: Optional[int]) -> None:
+        _call("set_limit", self._handle, (_or_most(limit),))
 
     @property
     def entries(self) -> int:
         """How many entries the record has."""
         return self._size(_library.lodvarn_entries)
 
+    def set_bound(self, entries: Optional[int] = None, bytes: Optional[int] = None) -> None:
+        """Bounds the record to so many entries and so many bytes of their texts; None is no bound.
+
+        The oldest changes and groups beyond it are forgotten, now and after each later call, and no undo takes them
+        back. An open group is kept whole.
+        """
+        _call("set_bound", self._handle, (_or_most(entries), _or_most(bytes)))
+
+    @property
+    def can_undo(self) -> bool:
+        """Whether an undo would find a change. Right after a `begin` it would not."""
+        return _call("can_undo", self._handle, ()) == _TRUE
+
+    @property
+    def can_redo(self) -> bool:
+        """Whether a redo would find a change."""
+        return _call("can_redo", self._handle, ()) == _TRUE
+
+    @property
+    def level(self) -> int:
+        """How many groups are open."""
+        return self._size(_library.lodvarn_level)
+
+    @property
+    def ring(self) -> list[str]:
+        """The texts of the ring: the one that a yank gives, and then those that yank_pop after yank_pop would give."""
+        texts = map(self.ring_text, range(self.ring_count))
+        return [text for text in texts if text is not None]
+
+    @property
+    def ring_count(self) -> int:
+        """How many texts the ring has."""
+        return self._size(_library.lodvarn_ring_count)
+
+    def ring_text(self, back: int = 0) -> Optional[str]:
+        """The text so many places back in the ring, where 0 is the one that a yank gives. None where there is none."""
+        return self._text_of("ring_text", back)
+
     @property
     def last_was_yank(self) -> bool:
         """Whether the last command was a yank or yank_pop and did not answer None. A yank with n = 0 counts."""
         return _call("last_was_yank", self._handle, ()) == _TRUE
+
+
+def version() -> str:
+    """The version of the library, which is that of the package: `lodvarn.__version__`."""
+    return _version_of(_library)
 
 
 def run_script(script: bytes) -> bytes:
@@ -868,11 +1057,28 @@ def last_cluster(text: str) -> str:
     return given[len(given) - length.value :].decode()
 
 
-def cell(text: str, place: int, prompt: int, columns: int, mode: Mode = Mode.UNICODE) -> tuple[int, int]:
+def cell(
+    text: str, place: int, prompt: int, columns: int, mode: Mode = Mode.UNICODE, tab: int = 0
+) -> tuple[int, int]:
     """The row and column of a place of a text on a screen with `columns` columns.
 
-    The text begins at the column `prompt` of row 0. Raises BadPlace, and NoSuchNumber where `columns` is 0.
+    The text begins at the column `prompt` of row 0. A tab goes to the next multiple of `tab` columns, or to the right
+    edge where that is nearer; where `tab` is 0 it is as wide as `width` says. Raises BadPlace, and NoSuchNumber where
+    `columns` is 0.
     """
     row, column, given = _SIZE(), _SIZE(), _utf8(text)
-    _call("cell", (), (given, len(given), place, prompt, columns, mode), (row, column))
+    _call("cell", (), (given, len(given), place, prompt, columns, tab, mode), (row, column))
     return row.value, column.value
+
+
+def place_at(
+    text: str, row: int, column: int, prompt: int, columns: int, mode: Mode = Mode.UNICODE, tab: int = 0
+) -> int:
+    """The place of a text that stands in a row and column of a screen, as where the mouse was pressed.
+
+    It is the last place between two clusters whose `cell` is that one or comes before it, and 0 where all come after
+    it. Raises NoSuchNumber where `columns` is 0.
+    """
+    place, given = _SIZE(), _utf8(text)
+    _call("place_at", (), (given, len(given), row, column, prompt, columns, tab, mode), (place,))
+    return place.value
