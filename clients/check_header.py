@@ -50,7 +50,7 @@ PYTHON_IN_C = {
     "_U8": "uint8_t",
 }
 EXPORT = re.compile(r"#\[unsafe\(no_mangle\)\]\s*pub extern \"C\" fn (\w+)\s*\(([^)]*)\)\s*(?:->\s*(\w+))?")
-FOREIGN = re.compile(r"\bpub fn (lodvarn_\w+)\(([^)]*)\)(?: -> (\w+))?;")
+FOREIGN = re.compile(r"\bpub fn (lodvarn_\w+)\(([^)]*)\)(?:\s*-> (\w+))?;")
 MADE = re.compile(r"\bffi::(lodvarn_\w+)\(")
 DECLARATION = re.compile(r"^([a-z]\w+)\s+(\w+)\(([^)]*)\);", re.M)
 DEFINITION = re.compile(r"^static inline [^;]*?\{\n.*?^\}\n", re.M | re.S)

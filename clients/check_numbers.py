@@ -39,7 +39,7 @@ def name_of(value):
         case ["FORWARD_WORD", at, word]:
             return f"FORWARD_{word}_WORD_{at}"
         case names:
-            return "_".join(names).removeprefix("VI_")
+            return "_".join(names).removeprefix("VI_").replace("NON_BLANK", "NONBLANK")
 
 
 def numbers_of_header(header):
