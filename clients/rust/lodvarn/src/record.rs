@@ -163,8 +163,9 @@ impl Session {
         done(unsafe { ffi::lodvarn_truncate(self.at.get(), entries) })
     }
 
-    /// Bounds the record. The oldest changes and groups beyond the bound are forgotten at once, and by each later call,
-    /// so that a session that goes on for long takes no more and more memory. An undo does not go back over them.
+    /// Bounds the record. The oldest changes and groups beyond the bound are forgotten at once, and after each later
+    /// call, so that a session that goes on for long takes no more and more memory. An undo does not go back over them.
+    /// A group that is open stays, with all that comes after its begin, and so does what was undone.
     ///
     /// ```
     /// # use lodvarn::{Bound, Fault, Session};

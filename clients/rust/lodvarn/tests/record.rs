@@ -212,6 +212,34 @@ fn a_record_has_its_bound() -> Result<(), Fault> {
 }
 
 #[test]
+fn an_open_group_is_not_forgotten() -> Result<(), Fault> {
+    let bound = Bound {
+        entries: 2,
+        ..Bound::NONE
+    };
+    let mut session = Session::builder().bound(bound).open()?;
+    session.paste("a", 1)?;
+    {
+        let mut group = session.group()?;
+        group.paste("b", 1)?;
+        group.paste("c", 1)?;
+        assert_eq!((group.entries(), group.level()), (3, 1));
+    }
+    // once it is closed it goes as a whole
+    assert_eq!((session.entries(), session.can_undo()), (0, false));
+    // what was undone may be redone
+    session.set_bound(Bound::NONE);
+    session.paste("d", 1)?;
+    session.undo(1)?;
+    session.set_bound(Bound {
+        entries: 0,
+        ..bound
+    });
+    assert!(session.can_redo());
+    Ok(())
+}
+
+#[test]
 fn a_bound_goes_away() -> Result<(), Fault> {
     let mut session = Session::builder()
         .bound(Bound {
