@@ -5,8 +5,8 @@ use std::cell::UnsafeCell;
 use std::ptr::null_mut;
 
 /// What a session is opened with, from [`Session::builder`]. What is not said stays as it is there: no text, the cursor
-/// at the end of the text, a limit of 4096 bytes, a kill ring of 60 texts, [`Mode::Unicode`], a prompt that ends at column 0, and
-/// [`Bound::NONE`].
+/// at the end of the text, a limit of 4096 bytes, a kill ring of 60 texts, [`Mode::Unicode`], a prompt that ends at
+/// column 0, and [`Bound::NONE`].
 ///
 /// ```
 /// # use lodvarn::{Fault, Session};

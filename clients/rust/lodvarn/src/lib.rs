@@ -166,8 +166,8 @@ impl Session {
     }
 
     /// Begins anew with a text, with the cursor at the place `pos`, as an editor does with the next line. Nothing is
-    /// recorded then, and the kill ring keeps its texts. The limit rises where the text is longer. What tells of changes
-    /// tells that all the old text gave way to the new one.
+    /// recorded then; the kill ring keeps its texts, and the settings stay. The limit rises where the text is longer.
+    /// What tells of changes tells that all the old text gave way to the new one.
     ///
     /// # Errors
     ///
@@ -370,8 +370,8 @@ impl Session {
         yes(unsafe { ffi::lodvarn_indent(self.at.get(), number, n, c, amount, ffi::DEDENT) })
     }
 
-    /// Lets the text grow to so many bytes, [`NO_LIMIT`] for any number. Where the text is longer already, its length is
-    /// the limit. Nothing else changes: the room is found once it is needed.
+    /// Lets the text grow to so many bytes, [`NO_LIMIT`] for any number. Where the text is longer already, its length
+    /// is the limit. Nothing else changes: the room is found once it is needed.
     pub fn set_limit(&mut self, limit: usize) {
         let answer = unsafe { ffi::lodvarn_set_limit(self.at.get(), limit) };
         debug_assert_eq!(answer, ffi::DONE);

@@ -4,8 +4,8 @@ use crate::{done, ffi, yes, Session};
 use std::ops::{Deref, DerefMut};
 
 /// An open undo group, from [`Session::group`]. It is the session meanwhile, and closes the group where it is dropped.
-/// Groups that were begun in it and are still open are closed with it. Where the group is not open any more, as after an
-/// [`end`](Session::end) or an undo of its begin, nothing is closed.
+/// Groups that were begun in it and are still open are closed with it. Where the group is not open any more, as after
+/// an [`end`](Session::end) or an undo of its begin, nothing is closed.
 #[derive(Debug)]
 #[must_use = "the group is closed where this is dropped"]
 pub struct Group<'s> {

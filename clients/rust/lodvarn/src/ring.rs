@@ -40,8 +40,8 @@ impl Session {
     }
 
     /// Puts a text into the ring as a kill of its own, as an editor does with a text that it got elsewhere, or that
-    /// [`copy`](Session::copy) answered. The next yank inserts it. A kill after it begins another text. Text, cursor and
-    /// record stay.
+    /// [`copy`](Session::copy) answered. The next yank inserts it. A kill after it begins another text. Text, cursor
+    /// and record stay.
     ///
     /// # Errors
     ///

@@ -79,8 +79,8 @@ pub fn cell(
 }
 
 /// The place of a text that is shown at a row and a column of a screen, as of a click of the mouse: the last place
-/// between two clusters whose [`cell`] is not after that one, by rows and then by columns. 0 where there is none. `prompt`,
-/// `columns`, `tab` and `mode` are those of [`cell`].
+/// between two clusters whose [`cell`] is not after that one, by rows and then by columns. 0 where there is none.
+/// `prompt`, `columns`, `tab` and `mode` are those of [`cell`].
 ///
 /// ```
 /// # use lodvarn::{cell, place_at, Fault, Mode};
