@@ -55,7 +55,7 @@ fn header_of(folder: &Path) -> PathBuf {
 fn numbers_of(header: &str) -> String {
     let number = |line: &str| {
         let (name, rest) = line.split_once("LODVARN_")?.1.split_once(" = ")?;
-        let number = rest.split([',', ' ']).next()?;
+        let number: u32 = rest.split([',', ' ']).next()?.parse().ok()?;
         Some(format!(
             "/// `LODVARN_{name}` of the header.\npub const {name}: u32 = {number};\n"
         ))

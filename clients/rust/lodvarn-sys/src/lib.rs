@@ -20,6 +20,11 @@ pub type Handle = *mut Raw;
 // The numbers of the header, which build.rs makes constants of: DONE is that of LODVARN_DONE.
 include!(concat!(env!("OUT_DIR"), "/numbers.rs"));
 
+/// `LODVARN_NO_LIMIT` of the header: the limit of a text that may grow to any length.
+pub const NO_LIMIT: usize = usize::MAX;
+/// `LODVARN_NO_BOUND` of the header: the bound of a record that forgets nothing.
+pub const NO_BOUND: usize = usize::MAX;
+
 extern "C" {
     /// Opens a session on a text, with the cursor at the place `pos`. One that `*s` had is closed.
     pub fn lodvarn_open(
@@ -49,6 +54,10 @@ extern "C" {
     pub fn lodvarn_restart(s: *mut Handle, text: *const u8, len: usize, pos: usize) -> u32;
     /// Replaces the whole text, and moves the cursor to a place of the new one.
     pub fn lodvarn_update(s: *mut Handle, text: *const u8, len: usize, pos: usize) -> u32;
+    /// Sets the limit, or the length of the text where that is more.
+    pub fn lodvarn_set_limit(s: *mut Handle, limit: usize) -> u32;
+    /// Sets the column at which the prompt ends, for motions up and down.
+    pub fn lodvarn_set_prompt(s: *mut Handle, column: u16) -> u32;
     /// Inserts a text at a place, whatever the limit.
     pub fn lodvarn_insert_str(s: *mut Handle, at: usize, text: *const u8, len: usize) -> u32;
     /// Replaces what stands between two places by a text, whatever the limit.
@@ -72,9 +81,9 @@ extern "C" {
     /// Deletes n clusters before the cursor.
     pub fn lodvarn_backspace(s: *mut Handle, n: u16) -> u32;
     /// Deletes to the end of the cursor's line, or the newline there.
-    pub fn lodvarn_kill_line(s: *mut Handle) -> u32;
+    pub fn lodvarn_delete_to_line_end(s: *mut Handle) -> u32;
     /// Deletes to the end of the text.
-    pub fn lodvarn_kill_buffer(s: *mut Handle) -> u32;
+    pub fn lodvarn_delete_to_end(s: *mut Handle) -> u32;
     /// Deletes back to the start of the cursor's line, or the newline before it.
     pub fn lodvarn_discard_line(s: *mut Handle) -> u32;
     /// Deletes back to the start of the text.
@@ -93,6 +102,10 @@ extern "C" {
     pub fn lodvarn_edit_word(s: *mut Handle, action: u32) -> u32;
     /// Deletes what a movement covers, for the ring.
     pub fn lodvarn_kill(s: *mut Handle, movement: u32, n: u16, c: u32) -> u32;
+    /// Deletes what stands between two places, for the ring.
+    pub fn lodvarn_kill_range(s: *mut Handle, from: usize, to: usize, direction: u32) -> u32;
+    /// Puts a text into the ring as a kill of its own.
+    pub fn lodvarn_keep(s: *mut Handle, text: *const u8, len: usize) -> u32;
     /// Copies what a movement covers to `out`.
     pub fn lodvarn_copy(
         s: *mut Handle,
@@ -116,13 +129,17 @@ extern "C" {
     pub fn lodvarn_begin(s: *mut Handle, mark: *mut usize) -> u32;
     /// Closes all open groups.
     pub fn lodvarn_end(s: *mut Handle) -> u32;
+    /// Closes the innermost group.
+    pub fn lodvarn_end_one(s: *mut Handle) -> u32;
     /// Undoes the last n changes and groups.
     pub fn lodvarn_undo(s: *mut Handle, n: u16) -> u32;
     /// Redoes what was undone last.
     pub fn lodvarn_redo(s: *mut Handle) -> u32;
     /// Keeps the first `entries` entries of the record.
     pub fn lodvarn_truncate(s: *mut Handle, entries: usize) -> u32;
-    /// Asks for the number of the cursor's line and for the cursor's column.
+    /// Sets how much the record may have, and has it forget its oldest changes beyond that, now and by each later call.
+    pub fn lodvarn_set_bound(s: *mut Handle, entries: usize, bytes: usize) -> u32;
+    /// Asks for the number of the cursor's line and for the cursor's column, by a command.
     pub fn lodvarn_line_place(s: *mut Handle, line: *mut usize, column: *mut u16) -> u32;
     /// Tells all that changed since it was asked last, as one change.
     pub fn lodvarn_changed(
@@ -160,12 +177,52 @@ extern "C" {
         start: *mut usize,
         end: *mut usize,
     ) -> u32;
+    /// Tells the number of the cursor's line and the cursor's column.
+    pub fn lodvarn_line_column(s: *mut Handle, line: *mut usize, column: *mut u16) -> u32;
+    /// Tells where the first cluster from a place on ends, and its columns.
+    pub fn lodvarn_cluster(s: *mut Handle, place: usize, end: *mut usize, columns: *mut u16)
+        -> u32;
+    /// Tells what a copy by a movement would copy.
+    pub fn lodvarn_covers(
+        s: *mut Handle,
+        movement: u32,
+        n: u16,
+        c: u32,
+        from: *mut usize,
+        to: *mut usize,
+    ) -> u32;
+    /// Tells where a motion would go.
+    pub fn lodvarn_destination(
+        s: *mut Handle,
+        movement: u32,
+        n: u16,
+        c: u32,
+        pos: *mut usize,
+    ) -> u32;
     /// Answers how many bytes the text may have.
     pub fn lodvarn_limit(s: *mut Handle) -> usize;
     /// Answers the number of entries of the record.
     pub fn lodvarn_entries(s: *mut Handle) -> usize;
+    /// Answers how many groups are open.
+    pub fn lodvarn_level(s: *mut Handle) -> usize;
+    /// Asks whether an undo would find a change.
+    pub fn lodvarn_can_undo(s: *mut Handle) -> u32;
+    /// Asks whether a redo would find a change.
+    pub fn lodvarn_can_redo(s: *mut Handle) -> u32;
+    /// Answers how many texts the ring has.
+    pub fn lodvarn_ring_count(s: *mut Handle) -> usize;
+    /// Copies a text of the ring to `out`: the current one, or so many before it.
+    pub fn lodvarn_ring_text(
+        s: *mut Handle,
+        back: usize,
+        out: *mut u8,
+        cap: usize,
+        out_len: *mut usize,
+    ) -> u32;
     /// Asks whether a `lodvarn_yank_pop` would replace a yank.
     pub fn lodvarn_last_was_yank(s: *mut Handle) -> u32;
+    /// Answers the version of the library: its three numbers, in 16, 8 and 8 bits.
+    pub fn lodvarn_version() -> u32;
     /// Runs a script in a session of its own, and copies what it prints to `out`.
     pub fn lodvarn_script(
         script: *const u8,
@@ -187,8 +244,21 @@ extern "C" {
         place: usize,
         prompt: u16,
         columns: u16,
+        tab: u16,
         mode: u32,
         row: *mut usize,
         column: *mut usize,
+    ) -> u32;
+    /// Finds the last place of a text on a screen that is not after a row and a column.
+    pub fn lodvarn_place_at(
+        text: *const u8,
+        len: usize,
+        row: usize,
+        column: usize,
+        prompt: u16,
+        columns: u16,
+        tab: u16,
+        mode: u32,
+        place: *mut usize,
     ) -> u32;
 }

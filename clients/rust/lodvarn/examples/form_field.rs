@@ -79,8 +79,8 @@ impl Field {
 
 /// Answers each key by a line.
 pub fn run(keys: impl BufRead, mut answers: impl Write) -> Result<(), Box<dyn Error>> {
-    // A character takes up to four bytes, so the session itself refuses none for its limit.
-    let session = Session::builder().limit(4 * MAX_CHARS).open()?;
+    // The field sees itself that no more characters go in than there is room for.
+    let session = Session::builder().no_limit().open()?;
     let mut field = Field { session, first: 0 };
     for line in keys.lines() {
         let line = line?;

@@ -1,11 +1,12 @@
 //! How a session is opened.
-use crate::words::{Fault, Mode};
-use crate::{done, ffi, Session};
+use crate::words::{Bound, Fault, Mode};
+use crate::{done, ffi, version, Session, NO_LIMIT, VERSION};
 use std::cell::UnsafeCell;
 use std::ptr::null_mut;
 
 /// What a session is opened with, from [`Session::builder`]. What is not said stays as it is there: no text, the cursor
-/// at the end of the text, a limit of 4096 bytes, a kill ring of 60 texts, and [`Mode::Unicode`].
+/// at the end of the text, a limit of 4096 bytes, a kill ring of 60 texts, [`Mode::Unicode`], a prompt that ends at
+/// column 0, and [`Bound::NONE`].
 ///
 /// ```
 /// # use lodvarn::{Fault, Session};
@@ -25,6 +26,8 @@ pub struct SessionBuilder<'t> {
     limit: usize,
     ring_size: usize,
     mode: Mode,
+    prompt: u16,
+    bound: Bound,
 }
 
 impl Default for SessionBuilder<'_> {
@@ -35,6 +38,8 @@ impl Default for SessionBuilder<'_> {
             limit: 4096,
             ring_size: 60,
             mode: Mode::Unicode,
+            prompt: 0,
+            bound: Bound::NONE,
         }
     }
 }
@@ -51,10 +56,15 @@ impl<'t> SessionBuilder<'t> {
         SessionBuilder { pos, ..self }
     }
 
-    /// Lets the text grow to so many bytes. A text that is longer already may stay as long as it is. A limit takes no
-    /// memory, and `usize::MAX` is none at all.
+    /// Lets the text grow to so many bytes. A text that is longer already may stay as long as it is. Room is found for
+    /// the text that is there, and for more once it is needed.
     pub fn limit(self, limit: usize) -> Self {
         SessionBuilder { limit, ..self }
+    }
+
+    /// Lets the text grow to any length.
+    pub fn no_limit(self) -> Self {
+        self.limit(NO_LIMIT)
     }
 
     /// Lets the kill ring keep up to so many texts.
@@ -67,19 +77,36 @@ impl<'t> SessionBuilder<'t> {
         SessionBuilder { mode, ..self }
     }
 
+    /// Says at which column the prompt ends, as [`Session::set_prompt`] does.
+    pub fn prompt(self, prompt: u16) -> Self {
+        SessionBuilder { prompt, ..self }
+    }
+
+    /// Bounds the record, as [`Session::set_bound`] does.
+    pub fn bound(self, bound: Bound) -> Self {
+        SessionBuilder { bound, ..self }
+    }
+
     /// Opens the session.
+    ///
+    /// # Panics
+    ///
+    /// Where the library that is linked is of another version than this crate.
     ///
     /// # Errors
     ///
     /// [`Fault::BadPlace`] where the cursor's place is past the text or inside a character; [`Fault::NoMemory`].
     pub fn open(&self) -> Result<Session, Fault> {
-        let session = Session {
+        assert_eq!(version(), VERSION, "the library is of another version");
+        let mut session = Session {
             at: UnsafeCell::new(null_mut()),
             keeps_texts: false,
         };
         let (ptr, len, at) = (self.text.as_ptr(), self.text.len(), session.at.get());
         let (pos, mode) = (self.pos.unwrap_or(len), self.mode as u32);
         done(unsafe { ffi::lodvarn_open(at, ptr, len, pos, self.limit, self.ring_size, mode) })?;
+        session.set_prompt(self.prompt);
+        session.set_bound(self.bound);
         Ok(session)
     }
 }

@@ -23,22 +23,28 @@
 
 mod builder;
 mod changes;
+mod reads;
+mod record;
+mod ring;
 mod texts;
 mod words;
 
 pub use builder::SessionBuilder;
 pub use changes::{ChangeListener, Changes, DeleteListener, Report, Splice, Untold};
-pub use texts::{cell, first_cluster, last_cluster, run_script, width};
-pub use words::{Action, At, Direction, Fault, Mode, Movement, ReportKind, Search, Word};
+pub use record::Group;
+pub use texts::{cell, first_cluster, last_cluster, place_at, run_script, version, width};
+pub use words::{Action, At, Bound, Direction, Fault, Mode, Movement, ReportKind, Search, Word};
 
 use lodvarn_sys as ffi;
 use std::cell::UnsafeCell;
 use std::fmt;
 use std::ops::Range;
-use std::ptr::NonNull;
 
-/// The version of this crate, and of the library that it is for.
+/// The version of this crate, and of the library that it is for, which [`version`] answers.
 pub const VERSION: &str = env!("CARGO_PKG_VERSION");
+
+/// The limit of a text that may grow to any length.
+pub const NO_LIMIT: usize = ffi::NO_LIMIT;
 
 /// A text with its cursor, a ring of killed texts, and the record of its changes. [`Session::builder`] opens one.
 ///
@@ -159,30 +165,9 @@ impl Session {
         inserted(unsafe { ffi::lodvarn_paste(self.at.get(), text.as_ptr(), text.len(), n) })
     }
 
-    /// Inserts the ring's current text n times at the cursor, and answers as `paste`.
-    ///
-    /// # Errors
-    ///
-    /// [`Fault::NoMemory`].
-    pub fn yank(&mut self, n: u16) -> Result<Option<bool>, Fault> {
-        inserted(unsafe { ffi::lodvarn_yank(self.at.get(), n) })
-    }
-
-    /// Replaces the text that was just yanked by the one before it in the ring. Whether the cursor was at the end, or
-    /// `None` where the last command was not a yank. `None` also where the one before is empty or too long for the
-    /// limit: then what was yanked is deleted.
-    ///
-    /// # Errors
-    ///
-    /// [`Fault::BadYankSize`] where what was yanked does not stand before the cursor, as may be after a yank with
-    /// n = 0; [`Fault::NoMemory`].
-    pub fn yank_pop(&mut self) -> Result<Option<bool>, Fault> {
-        inserted(unsafe { ffi::lodvarn_yank_pop(self.at.get()) })
-    }
-
     /// Begins anew with a text, with the cursor at the place `pos`, as an editor does with the next line. Nothing is
-    /// recorded then, and the kill ring keeps its texts. The limit rises where the text is longer. What tells of changes
-    /// tells that all the old text gave way to the new one.
+    /// recorded then; the kill ring keeps its texts, and the settings stay. The limit rises where the text is longer.
+    /// What tells of changes tells that all the old text gave way to the new one.
     ///
     /// # Errors
     ///
@@ -250,13 +235,13 @@ impl Session {
     }
 
     /// Deletes to the end of the cursor's line, or the newline there. The ring does not keep it: of all deletions it
-    /// keeps only those by `kill`. False where there is nothing.
+    /// keeps only those by `kill` and `kill_range`. False where there is nothing.
     ///
     /// # Errors
     ///
     /// [`Fault::NoMemory`].
-    pub fn kill_line(&mut self) -> Result<bool, Fault> {
-        yes(unsafe { ffi::lodvarn_kill_line(self.at.get()) })
+    pub fn delete_to_line_end(&mut self) -> Result<bool, Fault> {
+        yes(unsafe { ffi::lodvarn_delete_to_line_end(self.at.get()) })
     }
 
     /// Deletes to the end of the text. False where there is nothing.
@@ -264,8 +249,28 @@ impl Session {
     /// # Errors
     ///
     /// [`Fault::NoMemory`].
+    pub fn delete_to_end(&mut self) -> Result<bool, Fault> {
+        yes(unsafe { ffi::lodvarn_delete_to_end(self.at.get()) })
+    }
+
+    /// What [`delete_to_line_end`](Session::delete_to_line_end) does, which keeps nothing in the ring.
+    ///
+    /// # Errors
+    ///
+    /// [`Fault::NoMemory`].
+    #[deprecated(since = "0.1.0", note = "its name is `delete_to_line_end` now")]
+    pub fn kill_line(&mut self) -> Result<bool, Fault> {
+        self.delete_to_line_end()
+    }
+
+    /// What [`delete_to_end`](Session::delete_to_end) does, which keeps nothing in the ring.
+    ///
+    /// # Errors
+    ///
+    /// [`Fault::NoMemory`].
+    #[deprecated(since = "0.1.0", note = "its name is `delete_to_end` now")]
     pub fn kill_buffer(&mut self) -> Result<bool, Fault> {
-        yes(unsafe { ffi::lodvarn_kill_buffer(self.at.get()) })
+        self.delete_to_end()
     }
 
     /// Deletes back to the start of the cursor's line, or the newline before it, CR LF as one. False where nothing is.
@@ -314,8 +319,8 @@ impl Session {
         yes(unsafe { ffi::lodvarn_delete_to(self.at.get(), number, c, n) })
     }
 
-    /// Exchanges the clusters before and after the cursor, in two changes: call it between `begin` and `end` where one
-    /// undo is to take them back. False where there are not two.
+    /// Exchanges the clusters before and after the cursor, in two changes: call it in a [`group`](Session::group)
+    /// where one undo is to take them back. False where there are not two.
     ///
     /// # Errors
     ///
@@ -344,27 +349,6 @@ impl Session {
         yes(unsafe { ffi::lodvarn_edit_word(self.at.get(), action as u32) })
     }
 
-    /// Deletes what a movement covers. The ring keeps it, except by `BackwardChar` and `ForwardChar`. Consecutive kills
-    /// become one text of the ring. False where there is nothing.
-    ///
-    /// # Errors
-    ///
-    /// [`Fault::NoMemory`].
-    pub fn kill(&mut self, movement: Movement) -> Result<bool, Fault> {
-        let (number, n, c) = movement.numbers();
-        yes(unsafe { ffi::lodvarn_kill(self.at.get(), number, n, c) })
-    }
-
-    /// The text that a movement covers, or `None` where it covers nothing.
-    ///
-    /// # Errors
-    ///
-    /// [`Fault::NoMemory`].
-    pub fn copy(&mut self, movement: Movement) -> Result<Option<String>, Fault> {
-        let ((number, n, c), at) = (movement.numbers(), self.at.get());
-        handed(|out, cap, len| unsafe { ffi::lodvarn_copy(at, number, n, c, out, cap, len) })
-    }
-
     /// Inserts `amount` spaces at the start of each line that a movement covers, in a change or more for each line.
     ///
     /// # Errors
@@ -386,108 +370,25 @@ impl Session {
         yes(unsafe { ffi::lodvarn_indent(self.at.get(), number, n, c, amount, ffi::DEDENT) })
     }
 
-    /// Begins an undo group: once it is closed, one undo takes back all its changes. The number of entries before it.
-    ///
-    /// # Errors
-    ///
-    /// [`Fault::NoMemory`].
-    pub fn begin(&mut self) -> Result<usize, Fault> {
-        let mut mark = 0;
-        match unsafe { ffi::lodvarn_begin(self.at.get(), &mut mark) } {
-            ffi::MARK => Ok(mark),
-            answer => Err(Fault::of(answer)),
-        }
+    /// Lets the text grow to so many bytes, [`NO_LIMIT`] for any number. Where the text is longer already, its length
+    /// is the limit. Nothing else changes: the room is found once it is needed.
+    pub fn set_limit(&mut self, limit: usize) {
+        let answer = unsafe { ffi::lodvarn_set_limit(self.at.get(), limit) };
+        debug_assert_eq!(answer, ffi::DONE);
     }
 
-    /// Closes all open groups. False where they have no change, or none is open.
-    ///
-    /// # Errors
-    ///
-    /// [`Fault::NoMemory`].
-    pub fn end(&mut self) -> Result<bool, Fault> {
-        yes(unsafe { ffi::lodvarn_end(self.at.get()) })
+    /// Says at which column the prompt ends, so that [`Movement::LineUp`] and [`Movement::LineDown`] keep to the column
+    /// of the screen where they come to the first line or leave it. It is 0 at first.
+    pub fn set_prompt(&mut self, column: u16) {
+        let answer = unsafe { ffi::lodvarn_set_prompt(self.at.get(), column) };
+        debug_assert_eq!(answer, ffi::DONE);
     }
 
-    /// Undoes the last n changes and groups, one where n is 0, all where there are fewer. False where there was no
-    /// change.
-    ///
-    /// # Errors
-    ///
-    /// [`Fault::NoMemory`].
-    pub fn undo(&mut self, n: u16) -> Result<bool, Fault> {
-        yes(unsafe { ffi::lodvarn_undo(self.at.get(), n) })
-    }
-
-    /// Redoes what was undone last, one change or group. False where there is none.
-    ///
-    /// # Errors
-    ///
-    /// [`Fault::NoMemory`].
-    pub fn redo(&mut self) -> Result<bool, Fault> {
-        yes(unsafe { ffi::lodvarn_redo(self.at.get()) })
-    }
-
-    /// Keeps the first `entries` entries of the record, and forgets the others and what was undone.
-    ///
-    /// # Errors
-    ///
-    /// [`Fault::NotReplaying`] where they do not lead to the present text; [`Fault::NoMemory`].
-    pub fn truncate(&mut self, entries: usize) -> Result<(), Fault> {
-        done(unsafe { ffi::lodvarn_truncate(self.at.get(), entries) })
-    }
-
-    /// The number of the cursor's line, and the width of that line before the cursor, at most 65535. This is a command:
-    /// a kill after it begins a new text of the ring.
+    /// What [`line_column`](Session::line_column) answers, by a command: a kill after it begins a new text of the ring.
     pub fn line_place(&mut self) -> (usize, u16) {
         let (mut line, mut column) = (0, 0);
         let answer = unsafe { ffi::lodvarn_line_place(self.at.get(), &mut line, &mut column) };
         debug_assert_eq!(answer, ffi::AT);
         (line, column)
-    }
-
-    /// The text.
-    pub fn text(&self) -> String {
-        let at = self.at.get();
-        let nothing = NonNull::dangling().as_ptr();
-        let mut out = vec![0; unsafe { ffi::lodvarn_text(at, nothing, 0) }];
-        unsafe { ffi::lodvarn_text(at, out.as_mut_ptr(), out.len()) };
-        string(out)
-    }
-
-    /// The place of the cursor, in bytes.
-    pub fn pos(&self) -> usize {
-        unsafe { ffi::lodvarn_pos(self.at.get()) }
-    }
-
-    /// The number of the cursor's line, from 0.
-    pub fn line_number(&self) -> usize {
-        unsafe { ffi::lodvarn_line_number(self.at.get()) }
-    }
-
-    /// How many lines the text has.
-    pub fn line_count(&self) -> usize {
-        unsafe { ffi::lodvarn_line_count(self.at.get()) }
-    }
-
-    /// The range of a line, without its newline, or `None` where there is no such line.
-    pub fn line_range(&self, line: usize) -> Option<Range<usize>> {
-        let (mut start, mut end) = (0, 0);
-        let answer = unsafe { ffi::lodvarn_line_range(self.at.get(), line, &mut start, &mut end) };
-        (answer == ffi::DONE).then_some(start..end)
-    }
-
-    /// How many bytes the text may have.
-    pub fn limit(&self) -> usize {
-        unsafe { ffi::lodvarn_limit(self.at.get()) }
-    }
-
-    /// How many entries the record has.
-    pub fn entries(&self) -> usize {
-        unsafe { ffi::lodvarn_entries(self.at.get()) }
-    }
-
-    /// Whether the last command was a `yank` or `yank_pop` and answered `Some`. A yank with n = 0 counts.
-    pub fn last_was_yank(&self) -> bool {
-        unsafe { ffi::lodvarn_last_was_yank(self.at.get()) == ffi::TRUE }
     }
 }

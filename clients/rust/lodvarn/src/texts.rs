@@ -1,6 +1,6 @@
 //! The calls without a session.
-use crate::ffi;
 use crate::words::{Fault, Mode};
+use crate::{done, ffi};
 use std::num::NonZeroU16;
 
 /// What a script prints, run in a session of its own.
@@ -47,7 +47,8 @@ pub fn last_cluster(text: &str) -> &str {
 }
 
 /// The row and column of a place of a text on a screen with `columns` columns, where the text begins at the column
-/// `prompt` of row 0.
+/// `prompt` of row 0. A tab leads to the next column of its row that is a multiple of `tab`, or to the right edge where
+/// that is nearer; where `tab` is 0 it is as wide as [`width`] tells.
 ///
 /// # Errors
 ///
@@ -57,6 +58,7 @@ pub fn cell(
     place: usize,
     prompt: u16,
     columns: NonZeroU16,
+    tab: u16,
     mode: Mode,
 ) -> Result<(usize, usize), Fault> {
     let (mut row, mut column) = (0, 0);
@@ -67,13 +69,60 @@ pub fn cell(
             place,
             prompt,
             columns.get(),
+            tab,
             mode as u32,
             &mut row,
             &mut column,
         )
     };
-    match answer {
-        ffi::DONE => Ok((row, column)),
-        answer => Err(Fault::of(answer)),
-    }
+    done(answer).map(|()| (row, column))
+}
+
+/// The place of a text that is shown at a row and a column of a screen, as of a click of the mouse: the last place
+/// between two clusters whose [`cell`] is not after that one, by rows and then by columns. 0 where there is none.
+/// `prompt`, `columns`, `tab` and `mode` are those of [`cell`].
+///
+/// ```
+/// # use lodvarn::{cell, place_at, Fault, Mode};
+/// # use std::num::NonZeroU16;
+/// # fn main() -> Result<(), Fault> {
+/// let columns = NonZeroU16::new(80).expect("80 is not 0");
+/// assert_eq!(cell("one\ntwo", 6, 2, columns, 8, Mode::Unicode)?, (1, 2));
+/// assert_eq!(place_at("one\ntwo", 1, 2, 2, columns, 8, Mode::Unicode), 6);
+/// assert_eq!(place_at("one\ntwo", 0, 70, 2, columns, 8, Mode::Unicode), 3);
+/// # Ok(())
+/// # }
+/// ```
+pub fn place_at(
+    text: &str,
+    row: usize,
+    column: usize,
+    prompt: u16,
+    columns: NonZeroU16,
+    tab: u16,
+    mode: Mode,
+) -> usize {
+    let mut place = 0;
+    let answer = unsafe {
+        ffi::lodvarn_place_at(
+            text.as_ptr(),
+            text.len(),
+            row,
+            column,
+            prompt,
+            columns.get(),
+            tab,
+            mode as u32,
+            &mut place,
+        )
+    };
+    debug_assert_eq!(answer, ffi::DONE);
+    place
+}
+
+/// The version of the library that is linked, as [`VERSION`](crate::VERSION) has that of this crate: opening a session
+/// panics where they are not the same.
+pub fn version() -> String {
+    let number = unsafe { ffi::lodvarn_version() };
+    format!("{}.{}.{}", number >> 16, number >> 8 & 255, number & 255)
 }

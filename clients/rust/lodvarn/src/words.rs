@@ -114,6 +114,9 @@ pub enum Movement {
     BeginningOfBuffer,
     /// To the end of the text.
     EndOfBuffer,
+    /// To the first character of the cursor's line that is no blank, or to the end of the line where there is none: on
+    /// either side of the cursor. A kill takes what stands between.
+    FirstNonBlank,
 }
 
 impl Movement {
@@ -150,6 +153,7 @@ impl Movement {
             Movement::WholeBuffer => ffi::WHOLE_BUFFER,
             Movement::BeginningOfBuffer => ffi::BEGINNING_OF_BUFFER,
             Movement::EndOfBuffer => ffi::END_OF_BUFFER,
+            Movement::FirstNonBlank => ffi::FIRST_NONBLANK,
         }
     }
 
@@ -211,14 +215,46 @@ impl ReportKind {
     }
 }
 
-/// On which side of the cursor a text was taken out.
+/// On which side of the cursor a text is taken out.
 #[derive(Clone, Copy, Debug, Default, PartialEq, Eq, Hash)]
+#[repr(u32)]
 pub enum Direction {
-    /// From the cursor on.
+    /// From the cursor on. The ring puts it after what the kill before it took.
     #[default]
-    Forward,
-    /// Up to the cursor.
-    Backward,
+    Forward = ffi::KILL_FORWARD,
+    /// Up to the cursor. The ring puts it before what the kill before it took.
+    Backward = ffi::KILL_BACKWARD,
+}
+
+/// How much of the past a record may have, as [`Session::set_bound`](crate::Session::set_bound) says. A number that is
+/// [`NONE`](Bound::NONE)'s bounds nothing.
+///
+/// ```
+/// # use lodvarn::Bound;
+/// let bound = Bound { entries: 1000, ..Bound::NONE };
+/// # assert_eq!(bound.bytes, usize::MAX);
+/// ```
+#[derive(Clone, Copy, Debug, PartialEq, Eq, Hash)]
+pub struct Bound {
+    /// How many entries: changes, and the marks where groups begin and end.
+    pub entries: usize,
+    /// How many bytes of texts, of what went and of what came.
+    pub bytes: usize,
+}
+
+impl Bound {
+    /// No bound: nothing is forgotten.
+    pub const NONE: Bound = Bound {
+        entries: ffi::NO_BOUND,
+        bytes: ffi::NO_BOUND,
+    };
+}
+
+impl Default for Bound {
+    /// [`NONE`](Bound::NONE).
+    fn default() -> Self {
+        Bound::NONE
+    }
 }
 
 /// Why a call was refused. Text, cursor and record are as they were, except where an edit of several steps ran out of

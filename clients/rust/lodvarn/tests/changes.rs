@@ -1,8 +1,11 @@
 //! What sessions tell of their changes, with answers that were worked out by hand, and mirrors of random sessions.
 use lodvarn::{
-    Action, At, ChangeListener, DeleteListener, Direction, Fault, Movement, Report, ReportKind,
-    Search, Session, Splice, Untold, Word,
+    ChangeListener, DeleteListener, Direction, Fault, Movement, Report, ReportKind, Session,
+    Splice, Untold, Word,
 };
+use random::{command, Random};
+
+mod random;
 
 const WORD_BACK: Movement = Movement::BackwardWord(1, Word::Emacs);
 
@@ -185,11 +188,21 @@ fn each_change_is_reported() {
                 mark(KillStopped),
             ],
         ),
+        (
+            "ab\ncd",
+            0,
+            |s| s.kill_range(1..3, Direction::Backward).map(drop),
+            vec![
+                mark(KillStarted),
+                report(DeletedBackward, 1, "b\n", "", (0, 1)),
+                mark(KillStopped),
+            ],
+        ),
         // neither is a text of the ring
         (
             "ab\ncd",
             1,
-            |s| s.kill_line().map(drop),
+            |s| s.delete_to_line_end().map(drop),
             vec![report(DeletedForward, 1, "b", "", (1, 1))],
         ),
         (
@@ -203,6 +216,7 @@ fn each_change_is_reported() {
         ("ab", 2, |s| s.redo().map(drop), vec![]),
         ("ab", 2, |s| s.begin().map(drop), vec![]),
         ("ab", 2, |s| s.set_pos(0), vec![]),
+        ("ab", 2, |s| s.keep("c"), vec![]),
     ];
     for (row, (text, pos, command, wanted)) in rows.into_iter().enumerate() {
         let mut session = watched(text, pos, 10, 100);
@@ -450,135 +464,6 @@ fn a_run_of_kills_goes_on_over_what_is_told() -> Result<(), Fault> {
     s.changed();
     assert!(s.last_was_yank());
     Ok(())
-}
-
-/// Numbers at random, by a linear congruential generator.
-#[derive(Clone)]
-struct Random(u64);
-
-impl Random {
-    /// A number below n.
-    fn below(&mut self, n: usize) -> usize {
-        self.0 = self
-            .0
-            .wrapping_mul(6364136223846793005)
-            .wrapping_add(1442695040888963407);
-        (self.0 >> 33) as usize % n
-    }
-
-    fn one<T: std::marker::Copy>(&mut self, of: &[T]) -> T {
-        of[self.below(of.len())]
-    }
-
-    fn count(&mut self) -> u16 {
-        self.one(&[0, 1, 1, 1, 2, 3])
-    }
-
-    fn letter(&mut self) -> char {
-        self.one(&[
-            'a', 'B', '7', ' ', ' ', '\n', '-', 'é', '漢', '\u{301}', '🚀',
-        ])
-    }
-
-    fn text(&mut self) -> String {
-        let len = self.below(16);
-        (0..len).map(|_| self.letter()).collect()
-    }
-
-    /// A place of a text; at times one that is inside a character or past the end.
-    fn place(&mut self, text: &str) -> usize {
-        let place = self.below(text.len() + 1);
-        if self.below(20) == 0 {
-            return place + self.below(3);
-        }
-        (place..)
-            .find(|it| text.is_char_boundary(*it))
-            .expect("the end is a boundary")
-    }
-
-    fn places(&mut self, text: &str) -> std::ops::Range<usize> {
-        let (one, other) = (self.place(text), self.place(text));
-        one.min(other)..one.max(other)
-    }
-
-    fn word(&mut self) -> Word {
-        self.one(&[Word::Big, Word::Emacs, Word::Vi])
-    }
-
-    fn at(&mut self) -> At {
-        self.one(&[At::Start, At::BeforeEnd, At::AfterEnd])
-    }
-
-    fn search(&mut self) -> Search {
-        let c = self.letter();
-        self.one(&[
-            Search::Forward(c),
-            Search::ForwardBefore(c),
-            Search::Backward(c),
-            Search::BackwardAfter(c),
-        ])
-    }
-
-    fn movement(&mut self) -> Movement {
-        let (n, word, at, search) = (self.count(), self.word(), self.at(), self.search());
-        self.one(&[
-            Movement::WholeLine,
-            Movement::BeginningOfLine,
-            Movement::EndOfLine,
-            Movement::BackwardWord(n, word),
-            Movement::BackwardWord(n, word),
-            Movement::ForwardWord(n, at, word),
-            Movement::ForwardWord(n, at, word),
-            Movement::Search(n, search),
-            Movement::FirstPrint,
-            Movement::BackwardChar(n),
-            Movement::ForwardChar(n),
-            Movement::LineUp(n),
-            Movement::LineDown(n),
-            Movement::BeginningOfBuffer,
-            Movement::EndOfBuffer,
-        ])
-    }
-}
-
-/// Gives a session a command at random.
-fn command(s: &mut Session, random: &mut Random) -> Result<(), Fault> {
-    let (n, text) = (random.count(), s.text());
-    match random.below(40) {
-        0..=4 => s.insert(random.letter(), n).map(drop),
-        5..=8 => s.paste(&random.text(), n).map(drop),
-        9..=12 => s.kill(random.movement()).map(drop),
-        13..=14 => s.yank(n).map(drop),
-        15 => s.yank(1).and_then(|_| s.yank_pop()).map(drop),
-        16..=18 => s.undo(n).map(drop),
-        19..=20 => s.redo().map(drop),
-        21 => s.replace(random.places(&text), &random.text()),
-        22 if random.below(4) == 0 => s.restart(&random.text(), 0),
-        22 => s.update(&random.text(), 0),
-        23 => s.insert_str(random.place(&text), &random.text()).map(drop),
-        24 => s.delete_range(random.places(&text)),
-        25 => s.delete(n).map(drop),
-        26 => s.backspace(n).map(drop),
-        27 => s.delete_prev_word(random.word(), n).map(drop),
-        28 => s.delete_word(random.at(), random.word(), n).map(drop),
-        29 => s.delete_to(random.search(), n).map(drop),
-        30 => s.transpose_chars().map(drop),
-        31 => s.transpose_words(n).map(drop),
-        32 => {
-            let actions = [Action::Capitalize, Action::Lowercase, Action::Uppercase];
-            s.edit_word(random.one(&actions)).map(drop)
-        }
-        33 => s.indent(random.movement(), 2).map(drop),
-        34 => s.dedent(random.movement(), 2).map(drop),
-        35 => s.begin().map(drop),
-        36 => s.end().map(drop),
-        37 => s.kill_line().and_then(|_| s.discard_line()).map(drop),
-        38 => s.set_pos(random.place(&text)),
-        _ => {
-            s.move_by(random.movement());
-            Ok(())
-        }
-    }
 }
 
 /// Brings a copy of the text up to date by reports. Of a folded one it takes what came from the present text.

@@ -1,9 +1,8 @@
 //! Scripts of sessions in Rust, with answers that were worked out by hand.
 use lodvarn::{
-    cell, first_cluster, last_cluster, run_script, width, Action, At, Fault, Mode, Movement,
-    Search, Session, Word,
+    first_cluster, last_cluster, run_script, version, width, Action, At, Fault, Mode, Movement,
+    Search, Session, Word, NO_LIMIT, VERSION,
 };
-use std::num::NonZeroU16;
 
 const FAMILY: &str = "\u{1f468}\u{200d}\u{1f469}\u{200d}\u{1f467}";
 
@@ -28,11 +27,13 @@ fn a_session_is_as_it_was_built() -> Result<(), Fault> {
         (Session::builder().pos(0).text(rocket), 0, 4096, 0, rocket),
         (short.clone(), 11, 12, 2, ""),
         (short.mode(Mode::WcWidth), 11, 12, 4, ""),
+        (Session::builder().no_limit(), 0, NO_LIMIT, 0, ""),
+        (Session::builder().text("ab").limit(1), 2, 2, 2, "ab"),
     ];
     for (built, pos, limit, column, yanked) in rows {
         let mut session = built.open()?;
         assert_eq!((session.pos(), session.limit()), (pos, limit), "{built:?}");
-        assert_eq!(session.line_place(), (0, column), "{built:?}");
+        assert_eq!(session.line_column(), (0, column), "{built:?}");
         session.kill(Movement::WholeLine)?;
         session.yank(1)?;
         assert_eq!(session.text(), yanked, "{built:?}");
@@ -51,6 +52,27 @@ fn a_session_begins_anew() -> Result<(), Fault> {
     session.yank(1)?;
     stands(&session, "ntwoé", 4);
     Ok(())
+}
+
+#[test]
+#[allow(deprecated)]
+fn old_names_do_what_they_did() -> Result<(), Fault> {
+    let mut session = opened("ab\ncd", 1);
+    assert_eq!(session.kill_line(), Ok(true));
+    stands(&session, "a\ncd", 1);
+    assert_eq!(session.kill_buffer(), Ok(true));
+    stands(&session, "a", 1);
+    assert_eq!(
+        (session.kill_line(), session.kill_buffer()),
+        (Ok(false), Ok(false))
+    );
+    assert_eq!(session.ring_len(), 0);
+    Ok(())
+}
+
+#[test]
+fn the_library_is_of_the_version_of_the_crate() {
+    assert_eq!(version(), VERSION);
 }
 
 #[test]
@@ -76,6 +98,48 @@ fn an_insertion_has_to_fit() {
     stands(&session, "abc", 3);
     assert_eq!(session.insert_str(0, "more"), Ok(false));
     assert_eq!(session.limit(), 7);
+}
+
+#[test]
+fn a_limit_may_change() -> Result<(), Fault> {
+    let mut session = Session::builder().text("ab").limit(3).open()?;
+    assert_eq!(session.insert('é', 1), Ok(None));
+    session.set_limit(4);
+    assert_eq!(session.insert('é', 1), Ok(Some(true)));
+    // the text is as long as it is
+    session.set_limit(1);
+    assert_eq!((session.limit(), session.insert('c', 1)), (4, Ok(None)));
+    session.set_limit(NO_LIMIT);
+    assert_eq!(session.limit(), usize::MAX);
+    assert_eq!(session.paste("é", u16::MAX), Ok(Some(true)));
+    assert_eq!(session.pos(), 4 + 2 * 65535);
+    assert_eq!(session.undo(9), Ok(true));
+    stands(&session, "ab", 2);
+    Ok(())
+}
+
+#[test]
+fn lines_keep_to_the_column_after_a_prompt() -> Result<(), Fault> {
+    // The column where the prompt ends, where the cursor is in "ab\nabcd", the movement, and where that goes.
+    let rows = [
+        (0, 6, Movement::LineUp(1), 2),
+        (2, 6, Movement::LineUp(1), 1),
+        (9, 6, Movement::LineUp(1), 0),
+        (0, 1, Movement::LineDown(1), 4),
+        (2, 1, Movement::LineDown(1), 6),
+        (9, 1, Movement::LineDown(1), 7),
+    ];
+    for (prompt, pos, movement, goes) in rows {
+        let built = Session::builder().text("ab\nabcd").pos(pos);
+        let mut told = built.open()?;
+        told.set_prompt(prompt);
+        for mut session in [told, built.prompt(prompt).open()?] {
+            assert_eq!(session.destination(movement), Some(goes), "{prompt}");
+            assert!(session.move_by(movement));
+            assert_eq!(session.pos(), goes, "{prompt}");
+        }
+    }
+    Ok(())
 }
 
 #[test]
@@ -118,8 +182,8 @@ fn every_command_does_something() -> Result<(), Fault> {
     s.delete_range(5..6)?;
     assert_eq!(s.delete(1)?.as_deref(), Some("t"));
     s.set_pos(3)?;
-    assert!(s.kill_line()?);
-    assert!(s.kill_buffer()?);
+    assert!(s.delete_to_line_end()?);
+    assert!(s.delete_to_end()?);
     assert!(s.discard_line()?);
     assert!(s.discard_buffer()?);
     stands(&s, "", 0);
@@ -199,9 +263,15 @@ fn movements_move() {
             Some(1),
         ),
         ("abcbe", 4, Movement::Search(1, Search::Forward('x')), None),
+        ("x\n \u{3000}ab\ny", 2, Movement::FirstNonBlank, Some(6)),
+        ("x\n \u{3000}ab\ny", 8, Movement::FirstNonBlank, Some(6)),
+        ("x\n \u{3000}ab\ny", 6, Movement::FirstNonBlank, None),
+        ("\t \nx", 1, Movement::FirstNonBlank, Some(2)),
+        ("", 0, Movement::FirstNonBlank, None),
     ];
     for (text, pos, movement, goes) in rows {
         let mut session = opened(text, pos);
+        assert_eq!(session.destination(movement), goes, "{movement:?}");
         assert_eq!(session.move_by(movement), goes.is_some(), "{movement:?}");
         assert_eq!(
             session.pos(),
@@ -226,26 +296,6 @@ fn kills_come_back() {
 }
 
 #[test]
-fn a_group_is_undone_at_once() {
-    let mut session = opened("one two", 0);
-    assert_eq!(session.begin(), Ok(0));
-    assert_eq!(session.edit_word(Action::Capitalize), Ok(true));
-    assert_eq!(session.end(), Ok(true));
-    assert_eq!(session.entries(), 4);
-    stands(&session, "One two", 3);
-    assert_eq!(session.undo(1), Ok(true));
-    stands(&session, "one two", 0);
-}
-
-#[test]
-fn lines_are_read() {
-    let session = opened("ab\n\ncd", 3);
-    assert_eq!((session.line_number(), session.line_count()), (1, 3));
-    let ranges: Vec<_> = (0..4).map(|it| session.line_range(it)).collect();
-    assert_eq!(ranges, [Some(0..2), Some(3..3), Some(4..6), None]);
-}
-
-#[test]
 fn long_texts_are_handed_out() {
     let text = "\0é漢".repeat(1000);
     let mut session = opened(&text, 0);
@@ -265,9 +315,9 @@ fn a_limit_takes_no_memory() {
 
 #[test]
 fn what_is_refused_says_why_and_changes_nothing() {
-    for (text, pos, fault) in [("é", 1, Fault::BadPlace), ("é", 3, Fault::BadPlace)] {
-        let opened = Session::builder().text(text).pos(pos).open();
-        assert_eq!(opened.map(drop), Err(fault), "{text:?} at {pos}");
+    for pos in [1, 3] {
+        let opened = Session::builder().text("é").pos(pos).open();
+        assert_eq!(opened.map(drop), Err(Fault::BadPlace), "at {pos}");
     }
     let mut session = opened("aé", 3);
     assert_eq!(session.set_pos(2), Err(Fault::BadPlace));
@@ -311,26 +361,6 @@ fn widths_and_clusters_are_found() {
     ] {
         assert_eq!((first_cluster(text), last_cluster(text)), (first, last));
     }
-}
-
-#[test]
-fn cells_are_placed() {
-    for (text, place, prompt, columns, wanted) in [
-        ("", 0, 2, 10, (0, 2)),
-        ("ab\ncd", 5, 2, 10, (1, 2)),
-        ("abc漢", 6, 0, 4, (1, 2)),
-        ("abcd", 4, 0, 4, (1, 0)),
-        (FAMILY, 18, 2, 10, (0, 4)),
-    ] {
-        let columns = NonZeroU16::new(columns).expect("some columns");
-        let placed = cell(text, place, prompt, columns, Mode::Unicode);
-        assert_eq!(placed, Ok(wanted), "{text:?}");
-    }
-    let columns = NonZeroU16::new(1).expect("a column");
-    assert_eq!(
-        cell("é", 1, 0, columns, Mode::Unicode),
-        Err(Fault::BadPlace)
-    );
 }
 
 #[test]

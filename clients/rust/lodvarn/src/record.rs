@@ -1,0 +1,188 @@
+//! Undo, redo, and groups of changes.
+use crate::words::{Bound, Fault};
+use crate::{done, ffi, yes, Session};
+use std::ops::{Deref, DerefMut};
+
+/// An open undo group, from [`Session::group`]. It is the session meanwhile, and closes the group where it is dropped.
+/// Groups that were begun in it and are still open are closed with it. Where the group is not open any more, as after
+/// an [`end`](Session::end) or an undo of its begin, nothing is closed.
+#[derive(Debug)]
+#[must_use = "the group is closed where this is dropped"]
+pub struct Group<'s> {
+    session: &'s mut Session,
+    // How many groups are open around it.
+    around: usize,
+}
+
+impl Group<'_> {
+    /// Closes the group. Whether it has a change.
+    ///
+    /// # Errors
+    ///
+    /// [`Fault::NoMemory`]; the group may stay open, where a drop would leave it so without a word.
+    pub fn close(mut self) -> Result<bool, Fault> {
+        self.close_open()
+    }
+
+    fn close_open(&mut self) -> Result<bool, Fault> {
+        let mut has_change = false;
+        for _ in self.around..self.level() {
+            has_change = self.end_one()?;
+        }
+        Ok(has_change)
+    }
+}
+
+impl Deref for Group<'_> {
+    type Target = Session;
+
+    fn deref(&self) -> &Session {
+        self.session
+    }
+}
+
+impl DerefMut for Group<'_> {
+    fn deref_mut(&mut self) -> &mut Session {
+        self.session
+    }
+}
+
+impl Drop for Group<'_> {
+    fn drop(&mut self) {
+        // A drop has no one to tell that memory is refused.
+        let _ = self.close_open();
+    }
+}
+
+impl Session {
+    /// Begins an undo group, which is closed where the guard is dropped: then one undo takes back all its changes. The
+    /// guard takes all calls of the session, also this one, for a group in the group.
+    ///
+    /// ```
+    /// # use lodvarn::{Fault, Session};
+    /// # fn main() -> Result<(), Fault> {
+    /// let mut session = Session::builder().text("one two").open()?;
+    /// {
+    ///     let mut group = session.group()?;
+    ///     group.transpose_words(1)?;
+    ///     group.insert('!', 1)?;
+    /// }
+    /// assert_eq!(session.text(), "two one!");
+    /// session.undo(1)?;
+    /// assert_eq!(session.text(), "one two");
+    /// # Ok(())
+    /// # }
+    /// ```
+    ///
+    /// # Errors
+    ///
+    /// [`Fault::NoMemory`]; no group is begun.
+    pub fn group(&mut self) -> Result<Group<'_>, Fault> {
+        let around = self.level();
+        self.begin()?;
+        let session = self;
+        Ok(Group { session, around })
+    }
+
+    /// Begins an undo group: once it is closed, one undo takes back all its changes. The number of entries before it.
+    ///
+    /// # Errors
+    ///
+    /// [`Fault::NoMemory`].
+    pub fn begin(&mut self) -> Result<usize, Fault> {
+        let mut mark = 0;
+        match unsafe { ffi::lodvarn_begin(self.at.get(), &mut mark) } {
+            ffi::MARK => Ok(mark),
+            answer => Err(Fault::of(answer)),
+        }
+    }
+
+    /// Closes all open groups. False where they have no change, or none is open.
+    ///
+    /// # Errors
+    ///
+    /// [`Fault::NoMemory`].
+    pub fn end(&mut self) -> Result<bool, Fault> {
+        yes(unsafe { ffi::lodvarn_end(self.at.get()) })
+    }
+
+    /// Closes the innermost group. False where it has no change, or none is open.
+    ///
+    /// # Errors
+    ///
+    /// [`Fault::NoMemory`]; the group stays open.
+    pub fn end_one(&mut self) -> Result<bool, Fault> {
+        yes(unsafe { ffi::lodvarn_end_one(self.at.get()) })
+    }
+
+    /// How many groups are open.
+    pub fn level(&self) -> usize {
+        unsafe { ffi::lodvarn_level(self.at.get()) }
+    }
+
+    /// Undoes the last n changes and groups, one where n is 0, all where there are fewer. False where there was no
+    /// change.
+    ///
+    /// # Errors
+    ///
+    /// [`Fault::NoMemory`].
+    pub fn undo(&mut self, n: u16) -> Result<bool, Fault> {
+        yes(unsafe { ffi::lodvarn_undo(self.at.get(), n) })
+    }
+
+    /// Redoes what was undone last, one change or group. False where there is none.
+    ///
+    /// # Errors
+    ///
+    /// [`Fault::NoMemory`].
+    pub fn redo(&mut self) -> Result<bool, Fault> {
+        yes(unsafe { ffi::lodvarn_redo(self.at.get()) })
+    }
+
+    /// Whether an undo would find a change.
+    pub fn can_undo(&self) -> bool {
+        unsafe { ffi::lodvarn_can_undo(self.at.get()) == ffi::TRUE }
+    }
+
+    /// Whether a redo would find a change.
+    pub fn can_redo(&self) -> bool {
+        unsafe { ffi::lodvarn_can_redo(self.at.get()) == ffi::TRUE }
+    }
+
+    /// How many entries the record has: changes, and the marks where groups begin and end.
+    pub fn entries(&self) -> usize {
+        unsafe { ffi::lodvarn_entries(self.at.get()) }
+    }
+
+    /// Keeps the first `entries` entries of the record, and forgets the others and what was undone.
+    ///
+    /// # Errors
+    ///
+    /// [`Fault::NotReplaying`] where they do not lead to the present text; [`Fault::NoMemory`].
+    pub fn truncate(&mut self, entries: usize) -> Result<(), Fault> {
+        done(unsafe { ffi::lodvarn_truncate(self.at.get(), entries) })
+    }
+
+    /// Bounds the record. The oldest changes and groups beyond the bound are forgotten at once, and after each later
+    /// call, so that a session that goes on for long takes no more and more memory. An undo does not go back over them.
+    /// A group that is open stays, with all that comes after its begin, and so does what was undone.
+    ///
+    /// ```
+    /// # use lodvarn::{Bound, Fault, Session};
+    /// # fn main() -> Result<(), Fault> {
+    /// let mut session = Session::builder().open()?;
+    /// session.set_bound(Bound { entries: 2, ..Bound::NONE });
+    /// for text in ["one", " two", " three"] {
+    ///     session.paste(text, 1)?;
+    /// }
+    /// session.undo(3)?;
+    /// assert_eq!((session.text().as_str(), session.can_undo()), ("one", false));
+    /// # Ok(())
+    /// # }
+    /// ```
+    pub fn set_bound(&mut self, bound: Bound) {
+        let Bound { entries, bytes } = bound;
+        let answer = unsafe { ffi::lodvarn_set_bound(self.at.get(), entries, bytes) };
+        debug_assert_eq!(answer, ffi::DONE);
+    }
+}
