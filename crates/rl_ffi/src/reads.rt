@@ -10,9 +10,10 @@ ghost use Rattle.rl_ffi.specs.Numbers.{movement_of};
 
 use crate::buffers::{put, write};
 use crate::handle::{Handle, of_session};
-use crate::numbers::{BAD_PLACE, CLOSED, DONE, NONE, truth_number, NO_SUCH_NUMBER, movement_of, AT, TEXT, TOO_SMALL};
-use rl_base::GraphemeClusterMode;
-use rl_base::KillRing;
+use crate::numbers::{
+    AT, BAD_PLACE, CLOSED, DONE, NO_SUCH_NUMBER, NONE, TEXT, TOO_SMALL, movement_of, truth_number,
+};
+use rl_base::{GraphemeClusterMode, KillRing};
 use rl_line::LineBuffer;
 use rl_session::Session;
 use std::alloc::Global;

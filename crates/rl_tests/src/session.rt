@@ -1,7 +1,9 @@
 //! Rows of sessions.
 use crate::script::is_so;
-use rl_base::{At, CharSearch, GraphemeClusterMode, Movement, RepeatCount, Unit, Word, WordAction, Direction};
-use rl_session::{Command, Fault, Reply, Session, Bound};
+use rl_base::{
+    At, CharSearch, Direction, GraphemeClusterMode, Movement, RepeatCount, Unit, Word, WordAction,
+};
+use rl_session::{Bound, Command, Fault, Reply, Session};
 use std::alloc::Global;
 use std::process::Abort;
 use std::test::Fail;
