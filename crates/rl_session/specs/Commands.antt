@@ -7,7 +7,6 @@ use Rattle.std.specs.Str.{IsCharBoundary}
 use Rattle.rl_base.specs.declared.kill_ring.Mode.TheVariants.{Append}
 use Rattle.rl_base.specs.declared.listeners.Refusal.TheVariants as why
 use Rattle.rl_base.specs.KillRing.{reset, yank, yanked, yank_size, yank_pop, yank_popped, Enlarges, killed}
-use Rattle.rl_base.specs.Clusters.{next_pos, prev_pos}
 use Rattle.rl_base.specs.Lines.{line_number}
 use Rattle.rl_base.specs.Event.{Event}
 use Rattle.rl_base.specs.Text.{HasText}

@@ -9,7 +9,6 @@ use Rattle.rl_line.proofs.Records.EndLemmas.{closed_group, end_one-cases, end_on
 use Rattle.rl_line.proofs.Records.MatchLemmas.{Lower-end_one, Lower-end_times, end_one-cons}
 use Rattle.rl_line.proofs.Records.UndoLemmas.{line_back-unwind}
 use Rattle.rl_session.specs.Commands.{Effect, by_steps, puts_begin, Became, effect, Does, readied, with_changes, keeps}
-use Rattle.rl_line.proofs.Records.UnitLemmas.{AllGood, AllGood-reverse, Gathers, Gathers-more, Gathers-nil, Settles-group, cut_more-append, on, opens-reverse, together-reverse, together-units, units-good}
 use Rattle.rl_session.specs.History.{AllStandInGroup, Holds, MayStandInGroup, WasRefused}
 use Rattle.rl_session.specs.Run.{Leads, Row, Run, held, held_of, steps_in}
 use Rattle.rl_session.specs.State.{Begins, State, with_ring}

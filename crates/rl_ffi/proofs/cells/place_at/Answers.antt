@@ -1,9 +1,9 @@
-use Rattle.std.proofs.Common.{rules, arith, Bool, ◌≡◌, ◌+◌, ◌≤◌, List, ℕ, length, ◌∷◌, if◌then◌else◌, length-append, sym, ap, ◌∙◌}
+use Rattle.std.proofs.Common.{rules, arith, Bool, ◌≡◌, ◌+◌, ℕ, length, if◌then◌else◌, length-append, sym, ap, ◌∙◌}
 use Rattle.std.specs.List.{concat}
 use Rattle.unicode_segmentation.specs.Iter.{graphemes_left}
 use Rattle.rl_base.specs.Clusters.{bytes_in, clusters}
 use Rattle.rl_base.proofs.Clusters.ClusterLemmas.{bytes_in-clusters}
-use Rattle.rl_ffi.specs.Cells.{after, cells, is_within, last_within, wrapped}
+use Rattle.rl_ffi.specs.Cells.{cells, is_within, last_within, wrapped}
 use Rattle.rl_ffi.proofs.cells.place_at.Goals as goal
 use Rattle.rl_ffi.proofs.cells.place_at.Goals.{then-is_within, else-is_within}
 

@@ -1,6 +1,6 @@
 use Rattle.std.proofs.Common.{◌≡◌, ◌+◌, ◌≤◌, length}
 use Rattle.unicode_segmentation.specs.Iter.{graphemes_left}
-use Rattle.rl_base.specs.Clusters.{bytes_in, clusters}
+use Rattle.rl_base.specs.Clusters.{bytes_in}
 use Rattle.rl_ffi.specs.Cells.{cells, last_within, place_at}
 use Rattle.rl_ffi.proofs.cells.place_at.Given as goal
 
