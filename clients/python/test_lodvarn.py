@@ -1004,6 +1004,10 @@ class OnChange(Case):
         self.assertRaises(KeyError, session.update, "cd")
         self.stands(session, "cd", 2)
         session.on_change = seen.append
+        # A read tells nothing, though a report waits.
+        for name in ("can_undo", "limit", "line_column", "ring", "text"):
+            getattr(session, name)
+        self.assertEqual((session.ring_text(), session.covers(Movement.WHOLE_LINE), seen), (None, (0, 2), []))
         session.set_pos(0)
         self.assertEqual(seen, [report(ReportKind.TEXT_INSERTED, 0, "", "cd", 0, 2)])
 
