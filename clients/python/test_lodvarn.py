@@ -235,6 +235,12 @@ class Editing(Case):
         session.set_bound(3)
         self.assertEqual((session.entries, session.can_undo), (0, False))
         self.stands(session, "---é--.", 8)
+        with session.group():
+            session.paste("12")
+            session.paste("34")
+            session.set_bound(1, 1)
+            self.assertEqual((session.entries, session.can_undo), (3, True))
+        self.assertEqual((session.entries, session.can_undo), (0, False))
 
     def test_searches_go_to_a_character(self):
         session = Session("abcbe", 0)
