@@ -235,6 +235,12 @@ class Editing(Case):
         session.set_bound(3)
         self.assertEqual((session.entries, session.can_undo), (0, False))
         self.stands(session, "---é--.", 8)
+        with session.group():
+            session.paste("12")
+            session.paste("34")
+            session.set_bound(1, 1)
+            self.assertEqual((session.entries, session.can_undo), (3, True))
+        self.assertEqual((session.entries, session.can_undo), (0, False))
 
     def test_searches_go_to_a_character(self):
         session = Session("abcbe", 0)
@@ -1004,6 +1010,10 @@ class OnChange(Case):
         self.assertRaises(KeyError, session.update, "cd")
         self.stands(session, "cd", 2)
         session.on_change = seen.append
+        # A read tells nothing, though a report waits.
+        for name in ("can_undo", "limit", "line_column", "ring", "text"):
+            getattr(session, name)
+        self.assertEqual((session.ring_text(), session.covers(Movement.WHOLE_LINE), seen), (None, (0, 2), []))
         session.set_pos(0)
         self.assertEqual(seen, [report(ReportKind.TEXT_INSERTED, 0, "", "cd", 0, 2)])
 

@@ -543,21 +543,20 @@ class Session:
         finally:
             self._tell()
 
-    def _text_of(self, name: str, *given: Any) -> Optional[str]:
-        """The text that a call hands out, in a larger buffer where it does not fit at once. None where it has none."""
-        out, room, length = self._out, _ROOM, self._length
-        while (answer := _call(name, self._handle, given, (out, room, length))) == _TOO_SMALL:
-            room = length.value
-            out = ctypes.create_string_buffer(room)
-        text: Optional[str] = out[: length.value].decode() if answer == _GIVEN else None
-        return text
+    def _do_for_text(self, name: str, *given: Any, tells: bool = True) -> Optional[str]:
+        """Does a command that hands out a text, which is decoded before on_change is told, as that reads there too.
 
-    def _do_for_text(self, name: str, *given: Any) -> Optional[str]:
-        """Does a command that hands out a text, which is decoded before on_change is told, as that reads there too."""
+        A read does not tell it.
+        """
+        out, room, length = self._out, _ROOM, self._length
         try:
-            return self._text_of(name, *given)
+            while (answer := _call(name, self._handle, given, (out, room, length))) == _TOO_SMALL:
+                room = length.value
+                out = ctypes.create_string_buffer(room)
+            text: Optional[str] = out[: length.value].decode() if answer == _GIVEN else None
+            return text
         finally:
-            if self._on_change is not None:
+            if tells and self._on_change is not None:
                 self._tell()
 
     def _tell(self) -> None:
@@ -1012,7 +1011,7 @@ class Session:
 
     def ring_text(self, back: int = 0) -> Optional[str]:
         """The text so many places back in the ring, where 0 is the one that a yank gives. None where there is none."""
-        return self._text_of("ring_text", back)
+        return self._do_for_text("ring_text", back, tells=False)
 
     @property
     def last_was_yank(self) -> bool:
