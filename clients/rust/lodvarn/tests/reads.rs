@@ -248,7 +248,7 @@ fn see(s: &mut Session, random: &mut Random) -> Result<(), Fault> {
         3 => assert_eq!(s.can_undo(), s.undo(1)?),
         4 => assert_eq!(s.can_redo(), s.redo()?),
         5 => {
-            let texts: Vec<_> = (0..).map_while(|back| s.ring_text(back)).collect();
+            let texts: Vec<_> = (0..99).map_while(|back| s.ring_text(back)).collect();
             assert_eq!(texts.len(), s.ring_len());
             if s.yank(1)?.is_some() {
                 assert!(s.text()[..s.pos()].ends_with(&texts[0]));

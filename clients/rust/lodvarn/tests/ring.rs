@@ -16,7 +16,7 @@ fn stands(session: &Session, text: &str, pos: usize) {
 /// The ring has these texts and no more, the current one first.
 #[track_caller]
 fn keeps(session: &Session, wanted: &[&str]) {
-    let texts: Vec<_> = (0..).map_while(|back| session.ring_text(back)).collect();
+    let texts: Vec<_> = (0..99).map_while(|back| session.ring_text(back)).collect();
     assert_eq!(texts, wanted);
     assert_eq!(session.ring_len(), wanted.len());
     assert_eq!(session.ring_text(usize::MAX), None);

@@ -307,7 +307,8 @@ fn long_texts_are_handed_out() {
 
 #[test]
 fn a_limit_takes_no_memory() {
-    let mut session = Session::builder().text("a").limit(usize::MAX).open().unwrap();
+    let session = Session::builder().text("a").no_limit().open();
+    let mut session = session.expect("a session opens");
     assert_eq!(session.limit(), usize::MAX);
     assert_eq!(session.insert('b', 2), Ok(Some(true)));
     stands(&session, "abb", 3);
