@@ -42,7 +42,7 @@ def name_of(value):
         case ["FORWARD_WORD", at, word]:
             return f"FORWARD_{word}_WORD_{at}"
         case names:
-            return "_".join(names).removeprefix("VI_").replace("NON_BLANK", "NONBLANK")
+            return "_".join(names).removeprefix("VI_").removeprefix("CHAR_").replace("NON_BLANK", "NONBLANK")
 
 
 def in_header(number):
