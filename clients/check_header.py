@@ -20,10 +20,10 @@ TOP = Path(__file__).resolve().parent.parent
 # What a type of an export, or of the client for Rust, takes in C: nothing, one argument, or a pointer and a length.
 IN_C = {
     "Global": [],
-    "&mut Handle<OfSession>": ["lodvarn **"],
-    "&mut Handle<OfLine>": ["lodvarn_line **"],
-    "&mut Handle<OfRecord>": ["lodvarn_record **"],
-    "&mut Handle<OfRing>": ["lodvarn_killring **"],
+    "&mut Handle": ["lodvarn **"],
+    "&mut LineHandle": ["lodvarn_line **"],
+    "&mut RecordHandle": ["lodvarn_record **"],
+    "&mut RingHandle": ["lodvarn_killring **"],
     "&[u8]": ["const char *", "size_t"],
     "&mut [u8]": ["char *", "size_t"],
     "&mut usize": ["size_t *"],
@@ -69,7 +69,8 @@ ARGUMENT = re.compile(r"(.*?[ *])(\w+)$", re.S)
 
 def in_c(kind):
     """What C passes for a type of an export."""
-    kind = " ".join(re.sub(r"&\s*'\w+\s*", "&", kind).split()).replace("& ", "&").replace("crate::handle::", "")
+    kind = " ".join(re.sub(r"&\s*'\w+\s*", "&", kind).split()).replace("& ", "&")
+    kind = re.sub(r"\bcrate::(\w+::)*", "", kind)
     return IN_C.get(kind, [f"({kind}, which C does not pass)"])
 
 

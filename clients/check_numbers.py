@@ -42,7 +42,8 @@ def name_of(value):
         case ["FORWARD_WORD", at, word]:
             return f"FORWARD_{word}_WORD_{at}"
         case names:
-            return "_".join(names).removeprefix("VI_").removeprefix("CHAR_").replace("NON_BLANK", "NONBLANK")
+            name = "_".join(names).removeprefix("VI_").replace("NON_BLANK", "NONBLANK")
+            return name.replace("CHAR_SEARCH_", "SEARCH_")
 
 
 def in_header(number):

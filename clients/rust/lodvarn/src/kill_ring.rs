@@ -34,6 +34,8 @@ pub struct KillRing {
     ring: Ring,
     // The text that was lent last.
     lent: String,
+    // Whether the ring knows of no kill and no yank that was done last. An editor resets it before most keys.
+    is_reset: bool,
 }
 
 impl fmt::Debug for KillRing {
@@ -50,29 +52,35 @@ impl KillRing {
         KillRing {
             ring: answered(Ring::open(size)),
             lent: String::new(),
+            is_reset: true,
         }
     }
 
     /// Says that something else than a kill or a yank was done. So the next kill begins a new text.
     pub fn reset(&mut self) {
-        answered(done(self.ring.reset()));
+        if !self.is_reset {
+            answered(done(self.ring.reset()));
+            self.is_reset = true;
+        }
     }
 
     /// Keeps a text. Right after another kill it joins that one's text.
     pub fn kill(&mut self, text: &str, dir: Mode) {
+        self.is_reset = false;
         answered(done(self.ring.kill(text, dir == Mode::Prepend)));
     }
 
     /// The current text, to be yanked. `None` where the ring is empty.
     pub fn yank(&mut self) -> Option<&String> {
-        let KillRing { ring, lent } = self;
+        self.is_reset = false;
+        let KillRing { ring, lent, .. } = self;
         ring.yank(lent).then_some(&*lent)
     }
 
     /// The text before the current one, which is the current one now, to be put in the place of the one that was yanked;
     /// and how many bytes that one has. `None` where no yank was done last.
     pub fn yank_pop(&mut self) -> Option<(usize, &String)> {
-        let (KillRing { ring, lent }, mut yanked) = (self, 0);
+        let (KillRing { ring, lent, .. }, mut yanked) = (self, 0);
         ring.yank_pop(lent, &mut yanked).then_some((yanked, &*lent))
     }
 
@@ -102,6 +110,7 @@ impl DeleteListener for KillRing {
     }
 
     fn delete(&mut self, _idx: usize, string: &str, dir: Direction) {
+        self.is_reset = false;
         answered(done(self.ring.delete(string, dir)));
     }
 
