@@ -5,7 +5,7 @@ use crate::{done, ffi, string, version, VERSION};
 use std::cell::UnsafeCell;
 use std::mem::{take, MaybeUninit};
 use std::ops::Range;
-use std::ptr::{null_mut, NonNull};
+use std::ptr::null_mut;
 use std::slice::from_raw_parts;
 use std::str::from_utf8;
 
@@ -112,12 +112,15 @@ impl Line {
         Ok(line)
     }
 
-    /// Whether its text is this one.
+    /// Whether its text is this one, as far as there is memory to see it.
     pub(crate) fn has_text(&self, text: &str) -> bool {
-        let (at, nothing) = (self.0.get(), NonNull::dangling().as_ptr());
-        let mut out = vec![0; unsafe { ffi::lodvarn_line_text(at, nothing, 0) }];
-        unsafe { ffi::lodvarn_line_text(at, out.as_mut_ptr(), out.len()) };
-        out == text.as_bytes()
+        let (at, mut out) = (self.0.get(), Vec::new());
+        if out.try_reserve_exact(text.len()).is_err() {
+            return true;
+        }
+        out.resize(text.len(), 0);
+        let len = unsafe { ffi::lodvarn_line_text(at, out.as_mut_ptr(), out.len()) };
+        (len, &*out) == (text.len(), text.as_bytes())
     }
 
     pub(crate) fn pos(&self) -> usize {
