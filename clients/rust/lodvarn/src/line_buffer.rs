@@ -2,20 +2,22 @@
 //!
 //! ```
 //! use lodvarn::keymap::{Movement, Word};
-//! use lodvarn::line_buffer::{LineBuffer, NoListener, MAX_LINE};
+//! use lodvarn::line_buffer::{LineBuffer, MAX_LINE};
 //! use lodvarn::{kill_ring::KillRing, undo::Changeset};
 //!
 //! let mut line = LineBuffer::with_capacity(MAX_LINE);
 //! let (mut changes, mut ring) = (Changeset::new(), KillRing::new(60));
 //! line.yank("one two", 1, &mut changes);
-//! line.kill(&Movement::BackwardWord(1, Word::Emacs), &mut ring);
+//! line.kill(&Movement::BackwardWord(1, Word::Emacs), &mut (&mut changes, &mut ring));
 //! assert_eq!((line.as_str(), line.pos()), ("one ", 4));
-//! line.insert('!', 1, &mut NoListener);
 //! assert_eq!(ring.yank().map(String::as_str), Some("two"));
+//! changes.undo(&mut line, 1);
+//! assert_eq!((line.as_str(), line.pos()), ("one two", 7));
 //! ```
 //!
 //! Calls, arguments and answers are rustyline's. What is private to its crate is public here. What differs:
 //!
+//! - A pair of listeners is a listener: of `(&mut a, &mut b)` the first hears all, and the second of deletions.
 //! - The text's room is no limit. The limit is the number that [`with_capacity`](LineBuffer::with_capacity) takes, and
 //!   no memory is found for it beforehand.
 //! - A listener is told after a step has been made, and of each step in order. One that panics leaves a line that has
@@ -64,6 +66,38 @@ impl ChangeListener for NoListener {
     fn insert_str(&mut self, _idx: usize, _string: &str) {}
 
     fn replace(&mut self, _idx: usize, _old: &str, _new: &str) {}
+}
+
+// Two listeners as one. The first hears all, as a record must; the second of deletions and kills, as a ring wants to.
+impl<C: DeleteListener + ?Sized, D: DeleteListener + ?Sized> DeleteListener for (&mut C, &mut D) {
+    fn start_killing(&mut self) {
+        self.0.start_killing();
+        self.1.start_killing();
+    }
+
+    fn delete(&mut self, idx: usize, string: &str, dir: Direction) {
+        self.0.delete(idx, string, dir);
+        self.1.delete(idx, string, dir);
+    }
+
+    fn stop_killing(&mut self) {
+        self.0.stop_killing();
+        self.1.stop_killing();
+    }
+}
+
+impl<C: ChangeListener + ?Sized, D: DeleteListener + ?Sized> ChangeListener for (&mut C, &mut D) {
+    fn insert_char(&mut self, idx: usize, c: char) {
+        self.0.insert_char(idx, c);
+    }
+
+    fn insert_str(&mut self, idx: usize, string: &str) {
+        self.0.insert_str(idx, string);
+    }
+
+    fn replace(&mut self, idx: usize, old: &str, new: &str) {
+        self.0.replace(idx, old, new);
+    }
 }
 
 /// What hears of deletions alone, as a listener of an edit that only deletes.

@@ -1,6 +1,6 @@
 //! The interface of rustyline's own files, with answers that were worked out by hand, and a line beside its listeners
 //! over edits at random.
-use heard::{line_of, panic_of, shown, Fails, Heard, Pair};
+use heard::{line_of, panic_of, shown, Fails, Heard};
 use lodvarn::keymap::{At, CharSearch, Movement, Word};
 use lodvarn::kill_ring::{KillRing, Mode};
 use lodvarn::layout::{GraphemeClusterMode, Layout, Position};
@@ -318,7 +318,8 @@ fn a_record_of_another_line_is_refused() {
 #[test]
 fn kills_are_yanked() {
     let mut line = line_of("one two three|");
-    let mut pair = Pair(Changeset::new(), KillRing::new(2));
+    let (mut changes, mut ring) = (Changeset::new(), KillRing::new(2));
+    let mut pair = (&mut changes, &mut ring);
     let word = Movement::BackwardWord(1, Word::Emacs);
     assert!(line.kill(&word, &mut pair) && line.kill(&word, &mut pair));
     pair.1.reset();

@@ -1,9 +1,7 @@
 //! Listeners, and lines that show their cursor.
-use lodvarn::kill_ring::KillRing;
 use lodvarn::line_buffer::{
     ChangeListener, DeleteListener, Direction, LineBuffer, NoListener, MAX_LINE,
 };
-use lodvarn::undo::Changeset;
 use std::panic::{catch_unwind, AssertUnwindSafe};
 
 /// What a listener hears, and a text that is kept by it.
@@ -49,38 +47,6 @@ impl Heard {
     fn replace_in_copy(&mut self, idx: usize, old: &str, new: &str) {
         assert_eq!(&self.copy[idx..idx + old.len()], old);
         self.copy.replace_range(idx..idx + old.len(), new);
-    }
-}
-
-/// A record and a ring, as one listener.
-pub struct Pair(pub Changeset, pub KillRing);
-
-impl DeleteListener for Pair {
-    fn start_killing(&mut self) {
-        self.1.start_killing();
-    }
-
-    fn delete(&mut self, idx: usize, string: &str, dir: Direction) {
-        DeleteListener::delete(&mut self.1, idx, string, dir);
-        self.0.delete(idx, string);
-    }
-
-    fn stop_killing(&mut self) {
-        self.1.stop_killing();
-    }
-}
-
-impl ChangeListener for Pair {
-    fn insert_char(&mut self, idx: usize, c: char) {
-        self.0.insert(idx, c);
-    }
-
-    fn insert_str(&mut self, idx: usize, string: &str) {
-        self.0.insert_str(idx, string);
-    }
-
-    fn replace(&mut self, idx: usize, old: &str, new: &str) {
-        self.0.replace(idx, old, new);
     }
 }
 
