@@ -1,2 +1,3 @@
 mod HandleSteps
 mod PartsSteps
+mod SessionHandle
