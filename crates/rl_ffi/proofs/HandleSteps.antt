@@ -1,21 +1,20 @@
 -- What a handle of any value owns, for the walks that make one and take it apart.
-use Rattle.std.proofs.Common.{◌≡◌, ℕ, List, [], ◌∷◌, ◌++◌, refl, subst}
+use Rattle.std.proofs.Common.{◌≡◌, ℕ, List, [], ◌∷◌, refl}
 use seplogic.Ra.Ura.{Ura}
 use mir.Raw.{raw as bare}
 use mir.Syntax.{impl, tnil, dnil}
-use mir.Val.{Val, vstruct, vcons, vnil, of_list}
+use mir.Val.{Val, vstruct, vcons, vnil}
 use base.Logic.{ent, guard, via, snd∗, guard_i}
 use base.Fml.{Fml}
 use types.Logic.{Logic, sem}
-use types.Kit.{Item, Goal, Seq, Step, step, ‵, given, learn, ◌$◌, move, drop, use1, fsplit, fjoin, fpick, fpack, feq_i, feq_l}
+use types.Kit.{Item, Goal, Seq, ‵, given, learn, ◌$◌, use1, fsplit, fpick, feq_l}
 use contract.Monad.{fact_use}
-use denote.RattleType.{RattleType, Valss}
+use denote.RattleType.{RattleType}
 use denote.Memory.{lone}
-use denote.RawPtr.{Ptr, RawPtr, block_ptr, null_ptr, ptr_val, lies_at, Testable}
+use denote.RawPtr.{Ptr, block_ptr, null_ptr, lies_at, Testable}
 use base.Fraction.{full_share}
-use denote.Steps.{nothing}
 use denote.Param.Laws.{Laws}
-use Rattle.std.proofs.alloc.Calls.{Al, handle_tells, Fits}
+use Rattle.std.proofs.alloc.Calls.{Al}
 use Rattle.std.proofs.GlobalToken.{dealloc_token-Testable}
 use Rattle.std.proofs.BoxSteps.Form.{Bx}
 use Rattle.std.specs.Box.Ownership.{box_owns}

@@ -1,3 +1,4 @@
+mod LineHandle
 mod HandleSteps
 mod PartsSteps
 mod SessionHandle

@@ -4,6 +4,7 @@ pub mod Changes
 pub mod Commands
 pub mod Handed
 pub mod Handle
+pub mod Heard
 pub mod Numbers
 pub mod Opening
 pub mod Reads
