@@ -1,3 +1,5 @@
+mod KillringHandle
+mod RecordHandle
 mod LineHandle
 mod HandleSteps
 mod PartsSteps

@@ -17,3 +17,5 @@ mod parts;
 mod reads;
 mod settings;
 mod texts;
+mod record_handle;
+mod killring_handle;
