@@ -10,3 +10,6 @@ pub mod Opening
 pub mod Reads
 pub mod Settings
 pub mod Texts
+pub mod PartCalls
+pub mod Killring
+pub mod RecordCalls

@@ -145,7 +145,7 @@ pub extern "C" fn lodvarn_ring_count(alloc: Global, s: &mut Handle) -> usize
 }
 
 // Writes out a text of a ring and its length, if there is such a text.
-fn ring_text(ring: &KillRing, back: usize, out: &mut [u8], out_len: &mut usize) -> u32
+pub(crate) fn ring_text(ring: &KillRing, back: usize, out: &mut [u8], out_len: &mut usize) -> u32
     ensures { TextIn (text_back back ring.now) result (out.old, out_len.old) (out.new, out_len.new) }
 {
     let Some(text) = ring.text_back(back) else {
