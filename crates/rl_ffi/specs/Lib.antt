@@ -13,3 +13,4 @@ pub mod Texts
 pub mod PartCalls
 pub mod Killring
 pub mod RecordCalls
+pub mod RecordLines

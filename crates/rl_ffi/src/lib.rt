@@ -19,5 +19,6 @@ mod parts;
 mod reads;
 mod record_calls;
 mod record_handle;
+mod record_lines;
 mod settings;
 mod texts;
