@@ -1,3 +1,4 @@
+mod HeardLemmas
 mod LineHandle
 mod HandleSteps
 mod PartsSteps
