@@ -1,5 +1,6 @@
 mod KillringHandle
 mod RecordHandle
+mod HeardLemmas
 mod LineHandle
 mod HandleSteps
 mod PartsSteps

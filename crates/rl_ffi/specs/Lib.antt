@@ -5,6 +5,11 @@ pub mod Commands
 pub mod Handed
 pub mod Handle
 pub mod Heard
+pub mod HeldLine
+pub mod LineEdits
+pub mod LineOpening
+pub mod LineReads
+pub mod LineReports
 pub mod Numbers
 pub mod Opening
 pub mod Reads

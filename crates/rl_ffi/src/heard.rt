@@ -1,11 +1,12 @@
 //! A listener that keeps a report of everything that it hears, until the report is read.
-ghost use Rattle.std.specs.Prelude.{◌≡◌, ◌++◌, IfOk, OnOk, IfErr, length};
+ghost use Rattle.std.specs.Prelude.{◌≡◌, ℕ, ◌^◌, ◌<◌, ◌++◌, List, Some, IfOk, OnOk, IfErr, length};
 ghost use Rattle.std.specs.Option.{option_map};
 ghost use Rattle.std.specs.String.{string_bytes};
 ghost use Rattle.std.specs.VecDeque.{deque_len, deque_capacity};
-ghost use Rattle.rl_base.specs.Reports.{Noted, on_last, texts_of, told_cursors};
+ghost use Rattle.rl_base.specs.Event.{Event, apply};
+ghost use Rattle.rl_base.specs.Reports.{IsLineText, LeadsBy, Noted, on_last, texts_of, told_cursors};
 ghost use Rattle.rl_base.specs.declared.listeners.Refusal.TheVariants.{NoMemory};
-ghost use Rattle.rl_ffi.specs.Heard.{all_forgotten, hearing, marking, next_of, nothing_heard, past_oldest, readied};
+ghost use Rattle.rl_ffi.specs.Heard.{Heard, all_forgotten, heard_step, hearing, marking, next_of, nothing_heard, past_oldest, readied};
 
 use rl_base::{ChangeListener, DeleteListener, Direction, Refusal, Report, ReportKind};
 use std::alloc::Global;
@@ -231,3 +232,10 @@ impl ChangeListener for Heard {
         self.hear(ReportKind::Replaced, idx, old, new)
     }
 }
+
+/// Who reads late misses no step. Where what waits leads from a text to another, report by report, and an event of that is
+/// heard, what waits leads to the changed text.
+pub fn no_event_is_lost()
+    ensures { (h : Heard) (event : Event) (old text new : List ℕ) → LeadsBy 1 h.waiting old text → IsLineText text → length new < 2 ^ 64 → apply event text ≡ Some new
+        → LeadsBy 1 (heard_step h event).waiting old new }
+{}

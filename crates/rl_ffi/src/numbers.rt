@@ -28,7 +28,7 @@ pub(crate) const NO_MEMORY: u32 = 11;
 
 pub(crate) const BAD_PLACE: u32 = 12;
 
-const BAD_YANK_SIZE: u32 = 13;
+pub(crate) const BAD_YANK_SIZE: u32 = 13;
 
 pub(crate) const NOT_REPLAYING: u32 = 14;
 
