@@ -138,7 +138,7 @@ static void bad_input_to_lines(void) {
     ANSWERS(lodvarn_line_update(&l, "\303\251", 2, 1), BAD_PLACE);
     ANSWERS(lodvarn_line_update(&l, "\377", 1, 0), NOT_UTF8);
     ANSWERS(lodvarn_line_insert_str(&l, 2, "c", 1), BAD_PLACE);
-    ANSWERS(lodvarn_line_insert_str(&l, 0, "\303\251", 2), BAD_PLACE);
+    ANSWERS(lodvarn_line_insert_str(&l, 0, "\303\251\303\251", 4), BAD_PLACE);
     ANSWERS(lodvarn_line_insert_str(&l, 0, "\377", 1), NOT_UTF8);
     ANSWERS(lodvarn_line_replace(&l, 3, 1, "c", 1), BAD_PLACE);
     ANSWERS(lodvarn_line_replace(&l, 0, 1, "\377", 1), NOT_UTF8);

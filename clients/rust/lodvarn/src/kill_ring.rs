@@ -57,6 +57,7 @@ impl KillRing {
     }
 
     /// Says that something else than a kill or a yank was done. So the next kill begins a new text.
+    #[inline]
     pub fn reset(&mut self) {
         if !self.is_reset {
             answered(done(self.ring.reset()));

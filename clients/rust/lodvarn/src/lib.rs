@@ -94,6 +94,7 @@ impl fmt::Debug for Session {
     }
 }
 
+#[inline]
 fn done(answer: u32) -> Result<(), Fault> {
     match answer {
         ffi::DONE => Ok(()),
@@ -101,6 +102,7 @@ fn done(answer: u32) -> Result<(), Fault> {
     }
 }
 
+#[inline]
 fn yes(answer: u32) -> Result<bool, Fault> {
     match answer {
         ffi::TRUE => Ok(true),
@@ -109,6 +111,7 @@ fn yes(answer: u32) -> Result<bool, Fault> {
     }
 }
 
+#[inline]
 fn inserted(answer: u32) -> Result<Option<bool>, Fault> {
     match answer {
         ffi::NONE => Ok(None),

@@ -372,6 +372,15 @@ impl LineBuffer {
         (answer == ffi::DONE).then(|| self.text[range].to_owned())
     }
 
+    // Finds room for so many more bytes of the copy.
+    #[inline]
+    fn find_room(&mut self, growth: usize) -> Result<(), Fault> {
+        if growth <= self.text.capacity() - self.text.len() {
+            return Ok(());
+        }
+        self.text.try_reserve(growth).map_err(|_| Fault::NoMemory)
+    }
+
     /// Makes an edit. Tells a listener of its steps, and answers what the call of the line does. Room for `growth` bytes
     /// of text and for a report of `told` bytes is found before, and where that is refused nothing is done. What is more
     /// than that is found as the standard library does.
@@ -382,7 +391,7 @@ impl LineBuffer {
         cl: &mut C,
         call: impl FnOnce(&mut Line) -> u32,
     ) -> Result<u32, Fault> {
-        self.text.try_reserve(growth).map_err(|_| Fault::NoMemory)?;
+        self.find_room(growth)?;
         let mut room = Room::of(told)?;
         let answer = call(&mut self.line);
         let reports = self.line.reports();

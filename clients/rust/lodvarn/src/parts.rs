@@ -161,6 +161,7 @@ impl Line {
         unsafe { ffi::lodvarn_line_covers(at, number, n, c, start, end) }
     }
 
+    #[inline]
     pub(crate) fn insert(&mut self, c: char, n: u16) -> u32 {
         unsafe { ffi::lodvarn_line_insert(self.0.get(), c.into(), n) }
     }
@@ -238,6 +239,7 @@ impl Line {
     }
 
     /// Forgets the reports that wait.
+    #[inline]
     pub(crate) fn forget_reports(&mut self) {
         let answer = unsafe { ffi::lodvarn_line_forget_reports(self.0.get()) };
         debug_assert_eq!(answer, ffi::DONE);
@@ -300,6 +302,7 @@ impl Record {
         unsafe { ffi::lodvarn_record_end_one(self.0.get()) }
     }
 
+    #[inline]
     pub(crate) fn insert_char(&mut self, at: usize, c: char) -> u32 {
         unsafe { ffi::lodvarn_record_insert_char(self.0.get(), at, c.into()) }
     }

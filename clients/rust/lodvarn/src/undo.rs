@@ -82,6 +82,7 @@ impl Changeset {
     }
 
     /// Records that a character was inserted. A letter or digit joins the insertion before it.
+    #[inline]
     pub fn insert(&mut self, idx: usize, c: char) {
         answered(done(self.0.insert_char(idx, c)));
     }
@@ -202,6 +203,7 @@ impl DeleteListener for Changeset {
 }
 
 impl ChangeListener for Changeset {
+    #[inline]
     fn insert_char(&mut self, idx: usize, c: char) {
         self.insert(idx, c);
     }

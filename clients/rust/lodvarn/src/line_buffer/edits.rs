@@ -68,17 +68,17 @@ impl LineBuffer {
         ch: char,
         cl: &mut C,
     ) -> Result<Option<bool>, Fault> {
-        self.text
-            .try_reserve(ch.len_utf8())
-            .map_err(|_| Fault::NoMemory)?;
+        self.find_room(ch.len_utf8())?;
         let goes_in = inserted(self.line.insert(ch, 1))?;
-        if goes_in.is_some() {
-            self.line.forget_reports();
-            let at = self.pos;
-            self.text.insert(at, ch);
-            self.pos += ch.len_utf8();
-            cl.insert_char(at, ch);
+        let at = self.pos;
+        match goes_in {
+            Some(true) => self.text.push(ch),
+            Some(false) => self.text.insert(at, ch),
+            None => return Ok(None),
         }
+        self.pos += ch.len_utf8();
+        self.line.forget_reports();
+        cl.insert_char(at, ch);
         Ok(goes_in)
     }
 
