@@ -15,6 +15,8 @@ ghost use Rattle.rl_line.specs.Record.{Entry, End, IsOfKind, Record, last_insert
 ghost use Rattle.rl_line.specs.Undo.{CopiesAhead, CopiesBack, Redone, Redos, StandAfter, StandBefore, Undone, line_ahead, line_back, steps_ahead, steps_back, texts_ahead, texts_back};
 ghost use Rattle.rl_line.specs.Units.{BothMatched, GroupAt, InGroup, IsMatched, adds_end, after_in_group, begun, ended, ended_one, has_change, in_group, kept_of, last_of, last_units, level, opens, redo_of, truncated, with_closed};
 
+mod foretelling;
+
 use crate::change::{Change, Freshness, Way, text_over};
 use crate::line_buffer::LineBuffer;
 use crate::{entries, forgetting};
