@@ -1,4 +1,4 @@
-use Rattle.std.proofs.Common.{arith, ◌≡◌, ◌+◌, ◌-◌, ◌<◌, [], ◌∷◌, length, map, drop, sym, ap, subst, ◌∙◌}
+use Rattle.std.proofs.Common.{arith, ◌≡◌, ◌+◌, ◌-◌, ◌<◌, [], ◌∷◌, length, map, drop, sym, ap, ◌∙◌}
 use Rattle.std.proofs.lemmas.List.{drop_all}
 use Rattle.rl_line.specs.Change.{entry_to_undo, order}
 use Rattle.rl_line.specs.Plan.{listener_after}
@@ -7,7 +7,6 @@ use Rattle.rl_line.specs.Undo.{cursor_after, steps_ahead, steps_back}
 use Rattle.rl_line.proofs.Records.ChangeLemmas.{length-order}
 use Rattle.rl_line.proofs.Records.HeardLemmas.{back-past, cursor_past_back, cursor_past_back-one_more}
 use Rattle.rl_line.proofs.Records.UndoLemmas.{entries_from}
-use Rattle.rl_line.proofs.undo.foretelling.foretell.Given.{Over}
 use Rattle.rl_line.proofs.undo.foretelling.foretell.Goals as goal
 
 pub loop-left-init : goal.loop-left-init
