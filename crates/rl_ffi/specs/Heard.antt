@@ -1,5 +1,5 @@
 -- All that was heard of a line, for who reads it later.
-use Rattle.std.specs.Prelude.{◌≡◌, ℕ, ◌-◌, nat_lt, List, [], ◌∷◌, ◌++◌, drop, encode_utf8, Option, Some, None, if◌then◌else◌}
+use Rattle.std.specs.Prelude.{◌≡◌, ℕ, ◌-◌, nat_lt, List, [], ◌∷◌, ◌++◌, drop, take, encode_utf8, Option, Some, None, if◌then◌else◌}
 use Rattle.rl_base.specs.Event.{Event, InsertChar, InsertStr, Delete, Replace, Start, Stop, Cursors}
 use Rattle.rl_base.specs.Reports.{Noted, noted, on_last, told_cursors}
 use Rattle.rl_base.specs.declared.listeners.Direction.TheVariants.{Forward, Backward}
@@ -57,6 +57,14 @@ next_of (n ∷ ns) = Some n
 -- the oldest report waits no more
 abbrev pub past_oldest : Heard → Heard
 past_oldest h = record h { waiting = drop 1 h.waiting }
+
+-- what another heard waits after what waits here
+abbrev pub joined : Heard → Heard → Heard
+joined later h = record h { waiting = h.waiting ++ later.waiting }
+
+-- the first so many reports wait, and no others
+abbrev pub first_kept : ℕ → Heard → Heard
+first_kept count h = record h { waiting = take count h.waiting }
 
 -- no report waits
 abbrev pub all_forgotten : Heard → Heard

@@ -6,7 +6,7 @@ ghost use Rattle.std.specs.VecDeque.{deque_len, deque_capacity};
 ghost use Rattle.rl_base.specs.Event.{Event, apply};
 ghost use Rattle.rl_base.specs.Reports.{IsLineText, LeadsBy, Noted, on_last, texts_of, told_cursors};
 ghost use Rattle.rl_base.specs.declared.listeners.Refusal.TheVariants.{NoMemory};
-ghost use Rattle.rl_ffi.specs.Heard.{Heard, all_forgotten, heard_step, hearing, marking, next_of, nothing_heard, past_oldest, readied};
+ghost use Rattle.rl_ffi.specs.Heard.{Heard, all_forgotten, first_kept, heard_step, hearing, joined, marking, next_of, nothing_heard, past_oldest, readied};
 
 use rl_base::{ChangeListener, DeleteListener, Direction, Refusal, Report, ReportKind};
 use std::alloc::Global;
@@ -125,6 +125,27 @@ impl Heard {
         ensures { self.new ≡ all_forgotten self.old }
     {
         self.waiting.clear();
+    }
+
+    /// Puts the reports that another kept after those that wait. Refused where memory is out, and then all is as it was.
+    pub fn join(&mut self, later: Heard) -> Result<(), Refusal>
+        ensures done { OnOk result (self.new ≡ joined later self.old) }
+        ensures err { IfErr result (λ r. (r ≡ NoMemory) × (self.new ≡ self.old)) }
+    {
+        let mut later = later.waiting;
+        let Some(room) = self.marks.checked_add(later.len()) else {
+            return Err(Refusal::NoMemory);
+        };
+        self.waiting.reserve(room)?;
+        self.waiting.append(&mut later)?;
+        Ok(())
+    }
+
+    /// Forgets all that wait but the first `count`.
+    pub fn keep(&mut self, count: usize)
+        ensures { self.new ≡ first_kept count self.old }
+    {
+        self.waiting.truncate(count);
     }
 
     // Keeps that at a place what went gave way to what came.

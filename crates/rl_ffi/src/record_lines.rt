@@ -1,14 +1,94 @@
 //! The calls on a record and a line, each by itself.
 ghost use Rattle.std.specs.Prelude.{◌≡◌};
-ghost use Rattle.rl_ffi.specs.RecordLines.{AsksAhead, AsksBack, AsksBoth, AsksFirst};
+ghost use Rattle.rl_ffi.specs.RecordLines.{AsksAhead, AsksBack, AsksBoth, AsksFirst, RedoesIn, ThroughBoth, Undoes};
 
 use crate::handle::of_part;
+use crate::heard::Heard;
 use crate::held_line::HeldLine;
 use crate::line_handle::LineHandle;
-use crate::numbers::{CLOSED, NO_MEMORY, truth_number};
+use crate::numbers::{CLOSED, NO_MEMORY, NOT_REPLAYING, truth_number};
 use crate::record_handle::RecordHandle;
 use rl_line::Changeset;
 use std::alloc::Global;
+
+fn undo(alloc: Global, changes: &mut Changeset, held: &mut HeldLine, n: u16) -> u32
+    ensures { Undoes n changes.old held.old result changes.new held.new }
+{
+    match changes.can_undo_last(&held.line, n) {
+        Ok(true) => {}
+        Ok(false) => return NOT_REPLAYING,
+        Err(_) => return NO_MEMORY,
+    }
+    // The listener may refuse, so it hears of all before anything changes.
+    let mut told = Heard::new(alloc);
+    if changes.foretell_undo(&held.line, n, &mut told).is_err() {
+        return NO_MEMORY;
+    }
+    let waiting = held.heard.len();
+    if held.heard.join(told).is_err() {
+        return NO_MEMORY;
+    }
+    match changes.undo(&mut held.line, n) {
+        Ok(answer) => truth_number(answer),
+        Err(_) => {
+            held.heard.keep(waiting);
+            NO_MEMORY
+        }
+    }
+}
+
+/// Undoes the last n units in the line, or one where n is 0: TRUE where there was a change, or FALSE. Each change of the
+/// line is a report that waits. NOT_REPLAYING, where the units can't be taken back from the line's text, NO_MEMORY and
+/// CLOSED change nothing.
+#[unsafe(no_mangle)]
+pub extern "C" fn lodvarn_record_undo(
+    alloc: Global,
+    r: &mut RecordHandle,
+    l: &mut LineHandle,
+    n: u16,
+) -> u32
+    ensures { ThroughBoth (Undoes n) r.old.value l.old.value result r.new.value l.new.value }
+{
+    of_part!(RecordHandle, r, alloc, changes => of_part!(LineHandle, l, alloc, held => undo(alloc, &mut changes, &mut held, n), CLOSED), CLOSED)
+}
+
+fn redo(alloc: Global, changes: &mut Changeset, held: &mut HeldLine) -> u32
+    ensures { RedoesIn changes.old held.old result changes.new held.new }
+{
+    match changes.can_redo_next(&held.line) {
+        Ok(true) => {}
+        Ok(false) => return NOT_REPLAYING,
+        Err(_) => return NO_MEMORY,
+    }
+    let mut told = Heard::new(alloc);
+    if changes.foretell_redo(&held.line, &mut told).is_err() {
+        return NO_MEMORY;
+    }
+    let waiting = held.heard.len();
+    if held.heard.join(told).is_err() {
+        return NO_MEMORY;
+    }
+    match changes.redo(&mut held.line) {
+        Ok(answer) => truth_number(answer),
+        Err(_) => {
+            held.heard.keep(waiting);
+            NO_MEMORY
+        }
+    }
+}
+
+/// Redoes in the line what was undone last: TRUE where there was a change, or FALSE. Each change of the line is a report
+/// that waits. NOT_REPLAYING, where it can't be made again in the line's text, NO_MEMORY and CLOSED change nothing.
+#[unsafe(no_mangle)]
+pub extern "C" fn lodvarn_record_redo(
+    alloc: Global,
+    r: &mut RecordHandle,
+    l: &mut LineHandle,
+) -> u32
+    ensures { ThroughBoth RedoesIn r.old.value l.old.value result r.new.value l.new.value }
+{
+    of_part!(RecordHandle, r, alloc, changes => of_part!(LineHandle, l, alloc, held => redo(alloc, &mut changes, &mut held), CLOSED), CLOSED)
+}
 
 fn can_undo(changes: &Changeset, held: &HeldLine) -> u32
     ensures { AsksBack changes.now held.now result }
