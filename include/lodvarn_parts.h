@@ -174,7 +174,7 @@ size_t lodvarn_line_reports(lodvarn_line **l);
 /* Forgets all reports that wait. Answers DONE. */
 uint32_t lodvarn_line_forget_reports(lodvarn_line **l);
 
-/* The record. It takes what it is told for true, and finds out at an undo whether that leads to the line. */
+/* The record. It takes what it is told for true, and an undo finds out whether that stands in the line. */
 
 /* Opens an empty record. One that *r had is closed. Answers DONE. Errors: NO_MEMORY; it leaves the record that *r
  * has. */
@@ -215,11 +215,11 @@ uint32_t lodvarn_record_replace(lodvarn_record **r, size_t at, const char *old_t
 uint32_t lodvarn_record_cursors(lodvarn_record **r, size_t before, size_t after);
 
 /* Undoes the last n changes and groups in a line, which reports each. Answers TRUE, or FALSE where there was no change.
- * Errors: NOT_REPLAYING where the changes that are recorded do not lead to the line's text, NO_MEMORY. */
+ * Errors: NOT_REPLAYING where the changes that it takes can't be taken back from the line's text, NO_MEMORY. */
 uint32_t lodvarn_record_undo(lodvarn_record **r, lodvarn_line **l, uint16_t n);
 
 /* Redoes what was undone last, one change or group, in a line, which reports each change. Answers and errors as
- * lodvarn_record_undo; NOT_REPLAYING where what was undone can't be made again in the line's text. */
+ * lodvarn_record_undo; NOT_REPLAYING where the changes that it makes again can't be made in the line's text. */
 uint32_t lodvarn_record_redo(lodvarn_record **r, lodvarn_line **l);
 
 /* Keeps the first entries entries, and forgets the others and what was undone. Answers DONE. */
@@ -235,11 +235,11 @@ size_t lodvarn_record_len(lodvarn_record **r);
 /* Answers how many groups are open. */
 size_t lodvarn_record_level(lodvarn_record **r);
 
-/* Asks whether the changes that are recorded lead to the line's text, so that lodvarn_record_undo is not refused as
- * NOT_REPLAYING. Answers TRUE or FALSE. Errors: NO_MEMORY. */
+/* Asks whether all changes that are recorded can be taken back from the line's text, so that no lodvarn_record_undo is
+ * refused as NOT_REPLAYING. Answers TRUE or FALSE. Errors: NO_MEMORY. */
 uint32_t lodvarn_record_can_undo(lodvarn_record **r, lodvarn_line **l);
 
-/* Asks whether what was undone can be made again in the line's text. Answers TRUE or FALSE. Errors: NO_MEMORY. */
+/* Asks whether all that was undone can be made again in the line's text. Answers TRUE or FALSE. Errors: NO_MEMORY. */
 uint32_t lodvarn_record_can_redo(lodvarn_record **r, lodvarn_line **l);
 
 /* Asks whether the first entries entries lead to the line's text by themselves, so that the record leads to it after

@@ -211,9 +211,9 @@ extern "C" {
     pub fn lodvarn_record_len(r: *mut RecordHandle) -> usize;
     /// Answers how many groups are open.
     pub fn lodvarn_record_level(r: *mut RecordHandle) -> usize;
-    /// Asks whether the changes that are recorded lead to the text of a line.
+    /// Asks whether all changes that are recorded can be taken back from the text of a line.
     pub fn lodvarn_record_can_undo(r: *mut RecordHandle, l: *mut LineHandle) -> u32;
-    /// Asks whether what was undone can be made again in a line.
+    /// Asks whether all that was undone can be made again in a line.
     pub fn lodvarn_record_can_redo(r: *mut RecordHandle, l: *mut LineHandle) -> u32;
     /// Asks whether the first `entries` entries lead to the text of a line by themselves.
     pub fn lodvarn_record_replays_to(

@@ -17,9 +17,9 @@
 //!
 //! What differs from rustyline:
 //!
-//! - A record over a line whose changes it has not heard is refused: [`undo`](Changeset::undo) and
-//!   [`redo`](Changeset::redo) panic, and [`try_undo`](Changeset::try_undo) and [`try_redo`](Changeset::try_redo) answer
-//!   [`Fault::NotReplaying`]. Record and line are as they were then.
+//! - Changes that can't be taken back from the line's text, or made again in it, as those of another line, are refused:
+//!   [`undo`](Changeset::undo) and [`redo`](Changeset::redo) panic, and [`try_undo`](Changeset::try_undo) and
+//!   [`try_redo`](Changeset::try_redo) answer [`Fault::NotReplaying`]. Record and line are as they were then.
 //! - `redo` and [`end_one`](Changeset::end_one) are public, and a record tells how long it is and what fits a line.
 //! - [`truncate`](Changeset::truncate) forgets what was undone.
 //! - Out of memory, a call panics with these words. `try_undo` and `try_redo` answer [`Fault::NoMemory`]; only the room
@@ -113,7 +113,7 @@ impl Changeset {
     ///
     /// # Panics
     ///
-    /// Where the changes do not lead to the line's text.
+    /// Where the changes that it takes can't be taken back from the line's text.
     pub fn undo(&mut self, line: &mut LineBuffer, n: RepeatCount) -> bool {
         answered(self.try_undo(line, n))
     }
@@ -132,7 +132,7 @@ impl Changeset {
     ///
     /// # Panics
     ///
-    /// Where what was undone can't be made again in the line's text.
+    /// Where the changes that it makes again can't be made in the line's text.
     pub fn redo(&mut self, line: &mut LineBuffer) -> bool {
         answered(self.try_redo(line))
     }
@@ -176,13 +176,13 @@ impl Changeset {
         self.0.level()
     }
 
-    /// Whether the changes lead to the line's text, so that an undo is not refused.
+    /// Whether all changes can be taken back from the line's text, so that no undo is refused.
     #[must_use]
     pub fn can_undo(&self, line: &LineBuffer) -> bool {
         answered(yes(line.asked(|line| self.0.can_undo(line))))
     }
 
-    /// Whether what was undone can be made again in the line's text, so that a redo is not refused.
+    /// Whether all that was undone can be made again in the line's text, so that no redo is refused.
     #[must_use]
     pub fn can_redo(&self, line: &LineBuffer) -> bool {
         answered(yes(line.asked(|line| self.0.can_redo(line))))
