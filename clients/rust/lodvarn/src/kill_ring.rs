@@ -78,8 +78,8 @@ impl KillRing {
         ring.yank(lent).then_some(&*lent)
     }
 
-    /// The text before the current one, which is the current one now, to be put in the place of the one that was yanked;
-    /// and how many bytes that one has. `None` where no yank was done last.
+    /// The text before the current one, which is the current one now, to be put in the place of the one that was
+    /// yanked; and how many bytes that one has. `None` where no yank was done last.
     pub fn yank_pop(&mut self) -> Option<(usize, &String)> {
         let (KillRing { ring, lent, .. }, mut yanked) = (self, 0);
         ring.yank_pop(lent, &mut yanked).then_some((yanked, &*lent))

@@ -381,9 +381,9 @@ impl LineBuffer {
         self.text.try_reserve(growth).map_err(|_| Fault::NoMemory)
     }
 
-    /// Makes an edit. Tells a listener of its steps, and answers what the call of the line does. Room for `growth` bytes
-    /// of text and for a report of `told` bytes is found before, and where that is refused nothing is done. What is more
-    /// than that is found as the standard library does.
+    /// Makes an edit. Tells a listener of its steps, and answers what the call of the line does. Room for `growth`
+    /// bytes of text and for a report of `told` bytes is found before, and where that is refused nothing is done. What
+    /// is more than that is found as the standard library does.
     pub(crate) fn edit<C: ChangeListener + ?Sized>(
         &mut self,
         growth: usize,
