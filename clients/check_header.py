@@ -1,13 +1,14 @@
 #!/usr/bin/env python3
-"""Compares the calls of include/lodvarn.h with the exports of crates/rl_ffi, and with what the clients for Python and
-Rust declare: names, arguments in their order, results. The crate lodvarn must make each call that lodvarn-sys declares.
+"""Compares the calls of the headers of include with the exports of crates/rl_ffi, and with what the client for Rust
+declares: names, arguments in their order, results. The crate lodvarn must make each call that lodvarn-sys declares. The
+client for Python declares the calls of lodvarn.h, and none of lodvarn_parts.h.
 
     python3 clients/check_header.py
 
-What only one side has fails, whichever it is. Macros and the functions that the header defines are no calls: a program
-compiles them, and the library has none of them. But each call that writes a number must have a function NAME_or_null_
-with the same arguments, which makes that call, and a macro that puts it in the place of the call. Its last line is
-'N passed, M failed', where each call counts one for each of the four, and one for that function.
+What only one side has fails, whichever it is. Macros and the functions that a header defines are no calls: a program
+compiles them, and the library has none of them. But each call of lodvarn.h that writes a number must have a function
+NAME_or_null_ with the same arguments, which makes that call, and a macro that puts it in the place of the call. Its
+last line is 'N passed, M failed', where each call counts one for each place that has it, and one for that function.
 """
 
 import ast
@@ -20,12 +21,18 @@ TOP = Path(__file__).resolve().parent.parent
 IN_C = {
     "Global": [],
     "&mut Handle": ["lodvarn **"],
+    "&mut LineHandle": ["lodvarn_line **"],
+    "&mut RecordHandle": ["lodvarn_record **"],
+    "&mut RingHandle": ["lodvarn_killring **"],
     "&[u8]": ["const char *", "size_t"],
     "&mut [u8]": ["char *", "size_t"],
     "&mut usize": ["size_t *"],
     "&mut u32": ["uint32_t *"],
     "&mut u16": ["uint16_t *"],
     "*mut Handle": ["lodvarn **"],
+    "*mut LineHandle": ["lodvarn_line **"],
+    "*mut RecordHandle": ["lodvarn_record **"],
+    "*mut KillRingHandle": ["lodvarn_killring **"],
     "*const u8": ["const char *"],
     "*mut u8": ["char *"],
     "*mut usize": ["size_t *"],
@@ -62,7 +69,8 @@ ARGUMENT = re.compile(r"(.*?[ *])(\w+)$", re.S)
 
 def in_c(kind):
     """What C passes for a type of an export."""
-    kind = " ".join(re.sub(r"&\s*'\w+\s*", "&", kind).split()).replace("& ", "&").replace("crate::handle::", "")
+    kind = " ".join(re.sub(r"&\s*'\w+\s*", "&", kind).split()).replace("& ", "&")
+    kind = re.sub(r"\bcrate::(\w+::)*", "", kind)
     return IN_C.get(kind, [f"({kind}, which C does not pass)"])
 
 
@@ -135,17 +143,19 @@ def see(where, declared, found):
 
 def main():
     header = (TOP / "include/lodvarn.h").read_text()
-    declared = declarations_of(header)
-    writing = {name: call for name, call in declared.items() if NUMBERS & set(call[1])}
+    of_session = declarations_of(header)
+    declared = of_session | declarations_of((TOP / "include/lodvarn_parts.h").read_text())
+    writing = {name: call for name, call in of_session.items() if NUMBERS & set(call[1])}
     sources = "".join(source.read_text() for source in sorted((TOP / "crates/rl_ffi/src").glob("**/*.rt")))
-    rust, python = "clients/rust/lodvarn-sys/src/lib.rs", "clients/python/lodvarn/__init__.py"
+    rust, python = "clients/rust/lodvarn-sys/src", "clients/python/lodvarn/__init__.py"
+    foreign = "".join(source.read_text() for source in sorted((TOP / rust).glob("*.rs")))
     wrapper = "clients/rust/lodvarn/src"
     made = MADE.findall("".join(source.read_text() for source in sorted((TOP / wrapper).glob("*.rs"))))
     sums = [
         see("the crate", declared, calls_of(sources, EXPORT, "no_mangle")),
-        see(rust, declared, calls_of((TOP / rust).read_text(), FOREIGN, "pub fn")),
+        see(rust, declared, calls_of(foreign, FOREIGN, "pub fn")),
         see(wrapper, declared, {name: declared.get(name) for name in made}),
-        see(python, declared, calls_of_python((TOP / python).read_text())),
+        see(python, of_session, calls_of_python((TOP / python).read_text())),
         see("its function for NULL", writing, or_null_of(header)),
     ]
     passed, failed = (sum(counts) for counts in zip(*sums))

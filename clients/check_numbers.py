@@ -1,5 +1,5 @@
 #!/usr/bin/env python3
-"""Compares the numbers of include/lodvarn.h with those of crates/rl_ffi and of the clients for Python and Rust.
+"""Compares the numbers of the headers of include with those of crates/rl_ffi and of the clients for Python and Rust.
 
     python3 clients/check_numbers.py
 
@@ -42,7 +42,8 @@ def name_of(value):
         case ["FORWARD_WORD", at, word]:
             return f"FORWARD_{word}_WORD_{at}"
         case names:
-            return "_".join(names).removeprefix("VI_").replace("NON_BLANK", "NONBLANK")
+            name = "_".join(names).removeprefix("VI_").replace("NON_BLANK", "NONBLANK")
+            return name.replace("CHAR_SEARCH_", "SEARCH_")
 
 
 def in_header(number):
@@ -121,7 +122,7 @@ def see(where, wanted, found):
 
 
 def main():
-    text = (TOP / "include/lodvarn.h").read_text()
+    text = "".join((TOP / "include" / name).read_text() for name in ("lodvarn.h", "lodvarn_parts.h"))
     header = numbers_of_header(text)
     answers = [it for it in header if it[0] == "answer"]
     crate, python = "crates/rl_ffi/src/numbers.rt", "clients/python/lodvarn/__init__.py"

@@ -6,7 +6,8 @@
 - Each row of the tables of wrong bodies in docs/PROVING.md: its edits that must fail, its tests and its files.
 - Each relative link: its file, and the heading of its #part.
 - Each path in backquotes that begins with a folder of the top: a file or a folder, or a pattern that matches one.
-- Each call and constant of C (lodvarn_.., LODVARN_..): in include/lodvarn.h, or a variable of the environment.
+- Each call and constant of C (lodvarn_.., LODVARN_..): in the headers of include, or a header, or a variable of the
+  environment.
 - Each crate (rl_..): in crates.txt.
 - Each word of a script (specs/Grammar.antt): one row in docs/RULES.md, and no other rows.
 
@@ -212,7 +213,9 @@ def main():
     count = Count()
     see_wrong_bodies(count, TOP / "docs/PROVING.md")
     see_words(count, TOP / "docs/RULES.md")
-    header = VARIABLES | set(CALL.findall((TOP / "include/lodvarn.h").read_text()))
+    headers = list((TOP / "include").glob("*.h"))
+    names = {name for header in headers for name in (header.stem, *CALL.findall(header.read_text()))}
+    header = VARIABLES | names
     crates = set(re.findall(r"^(\w+)", (TOP / "crates.txt").read_text(), re.M))
     for page in PAGES:
         see_page(count, page, header, crates)

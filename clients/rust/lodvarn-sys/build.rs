@@ -1,6 +1,7 @@
 //! Finds the library and links its archive. That is the one in the folder that LODVARN_LIB names, where the environment
 //! has that; else the one that clients/build made in this checkout; else the installed one of this version, which
-//! pkg-config tells. Makes constants of the numbers of its header, which stands in the folder include beside its own.
+//! pkg-config tells. Makes constants of the numbers of its header, which stands in the folder include beside its own. Looks
+//! that the header of the parts stands there too: a library without it lacks calls that this crate declares.
 use std::path::{Path, PathBuf};
 use std::process::{Command, ExitCode};
 use std::{env, fs};
@@ -24,7 +25,8 @@ fn library_folder(here: &Path) -> Result<PathBuf, String> {
 
 /// The folder, where it has the library and its header, or what it has not.
 fn checked(folder: PathBuf) -> Result<PathBuf, String> {
-    let files = [folder.join(ARCHIVE), header_of(&folder)];
+    let parts = folder.join("../include/lodvarn_parts.h");
+    let files = [folder.join(ARCHIVE), header_of(&folder), parts];
     match files.iter().find(|file| !file.is_file()) {
         Some(missing) => Err(format!("{} is not there", missing.display())),
         None => Ok(folder),

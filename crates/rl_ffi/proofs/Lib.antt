@@ -1,2 +1,7 @@
+mod KillringHandle
+mod RecordHandle
+mod HeardLemmas
+mod LineHandle
 mod HandleSteps
 mod PartsSteps
+mod SessionHandle

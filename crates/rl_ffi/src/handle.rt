@@ -96,4 +96,19 @@ macro_rules! of_session {
     };
 }
 
+// The same of a part that stands by itself, whose handle's type comes first.
+macro_rules! of_part {
+    ($Type:ident, $handle:ident, $alloc:ident, $part:ident => $answer:expr, $closed:expr) => {
+        match $handle.take($alloc) {
+            Some(mut $part) => {
+                let answer = $answer;
+                *$handle = $Type::of($part);
+                answer
+            }
+            None => $closed,
+        }
+    };
+}
+
+pub(crate) use of_part;
 pub(crate) use of_session;

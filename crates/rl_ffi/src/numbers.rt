@@ -20,7 +20,7 @@ pub(crate) const NONE: u32 = 3;
 
 pub(crate) const TEXT: u32 = 4;
 
-const MARK: u32 = 5;
+pub(crate) const MARK: u32 = 5;
 
 pub(crate) const AT: u32 = 6;
 
@@ -28,9 +28,9 @@ pub(crate) const NO_MEMORY: u32 = 11;
 
 pub(crate) const BAD_PLACE: u32 = 12;
 
-const BAD_YANK_SIZE: u32 = 13;
+pub(crate) const BAD_YANK_SIZE: u32 = 13;
 
-const NOT_REPLAYING: u32 = 14;
+pub(crate) const NOT_REPLAYING: u32 = 14;
 
 pub(crate) const CLOSED: u32 = 20;
 

@@ -145,7 +145,7 @@ pub extern "C" fn lodvarn_ring_count(alloc: Global, s: &mut Handle) -> usize
 }
 
 // Writes out a text of a ring and its length, if there is such a text.
-fn ring_text(ring: &KillRing, back: usize, out: &mut [u8], out_len: &mut usize) -> u32
+pub(crate) fn ring_text(ring: &KillRing, back: usize, out: &mut [u8], out_len: &mut usize) -> u32
     ensures { TextIn (text_back back ring.now) result (out.old, out_len.old) (out.new, out_len.new) }
 {
     let Some(text) = ring.text_back(back) else {
@@ -177,7 +177,7 @@ pub extern "C" fn lodvarn_ring_text(
 }
 
 // Writes where a range begins and ends, if there is one.
-fn range_in(range: Option<Range<usize>>, start: &mut usize, end: &mut usize) -> u32
+pub(crate) fn range_in(range: Option<Range<usize>>, start: &mut usize, end: &mut usize) -> u32
     ensures { RangeIn range result (start.old, end.old) (start.new, end.new) }
 {
     match range {
@@ -228,7 +228,7 @@ pub extern "C" fn lodvarn_covers(
 }
 
 // Writes a place, if there is one.
-fn place_in(place: Option<usize>, pos: &mut usize) -> u32
+pub(crate) fn place_in(place: Option<usize>, pos: &mut usize) -> u32
     ensures { PlaceIn place result pos.old pos.new }
 {
     match place {

@@ -2,6 +2,7 @@
 pub mod RecordLemmas
 pub mod EntryLemmas
 pub mod JoinLemmas
+pub mod LeadLemmas
 pub mod ToldLemmas
 pub mod Counts
 pub mod CountLemmas

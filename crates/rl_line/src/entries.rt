@@ -1,6 +1,6 @@
 //! A list of entries: the first are recorded, and those after them were undone. What an event makes of it, and which
 //! entries an undo or a redo goes over. A function that records drops what was undone; refused, it leaves every entry.
-ghost use Rattle.std.specs.Prelude.{◌≡◌, ◌+◌, ◌^◌, ◌≤◌, ◌<◌, [], ◌∷◌, ◌++◌, encode_utf8, length, map, take, drop, true, false, None, IfOk, IfErr, IfSome, OnOk, OnErr};
+ghost use Rattle.std.specs.Prelude.{◌≡◌, ◌+◌, ◌^◌, ◌≤◌, ◌<◌, [], ◌∷◌, ◌++◌, encode_utf8, is_some, length, map, take, drop, true, false, None, IfOk, IfErr, IfSome, OnOk, OnErr};
 ghost use Rattle.std.specs.Option.{option_map};
 ghost use Rattle.std.specs.String.{string_bytes};
 ghost use Rattle.std.specs.Vec.{vec_len, vec_capacity};
@@ -8,11 +8,14 @@ ghost use Rattle.rl_base.specs.Event.{InsertChar, InsertStr, Delete, Replace};
 ghost use Rattle.rl_base.specs.Text.{HasText};
 ghost use Rattle.rl_base.specs.declared.listeners.Direction.TheVariants.{Forward};
 ghost use Rattle.rl_base.specs.declared.listeners.Refusal.TheVariants.{NoMemory};
-ghost use Rattle.rl_line.specs.Record.{Changed, Insertion, untold, entries_told, entry_of, last_insert};
+ghost use Rattle.rl_line.specs.Change.{entries_to_undo};
+ghost use Rattle.rl_line.specs.Record.{Changed, Insertion, bytes_back, untold, entries_told, entry_of, last_insert};
+ghost use Rattle.rl_line.specs.Undo.{line_back};
 ghost use Rattle.rl_line.specs.Units.{IsMatched, adds_end, end_one, end_times, ends_in_begin, has_change, is_change, last_of, level, redo_of};
 ghost use Rattle.rl_line.specs.Entries.{JoinsLast, deep, Records};
 
-use crate::change::{Change, Freshness, Texts, copied};
+use crate::change::{Change, Freshness, Texts, Way, copied, text_over};
+use crate::line_buffer::LineBuffer;
 use rl_base::{Gathered, Refusal, RepeatCount};
 use std::alloc::Global;
 
@@ -444,6 +447,26 @@ pub(crate) fn has_change(entries: &[Change]) -> bool
         }
     }
     false
+}
+
+/// Whether a line can go over the entries that way, and each cursor that was told stands between two characters then. It
+/// is tried on a copy of the text, if there is a change among them.
+pub(crate) fn lead(
+    alloc: Global,
+    line: &LineBuffer,
+    entries: &[Change],
+    way: Way,
+) -> Result<bool, Refusal>
+    ensures ok { IfOk result (λ answer. answer ≡ is_some (line_back (entries_to_undo way entries.now) line.now)) }
+    ensures err { IfErr result (λ r. (r ≡ NoMemory) × ((has_change (map entry_of entries.now) ≡ true) × (0 < length line.now.text + bytes_back (entries_to_undo way entries.now)))) }
+{
+    // So the proof knows that the cursor stands between two characters.
+    let _cursor = line.pos();
+    if !has_change(entries) {
+        return Ok(true);
+    }
+    let text = text_over(alloc, line.as_str(), entries, way, true)?;
+    Ok(text.is_some())
 }
 
 /// A copy of what the last entry put in, Ends passed over.

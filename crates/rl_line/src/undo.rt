@@ -15,6 +15,8 @@ ghost use Rattle.rl_line.specs.Record.{Entry, End, IsOfKind, Record, last_insert
 ghost use Rattle.rl_line.specs.Undo.{CopiesAhead, CopiesBack, Redone, Redos, StandAfter, StandBefore, Undone, line_ahead, line_back, steps_ahead, steps_back, texts_ahead, texts_back};
 ghost use Rattle.rl_line.specs.Units.{BothMatched, GroupAt, InGroup, IsMatched, adds_end, after_in_group, begun, ended, ended_one, has_change, in_group, kept_of, last_of, last_units, level, opens, redo_of, truncated, with_closed};
 
+mod foretelling;
+
 use crate::change::{Change, Freshness, Way, text_over};
 use crate::line_buffer::LineBuffer;
 use crate::{entries, forgetting};
@@ -199,10 +201,10 @@ impl Changeset {
     /// unit is a change, a closed group, or the begin of an open one. Answers whether there was a change.
     /// The cursor goes back to where it was before the last change that is undone, or, where the record was not
     /// told that, to the place of that change, past what it puts back.
-    /// `can_undo` tells whether the recorded changes can be taken back from the line's text. It finds all room
-    /// first, so refused it changes nothing.
+    /// `can_undo_last` tells whether these units can be taken back from the line's text, and `can_undo` whether all can.
+    /// It finds all room first, so refused it changes nothing.
     pub fn undo(&mut self, line: &mut LineBuffer, n: RepeatCount) -> Result<bool, Refusal>
-        requires { IsSome (line_back self.old.recorded line.old) }
+        requires { IsSome (line_back (last_of n self.old.recorded) line.old) }
         ensures done { IfOk result (λ answer. Undone n self.old self.new line.old line.new answer) }
         ensures unmoved { IfOk result (λ answer. answer ≡ false → (line.new.text ≡ line.old.text) × (line.new.cursor ≡ line.old.cursor)) }
         ensures err { IfErr result (λ r. (r ≡ NoMemory) × (self.new ≡ self.old) × (line.new ≡ line.old) × Any (NeedsRoom line.old.text) (texts_back (last_of n self.old.recorded) line.old.text)) }
@@ -222,7 +224,7 @@ impl Changeset {
         n: RepeatCount,
         listener: &mut L,
     ) -> Result<bool, Refusal>
-        requires follows { IsSome (line_back self.old.recorded line.old) }
+        requires follows { IsSome (line_back (last_of n self.old.recorded) line.old) }
         requires hears { NeverRefuses L.refused }
         ensures done { IfOk result (λ answer. Undone n self.old self.new line.old line.new answer) }
         ensures unmoved { IfOk result (λ answer. answer ≡ false → (line.new.text ≡ line.old.text) × (line.new.cursor ≡ line.old.cursor)) }
@@ -247,7 +249,7 @@ impl Changeset {
         n: RepeatCount,
         listener: &mut L,
     ) -> Result<bool, Refusal>
-        requires follows { IsSome (line_back self.old.recorded line.old) }
+        requires follows { IsSome (line_back (last_of n self.old.recorded) line.old) }
         requires hears { NeverRefuses L.refused }
         ensures done { IfOk result (λ answer. Undone n self.old self.new line.old line.new answer) }
         ensures unmoved { IfOk result (λ answer. answer ≡ false → (line.new.text ≡ line.old.text) × (line.new.cursor ≡ line.old.cursor)) }
@@ -270,10 +272,10 @@ impl Changeset {
     /// Redoes what was undone: the next change, or the next group, or all that is left where its group was
     /// never closed. Answers whether there was a change. The cursor goes to where it went with the last change that
     /// is redone, or, where the record was not told that, to the place of that change, past what it puts in.
-    /// `can_redo` tells whether the undone changes fit the line. It finds all room first, so refused it changes
-    /// nothing.
+    /// `can_redo_next` tells whether these changes fit the line, and `can_redo` whether all that were undone do. It finds
+    /// all room first, so refused it changes nothing.
     pub fn redo(&mut self, line: &mut LineBuffer) -> Result<bool, Refusal>
-        requires { IsSome (line_ahead self.old.pending line.old) }
+        requires { IsSome (line_ahead (redo_of self.old.pending) line.old) }
         ensures done { IfOk result (λ answer. Redone self.old self.new line.old line.new answer) }
         ensures unmoved { IfOk result (λ answer. answer ≡ false → (line.new.text ≡ line.old.text) × (line.new.cursor ≡ line.old.cursor)) }
         ensures err { IfErr result (λ r. (r ≡ NoMemory) × (self.new ≡ self.old) × (line.new ≡ line.old) × Any (NeedsRoom line.old.text) (texts_ahead (redo_of self.old.pending) line.old.text)) }
@@ -291,7 +293,7 @@ impl Changeset {
         line: &mut LineBuffer,
         listener: &mut L,
     ) -> Result<bool, Refusal>
-        requires follows { IsSome (line_ahead self.old.pending line.old) }
+        requires follows { IsSome (line_ahead (redo_of self.old.pending) line.old) }
         requires hears { NeverRefuses L.refused }
         ensures done { IfOk result (λ answer. Redone self.old self.new line.old line.new answer) }
         ensures unmoved { IfOk result (λ answer. answer ≡ false → (line.new.text ≡ line.old.text) × (line.new.cursor ≡ line.old.cursor)) }
@@ -315,7 +317,7 @@ impl Changeset {
         line: &mut LineBuffer,
         listener: &mut L,
     ) -> Result<bool, Refusal>
-        requires follows { IsSome (line_ahead self.old.pending line.old) }
+        requires follows { IsSome (line_ahead (redo_of self.old.pending) line.old) }
         requires hears { NeverRefuses L.refused }
         ensures done { IfOk result (λ answer. Redone self.old self.new line.old line.new answer) }
         ensures unmoved { IfOk result (λ answer. answer ≡ false → (line.new.text ≡ line.old.text) × (line.new.cursor ≡ line.old.cursor)) }
@@ -385,37 +387,49 @@ impl Changeset {
     }
 
     /// Whether all recorded changes can be taken back from the line's text, the last first, and each cursor that was
-    /// told stands between two characters then.
+    /// told stands between two characters then. So an undo of any number of units can.
     pub fn can_undo(&self, line: &LineBuffer) -> Result<bool, Refusal>
         ensures ok { IfOk result (λ answer. answer ≡ is_some (line_back self.now.recorded line.now)) }
+        ensures units { IfOk result (λ answer. answer ≡ true → (n : ℕ) → IsSome (line_back (last_of n self.now.recorded) line.now)) }
         ensures err { IfErr result (λ r. (r ≡ NoMemory) × CopiesBack self.now.recorded line.now.text) }
     {
-        // So the proof knows that the cursor stands between two characters.
-        let _cursor = line.pos();
         let alloc = *self.entries.allocator();
-        let recorded = &self.entries[..self.recorded];
-        if !entries::has_change(recorded) {
-            return Ok(true);
-        }
-        let text = text_over(alloc, line.as_str(), recorded, Way::Back, true)?;
-        Ok(text.is_some())
+        entries::lead(alloc, line, &self.entries[..self.recorded], Way::Back)
+    }
+
+    /// Whether an undo of `n` fits the line: whether its units can be taken back as `can_undo` asks it of all. It takes
+    /// time of these units and of a copy of the text, however much is recorded before them.
+    pub fn can_undo_last(&self, line: &LineBuffer, n: RepeatCount) -> Result<bool, Refusal>
+        ensures ok { IfOk result (λ answer. answer ≡ is_some (line_back (last_of n self.now.recorded) line.now)) }
+        ensures err { IfErr result (λ r. (r ≡ NoMemory) × CopiesBack (last_of n self.now.recorded) line.now.text) }
+    {
+        let taken = entries::last_len(&self.entries[..self.recorded], n);
+        let first = self.recorded - taken;
+        let alloc = *self.entries.allocator();
+        entries::lead(alloc, line, &self.entries[first..self.recorded], Way::Back)
     }
 
     /// Whether all undone changes can be made again on the line's text, the last undone first, and each cursor that
-    /// was told stands between two characters then.
+    /// was told stands between two characters then. So a redo can.
     pub fn can_redo(&self, line: &LineBuffer) -> Result<bool, Refusal>
         ensures ok { IfOk result (λ answer. answer ≡ is_some (line_ahead self.now.pending line.now)) }
+        ensures unit { IfOk result (λ answer. answer ≡ true → IsSome (line_ahead (redo_of self.now.pending) line.now)) }
         ensures err { IfErr result (λ r. (r ≡ NoMemory) × CopiesAhead self.now.pending line.now.text) }
     {
-        // So the proof knows that the cursor stands between two characters.
-        let _cursor = line.pos();
         let alloc = *self.entries.allocator();
-        let pending = &self.entries[self.recorded..];
-        if !entries::has_change(pending) {
-            return Ok(true);
-        }
-        let text = text_over(alloc, line.as_str(), pending, Way::Ahead, true)?;
-        Ok(text.is_some())
+        entries::lead(alloc, line, &self.entries[self.recorded..], Way::Ahead)
+    }
+
+    /// Whether a redo fits the line: whether what it makes again can be made as `can_redo` asks it of all. It takes time
+    /// of that unit and of a copy of the text.
+    pub fn can_redo_next(&self, line: &LineBuffer) -> Result<bool, Refusal>
+        ensures ok { IfOk result (λ answer. answer ≡ is_some (line_ahead (redo_of self.now.pending) line.now)) }
+        ensures err { IfErr result (λ r. (r ≡ NoMemory) × CopiesAhead (redo_of self.now.pending) line.now.text) }
+    {
+        let coming = entries::next_len(&self.entries[self.recorded..]);
+        let end = self.recorded + coming;
+        let alloc = *self.entries.allocator();
+        entries::lead(alloc, line, &self.entries[self.recorded..end], Way::Ahead)
     }
 
     /// Whether the first `len` entries lead to the line's text by themselves, so that `truncate` may drop the

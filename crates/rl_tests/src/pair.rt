@@ -30,7 +30,7 @@ fn hears(rt: &impl Abort, line: &mut LineBuffer, pair: &mut Pair) -> Result<(), 
     holds(rt, pair, 2, None, "nor is a deletion");
     line.kill(&Movement::BeginningOfLine, pair)?;
     holds(rt, pair, 3, Some("a b"), "a kill is for both");
-    if pair.changes.can_undo(line)? {
+    if pair.changes.can_undo_last(line, 3)? {
         pair.changes.undo(line, 3)?;
     }
     holds(
@@ -63,10 +63,13 @@ fn goes_to(
     before: usize,
     after: usize,
 ) -> Result<(), Fail> {
-    assert!(rt; changes.can_undo(line)?, "the record leads back");
+    assert!(rt;
+        changes.can_undo_last(line, 1)?,
+        "the change can be taken back"
+    );
     changes.undo(line, 1)?;
     assert!(rt; line.pos() == before, "the cursor before the change");
-    assert!(rt; changes.can_redo(line)?, "the change fits the line");
+    assert!(rt; changes.can_redo_next(line)?, "the change fits the line");
     changes.redo(line)?;
     assert!(rt; line.pos() == after, "the cursor after the change");
     Ok(())

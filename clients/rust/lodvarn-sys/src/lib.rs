@@ -1,9 +1,13 @@
-//! The calls and numbers of liblodvarn, as `include/lodvarn.h` declares them. The crate `lodvarn` wraps them all in
-//! safe calls.
+//! The calls and numbers of liblodvarn, as `include/lodvarn.h` and `include/lodvarn_parts.h` declare them. The crate
+//! `lodvarn` wraps them all in safe calls.
 //!
-//! The header says of each call what it wants of its pointers, what it answers, and what each error leaves.
+//! The headers say of each call what it wants of its pointers, what it answers, and what each error leaves.
 #![no_std]
 #![deny(missing_docs, unsafe_op_in_unsafe_fn)]
+
+mod parts;
+
+pub use parts::*;
 
 use core::marker::{PhantomData, PhantomPinned};
 

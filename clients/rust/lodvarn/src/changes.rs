@@ -50,22 +50,33 @@ impl Report {
     /// Hands it to a listener. The splice of what it can't hand over, since the texts are not there.
     fn tell<L: ChangeListener + ?Sized>(&self, listener: &mut L) -> Result<(), Splice> {
         let (old, new) = self.texts.as_ref().ok_or_else(|| self.splice())?;
-        let at = self.at;
-        match self.kind {
-            ReportKind::CharInserted => new.chars().for_each(|it| listener.insert_char(at, it)),
-            ReportKind::TextInserted => listener.insert_str(at, new),
-            ReportKind::DeletedForward => listener.delete(at, old, Direction::Forward),
-            ReportKind::DeletedBackward => listener.delete(at, old, Direction::Backward),
-            ReportKind::Replaced => listener.replace(at, old, new),
-            ReportKind::KillStarted => listener.start_killing(),
-            ReportKind::KillStopped => listener.stop_killing(),
-            ReportKind::Folded => return Err(self.splice()),
-        }
+        tell(listener, self.kind, self.at, old, new);
         Ok(())
     }
 }
 
-/// Hears of deletions, and of kills, from [`Session::tell`].
+/// Tells a listener of a change, by the method of its kind. One that is folded is told by none.
+pub(crate) fn tell<L: ChangeListener + ?Sized>(
+    listener: &mut L,
+    kind: ReportKind,
+    at: usize,
+    old: &str,
+    new: &str,
+) {
+    match kind {
+        ReportKind::CharInserted => new.chars().for_each(|it| listener.insert_char(at, it)),
+        ReportKind::TextInserted => listener.insert_str(at, new),
+        ReportKind::DeletedForward => listener.delete(at, old, Direction::Forward),
+        ReportKind::DeletedBackward => listener.delete(at, old, Direction::Backward),
+        ReportKind::Replaced => listener.replace(at, old, new),
+        ReportKind::KillStarted => listener.start_killing(),
+        ReportKind::KillStopped => listener.stop_killing(),
+        ReportKind::Folded => {}
+    }
+}
+
+/// Hears of deletions, and of kills, from [`Session::tell`] and from the edits of a
+/// [`LineBuffer`](crate::line_buffer::LineBuffer).
 pub trait DeleteListener {
     /// A kill begins: the deletions up to `stop_killing` are a part of it. Without a body of its own it does nothing.
     fn start_killing(&mut self) {}
@@ -77,7 +88,8 @@ pub trait DeleteListener {
     fn stop_killing(&mut self) {}
 }
 
-/// Hears of all changes, from [`Session::tell`]. The changes that it hears of, in their order, make the present text
+/// Hears of all changes, from [`Session::tell`] and from the edits of a
+/// [`LineBuffer`](crate::line_buffer::LineBuffer). The changes that it hears of, in their order, make the present text
 /// of the one that it knew.
 pub trait ChangeListener: DeleteListener {
     /// The character `c` was put in at the byte place `idx`.

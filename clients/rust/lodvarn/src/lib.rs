@@ -17,12 +17,23 @@
 //! grapheme clusters, words, lines or repetitions. Lines, rows and columns are numbered from 0. Each call names the
 //! faults that it answers, and [`Fault`] says what they leave. `docs/RULES.md` says exactly what each call does.
 //!
+//! A [`Session`] keeps a line, its record and its ring in step. An editor that was written for rustyline 19.0.0's own
+//! types, or that brings them together in its own way, finds them under their names in [`line_buffer`], [`undo`],
+//! [`kill_ring`], [`keymap`] and [`layout`].
+//!
 //! The crate links the archive of the library, which `lodvarn-sys` finds.
 #![deny(missing_docs, unsafe_op_in_unsafe_fn)]
 #![warn(clippy::missing_errors_doc)]
 
+pub mod keymap;
+pub mod kill_ring;
+pub mod layout;
+pub mod line_buffer;
+pub mod undo;
+
 mod builder;
 mod changes;
+mod parts;
 mod reads;
 mod record;
 mod ring;
@@ -33,7 +44,11 @@ pub use builder::SessionBuilder;
 pub use changes::{ChangeListener, Changes, DeleteListener, Report, Splice, Untold};
 pub use record::Group;
 pub use texts::{cell, first_cluster, last_cluster, place_at, run_script, version, width};
-pub use words::{Action, At, Bound, Direction, Fault, Mode, Movement, ReportKind, Search, Word};
+#[allow(deprecated)]
+pub use words::Search;
+pub use words::{
+    Action, At, Bound, CharSearch, Direction, Fault, Mode, Movement, ReportKind, Word,
+};
 
 use lodvarn_sys as ffi;
 use std::cell::UnsafeCell;
@@ -79,6 +94,7 @@ impl fmt::Debug for Session {
     }
 }
 
+#[inline]
 fn done(answer: u32) -> Result<(), Fault> {
     match answer {
         ffi::DONE => Ok(()),
@@ -86,6 +102,7 @@ fn done(answer: u32) -> Result<(), Fault> {
     }
 }
 
+#[inline]
 fn yes(answer: u32) -> Result<bool, Fault> {
     match answer {
         ffi::TRUE => Ok(true),
@@ -94,6 +111,7 @@ fn yes(answer: u32) -> Result<bool, Fault> {
     }
 }
 
+#[inline]
 fn inserted(answer: u32) -> Result<Option<bool>, Fault> {
     match answer {
         ffi::NONE => Ok(None),
@@ -314,7 +332,7 @@ impl Session {
     /// # Errors
     ///
     /// [`Fault::NoMemory`].
-    pub fn delete_to(&mut self, search: Search, n: u16) -> Result<bool, Fault> {
+    pub fn delete_to(&mut self, search: CharSearch, n: u16) -> Result<bool, Fault> {
         let (number, c) = search.numbers();
         yes(unsafe { ffi::lodvarn_delete_to(self.at.get(), number, c, n) })
     }

@@ -6,7 +6,6 @@ use std::fmt;
 /// How columns are counted.
 #[derive(Clone, Copy, Debug, Default, PartialEq, Eq, Hash)]
 #[repr(u32)]
-#[non_exhaustive]
 pub enum Mode {
     /// The width of the whole text, an emoji sequence as one emoji.
     #[default]
@@ -20,7 +19,6 @@ pub enum Mode {
 /// What belongs to a word.
 #[derive(Clone, Copy, Debug, PartialEq, Eq, Hash)]
 #[repr(u32)]
-#[non_exhaustive]
 pub enum Word {
     /// Everything but blanks.
     Big = ffi::BIG,
@@ -33,7 +31,6 @@ pub enum Word {
 /// Where a motion forward by words stops.
 #[derive(Clone, Copy, Debug, PartialEq, Eq, Hash)]
 #[repr(u32)]
-#[non_exhaustive]
 pub enum At {
     /// At the start of a word.
     Start = ffi::START,
@@ -46,7 +43,6 @@ pub enum At {
 /// The letter case that a word gets.
 #[derive(Clone, Copy, Debug, PartialEq, Eq, Hash)]
 #[repr(u32)]
-#[non_exhaustive]
 pub enum Action {
     /// The first character in upper case, the others in lower case.
     Capitalize = ffi::CAPITALIZE,
@@ -58,8 +54,7 @@ pub enum Action {
 
 /// Where a search for a character goes.
 #[derive(Clone, Copy, Debug, PartialEq, Eq, Hash)]
-#[non_exhaustive]
-pub enum Search {
+pub enum CharSearch {
     /// Forward, to the character; a deletion takes it too.
     Forward(char),
     /// Forward, to the one before the character; a deletion leaves the character.
@@ -70,14 +65,14 @@ pub enum Search {
     BackwardAfter(char),
 }
 
-impl Search {
+impl CharSearch {
     /// Its number, and the number of its character.
     pub(crate) fn numbers(self) -> (u32, u32) {
         match self {
-            Search::Forward(c) => (ffi::FORWARD, c.into()),
-            Search::ForwardBefore(c) => (ffi::FORWARD_BEFORE, c.into()),
-            Search::Backward(c) => (ffi::BACKWARD, c.into()),
-            Search::BackwardAfter(c) => (ffi::BACKWARD_AFTER, c.into()),
+            CharSearch::Forward(c) => (ffi::FORWARD, c.into()),
+            CharSearch::ForwardBefore(c) => (ffi::FORWARD_BEFORE, c.into()),
+            CharSearch::Backward(c) => (ffi::BACKWARD, c.into()),
+            CharSearch::BackwardAfter(c) => (ffi::BACKWARD_AFTER, c.into()),
         }
     }
 }
@@ -97,9 +92,9 @@ pub enum Movement {
     /// Forward to the n-th word, as `At` says.
     ForwardWord(u16, At, Word),
     /// To the n-th hit of a search for a character, or to the farthest where there are fewer.
-    Search(u16, Search),
+    ViCharSearch(u16, CharSearch),
     /// From the first start of a big word after the start of the text to the cursor. No motion.
-    FirstPrint,
+    ViFirstPrint,
     /// n grapheme clusters back.
     BackwardChar(u16),
     /// n grapheme clusters forward.
@@ -119,7 +114,23 @@ pub enum Movement {
     FirstNonBlank,
 }
 
+/// What [`CharSearch`] was called before.
+#[deprecated(since = "0.1.0", note = "its name is `CharSearch` now")]
+pub type Search = CharSearch;
+
 impl Movement {
+    /// What `ViFirstPrint` was called before.
+    #[allow(non_upper_case_globals)]
+    #[deprecated(since = "0.1.0", note = "its name is `ViFirstPrint` now")]
+    pub const FirstPrint: Movement = Movement::ViFirstPrint;
+
+    /// What `ViCharSearch` was called before.
+    #[allow(non_snake_case)]
+    #[deprecated(since = "0.1.0", note = "its name is `ViCharSearch` now")]
+    pub fn Search(n: u16, search: CharSearch) -> Movement {
+        Movement::ViCharSearch(n, search)
+    }
+
     fn number(self) -> u32 {
         match self {
             Movement::WholeLine => ffi::WHOLE_LINE,
@@ -141,11 +152,11 @@ impl Movement {
             Movement::ForwardWord(_, At::Start, Word::Vi) => ffi::FORWARD_VI_WORD_START,
             Movement::ForwardWord(_, At::BeforeEnd, Word::Vi) => ffi::FORWARD_VI_WORD_BEFORE_END,
             Movement::ForwardWord(_, At::AfterEnd, Word::Vi) => ffi::FORWARD_VI_WORD_AFTER_END,
-            Movement::Search(_, Search::Forward(_)) => ffi::SEARCH_FORWARD,
-            Movement::Search(_, Search::ForwardBefore(_)) => ffi::SEARCH_FORWARD_BEFORE,
-            Movement::Search(_, Search::Backward(_)) => ffi::SEARCH_BACKWARD,
-            Movement::Search(_, Search::BackwardAfter(_)) => ffi::SEARCH_BACKWARD_AFTER,
-            Movement::FirstPrint => ffi::FIRST_PRINT,
+            Movement::ViCharSearch(_, CharSearch::Forward(_)) => ffi::SEARCH_FORWARD,
+            Movement::ViCharSearch(_, CharSearch::ForwardBefore(_)) => ffi::SEARCH_FORWARD_BEFORE,
+            Movement::ViCharSearch(_, CharSearch::Backward(_)) => ffi::SEARCH_BACKWARD,
+            Movement::ViCharSearch(_, CharSearch::BackwardAfter(_)) => ffi::SEARCH_BACKWARD_AFTER,
+            Movement::ViFirstPrint => ffi::FIRST_PRINT,
             Movement::BackwardChar(_) => ffi::BACKWARD_CHAR,
             Movement::ForwardChar(_) => ffi::FORWARD_CHAR,
             Movement::LineUp(_) => ffi::LINE_UP,
@@ -160,7 +171,7 @@ impl Movement {
     /// Its count, and the number of its character.
     fn count(self) -> (u16, u32) {
         match self {
-            Movement::Search(n, search) => (n, search.numbers().1),
+            Movement::ViCharSearch(n, search) => (n, search.numbers().1),
             Movement::BackwardWord(n, _) | Movement::ForwardWord(n, _, _) => (n, 0),
             Movement::BackwardChar(n) | Movement::ForwardChar(n) => (n, 0),
             Movement::LineUp(n) | Movement::LineDown(n) => (n, 0),

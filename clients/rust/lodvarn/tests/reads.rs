@@ -1,6 +1,6 @@
 //! Reads of sessions and of screens, with answers that were worked out by hand, and beside commands at random.
 use lodvarn::{
-    cell, first_cluster, place_at, width, At, Fault, Mode, Movement, Search, Session, Word,
+    cell, first_cluster, place_at, width, At, CharSearch, Fault, Mode, Movement, Session, Word,
 };
 use random::{command, Random};
 use std::num::NonZeroU16;
@@ -42,7 +42,7 @@ fn the_cursor_has_a_line_and_a_column() {
 #[test]
 fn movements_cover() {
     let word = |n| Movement::BackwardWord(n, Word::Emacs);
-    let search = |n, search| Movement::Search(n, search);
+    let search = |n, search| Movement::ViCharSearch(n, search);
     // The text, the cursor, the movement, and what it covers.
     let rows = [
         ("ba\nsdf", 4, Movement::WholeLine, Some(3..6)),
@@ -66,21 +66,21 @@ fn movements_cover() {
             Movement::ForwardWord(1, At::AfterEnd, Word::Emacs),
             Some(0..1),
         ),
-        ("abcbe", 0, search(2, Search::Forward('b')), Some(0..4)),
+        ("abcbe", 0, search(2, CharSearch::Forward('b')), Some(0..4)),
         (
             "abcbe",
             0,
-            search(2, Search::ForwardBefore('b')),
+            search(2, CharSearch::ForwardBefore('b')),
             Some(0..3),
         ),
-        ("abcbe", 4, search(1, Search::Backward('a')), Some(0..4)),
+        ("abcbe", 4, search(1, CharSearch::Backward('a')), Some(0..4)),
         (
             "abcbe",
             4,
-            search(1, Search::BackwardAfter('a')),
+            search(1, CharSearch::BackwardAfter('a')),
             Some(1..4),
         ),
-        ("abcbe", 4, search(1, Search::Forward('x')), None),
+        ("abcbe", 4, search(1, CharSearch::Forward('x')), None),
         ("a\nb\nc", 2, Movement::LineUp(1), Some(0..4)),
         ("a\nb\nc", 0, Movement::LineUp(1), None),
         // an empty range, of an empty line

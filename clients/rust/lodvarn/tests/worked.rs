@@ -1,7 +1,7 @@
 //! Scripts of sessions in Rust, with answers that were worked out by hand.
 use lodvarn::{
-    first_cluster, last_cluster, run_script, version, width, Action, At, Fault, Mode, Movement,
-    Search, Session, Word, NO_LIMIT, VERSION,
+    first_cluster, last_cluster, run_script, version, width, Action, At, CharSearch, Fault, Mode,
+    Movement, Session, Word, NO_LIMIT, VERSION,
 };
 
 const FAMILY: &str = "\u{1f468}\u{200d}\u{1f469}\u{200d}\u{1f467}";
@@ -158,7 +158,7 @@ fn every_command_does_something() -> Result<(), Fault> {
     assert!(s.delete_prev_word(Word::Emacs, 1)?);
     assert!(s.delete_word(At::AfterEnd, Word::Emacs, 1)?);
     assert!(s.edit_word(Action::Uppercase)?);
-    assert!(s.delete_to(Search::Backward('C'), 1)?);
+    assert!(s.delete_to(CharSearch::Backward('C'), 1)?);
     stands(&s, "x  ", 3);
     assert!(s.move_by(Movement::BeginningOfBuffer));
     assert!(s.kill(Movement::EndOfLine)?);
@@ -198,7 +198,7 @@ fn movements_move() {
         ("ba\nsdf", 0, Movement::EndOfLine, Some(2)),
         ("ba\nsdf", 0, Movement::WholeLine, None),
         ("ba\nsdf", 4, Movement::WholeBuffer, None),
-        ("ba\nsdf", 4, Movement::FirstPrint, None),
+        ("ba\nsdf", 4, Movement::ViFirstPrint, None),
         ("ba\nsdf", 4, Movement::BeginningOfBuffer, Some(0)),
         ("ba\nsdf", 4, Movement::EndOfBuffer, Some(6)),
         ("ba\nsdf", 4, Movement::LineUp(1), Some(1)),
@@ -241,28 +241,33 @@ fn movements_move() {
         (
             "abcbe",
             0,
-            Movement::Search(2, Search::Forward('b')),
+            Movement::ViCharSearch(2, CharSearch::Forward('b')),
             Some(3),
         ),
         (
             "abcbe",
             0,
-            Movement::Search(1, Search::ForwardBefore('e')),
+            Movement::ViCharSearch(1, CharSearch::ForwardBefore('e')),
             Some(3),
         ),
         (
             "abcbe",
             4,
-            Movement::Search(1, Search::Backward('b')),
+            Movement::ViCharSearch(1, CharSearch::Backward('b')),
             Some(3),
         ),
         (
             "abcbe",
             4,
-            Movement::Search(1, Search::BackwardAfter('a')),
+            Movement::ViCharSearch(1, CharSearch::BackwardAfter('a')),
             Some(1),
         ),
-        ("abcbe", 4, Movement::Search(1, Search::Forward('x')), None),
+        (
+            "abcbe",
+            4,
+            Movement::ViCharSearch(1, CharSearch::Forward('x')),
+            None,
+        ),
         ("x\n \u{3000}ab\ny", 2, Movement::FirstNonBlank, Some(6)),
         ("x\n \u{3000}ab\ny", 8, Movement::FirstNonBlank, Some(6)),
         ("x\n \u{3000}ab\ny", 6, Movement::FirstNonBlank, None),

@@ -79,6 +79,22 @@ pub after-steps_back : (es : List Entry) (line now : Line) → IsCharBoundary li
     → after (steps_back line.cursor es) line ≡ Some now
 after-steps_back es line now at within h = after-steps_ahead (map inverse (reverse es)) line now at within (line_back-ahead es line ∙ h)
 
+-- where the cursor is after entries were made, from where it stood before them; and after they were taken back, the last first
+abbrev cursor_past : ℕ → List Entry → ℕ
+cursor_past cursor [] = cursor
+cursor_past cursor (e ∷ es) = cursor_past (cursor_after cursor e) es
+
+abbrev pub cursor_past_back : ℕ → List Entry → ℕ
+cursor_past_back cursor es = cursor_past cursor (map inverse (reverse es))
+
+cursor_past-append : (es : List Entry) (e : Entry) (cursor : ℕ) → cursor_past cursor (es ++ e ∷ []) ≡ cursor_after (cursor_past cursor es) e
+cursor_past-append [] e cursor = refl
+cursor_past-append (d ∷ es) e cursor = cursor_past-append es e (cursor_after cursor d)
+
+pub cursor_past_back-one_more : (e : Entry) (es : List Entry) (cursor : ℕ) → cursor_past_back cursor (e ∷ es) ≡ cursor_after (cursor_past_back cursor es) (inverse e)
+cursor_past_back-one_more e es cursor =
+    ap (cursor_past cursor) (ap (map inverse) (reverse-append (e ∷ []) es) ∙ map-append inverse (reverse es) (e ∷ [])) ∙ cursor_past-append (map inverse (reverse es)) (inverse e) cursor
+
 -- ---- what a listener became
 module _ {L : Type 0} (step : L → Event → L) where
   -- over entries and one more
@@ -103,6 +119,24 @@ module _ {L : Type 0} (step : L → Event → L) where
       let heard = listener_after_step step line.cursor (event_of d, cursor_after line.cursor d) l in
       subst (λ k. listener_after step k (steps_ahead k (es ++ e ∷ [])) heard ≡ listener_after step now.cursor (steps_ahead now.cursor (e ∷ [])) (listener_after step k (steps_ahead k es) heard)) gone
       (ahead-one_more es e p.0 now heard p.2)
+
+  -- the same by the cursor alone
+  ahead-past : (es : List Entry) (e : Entry) (cursor : ℕ) (l : L)
+      → listener_after step cursor (steps_ahead cursor (es ++ e ∷ [])) l
+      ≡ listener_after step (cursor_past cursor es) (steps_ahead (cursor_past cursor es) (e ∷ [])) (listener_after step cursor (steps_ahead cursor es) l)
+  ahead-past [] e cursor l = refl
+  ahead-past (Begin ∷ es) e cursor l = ahead-past es e cursor l
+  ahead-past (End ∷ es) e cursor l = ahead-past es e cursor l
+  ahead-past (Changed kind swap ∷ es) e cursor l =
+      let d = Changed kind swap in
+      ahead-past es e (cursor_after cursor d) (listener_after_step step cursor (event_of d, cursor_after cursor d) l)
+
+  pub back-past : (e : Entry) (es : List Entry) (cursor : ℕ) (l : L)
+      → listener_after step cursor (steps_back cursor (e ∷ es)) l
+      ≡ listener_after step (cursor_past_back cursor es) (steps_ahead (cursor_past_back cursor es) (inverse e ∷ [])) (listener_after step cursor (steps_back cursor es) l)
+  back-past e es cursor l =
+      ap (λ ds. listener_after step cursor (steps_ahead cursor ds) l) (ap (map inverse) (reverse-append (e ∷ []) es) ∙ map-append inverse (reverse es) (e ∷ []))
+      ∙ ahead-past (map inverse (reverse es)) (inverse e) cursor l
 
   -- a line went back over entries, and now over one before them
   pub back-one_more : (e : Entry) (es : List Entry) (line now : Line) (l : L) → line_back es line ≡ Some now

@@ -186,6 +186,18 @@ pub record Redoes (es : List Entry) (unit rest : List Entry) : Type 0 where
   pub unit_matched : IsMatched unit
   pub rest_matched : IsMatched rest
 
+-- the unit that is redone next stands in front of those after it
+pub redo-front : (es : List Entry) → redo_of es ++ drop (length (redo_of es)) es ≡ es
+redo-front es = go (reverse (units es)) refl
+  where
+    go : (rs : List UndoUnit) → reverse (units es) ≡ rs → redo_from es rs ++ drop (length (redo_from es rs)) es ≡ es
+    go [] e = refl
+    go (Open ∷ rs) e = ap (λ x. es ++ x) (ap (drop (length es)) (sym (append-nil es)) ∙ drop_at es [] (length es) refl) ∙ append-nil es
+    go (Whole inner ∷ rs) e =
+        let us : units es ≡ reverse rs ++ (Whole inner ∷ []) = sym (reverse-reverse (units es)) ∙ ap reverse e ∙ reverse-append (Whole inner ∷ []) rs in
+        let all : inner ++ together (reverse rs) ≡ es = sym (together-append (reverse rs) (Whole inner ∷ [])) ∙ ap together (sym us) ∙ together-units es in
+        ap (λ x. inner ++ x) (ap (drop (length inner)) (sym all) ∙ drop_at inner (together (reverse rs)) (length inner) refl) ∙ all
+
 pub Redoes-of : (es : List Entry) → IsMatched es → Redoes es (redo_of es) (drop (length (redo_of es)) es)
 Redoes-of es h = go (reverse (units es)) refl
   where

@@ -4,21 +4,22 @@ use Rattle.std.proofs.lemmas.Bool.{leb-true, leb-false}
 use Rattle.std.proofs.lemmas.List.Elements.{All-drop, All-map, All-take}
 use Rattle.std.proofs.lemmas.List.{drop-map, drop_all, length-map, length-take-le, take-map, take-append-drop, take_rest}
 use Rattle.std.specs.Prelude.{All, IsSome, get_or, is_some}
-use Rattle.std.specs.Str.{IsCharBoundary, IsUtf8}
+use Rattle.std.specs.Str.{IsCharBoundary}
 use Rattle.rl_base.specs.Event.{Event, InsertChar, InsertStr, Delete, Replace, Cursors}
 use Rattle.rl_line.specs.declared.change.Change.{Change}
 use Rattle.rl_line.specs.declared.change.Change.TheVariants as made
-use Rattle.rl_line.specs.declared.change.Way.TheVariants.{Ahead}
+use Rattle.rl_line.specs.declared.change.Way.TheVariants.{Ahead, Back}
+use Rattle.rl_line.specs.declared.change.Way.{Way}
 use Rattle.rl_line.specs.Line.{Line}
 use Rattle.rl_line.specs.Record.{Entry, IsOfKind, Record, entries_after, entry_of, inverse, record_step, entries_told, freshness_of}
 use Rattle.rl_line.specs.Undo.{line_ahead, line_back}
-use Rattle.rl_line.specs.Units.{AtLevel, IsMatched, kept_of, last_of, redo_of, redone, undone}
-use Rattle.rl_line.specs.Change.{entry_to_undo, order, text_back}
+use Rattle.rl_line.specs.Units.{AtLevel, IsMatched, has_change, kept_of, last_of, redo_of, redone, undone}
+use Rattle.rl_line.specs.Change.{entries_to_undo, entry_to_undo, order}
 use Rattle.rl_line.specs.Entries.{IsCutAt, cut_at}
 use Rattle.rl_line.proofs.Records.ChangeLemmas.{ahead-inverse}
-use Rattle.rl_line.proofs.Records.MatchLemmas.{Redoes-of}
+use Rattle.rl_line.proofs.Records.MatchLemmas.{Redoes-of, redo-front}
 use Rattle.rl_line.proofs.Records.RecordLemmas.{IsSome-through}
-use Rattle.rl_line.proofs.Records.UndoLemmas.{line_ahead-append, line_ahead-back, line_back-append, line_back-is_some}
+use Rattle.rl_line.proofs.Records.UndoLemmas.{line_ahead-append, line_ahead-back, line_back-append, marks-ahead, marks-back}
 use Rattle.rl_line.proofs.Records.UnitLemmas.{kept-last}
 use Rattle.rl_line.specs.declared.change.Freshness.TheVariants.{Stale}
 use Rattle.rl_line.specs.declared.change.Freshness.{Freshness}
@@ -179,17 +180,17 @@ redone-view k end r es fresh v u =
 pub ahead-line : (xs : List Change) (es : List Entry) (line : Line) → map entry_of xs ≡ es → line_back (map (entry_to_undo Ahead) (order Ahead xs)) line ≡ line_ahead es line
 ahead-line xs es line e = ap (λ l. line_back l line) (ahead-inverse xs ∙ ap (λ l. map inverse (reverse l)) e) ∙ line_ahead-back es line
 
-pub redo-fits : (es : List Entry) (line : Line) → IsMatched es → IsSome (line_ahead es line) → IsSome (line_ahead (redo_of es) line)
-redo-fits es line m h =
+pub redo-fits : (es : List Entry) (line : Line) → IsSome (line_ahead es line) → IsSome (line_ahead (redo_of es) line)
+redo-fits es line h =
     let unit = redo_of es in
-    let all : line_ahead es line ≡ _ = ap (λ l. line_ahead l line) (sym (Redoes-of es m).list_is) ∙ line_ahead-append unit (drop (length unit) es) line in
+    let all : line_ahead es line ≡ _ = ap (λ l. line_ahead l line) (sym (redo-front es)) ∙ line_ahead-append unit (drop (length unit) es) line in
     IsSome-through (line_ahead (drop (length unit) es)) (line_ahead unit line) (subst IsSome all h)
 
 -- ---- questions
--- a text can go over all that waits where a line can go ahead over it
-pub all-ahead : (xs : List Change) (es : List Entry) (line : Line) → map entry_of xs ≡ es → IsUtf8 line.text → IsCharBoundary line.text line.cursor
-    → is_some (text_back true (map (entry_to_undo Ahead) (order Ahead xs)) line.text) ≡ is_some (line_ahead es line)
-all-ahead xs es line e u at = line_back-is_some (map (entry_to_undo Ahead) (order Ahead xs)) line u at ∙ ap is_some (ahead-line xs es line e)
+-- without a change there is always a way over the changes
+pub marks-lead : (way : Way) (xs : List Change) (line : Line) → has_change (map entry_of xs) ≡ false → IsCharBoundary line.text line.cursor → IsSome (line_back (entries_to_undo way xs) line)
+marks-lead Back xs line none at = marks-back (map entry_of xs) line none at
+marks-lead Ahead xs line none at = subst IsSome (sym (ahead-line xs (map entry_of xs) line refl)) (marks-ahead (map entry_of xs) line none at)
 
 pub some-map : (o : Option (String Global)) → is_some o ≡ is_some (option_map string_bytes o)
 some-map None = refl

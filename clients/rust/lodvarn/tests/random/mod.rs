@@ -1,5 +1,5 @@
 //! Commands at random.
-use lodvarn::{Action, At, Bound, Direction, Fault, Movement, Search, Session, Word};
+use lodvarn::{Action, At, Bound, CharSearch, Direction, Fault, Movement, Session, Word};
 use std::ops::Range;
 
 /// Numbers at random, by a linear congruential generator.
@@ -59,13 +59,13 @@ impl Random {
         self.one(&[At::Start, At::BeforeEnd, At::AfterEnd])
     }
 
-    pub fn search(&mut self) -> Search {
+    pub fn search(&mut self) -> CharSearch {
         let c = self.letter();
         self.one(&[
-            Search::Forward(c),
-            Search::ForwardBefore(c),
-            Search::Backward(c),
-            Search::BackwardAfter(c),
+            CharSearch::Forward(c),
+            CharSearch::ForwardBefore(c),
+            CharSearch::Backward(c),
+            CharSearch::BackwardAfter(c),
         ])
     }
 
@@ -79,8 +79,8 @@ impl Random {
             Movement::BackwardWord(n, word),
             Movement::ForwardWord(n, at, word),
             Movement::ForwardWord(n, at, word),
-            Movement::Search(n, search),
-            Movement::FirstPrint,
+            Movement::ViCharSearch(n, search),
+            Movement::ViFirstPrint,
             Movement::BackwardChar(n),
             Movement::ForwardChar(n),
             Movement::LineUp(n),

@@ -22,7 +22,8 @@ use Rattle.std.proofs.option.Made.{Some-of, none_of}
 use Rattle.std.proofs.ResultValues.{and_tt}
 use Rattle.std.proofs.raw_atomic.Walks.{proved_at}
 use Rattle.std.specs.declared.option.Option.TheVariants.{None, Some}
-use Rattle.rl_ffi.proofs.HandleSteps.{Held, E, both, handle_out, by_null}
+use Rattle.rl_ffi.proofs.HandleSteps.{both, by_null}
+use Rattle.rl_ffi.proofs.SessionHandle.{S, Held, E, handle_out}
 use Rattle.rl_ffi.proofs.PartsSteps.{Apart, apart, apart_in}
 use Rattle.rl_ffi.specs.contracts.handle.Handle.into_parts as f
 use Rattle.rl_ffi.specs.contracts.handle.Handle.into_parts.Key.{name as #self}
@@ -38,7 +39,7 @@ into_parts_spec 𝓤 𝓛 𝓜 𝓡 wired =
     let d = z.0.3.0 in let a = d.alloc in let Post = (walk_of 𝓛 f.ended stayed c).post z in
     let Run : List Val → SProp 𝓤 = λ ws. WpFn 𝓤 𝓛.H 𝓣.C 𝓣.Λ fn ws Post in
     qed 𝓛 ((‵ ftrue ⊛ ‵ (fsep (Held.own_val d z.0.4.0) ftrue)) ∷ raw (emp 𝓤) ∷ []) ∵ split ! $ drop ! $ fsplit ! $
-    handle_out ! d z.0.4.0 (λ hv ws fits. by_null ! a d.at d.value
+    handle_out ! d z.0.4.0 (λ hv ws fits. by_null S ! a d.at d.value
     (λ is none. let w : Val = both vnull hv in
     let e : z.0.4.0 ≡ w ∷ [] = ws ∙ ap (λ (p : Ptr). both (ptr_val p) hv ∷ []) is in
     suffices ! (Run (w ∷ [])) (subst (λ (us : List Val). ent 𝓤 (Run (w ∷ [])) (Run (us ++ []))) (sym e) (id⊢ 𝓤 (Run (w ∷ [])))) $

@@ -21,7 +21,8 @@ use Rattle.std.specs.contracts.impls.GlobalAllocator.TheImpl.{ghosts}
 use Rattle.std.specs.declared.option.Option.{Option}
 use Rattle.std.specs.declared.option.Option.TheVariants.{Some}
 use Rattle.rl_ffi.specs.Handle.{kept}
-use Rattle.rl_ffi.proofs.HandleSteps.{S, Z, E, both, owned, handle_in}
+use Rattle.rl_ffi.proofs.HandleSteps.{Z, both, owned}
+use Rattle.rl_ffi.proofs.SessionHandle.{S, E, handle_in}
 use Rattle.rl_ffi.proofs.PartsSteps.{Apart, apart_out}
 use Rattle.rl_ffi.specs.contracts.parts.Parts as parts
 use Rattle.rl_ffi.specs.contracts.handle.Handle.of_parts as f
@@ -50,7 +51,7 @@ of_parts_spec 𝓤 𝓛 𝓜 𝓡 wired =
     sets ! (agg ! (and_then ! (get ! refl) (and_then ! (get ! refl) (no_more !)))) refl (and_tt _ fits.0, (tt, (fits.1, tt))) $
     returns ! (look_at ! 0 refl) $ free_all ! refl $ keep ! (0 ∷ 1 ∷ []) $
     feq_i ! (Option S.Denot) (Some x) (Some x) refl $ fjoin ! $
-    fpack ! S.Denot (λ s. fsep (feq (Option S.Denot) (Some x) (Some s)) (owned a (block_ptr b o) s)) x $
+    fpack ! S.Denot (λ s. fsep (feq (Option S.Denot) (Some x) (Some s)) (owned S a (block_ptr b o) s)) x $
     use1 𝓛 (‵ (kept a (block_ptr b o) (Some x))) (id⊢ 𝓤 _) $ handle_in ! (block_ptr b o) hv a (Some x) $
     suffices ! _ (ends_at 𝓛 f.ended stayed c z w (record { at = block_ptr b o; alloc = a; value = Some x }) (tt, tt) (tt, tt)) $ says ! refl $
     nothing ! $ nothing ! $ fjoin ! $ join ! $ nothing ! $ join ! $ done !)))

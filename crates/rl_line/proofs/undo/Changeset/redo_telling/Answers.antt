@@ -10,7 +10,7 @@ use Rattle.rl_line.specs.Units.{AtLevel, IsMatched, has_change, level, redo_of, 
 use Rattle.rl_line.specs.declared.change.Freshness.TheVariants.{Stale}
 use Rattle.rl_line.proofs.Records.HeardLemmas.{steps_ahead-back}
 use Rattle.rl_line.proofs.Records.LevelLemmas.{AtLevel-redone, level-change}
-use Rattle.rl_line.proofs.Records.MoveLemmas.{IsCutAt-of, RedoesTo, RedoesTo-of, ahead-line, pending-part, redo-fits, redone-view}
+use Rattle.rl_line.proofs.Records.MoveLemmas.{IsCutAt-of, RedoesTo, RedoesTo-of, ahead-line, pending-part, redone-view}
 use Rattle.rl_line.proofs.Records.RoomLemmas.{texts_ahead-back}
 use Rattle.rl_line.proofs.undo.Changeset.redo_telling.Given.{Over}
 use Rattle.rl_line.proofs.undo.Changeset.redo_telling.Goals as goal
@@ -34,7 +34,7 @@ pub go_over_one-requires-clause-fits : goal.go_over_one-requires-clause-fits
 go_over_one-requires-clause-fits g c =
     let d = (goal.at.go_over_one-requires-clause-fits g c).In-Some in
     subst IsSome (sym (ahead-line (c.in-Some.change.now ∷ []) (redo_of c.args.self.now.pending) c.args.line.now (sym (unit g d))))
-    (redo-fits c.args.self.now.pending c.args.line.now (stood g d).matched.pending c.requires.follows)
+    c.requires.follows
 
 pub returns-in_err-go_over_one-clause-err : goal.returns-in_err-go_over_one-clause-err
 returns-in_err-go_over_one-clause-err g c =

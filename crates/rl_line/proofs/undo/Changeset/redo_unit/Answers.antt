@@ -13,7 +13,7 @@ use Rattle.rl_line.proofs.Records.ChangeLemmas.{ahead-inverse}
 use Rattle.rl_line.proofs.Records.HeardLemmas.{steps_ahead-back}
 use Rattle.rl_line.proofs.Records.LevelLemmas.{AtLevel-redone, level-within}
 use Rattle.rl_line.proofs.Records.MatchLemmas.{Redoes-of}
-use Rattle.rl_line.proofs.Records.MoveLemmas.{IsCutAt-of, RedoesTo, RedoesTo-of, ahead-line, pending-part, redo-fits, redone-view, unit-part}
+use Rattle.rl_line.proofs.Records.MoveLemmas.{IsCutAt-of, RedoesTo, RedoesTo-of, ahead-line, pending-part, redone-view, unit-part}
 use Rattle.rl_line.proofs.Records.RoomLemmas.{texts_ahead-back}
 use Rattle.rl_line.proofs.Records.UndoLemmas.{line_ahead-marks}
 use Rattle.rl_line.proofs.undo.Changeset.redo_unit.Given.{Over}
@@ -54,7 +54,7 @@ stood g c = subst (AtLevel c.self.inside.level) c.self.view_is c.self.invariant.
 pub go_over_all-requires-clause-follows : goal.go_over_all-requires-clause-follows
 go_over_all-requires-clause-follows g c =
     let d = (goal.at.go_over_all-requires-clause-follows g c).After-deref-2 in
-    subst IsSome (sym (ahead-line _ (redo_of c.args.self.now.pending) c.args.line.now (unit g d))) (redo-fits c.args.self.now.pending c.args.line.now (stood g d).matched.pending c.requires.follows)
+    subst IsSome (sym (ahead-line _ (redo_of c.args.self.now.pending) c.args.line.now (unit g d))) c.requires.follows
 
 pub level-opened-requires : goal.level-opened-requires
 level-opened-requires g c =

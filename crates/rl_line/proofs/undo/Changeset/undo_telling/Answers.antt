@@ -9,7 +9,7 @@ use Rattle.rl_line.specs.Undo.{steps_back, line_back, texts_back}
 use Rattle.rl_line.specs.Units.{AtLevel, has_change, last_of, level, undone}
 use Rattle.rl_line.specs.declared.change.Freshness.TheVariants.{Stale}
 use Rattle.rl_line.proofs.Records.LevelLemmas.{AtLevel-undone, level-change}
-use Rattle.rl_line.proofs.Records.MoveLemmas.{IsCutAt-of, Undoes, Undoes-of, recorded-part, undo-fits, undone-view}
+use Rattle.rl_line.proofs.Records.MoveLemmas.{IsCutAt-of, Undoes, Undoes-of, recorded-part, undone-view}
 use Rattle.rl_line.proofs.undo.Changeset.undo_telling.Given.{Over}
 use Rattle.rl_line.proofs.undo.Changeset.undo_telling.Goals as goal
 use Rattle.rl_line.proofs.undo.Changeset.undo_telling.Goals.{In-Some}
@@ -24,7 +24,7 @@ unit g c = ap (λ (r : Record). last_of c.args.n r.recorded) (sym c.self.view_is
 pub go_over_one-requires-clause-fits : goal.go_over_one-requires-clause-fits
 go_over_one-requires-clause-fits g c =
     let d = (goal.at.go_over_one-requires-clause-fits g c).In-Some in
-    subst (λ es. IsSome (line_back es c.args.line.now)) (unit g d) (undo-fits c.args.n c.args.self.now.recorded c.args.line.now c.requires.follows)
+    subst (λ es. IsSome (line_back es c.args.line.now)) (unit g d) c.requires.follows
 
 pub returns-in_err-go_over_one-clause-err : goal.returns-in_err-go_over_one-clause-err
 returns-in_err-go_over_one-clause-err g c =

@@ -9,7 +9,7 @@ use Rattle.rl_line.specs.Undo.{steps_back, Undone, line_back, texts_back}
 use Rattle.rl_line.specs.Units.{AtLevel, IsMatched, has_change, last_of, level, undone}
 use Rattle.rl_line.specs.declared.change.Freshness.TheVariants.{Stale}
 use Rattle.rl_line.proofs.Records.LevelLemmas.{AtLevel-undone, IsMatched-last, undone-within}
-use Rattle.rl_line.proofs.Records.MoveLemmas.{IsCutAt-of, Undoes, Undoes-of, recorded-part, undo-count, undo-fits, undone-view, unit-part}
+use Rattle.rl_line.proofs.Records.MoveLemmas.{IsCutAt-of, Undoes, Undoes-of, recorded-part, undo-count, undone-view, unit-part}
 use Rattle.rl_line.proofs.Records.UndoLemmas.{line_back-marks}
 use Rattle.rl_line.proofs.undo.Changeset.undo_units.Given.{Over}
 use Rattle.rl_line.proofs.undo.Changeset.undo_units.Goals as goal
@@ -42,7 +42,7 @@ unit g c =
 
 pub go_over_all-requires-clause-follows : goal.go_over_all-requires-clause-follows
 go_over_all-requires-clause-follows g c =
-    subst (λ es. IsSome (line_back es c.args.line.now)) (sym (unit g (goal.at.go_over_all-requires-clause-follows g c).After-deref-2)) (undo-fits c.args.n c.args.self.now.recorded c.args.line.now c.requires.follows)
+    subst (λ es. IsSome (line_back es c.args.line.now)) (sym (unit g (goal.at.go_over_all-requires-clause-follows g c).After-deref-2)) c.requires.follows
 
 stood : (g : Over) (c : After-deref-2 g) → AtLevel c.self.inside.level c.args.self.now
 stood g c = subst (AtLevel c.self.inside.level) c.self.view_is c.self.invariant.at_level

@@ -1,0 +1,121 @@
+//! The ring of killed texts, by the names of the module `kill_ring` of rustyline 19.0.0.
+//!
+//! ```
+//! use lodvarn::kill_ring::{KillRing, Mode};
+//!
+//! let mut ring = KillRing::new(60);
+//! ring.kill("one", Mode::Append);
+//! ring.reset();
+//! ring.kill("two", Mode::Append);
+//! assert_eq!(ring.yank().map(String::as_str), Some("two"));
+//! assert_eq!(ring.yank_pop(), Some((3, &"one".to_string())));
+//! ```
+//!
+//! What differs from rustyline: the size is a number of its own, and takes no memory before a text is kept. Out of
+//! memory, a call panics with these words. A ring may be sent to another thread, but not shared between threads.
+#![deny(unsafe_code)]
+
+use crate::done;
+use crate::line_buffer::{answered, DeleteListener, Direction};
+use crate::parts::Ring;
+use std::fmt;
+
+/// On which side a kill joins the text of the kill before it.
+#[derive(Clone, Copy, Debug, PartialEq, Eq, Hash)]
+pub enum Mode {
+    /// At its end.
+    Append,
+    /// In front of it.
+    Prepend,
+}
+
+/// A ring of killed texts. It is a listener, and keeps what is deleted by kills.
+pub struct KillRing {
+    ring: Ring,
+    // The text that was lent last.
+    lent: String,
+    // Whether the ring knows of no kill and no yank that was done last. An editor resets it before most keys.
+    is_reset: bool,
+}
+
+impl fmt::Debug for KillRing {
+    fn fmt(&self, f: &mut fmt::Formatter<'_>) -> fmt::Result {
+        let texts = (0..self.len()).map_while(|back| self.text_back(back));
+        f.debug_list().entries(texts).finish()
+    }
+}
+
+impl KillRing {
+    /// An empty ring of up to `size` texts. One of size 0 keeps nothing.
+    #[must_use]
+    pub fn new(size: usize) -> Self {
+        KillRing {
+            ring: answered(Ring::open(size)),
+            lent: String::new(),
+            is_reset: true,
+        }
+    }
+
+    /// Says that something else than a kill or a yank was done. So the next kill begins a new text.
+    #[inline]
+    pub fn reset(&mut self) {
+        if !self.is_reset {
+            answered(done(self.ring.reset()));
+            self.is_reset = true;
+        }
+    }
+
+    /// Keeps a text. Right after another kill it joins that one's text.
+    pub fn kill(&mut self, text: &str, dir: Mode) {
+        self.is_reset = false;
+        answered(done(self.ring.kill(text, dir == Mode::Prepend)));
+    }
+
+    /// The current text, to be yanked. `None` where the ring is empty.
+    pub fn yank(&mut self) -> Option<&String> {
+        self.is_reset = false;
+        let KillRing { ring, lent, .. } = self;
+        ring.yank(lent).then_some(&*lent)
+    }
+
+    /// The text before the current one, which is the current one now, to be put in the place of the one that was
+    /// yanked; and how many bytes that one has. `None` where no yank was done last.
+    pub fn yank_pop(&mut self) -> Option<(usize, &String)> {
+        let (KillRing { ring, lent, .. }, mut yanked) = (self, 0);
+        ring.yank_pop(lent, &mut yanked).then_some((yanked, &*lent))
+    }
+
+    /// How many texts there are.
+    #[must_use]
+    pub fn len(&self) -> usize {
+        self.ring.count()
+    }
+
+    /// Whether there is no text.
+    #[must_use]
+    pub fn is_empty(&self) -> bool {
+        self.len() == 0
+    }
+
+    /// The text that is `back` texts before the current one, round the ring. `None` where there are not so many.
+    #[must_use]
+    pub fn text_back(&self, back: usize) -> Option<String> {
+        let mut text = String::new();
+        self.ring.text(back, &mut text).then_some(text)
+    }
+}
+
+impl DeleteListener for KillRing {
+    fn start_killing(&mut self) {
+        answered(done(self.ring.start_killing()));
+    }
+
+    fn delete(&mut self, _idx: usize, string: &str, dir: Direction) {
+        self.is_reset = false;
+        answered(done(self.ring.delete(string, dir)));
+    }
+
+    fn stop_killing(&mut self) {
+        answered(done(self.ring.stop_killing()));
+    }
+}

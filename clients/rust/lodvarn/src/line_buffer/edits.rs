@@ -1,0 +1,257 @@
+//! The edits that put text in, or change it.
+use super::{answered, ChangeListener, LineBuffer, WordAction};
+use crate::keymap::{Movement, RepeatCount};
+use crate::words::Fault;
+use crate::{done, inserted, yes};
+use std::ops::Range;
+
+impl LineBuffer {
+    /// Puts a text in the place of the whole, which is cut to the limit, and the cursor at the place `pos` of it.
+    ///
+    /// # Panics
+    ///
+    /// Where the place is past the end of the new text or inside a character of it.
+    pub fn update<C: ChangeListener + ?Sized>(&mut self, buf: &str, pos: usize, cl: &mut C) {
+        assert!(pos <= buf.len());
+        answered(self.try_update(buf, pos, cl));
+    }
+
+    /// [`update`](LineBuffer::update), where memory may be refused.
+    ///
+    /// # Errors
+    ///
+    /// [`Fault::BadPlace`]; [`Fault::NoMemory`], which may leave an empty text.
+    pub fn try_update<C: ChangeListener + ?Sized>(
+        &mut self,
+        buf: &str,
+        pos: usize,
+        cl: &mut C,
+    ) -> Result<(), Fault> {
+        let (len, growth) = (self.len(), buf.len());
+        self.edit(growth, len.max(growth), cl, |line| line.update(buf, pos))
+            .and_then(done)
+    }
+
+    /// Inserts a character n times at the cursor, which goes after them. Whether the cursor was at the end, or `None`
+    /// where the text would get longer than the limit.
+    pub fn insert<C: ChangeListener + ?Sized>(
+        &mut self,
+        ch: char,
+        n: RepeatCount,
+        cl: &mut C,
+    ) -> Option<bool> {
+        answered(self.try_insert(ch, n, cl))
+    }
+
+    /// [`insert`](LineBuffer::insert), where memory may be refused.
+    ///
+    /// # Errors
+    ///
+    /// [`Fault::NoMemory`]; nothing is inserted.
+    pub fn try_insert<C: ChangeListener + ?Sized>(
+        &mut self,
+        ch: char,
+        n: RepeatCount,
+        cl: &mut C,
+    ) -> Result<Option<bool>, Fault> {
+        if n == 1 {
+            return self.insert_one(ch, cl);
+        }
+        let growth = self.growth(ch.len_utf8(), n);
+        self.edit(growth, growth, cl, |line| line.insert(ch, n))
+            .and_then(inserted)
+    }
+
+    // A typed character. The one report of it is known without reading it.
+    fn insert_one<C: ChangeListener + ?Sized>(
+        &mut self,
+        ch: char,
+        cl: &mut C,
+    ) -> Result<Option<bool>, Fault> {
+        self.find_room(ch.len_utf8())?;
+        let goes_in = inserted(self.line.insert(ch, 1))?;
+        let at = self.pos;
+        match goes_in {
+            Some(true) => self.text.push(ch),
+            Some(false) => self.text.insert(at, ch),
+            None => return Ok(None),
+        }
+        self.pos += ch.len_utf8();
+        self.line.forget_reports();
+        cl.insert_char(at, ch);
+        Ok(goes_in)
+    }
+
+    /// Inserts a text n times at the cursor, which goes after it. Whether the cursor was at the end, or `None` where
+    /// the text is empty, or the line would get longer than the limit.
+    pub fn yank<C: ChangeListener + ?Sized>(
+        &mut self,
+        text: &str,
+        n: RepeatCount,
+        cl: &mut C,
+    ) -> Option<bool> {
+        answered(self.try_yank(text, n, cl))
+    }
+
+    /// [`yank`](LineBuffer::yank), where memory may be refused.
+    ///
+    /// # Errors
+    ///
+    /// [`Fault::NoMemory`]; nothing is inserted.
+    pub fn try_yank<C: ChangeListener + ?Sized>(
+        &mut self,
+        text: &str,
+        n: RepeatCount,
+        cl: &mut C,
+    ) -> Result<Option<bool>, Fault> {
+        let growth = self.growth(text.len(), n);
+        self.edit(growth, growth, cl, |line| line.yank(text, n))
+            .and_then(inserted)
+    }
+
+    // How many bytes a text of so many puts in n times, if the limit lets it.
+    fn growth(&self, len: usize, n: RepeatCount) -> usize {
+        let growth = len.saturating_mul(n.into());
+        if self.can_grow || growth <= self.limit().saturating_sub(self.len()) {
+            growth
+        } else {
+            0
+        }
+    }
+
+    /// Puts a text in the place of the `yank_size` bytes before the cursor, which were yanked. Answers as
+    /// [`yank`](LineBuffer::yank); where that is `None`, what was yanked is deleted all the same.
+    ///
+    /// # Panics
+    ///
+    /// Where no text of that size ends at the cursor.
+    pub fn yank_pop<C: ChangeListener + ?Sized>(
+        &mut self,
+        yank_size: usize,
+        text: &str,
+        cl: &mut C,
+    ) -> Option<bool> {
+        answered(self.try_yank_pop(yank_size, text, cl))
+    }
+
+    /// [`yank_pop`](LineBuffer::yank_pop), where memory may be refused.
+    ///
+    /// # Errors
+    ///
+    /// [`Fault::BadYankSize`]; [`Fault::NoMemory`], where what was yanked may be deleted.
+    pub fn try_yank_pop<C: ChangeListener + ?Sized>(
+        &mut self,
+        yank_size: usize,
+        text: &str,
+        cl: &mut C,
+    ) -> Result<Option<bool>, Fault> {
+        let told = self.len().max(text.len());
+        self.edit(text.len(), told, cl, |line| line.yank_pop(yank_size, text))
+            .and_then(inserted)
+    }
+
+    /// Puts a text in the place of a range, whatever the limit. The cursor goes after it.
+    ///
+    /// # Panics
+    ///
+    /// Where the range is none of the text, as a slice of it does.
+    pub fn replace<C: ChangeListener + ?Sized>(
+        &mut self,
+        range: Range<usize>,
+        text: &str,
+        cl: &mut C,
+    ) {
+        self.see_range(&range);
+        answered(self.try_replace(range, text, cl));
+    }
+
+    /// [`replace`](LineBuffer::replace), where the range may be none and memory may be refused.
+    ///
+    /// # Errors
+    ///
+    /// [`Fault::BadPlace`], [`Fault::NoMemory`]; nothing is replaced.
+    pub fn try_replace<C: ChangeListener + ?Sized>(
+        &mut self,
+        range: Range<usize>,
+        text: &str,
+        cl: &mut C,
+    ) -> Result<(), Fault> {
+        let told = self.len().saturating_add(text.len());
+        self.edit(text.len(), told, cl, |line| line.replace(range, text))
+            .and_then(done)
+    }
+
+    // Panics where a range is none of the text.
+    #[track_caller]
+    pub(super) fn see_range(&self, range: &Range<usize>) {
+        let _ = &self.text[range.clone()];
+    }
+
+    /// Inserts a text at a place, whatever the limit. The cursor's place keeps its number. Whether the place was the
+    /// end.
+    ///
+    /// # Panics
+    ///
+    /// Where the place is past the end or inside a character, and where the cursor would stand inside one.
+    pub fn insert_str<C: ChangeListener + ?Sized>(
+        &mut self,
+        idx: usize,
+        s: &str,
+        cl: &mut C,
+    ) -> bool {
+        self.see_range(&(idx..idx));
+        answered(self.try_insert_str(idx, s, cl))
+    }
+
+    /// [`insert_str`](LineBuffer::insert_str), where the place may be none and memory may be refused.
+    ///
+    /// # Errors
+    ///
+    /// [`Fault::BadPlace`], [`Fault::NoMemory`]; nothing is inserted.
+    pub fn try_insert_str<C: ChangeListener + ?Sized>(
+        &mut self,
+        idx: usize,
+        s: &str,
+        cl: &mut C,
+    ) -> Result<bool, Fault> {
+        self.edit(s.len(), s.len(), cl, |line| line.insert_str(idx, s))
+            .and_then(yes)
+    }
+
+    /// Exchanges the clusters before and after the cursor; at the end of the text, the last two. The cursor goes after
+    /// both. False where there are not two.
+    pub fn transpose_chars<C: ChangeListener + ?Sized>(&mut self, cl: &mut C) -> bool {
+        let answer = self.edit(0, 0, cl, |line| line.transpose_chars());
+        answered(answer.and_then(yes))
+    }
+
+    /// Exchanges a word with the n-th word before it. False where there are not two; the cursor may have moved then.
+    pub fn transpose_words<C: ChangeListener + ?Sized>(
+        &mut self,
+        n: RepeatCount,
+        cl: &mut C,
+    ) -> bool {
+        let answer = self.edit(0, 0, cl, |line| line.transpose_words(n));
+        answered(answer.and_then(yes))
+    }
+
+    /// Changes the letter case of the rest of the word at the cursor, or of the next word. The cursor goes after it.
+    /// False where there is none.
+    pub fn edit_word<C: ChangeListener + ?Sized>(&mut self, a: WordAction, cl: &mut C) -> bool {
+        let answer = self.edit(0, 0, cl, |line| line.edit_word(a));
+        answered(answer.and_then(yes))
+    }
+
+    /// Inserts `amount` spaces at the start of each line that a movement covers, or with `dedent` deletes up to so many
+    /// bytes of blanks there.
+    pub fn indent<C: ChangeListener + ?Sized>(
+        &mut self,
+        mvt: &Movement,
+        amount: u8,
+        dedent: bool,
+        cl: &mut C,
+    ) -> bool {
+        let answer = self.edit(0, 0, cl, |line| line.indent(*mvt, amount, dedent));
+        answered(answer.and_then(yes))
+    }
+}

@@ -1,0 +1,179 @@
+//! The edits that take text out.
+use super::{answered, DeleteListener, Deletions, Direction, LineBuffer};
+use crate::keymap::{At, CharSearch, Movement, RepeatCount, Word};
+use crate::parts::Line;
+use crate::words::Fault;
+use crate::{done, yes};
+use std::ops::Range;
+
+impl LineBuffer {
+    // Makes an edit that only deletes, where memory may be refused, and tells a listener of its steps.
+    fn take<D: DeleteListener + ?Sized>(
+        &mut self,
+        dl: &mut D,
+        call: impl FnOnce(&mut Line) -> u32,
+    ) -> Result<u32, Fault> {
+        self.edit(0, self.len(), &mut Deletions(dl), call)
+    }
+
+    fn take_by<D: DeleteListener + ?Sized>(&mut self, mvt: Movement, dl: &mut D) -> bool {
+        let answer = self.edit(0, 0, &mut Deletions(dl), |line| line.delete_by(mvt));
+        answered(answer.and_then(yes))
+    }
+
+    /// Deletes n grapheme clusters after the cursor, and answers them. `None` where there are none.
+    pub fn delete<D: DeleteListener + ?Sized>(
+        &mut self,
+        n: RepeatCount,
+        dl: &mut D,
+    ) -> Option<String> {
+        answered(self.try_delete(n, dl))
+    }
+
+    /// [`delete`](LineBuffer::delete), where memory may be refused.
+    ///
+    /// # Errors
+    ///
+    /// [`Fault::NoMemory`]; nothing is deleted.
+    pub fn try_delete<D: DeleteListener + ?Sized>(
+        &mut self,
+        n: RepeatCount,
+        dl: &mut D,
+    ) -> Result<Option<String>, Fault> {
+        let mut gone = String::new();
+        let goes = self.pos..self.next_pos(n).unwrap_or(self.pos);
+        gone.try_reserve_exact(goes.len())
+            .map_err(|_| Fault::NoMemory)?;
+        gone.push_str(&self.text[goes]);
+        let is_gone = self.take(dl, |line| line.delete(n)).and_then(yes)?;
+        Ok(is_gone.then_some(gone))
+    }
+
+    /// Deletes n grapheme clusters before the cursor. False where there are none.
+    pub fn backspace<D: DeleteListener + ?Sized>(&mut self, n: RepeatCount, dl: &mut D) -> bool {
+        answered(self.try_backspace(n, dl))
+    }
+
+    /// [`backspace`](LineBuffer::backspace), where memory may be refused.
+    ///
+    /// # Errors
+    ///
+    /// [`Fault::NoMemory`]; nothing is deleted.
+    pub fn try_backspace<D: DeleteListener + ?Sized>(
+        &mut self,
+        n: RepeatCount,
+        dl: &mut D,
+    ) -> Result<bool, Fault> {
+        self.take(dl, |line| line.backspace(n)).and_then(yes)
+    }
+
+    /// Deletes to the end of the cursor's line, or the newline there. False at the end of the text.
+    pub fn kill_line<D: DeleteListener + ?Sized>(&mut self, dl: &mut D) -> bool {
+        self.take_by(Movement::EndOfLine, dl)
+    }
+
+    /// Deletes to the end of the text. False where nothing is there.
+    pub fn kill_buffer<D: DeleteListener + ?Sized>(&mut self, dl: &mut D) -> bool {
+        self.take_by(Movement::EndOfBuffer, dl)
+    }
+
+    /// Deletes back to the start of the cursor's line, or the newline before it. False at the start of the text.
+    pub fn discard_line<D: DeleteListener + ?Sized>(&mut self, dl: &mut D) -> bool {
+        self.take_by(Movement::BeginningOfLine, dl)
+    }
+
+    /// Deletes back to the start of the text. False where nothing is there.
+    pub fn discard_buffer<D: DeleteListener + ?Sized>(&mut self, dl: &mut D) -> bool {
+        self.take_by(Movement::BeginningOfBuffer, dl)
+    }
+
+    /// Deletes back to the start of the n-th word. False at the start of the text.
+    pub fn delete_prev_word<D: DeleteListener + ?Sized>(
+        &mut self,
+        word_def: Word,
+        n: RepeatCount,
+        dl: &mut D,
+    ) -> bool {
+        self.take_by(Movement::BackwardWord(n, word_def), dl)
+    }
+
+    /// Deletes forward to the n-th word, as `at` says. False where nothing is there.
+    pub fn delete_word<D: DeleteListener + ?Sized>(
+        &mut self,
+        at: At,
+        word_def: Word,
+        n: RepeatCount,
+        dl: &mut D,
+    ) -> bool {
+        self.take_by(Movement::ForwardWord(n, at, word_def), dl)
+    }
+
+    /// Deletes to the n-th hit of a search, or to the farthest where there are fewer. False where there is none.
+    pub fn delete_to<D: DeleteListener + ?Sized>(
+        &mut self,
+        cs: CharSearch,
+        n: RepeatCount,
+        dl: &mut D,
+    ) -> bool {
+        self.take_by(Movement::ViCharSearch(n, cs), dl)
+    }
+
+    /// Deletes a range. The cursor goes to its start.
+    ///
+    /// # Panics
+    ///
+    /// Where the range is none of the text, as a slice of it does.
+    pub fn delete_range<D: DeleteListener + ?Sized>(&mut self, range: Range<usize>, dl: &mut D) {
+        self.see_range(&range);
+        answered(self.try_delete_range(range, dl));
+    }
+
+    /// [`delete_range`](LineBuffer::delete_range), where the range may be none and memory may be refused.
+    ///
+    /// # Errors
+    ///
+    /// [`Fault::BadPlace`], [`Fault::NoMemory`]; nothing is deleted.
+    pub fn try_delete_range<D: DeleteListener + ?Sized>(
+        &mut self,
+        range: Range<usize>,
+        dl: &mut D,
+    ) -> Result<(), Fault> {
+        self.take(dl, |line| line.delete_range(range))
+            .and_then(done)
+    }
+
+    /// Deletes what a movement covers, as a kill: the listener hears that it starts and stops, also where nothing goes.
+    /// By `BackwardChar` and `ForwardChar` it is no kill. False where nothing goes.
+    pub fn kill<D: DeleteListener + ?Sized>(&mut self, mvt: &Movement, dl: &mut D) -> bool {
+        answered(self.try_kill(mvt, dl))
+    }
+
+    /// [`kill`](LineBuffer::kill), where memory may be refused.
+    ///
+    /// # Errors
+    ///
+    /// [`Fault::NoMemory`]; nothing is deleted.
+    pub fn try_kill<D: DeleteListener + ?Sized>(
+        &mut self,
+        mvt: &Movement,
+        dl: &mut D,
+    ) -> Result<bool, Fault> {
+        self.take(dl, |line| line.kill(*mvt)).and_then(yes)
+    }
+
+    /// Deletes a range as a kill does, on a side of the cursor. The cursor goes to its start. False where it is empty.
+    /// rustyline has no such call.
+    ///
+    /// # Errors
+    ///
+    /// [`Fault::BadPlace`], [`Fault::NoMemory`]; nothing is deleted.
+    pub fn try_kill_range<D: DeleteListener + ?Sized>(
+        &mut self,
+        range: Range<usize>,
+        dir: Direction,
+        dl: &mut D,
+    ) -> Result<bool, Fault> {
+        self.take(dl, |line| line.kill_range(range, dir))
+            .and_then(yes)
+    }
+}

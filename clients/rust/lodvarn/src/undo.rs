@@ -1,0 +1,218 @@
+//! The record that undoes the changes of a line, by the names of the module `undo` of rustyline 19.0.0.
+//!
+//! ```
+//! use lodvarn::line_buffer::{LineBuffer, MAX_LINE};
+//! use lodvarn::undo::Changeset;
+//!
+//! let mut line = LineBuffer::with_capacity(MAX_LINE);
+//! let mut changes = Changeset::new();
+//! changes.begin();
+//! line.yank("one two", 1, &mut changes);
+//! line.transpose_words(1, &mut changes);
+//! changes.end();
+//! assert!(changes.undo(&mut line, 1) && line.is_empty());
+//! assert!(changes.redo(&mut line));
+//! assert_eq!(line.as_str(), "two one");
+//! ```
+//!
+//! What differs from rustyline:
+//!
+//! - Changes that can't be taken back from the line's text, or made again in it, as those of another line, are refused:
+//!   [`undo`](Changeset::undo) and [`redo`](Changeset::redo) panic, and [`try_undo`](Changeset::try_undo) and
+//!   [`try_redo`](Changeset::try_redo) answer [`Fault::NotReplaying`]. Record and line are as they were then.
+//! - `redo` and [`end_one`](Changeset::end_one) are public, and a record tells how long it is and what fits a line.
+//! - [`truncate`](Changeset::truncate) forgets what was undone.
+//! - Out of memory, a call panics with these words. `try_undo` and `try_redo` answer [`Fault::NoMemory`]; only the room
+//!   for a text that they bring back is found as a `String` finds it, which ends the process where it is refused.
+//! - A record may be sent to another thread, but not shared between threads.
+#![deny(unsafe_code)]
+
+use crate::keymap::RepeatCount;
+use crate::line_buffer::{
+    answered, ChangeListener, DeleteListener, Direction, LineBuffer, NoListener,
+};
+use crate::parts::Record;
+use crate::words::Fault;
+use crate::{done, ffi, yes};
+use std::fmt;
+
+/// A record of changes. It is a listener, and undoes what it has heard.
+pub struct Changeset(Record);
+
+impl Default for Changeset {
+    fn default() -> Self {
+        Changeset::new()
+    }
+}
+
+impl fmt::Debug for Changeset {
+    fn fmt(&self, f: &mut fmt::Formatter<'_>) -> fmt::Result {
+        let mut fields = f.debug_struct("Changeset");
+        fields
+            .field("len", &self.len())
+            .field("level", &self.level());
+        fields.finish()
+    }
+}
+
+impl Changeset {
+    /// An empty record.
+    #[must_use]
+    pub fn new() -> Self {
+        Changeset(answered(Record::open()))
+    }
+
+    /// Begins a group: once it is closed, one undo takes back all its changes. The number of entries before it.
+    pub fn begin(&mut self) -> usize {
+        let mut mark = 0;
+        match self.0.begin(&mut mark) {
+            ffi::MARK => mark,
+            answer => answered(Err(Fault::of(answer))),
+        }
+    }
+
+    /// Closes all open groups. False where they have no change, or none is open.
+    pub fn end(&mut self) -> bool {
+        answered(yes(self.0.end()))
+    }
+
+    /// Closes the innermost group. False where it has no change, or none is open.
+    pub fn end_one(&mut self) -> bool {
+        answered(yes(self.0.end_one()))
+    }
+
+    /// Records that a character was inserted. A letter or digit joins the insertion before it.
+    #[inline]
+    pub fn insert(&mut self, idx: usize, c: char) {
+        answered(done(self.0.insert_char(idx, c)));
+    }
+
+    /// Records that a text was inserted.
+    pub fn insert_str<S: AsRef<str>>(&mut self, idx: usize, string: S) {
+        answered(done(self.0.insert_str(idx, string.as_ref())));
+    }
+
+    /// Records that a text was deleted. A letter or digit joins the deletion before it.
+    pub fn delete<S: AsRef<str>>(&mut self, indx: usize, string: S) {
+        answered(done(self.0.delete(indx, string.as_ref())));
+    }
+
+    /// Records that a text gave way to another one. It joins the replacement before it.
+    pub fn replace<S: AsRef<str>>(&mut self, indx: usize, old_: S, new_: S) {
+        answered(done(self.0.replace(indx, old_.as_ref(), new_.as_ref())));
+    }
+
+    /// Records where the cursor was before the change that was recorded last, and where it went. Then an undo brings
+    /// it back there, and a redo where it went; without this call it goes to where the text changes, as in rustyline.
+    pub fn cursors(&mut self, before: usize, after: usize) {
+        answered(done(self.0.cursors(before, after)));
+    }
+
+    /// Undoes the last n changes and groups in a line, one where n is 0, all where there are fewer. False where there
+    /// was no change.
+    ///
+    /// # Panics
+    ///
+    /// Where the changes that it takes can't be taken back from the line's text.
+    pub fn undo(&mut self, line: &mut LineBuffer, n: RepeatCount) -> bool {
+        answered(self.try_undo(line, n))
+    }
+
+    /// [`undo`](Changeset::undo), where the record may be one of another line and memory may be refused.
+    ///
+    /// # Errors
+    ///
+    /// [`Fault::NotReplaying`], [`Fault::NoMemory`]; nothing is undone.
+    pub fn try_undo(&mut self, line: &mut LineBuffer, n: RepeatCount) -> Result<bool, Fault> {
+        line.edit(0, 0, &mut NoListener, |line| self.0.undo(line, n))
+            .and_then(yes)
+    }
+
+    /// Redoes in a line what was undone last, one change or group. False where there is none.
+    ///
+    /// # Panics
+    ///
+    /// Where the changes that it makes again can't be made in the line's text.
+    pub fn redo(&mut self, line: &mut LineBuffer) -> bool {
+        answered(self.try_redo(line))
+    }
+
+    /// [`redo`](Changeset::redo), where the record may be one of another line and memory may be refused.
+    ///
+    /// # Errors
+    ///
+    /// [`Fault::NotReplaying`], [`Fault::NoMemory`]; nothing is redone.
+    pub fn try_redo(&mut self, line: &mut LineBuffer) -> Result<bool, Fault> {
+        line.edit(0, 0, &mut NoListener, |line| self.0.redo(line))
+            .and_then(yes)
+    }
+
+    /// Keeps the first `len` entries, and forgets the others and what was undone.
+    pub fn truncate(&mut self, len: usize) {
+        answered(done(self.0.truncate(len)));
+    }
+
+    /// The text that the last change put in. `None` where it put in none.
+    #[must_use]
+    pub fn last_insert(&self) -> Option<String> {
+        self.0.last_insert()
+    }
+
+    /// How many entries there are: changes, and the marks where groups begin and end.
+    #[must_use]
+    pub fn len(&self) -> usize {
+        self.0.len()
+    }
+
+    /// Whether there is no entry.
+    #[must_use]
+    pub fn is_empty(&self) -> bool {
+        self.len() == 0
+    }
+
+    /// How many groups are open.
+    #[must_use]
+    pub fn level(&self) -> usize {
+        self.0.level()
+    }
+
+    /// Whether all changes can be taken back from the line's text, so that no undo is refused.
+    #[must_use]
+    pub fn can_undo(&self, line: &LineBuffer) -> bool {
+        answered(yes(line.asked(|line| self.0.can_undo(line))))
+    }
+
+    /// Whether all that was undone can be made again in the line's text, so that no redo is refused.
+    #[must_use]
+    pub fn can_redo(&self, line: &LineBuffer) -> bool {
+        answered(yes(line.asked(|line| self.0.can_redo(line))))
+    }
+
+    /// Whether the first `len` entries lead to the line's text by themselves, as after a
+    /// [`truncate`](Changeset::truncate).
+    #[must_use]
+    pub fn replays_to(&self, len: usize, line: &LineBuffer) -> bool {
+        answered(yes(line.asked(|line| self.0.replays_to(len, line))))
+    }
+}
+
+impl DeleteListener for Changeset {
+    fn delete(&mut self, idx: usize, string: &str, _dir: Direction) {
+        Changeset::delete(self, idx, string);
+    }
+}
+
+impl ChangeListener for Changeset {
+    #[inline]
+    fn insert_char(&mut self, idx: usize, c: char) {
+        self.insert(idx, c);
+    }
+
+    fn insert_str(&mut self, idx: usize, string: &str) {
+        Changeset::insert_str(self, idx, string);
+    }
+
+    fn replace(&mut self, idx: usize, old: &str, new: &str) {
+        Changeset::replace(self, idx, old, new);
+    }
+}

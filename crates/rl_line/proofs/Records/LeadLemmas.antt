@@ -1,0 +1,47 @@
+-- What a question about a record answers, once it was found on a copy of the text whether a line can go over the entries.
+use Rattle.std.proofs.Common.{◌≡◌, ℕ, ◌+◌, ◌<◌, Bool, true, List, length, map, sym, ap, subst, ◌∙◌}
+use Rattle.std.specs.Prelude.{IfErr, IfOk, IsSome, Result, Ok, Err, is_some}
+use Rattle.rl_base.specs.declared.listeners.Refusal.{Refusal}
+use Rattle.rl_base.specs.declared.listeners.Refusal.TheVariants.{NoMemory}
+use Rattle.rl_line.specs.declared.change.Change.{Change}
+use Rattle.rl_line.specs.declared.change.Way.TheVariants.{Ahead, Back}
+use Rattle.rl_line.specs.Change.{entries_to_undo}
+use Rattle.rl_line.specs.Line.{Line}
+use Rattle.rl_line.specs.Record.{Entry, bytes_ahead, bytes_back, entry_of}
+use Rattle.rl_line.specs.Undo.{CopiesAhead, CopiesBack, line_ahead, line_back}
+use Rattle.rl_line.specs.Units.{has_change, last_of, redo_of}
+use Rattle.rl_line.proofs.Records.ChangeLemmas.{ahead-inverse}
+use Rattle.rl_line.proofs.Records.MoveLemmas.{ahead-line, redo-fits, undo-fits}
+use Rattle.rl_line.proofs.Records.RoomLemmas.{bytes_ahead-back}
+
+pub lead-back : (result : Result Bool Refusal) (xs : List Change) (es : List Entry) (line : Line) → map entry_of xs ≡ es
+    → IfOk result (λ a. a ≡ is_some (line_back (entries_to_undo Back xs) line)) → IfOk result (λ a. a ≡ is_some (line_back es line))
+lead-back result xs es line e h = subst (λ l. IfOk result (λ a. a ≡ is_some (line_back l line))) e h
+
+pub copies-back : (result : Result Bool Refusal) (xs : List Change) (es : List Entry) (text : List ℕ) → map entry_of xs ≡ es
+    → IfErr result (λ r. (r ≡ NoMemory) × ((has_change (map entry_of xs) ≡ true) × (0 < length text + bytes_back (entries_to_undo Back xs))))
+    → IfErr result (λ r. (r ≡ NoMemory) × CopiesBack es text)
+copies-back result xs es text e h = subst (λ l. IfErr result (λ r. (r ≡ NoMemory) × CopiesBack l text)) e h
+
+pub lead-ahead : (result : Result Bool Refusal) (xs : List Change) (es : List Entry) (line : Line) → map entry_of xs ≡ es
+    → IfOk result (λ a. a ≡ is_some (line_back (entries_to_undo Ahead xs) line)) → IfOk result (λ a. a ≡ is_some (line_ahead es line))
+lead-ahead result xs es line e h = subst (λ o. IfOk result (λ a. a ≡ is_some o)) (ahead-line xs es line e) h
+
+pub copies-ahead : (result : Result Bool Refusal) (xs : List Change) (es : List Entry) (text : List ℕ) → map entry_of xs ≡ es
+    → IfErr result (λ r. (r ≡ NoMemory) × ((has_change (map entry_of xs) ≡ true) × (0 < length text + bytes_back (entries_to_undo Ahead xs))))
+    → IfErr result (λ r. (r ≡ NoMemory) × CopiesAhead es text)
+copies-ahead result xs es text e h =
+    let bytes : bytes_back (entries_to_undo Ahead xs) ≡ bytes_ahead es = ap bytes_back (ahead-inverse xs) ∙ bytes_ahead-back (map entry_of xs) ∙ ap bytes_ahead e in
+    subst (λ n. IfErr result (λ r. (r ≡ NoMemory) × ((has_change es ≡ true) × (0 < length text + n)))) bytes
+    (subst (λ l. IfErr result (λ r. (r ≡ NoMemory) × ((has_change l ≡ true) × (0 < length text + bytes_back (entries_to_undo Ahead xs))))) e h)
+
+-- a line that can go over all can go over the units that are next
+pub all-units : (result : Result Bool Refusal) (es : List Entry) (line : Line) → IfOk result (λ a. a ≡ is_some (line_back es line))
+    → IfOk result (λ a. a ≡ true → (n : ℕ) → IsSome (line_back (last_of n es) line))
+all-units (Ok a) es line h = λ yes n. undo-fits n es line (sym h ∙ yes)
+all-units (Err r) es line h = h
+
+pub next-unit : (result : Result Bool Refusal) (es : List Entry) (line : Line) → IfOk result (λ a. a ≡ is_some (line_ahead es line))
+    → IfOk result (λ a. a ≡ true → IsSome (line_ahead (redo_of es) line))
+next-unit (Ok a) es line h = λ yes. redo-fits es line (sym h ∙ yes)
+next-unit (Err r) es line h = h
