@@ -1,7 +1,8 @@
-mod KillringHandle
-mod RecordHandle
-mod HeardLemmas
-mod LineHandle
+mod CellLemmas
 mod HandleSteps
+mod HeardLemmas
+mod KillringHandle
+mod LineHandle
 mod PartsSteps
+mod RecordHandle
 mod SessionHandle

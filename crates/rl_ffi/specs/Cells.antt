@@ -54,6 +54,10 @@ module _ (screen : Screen) where
   cells place at [] = (place, wrapped screen.columns at) ∷ []
   cells place at (cluster ∷ more) = (place, wrapped screen.columns at) ∷ cells (place + length cluster) (after at cluster) more
 
-  -- the place in a text that begins at a column of row 0
+  -- those of a text that begins at a column of row 0
+  abbrev pub cells_of : ℕ → List ℕ → List (ℕ × (ℕ × ℕ))
+  cells_of prompt text = cells 0 (0, prompt) (clusters text)
+
+  -- the place in such a text whose cell is the last that is not after the given one
   abbrev pub place_at : ℕ → List ℕ → ℕ × ℕ → ℕ
-  place_at prompt text cell = last_within cell 0 (cells 0 (0, prompt) (clusters text))
+  place_at prompt text cell = last_within cell 0 (cells_of prompt text)

@@ -1,7 +1,8 @@
 //! Laying a text out on a screen.
-ghost use Rattle.std.specs.Prelude.{◌≡◌, ◌+◌, ◌≤◌, ◌<◌, ◌^◌, length};
+ghost use Rattle.std.specs.Prelude.{◌≡◌, ◌+◌, ◌≤◌, ◌<◌, ◌^◌, length, ℕ, List, Some, slice_get};
 ghost use Rattle.rl_base.specs.Clusters.{clusters};
-ghost use Rattle.rl_ffi.specs.Cells.{after, cell, is_within, place_at, tabbed, wrapped};
+ghost use Rattle.rl_ffi.specs.declared.cells.Screen.{Screen};
+ghost use Rattle.rl_ffi.specs.Cells.{after, cell, cells_of, is_within, place_at, tabbed, wrapped};
 
 use rl_base::GraphemeClusterMode;
 use unicode_segmentation::UnicodeSegmentation;
@@ -104,3 +105,10 @@ pub(crate) fn place_at(screen: &Screen, prompt: u16, text: &str, cell: (usize, u
     }
     found
 }
+
+/// A place between two clusters is found again by its cell, or one after it with the same cell: the place that is found
+/// for the cell of the `k`-th place is the `j`-th for some `j` from `k` on, and has that cell.
+pub(crate) fn cells_are_found()
+    ensures { (screen : Screen) (prompt : ℕ) (text : List ℕ) (k place : ℕ) (cell : ℕ × ℕ) → slice_get (cells_of screen prompt text) k ≡ Some (place, cell)
+        → (j : ℕ) × (k ≤ j) × (slice_get (cells_of screen prompt text) j ≡ Some (place_at screen prompt text cell, cell)) }
+{}
