@@ -1,0 +1,150 @@
+#!/usr/bin/env python3
+"""Builds a whole line editor on the crate lodvarn, and tests it.
+
+    python3 clients/rustyline/test_editor.py [--core FOLDER | --original]
+
+The editor is rustyline 9.1.2 as Debian packs its sources: terminal, key maps, history, completion, and their tests. Its
+core, which is its line, its record and its ring, is taken out, and the three files here stand in its place, over the
+crate lodvarn of clients/rust, or the one in FOLDER, or rustyline's own core under that name (--original), by which the
+files here are tested. It is built without a network, in a folder that is gone afterwards. Then its own tests run, and in
+a terminal what is typed, killed, yanked, undone and searched shows on the screen. Its last line is 'N passed, M failed'.
+"""
+
+import os
+import re
+import shutil
+import subprocess
+import sys
+import tempfile
+from pathlib import Path
+
+from core import HERE, PARTS, NotThere, make_core, offline, package_folder
+
+sys.path.insert(0, str(HERE.parent))
+from terminal import await_that, editing, keys  # noqa: E402
+
+LODVARN = HERE.parent / "rust/lodvarn"
+# Of the 172 tests of the editor, 51 stand in the three files that are taken out.
+TESTS = 121
+# The tests that fail since docs/DIFFERENCES.md says so: by the name of each, what it says. There are none today.
+DIFFERENT = {}
+ROWS, COLUMNS = 12, 60
+SEARCH = "(reverse-i-search)`{}': {}"
+# What is typed into one editor, and the screen after each.
+STEPS = [
+    ("a text", ["one two three"], ["> one two three"], (0, 15)),
+    ("a word is killed", [keys("C-w")], ["> one two"], (0, 10)),
+    ("and the one before it", [keys("C-w")], ["> one"], (0, 6)),
+    ("both are yanked as one", [keys("C-y")], ["> one two three"], (0, 15)),
+    ("the yank is undone", [keys("C-_")], ["> one"], (0, 6)),
+    ("the line is killed from its start", [keys("C-a C-k")], [">"], (0, 2)),
+    ("and yanked", [keys("C-y")], ["> one"], (0, 6)),
+    ("and replaced by the kill before it", [keys("M-y")], ["> two three"], (0, 11)),
+    ("words are exchanged", [keys("M-t")], ["> three two"], (0, 11)),
+    ("which is undone", [keys("C-_")], ["> two three"], (0, 11)),
+    ("a word in capitals", [keys("C-a M-u")], ["> TWO three"], (0, 5)),
+    ("a line is entered", [keys("Enter")], ["> TWO three", "'TWO three'", ">"], (2, 2)),
+    ("wide characters", ["日本é", keys("C-b BSpace")], ["> TWO three", "'TWO three'", "> 日é"], (2, 4)),
+    ("their undo", [keys("C-_")], ["> TWO three", "'TWO three'", "> 日本é"], (2, 6)),
+    ("clusters are exchanged", [keys("C-t")], ["> TWO three", "'TWO three'", "> 日é本"], (2, 7)),
+    ("and entered", [keys("Enter C-l")], [">"], (0, 2)),
+    ("a text before a search", ["abc"], ["> abc"], (0, 5)),
+    ("a search back", [keys("C-r"), "hre"], [SEARCH.format("hre", "TWO three")], None),
+    ("what it found", [keys("C-e")], ["> TWO three"], (0, 11)),
+    ("a word of it is killed", [keys("C-w")], ["> TWO"], (0, 6)),
+    ("an older line", [keys("C-p")], ["> 日é本"], (0, 7)),
+    ("and the line that is typed", [keys("C-n")], ["> TWO"], (0, 6)),
+    ("the ring of a line before", [keys("C-y")], ["> TWO three"], (0, 11)),
+    ("all of it is discarded", [keys("C-u")], [">"], (0, 2)),
+    ("the end", [keys("C-d")], [">", "ended 0"], (2, 0)),
+]
+
+
+def make_editor(folder, lodvarn):
+    """Makes the editor's sources in a folder, with the files here for its core."""
+    package = package_folder()
+    editor = folder / "editor"
+    shutil.copytree(package, editor)
+    (editor / ".cargo-checksum.json").unlink()
+    for part in PARTS:
+        shutil.copy(HERE / f"{part}.rs", editor / "src")
+    shutil.copy(HERE / "repl.rs", editor / "examples")
+    with (editor / "Cargo.toml").open("a") as manifest:
+        manifest.write(f'\n[dependencies.lodvarn]\npath = "{lodvarn}"\n\n[workspace]\n')
+    offline(folder, package.parent)
+    return editor
+
+
+def cargo(editor, *words):
+    """Runs cargo on the editor. Answers its status and what it printed."""
+    environment = {**os.environ, "CARGO_TARGET_DIR": str(editor.parent / "target"), "RUSTFLAGS": "-Awarnings"}
+    ran = subprocess.run(
+        ["cargo", *words, "--offline"],
+        cwd=editor,
+        env=environment,
+        stdout=subprocess.PIPE,
+        stderr=subprocess.STDOUT,
+        text=True,
+    )
+    return ran.returncode, ran.stdout
+
+
+def run_tests(editor):
+    """The editor's own tests: how many went as they should, and how many did not. Too few of them is one that did not."""
+    _, said = cargo(editor, "test", "--lib")
+    told = re.search(r"^test result: .* (\d+) passed; (\d+) failed", said, re.M)
+    listed = re.search(r"^failures:\n((?: {4}\S+\n)+)", said, re.M)
+    failing = set(listed[1].split()) if listed else set()
+    good = (int(told[1]) if told else 0) + len(failing & DIFFERENT.keys())
+    bad = len(failing ^ DIFFERENT.keys()) + (good < TESTS)
+    if bad:
+        said = re.sub(r"^test result:.*\n", "", said, flags=re.M)
+        print(f"{said}\nFAILED: {good} of {TESTS} tests went as they should, and these did not: {sorted(failing ^ DIFFERENT.keys())}")
+    print(f"the editor's own tests: {good} as they should")
+    return good, bad
+
+
+def run_terminal(editor):
+    """The screen after each step: how many are as they should, and whether one is not, which is the last one."""
+    status, said = cargo(editor, "build", "--example", "repl")
+    if status != 0:
+        print(said)
+        return 0, 1
+    with editing(editor.parent / "target/debug/examples/repl", COLUMNS, ROWS) as terminal:
+        for good, (what, given, rows, cursor) in enumerate(STEPS):
+            for one in given:
+                terminal.send(one)
+
+            def is_wanted(seen, rows=rows, cursor=cursor):
+                return seen[0] == rows and cursor in (None, seen[1])
+
+            seen = await_that(terminal.screen, is_wanted)
+            if not is_wanted(seen):
+                print(f"FAILED: {what}\n  wanted {rows} {cursor}\n  saw {seen}")
+                return good, 1
+    return len(STEPS), 0
+
+
+def main():
+    words = sys.argv[1:]
+    if not (words in ([], ["--original"]) or len(words) == 2 and words[0] == "--core"):
+        print(__doc__, file=sys.stderr)
+        return 2
+    with tempfile.TemporaryDirectory(prefix="lodvarn-") as name:
+        folder = Path(name)
+        lodvarn = Path(words[1]).resolve() if len(words) == 2 else LODVARN
+        try:
+            if words == ["--original"]:
+                lodvarn = folder / "lodvarn"
+                print(f"on the core of rustyline {make_core(lodvarn, 'lodvarn')} itself")
+            editor = make_editor(folder, lodvarn)
+        except NotThere as missing:
+            print(f"{missing}\n0 passed, 1 failed")
+            return 1
+        good, bad = (sum(parts) for parts in zip(run_tests(editor), run_terminal(editor)))
+    print(f"{good} passed, {bad} failed")
+    return 0 if bad == 0 else 1
+
+
+if __name__ == "__main__":
+    sys.exit(main())
