@@ -3,9 +3,10 @@
 
     python3 clients/rustyline/speed.py [--core FOLDER]
 
-The core is that of rustyline 19.0.0 where its files are in ../shared/upstream beside the repository, else that of Debian's
-package of 9.1.2. The crate lodvarn is that of clients/rust, or the one in FOLDER. Prints the nanoseconds of a key, the
-least of all rounds, and the median of the ratios, for each workload of speed.rs. Fails where a ratio is above 2.
+The core is that of rustyline 19.0.0 where its files are beside the repository and cargo takes them, else that of
+Debian's package, 9.1.2. The crate lodvarn is that of clients/rust, or the one in FOLDER. Prints the nanoseconds of a
+key for each workload of speed.rs, the least of all rounds, and the median of the ratios. A ratio above 2 fails. Its last
+line is 'N passed, M failed'.
 """
 
 import os
@@ -15,7 +16,7 @@ import sys
 import tempfile
 from pathlib import Path
 
-from core import HERE, NEWEST, NotThere, make_core, offline, package_folder
+from sources import HERE, NotThere, make_newest, make_older, take_offline, takes_newest
 from test_editor import LODVARN
 
 MOST = 2
@@ -42,20 +43,32 @@ older = []
 
 
 def build(folder, lodvarn):
-    """Builds the program in a folder. Answers it, and the version of rustyline's core in it."""
-    version = make_core(folder / "original", "original")
-    offline(folder, package_folder().parent)
+    """Builds the program in a folder, and answers it."""
+    newest = takes_newest()
+    (make_newest if newest else make_older)(folder / "original", "original")
+    take_offline(folder)
     crate = folder / "speed"
     crate.mkdir()
     (crate / "Cargo.toml").write_text(MANIFEST.format(source=HERE / "speed.rs", lodvarn=lodvarn))
-    target = folder / "target"
     subprocess.run(
-        ["cargo", "build", "--release", "--offline", "--quiet"] + ([] if version == NEWEST else ["--features", "older"]),
+        ["cargo", "build", "--release", "--offline", "--quiet", *([] if newest else ["--features", "older"])],
         cwd=crate,
-        env={**os.environ, "CARGO_TARGET_DIR": str(target)},
+        env={**os.environ, "CARGO_TARGET_DIR": str(folder / "target")},
         check=True,
     )
-    return target / "release/speed", version
+    return folder / "target/release/speed"
+
+
+def time_keys(program):
+    """Runs the program on one processor until no ratio is too great, or it was tried often. Answers the ratios."""
+    os.sched_setaffinity(0, {max(os.sched_getaffinity(0))})
+    for _ in range(TRIES):
+        said = subprocess.run([program], check=True, stdout=subprocess.PIPE, text=True).stdout
+        ratios = [float(ratio) for ratio in re.findall(r"ratio ([\d.]+)$", said, re.M)]
+        if max(ratios) <= MOST:
+            break
+    print(said, end="")
+    return ratios
 
 
 def main():
@@ -65,17 +78,13 @@ def main():
         return 2
     with tempfile.TemporaryDirectory(prefix="lodvarn-") as name:
         try:
-            program, version = build(Path(name), Path(words[1]).resolve() if words else LODVARN)
+            ratios = time_keys(build(Path(name), Path(words[1]).resolve() if words else LODVARN))
         except (NotThere, subprocess.CalledProcessError) as why:
-            print(why)
+            print(f"{why}\n0 passed, 1 failed")
             return 1
-        os.sched_setaffinity(0, {max(os.sched_getaffinity(0))})
-        for _ in range(TRIES):
-            said = subprocess.run([program], check=True, capture_output=True, text=True).stdout
-            if all(float(ratio) <= MOST for ratio in re.findall(r"ratio ([\d.]+)", said)):
-                break
-    print(f"beside the core of rustyline {version}:\n{said}", end="")
-    return 0 if all(float(ratio) <= MOST for ratio in re.findall(r"ratio ([\d.]+)", said)) else 1
+    slow = sum(ratio > MOST for ratio in ratios)
+    print(f"{len(ratios) - slow} passed, {slow} failed")
+    return 0 if slow == 0 else 1
 
 
 if __name__ == "__main__":

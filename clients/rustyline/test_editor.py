@@ -3,11 +3,12 @@
 
     python3 clients/rustyline/test_editor.py [--core FOLDER | --original]
 
-The editor is rustyline 9.1.2 as Debian packs its sources: terminal, key maps, history, completion, and their tests. Its
-core, which is its line, its record and its ring, is taken out, and the three files here stand in its place, over the
-crate lodvarn of clients/rust, or the one in FOLDER, or rustyline's own core under that name (--original), by which the
-files here are tested. It is built without a network, in a folder that is gone afterwards. Then its own tests run, and in
-a terminal what is typed, killed, yanked, undone and searched shows on the screen. Its last line is 'N passed, M failed'.
+The editor is rustyline 9.1.2 as Debian packs its sources: terminal, key maps, history, completion, and their tests.
+Its core, which is its line, its record and its ring, is taken out, and three files here stand in its place, over the
+crate lodvarn of clients/rust, or the one in FOLDER, or the core of rustyline 19.0.0 under that name (--original), which
+shows what these files do by themselves. It is built without a network, in a folder that is gone afterwards. Then its own tests
+run, and in a terminal what is typed, killed, yanked, undone and searched must show on the screen. Its last line is
+'N passed, M failed'.
 """
 
 import os
@@ -18,16 +19,18 @@ import sys
 import tempfile
 from pathlib import Path
 
-from core import HERE, PARTS, NotThere, make_core, offline, package_folder
+from sources import HERE, PARTS, NotThere, make_newest, package_folder, take_offline
 
 sys.path.insert(0, str(HERE.parent))
 from terminal import await_that, editing, keys  # noqa: E402
 
 LODVARN = HERE.parent / "rust/lodvarn"
-# Of the 172 tests of the editor, 51 stand in the three files that are taken out.
+# How many tests the editor has beside those in the three files that are taken out.
 TESTS = 121
-# The tests that fail since docs/DIFFERENCES.md says so: by the name of each, what it says. There are none today.
+# The tests that must fail, since docs/DIFFERENCES.md says so: by the name of each, what it says. There are none today.
 DIFFERENT = {}
+# How many seconds cargo may take.
+LONG = 600
 ROWS, COLUMNS = 12, 60
 SEARCH = "(reverse-i-search)`{}': {}"
 # What is typed into one editor, and the screen after each.
@@ -62,45 +65,39 @@ STEPS = [
 
 def make_editor(folder, lodvarn):
     """Makes the editor's sources in a folder, with the files here for its core."""
-    package = package_folder()
     editor = folder / "editor"
-    shutil.copytree(package, editor)
+    shutil.copytree(package_folder(), editor)
     (editor / ".cargo-checksum.json").unlink()
     for part in PARTS:
         shutil.copy(HERE / f"{part}.rs", editor / "src")
     shutil.copy(HERE / "repl.rs", editor / "examples")
     with (editor / "Cargo.toml").open("a") as manifest:
         manifest.write(f'\n[dependencies.lodvarn]\npath = "{lodvarn}"\n\n[workspace]\n')
-    offline(folder, package.parent)
+    take_offline(folder)
     return editor
 
 
 def cargo(editor, *words):
     """Runs cargo on the editor. Answers its status and what it printed."""
     environment = {**os.environ, "CARGO_TARGET_DIR": str(editor.parent / "target"), "RUSTFLAGS": "-Awarnings"}
-    ran = subprocess.run(
-        ["cargo", *words, "--offline"],
-        cwd=editor,
-        env=environment,
-        stdout=subprocess.PIPE,
-        stderr=subprocess.STDOUT,
-        text=True,
-    )
+    told = {"stdout": subprocess.PIPE, "stderr": subprocess.STDOUT, "text": True}
+    ran = subprocess.run(["cargo", *words, "--offline"], cwd=editor, env=environment, timeout=LONG, **told)
     return ran.returncode, ran.stdout
 
 
 def run_tests(editor):
-    """The editor's own tests: how many went as they should, and how many did not. Too few of them is one that did not."""
+    """The editor's own tests: how many went as they should, and how many did not, one more where there are too few."""
     _, said = cargo(editor, "test", "--lib")
     told = re.search(r"^test result: .* (\d+) passed; (\d+) failed", said, re.M)
     listed = re.search(r"^failures:\n((?: {4}\S+\n)+)", said, re.M)
     failing = set(listed[1].split()) if listed else set()
-    good = (int(told[1]) if told else 0) + len(failing & DIFFERENT.keys())
-    bad = len(failing ^ DIFFERENT.keys()) + (good < TESTS)
+    wrong = failing ^ DIFFERENT.keys()
+    good = (int(told[1]) if told else 0) - len(wrong - failing) + len(failing - wrong)
+    bad = len(wrong) + (good + len(wrong) < TESTS)
     if bad:
-        said = re.sub(r"^test result:.*\n", "", said, flags=re.M)
-        print(f"{said}\nFAILED: {good} of {TESTS} tests went as they should, and these did not: {sorted(failing ^ DIFFERENT.keys())}")
-    print(f"the editor's own tests: {good} as they should")
+        print(re.sub(r"^test result:.*\n", "", said, flags=re.M))
+        print(f"FAILED: {good} of {TESTS} tests went as they should; these did not: {sorted(wrong)}")
+    print(f"the editor's own tests: {good} went as they should")
     return good, bad
 
 
@@ -136,7 +133,7 @@ def main():
         try:
             if words == ["--original"]:
                 lodvarn = folder / "lodvarn"
-                print(f"on the core of rustyline {make_core(lodvarn, 'lodvarn')} itself")
+                make_newest(lodvarn, "lodvarn")
             editor = make_editor(folder, lodvarn)
         except NotThere as missing:
             print(f"{missing}\n0 passed, 1 failed")
