@@ -1,5 +1,6 @@
-"""The sources of rustyline, built in a folder for a run: the editor 9.1.2 of Debian's package, and as a crate of its own
-the core of 19.0.0, whose files may be beside the repository, or that of 9.1.2. None of them is kept in the repository."""
+"""The sources of rustyline, built in a folder for a run: the editor 9.1.2 of Debian's package, and as a crate of its
+own the core of 19.0.0, whose files may be beside the repository, or that of 9.1.2. None of them is kept in the
+repository."""
 
 import re
 import subprocess

@@ -5,8 +5,8 @@
 
 The core is that of rustyline 19.0.0 where its files are beside the repository and cargo takes them, else that of
 Debian's package, 9.1.2. The crate lodvarn is that of clients/rust, or the one in FOLDER. Prints the nanoseconds of a
-key for each workload of speed.rs, the least of all rounds, and the median of the ratios. A ratio above 2 fails. Its last
-line is 'N passed, M failed'.
+key for each workload of speed.rs, the least of all rounds, and the median of the ratios. A ratio above 2 fails. Its
+last line is 'N passed, M failed'.
 """
 
 import os

@@ -3,12 +3,12 @@
 
     python3 clients/rustyline/test_editor.py [--core FOLDER | --original]
 
-The editor is rustyline 9.1.2 as Debian packs its sources: terminal, key maps, history, completion, and their tests.
-Its core, which is its line, its record and its ring, is taken out, and three files here stand in its place, over the
-crate lodvarn of clients/rust, or the one in FOLDER, or the core of rustyline 19.0.0 under that name (--original), which
-shows what these files do by themselves. It is built without a network, in a folder that is gone afterwards. Then its own tests
-run, and in a terminal what is typed, killed, yanked, undone and searched must show on the screen. Its last line is
-'N passed, M failed'.
+The editor is rustyline 9.1.2 as Debian packs its sources: terminal, key maps, history, completion, and their tests. Its
+core, which is its line, its record and its ring, is taken out, and three files here stand in its place, over the crate
+lodvarn of clients/rust, or the one in FOLDER, or the core of rustyline 19.0.0 under that name (--original), which shows
+what these files do by themselves. It is built without a network, in a folder that is gone afterwards. Then its own
+tests run, and in a terminal what is typed, killed, yanked, undone and searched must show on the screen. Its last line
+is 'N passed, M failed'.
 """
 
 import os
