@@ -184,34 +184,42 @@ impl LineBuffer {
         line
     }
 
+    /// The ring that hears the line from now on.
     pub(crate) fn set_delete_listener(&mut self, ring: Arc<Mutex<dyn DeleteListener>>) {
         self.both.ring = Some(ring);
     }
 
+    /// The record that hears the line from now on.
     pub(crate) fn set_change_listener(&mut self, record: Rc<RefCell<dyn ChangeListener>>) {
         self.both.record = Some(record);
     }
 
+    /// The text.
     pub fn as_str(&self) -> &str {
         self.inner.as_str()
     }
 
+    /// The text, taken out.
     pub fn into_string(self) -> String {
         self.inner.into_string()
     }
 
+    /// The cursor's place, in bytes.
     pub fn pos(&self) -> usize {
         self.inner.pos()
     }
 
+    /// Sets the cursor.
     pub fn set_pos(&mut self, pos: usize) {
         self.inner.set_pos(pos);
     }
 
+    /// The length of the text, in bytes.
     pub fn len(&self) -> usize {
         self.inner.len()
     }
 
+    /// Whether there is no text.
     pub fn is_empty(&self) -> bool {
         self.inner.is_empty()
     }
@@ -219,12 +227,6 @@ impl LineBuffer {
     /// Whether the cursor stands at the end, or before white space alone.
     pub fn is_end_of_input(&self) -> bool {
         self.inner.is_end_of_input()
-    }
-
-    /// The grapheme cluster to the right of the cursor. The editor's `unicode-segmentation` finds it, since this lends.
-    pub(crate) fn grapheme_at_cursor(&self) -> Option<&str> {
-        use unicode_segmentation::UnicodeSegmentation;
-        self[self.pos()..].graphemes(true).next()
     }
 
     /// The place `n` grapheme clusters to the right of the cursor.
@@ -240,47 +242,58 @@ impl LineBuffer {
 
 /// Motions. Each answers whether the cursor moved.
 impl LineBuffer {
+    /// `n` grapheme clusters back.
     pub fn move_backward(&mut self, n: RepeatCount) -> bool {
         self.inner.move_backward(count(n))
     }
 
+    /// `n` grapheme clusters ahead.
     pub fn move_forward(&mut self, n: RepeatCount) -> bool {
         self.inner.move_forward(count(n))
     }
 
+    /// To the start of the text.
     pub fn move_buffer_start(&mut self) -> bool {
         self.inner.move_buffer_start()
     }
 
+    /// To the end of the text.
     pub fn move_buffer_end(&mut self) -> bool {
         self.inner.move_buffer_end()
     }
 
+    /// To the start of the cursor's line.
     pub fn move_home(&mut self) -> bool {
         self.inner.move_home()
     }
 
+    /// To the end of the cursor's line.
     pub fn move_end(&mut self) -> bool {
         self.inner.move_end()
     }
 
+    /// To the start of the `n`-th word back.
     pub fn move_to_prev_word(&mut self, word: Word, n: RepeatCount) -> bool {
         self.inner.move_to_prev_word(word_of(word), count(n))
     }
 
+    /// To a place of the `n`-th word ahead.
     pub fn move_to_next_word(&mut self, at: At, word: Word, n: RepeatCount) -> bool {
         self.inner
             .move_to_next_word(at_of(at), word_of(word), count(n))
     }
 
+    /// `n` lines up, in the same column.
     pub fn move_to_line_up(&mut self, n: RepeatCount) -> bool {
         self.inner.move_to_line_up(count(n), &layout())
     }
 
+    /// `n` lines down, in the same column.
     pub fn move_to_line_down(&mut self, n: RepeatCount) -> bool {
         self.inner.move_to_line_down(count(n), &layout())
     }
 
+    /// To the `n`-th hit of a search.
     pub fn move_to(&mut self, search: CharSearch, n: RepeatCount) -> bool {
         self.inner.move_to(search_of(search), count(n))
     }
@@ -293,10 +306,12 @@ impl LineBuffer {
         self.inner.update(text, pos, &mut self.both);
     }
 
+    /// Inserts a character `n` times at the cursor.
     pub fn insert(&mut self, c: char, n: RepeatCount) -> Option<bool> {
         self.inner.insert(c, count(n), &mut self.both)
     }
 
+    /// Inserts a text `n` times at the cursor.
     pub fn yank(&mut self, text: &str, n: RepeatCount) -> Option<bool> {
         self.inner.yank(text, count(n), &mut self.both)
     }
@@ -306,6 +321,7 @@ impl LineBuffer {
         self.inner.yank_pop(size, text, &mut self.both)
     }
 
+    /// Replaces a part of the text; the cursor goes to the end of the new one.
     pub fn replace(&mut self, range: Range<usize>, text: &str) {
         self.inner.replace(range, text, &mut self.both);
     }
@@ -318,49 +334,60 @@ impl LineBuffer {
 
 /// Deletions and kills. Each answers whether something went, or what went.
 impl LineBuffer {
+    /// Deletes `n` grapheme clusters to the right of the cursor. Answers them.
     pub fn delete(&mut self, n: RepeatCount) -> Option<String> {
         self.inner.delete(count(n), &mut self.both)
     }
 
+    /// Deletes `n` grapheme clusters to the left of the cursor.
     pub fn backspace(&mut self, n: RepeatCount) -> bool {
         self.inner.backspace(count(n), &mut self.both)
     }
 
+    /// Deletes a part of the text; the cursor goes there.
     pub fn delete_range(&mut self, range: Range<usize>) {
         self.inner.delete_range(range, &mut self.both);
     }
 
+    /// Deletes from the cursor to the end of its line.
     pub fn kill_line(&mut self) -> bool {
         self.inner.kill_line(&mut self.both)
     }
 
+    /// Deletes from the cursor to the end of the text.
     pub fn kill_buffer(&mut self) -> bool {
         self.inner.kill_buffer(&mut self.both)
     }
 
+    /// Deletes from the start of the cursor's line to the cursor.
     pub fn discard_line(&mut self) -> bool {
         self.inner.discard_line(&mut self.both)
     }
 
+    /// Deletes from the start of the text to the cursor.
     pub fn discard_buffer(&mut self) -> bool {
         self.inner.discard_buffer(&mut self.both)
     }
 
+    /// Deletes to the start of the `n`-th word back.
     pub fn delete_prev_word(&mut self, word: Word, n: RepeatCount) -> bool {
         self.inner
             .delete_prev_word(word_of(word), count(n), &mut self.both)
     }
 
+    /// Deletes to a place of the `n`-th word ahead.
     pub fn delete_word(&mut self, at: At, word: Word, n: RepeatCount) -> bool {
         self.inner
             .delete_word(at_of(at), word_of(word), count(n), &mut self.both)
     }
 
+    /// Deletes to the `n`-th hit of a search.
     pub fn delete_to(&mut self, search: CharSearch, n: RepeatCount) -> bool {
         self.inner
             .delete_to(search_of(search), count(n), &mut self.both)
     }
 
+    /// Kills what a movement covers.
     pub fn kill(&mut self, movement: &Movement) -> bool {
         self.inner.kill(&movement_of(movement), &mut self.both)
     }
@@ -368,18 +395,22 @@ impl LineBuffer {
 
 /// Edits of what stands around the cursor. Each answers whether there was something to edit.
 impl LineBuffer {
+    /// Exchanges the grapheme clusters around the cursor.
     pub fn transpose_chars(&mut self) -> bool {
         self.inner.transpose_chars(&mut self.both)
     }
 
+    /// Exchanges the `n`-th word ahead with the one `n` words before it.
     pub fn transpose_words(&mut self, n: RepeatCount) -> bool {
         self.inner.transpose_words(count(n), &mut self.both)
     }
 
+    /// Changes the letter case of the next word.
     pub fn edit_word(&mut self, action: WordAction) -> bool {
         self.inner.edit_word(action, &mut self.both)
     }
 
+    /// Puts so many blanks before the lines that a movement covers, or takes them away.
     pub fn indent(&mut self, movement: &Movement, amount: usize, dedent: bool) -> bool {
         let amount = u8::try_from(amount).unwrap_or(u8::MAX);
         self.inner
