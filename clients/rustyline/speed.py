@@ -1,0 +1,91 @@
+#!/usr/bin/env python3
+"""Times an editor's keys through the crate lodvarn, and through rustyline's own core, in one run.
+
+    python3 clients/rustyline/speed.py [--core FOLDER]
+
+The core is that of rustyline 19.0.0 where its files are beside the repository and cargo takes them, else that of
+Debian's package, 9.1.2. The crate lodvarn is that of clients/rust, or the one in FOLDER. Prints the nanoseconds of a
+key for each workload of speed.rs, the least of all rounds, and the median of the ratios. A ratio above 2 fails. Its
+last line is 'N passed, M failed'.
+"""
+
+import os
+import re
+import subprocess
+import sys
+import tempfile
+from pathlib import Path
+
+from sources import HERE, NotThere, make_newest, make_older, take_offline, takes_newest
+from test_editor import LODVARN
+
+MOST = 2
+# How often it may be tried, since others use the machine.
+TRIES = 3
+MANIFEST = """[package]
+name = "speed"
+version = "0.0.0"
+edition = "2021"
+
+[[bin]]
+name = "speed"
+path = "{source}"
+
+[dependencies]
+lodvarn = {{ path = "{lodvarn}" }}
+original = {{ path = "../original" }}
+
+[features]
+older = []
+
+[workspace]
+"""
+
+
+def build(folder, lodvarn):
+    """Builds the program in a folder, and answers it."""
+    newest = takes_newest()
+    (make_newest if newest else make_older)(folder / "original", "original")
+    take_offline(folder)
+    crate = folder / "speed"
+    crate.mkdir()
+    (crate / "Cargo.toml").write_text(MANIFEST.format(source=HERE / "speed.rs", lodvarn=lodvarn))
+    subprocess.run(
+        ["cargo", "build", "--release", "--offline", "--quiet", *([] if newest else ["--features", "older"])],
+        cwd=crate,
+        env={**os.environ, "CARGO_TARGET_DIR": str(folder / "target")},
+        check=True,
+    )
+    return folder / "target/release/speed"
+
+
+def time_keys(program):
+    """Runs the program on one processor until no ratio is too great, or it was tried often. Answers the ratios."""
+    os.sched_setaffinity(0, {max(os.sched_getaffinity(0))})
+    for _ in range(TRIES):
+        said = subprocess.run([program], check=True, stdout=subprocess.PIPE, text=True).stdout
+        ratios = [float(ratio) for ratio in re.findall(r"ratio ([\d.]+)$", said, re.M)]
+        if max(ratios) <= MOST:
+            break
+    print(said, end="")
+    return ratios
+
+
+def main():
+    words = sys.argv[1:]
+    if words and (len(words) != 2 or words[0] != "--core"):
+        print(__doc__, file=sys.stderr)
+        return 2
+    with tempfile.TemporaryDirectory(prefix="lodvarn-") as name:
+        try:
+            ratios = time_keys(build(Path(name), Path(words[1]).resolve() if words else LODVARN))
+        except (NotThere, subprocess.CalledProcessError) as why:
+            print(f"{why}\n0 passed, 1 failed")
+            return 1
+    slow = sum(ratio > MOST for ratio in ratios)
+    print(f"{len(ratios) - slow} passed, {slow} failed")
+    return 0 if slow == 0 else 1
+
+
+if __name__ == "__main__":
+    sys.exit(main())
