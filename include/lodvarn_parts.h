@@ -194,19 +194,18 @@ uint32_t lodvarn_record_end(lodvarn_record **r);
 uint32_t lodvarn_record_end_one(lodvarn_record **r);
 
 /* Records that the character c was inserted at the place at. A letter or digit joins the insertion before it. Answers
- * DONE. Errors: NO_SUCH_NUMBER, BAD_PLACE where no text can be so long, NO_MEMORY. */
+ * DONE. Errors: NO_SUCH_NUMBER, NO_MEMORY. */
 uint32_t lodvarn_record_insert_char(lodvarn_record **r, size_t at, uint32_t c);
 
-/* Records that a text was inserted at the place at. Answers DONE. Errors: NOT_UTF8, BAD_PLACE where no text can be so
- * long, NO_MEMORY. */
+/* Records that a text was inserted at the place at. Answers DONE. Errors: NOT_UTF8, NO_MEMORY. */
 uint32_t lodvarn_record_insert_str(lodvarn_record **r, size_t at, const char *text, size_t len);
 
 /* Records that a text was deleted from the place at. A letter or digit joins the deletion before it. Answers DONE.
- * Errors: NOT_UTF8, BAD_PLACE where no text can be so long, NO_MEMORY. */
+ * Errors: NOT_UTF8, NO_MEMORY. */
 uint32_t lodvarn_record_delete(lodvarn_record **r, size_t at, const char *text, size_t len);
 
 /* Records that at the place at the text old_text gave way to the text new_text. It joins the replacement before it.
- * Answers DONE. Errors: NOT_UTF8, BAD_PLACE where no text can be so long, NO_MEMORY. */
+ * Answers DONE. Errors: NOT_UTF8, NO_MEMORY. */
 uint32_t lodvarn_record_replace(lodvarn_record **r, size_t at, const char *old_text, size_t old_len,
                                 const char *new_text, size_t new_len);
 
@@ -226,7 +225,7 @@ uint32_t lodvarn_record_redo(lodvarn_record **r, lodvarn_line **l);
 uint32_t lodvarn_record_truncate(lodvarn_record **r, size_t entries);
 
 /* Copies the text that the last change put in to out, a buffer of cap bytes. Answers TEXT with its length in *out_len,
- * NONE where the last change put in none. Errors: TOO_SMALL with the length that is needed in *out_len. */
+ * NONE where the last change put in none. Errors: TOO_SMALL with the length that is needed in *out_len, NO_MEMORY. */
 uint32_t lodvarn_record_last_insert(lodvarn_record **r, char *out, size_t cap, size_t *out_len);
 
 /* Answers the number of entries, the marks of groups too. */
