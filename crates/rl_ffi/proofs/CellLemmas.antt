@@ -1,5 +1,5 @@
 -- Cells of a text, one after another, and the place that is found for one of them.
-use Rattle.std.proofs.Common.{◌≡◌, ◌⊎◌, inl, inr, ℕ, zero, suc, cond, ◌+◌, ◌-◌, ◌%◌, ◌≤◌, ◌<◌, ◌&&◌, min, nat_le, nat_lt, Bool, true, false, List, [], ◌∷◌, length, slice_get, unwrap_or, MatchOption, Some, None, arith, refl, sym, ap, subst, ◌∙◌}
+use Rattle.std.proofs.Common.{◌≡◌, ◌⊎◌, inl, inr, ℕ, zero, suc, cond, ◌+◌, ◌-◌, ◌%◌, ◌≤◌, ◌&&◌, min, nat_le, nat_lt, Bool, true, false, List, [], ◌∷◌, length, slice_get, unwrap_or, MatchOption, Some, arith, refl, sym, ap, subst, ◌∙◌}
 use Rattle.std.proofs.lemmas.Bool.Decides.{nat_tests}
 use Rattle.rl_base.specs.Widths.{width}
 use Rattle.rl_ffi.specs.Cells.{after, cells, is_newline, is_tab, is_within, last_within, tabbed, wrapped}

@@ -1,6 +1,5 @@
 -- What the edits of a line that C holds do: each carries out a plan, of which its listener hears.
-use Rattle.std.specs.Prelude.{◌≡◌, ◌⊎◌, ℕ, ◌-◌, ◌≤◌, Bool, true, false, List, Option, Some, None}
-use Rattle.std.specs.Str.{IsCharBoundary}
+use Rattle.std.specs.Prelude.{◌≡◌, ◌⊎◌, ℕ, Bool, true, false, List, Option, Some, None}
 use Rattle.rl_base.specs.Event.{Event}
 use Rattle.rl_base.specs.declared.listeners.Refusal.{Refusal}
 use Rattle.rl_base.specs.declared.motion.Movement.{Movement}
@@ -61,10 +60,6 @@ kills by_characters plan old n new =
 -- a text is made for the word ahead, and the plan is of that
 abbrev pub respells : WordAction → (List ℕ → Effect) → Effect
 respells action effect old n new = Recased old.line action (λ made. effect made old n new)
-
--- the given number of bytes stands before the cursor, and begins at a boundary
-abbrev pub StandsBefore : ℕ → Line → Type 0
-StandsBefore size line = (size ≤ line.cursor) × IsCharBoundary line.text (line.cursor - size)
 
 -- the movements by which a line has a call that deletes and tells no kill
 abbrev pub deleting : Movement → Option Movement

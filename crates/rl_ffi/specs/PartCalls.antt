@@ -1,4 +1,4 @@
--- What a call on a part that stands by itself does through its handle: on a record, or on a ring.
+-- What a call on a part that stands by itself does through its handle: on a line, a record or a ring.
 use Rattle.std.specs.Prelude.{◌≡◌, ◌⊎◌, ℕ, List, Option, Some, None}
 use Rattle.std.specs.Str.{IsUtf8}
 use Rattle.rl_ffi.specs.Numbers.{closed, done, no_memory, not_utf8}

@@ -5,13 +5,8 @@ use Rattle.rl_base.specs.Event.{Event, InsertChar}
 use Rattle.rl_base.specs.Text.{HasText}
 use Rattle.rl_line.specs.Record.{IsRecorded, Record, last_insert, record_step}
 use Rattle.rl_line.specs.Units.{adds_end, begun, with_closed}
-use Rattle.rl_line.specs.declared.change.Freshness.TheVariants.{Stale}
 use Rattle.rl_ffi.specs.Numbers.{done, mark_number, no_memory, no_such_number, not_utf8, truth_number}
 use Rattle.rl_ffi.specs.Reads.{TextIn}
-
--- a record of nothing
-abbrev pub nothing_recorded : Record
-nothing_recorded = record { recorded = []; pending = []; fresh = Stale }
 
 -- a group is begun, and its mark written; or memory is out
 abbrev pub Begins : Record → ℕ → Record → ℕ → ℕ → Type 0

@@ -1,5 +1,6 @@
-//! Sessions for C. A handle is null, or points to a session on the heap; C passes the address of the handle. Null is a
-//! closed session, on which every call is harmless and says so. Each call answers a number.
+//! Sessions for C, and a line, a record and a kill ring by themselves. A handle is null, or points to one of these on the
+//! heap; C passes the address of the handle. Null is closed: every call on it is harmless and says so. Each call answers a
+//! number.
 #![tactic(auto)]
 
 mod buffers;

@@ -1,11 +1,13 @@
 //! The calls that edit a line by itself. What each did is told by its reports.
-ghost use Rattle.std.specs.Prelude.{◌≡◌, true, false};
+ghost use Rattle.std.specs.Prelude.{◌≡◌, Some, true, false};
 ghost use Rattle.std.specs.Str.{IsCharBoundary};
 ghost use Rattle.rl_line.specs.Edits.{delete_range_plan, insert_plan, insert_str_plan, replace_plan, update_plan, yank_plan, yank_pop_plan};
 ghost use Rattle.rl_line.specs.LineRanges.{IsRange};
 ghost use Rattle.rl_session.specs.Commands.{CanGoIn, nothing_more, room_by_step};
-ghost use Rattle.rl_ffi.specs.HeldLine.{LineCalled, leaves, of_named, of_text, only_where};
-ghost use Rattle.rl_ffi.specs.LineEdits.{StandsBefore, done_number, edits, inserted_number};
+ghost use Rattle.rl_ffi.specs.HeldLine.{leaves, of_named, only_where};
+ghost use Rattle.rl_ffi.specs.PartCalls.{OfText, Through};
+ghost use Rattle.rl_session.specs.Commands.{StandsYanked};
+ghost use Rattle.rl_ffi.specs.LineEdits.{done_number, edits, inserted_number};
 ghost use Rattle.rl_ffi.specs.Numbers.{bad_place, bad_yank_size, char_of, truth_number};
 
 use crate::handle::of_part;
@@ -41,7 +43,7 @@ fn insert(held: &mut HeldLine, c: char, n: RepeatCount) -> u32
 /// would get longer than the limit. CLOSED, NO_SUCH_NUMBER (of the character) and NO_MEMORY change nothing.
 #[unsafe(no_mangle)]
 pub extern "C" fn lodvarn_line_insert(alloc: Global, l: &mut LineHandle, c: u32, n: u16) -> u32
-    ensures { LineCalled (of_named (char_of c) (λ x. edits room_by_step (λ line. insert_plan line x n) inserted_number)) l.old.value result l.new.value }
+    ensures { Through (of_named (char_of c) (λ x. edits room_by_step (λ line. insert_plan line x n) inserted_number)) l.old.value result l.new.value }
 {
     of_part!(LineHandle, l, alloc, held => match char_of(c) {
         Some(c) => insert(&mut held, c, n),
@@ -50,7 +52,7 @@ pub extern "C" fn lodvarn_line_insert(alloc: Global, l: &mut LineHandle, c: u32,
 }
 
 fn yank(held: &mut HeldLine, text: &[u8], n: RepeatCount) -> u32
-    ensures { of_text text.now (edits room_by_step (λ line. yank_plan line text.now n) inserted_number) held.old result held.new }
+    ensures { OfText text.now (edits room_by_step (λ line. yank_plan line text.now n) inserted_number) held.old result held.new }
 {
     let Ok(text) = std::str::from_utf8(text) else {
         return NOT_UTF8;
@@ -65,22 +67,22 @@ fn yank(held: &mut HeldLine, text: &[u8], n: RepeatCount) -> u32
 /// NOT_UTF8 and NO_MEMORY change nothing.
 #[unsafe(no_mangle)]
 pub extern "C" fn lodvarn_line_yank(alloc: Global, l: &mut LineHandle, text: &[u8], n: u16) -> u32
-    ensures { LineCalled (of_text text.now (edits room_by_step (λ line. yank_plan line text.now n) inserted_number)) l.old.value result l.new.value }
+    ensures { Through (OfText text.now (edits room_by_step (λ line. yank_plan line text.now n) inserted_number)) l.old.value result l.new.value }
 {
     of_part!(LineHandle, l, alloc, held => yank(&mut held, text, n), CLOSED)
 }
 
 // Whether so many bytes can stand before the cursor.
 fn stands_before(line: &LineBuffer, size: usize) -> bool
-    ensures yes { result ≡ true → StandsBefore size line.now }
-    ensures no { result ≡ false → ¬ (StandsBefore size line.now) }
+    ensures yes { result ≡ true → StandsYanked (Some size) line.now }
+    ensures no { result ≡ false → ¬ (StandsYanked (Some size) line.now) }
 {
     let end = line.pos();
     size <= end && line.as_str().is_char_boundary(end - size)
 }
 
 fn yank_pop(held: &mut HeldLine, size: usize, text: &[u8]) -> u32
-    ensures { of_text text.now (only_where (StandsBefore size) bad_yank_size (edits room_by_step (λ line. yank_pop_plan line size text.now) inserted_number)) held.old result held.new }
+    ensures { OfText text.now (only_where (StandsYanked (Some size)) bad_yank_size (edits room_by_step (λ line. yank_pop_plan line size text.now) inserted_number)) held.old result held.new }
 {
     let Ok(text) = std::str::from_utf8(text) else {
         return NOT_UTF8;
@@ -104,14 +106,14 @@ pub extern "C" fn lodvarn_line_yank_pop(
     size: usize,
     text: &[u8],
 ) -> u32
-    ensures { LineCalled (of_text text.now (only_where (StandsBefore size) bad_yank_size (edits room_by_step (λ line. yank_pop_plan line size text.now) inserted_number)))
+    ensures { Through (OfText text.now (only_where (StandsYanked (Some size)) bad_yank_size (edits room_by_step (λ line. yank_pop_plan line size text.now) inserted_number)))
         l.old.value result l.new.value }
 {
     of_part!(LineHandle, l, alloc, held => yank_pop(&mut held, size, text), CLOSED)
 }
 
 fn update(held: &mut HeldLine, text: &[u8], pos: usize) -> u32
-    ensures { of_text text.now (only_where (λ _. IsCharBoundary text.now pos) bad_place (edits room_by_step (λ line. update_plan line text.now pos) done_number)) held.old result held.new }
+    ensures { OfText text.now (only_where (λ _. IsCharBoundary text.now pos) bad_place (edits room_by_step (λ line. update_plan line text.now pos) done_number)) held.old result held.new }
 {
     let Ok(text) = std::str::from_utf8(text) else {
         return NOT_UTF8;
@@ -134,7 +136,7 @@ pub extern "C" fn lodvarn_line_update(
     text: &[u8],
     pos: usize,
 ) -> u32
-    ensures { LineCalled (of_text text.now (only_where (λ _. IsCharBoundary text.now pos) bad_place (edits room_by_step (λ line. update_plan line text.now pos) done_number)))
+    ensures { Through (OfText text.now (only_where (λ _. IsCharBoundary text.now pos) bad_place (edits room_by_step (λ line. update_plan line text.now pos) done_number)))
         l.old.value result l.new.value }
 {
     of_part!(LineHandle, l, alloc, held => update(&mut held, text, pos), CLOSED)
@@ -162,7 +164,7 @@ fn can_go_in(line: &LineBuffer, idx: usize, text: &str) -> bool
 }
 
 fn insert_str(held: &mut HeldLine, at: usize, text: &[u8]) -> u32
-    ensures { of_text text.now (only_where (λ line. CanGoIn line at text.now) bad_place (edits room_by_step (λ line. insert_str_plan line at text.now) truth_number)) held.old result held.new }
+    ensures { OfText text.now (only_where (λ line. CanGoIn line at text.now) bad_place (edits room_by_step (λ line. insert_str_plan line at text.now) truth_number)) held.old result held.new }
 {
     let Ok(text) = std::str::from_utf8(text) else {
         return NOT_UTF8;
@@ -186,7 +188,7 @@ pub extern "C" fn lodvarn_line_insert_str(
     at: usize,
     text: &[u8],
 ) -> u32
-    ensures { LineCalled (of_text text.now (only_where (λ line. CanGoIn line at text.now) bad_place (edits room_by_step (λ line. insert_str_plan line at text.now) truth_number)))
+    ensures { Through (OfText text.now (only_where (λ line. CanGoIn line at text.now) bad_place (edits room_by_step (λ line. insert_str_plan line at text.now) truth_number)))
         l.old.value result l.new.value }
 {
     of_part!(LineHandle, l, alloc, held => insert_str(&mut held, at, text), CLOSED)
@@ -202,7 +204,7 @@ pub(crate) fn is_range(line: &LineBuffer, from: usize, to: usize) -> bool
 }
 
 fn replace(held: &mut HeldLine, from: usize, to: usize, text: &[u8]) -> u32
-    ensures { of_text text.now (only_where (λ line. IsRange line.text from to) bad_place (edits room_by_step (λ line. replace_plan line from to text.now) done_number)) held.old result held.new }
+    ensures { OfText text.now (only_where (λ line. IsRange line.text from to) bad_place (edits room_by_step (λ line. replace_plan line from to text.now) done_number)) held.old result held.new }
 {
     let Ok(text) = std::str::from_utf8(text) else {
         return NOT_UTF8;
@@ -226,7 +228,7 @@ pub extern "C" fn lodvarn_line_replace(
     to: usize,
     text: &[u8],
 ) -> u32
-    ensures { LineCalled (of_text text.now (only_where (λ line. IsRange line.text from to) bad_place (edits room_by_step (λ line. replace_plan line from to text.now) done_number)))
+    ensures { Through (OfText text.now (only_where (λ line. IsRange line.text from to) bad_place (edits room_by_step (λ line. replace_plan line from to text.now) done_number)))
         l.old.value result l.new.value }
 {
     of_part!(LineHandle, l, alloc, held => replace(&mut held, from, to, text), CLOSED)
@@ -253,7 +255,7 @@ pub extern "C" fn lodvarn_line_delete_range(
     from: usize,
     to: usize,
 ) -> u32
-    ensures { LineCalled (only_where (λ line. IsRange line.text from to) bad_place (edits nothing_more (λ line. delete_range_plan line from to) done_number)) l.old.value result l.new.value }
+    ensures { Through (only_where (λ line. IsRange line.text from to) bad_place (edits nothing_more (λ line. delete_range_plan line from to) done_number)) l.old.value result l.new.value }
 {
     of_part!(LineHandle, l, alloc, held => delete_range(&mut held, from, to), CLOSED)
 }

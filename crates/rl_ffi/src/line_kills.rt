@@ -4,7 +4,8 @@ ghost use Rattle.rl_base.specs.declared.motion.Movement.{Movement};
 ghost use Rattle.rl_line.specs.Kills.{is_by_characters, kill_plan, kill_range_plan};
 ghost use Rattle.rl_line.specs.LineRanges.{IsRange};
 ghost use Rattle.rl_session.specs.Commands.{nothing_more};
-ghost use Rattle.rl_ffi.specs.HeldLine.{LineCalled, of_named, only_where};
+ghost use Rattle.rl_ffi.specs.HeldLine.{of_named, only_where};
+ghost use Rattle.rl_ffi.specs.PartCalls.{Through};
 ghost use Rattle.rl_ffi.specs.LineEdits.{before_kill, deleting, edits, kills};
 ghost use Rattle.rl_ffi.specs.Numbers.{bad_place, direction_of, movement_of, truth_number};
 
@@ -32,7 +33,7 @@ fn delete(held: &mut HeldLine, n: RepeatCount) -> u32
 /// NO_MEMORY (of the report) and CLOSED change nothing.
 #[unsafe(no_mangle)]
 pub extern "C" fn lodvarn_line_delete(alloc: Global, l: &mut LineHandle, n: u16) -> u32
-    ensures { LineCalled (edits nothing_more (λ line. kill_plan line (Movement.ForwardChar n)) truth_number) l.old.value result l.new.value }
+    ensures { Through (edits nothing_more (λ line. kill_plan line (Movement.ForwardChar n)) truth_number) l.old.value result l.new.value }
 {
     of_part!(LineHandle, l, alloc, held => delete(&mut held, n), CLOSED)
 }
@@ -50,7 +51,7 @@ fn backspace(held: &mut HeldLine, n: RepeatCount) -> u32
 /// change nothing.
 #[unsafe(no_mangle)]
 pub extern "C" fn lodvarn_line_backspace(alloc: Global, l: &mut LineHandle, n: u16) -> u32
-    ensures { LineCalled (edits nothing_more (λ line. kill_plan line (Movement.BackwardChar n)) truth_number) l.old.value result l.new.value }
+    ensures { Through (edits nothing_more (λ line. kill_plan line (Movement.BackwardChar n)) truth_number) l.old.value result l.new.value }
 {
     of_part!(LineHandle, l, alloc, held => backspace(&mut held, n), CLOSED)
 }
@@ -88,7 +89,7 @@ pub extern "C" fn lodvarn_line_delete_by(
     n: u16,
     c: u32,
 ) -> u32
-    ensures { LineCalled (of_named (movement_of movement n c) (λ m. of_named (deleting m) (λ by. edits nothing_more (λ line. kill_plan line by) truth_number))) l.old.value result l.new.value }
+    ensures { Through (of_named (movement_of movement n c) (λ m. of_named (deleting m) (λ by. edits nothing_more (λ line. kill_plan line by) truth_number))) l.old.value result l.new.value }
 {
     of_part!(LineHandle, l, alloc, held => match movement_of(movement, n, c) {
         Some(movement) => delete_by(&mut held, &movement),
@@ -148,7 +149,7 @@ pub extern "C" fn lodvarn_line_kill(
     n: u16,
     c: u32,
 ) -> u32
-    ensures { LineCalled (of_named (movement_of movement n c) (λ m. kills (is_by_characters m) (λ line. kill_plan line m))) l.old.value result l.new.value }
+    ensures { Through (of_named (movement_of movement n c) (λ m. kills (is_by_characters m) (λ line. kill_plan line m))) l.old.value result l.new.value }
 {
     let by = movement_of(movement, n, c);
     of_part!(LineHandle, l, alloc, held => kill_named(&mut held, by), CLOSED)
@@ -188,7 +189,7 @@ pub extern "C" fn lodvarn_line_kill_range(
     to: usize,
     direction: u32,
 ) -> u32
-    ensures { LineCalled (of_named (direction_of direction) (λ dir. only_where (λ line. IsRange line.text from to) bad_place (kills false (λ line. kill_range_plan line from to dir))))
+    ensures { Through (of_named (direction_of direction) (λ dir. only_where (λ line. IsRange line.text from to) bad_place (kills false (λ line. kill_range_plan line from to dir))))
         l.old.value result l.new.value }
 {
     let dir = direction_of(direction);

@@ -3,7 +3,8 @@ ghost use Rattle.std.specs.Prelude.{◌≡◌, length};
 ghost use Rattle.std.specs.Str.{IsCharBoundary};
 ghost use Rattle.rl_line.specs.Motions.{destination};
 ghost use Rattle.rl_ffi.specs.Buffers.{written};
-ghost use Rattle.rl_ffi.specs.HeldLine.{LineCalled, of_named, only_where};
+ghost use Rattle.rl_ffi.specs.HeldLine.{of_named, only_where};
+ghost use Rattle.rl_ffi.specs.PartCalls.{Through};
 ghost use Rattle.rl_ffi.specs.LineReads.{CoversIn, LeadsIn, LeadsTo, is_set, limit_in_line, moves, pos_in_line, prompted_at, sets, text_in_line};
 ghost use Rattle.rl_ffi.specs.Numbers.{bad_place, mode_of, movement_of};
 
@@ -59,7 +60,7 @@ fn set_pos(held: &mut HeldLine, pos: usize) -> u32
 /// Moves the cursor to a byte place: DONE. No report tells of it. BAD_PLACE and CLOSED change nothing.
 #[unsafe(no_mangle)]
 pub extern "C" fn lodvarn_line_set_pos(alloc: Global, l: &mut LineHandle, pos: usize) -> u32
-    ensures { LineCalled (only_where (λ line. IsCharBoundary line.text pos) bad_place (sets (λ line. record line { cursor = pos }))) l.old.value result l.new.value }
+    ensures { Through (only_where (λ line. IsCharBoundary line.text pos) bad_place (sets (λ line. record line { cursor = pos }))) l.old.value result l.new.value }
 {
     of_part!(LineHandle, l, alloc, held => set_pos(&mut held, pos), CLOSED)
 }
@@ -75,7 +76,7 @@ fn set_can_grow(alloc: Global, held: &mut HeldLine, can_grow: u32) -> u32
 /// Sets whether the text may get longer than the limit: DONE. 0 is no, any other number yes. CLOSED changes nothing.
 #[unsafe(no_mangle)]
 pub extern "C" fn lodvarn_line_set_can_grow(alloc: Global, l: &mut LineHandle, can_grow: u32) -> u32
-    ensures { LineCalled (sets (λ line. record line { grow = is_set can_grow })) l.old.value result l.new.value }
+    ensures { Through (sets (λ line. record line { grow = is_set can_grow })) l.old.value result l.new.value }
 {
     of_part!(LineHandle, l, alloc, held => set_can_grow(alloc, &mut held, can_grow), CLOSED)
 }
@@ -119,7 +120,7 @@ pub extern "C" fn lodvarn_line_move(
     mode: u32,
     prompt: u16,
 ) -> u32
-    ensures { LineCalled (of_named (movement_of movement n c) (λ m. of_named (mode_of mode) (λ columns. moves (λ line. destination (prompted_at columns prompt) line m))))
+    ensures { Through (of_named (movement_of movement n c) (λ m. of_named (mode_of mode) (λ columns. moves (λ line. destination (prompted_at columns prompt) line m))))
         l.old.value result l.new.value }
 {
     let by = movement_of(movement, n, c);

@@ -3,7 +3,7 @@ ghost use Rattle.std.specs.Prelude.{◌≡◌};
 ghost use Rattle.std.specs.Option.{option_map};
 ghost use Rattle.rl_base.specs.Reports.{Noted};
 ghost use Rattle.rl_ffi.specs.Heard.{all_forgotten, next_of};
-ghost use Rattle.rl_ffi.specs.HeldLine.{LineCalled};
+ghost use Rattle.rl_ffi.specs.PartCalls.{Through};
 ghost use Rattle.rl_ffi.specs.LineReports.{ReportCalled, TakesOldest, count_in_line};
 ghost use Rattle.rl_ffi.specs.Numbers.{done};
 
@@ -77,7 +77,7 @@ pub extern "C" fn lodvarn_line_reports(alloc: Global, l: &mut LineHandle) -> usi
 /// Forgets all reports that wait: DONE. CLOSED changes nothing.
 #[unsafe(no_mangle)]
 pub extern "C" fn lodvarn_line_forget_reports(alloc: Global, l: &mut LineHandle) -> u32
-    ensures { LineCalled (λ old n new. (n ≡ done) × (new ≡ record old { heard = all_forgotten old.heard })) l.old.value result l.new.value }
+    ensures { Through (λ old n new. (n ≡ done) × (new ≡ record old { heard = all_forgotten old.heard })) l.old.value result l.new.value }
 {
     of_part!(LineHandle, l, alloc, held => { held.heard.forget_all(); DONE }, CLOSED)
 }

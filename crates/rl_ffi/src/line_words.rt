@@ -4,7 +4,8 @@ ghost use Rattle.rl_line.specs.Indents.{indent_plan};
 ghost use Rattle.rl_line.specs.LetterCase.{edit_word_plan};
 ghost use Rattle.rl_line.specs.Transpositions.{transpose_chars_plan, transpose_words_plan};
 ghost use Rattle.rl_session.specs.Commands.{a_copy, room_by_step};
-ghost use Rattle.rl_ffi.specs.HeldLine.{LineCalled, of_named};
+ghost use Rattle.rl_ffi.specs.HeldLine.{of_named};
+ghost use Rattle.rl_ffi.specs.PartCalls.{Through};
 ghost use Rattle.rl_ffi.specs.LineEdits.{edits, respells};
 ghost use Rattle.rl_ffi.specs.Numbers.{action_of, dedents_of, movement_of, truth_number};
 
@@ -30,7 +31,7 @@ fn transpose_chars(held: &mut HeldLine) -> u32
 /// nothing; NO_MEMORY stops it after the steps that it made.
 #[unsafe(no_mangle)]
 pub extern "C" fn lodvarn_line_transpose_chars(alloc: Global, l: &mut LineHandle) -> u32
-    ensures { LineCalled (edits a_copy transpose_chars_plan truth_number) l.old.value result l.new.value }
+    ensures { Through (edits a_copy transpose_chars_plan truth_number) l.old.value result l.new.value }
 {
     of_part!(LineHandle, l, alloc, held => transpose_chars(&mut held), CLOSED)
 }
@@ -48,7 +49,7 @@ fn transpose_words(held: &mut HeldLine, n: RepeatCount) -> u32
 /// nothing; NO_MEMORY stops it after the steps that it made.
 #[unsafe(no_mangle)]
 pub extern "C" fn lodvarn_line_transpose_words(alloc: Global, l: &mut LineHandle, n: u16) -> u32
-    ensures { LineCalled (edits a_copy (λ line. transpose_words_plan line n) truth_number) l.old.value result l.new.value }
+    ensures { Through (edits a_copy (λ line. transpose_words_plan line n) truth_number) l.old.value result l.new.value }
 {
     of_part!(LineHandle, l, alloc, held => transpose_words(&mut held, n), CLOSED)
 }
@@ -75,7 +76,7 @@ fn edit_word_named(held: &mut HeldLine, action: Option<WordAction>) -> u32
 /// change nothing; NO_MEMORY stops it after the steps that it made.
 #[unsafe(no_mangle)]
 pub extern "C" fn lodvarn_line_edit_word(alloc: Global, l: &mut LineHandle, action: u32) -> u32
-    ensures { LineCalled (of_named (action_of action) (λ a. respells a (λ made. edits a_copy (λ line. edit_word_plan line made) truth_number))) l.old.value result l.new.value }
+    ensures { Through (of_named (action_of action) (λ a. respells a (λ made. edits a_copy (λ line. edit_word_plan line made) truth_number))) l.old.value result l.new.value }
 {
     let named = action_of(action);
     of_part!(LineHandle, l, alloc, held => edit_word_named(&mut held, named), CLOSED)
@@ -119,7 +120,7 @@ pub extern "C" fn lodvarn_line_indent(
     amount: u8,
     direction: u32,
 ) -> u32
-    ensures { LineCalled (of_named (movement_of movement n c) (λ m. of_named (dedents_of direction) (λ back. edits room_by_step (λ line. indent_plan line m amount back) truth_number)))
+    ensures { Through (of_named (movement_of movement n c) (λ m. of_named (dedents_of direction) (λ back. edits room_by_step (λ line. indent_plan line m amount back) truth_number)))
         l.old.value result l.new.value }
 {
     let by = movement_of(movement, n, c);

@@ -7,7 +7,8 @@ ghost use Rattle.rl_line.specs.Record.{Record, record_step};
 ghost use Rattle.rl_line.specs.Units.{level, truncated};
 ghost use Rattle.rl_ffi.specs.Numbers.{char_of};
 ghost use Rattle.rl_ffi.specs.PartCalls.{Done, OfText, Opens, Reads, Through, ThroughOut};
-ghost use Rattle.rl_ffi.specs.RecordCalls.{Begins, Closes, Hears, HearsBoth, HearsChar, LastRead, nothing_recorded};
+ghost use Rattle.rl_session.specs.State.{no_changes};
+ghost use Rattle.rl_ffi.specs.RecordCalls.{Begins, Closes, Hears, HearsBoth, HearsChar, LastRead};
 
 use crate::buffers::put;
 use crate::handle::of_part;
@@ -23,7 +24,7 @@ use std::alloc::Global;
 /// Makes an empty record, in the place of the one that was there: DONE. NO_MEMORY leaves that.
 #[unsafe(no_mangle)]
 pub extern "C" fn lodvarn_record_open(alloc: Global, r: &mut RecordHandle) -> u32
-    ensures { Opens nothing_recorded r.old.value result r.new.value }
+    ensures { Opens no_changes r.old.value result r.new.value }
 {
     match Box::new(alloc, Changeset::new(alloc)) {
         Ok(changes) => {

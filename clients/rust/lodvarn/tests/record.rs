@@ -1,16 +1,9 @@
 //! Groups, and what a record keeps, with answers that were worked out by hand.
+mod sessions;
+
 use lodvarn::{Action, Bound, Fault, Session};
+use sessions::{opened, stands};
 use std::panic::{catch_unwind, AssertUnwindSafe};
-
-fn opened(text: &str, pos: usize) -> Session {
-    let session = Session::builder().text(text).pos(pos).limit(64).open();
-    session.expect("a session opens")
-}
-
-#[track_caller]
-fn stands(session: &Session, text: &str, pos: usize) {
-    assert_eq!((session.text().as_str(), session.pos()), (text, pos));
-}
 
 #[test]
 fn a_group_is_undone_at_once() {

@@ -1,17 +1,10 @@
 //! Kills of ranges and texts of the ring, with answers that were worked out by hand.
+mod sessions;
+
 use lodvarn::{Bound, Direction, Fault, Movement, Session, Word};
+use sessions::{opened, stands};
 
 const WORD_BACK: Movement = Movement::BackwardWord(1, Word::Emacs);
-
-fn opened(text: &str, pos: usize) -> Session {
-    let session = Session::builder().text(text).pos(pos).limit(64).open();
-    session.expect("a session opens")
-}
-
-#[track_caller]
-fn stands(session: &Session, text: &str, pos: usize) {
-    assert_eq!((session.text().as_str(), session.pos()), (text, pos));
-}
 
 /// The ring has these texts and no more, the current one first.
 #[track_caller]

@@ -1,20 +1,13 @@
 //! Scripts of sessions in Rust, with answers that were worked out by hand.
+mod sessions;
+
 use lodvarn::{
     first_cluster, last_cluster, run_script, version, width, Action, At, CharSearch, Fault, Mode,
     Movement, Session, Word, NO_LIMIT, VERSION,
 };
+use sessions::{opened, stands};
 
 const FAMILY: &str = "\u{1f468}\u{200d}\u{1f469}\u{200d}\u{1f467}";
-
-fn opened(text: &str, pos: usize) -> Session {
-    let session = Session::builder().text(text).pos(pos).limit(64).open();
-    session.expect("a session opens")
-}
-
-#[track_caller]
-fn stands(session: &Session, text: &str, pos: usize) {
-    assert_eq!((session.text().as_str(), session.pos()), (text, pos));
-}
 
 #[test]
 fn a_session_is_as_it_was_built() -> Result<(), Fault> {
