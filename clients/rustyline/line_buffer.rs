@@ -1,7 +1,7 @@
 //! The line of the editor, over that of the crate `lodvarn`. The editor hands its listeners to the line once; a line of
 //! `lodvarn` takes one at each call. Counts are cut at 65535, an indentation at 255.
 use crate::keymap::{At, CharSearch, Movement, RepeatCount, Word};
-use lodvarn::keymap as core;
+use lodvarn::keymap as newer;
 use lodvarn::layout::{GraphemeClusterMode, Layout};
 use lodvarn::line_buffer as line;
 use std::cell::RefCell;
@@ -80,37 +80,37 @@ impl line::ChangeListener for Both {
 }
 
 /// A count of the editor as one of `lodvarn`.
-pub(crate) fn count(n: RepeatCount) -> core::RepeatCount {
-    core::RepeatCount::try_from(n).unwrap_or(core::RepeatCount::MAX)
+pub(crate) fn count(n: RepeatCount) -> newer::RepeatCount {
+    newer::RepeatCount::try_from(n).unwrap_or(newer::RepeatCount::MAX)
 }
 
-fn word_of(word: Word) -> core::Word {
+fn word_of(word: Word) -> newer::Word {
     match word {
-        Word::Big => core::Word::Big,
-        Word::Emacs => core::Word::Emacs,
-        Word::Vi => core::Word::Vi,
+        Word::Big => newer::Word::Big,
+        Word::Emacs => newer::Word::Emacs,
+        Word::Vi => newer::Word::Vi,
     }
 }
 
-fn at_of(at: At) -> core::At {
+fn at_of(at: At) -> newer::At {
     match at {
-        At::Start => core::At::Start,
-        At::BeforeEnd => core::At::BeforeEnd,
-        At::AfterEnd => core::At::AfterEnd,
+        At::Start => newer::At::Start,
+        At::BeforeEnd => newer::At::BeforeEnd,
+        At::AfterEnd => newer::At::AfterEnd,
     }
 }
 
-fn search_of(search: CharSearch) -> core::CharSearch {
+fn search_of(search: CharSearch) -> newer::CharSearch {
     match search {
-        CharSearch::Forward(c) => core::CharSearch::Forward(c),
-        CharSearch::ForwardBefore(c) => core::CharSearch::ForwardBefore(c),
-        CharSearch::Backward(c) => core::CharSearch::Backward(c),
-        CharSearch::BackwardAfter(c) => core::CharSearch::BackwardAfter(c),
+        CharSearch::Forward(c) => newer::CharSearch::Forward(c),
+        CharSearch::ForwardBefore(c) => newer::CharSearch::ForwardBefore(c),
+        CharSearch::Backward(c) => newer::CharSearch::Backward(c),
+        CharSearch::BackwardAfter(c) => newer::CharSearch::BackwardAfter(c),
     }
 }
 
-fn movement_of(movement: &Movement) -> core::Movement {
-    use core::Movement as To;
+fn movement_of(movement: &Movement) -> newer::Movement {
+    use newer::Movement as To;
     match *movement {
         Movement::WholeLine => To::WholeLine,
         Movement::BeginningOfLine => To::BeginningOfLine,

@@ -1,6 +1,5 @@
 //! Times an editor's keys through the crate `lodvarn` and through rustyline's own core, named `original`, by turns. The
 //! two must end with the same texts and cursors.
-use std::hint::black_box;
 use std::time::Instant;
 
 /// The keys of a line, typed over and over. A line is entered after so many of them.
@@ -132,27 +131,37 @@ mod original {
     }
 }
 
-/// Types lines, with an undo after each so many characters. Answers the nanoseconds that a key took, and the last line.
-fn round<E: Keys>(undo_after: usize) -> (f64, (String, usize)) {
+/// What a round leaves: the last line with its cursor, and the sum of all lengths and places that were looked at, so that
+/// no look is left out as unused.
+type Left = (String, usize, usize);
+
+/// Types lines, with an undo after each so many characters. Answers the nanoseconds that a key took, and what is left.
+fn round<E: Keys>(undo_after: usize) -> (f64, Left) {
     let begin = Instant::now();
     let mut keys = 0;
+    let mut sum = 0;
     let mut last = (String::new(), 0);
+    let mut look = |editor: &E| {
+        let (text, pos) = editor.seen();
+        sum += text.len() + pos;
+    };
     for _ in 0..LINES {
         let mut editor = E::new();
         for (typed, c) in PROSE.chars().cycle().take(LINE).enumerate() {
-            black_box(&mut editor).insert(c);
-            black_box(editor.seen());
+            editor.insert(c);
+            look(&editor);
             keys += 1;
             if typed % undo_after == undo_after - 1 {
-                black_box(&mut editor).undo();
-                black_box(editor.seen());
+                editor.undo();
+                look(&editor);
                 keys += 1;
             }
         }
         let (text, pos) = editor.seen();
         last = (text.to_string(), pos);
     }
-    (begin.elapsed().as_nanos() as f64 / f64::from(keys), last)
+    let took = begin.elapsed().as_nanos() as f64 / f64::from(keys);
+    (took, (last.0, last.1, sum))
 }
 
 /// The number in the middle.

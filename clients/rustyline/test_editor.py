@@ -25,8 +25,8 @@ sys.path.insert(0, str(HERE.parent))
 from terminal import await_that, editing, keys  # noqa: E402
 
 LODVARN = HERE.parent / "rust/lodvarn"
-# How many tests the editor has beside those in the three files that are taken out.
-TESTS = 121
+# How many tests the editor has beside those in the three files that are taken out, those in its docs too.
+TESTS = 124
 # The tests that must fail, since docs/DIFFERENCES.md says so: by the name of each, what it says.
 DIFFERENT = {
     "test::vi_cmd::e": "a count of words is the n-th place of the list; rustyline drops a cluster after each hit",
@@ -89,12 +89,15 @@ def cargo(editor, *words):
 
 def run_tests(editor):
     """The editor's own tests: how many went as they should, and how many did not, one more where there are too few."""
-    _, said = cargo(editor, "test", "--lib")
-    told = re.search(r"^test result: .* (\d+) passed; (\d+) failed", said, re.M)
+    said = "".join(cargo(editor, "test", kind)[1] for kind in ("--lib", "--doc"))
+    passed = re.findall(r"^test result: .* (\d+) passed; \d+ failed", said, re.M)
+    if len(passed) != 2:
+        print(f"FAILED: the editor's own tests did not run\n{said}")
+        return 0, 1
     listed = re.search(r"^failures:\n((?: {4}\S+\n)+)", said, re.M)
     failing = set(listed[1].split()) if listed else set()
     wrong = failing ^ DIFFERENT.keys()
-    good = (int(told[1]) if told else 0) - len(wrong - failing) + len(failing - wrong)
+    good = sum(map(int, passed)) - len(wrong - failing) + len(failing - wrong)
     bad = len(wrong) + (good + len(wrong) < TESTS)
     if bad:
         print(re.sub(r"^test result:.*\n", "", said, flags=re.M))

@@ -1,6 +1,7 @@
 mod CellLemmas
 mod HandleSteps
 mod HeardLemmas
+mod HeardTexts
 mod KillringHandle
 mod LineHandle
 mod PartsSteps

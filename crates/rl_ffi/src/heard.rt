@@ -1,10 +1,10 @@
 //! A listener that keeps a report of everything that it hears, until the report is read.
-ghost use Rattle.std.specs.Prelude.{◌≡◌, ℕ, ◌^◌, ◌<◌, ◌++◌, List, Some, IfOk, OnOk, IfErr, length};
+ghost use Rattle.std.specs.Prelude.{◌≡◌, ℕ, ◌-◌, ◌^◌, ◌<◌, ◌++◌, List, None, Some, IfErr, OnOk, length, take};
 ghost use Rattle.std.specs.Option.{option_map};
 ghost use Rattle.std.specs.String.{string_bytes};
 ghost use Rattle.std.specs.VecDeque.{deque_len, deque_capacity};
 ghost use Rattle.rl_base.specs.Event.{Event, apply};
-ghost use Rattle.rl_base.specs.Reports.{IsLineText, LeadsBy, Noted, on_last, texts_of, told_cursors};
+ghost use Rattle.rl_base.specs.Reports.{IsLineText, LeadsBy, Noted, bytes_kept, on_last, texts_of, told_cursors};
 ghost use Rattle.rl_base.specs.declared.listeners.Refusal.TheVariants.{NoMemory};
 ghost use Rattle.rl_ffi.specs.Heard.{Heard, all_forgotten, first_kept, heard_step, hearing, joined, marking, next_of, nothing_heard, past_oldest, readied};
 
@@ -12,22 +12,10 @@ use rl_base::{ChangeListener, DeleteListener, Direction, Refusal, Report, Report
 use std::alloc::Global;
 use std::collections::VecDeque;
 use std::marker::Model;
+use std::mem::replace;
 
-// A report, with its texts: what went, and right after it what came.
-#[derive(Drop)]
-struct Note {
-    report: Report,
-    texts: String,
-}
-
-impl Model for Note {
-    ghost use Rattle.std.specs.String.{string_bytes};
-    ghost use Rattle.rl_base.specs.Reports.{Noted};
-
-    ghost Value = { Noted };
-
-    ghost view = { λ n. record { report = n.report; texts = string_bytes n.texts } };
-}
+/// How many bytes of room are kept for texts while none waits.
+const ROOM: usize = 4096;
 
 /// Keeps a report of each event that it hears, with its texts, in order, until it is forgotten. It refuses an event only
 /// where memory is out, and is then as it was. The start and the stop of a kill can't be refused, so room for these two is
@@ -35,33 +23,28 @@ impl Model for Note {
 #[derive(Drop)]
 pub struct Heard {
     alloc: Global,
-    waiting: VecDeque<Note>,
+    waiting: VecDeque<Report>,
+    // What went and what came, for each report that waits, one after another. Before them stand those of reports that are
+    // forgotten, so that not all move where one is.
+    texts: String,
+    // How many bytes of the texts are of forgotten reports.
+    spent: usize,
     // For how many starts and stops of kills there is room.
     marks: usize,
 }
 
 impl Model for Heard {
-    ghost use Rattle.std.specs.Prelude.{◌+◌, ◌≤◌};
+    ghost use Rattle.std.specs.Prelude.{◌+◌, ◌≤◌, drop, length};
+    ghost use Rattle.std.specs.String.{string_bytes};
     ghost use Rattle.std.specs.VecDeque.{deque_len, deque_capacity};
+    ghost use Rattle.rl_base.specs.Reports.{Cuts, notes};
     ghost use Rattle.rl_ffi.specs.Heard.{Heard};
 
     ghost Value = { Heard };
 
-    ghost view = { λ h. record { waiting = h.waiting.items; marks = h.marks } };
+    ghost view = { λ h. record { waiting = notes 1 h.waiting.items (drop h.spent (string_bytes h.texts)); marks = h.marks } };
 
-    ghost invariant = { λ h. deque_len h.waiting + h.marks ≤ deque_capacity h.waiting };
-}
-
-impl Note {
-    // Tells where the cursor was before the change and after it, where it is one.
-    fn tell(&mut self, before: usize, after: usize)
-        ensures { self.new ≡ record { report = told_cursors before after self.old.report; texts = self.old.texts } }
-    {
-        match self.report.kind {
-            ReportKind::KillStarted | ReportKind::KillStopped => {}
-            _ => self.report.cursors = Some((before, after)),
-        }
-    }
+    ghost invariant = { λ h. (h.spent ≤ length (string_bytes h.texts)) × Cuts 1 h.waiting.items (drop h.spent (string_bytes h.texts)) × (deque_len h.waiting + h.marks ≤ deque_capacity h.waiting) };
 }
 
 impl Heard {
@@ -72,8 +55,22 @@ impl Heard {
         Heard {
             alloc,
             waiting: VecDeque::new(alloc),
+            texts: String::new(alloc),
+            spent: 0,
             marks: 0,
         }
+    }
+
+    /// Another one, which has heard of nothing. It takes the room of this one, where this one has heard of nothing either.
+    pub fn apart(&mut self) -> Heard
+        ensures new { result ≡ nothing_heard }
+        ensures kept { self.new ≡ self.old }
+    {
+        let new = Heard::new(self.alloc);
+        if self.waiting.is_empty() && self.marks == 0 {
+            return replace(self, new);
+        }
+        new
     }
 
     /// Finds room for the start and the stop of one kill. Refused where memory is out, and then all is as it was.
@@ -97,27 +94,44 @@ impl Heard {
     pub fn oldest(&self) -> Option<Report>
         ensures { result ≡ option_map (λ (n : Noted). n.report) (next_of self.now.waiting) }
     {
-        match self.waiting.front() {
-            Some(note) => Some(note.report),
-            None => None,
-        }
+        self.waiting.front().copied()
     }
 
     /// Its texts: what went, and right after it what came. Empty where none waits.
     pub fn oldest_texts(&self) -> &str
         ensures { result.now ≡ texts_of (next_of self.now.waiting) }
     {
-        match self.waiting.front() {
-            Some(note) => note.texts.as_str(),
-            None => "",
-        }
+        let Some(oldest) = self.waiting.front() else {
+            return "";
+        };
+        let texts = &self.texts.as_str()[self.spent..];
+        &texts[..bytes_of(oldest)]
     }
 
     /// Forgets the oldest report, so that the next becomes the oldest.
     pub fn forget(&mut self)
         ensures { self.new ≡ past_oldest self.old }
     {
-        drop(self.waiting.pop_front());
+        let Some(oldest) = self.waiting.pop_front() else {
+            return;
+        };
+        self.spent += bytes_of(&oldest);
+        if self.waiting.is_empty() {
+            self.forget_all();
+        } else if self.spent > self.texts.len() / 2 {
+            // So a byte moves at most once for each one that is forgotten.
+            self.drop_spent();
+        }
+    }
+
+    // Drops the texts of forgotten reports.
+    fn drop_spent(&mut self)
+        ensures { self.new ≡ self.old }
+    {
+        if self.texts.replace_range(..self.spent, "").is_err() {
+            unreachable!();
+        }
+        self.spent = 0;
     }
 
     /// Forgets all that wait.
@@ -125,6 +139,11 @@ impl Heard {
         ensures { self.new ≡ all_forgotten self.old }
     {
         self.waiting.clear();
+        if self.texts.capacity() > ROOM {
+            self.texts = String::new(self.alloc);
+        }
+        self.texts.clear();
+        self.spent = 0;
     }
 
     /// Puts the reports that another kept after those that wait. Refused where memory is out, and then all is as it was.
@@ -132,12 +151,19 @@ impl Heard {
         ensures done { OnOk result (self.new ≡ joined later self.old) }
         ensures err { IfErr result (λ r. (r ≡ NoMemory) × (self.new ≡ self.old)) }
     {
-        let mut later = later.waiting;
-        let Some(room) = self.marks.checked_add(later.len()) else {
+        if self.waiting.is_empty() && self.marks == later.marks {
+            *self = later;
+            return Ok(());
+        }
+        let mut reports = later.waiting;
+        let Some(room) = self.marks.checked_add(reports.len()) else {
             return Err(Refusal::NoMemory);
         };
         self.waiting.reserve(room)?;
-        self.waiting.append(&mut later)?;
+        self.texts.push_str(&later.texts.as_str()[later.spent..])?;
+        if self.waiting.append(&mut reports).is_err() {
+            unreachable!();
+        }
         Ok(())
     }
 
@@ -145,7 +171,19 @@ impl Heard {
     pub fn keep(&mut self, count: usize)
         ensures { self.new ≡ first_kept count self.old }
     {
-        self.waiting.truncate(count);
+        while self.len() > count {
+            self.forget_newest();
+        }
+    }
+
+    // Forgets the newest report.
+    fn forget_newest(&mut self)
+        ensures { self.new ≡ first_kept (length self.old.waiting - 1) self.old }
+    {
+        let Some(newest) = self.waiting.pop_back() else {
+            return;
+        };
+        self.texts.truncate(self.texts.len() - bytes_of(&newest));
     }
 
     // Keeps that at a place what went gave way to what came.
@@ -153,16 +191,10 @@ impl Heard {
         ensures done { OnOk result (self.new ≡ hearing kind at gone.now come.now self.old) }
         ensures err { IfErr result (λ r. (r ≡ NoMemory) × (self.new ≡ self.old)) }
     {
-        let texts = joined(self.alloc, gone, come)?;
-        let report = Report {
-            kind,
-            at,
-            old_len: gone.len(),
-            new_len: come.len(),
-            cursors: None,
-        };
         self.waiting.reserve(self.marks + 1)?;
-        self.waiting.push_back_reserved(Note { report, texts });
+        push_both(&mut self.texts, gone, come)?;
+        let report = report_of(kind, at, gone.len(), come.len());
+        self.waiting.push_back_reserved(report);
         Ok(())
     }
 
@@ -174,41 +206,65 @@ impl Heard {
             return;
         }
         self.marks -= 1;
-        let report = Report {
-            kind,
-            at: 0,
-            old_len: 0,
-            new_len: 0,
-            cursors: None,
-        };
-        self.waiting.push_back_reserved(Note {
-            report,
-            texts: String::new(self.alloc),
-        });
+        self.waiting.push_back_reserved(report_of(kind, 0, 0, 0));
     }
 }
 
-// Two texts, one right after the other.
-fn joined(alloc: Global, first: &str, then: &str) -> Result<String, Refusal>
-    ensures ok { IfOk result (λ text. string_bytes text ≡ first.now ++ then.now) }
-    ensures err { IfErr result (λ r. r ≡ NoMemory) }
+// Puts two texts at the end of one, or none where memory is out.
+fn push_both(texts: &mut String, first: &str, then: &str) -> Result<(), Refusal>
+    ensures done { OnOk result (string_bytes texts.new ≡ string_bytes texts.old ++ (first.now ++ then.now)) }
+    ensures err { IfErr result (λ r. (r ≡ NoMemory) × (string_bytes texts.new ≡ string_bytes texts.old)) }
 {
-    let mut text = String::new(alloc);
-    text.push_str(first)?;
-    text.push_str(then)?;
-    Ok(text)
+    let len = texts.len();
+    texts.push_str(first)?;
+    if let Err(why) = texts.push_str(then) {
+        texts.truncate(len);
+        return Err(why.into());
+    }
+    Ok(())
+}
+
+// A report of a change, of which no cursor is told yet.
+fn report_of(kind: ReportKind, at: usize, old_len: usize, new_len: usize) -> Report
+    ensures { result ≡ record { kind = kind; at = at; old_len = old_len; new_len = new_len; cursors = None } }
+{
+    Report {
+        kind,
+        at,
+        old_len,
+        new_len,
+        cursors: None,
+    }
+}
+
+// How many bytes the texts of a report have.
+fn bytes_of(report: &Report) -> usize
+    requires { bytes_kept 1 report.now < 2 ^ 64 }
+    ensures { result ≡ bytes_kept 1 report.now }
+{
+    report.old_len + report.new_len
 }
 
 // Tells the last report where the cursor was before it and after it, where that is a change.
-fn tell_last(waiting: &mut VecDeque<Note>, before: usize, after: usize)
-    ensures items { waiting.new.items ≡ on_last (λ (n : Noted). record { report = told_cursors before after n.report; texts = n.texts }) waiting.old.items }
+fn tell_last(waiting: &mut VecDeque<Report>, before: usize, after: usize)
+    ensures items { waiting.new.items ≡ on_last (told_cursors before after) waiting.old.items }
     ensures len { deque_len waiting.new ≡ deque_len waiting.old }
     ensures capacity { deque_capacity waiting.new ≡ deque_capacity waiting.old }
 {
     let Some(last) = waiting.back_mut() else {
         return;
     };
-    last.tell(before, after);
+    tell(last, before, after);
+}
+
+// Tells a report where the cursor was before the change and after it, where it is one.
+fn tell(report: &mut Report, before: usize, after: usize)
+    ensures { report.new ≡ told_cursors before after report.old }
+{
+    match report.kind {
+        ReportKind::KillStarted | ReportKind::KillStopped => {}
+        _ => report.cursors = Some((before, after)),
+    }
 }
 
 impl DeleteListener for Heard {
@@ -240,9 +296,11 @@ impl DeleteListener for Heard {
 
 impl ChangeListener for Heard {
     fn insert_char(&mut self, idx: usize, c: char) -> Result<(), Refusal> {
-        let mut bytes = [0; 4];
-        let come = c.encode_utf8(&mut bytes);
-        self.hear(ReportKind::CharInserted, idx, "", come)
+        self.waiting.reserve(self.marks + 1)?;
+        self.texts.push(c)?;
+        let report = report_of(ReportKind::CharInserted, idx, 0, c.len_utf8());
+        self.waiting.push_back_reserved(report);
+        Ok(())
     }
 
     fn insert_str(&mut self, idx: usize, string: &str) -> Result<(), Refusal> {

@@ -3,7 +3,6 @@ ghost use Rattle.std.specs.Prelude.{◌≡◌};
 ghost use Rattle.rl_ffi.specs.RecordLines.{AsksAhead, AsksBack, AsksBoth, AsksFirst, RedoesIn, ThroughBoth, Undoes};
 
 use crate::handle::of_part;
-use crate::heard::Heard;
 use crate::held_line::HeldLine;
 use crate::line_handle::LineHandle;
 use crate::numbers::{CLOSED, NO_MEMORY, NOT_REPLAYING, truth_number};
@@ -11,7 +10,7 @@ use crate::record_handle::RecordHandle;
 use rl_line::Changeset;
 use std::alloc::Global;
 
-fn undo(alloc: Global, changes: &mut Changeset, held: &mut HeldLine, n: u16) -> u32
+fn undo(changes: &mut Changeset, held: &mut HeldLine, n: u16) -> u32
     ensures { Undoes n changes.old held.old result changes.new held.new }
 {
     match changes.can_undo_last(&held.line, n) {
@@ -20,7 +19,7 @@ fn undo(alloc: Global, changes: &mut Changeset, held: &mut HeldLine, n: u16) -> 
         Err(_) => return NO_MEMORY,
     }
     // The listener may refuse, so it hears of all before anything changes.
-    let mut told = Heard::new(alloc);
+    let mut told = held.heard.apart();
     if changes.foretell_undo(&held.line, n, &mut told).is_err() {
         return NO_MEMORY;
     }
@@ -49,10 +48,10 @@ pub extern "C" fn lodvarn_record_undo(
 ) -> u32
     ensures { ThroughBoth (Undoes n) r.old.value l.old.value result r.new.value l.new.value }
 {
-    of_part!(RecordHandle, r, alloc, changes => of_part!(LineHandle, l, alloc, held => undo(alloc, &mut changes, &mut held, n), CLOSED), CLOSED)
+    of_part!(RecordHandle, r, alloc, changes => of_part!(LineHandle, l, alloc, held => undo(&mut changes, &mut held, n), CLOSED), CLOSED)
 }
 
-fn redo(alloc: Global, changes: &mut Changeset, held: &mut HeldLine) -> u32
+fn redo(changes: &mut Changeset, held: &mut HeldLine) -> u32
     ensures { RedoesIn changes.old held.old result changes.new held.new }
 {
     match changes.can_redo_next(&held.line) {
@@ -60,7 +59,7 @@ fn redo(alloc: Global, changes: &mut Changeset, held: &mut HeldLine) -> u32
         Ok(false) => return NOT_REPLAYING,
         Err(_) => return NO_MEMORY,
     }
-    let mut told = Heard::new(alloc);
+    let mut told = held.heard.apart();
     if changes.foretell_redo(&held.line, &mut told).is_err() {
         return NO_MEMORY;
     }
@@ -87,7 +86,7 @@ pub extern "C" fn lodvarn_record_redo(
 ) -> u32
     ensures { ThroughBoth RedoesIn r.old.value l.old.value result r.new.value l.new.value }
 {
-    of_part!(RecordHandle, r, alloc, changes => of_part!(LineHandle, l, alloc, held => redo(alloc, &mut changes, &mut held), CLOSED), CLOSED)
+    of_part!(RecordHandle, r, alloc, changes => of_part!(LineHandle, l, alloc, held => redo(&mut changes, &mut held), CLOSED), CLOSED)
 }
 
 fn can_undo(changes: &Changeset, held: &HeldLine) -> u32

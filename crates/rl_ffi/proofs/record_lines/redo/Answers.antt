@@ -12,6 +12,6 @@ returns-in-Ok c =
     let cursor = held.line.cursor in
     let es = redo_of c.args.changes.now.pending in
     let told : c.foretell_redo.new.listener ≡ listener_after heard_step cursor (steps_ahead cursor es) nothing_heard =
-    from_ok c.foretell_redo.result _ c.foretell_redo.ensures (sym c.if-is_err.ensures.value) ∙ ap (listener_after heard_step cursor (steps_ahead cursor es)) c.new-told.ensures in
-    let waits = from_ok c.join.result _ c.join.ensures.done (sym c.if-is_err-2.ensures.value) ∙ ap (λ x. joined x held.heard) told ∙ apart es cursor held.heard in
+    from_ok c.foretell_redo.result _ c.foretell_redo.ensures (sym c.if-is_err.ensures.value) ∙ ap (listener_after heard_step cursor (steps_ahead cursor es)) c.apart-told.ensures.new in
+    let waits = from_ok c.join.result _ c.join.ensures.done (sym c.if-is_err-2.ensures.value) ∙ ap (λ x. joined x c.apart-told.new.self) told ∙ ap (joined (listener_after heard_step cursor (steps_ahead cursor es) nothing_heard)) c.apart-told.ensures.kept ∙ apart es cursor held.heard in
     inl (c.in-Ok.answer, c.in-Ok.ensures.done, waits, c.truth_number.ensures)

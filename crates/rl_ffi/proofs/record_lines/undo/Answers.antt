@@ -13,6 +13,6 @@ returns-in-Ok c =
     let cursor = held.line.cursor in
     let es = last_of c.args.n c.args.changes.now.recorded in
     let told : c.foretell_undo.new.listener ≡ listener_after heard_step cursor (steps_back cursor es) nothing_heard =
-    from_ok c.foretell_undo.result _ c.foretell_undo.ensures (sym c.if-is_err.ensures.value) ∙ ap (listener_after heard_step cursor (steps_back cursor es)) c.new-told.ensures in
-    let waits = from_ok c.join.result _ c.join.ensures.done (sym c.if-is_err-2.ensures.value) ∙ ap (λ x. joined x held.heard) told ∙ apart (map inverse (reverse es)) cursor held.heard in
+    from_ok c.foretell_undo.result _ c.foretell_undo.ensures (sym c.if-is_err.ensures.value) ∙ ap (listener_after heard_step cursor (steps_back cursor es)) c.apart-told.ensures.new in
+    let waits = from_ok c.join.result _ c.join.ensures.done (sym c.if-is_err-2.ensures.value) ∙ ap (λ x. joined x c.apart-told.new.self) told ∙ ap (joined (listener_after heard_step cursor (steps_back cursor es) nothing_heard)) c.apart-told.ensures.kept ∙ apart (map inverse (reverse es)) cursor held.heard in
     inl (c.in-Ok.answer, c.in-Ok.ensures.done, waits, c.truth_number.ensures)
