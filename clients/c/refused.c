@@ -1,8 +1,8 @@
 /* Refuses each request of the library for memory in turn: the call says so, the session is sound, and undo leads back
- * to the text that it began with. A call whose comment names no NO_MEMORY makes none. To be linked with
- * -Wl,--wrap=malloc,--wrap=realloc. Its last line is 'N passed, M failed', where each request and each such call counts
- * one. */
-#include "lodvarn.h"
+ * to the text that it began with. A call whose comment names no NO_MEMORY makes none. And reports that were read take no
+ * memory. To be linked with -Wl,--wrap=malloc,--wrap=realloc. Its last line is 'N passed, M failed', where each request,
+ * each such call and each of two readers counts one. */
+#include "lodvarn_parts.h"
 #include <stdio.h>
 #include <stdlib.h>
 #include <string.h>
@@ -10,21 +10,23 @@
 static lodvarn *s;
 static size_t left = SIZE_MAX; /* requests before the one that is refused */
 static int was_refused;
+static size_t greatest; /* the greatest request */
 
 void *__real_malloc(size_t size);
 void *__real_realloc(void *at, size_t size);
 void *__wrap_malloc(size_t size);
 void *__wrap_realloc(void *at, size_t size);
 
-static int refuses(void) {
+static int refuses(size_t size) {
+    if (size > greatest) greatest = size;
     if (left-- > 0) return 0;
     was_refused = 1;
     return 1;
 }
 
-void *__wrap_malloc(size_t size) { return refuses() ? NULL : __real_malloc(size); }
+void *__wrap_malloc(size_t size) { return refuses(size) ? NULL : __real_malloc(size); }
 
-void *__wrap_realloc(void *at, size_t size) { return refuses() ? NULL : __real_realloc(at, size); }
+void *__wrap_realloc(void *at, size_t size) { return refuses(size) ? NULL : __real_realloc(at, size); }
 
 static const char start[] = "ab cd";
 
@@ -194,10 +196,37 @@ static void count_frugal(int *passed, int *failed) {
     }
 }
 
+/* Types and deletes a character over and over, and reads each report of the line but the last so many. Whether all is
+ * told, and no request is great. */
+static int reader_takes_little(size_t late) {
+    lodvarn_line *l = NULL;
+    char out[1];
+    uint32_t kind;
+    size_t at, old_len, new_len, before, after;
+    int holds = lodvarn_line_open(&l, "", 0, 0, 64, 0) == LODVARN_DONE;
+    greatest = 0;
+    for (int i = 0; holds && i < 100000; i++) {
+        holds = (i % 2 ? lodvarn_line_backspace(&l, 1) : lodvarn_line_insert(&l, 'a', 1)) == LODVARN_TRUE;
+        while (holds && lodvarn_line_reports(&l) > late) {
+            uint32_t answer = lodvarn_line_next_report(&l, &kind, &at, &old_len, &new_len, &before, &after, out, 1);
+            holds = answer == LODVARN_DONE && old_len + new_len == 1 && out[0] == 'a' && before + after == 1;
+        }
+    }
+    lodvarn_line_close(&l);
+    return holds && greatest < 4096;
+}
+
 int main(void) {
     int passed = 0, failed = 0;
     size_t request = 0;
     count_frugal(&passed, &failed);
+    for (size_t late = 0; late < 2; late++) {
+        if (reader_takes_little(late)) passed++;
+        else {
+            failed++;
+            printf("FAILED: a reader that is %zu reports late\n", late);
+        }
+    }
     do {
         int holds = 1;
         int refused = refused_at(request, &holds);
