@@ -1,8 +1,7 @@
 //! How a session is opened.
+use crate::calls::Handle;
 use crate::words::{Bound, Fault, Mode};
-use crate::{done, ffi, version, Session, NO_LIMIT, VERSION};
-use std::cell::UnsafeCell;
-use std::ptr::null_mut;
+use crate::{Session, NO_LIMIT};
 
 /// What a session is opened with, from [`Session::builder`]. What is not said stays as it is there: no text, the cursor
 /// at the end of the text, a limit of 4096 bytes, a kill ring of 60 texts, [`Mode::Unicode`], a prompt that ends at
@@ -97,14 +96,12 @@ impl<'t> SessionBuilder<'t> {
     ///
     /// [`Fault::BadPlace`] where the cursor's place is past the text or inside a character; [`Fault::NoMemory`].
     pub fn open(&self) -> Result<Session, Fault> {
-        assert_eq!(version(), VERSION, "the library is of another version");
+        let pos = self.pos.unwrap_or(self.text.len());
+        let handle = Handle::open(self.text, pos, self.limit, self.ring_size, self.mode)?;
         let mut session = Session {
-            at: UnsafeCell::new(null_mut()),
+            handle,
             keeps_texts: false,
         };
-        let (ptr, len, at) = (self.text.as_ptr(), self.text.len(), session.at.get());
-        let (pos, mode) = (self.pos.unwrap_or(len), self.mode as u32);
-        done(unsafe { ffi::lodvarn_open(at, ptr, len, pos, self.limit, self.ring_size, mode) })?;
         session.set_prompt(self.prompt);
         session.set_bound(self.bound);
         Ok(session)

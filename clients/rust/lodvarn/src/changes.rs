@@ -1,4 +1,5 @@
 //! What changed in the text of a session: as one splice, as reports, or told to a listener.
+use crate::calls::Written;
 use crate::words::{Direction, Fault, ReportKind};
 use crate::{ffi, string, Session};
 use std::error::Error;
@@ -38,6 +39,25 @@ pub struct Report {
 }
 
 impl Report {
+    /// The report that the library wrote. Where the queue keeps texts, `out` has what went, and after that what came.
+    fn of(written: Written, mut out: Vec<u8>, keeps_texts: bool) -> Report {
+        let kind = ReportKind::of(written.kind);
+        let has_texts = keeps_texts && kind != ReportKind::Folded;
+        let texts = has_texts.then(|| {
+            let new = out.split_off(written.old_len);
+            (string(out), string(new))
+        });
+        Report {
+            kind,
+            at: written.at,
+            old_len: written.old_len,
+            new_len: written.new_len,
+            pos_before: written.pos_before,
+            pos_after: written.pos_after,
+            texts,
+        }
+    }
+
     /// The change as a splice of the text that the reports before it have led to.
     pub fn splice(&self) -> Splice {
         Splice {
@@ -137,69 +157,19 @@ impl Iterator for Changes<'_> {
     type Item = Report;
 
     fn next(&mut self) -> Option<Report> {
-        let mut written = Written::default();
-        let mut answer = written.take_from(self.session);
+        let (mut written, mut out) = (Written::default(), Vec::new());
+        let handle = &mut self.session.handle;
+        let mut answer = handle.next_report(&mut written, &mut out);
         if answer == ffi::TOO_SMALL {
             // Nothing comes between, so now its texts fit.
-            written.out = vec![0; written.old_len + written.new_len];
-            answer = written.take_from(self.session);
+            out = vec![0; written.old_len + written.new_len];
+            answer = handle.next_report(&mut written, &mut out);
         }
-        (answer == ffi::DONE).then(|| written.report(self.session.keeps_texts))
+        (answer == ffi::DONE).then(|| Report::of(written, out, self.session.keeps_texts))
     }
 }
 
 impl FusedIterator for Changes<'_> {}
-
-/// What the library writes of a report.
-#[derive(Default)]
-struct Written {
-    kind: u32,
-    at: usize,
-    old_len: usize,
-    new_len: usize,
-    pos_before: usize,
-    pos_after: usize,
-    /// What went, and right after it what came.
-    out: Vec<u8>,
-}
-
-impl Written {
-    /// Has the oldest report written, and forgotten where its texts fit. Answers what the call does.
-    fn take_from(&mut self, session: &mut Session) -> u32 {
-        unsafe {
-            ffi::lodvarn_next_report(
-                session.at.get(),
-                &mut self.kind,
-                &mut self.at,
-                &mut self.old_len,
-                &mut self.new_len,
-                &mut self.pos_before,
-                &mut self.pos_after,
-                self.out.as_mut_ptr(),
-                self.out.len(),
-            )
-        }
-    }
-
-    /// The report, of a queue that keeps texts or keeps none.
-    fn report(mut self, keeps_texts: bool) -> Report {
-        let kind = ReportKind::of(self.kind);
-        let has_texts = keeps_texts && kind != ReportKind::Folded;
-        let texts = has_texts.then(|| {
-            let new = self.out.split_off(self.old_len);
-            (string(self.out), string(new))
-        });
-        Report {
-            kind,
-            at: self.at,
-            old_len: self.old_len,
-            new_len: self.new_len,
-            pos_before: self.pos_before,
-            pos_after: self.pos_after,
-            texts,
-        }
-    }
-}
 
 impl Session {
     /// All that changed in the text since this was asked last, or since the session was opened, as one splice of the
@@ -225,8 +195,7 @@ impl Session {
     /// ```
     pub fn changed(&mut self) -> Option<Splice> {
         let (mut from, mut old_end, mut new_end) = (0, 0, 0);
-        let at = self.at.get();
-        let answer = unsafe { ffi::lodvarn_changed(at, &mut from, &mut old_end, &mut new_end) };
+        let answer = self.handle.changed(&mut from, &mut old_end, &mut new_end);
         (answer == ffi::DONE).then_some(Splice {
             from,
             old_end,
@@ -249,7 +218,7 @@ impl Session {
     /// [`changes`]: Session::changes
     /// [`tell`]: Session::tell
     pub fn watch(&mut self, reports: usize, text_bytes: usize) -> Result<bool, Fault> {
-        match unsafe { ffi::lodvarn_watch(self.at.get(), reports, text_bytes) } {
+        match self.handle.watch(reports, text_bytes) {
             ffi::DONE => {
                 self.keeps_texts = text_bytes > 0;
                 Ok(true)

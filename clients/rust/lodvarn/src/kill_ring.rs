@@ -13,11 +13,9 @@
 //!
 //! What differs from rustyline: the size is a number of its own, and takes no memory before a text is kept. Out of
 //! memory, a call panics with these words. A ring may be sent to another thread, but not shared between threads.
-#![deny(unsafe_code)]
-
+use crate::calls::Ring;
 use crate::done;
 use crate::line_buffer::{answered, DeleteListener, Direction};
-use crate::parts::Ring;
 use std::fmt;
 
 /// On which side a kill joins the text of the kill before it.

@@ -22,7 +22,7 @@
 //! [`kill_ring`], [`keymap`] and [`layout`].
 //!
 //! The crate links the archive of the library, which `lodvarn-sys` finds.
-#![deny(missing_docs, unsafe_op_in_unsafe_fn)]
+#![deny(missing_docs, unsafe_code, unsafe_op_in_unsafe_fn)]
 #![warn(clippy::missing_errors_doc)]
 
 pub mod keymap;
@@ -32,8 +32,8 @@ pub mod line_buffer;
 pub mod undo;
 
 mod builder;
+mod calls;
 mod changes;
-mod parts;
 mod reads;
 mod record;
 mod ring;
@@ -50,8 +50,8 @@ pub use words::{
     Action, At, Bound, CharSearch, Direction, Fault, Mode, Movement, ReportKind, Word,
 };
 
+use calls::Handle;
 use lodvarn_sys as ffi;
-use std::cell::UnsafeCell;
 use std::fmt;
 use std::ops::Range;
 
@@ -70,20 +70,9 @@ pub const NO_LIMIT: usize = ffi::NO_LIMIT;
 /// shared::<lodvarn::Session>();
 /// ```
 pub struct Session {
-    // Only calls of the library write the handle, so it is null or a session, as they want it. A read takes the session
-    // out of it and puts it back, so it gets a pointer that it may write to.
-    at: UnsafeCell<ffi::Handle>,
+    handle: Handle,
     // Whether it has a queue of reports that have texts, which the library does not tell.
     keeps_texts: bool,
-}
-
-// All that a session has is memory of the program's `malloc`, which any thread may use and free.
-unsafe impl Send for Session {}
-
-impl Drop for Session {
-    fn drop(&mut self) {
-        unsafe { ffi::lodvarn_close(self.at.get()) }
-    }
 }
 
 impl fmt::Debug for Session {
@@ -124,13 +113,11 @@ fn string(bytes: Vec<u8>) -> String {
 }
 
 // The text that a call writes. Where the buffer is too small the call did nothing, and is made again.
-fn handed(
-    mut call: impl FnMut(*mut u8, usize, &mut usize) -> u32,
-) -> Result<Option<String>, Fault> {
+fn handed(mut call: impl FnMut(&mut [u8], &mut usize) -> u32) -> Result<Option<String>, Fault> {
     let mut out = vec![0; 64];
     loop {
         let mut len = 0;
-        match call(out.as_mut_ptr(), out.len(), &mut len) {
+        match call(&mut out, &mut len) {
             ffi::TOO_SMALL => out.resize(len, 0),
             ffi::TEXT => {
                 out.truncate(len);
@@ -154,13 +141,12 @@ impl Session {
     ///
     /// [`Fault::BadPlace`].
     pub fn set_pos(&mut self, pos: usize) -> Result<(), Fault> {
-        done(unsafe { ffi::lodvarn_set_pos(self.at.get(), pos) })
+        done(self.handle.set_pos(pos))
     }
 
     /// Moves the cursor by a movement. False where there is nowhere to go.
     pub fn move_by(&mut self, movement: Movement) -> bool {
-        let (number, n, c) = movement.numbers();
-        unsafe { ffi::lodvarn_move(self.at.get(), number, n, c) == ffi::TRUE }
+        self.handle.move_by(movement) == ffi::TRUE
     }
 
     /// Inserts a character n times at the cursor. Whether the cursor was at the end, or `None` where the text would get
@@ -170,7 +156,7 @@ impl Session {
     ///
     /// [`Fault::NoMemory`].
     pub fn insert(&mut self, c: char, n: u16) -> Result<Option<bool>, Fault> {
-        inserted(unsafe { ffi::lodvarn_insert(self.at.get(), c.into(), n) })
+        inserted(self.handle.insert(c, n))
     }
 
     /// Inserts a text n times at the cursor. Whether the cursor was at the end, or `None` where the text is empty or
@@ -180,7 +166,7 @@ impl Session {
     ///
     /// [`Fault::NoMemory`].
     pub fn paste(&mut self, text: &str, n: u16) -> Result<Option<bool>, Fault> {
-        inserted(unsafe { ffi::lodvarn_paste(self.at.get(), text.as_ptr(), text.len(), n) })
+        inserted(self.handle.paste(text, n))
     }
 
     /// Begins anew with a text, with the cursor at the place `pos`, as an editor does with the next line. Nothing is
@@ -191,7 +177,7 @@ impl Session {
     ///
     /// [`Fault::BadPlace`], [`Fault::NoMemory`]; they leave the whole session.
     pub fn restart(&mut self, text: &str, pos: usize) -> Result<(), Fault> {
-        done(unsafe { ffi::lodvarn_restart(self.at.get(), text.as_ptr(), text.len(), pos) })
+        done(self.handle.restart(text, pos))
     }
 
     /// Replaces the whole text by another one, which is cut to the limit. The cursor goes to the place `pos` of the new
@@ -201,7 +187,7 @@ impl Session {
     ///
     /// [`Fault::BadPlace`], [`Fault::NoMemory`].
     pub fn update(&mut self, text: &str, pos: usize) -> Result<(), Fault> {
-        done(unsafe { ffi::lodvarn_update(self.at.get(), text.as_ptr(), text.len(), pos) })
+        done(self.handle.update(text, pos))
     }
 
     /// Inserts a text at a place, whatever the limit. The cursor's place keeps its number. Whether the place was the
@@ -211,7 +197,7 @@ impl Session {
     ///
     /// [`Fault::BadPlace`], also where the cursor would come to stand inside a character; [`Fault::NoMemory`].
     pub fn insert_str(&mut self, at: usize, text: &str) -> Result<bool, Fault> {
-        yes(unsafe { ffi::lodvarn_insert_str(self.at.get(), at, text.as_ptr(), text.len()) })
+        yes(self.handle.insert_str(at, text))
     }
 
     /// Replaces what stands in a range by a text, whatever the limit. The cursor goes after the text.
@@ -220,8 +206,7 @@ impl Session {
     ///
     /// [`Fault::BadPlace`], also where the range ends before it begins; [`Fault::NoMemory`].
     pub fn replace(&mut self, range: Range<usize>, text: &str) -> Result<(), Fault> {
-        let (from, to, ptr, len) = (range.start, range.end, text.as_ptr(), text.len());
-        done(unsafe { ffi::lodvarn_replace(self.at.get(), from, to, ptr, len) })
+        done(self.handle.replace(range, text))
     }
 
     /// Deletes what stands in a range. The cursor goes to its start.
@@ -230,7 +215,7 @@ impl Session {
     ///
     /// [`Fault::BadPlace`], also where the range ends before it begins; [`Fault::NoMemory`].
     pub fn delete_range(&mut self, range: Range<usize>) -> Result<(), Fault> {
-        done(unsafe { ffi::lodvarn_delete_range(self.at.get(), range.start, range.end) })
+        done(self.handle.delete_range(range))
     }
 
     /// Deletes n clusters after the cursor, and answers them, or `None` where there are none.
@@ -239,8 +224,7 @@ impl Session {
     ///
     /// [`Fault::NoMemory`].
     pub fn delete(&mut self, n: u16) -> Result<Option<String>, Fault> {
-        let at = self.at.get();
-        handed(|out, cap, len| unsafe { ffi::lodvarn_delete(at, n, out, cap, len) })
+        handed(|out, len| self.handle.delete(n, out, len))
     }
 
     /// Deletes n clusters before the cursor. False where there are none.
@@ -249,7 +233,7 @@ impl Session {
     ///
     /// [`Fault::NoMemory`].
     pub fn backspace(&mut self, n: u16) -> Result<bool, Fault> {
-        yes(unsafe { ffi::lodvarn_backspace(self.at.get(), n) })
+        yes(self.handle.backspace(n))
     }
 
     /// Deletes to the end of the cursor's line, or the newline there. The ring does not keep it: of all deletions it
@@ -259,7 +243,7 @@ impl Session {
     ///
     /// [`Fault::NoMemory`].
     pub fn delete_to_line_end(&mut self) -> Result<bool, Fault> {
-        yes(unsafe { ffi::lodvarn_delete_to_line_end(self.at.get()) })
+        yes(self.handle.delete_to_line_end())
     }
 
     /// Deletes to the end of the text. False where there is nothing.
@@ -268,7 +252,7 @@ impl Session {
     ///
     /// [`Fault::NoMemory`].
     pub fn delete_to_end(&mut self) -> Result<bool, Fault> {
-        yes(unsafe { ffi::lodvarn_delete_to_end(self.at.get()) })
+        yes(self.handle.delete_to_end())
     }
 
     /// What [`delete_to_line_end`](Session::delete_to_line_end) does, which keeps nothing in the ring.
@@ -297,7 +281,7 @@ impl Session {
     ///
     /// [`Fault::NoMemory`].
     pub fn discard_line(&mut self) -> Result<bool, Fault> {
-        yes(unsafe { ffi::lodvarn_discard_line(self.at.get()) })
+        yes(self.handle.discard_line())
     }
 
     /// Deletes back to the start of the text. False where there is nothing.
@@ -306,7 +290,7 @@ impl Session {
     ///
     /// [`Fault::NoMemory`].
     pub fn discard_buffer(&mut self) -> Result<bool, Fault> {
-        yes(unsafe { ffi::lodvarn_discard_buffer(self.at.get()) })
+        yes(self.handle.discard_buffer())
     }
 
     /// Deletes back to the start of the n-th word. False where there is nothing.
@@ -315,7 +299,7 @@ impl Session {
     ///
     /// [`Fault::NoMemory`].
     pub fn delete_prev_word(&mut self, word: Word, n: u16) -> Result<bool, Fault> {
-        yes(unsafe { ffi::lodvarn_delete_prev_word(self.at.get(), word as u32, n) })
+        yes(self.handle.delete_prev_word(word, n))
     }
 
     /// Deletes forward to the n-th word, as `at` says. False where there is nothing.
@@ -324,7 +308,7 @@ impl Session {
     ///
     /// [`Fault::NoMemory`].
     pub fn delete_word(&mut self, at: At, word: Word, n: u16) -> Result<bool, Fault> {
-        yes(unsafe { ffi::lodvarn_delete_word(self.at.get(), at as u32, word as u32, n) })
+        yes(self.handle.delete_word(at, word, n))
     }
 
     /// Deletes to the n-th hit of a search, or to the farthest where there are fewer. False where there is none.
@@ -333,8 +317,7 @@ impl Session {
     ///
     /// [`Fault::NoMemory`].
     pub fn delete_to(&mut self, search: CharSearch, n: u16) -> Result<bool, Fault> {
-        let (number, c) = search.numbers();
-        yes(unsafe { ffi::lodvarn_delete_to(self.at.get(), number, c, n) })
+        yes(self.handle.delete_to(search, n))
     }
 
     /// Exchanges the clusters before and after the cursor, in two changes: call it in a [`group`](Session::group)
@@ -344,7 +327,7 @@ impl Session {
     ///
     /// [`Fault::NoMemory`].
     pub fn transpose_chars(&mut self) -> Result<bool, Fault> {
-        yes(unsafe { ffi::lodvarn_transpose_chars(self.at.get()) })
+        yes(self.handle.transpose_chars())
     }
 
     /// Exchanges a word with the n-th word before it, in four changes. False where there are not two; the cursor may
@@ -354,7 +337,7 @@ impl Session {
     ///
     /// [`Fault::NoMemory`].
     pub fn transpose_words(&mut self, n: u16) -> Result<bool, Fault> {
-        yes(unsafe { ffi::lodvarn_transpose_words(self.at.get(), n) })
+        yes(self.handle.transpose_words(n))
     }
 
     /// Changes the letter case of the rest of the word at the cursor, or of the next word, in two changes. False where
@@ -364,7 +347,7 @@ impl Session {
     ///
     /// [`Fault::NoMemory`].
     pub fn edit_word(&mut self, action: Action) -> Result<bool, Fault> {
-        yes(unsafe { ffi::lodvarn_edit_word(self.at.get(), action as u32) })
+        yes(self.handle.edit_word(action))
     }
 
     /// Inserts `amount` spaces at the start of each line that a movement covers, in a change or more for each line.
@@ -373,8 +356,7 @@ impl Session {
     ///
     /// [`Fault::NoMemory`]; the lines before stay indented.
     pub fn indent(&mut self, movement: Movement, amount: u8) -> Result<bool, Fault> {
-        let (number, n, c) = movement.numbers();
-        yes(unsafe { ffi::lodvarn_indent(self.at.get(), number, n, c, amount, ffi::INDENT) })
+        yes(self.handle.indent(movement, amount, false))
     }
 
     /// Deletes up to `amount` bytes of blanks at the start of each line that a movement covers, in a change for each
@@ -384,28 +366,27 @@ impl Session {
     ///
     /// [`Fault::NoMemory`]; the lines before stay dedented.
     pub fn dedent(&mut self, movement: Movement, amount: u8) -> Result<bool, Fault> {
-        let (number, n, c) = movement.numbers();
-        yes(unsafe { ffi::lodvarn_indent(self.at.get(), number, n, c, amount, ffi::DEDENT) })
+        yes(self.handle.indent(movement, amount, true))
     }
 
     /// Lets the text grow to so many bytes, [`NO_LIMIT`] for any number. Where the text is longer already, its length
     /// is the limit. Nothing else changes: the room is found once it is needed.
     pub fn set_limit(&mut self, limit: usize) {
-        let answer = unsafe { ffi::lodvarn_set_limit(self.at.get(), limit) };
+        let answer = self.handle.set_limit(limit);
         debug_assert_eq!(answer, ffi::DONE);
     }
 
     /// Says at which column the prompt ends, so that [`Movement::LineUp`] and [`Movement::LineDown`] keep to the column
     /// of the screen where they come to the first line or leave it. It is 0 at first.
     pub fn set_prompt(&mut self, column: u16) {
-        let answer = unsafe { ffi::lodvarn_set_prompt(self.at.get(), column) };
+        let answer = self.handle.set_prompt(column);
         debug_assert_eq!(answer, ffi::DONE);
     }
 
     /// What [`line_column`](Session::line_column) answers, by a command: a kill after it begins a new text of the ring.
     pub fn line_place(&mut self) -> (usize, u16) {
         let (mut line, mut column) = (0, 0);
-        let answer = unsafe { ffi::lodvarn_line_place(self.at.get(), &mut line, &mut column) };
+        let answer = self.handle.line_place(&mut line, &mut column);
         debug_assert_eq!(answer, ffi::AT);
         (line, column)
     }

@@ -29,18 +29,16 @@
 //! - Words, movements and indents follow Lodvarn's rules where rustyline's drop a cluster, panic or miss a line:
 //!   `docs/DIFFERENCES.md` names each case. A width is at most 65535.
 //! - A line may be sent to another thread, but not shared between threads.
-#![deny(unsafe_code)]
-
 mod edits;
 mod kills;
 
 pub use crate::changes::{ChangeListener, DeleteListener};
 pub use crate::words::{Action as WordAction, Direction};
 
+use crate::calls::{Line, Room, Told};
 use crate::changes::tell;
 use crate::keymap::{At, CharSearch, Movement, RepeatCount, Word};
 use crate::layout::{GraphemeClusterMode, Layout};
-use crate::parts::{Line, Room, Told};
 use crate::words::Fault;
 use crate::{done, ffi};
 use std::fmt;

@@ -2,44 +2,41 @@
 use crate::words::{Fault, Movement};
 use crate::{ffi, string, Session};
 use std::ops::Range;
-use std::ptr::NonNull;
 
 impl Session {
     /// The text.
     pub fn text(&self) -> String {
-        let at = self.at.get();
-        let nothing = NonNull::dangling().as_ptr();
-        let mut out = vec![0; unsafe { ffi::lodvarn_text(at, nothing, 0) }];
-        unsafe { ffi::lodvarn_text(at, out.as_mut_ptr(), out.len()) };
+        let mut out = vec![0; self.handle.text(&mut [])];
+        self.handle.text(&mut out);
         string(out)
     }
 
     /// The place of the cursor, in bytes.
     pub fn pos(&self) -> usize {
-        unsafe { ffi::lodvarn_pos(self.at.get()) }
+        self.handle.pos()
     }
 
     /// The number of the cursor's line, from 0.
     pub fn line_number(&self) -> usize {
-        unsafe { ffi::lodvarn_line_number(self.at.get()) }
+        self.handle.line_number()
     }
 
     /// How many lines the text has.
     pub fn line_count(&self) -> usize {
-        unsafe { ffi::lodvarn_line_count(self.at.get()) }
+        self.handle.line_count()
     }
 
     /// The range of a line, without its newline, or `None` where there is no such line.
     pub fn line_range(&self, line: usize) -> Option<Range<usize>> {
-        let (mut start, mut end) = (0, 0);
-        let answer = unsafe { ffi::lodvarn_line_range(self.at.get(), line, &mut start, &mut end) };
-        (answer == ffi::DONE).then_some(start..end)
+        let mut range = 0..0;
+        let answer = self.handle.line_range(line, &mut range);
+        (answer == ffi::DONE).then_some(range)
     }
 
     /// The number of the cursor's line, and the width of that line before the cursor, at most 65535.
     pub fn line_column(&self) -> (usize, u16) {
         let (mut line, mut column) = (0, 0);
-        let answer = unsafe { ffi::lodvarn_line_column(self.at.get(), &mut line, &mut column) };
+        let answer = self.handle.line_column(&mut line, &mut column);
         debug_assert_eq!(answer, ffi::AT);
         (line, column)
     }
@@ -57,17 +54,15 @@ impl Session {
     /// # }
     /// ```
     pub fn covers(&self, movement: Movement) -> Option<Range<usize>> {
-        let ((number, n, c), at) = (movement.numbers(), self.at.get());
-        let (mut from, mut to) = (0, 0);
-        let answer = unsafe { ffi::lodvarn_covers(at, number, n, c, &mut from, &mut to) };
-        (answer == ffi::DONE).then_some(from..to)
+        let mut range = 0..0;
+        let answer = self.handle.covers(movement, &mut range);
+        (answer == ffi::DONE).then_some(range)
     }
 
     /// The place where [`move_by`](Session::move_by) would bring the cursor, or `None` where there is nowhere to go.
     pub fn destination(&self, movement: Movement) -> Option<usize> {
-        let ((number, n, c), at) = (movement.numbers(), self.at.get());
         let mut pos = 0;
-        let answer = unsafe { ffi::lodvarn_destination(at, number, n, c, &mut pos) };
+        let answer = self.handle.destination(movement, &mut pos);
         (answer == ffi::DONE).then_some(pos)
     }
 
@@ -93,7 +88,7 @@ impl Session {
     /// [`Fault::BadPlace`].
     pub fn cluster(&self, place: usize) -> Result<Option<(usize, u16)>, Fault> {
         let (mut end, mut columns) = (0, 0);
-        match unsafe { ffi::lodvarn_cluster(self.at.get(), place, &mut end, &mut columns) } {
+        match self.handle.cluster(place, &mut end, &mut columns) {
             ffi::DONE => Ok(Some((end, columns))),
             ffi::NONE => Ok(None),
             answer => Err(Fault::of(answer)),
@@ -102,6 +97,6 @@ impl Session {
 
     /// How many bytes the text may have, [`NO_LIMIT`](crate::NO_LIMIT) where it has no limit.
     pub fn limit(&self) -> usize {
-        unsafe { ffi::lodvarn_limit(self.at.get()) }
+        self.handle.limit()
     }
 }

@@ -91,7 +91,7 @@ impl Session {
     /// [`Fault::NoMemory`].
     pub fn begin(&mut self) -> Result<usize, Fault> {
         let mut mark = 0;
-        match unsafe { ffi::lodvarn_begin(self.at.get(), &mut mark) } {
+        match self.handle.begin(&mut mark) {
             ffi::MARK => Ok(mark),
             answer => Err(Fault::of(answer)),
         }
@@ -103,7 +103,7 @@ impl Session {
     ///
     /// [`Fault::NoMemory`].
     pub fn end(&mut self) -> Result<bool, Fault> {
-        yes(unsafe { ffi::lodvarn_end(self.at.get()) })
+        yes(self.handle.end())
     }
 
     /// Closes the innermost group. False where it has no change, or none is open.
@@ -112,12 +112,12 @@ impl Session {
     ///
     /// [`Fault::NoMemory`]; the group stays open.
     pub fn end_one(&mut self) -> Result<bool, Fault> {
-        yes(unsafe { ffi::lodvarn_end_one(self.at.get()) })
+        yes(self.handle.end_one())
     }
 
     /// How many groups are open.
     pub fn level(&self) -> usize {
-        unsafe { ffi::lodvarn_level(self.at.get()) }
+        self.handle.level()
     }
 
     /// Undoes the last n changes and groups, one where n is 0, all where there are fewer. False where there was no
@@ -127,7 +127,7 @@ impl Session {
     ///
     /// [`Fault::NoMemory`].
     pub fn undo(&mut self, n: u16) -> Result<bool, Fault> {
-        yes(unsafe { ffi::lodvarn_undo(self.at.get(), n) })
+        yes(self.handle.undo(n))
     }
 
     /// Redoes what was undone last, one change or group. False where there is none.
@@ -136,22 +136,22 @@ impl Session {
     ///
     /// [`Fault::NoMemory`].
     pub fn redo(&mut self) -> Result<bool, Fault> {
-        yes(unsafe { ffi::lodvarn_redo(self.at.get()) })
+        yes(self.handle.redo())
     }
 
     /// Whether an undo would find a change.
     pub fn can_undo(&self) -> bool {
-        unsafe { ffi::lodvarn_can_undo(self.at.get()) == ffi::TRUE }
+        self.handle.can_undo() == ffi::TRUE
     }
 
     /// Whether a redo would find a change.
     pub fn can_redo(&self) -> bool {
-        unsafe { ffi::lodvarn_can_redo(self.at.get()) == ffi::TRUE }
+        self.handle.can_redo() == ffi::TRUE
     }
 
     /// How many entries the record has: changes, and the marks where groups begin and end.
     pub fn entries(&self) -> usize {
-        unsafe { ffi::lodvarn_entries(self.at.get()) }
+        self.handle.entries()
     }
 
     /// Keeps the first `entries` entries of the record, and forgets the others and what was undone.
@@ -160,7 +160,7 @@ impl Session {
     ///
     /// [`Fault::NotReplaying`] where they do not lead to the present text; [`Fault::NoMemory`].
     pub fn truncate(&mut self, entries: usize) -> Result<(), Fault> {
-        done(unsafe { ffi::lodvarn_truncate(self.at.get(), entries) })
+        done(self.handle.truncate(entries))
     }
 
     /// Bounds the record. The oldest changes and groups beyond the bound are forgotten at once, and after each later
@@ -181,8 +181,7 @@ impl Session {
     /// # }
     /// ```
     pub fn set_bound(&mut self, bound: Bound) {
-        let Bound { entries, bytes } = bound;
-        let answer = unsafe { ffi::lodvarn_set_bound(self.at.get(), entries, bytes) };
+        let answer = self.handle.set_bound(bound);
         debug_assert_eq!(answer, ffi::DONE);
     }
 }

@@ -11,8 +11,7 @@ impl Session {
     ///
     /// [`Fault::NoMemory`].
     pub fn kill(&mut self, movement: Movement) -> Result<bool, Fault> {
-        let (number, n, c) = movement.numbers();
-        yes(unsafe { ffi::lodvarn_kill(self.at.get(), number, n, c) })
+        yes(self.handle.kill(movement))
     }
 
     /// Deletes what stands in a range as a kill does: the ring keeps it, and a run of kills goes on. Where the kill
@@ -35,8 +34,7 @@ impl Session {
     ///
     /// [`Fault::BadPlace`], also where the range ends before it begins; [`Fault::NoMemory`].
     pub fn kill_range(&mut self, range: Range<usize>, direction: Direction) -> Result<bool, Fault> {
-        let (from, to) = (range.start, range.end);
-        yes(unsafe { ffi::lodvarn_kill_range(self.at.get(), from, to, direction as u32) })
+        yes(self.handle.kill_range(range, direction))
     }
 
     /// Puts a text into the ring as a kill of its own, as an editor does with a text that it got elsewhere, or that
@@ -47,7 +45,7 @@ impl Session {
     ///
     /// [`Fault::NoMemory`]; the ring stays too.
     pub fn keep(&mut self, text: &str) -> Result<(), Fault> {
-        done(unsafe { ffi::lodvarn_keep(self.at.get(), text.as_ptr(), text.len()) })
+        done(self.handle.keep(text))
     }
 
     /// The text that a movement covers, or `None` where it covers nothing. The ring does not keep it: that is
@@ -57,8 +55,7 @@ impl Session {
     ///
     /// [`Fault::NoMemory`].
     pub fn copy(&mut self, movement: Movement) -> Result<Option<String>, Fault> {
-        let ((number, n, c), at) = (movement.numbers(), self.at.get());
-        handed(|out, cap, len| unsafe { ffi::lodvarn_copy(at, number, n, c, out, cap, len) })
+        handed(|out, len| self.handle.copy(movement, out, len))
     }
 
     /// Inserts the ring's current text n times at the cursor, and answers as `paste`.
@@ -67,7 +64,7 @@ impl Session {
     ///
     /// [`Fault::NoMemory`].
     pub fn yank(&mut self, n: u16) -> Result<Option<bool>, Fault> {
-        inserted(unsafe { ffi::lodvarn_yank(self.at.get(), n) })
+        inserted(self.handle.yank(n))
     }
 
     /// Replaces the text that was just yanked by the one before it in the ring. Whether the cursor was at the end, or
@@ -79,17 +76,17 @@ impl Session {
     /// [`Fault::BadYankSize`] where what was yanked does not stand before the cursor, as may be after a yank with
     /// n = 0; [`Fault::NoMemory`].
     pub fn yank_pop(&mut self) -> Result<Option<bool>, Fault> {
-        inserted(unsafe { ffi::lodvarn_yank_pop(self.at.get()) })
+        inserted(self.handle.yank_pop())
     }
 
     /// Whether the last command was a `yank` or `yank_pop` and answered `Some`. A yank with n = 0 counts.
     pub fn last_was_yank(&self) -> bool {
-        unsafe { ffi::lodvarn_last_was_yank(self.at.get()) == ffi::TRUE }
+        self.handle.last_was_yank() == ffi::TRUE
     }
 
     /// How many texts the ring has.
     pub fn ring_len(&self) -> usize {
-        unsafe { ffi::lodvarn_ring_count(self.at.get()) }
+        self.handle.ring_count()
     }
 
     /// A text of the ring: for 0 the current one, which a yank inserts, for 1 the one that a `yank_pop` comes to next,
@@ -107,8 +104,6 @@ impl Session {
     /// # }
     /// ```
     pub fn ring_text(&self, back: usize) -> Option<String> {
-        let at = self.at.get();
-        handed(|out, cap, len| unsafe { ffi::lodvarn_ring_text(at, back, out, cap, len) })
-            .expect("a read is not refused")
+        handed(|out, len| self.handle.ring_text(back, out, len)).expect("a read is not refused")
     }
 }

@@ -1,6 +1,6 @@
 //! The calls without a session.
 use crate::words::{Fault, Mode};
-use crate::{done, ffi};
+use crate::{calls, done, ffi};
 use std::num::NonZeroU16;
 
 /// What a script prints, run in a session of its own.
@@ -11,13 +11,8 @@ use std::num::NonZeroU16;
 pub fn run_script(script: &[u8]) -> Result<Vec<u8>, Fault> {
     let mut out = vec![0; script.len()];
     loop {
-        let mut len = 0;
-        let (ptr, cap) = (out.as_mut_ptr(), out.len());
-        let answer =
-            unsafe { ffi::lodvarn_script(script.as_ptr(), script.len(), ptr, cap, &mut len) };
-        if answer != ffi::DONE {
-            return Err(Fault::of(answer));
-        }
+        let (mut len, cap) = (0, out.len());
+        done(calls::script(script, &mut out, &mut len))?;
         out.resize(len, 0);
         if len <= cap {
             return Ok(out);
@@ -28,21 +23,21 @@ pub fn run_script(script: &[u8]) -> Result<Vec<u8>, Fault> {
 /// The number of columns that a text takes, at most 65535.
 pub fn width(text: &str, mode: Mode) -> u16 {
     let mut columns = 0;
-    unsafe { ffi::lodvarn_width(text.as_ptr(), text.len(), mode as u32, &mut columns) };
+    calls::width(text, mode, &mut columns);
     columns
 }
 
 /// The first grapheme cluster of a text, empty where the text is empty.
 pub fn first_cluster(text: &str) -> &str {
     let mut len = 0;
-    unsafe { ffi::lodvarn_first_cluster(text.as_ptr(), text.len(), &mut len) };
+    calls::first_cluster(text, &mut len);
     &text[..len]
 }
 
 /// The last grapheme cluster of a text, empty where the text is empty.
 pub fn last_cluster(text: &str) -> &str {
     let mut len = 0;
-    unsafe { ffi::lodvarn_last_cluster(text.as_ptr(), text.len(), &mut len) };
+    calls::last_cluster(text, &mut len);
     &text[text.len() - len..]
 }
 
@@ -61,21 +56,9 @@ pub fn cell(
     tab: u16,
     mode: Mode,
 ) -> Result<(usize, usize), Fault> {
-    let (mut row, mut column) = (0, 0);
-    let answer = unsafe {
-        ffi::lodvarn_cell(
-            text.as_ptr(),
-            text.len(),
-            place,
-            prompt,
-            columns.get(),
-            tab,
-            mode as u32,
-            &mut row,
-            &mut column,
-        )
-    };
-    done(answer).map(|()| (row, column))
+    let mut cell = (0, 0);
+    let answer = calls::cell(text, place, prompt, columns, tab, mode, &mut cell);
+    done(answer).map(|()| cell)
 }
 
 /// The place of a text that is shown at a row and a column of a screen, as of a click of the mouse: the last place
@@ -102,20 +85,8 @@ pub fn place_at(
     tab: u16,
     mode: Mode,
 ) -> usize {
-    let mut place = 0;
-    let answer = unsafe {
-        ffi::lodvarn_place_at(
-            text.as_ptr(),
-            text.len(),
-            row,
-            column,
-            prompt,
-            columns.get(),
-            tab,
-            mode as u32,
-            &mut place,
-        )
-    };
+    let (cell, mut place) = ((row, column), 0);
+    let answer = calls::place_at(text, cell, prompt, columns, tab, mode, &mut place);
     debug_assert_eq!(answer, ffi::DONE);
     place
 }
@@ -123,6 +94,6 @@ pub fn place_at(
 /// The version of the library that is linked, as [`VERSION`](crate::VERSION) has that of this crate: opening a session
 /// panics where they are not the same.
 pub fn version() -> String {
-    let number = unsafe { ffi::lodvarn_version() };
+    let number = calls::version_number();
     format!("{}.{}.{}", number >> 16, number >> 8 & 255, number & 255)
 }

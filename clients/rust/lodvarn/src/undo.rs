@@ -25,13 +25,11 @@
 //! - Out of memory, a call panics with these words. `try_undo` and `try_redo` answer [`Fault::NoMemory`]; only the room
 //!   for a text that they bring back is found as a `String` finds it, which ends the process where it is refused.
 //! - A record may be sent to another thread, but not shared between threads.
-#![deny(unsafe_code)]
-
+use crate::calls::Record;
 use crate::keymap::RepeatCount;
 use crate::line_buffer::{
     answered, ChangeListener, DeleteListener, Direction, LineBuffer, NoListener,
 };
-use crate::parts::Record;
 use crate::words::Fault;
 use crate::{done, ffi, yes};
 use std::fmt;

@@ -2,7 +2,7 @@
 use super::{answered, ChangeListener, LineBuffer, WordAction};
 use crate::keymap::{Movement, RepeatCount};
 use crate::words::Fault;
-use crate::{done, inserted, yes};
+use crate::{done, ffi, inserted, yes};
 use std::ops::Range;
 
 impl LineBuffer {
@@ -77,7 +77,8 @@ impl LineBuffer {
             None => return Ok(None),
         }
         self.pos += ch.len_utf8();
-        self.line.forget_reports();
+        let answer = self.line.forget_reports();
+        debug_assert_eq!(answer, ffi::DONE);
         cl.insert_char(at, ch);
         Ok(goes_in)
     }

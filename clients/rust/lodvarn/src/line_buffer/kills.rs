@@ -1,7 +1,7 @@
 //! The edits that take text out.
 use super::{answered, DeleteListener, Deletions, Direction, LineBuffer};
+use crate::calls::Line;
 use crate::keymap::{At, CharSearch, Movement, RepeatCount, Word};
-use crate::parts::Line;
 use crate::words::Fault;
 use crate::{done, yes};
 use std::ops::Range;
