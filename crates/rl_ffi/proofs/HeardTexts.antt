@@ -11,7 +11,7 @@ use Rattle.rl_base.proofs.Queue.QueueLemmas.{Cuts-push, first_cut, length-notes,
 use Rattle.rl_ffi.specs.Heard.{note}
 
 -- what is made of texts is one
-pub Cuts-IsUtf8 : (rs : List Report) (bytes : List ℕ) → Cuts 1 rs bytes → IsUtf8 bytes
+Cuts-IsUtf8 : (rs : List Report) (bytes : List ℕ) → Cuts 1 rs bytes → IsUtf8 bytes
 Cuts-IsUtf8 [] bytes c = subst IsUtf8 (sym c) IsUtf8-nil
 Cuts-IsUtf8 (r ∷ rs) bytes c =
     let n = bytes_kept 1 r in
@@ -27,7 +27,7 @@ ends [] bytes oldest c some same = absurd (omega (arith, some))
 ends (r ∷ rs) bytes oldest c some same = first_cut 1 (r ∷ rs) bytes oldest (Cuts-IsUtf8 (r ∷ rs) bytes c) c (ap Some same)
 
 -- reports after others
-pub notes-append : (rs ss : List Report) (a b : List ℕ) → Cuts 1 rs a → notes 1 (rs ++ ss) (a ++ b) ≡ notes 1 rs a ++ notes 1 ss b
+notes-append : (rs ss : List Report) (a b : List ℕ) → Cuts 1 rs a → notes 1 (rs ++ ss) (a ++ b) ≡ notes 1 rs a ++ notes 1 ss b
 notes-append [] ss a b c = ap (λ t. notes 1 ss (t ++ b)) c
 notes-append (r ∷ rs) ss a b c =
     let n = bytes_kept 1 r in
@@ -35,7 +35,7 @@ notes-append (r ∷ rs) ss a b c =
     ∙ ap (λ t. record { report = r; texts = take n a } ∷ notes 1 (rs ++ ss) t) (drop-append-le n a b c.0)
     ∙ ap (λ l. record { report = r; texts = take n a } ∷ l) (notes-append rs ss (drop n a) b c.2)
 
-pub Cuts-append : (rs ss : List Report) (a b : List ℕ) → Cuts 1 rs a → Cuts 1 ss b → Cuts 1 (rs ++ ss) (a ++ b)
+Cuts-append : (rs ss : List Report) (a b : List ℕ) → Cuts 1 rs a → Cuts 1 ss b → Cuts 1 (rs ++ ss) (a ++ b)
 Cuts-append [] ss a b c d = subst (λ t. Cuts 1 ss (t ++ b)) (sym c) d
 Cuts-append (r ∷ rs) ss a b c d =
     let n = bytes_kept 1 r in (
@@ -79,15 +79,15 @@ longer rs now kind place spent gone come text new le c u v same more =
     }
 
 -- the newest report, whose texts are the last
-pub record Newest (rs : List Report) (r : Report) (bytes : List ℕ) : Type 0 where
-  pub front : List ℕ
-  pub own : List ℕ
-  pub both : bytes ≡ front ++ own
-  pub len : length own ≡ bytes_kept 1 r
-  pub cuts : Cuts 1 rs front
-  pub utf8 : IsUtf8 own
+record Newest (rs : List Report) (r : Report) (bytes : List ℕ) : Type 0 where
+  front : List ℕ
+  own : List ℕ
+  both : bytes ≡ front ++ own
+  len : length own ≡ bytes_kept 1 r
+  cuts : Cuts 1 rs front
+  utf8 : IsUtf8 own
 
-pub newest : (rs : List Report) (r : Report) (bytes : List ℕ) → Cuts 1 (rs ++ r ∷ []) bytes → Newest rs r bytes
+newest : (rs : List Report) (r : Report) (bytes : List ℕ) → Cuts 1 (rs ++ r ∷ []) bytes → Newest rs r bytes
 newest [] r bytes c = record {
   front = [];
   own = bytes;
