@@ -55,8 +55,8 @@ impl<'t> SessionBuilder<'t> {
         SessionBuilder { pos, ..self }
     }
 
-    /// Lets the text grow to so many bytes. A text that is longer already may stay as long as it is. Room is found for
-    /// the text that is there, and for more once it is needed.
+    /// Lets the text grow to so many bytes. Where the text is longer already, its length is the limit. Room is found
+    /// for the text that is there, and for more once it is needed.
     pub fn limit(self, limit: usize) -> Self {
         SessionBuilder { limit, ..self }
     }
@@ -66,7 +66,7 @@ impl<'t> SessionBuilder<'t> {
         self.limit(NO_LIMIT)
     }
 
-    /// Lets the kill ring keep up to so many texts.
+    /// Lets the kill ring keep up to so many texts. With 0 it keeps none, and a kill only deletes.
     pub fn ring_size(self, ring_size: usize) -> Self {
         SessionBuilder { ring_size, ..self }
     }

@@ -203,9 +203,10 @@ impl Session {
         })
     }
 
-    /// Keeps a report of each change from now on, in a queue with room for so many reports and for `text_bytes` bytes
-    /// of their texts, what went and what came. Where `text_bytes` is 0, reports have no texts. [`changes`] hands them
-    /// out, and [`tell`] tells a listener of them. False where the session has a queue already, which stays as it is.
+    /// Keeps a report of each change of the text from now on, and none of a motion, in a queue with room for so many
+    /// reports and for `text_bytes` bytes of their texts, what went and what came. Where `text_bytes` is 0, reports
+    /// have no texts. [`changes`] hands them out, and [`tell`] tells a listener of them. False where the session has a
+    /// queue already, which stays as it is.
     ///
     /// All room is found here, and nothing else is ever refused because of the queue: where a report or its texts find
     /// no room, all that waits and the new one become one report, of the kind `Folded`. It takes in each later change

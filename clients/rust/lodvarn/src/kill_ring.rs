@@ -27,7 +27,8 @@ pub enum Mode {
     Prepend,
 }
 
-/// A ring of killed texts. It is a listener, and keeps what is deleted by kills.
+/// A ring of killed texts. It is a listener of deletions, and keeps what is deleted by kills. An insertion takes it
+/// only in a pair, after a listener that hears all.
 pub struct KillRing {
     ring: Ring,
     // The text that was lent last.
@@ -69,7 +70,8 @@ impl KillRing {
         answered(done(self.ring.kill(text, dir == Mode::Prepend)));
     }
 
-    /// The current text, to be yanked. `None` where the ring is empty.
+    /// The current text, to be yanked. `None` where the ring is empty. Where the line does not take it,
+    /// [`reset`](KillRing::reset) the ring: else `yank_pop` counts it as yanked.
     pub fn yank(&mut self) -> Option<&String> {
         self.is_reset = false;
         let KillRing { ring, lent, .. } = self;

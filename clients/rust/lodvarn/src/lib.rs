@@ -180,8 +180,8 @@ impl Session {
         done(self.handle.restart(text, pos))
     }
 
-    /// Replaces the whole text by another one, which is cut to the limit. The cursor goes to the place `pos` of the new
-    /// text.
+    /// Replaces the whole text by another one, which is cut to the limit, in two changes. The cursor goes to the place
+    /// `pos` of the text that is given, or to the end where that is cut before it.
     ///
     /// # Errors
     ///
@@ -320,8 +320,8 @@ impl Session {
         yes(self.handle.delete_to(search, n))
     }
 
-    /// Exchanges the clusters before and after the cursor, in two changes: call it in a [`group`](Session::group)
-    /// where one undo is to take them back. False where there are not two.
+    /// Exchanges the clusters before and after the cursor, or at the end the last two, in two changes: call it in a
+    /// [`group`](Session::group) where one undo is to take them back. False where there are not two.
     ///
     /// # Errors
     ///
@@ -351,6 +351,7 @@ impl Session {
     }
 
     /// Inserts `amount` spaces at the start of each line that a movement covers, in a change or more for each line.
+    /// Always true.
     ///
     /// # Errors
     ///
@@ -360,7 +361,7 @@ impl Session {
     }
 
     /// Deletes up to `amount` bytes of blanks at the start of each line that a movement covers, in a change for each
-    /// line.
+    /// line. Always true.
     ///
     /// # Errors
     ///

@@ -17,7 +17,8 @@
 //!
 //! Calls, arguments and answers are rustyline's. What is private to its crate is public here. What differs:
 //!
-//! - A pair of listeners is a listener: of `(&mut a, &mut b)` the first hears all, and the second of deletions.
+//! - A pair of listeners is a listener: of `(&mut a, &mut b)` the first hears all, and the second of deletions alone.
+//!   Where two must hear all, a listener of your own tells both.
 //! - The text's room is no limit. The limit is the number that [`with_capacity`](LineBuffer::with_capacity) takes, and
 //!   no memory is found for it beforehand.
 //! - A listener is told after a step has been made, and of each step in order. One that panics leaves a line that has
@@ -195,6 +196,10 @@ impl Drop for Waiting<'_> {
 
 impl LineBuffer {
     /// An empty text that may grow to so many bytes. No room is found for them yet.
+    ///
+    /// # Panics
+    ///
+    /// Where the library that is linked is of another version than this crate.
     #[must_use]
     pub fn with_capacity(capacity: usize) -> Self {
         LineBuffer {
@@ -266,7 +271,7 @@ impl LineBuffer {
     ///
     /// # Panics
     ///
-    /// Where the place is past the end or inside a character.
+    /// Where the place is past the end or inside a character, as `is_char_boundary` tells before.
     pub fn set_pos(&mut self, pos: usize) {
         assert!(pos <= self.text.len());
         answered(done(self.line.set_pos(pos)));

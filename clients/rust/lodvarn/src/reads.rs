@@ -95,7 +95,8 @@ impl Session {
         }
     }
 
-    /// How many bytes the text may have, [`NO_LIMIT`](crate::NO_LIMIT) where it has no limit.
+    /// How many bytes the text may have, [`NO_LIMIT`](crate::NO_LIMIT) where it has no limit. It rises where a call
+    /// that asks for no limit makes the text longer, as [`replace`](Session::replace) or [`undo`](Session::undo).
     pub fn limit(&self) -> usize {
         self.handle.limit()
     }

@@ -84,7 +84,8 @@ impl Session {
         Ok(Group { session, around })
     }
 
-    /// Begins an undo group: once it is closed, one undo takes back all its changes. The number of entries before it.
+    /// Begins an undo group: once it is closed, one undo takes back all its changes. It may stay open from one key to
+    /// the next, where the guard of [`group`](Session::group) can't be held. The number of entries before it.
     ///
     /// # Errors
     ///
@@ -165,7 +166,8 @@ impl Session {
 
     /// Bounds the record. The oldest changes and groups beyond the bound are forgotten at once, and after each later
     /// call, so that a session that goes on for long takes no more and more memory. An undo does not go back over them.
-    /// A group that is open stays, with all that comes after its begin, and so does what was undone.
+    /// A group that is open stays, with all that comes after its begin, and so does what was undone. Numbers of entries
+    /// that were told before count what is gone.
     ///
     /// ```
     /// # use lodvarn::{Bound, Fault, Session};

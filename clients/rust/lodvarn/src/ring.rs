@@ -4,8 +4,9 @@ use crate::{done, ffi, handed, inserted, yes, Session};
 use std::ops::Range;
 
 impl Session {
-    /// Deletes what a movement covers. The ring keeps it, except by `BackwardChar` and `ForwardChar`. Consecutive kills
-    /// become one text of the ring. False where there is nothing.
+    /// Deletes what a movement covers. Where `WholeLine`, `BeginningOfLine` or `EndOfLine` finds nothing in the line,
+    /// that is a newline. The ring keeps it, except by `BackwardChar` and `ForwardChar`. Consecutive kills become one
+    /// text of the ring. False where there is nothing.
     ///
     /// # Errors
     ///
@@ -58,7 +59,8 @@ impl Session {
         handed(|out, len| self.handle.copy(movement, out, len))
     }
 
-    /// Inserts the ring's current text n times at the cursor, and answers as `paste`.
+    /// Inserts the ring's current text n times at the cursor, and answers as `paste`. `None` also where the ring is
+    /// empty.
     ///
     /// # Errors
     ///
@@ -67,9 +69,9 @@ impl Session {
         inserted(self.handle.yank(n))
     }
 
-    /// Replaces the text that was just yanked by the one before it in the ring. Whether the cursor was at the end, or
-    /// `None` where the last command was not a yank. `None` also where the one before is empty or too long for the
-    /// limit: then what was yanked is deleted.
+    /// Replaces the text that was just yanked by the one before it in the ring, in two changes; after the oldest comes
+    /// the newest. Whether the cursor was at the end, or `None` where the last command was not a yank. `None` also
+    /// where the one before is empty or too long for the limit: then what was yanked is deleted.
     ///
     /// # Errors
     ///

@@ -92,7 +92,7 @@ pub fn place_at(
 }
 
 /// The version of the library that is linked, as [`VERSION`](crate::VERSION) has that of this crate: opening a session
-/// panics where they are not the same.
+/// or a line panics where they are not the same.
 pub fn version() -> String {
     let number = calls::version_number();
     format!("{}.{}.{}", number >> 16, number >> 8 & 255, number & 255)

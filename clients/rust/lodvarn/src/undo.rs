@@ -19,7 +19,8 @@
 //!
 //! - Changes that can't be taken back from the line's text, or made again in it, as those of another line, are refused:
 //!   [`undo`](Changeset::undo) and [`redo`](Changeset::redo) panic, and [`try_undo`](Changeset::try_undo) and
-//!   [`try_redo`](Changeset::try_redo) answer [`Fault::NotReplaying`]. Record and line are as they were then.
+//!   [`try_redo`](Changeset::try_redo) answer [`Fault::NotReplaying`]. Record and line are as they were then. Only
+//!   texts are compared: a record of another line that has the same text there is not refused.
 //! - `redo` and [`end_one`](Changeset::end_one) are public, and a record tells how long it is and what fits a line.
 //! - [`truncate`](Changeset::truncate) forgets what was undone.
 //! - Out of memory, a call panics with these words. `try_undo` and `try_redo` answer [`Fault::NoMemory`]; only the room
@@ -100,14 +101,14 @@ impl Changeset {
         answered(done(self.0.replace(indx, old_.as_ref(), new_.as_ref())));
     }
 
-    /// Records where the cursor was before the change that was recorded last, and where it went. Then an undo brings
-    /// it back there, and a redo where it went; without this call it goes to where the text changes, as in rustyline.
+    /// Records where the cursor was before the change that was recorded last, and where it went. Then an undo brings it
+    /// back there, and a redo where it went; without this call it goes to the end of what comes into the text.
     pub fn cursors(&mut self, before: usize, after: usize) {
         answered(done(self.0.cursors(before, after)));
     }
 
     /// Undoes the last n changes and groups in a line, one where n is 0, all where there are fewer. False where there
-    /// was no change.
+    /// was no change. No listener hears of it.
     ///
     /// # Panics
     ///
@@ -126,7 +127,7 @@ impl Changeset {
             .and_then(yes)
     }
 
-    /// Redoes in a line what was undone last, one change or group. False where there is none.
+    /// Redoes in a line what was undone last, one change or group. False where there is none. No listener hears of it.
     ///
     /// # Panics
     ///

@@ -81,7 +81,7 @@ impl CharSearch {
 #[derive(Clone, Copy, Debug, PartialEq, Eq, Hash)]
 #[non_exhaustive]
 pub enum Movement {
-    /// The cursor's line.
+    /// The cursor's line. No motion.
     WholeLine,
     /// To the start of the cursor's line.
     BeginningOfLine,
@@ -93,17 +93,18 @@ pub enum Movement {
     ForwardWord(u16, At, Word),
     /// To the n-th hit of a search for a character, or to the farthest where there are fewer.
     ViCharSearch(u16, CharSearch),
-    /// From the first start of a big word after the start of the text to the cursor. No motion.
+    /// From the first start of a big word after the start of the text to the cursor. No motion, and a kill takes
+    /// nothing.
     ViFirstPrint,
     /// n grapheme clusters back.
     BackwardChar(u16),
     /// n grapheme clusters forward.
     ForwardChar(u16),
-    /// n lines up.
+    /// n lines up. A kill and a copy take the cursor's line too.
     LineUp(u16),
-    /// n lines down.
+    /// n lines down. A kill and a copy take the cursor's line too.
     LineDown(u16),
-    /// The whole text.
+    /// The whole text. No motion.
     WholeBuffer,
     /// To the start of the text.
     BeginningOfBuffer,
@@ -195,9 +196,10 @@ pub enum ReportKind {
     CharInserted = ffi::CHAR_INSERTED,
     /// A text was put in.
     TextInserted = ffi::TEXT_INSERTED,
-    /// A text was taken out, from the cursor on.
+    /// A text was taken out, from the cursor on; also wherever the cursor was, as by `update`, `yank_pop`,
+    /// `delete_range` and `kill_range`.
     DeletedForward = ffi::DELETED_FORWARD,
-    /// A text was taken out, up to the cursor.
+    /// A text was taken out, up to the cursor; by `kill_range` also wherever the cursor was.
     DeletedBackward = ffi::DELETED_BACKWARD,
     /// A text gave way to another; so does each change of an undo and of a redo.
     Replaced = ffi::REPLACED,
@@ -226,11 +228,11 @@ impl ReportKind {
     }
 }
 
-/// On which side of the cursor a text is taken out.
+/// On which side of the cursor a text is taken out. A `kill_range` chooses it, wherever the cursor is.
 #[derive(Clone, Copy, Debug, Default, PartialEq, Eq, Hash)]
 #[repr(u32)]
 pub enum Direction {
-    /// From the cursor on. The ring puts it after what the kill before it took.
+    /// From the cursor on, or on no side of it, as by `update`. The ring puts it after what the kill before it took.
     #[default]
     Forward = ffi::KILL_FORWARD,
     /// Up to the cursor. The ring puts it before what the kill before it took.
@@ -279,7 +281,8 @@ pub enum Fault {
     BadPlace,
     /// What was yanked does not stand before the cursor.
     BadYankSize,
-    /// The entries to keep do not lead to the present text.
+    /// The entries to keep do not lead to the present text, or the changes of a [`Changeset`](crate::undo::Changeset)
+    /// do not fit the text of the line.
     NotReplaying,
     /// A queue was asked for that has room for no report.
     NoRoom,

@@ -6,11 +6,12 @@ use crate::{done, ffi, inserted, yes};
 use std::ops::Range;
 
 impl LineBuffer {
-    /// Puts a text in the place of the whole, which is cut to the limit, and the cursor at the place `pos` of it.
+    /// Puts a text in the place of the whole, cut to the limit, in two steps. The cursor goes to the place `pos` of the
+    /// text that is given, or to the end where that is cut before it.
     ///
     /// # Panics
     ///
-    /// Where the place is past the end of the new text or inside a character of it.
+    /// Where the place is past the end of the text that is given, or inside a character of it.
     pub fn update<C: ChangeListener + ?Sized>(&mut self, buf: &str, pos: usize, cl: &mut C) {
         assert!(pos <= buf.len());
         answered(self.try_update(buf, pos, cl));
@@ -120,7 +121,7 @@ impl LineBuffer {
         }
     }
 
-    /// Puts a text in the place of the `yank_size` bytes before the cursor, which were yanked. Answers as
+    /// Puts a text in the place of the `yank_size` bytes before the cursor, which were yanked, in two steps. Answers as
     /// [`yank`](LineBuffer::yank); where that is `None`, what was yanked is deleted all the same.
     ///
     /// # Panics
@@ -219,14 +220,15 @@ impl LineBuffer {
             .and_then(yes)
     }
 
-    /// Exchanges the clusters before and after the cursor; at the end of the text, the last two. The cursor goes after
-    /// both. False where there are not two.
+    /// Exchanges the clusters before and after the cursor, in two steps; at the end of the text, the last two. The
+    /// cursor goes after both. False where there are not two.
     pub fn transpose_chars<C: ChangeListener + ?Sized>(&mut self, cl: &mut C) -> bool {
         let answer = self.edit(0, 0, cl, |line| line.transpose_chars());
         answered(answer.and_then(yes))
     }
 
-    /// Exchanges a word with the n-th word before it. False where there are not two; the cursor may have moved then.
+    /// Exchanges a word with the n-th word before it, in four steps. False where there are not two; the cursor may have
+    /// moved then.
     pub fn transpose_words<C: ChangeListener + ?Sized>(
         &mut self,
         n: RepeatCount,
@@ -236,15 +238,15 @@ impl LineBuffer {
         answered(answer.and_then(yes))
     }
 
-    /// Changes the letter case of the rest of the word at the cursor, or of the next word. The cursor goes after it.
-    /// False where there is none.
+    /// Changes the letter case of the rest of the word at the cursor, or of the next word, in two steps. The cursor
+    /// goes after it. False where there is none.
     pub fn edit_word<C: ChangeListener + ?Sized>(&mut self, a: WordAction, cl: &mut C) -> bool {
         let answer = self.edit(0, 0, cl, |line| line.edit_word(a));
         answered(answer.and_then(yes))
     }
 
     /// Inserts `amount` spaces at the start of each line that a movement covers, or with `dedent` deletes up to so many
-    /// bytes of blanks there.
+    /// bytes of blanks there. Always true.
     pub fn indent<C: ChangeListener + ?Sized>(
         &mut self,
         mvt: &Movement,

@@ -67,7 +67,9 @@ impl LineBuffer {
         self.take(dl, |line| line.backspace(n)).and_then(yes)
     }
 
-    /// Deletes to the end of the cursor's line, or the newline there. False at the end of the text.
+    /// Deletes to the end of the cursor's line, or the newline there. False at the end of the text. It is no kill, and
+    /// a ring keeps nothing of it: of all deletions only [`kill`](LineBuffer::kill) and
+    /// [`try_kill_range`](LineBuffer::try_kill_range) are.
     pub fn kill_line<D: DeleteListener + ?Sized>(&mut self, dl: &mut D) -> bool {
         self.take_by(Movement::EndOfLine, dl)
     }
