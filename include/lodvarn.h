@@ -425,8 +425,8 @@ uint32_t lodvarn_set_bound(lodvarn **s, size_t entries, size_t bytes);
 enum lodvarn_report {
     LODVARN_CHAR_INSERTED = 1,    /* a character was put in */
     LODVARN_TEXT_INSERTED = 2,    /* a text was put in */
-    LODVARN_DELETED_FORWARD = 3,  /* a text was taken out, from the cursor on */
-    LODVARN_DELETED_BACKWARD = 4, /* a text was taken out, up to the cursor */
+    LODVARN_DELETED_FORWARD = 3,  /* a text was taken out, from the cursor on; or by its places alone */
+    LODVARN_DELETED_BACKWARD = 4, /* a text was taken out, up to the cursor; or by the places of a kill backward */
     LODVARN_REPLACED = 5,         /* a text gave way to another; so does each change of an undo and of a redo */
     LODVARN_KILL_STARTED = 6,     /* the deletions up to the next report of the kind KILL_STOPPED are a kill */
     LODVARN_KILL_STOPPED = 7,     /* the kill has ended. Neither of these two is of a change: their numbers are 0 */

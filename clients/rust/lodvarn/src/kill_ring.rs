@@ -18,7 +18,7 @@ use crate::done;
 use crate::line_buffer::{answered, DeleteListener, Direction};
 use std::fmt;
 
-/// On which side a kill joins the text of the kill before it.
+/// On which side a kill joins the text of the kill before it. It is another type than [`lodvarn::Mode`](crate::Mode).
 #[derive(Clone, Copy, Debug, PartialEq, Eq, Hash)]
 pub enum Mode {
     /// At its end.
