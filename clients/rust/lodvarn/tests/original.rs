@@ -3,7 +3,7 @@
 use heard::{line_of, panic_of, shown, Fails, Heard};
 use lodvarn::keymap::{At, CharSearch, Movement, Word};
 use lodvarn::kill_ring::{KillRing, Mode};
-use lodvarn::layout::{GraphemeClusterMode, Layout, Position};
+use lodvarn::layout::{cwidh, GraphemeClusterMode, Layout, Position};
 use lodvarn::line_buffer::{ChangeListener, DeleteListener, Direction, LineBuffer, NoListener};
 use lodvarn::line_buffer::{WordAction, INDENT};
 use lodvarn::undo::Changeset;
@@ -230,6 +230,7 @@ fn lines_are_those_of_a_layout() {
     assert_eq!(layout.width(family), 2);
     assert_eq!(GraphemeClusterMode::WcWidth.width(family), 4);
     assert_eq!(GraphemeClusterMode::NoZwj.width("漢a"), 3);
+    assert_eq!(['a', '漢', '\u{301}', '\n'].map(cwidh), [1, 2, 0, 0]);
     assert!(Position { col: 9, row: 0 } < Position { col: 0, row: 1 });
     assert_eq!((INDENT.len(), INDENT.trim()), (32, ""));
 }
