@@ -9,6 +9,7 @@ use lodvarn::line_buffer::{WordAction, INDENT};
 use lodvarn::undo::Changeset;
 use lodvarn::Fault;
 use random::Random;
+use std::panic::catch_unwind;
 use std::process::Command;
 
 mod heard;
@@ -447,6 +448,15 @@ fn all_may_be_sent() {
     line.insert('b', 1, &mut changes);
     line.kill(&Movement::WholeLine, &mut ring);
     assert_eq!(ring.yank().map(String::as_str), Some("ab"));
+}
+
+#[test]
+fn all_may_be_read_where_panics_are_caught() {
+    let (line, changes, ring) = (line_of("ab|"), Changeset::new(), KillRing::new(2));
+    let read = catch_unwind(|| (line.next_pos(2), line.limit(), changes.len(), ring.len()));
+    assert_eq!(read.ok(), Some((None, line.limit(), 0, 0)));
+    assert!(catch_unwind(|| assert!(changes.can_redo(&line) && !ring.is_empty())).is_err());
+    assert_eq!((shown(&line).as_str(), changes.len()), ("ab|", 0));
 }
 
 /// Makes an edit at random.
