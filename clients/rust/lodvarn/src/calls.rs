@@ -14,6 +14,7 @@ use std::cell::UnsafeCell;
 use std::mem::{take, MaybeUninit};
 use std::num::NonZeroU16;
 use std::ops::Range;
+use std::panic::RefUnwindSafe;
 use std::ptr::null_mut;
 use std::slice::from_raw_parts;
 use std::str::from_utf8;
@@ -35,6 +36,11 @@ unsafe impl Send for Handle {}
 unsafe impl Send for Line {}
 unsafe impl Send for Record {}
 unsafe impl Send for Ring {}
+
+// No call of the library unwinds, so a panic finds them with what the last call left.
+impl RefUnwindSafe for Line {}
+impl RefUnwindSafe for Record {}
+impl RefUnwindSafe for Ring {}
 
 impl Drop for Handle {
     fn drop(&mut self) {

@@ -31,6 +31,13 @@ impl GraphemeClusterMode {
     }
 }
 
+/// The number of columns that a character takes by itself, 0 where it has no width. In the mode
+/// [`WcWidth`](GraphemeClusterMode::WcWidth) a text takes the sum of these.
+#[must_use]
+pub fn cwidh(c: char) -> Unit {
+    GraphemeClusterMode::WcWidth.width(c.encode_utf8(&mut [0; 4]))
+}
+
 /// A place on the screen. Of two, the one in the lower row is the greater, and in one row that to the right.
 #[derive(Copy, Clone, Debug, Default, PartialEq, Eq, Hash)]
 pub struct Position {

@@ -3,12 +3,13 @@
 use heard::{line_of, panic_of, shown, Fails, Heard};
 use lodvarn::keymap::{At, CharSearch, Movement, Word};
 use lodvarn::kill_ring::{KillRing, Mode};
-use lodvarn::layout::{GraphemeClusterMode, Layout, Position};
+use lodvarn::layout::{cwidh, GraphemeClusterMode, Layout, Position};
 use lodvarn::line_buffer::{ChangeListener, DeleteListener, Direction, LineBuffer, NoListener};
 use lodvarn::line_buffer::{WordAction, INDENT};
 use lodvarn::undo::Changeset;
 use lodvarn::Fault;
 use random::Random;
+use std::panic::catch_unwind;
 use std::process::Command;
 
 mod heard;
@@ -230,6 +231,7 @@ fn lines_are_those_of_a_layout() {
     assert_eq!(layout.width(family), 2);
     assert_eq!(GraphemeClusterMode::WcWidth.width(family), 4);
     assert_eq!(GraphemeClusterMode::NoZwj.width("漢a"), 3);
+    assert_eq!(['a', '漢', '\u{301}', '\n'].map(cwidh), [1, 2, 0, 0]);
     assert!(Position { col: 9, row: 0 } < Position { col: 0, row: 1 });
     assert_eq!((INDENT.len(), INDENT.trim()), (32, ""));
 }
@@ -446,6 +448,15 @@ fn all_may_be_sent() {
     line.insert('b', 1, &mut changes);
     line.kill(&Movement::WholeLine, &mut ring);
     assert_eq!(ring.yank().map(String::as_str), Some("ab"));
+}
+
+#[test]
+fn all_may_be_read_where_panics_are_caught() {
+    let (line, changes, ring) = (line_of("ab|"), Changeset::new(), KillRing::new(2));
+    let read = catch_unwind(|| (line.next_pos(2), line.limit(), changes.len(), ring.len()));
+    assert_eq!(read.ok(), Some((None, line.limit(), 0, 0)));
+    assert!(catch_unwind(|| assert!(changes.can_redo(&line) && !ring.is_empty())).is_err());
+    assert_eq!((shown(&line).as_str(), changes.len()), ("ab|", 0));
 }
 
 /// Makes an edit at random.
