@@ -66,7 +66,7 @@ impl Drop for Ring {
     }
 }
 
-// Methods whose calls get handles and numbers alone. They are inlined, since a typed character makes several of them.
+// Methods that pass on what they get, in the form that C wants. They are inlined, since a typed character makes several.
 macro_rules! calls {
     ($(fn $name:ident(&self $(, $given:ident: $kind:ty)*) -> $answer:ty
         = ffi::$call:ident($($passed:expr),*);)*) => {$(
@@ -130,8 +130,20 @@ impl Handle {
         fn set_bound(&mut self, bound: Bound) -> u32
             = ffi::lodvarn_set_bound(bound.entries, bound.bytes);
         fn insert(&mut self, c: char, n: u16) -> u32 = ffi::lodvarn_insert(c.into(), n);
+        fn paste(&mut self, text: &str, n: u16) -> u32
+            = ffi::lodvarn_paste(text.as_ptr(), text.len(), n);
+        fn restart(&mut self, text: &str, pos: usize) -> u32
+            = ffi::lodvarn_restart(text.as_ptr(), text.len(), pos);
+        fn update(&mut self, text: &str, pos: usize) -> u32
+            = ffi::lodvarn_update(text.as_ptr(), text.len(), pos);
+        fn insert_str(&mut self, at: usize, text: &str) -> u32
+            = ffi::lodvarn_insert_str(at, text.as_ptr(), text.len());
+        fn replace(&mut self, range: Range<usize>, text: &str) -> u32
+            = ffi::lodvarn_replace(range.start, range.end, text.as_ptr(), text.len());
         fn delete_range(&mut self, range: Range<usize>) -> u32
             = ffi::lodvarn_delete_range(range.start, range.end);
+        fn delete(&mut self, n: u16, out: &mut [u8], len: &mut usize) -> u32
+            = ffi::lodvarn_delete(n, out.as_mut_ptr(), out.len(), len);
         fn backspace(&mut self, n: u16) -> u32 = ffi::lodvarn_backspace(n);
         fn delete_to_line_end(&mut self) -> u32 = ffi::lodvarn_delete_to_line_end();
         fn delete_to_end(&mut self) -> u32 = ffi::lodvarn_delete_to_end();
@@ -146,8 +158,10 @@ impl Handle {
         fn edit_word(&mut self, action: Action) -> u32 = ffi::lodvarn_edit_word(action as u32);
         fn kill_range(&mut self, range: Range<usize>, direction: Direction) -> u32
             = ffi::lodvarn_kill_range(range.start, range.end, direction as u32);
+        fn keep(&mut self, text: &str) -> u32 = ffi::lodvarn_keep(text.as_ptr(), text.len());
         fn yank(&mut self, n: u16) -> u32 = ffi::lodvarn_yank(n);
         fn yank_pop(&mut self) -> u32 = ffi::lodvarn_yank_pop();
+        fn begin(&mut self, mark: &mut usize) -> u32 = ffi::lodvarn_begin(mark);
         fn end(&mut self) -> u32 = ffi::lodvarn_end();
         fn end_one(&mut self) -> u32 = ffi::lodvarn_end_one();
         fn undo(&mut self, n: u16) -> u32 = ffi::lodvarn_undo(n);
@@ -155,49 +169,48 @@ impl Handle {
         fn truncate(&mut self, entries: usize) -> u32 = ffi::lodvarn_truncate(entries);
         fn watch(&mut self, reports: usize, text_bytes: usize) -> u32
             = ffi::lodvarn_watch(reports, text_bytes);
+        fn changed(&mut self, from: &mut usize, old_end: &mut usize, new_end: &mut usize) -> u32
+            = ffi::lodvarn_changed(from, old_end, new_end);
+        fn next_report(&mut self, report: &mut Written, out: &mut [u8]) -> u32
+            = ffi::lodvarn_next_report(
+                &mut report.kind,
+                &mut report.at,
+                &mut report.old_len,
+                &mut report.new_len,
+                &mut report.pos_before,
+                &mut report.pos_after,
+                out.as_mut_ptr(),
+                out.len()
+            );
+        fn line_place(&mut self, line: &mut usize, column: &mut u16) -> u32
+            = ffi::lodvarn_line_place(line, column);
     }
 
     calls! {
+        fn text(&self, out: &mut [u8]) -> usize = ffi::lodvarn_text(out.as_mut_ptr(), out.len());
         fn pos(&self) -> usize = ffi::lodvarn_pos();
         fn line_number(&self) -> usize = ffi::lodvarn_line_number();
         fn line_count(&self) -> usize = ffi::lodvarn_line_count();
+        fn line_range(&self, line: usize, range: &mut Range<usize>) -> u32
+            = ffi::lodvarn_line_range(line, &mut range.start, &mut range.end);
+        fn line_column(&self, line: &mut usize, column: &mut u16) -> u32
+            = ffi::lodvarn_line_column(line, column);
+        fn cluster(&self, place: usize, end: &mut usize, columns: &mut u16) -> u32
+            = ffi::lodvarn_cluster(place, end, columns);
         fn limit(&self) -> usize = ffi::lodvarn_limit();
         fn entries(&self) -> usize = ffi::lodvarn_entries();
         fn level(&self) -> usize = ffi::lodvarn_level();
         fn can_undo(&self) -> u32 = ffi::lodvarn_can_undo();
         fn can_redo(&self) -> u32 = ffi::lodvarn_can_redo();
         fn ring_count(&self) -> usize = ffi::lodvarn_ring_count();
+        fn ring_text(&self, back: usize, out: &mut [u8], len: &mut usize) -> u32
+            = ffi::lodvarn_ring_text(back, out.as_mut_ptr(), out.len(), len);
         fn last_was_yank(&self) -> u32 = ffi::lodvarn_last_was_yank();
     }
 
     pub(crate) fn move_by(&mut self, movement: Movement) -> u32 {
         let (number, n, c) = movement.numbers();
         unsafe { ffi::lodvarn_move(self.0.get(), number, n, c) }
-    }
-
-    pub(crate) fn paste(&mut self, text: &str, n: u16) -> u32 {
-        unsafe { ffi::lodvarn_paste(self.0.get(), text.as_ptr(), text.len(), n) }
-    }
-
-    pub(crate) fn restart(&mut self, text: &str, pos: usize) -> u32 {
-        unsafe { ffi::lodvarn_restart(self.0.get(), text.as_ptr(), text.len(), pos) }
-    }
-
-    pub(crate) fn update(&mut self, text: &str, pos: usize) -> u32 {
-        unsafe { ffi::lodvarn_update(self.0.get(), text.as_ptr(), text.len(), pos) }
-    }
-
-    pub(crate) fn insert_str(&mut self, at: usize, text: &str) -> u32 {
-        unsafe { ffi::lodvarn_insert_str(self.0.get(), at, text.as_ptr(), text.len()) }
-    }
-
-    pub(crate) fn replace(&mut self, range: Range<usize>, text: &str) -> u32 {
-        let (from, to, ptr, len) = (range.start, range.end, text.as_ptr(), text.len());
-        unsafe { ffi::lodvarn_replace(self.0.get(), from, to, ptr, len) }
-    }
-
-    pub(crate) fn delete(&mut self, n: u16, out: &mut [u8], len: &mut usize) -> u32 {
-        unsafe { ffi::lodvarn_delete(self.0.get(), n, out.as_mut_ptr(), out.len(), len) }
     }
 
     pub(crate) fn delete_to(&mut self, search: CharSearch, n: u16) -> u32 {
@@ -215,58 +228,9 @@ impl Handle {
         unsafe { ffi::lodvarn_kill(self.0.get(), number, n, c) }
     }
 
-    pub(crate) fn keep(&mut self, text: &str) -> u32 {
-        unsafe { ffi::lodvarn_keep(self.0.get(), text.as_ptr(), text.len()) }
-    }
-
     pub(crate) fn copy(&mut self, movement: Movement, out: &mut [u8], len: &mut usize) -> u32 {
         let ((number, n, c), at) = (movement.numbers(), self.0.get());
         unsafe { ffi::lodvarn_copy(at, number, n, c, out.as_mut_ptr(), out.len(), len) }
-    }
-
-    pub(crate) fn begin(&mut self, mark: &mut usize) -> u32 {
-        unsafe { ffi::lodvarn_begin(self.0.get(), mark) }
-    }
-
-    pub(crate) fn line_place(&mut self, line: &mut usize, column: &mut u16) -> u32 {
-        unsafe { ffi::lodvarn_line_place(self.0.get(), line, column) }
-    }
-
-    pub(crate) fn changed(
-        &mut self,
-        from: &mut usize,
-        old_end: &mut usize,
-        new_end: &mut usize,
-    ) -> u32 {
-        unsafe { ffi::lodvarn_changed(self.0.get(), from, old_end, new_end) }
-    }
-
-    pub(crate) fn next_report(&mut self, report: &mut Written, out: &mut [u8]) -> u32 {
-        unsafe {
-            ffi::lodvarn_next_report(
-                self.0.get(),
-                &mut report.kind,
-                &mut report.at,
-                &mut report.old_len,
-                &mut report.new_len,
-                &mut report.pos_before,
-                &mut report.pos_after,
-                out.as_mut_ptr(),
-                out.len(),
-            )
-        }
-    }
-
-    pub(crate) fn text(&self, out: &mut [u8]) -> usize {
-        unsafe { ffi::lodvarn_text(self.0.get(), out.as_mut_ptr(), out.len()) }
-    }
-
-    pub(crate) fn line_range(&self, line: usize, range: &mut Range<usize>) -> u32 {
-        unsafe { ffi::lodvarn_line_range(self.0.get(), line, &mut range.start, &mut range.end) }
-    }
-
-    pub(crate) fn line_column(&self, line: &mut usize, column: &mut u16) -> u32 {
-        unsafe { ffi::lodvarn_line_column(self.0.get(), line, column) }
     }
 
     pub(crate) fn covers(&self, movement: Movement, range: &mut Range<usize>) -> u32 {
@@ -278,14 +242,6 @@ impl Handle {
     pub(crate) fn destination(&self, movement: Movement, pos: &mut usize) -> u32 {
         let (number, n, c) = movement.numbers();
         unsafe { ffi::lodvarn_destination(self.0.get(), number, n, c, pos) }
-    }
-
-    pub(crate) fn cluster(&self, place: usize, end: &mut usize, columns: &mut u16) -> u32 {
-        unsafe { ffi::lodvarn_cluster(self.0.get(), place, end, columns) }
-    }
-
-    pub(crate) fn ring_text(&self, back: usize, out: &mut [u8], len: &mut usize) -> u32 {
-        unsafe { ffi::lodvarn_ring_text(self.0.get(), back, out.as_mut_ptr(), out.len(), len) }
     }
 }
 
@@ -345,6 +301,16 @@ impl Line {
         fn set_can_grow(&mut self, can_grow: bool) -> u32
             = ffi::lodvarn_line_set_can_grow(can_grow.into());
         fn insert(&mut self, c: char, n: u16) -> u32 = ffi::lodvarn_line_insert(c.into(), n);
+        fn yank(&mut self, text: &str, n: u16) -> u32
+            = ffi::lodvarn_line_yank(text.as_ptr(), text.len(), n);
+        fn yank_pop(&mut self, size: usize, text: &str) -> u32
+            = ffi::lodvarn_line_yank_pop(size, text.as_ptr(), text.len());
+        fn update(&mut self, text: &str, pos: usize) -> u32
+            = ffi::lodvarn_line_update(text.as_ptr(), text.len(), pos);
+        fn insert_str(&mut self, at: usize, text: &str) -> u32
+            = ffi::lodvarn_line_insert_str(at, text.as_ptr(), text.len());
+        fn replace(&mut self, range: Range<usize>, text: &str) -> u32
+            = ffi::lodvarn_line_replace(range.start, range.end, text.as_ptr(), text.len());
         fn delete_range(&mut self, range: Range<usize>) -> u32
             = ffi::lodvarn_line_delete_range(range.start, range.end);
         fn delete(&mut self, n: u16) -> u32 = ffi::lodvarn_line_delete(n);
@@ -395,28 +361,6 @@ impl Line {
         let ((number, n, c), at) = (movement.numbers(), self.0.get());
         let Range { start, end } = range;
         unsafe { ffi::lodvarn_line_covers(at, number, n, c, start, end) }
-    }
-
-    pub(crate) fn yank(&mut self, text: &str, n: u16) -> u32 {
-        unsafe { ffi::lodvarn_line_yank(self.0.get(), text.as_ptr(), text.len(), n) }
-    }
-
-    pub(crate) fn yank_pop(&mut self, size: usize, text: &str) -> u32 {
-        let (ptr, len) = (text.as_ptr(), text.len());
-        unsafe { ffi::lodvarn_line_yank_pop(self.0.get(), size, ptr, len) }
-    }
-
-    pub(crate) fn update(&mut self, text: &str, pos: usize) -> u32 {
-        unsafe { ffi::lodvarn_line_update(self.0.get(), text.as_ptr(), text.len(), pos) }
-    }
-
-    pub(crate) fn insert_str(&mut self, at: usize, text: &str) -> u32 {
-        unsafe { ffi::lodvarn_line_insert_str(self.0.get(), at, text.as_ptr(), text.len()) }
-    }
-
-    pub(crate) fn replace(&mut self, range: Range<usize>, text: &str) -> u32 {
-        let (from, to, ptr, len) = (range.start, range.end, text.as_ptr(), text.len());
-        unsafe { ffi::lodvarn_line_replace(self.0.get(), from, to, ptr, len) }
     }
 
     pub(crate) fn delete_by(&mut self, movement: Movement) -> u32 {
@@ -493,16 +437,24 @@ fn put(into: &mut String, mut call: impl FnMut(*mut u8, usize, &mut usize) -> u3
 
 impl Record {
     pub(crate) fn open() -> Result<Record, Fault> {
+        see_version();
         let record = Record(UnsafeCell::new(null_mut()));
         done(unsafe { ffi::lodvarn_record_open(record.0.get()) })?;
         Ok(record)
     }
 
     calls! {
+        fn begin(&mut self, mark: &mut usize) -> u32 = ffi::lodvarn_record_begin(mark);
         fn end(&mut self) -> u32 = ffi::lodvarn_record_end();
         fn end_one(&mut self) -> u32 = ffi::lodvarn_record_end_one();
         fn insert_char(&mut self, at: usize, c: char) -> u32
             = ffi::lodvarn_record_insert_char(at, c.into());
+        fn insert_str(&mut self, at: usize, text: &str) -> u32
+            = ffi::lodvarn_record_insert_str(at, text.as_ptr(), text.len());
+        fn delete(&mut self, at: usize, text: &str) -> u32
+            = ffi::lodvarn_record_delete(at, text.as_ptr(), text.len());
+        fn replace(&mut self, at: usize, old: &str, new: &str) -> u32
+            = ffi::lodvarn_record_replace(at, old.as_ptr(), old.len(), new.as_ptr(), new.len());
         fn cursors(&mut self, before: usize, after: usize) -> u32
             = ffi::lodvarn_record_cursors(before, after);
         fn undo(&mut self, line: &mut Line, n: u16) -> u32
@@ -520,23 +472,6 @@ impl Record {
             = ffi::lodvarn_record_replays_to(entries, line.0.get());
     }
 
-    pub(crate) fn begin(&mut self, mark: &mut usize) -> u32 {
-        unsafe { ffi::lodvarn_record_begin(self.0.get(), mark) }
-    }
-
-    pub(crate) fn insert_str(&mut self, at: usize, text: &str) -> u32 {
-        unsafe { ffi::lodvarn_record_insert_str(self.0.get(), at, text.as_ptr(), text.len()) }
-    }
-
-    pub(crate) fn delete(&mut self, at: usize, text: &str) -> u32 {
-        unsafe { ffi::lodvarn_record_delete(self.0.get(), at, text.as_ptr(), text.len()) }
-    }
-
-    pub(crate) fn replace(&mut self, at: usize, old: &str, new: &str) -> u32 {
-        let (old, old_len, new, new_len) = (old.as_ptr(), old.len(), new.as_ptr(), new.len());
-        unsafe { ffi::lodvarn_record_replace(self.0.get(), at, old, old_len, new, new_len) }
-    }
-
     pub(crate) fn last_insert(&self) -> Option<String> {
         let (at, mut text) = (self.0.get(), String::new());
         let call = |out, cap, len: &mut usize| unsafe {
@@ -548,6 +483,7 @@ impl Record {
 
 impl Ring {
     pub(crate) fn open(size: usize) -> Result<Ring, Fault> {
+        see_version();
         let ring = Ring(UnsafeCell::new(null_mut()));
         done(unsafe { ffi::lodvarn_killring_open(ring.0.get(), size) })?;
         Ok(ring)
@@ -557,20 +493,14 @@ impl Ring {
         fn reset(&mut self) -> u32 = ffi::lodvarn_killring_reset();
         fn start_killing(&mut self) -> u32 = ffi::lodvarn_killring_start_killing();
         fn stop_killing(&mut self) -> u32 = ffi::lodvarn_killring_stop_killing();
+        fn kill(&mut self, text: &str, prepend: bool) -> u32
+            = ffi::lodvarn_killring_kill(text.as_ptr(), text.len(), prepend.into());
+        fn delete(&mut self, text: &str, direction: Direction) -> u32
+            = ffi::lodvarn_killring_delete(text.as_ptr(), text.len(), direction as u32);
     }
 
     calls! {
         fn count(&self) -> usize = ffi::lodvarn_killring_count();
-    }
-
-    pub(crate) fn kill(&mut self, text: &str, prepend: bool) -> u32 {
-        let (ptr, len, prepend) = (text.as_ptr(), text.len(), prepend.into());
-        unsafe { ffi::lodvarn_killring_kill(self.0.get(), ptr, len, prepend) }
-    }
-
-    pub(crate) fn delete(&mut self, text: &str, direction: Direction) -> u32 {
-        let (ptr, len, direction) = (text.as_ptr(), text.len(), direction as u32);
-        unsafe { ffi::lodvarn_killring_delete(self.0.get(), ptr, len, direction) }
     }
 
     pub(crate) fn yank(&mut self, into: &mut String) -> bool {

@@ -46,6 +46,10 @@ impl fmt::Debug for KillRing {
 
 impl KillRing {
     /// An empty ring of up to `size` texts. One of size 0 keeps nothing.
+    ///
+    /// # Panics
+    ///
+    /// Where the library that is linked is of another version than this crate.
     #[must_use]
     pub fn new(size: usize) -> Self {
         KillRing {

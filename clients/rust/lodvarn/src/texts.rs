@@ -91,8 +91,8 @@ pub fn place_at(
     place
 }
 
-/// The version of the library that is linked, as [`VERSION`](crate::VERSION) has that of this crate: opening a session
-/// or a line panics where they are not the same.
+/// The version of the library that is linked, as [`VERSION`](crate::VERSION) has that of this crate: where they are not
+/// the same, opening a session panics, and so does making a line, a record or a ring.
 pub fn version() -> String {
     let number = calls::version_number();
     format!("{}.{}.{}", number >> 16, number >> 8 & 255, number & 255)

@@ -56,6 +56,10 @@ impl fmt::Debug for Changeset {
 
 impl Changeset {
     /// An empty record.
+    ///
+    /// # Panics
+    ///
+    /// Where the library that is linked is of another version than this crate.
     #[must_use]
     pub fn new() -> Self {
         Changeset(answered(Record::open()))
