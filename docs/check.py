@@ -10,6 +10,7 @@
   environment.
 - Each crate (rl_..): in crates.txt.
 - Each word of a script (specs/Grammar.antt): one row in docs/RULES.md, and no other rows.
+- Each function, clause and definition in the column of contracts of docs/PROMISES.md: in the crates, as it is spelled.
 
 Its last line is 'N passed, M failed'.
 """
@@ -170,6 +171,88 @@ def see_words(count, page):
             count.see(page, faults + ([] if rows[word] == 1 else [f"{heading}: {rows[word]} rows for {word}"]))
 
 
+# --- the contracts of docs/PROMISES.md ---
+
+# Where a type, a trait or an impl begins, and where a function does.
+OWNER = re.compile(r"^(?:pub(?:\([a-z]+\))? )?(?:impl(?:<.*?>)? (?:.* for )?|trait |struct |enum )(\w+)")
+FUNCTION = re.compile(r'^ *(?:pub(?:\([a-z]+\))? )?(?:extern "C" )?fn (\w+)')
+CLAUSE = re.compile(r"\bensures\*? (\w+) \{")
+DEFINITION = re.compile(r"^(?:abbrev |unfoldable )*pub (?:record |data )?(\S+)", re.M)
+# Ghost members, which a contract of a listener has in place of clauses.
+MEMBERS = {"step", "refused"}
+
+
+class Contracts:
+    """The functions and types of the crates with the clauses that stand there, and the definitions of specs/."""
+
+    def __init__(self):
+        self.clauses = {}
+        self.definitions = set(MEMBERS)
+        for source in TOP.glob("crates/*/src/**/*.rt"):
+            self.read(source)
+        for spec in TOP.glob("crates/*/specs/*.antt"):
+            self.definitions |= set(DEFINITION.findall(spec.read_text()))
+
+    def read(self, source):
+        """Takes in a file of code. A name counts by itself and after each module or type that it stands in."""
+        modules = source.relative_to(TOP / "crates").with_suffix("").parts
+        owner = function = None
+        for line in source.read_text().splitlines():
+            if found := OWNER.match(line):
+                owner, function = found[1], None
+            elif line == "}":
+                owner = None
+            if found := FUNCTION.match(line):
+                function = found[1]
+            outer = [*modules, owner] if owner else [*modules]
+            names = [f"{it}::{function}" for it in outer] + [function] if function else []
+            for name in [*names, owner] if owner else names:
+                self.clauses.setdefault(name, set()).update(CLAUSE.findall(line))
+
+    def has(self, name):
+        """Whether that is a function, a type or a definition; a way to it counts by its last two names."""
+        return "::".join(name.split("::")[-2:]) in self.clauses or name in self.definitions
+
+
+def names_in(words):
+    """The names in backquotes. One without a type or a module is of that of the name before it, if any."""
+    owner = ""
+    for name in re.findall(r"`([\w:-]+)`", words):
+        owner = name.rpartition("::")[0] or owner
+        yield name, f"{owner}::{name}" if owner and "::" not in name else name
+
+
+def faults_of_group(contracts, group):
+    """What is not there of a group: functions and types, their clauses after a colon, and in brackets definitions."""
+    plain = re.sub(r"\([^()]*\)", "", group)
+    functions, _, clauses = plain.partition("`: ")
+    clauses, _, others = clauses.partition(" the clause of ")
+    if "` of each" in functions:
+        functions, clauses = "", plain
+    known = set() if functions else set().union(*contracts.clauses.values())
+    missing = []
+    for name, full in names_in(f"{functions}` {others}"):
+        found = full if contracts.has(full) else name
+        known |= contracts.clauses.get("::".join(found.split("::")[-2:]), set())
+        missing += [] if contracts.has(found) else [name]
+    cited = [name for inner in re.findall(r"\(([^()]*)\)", group) for name, _ in names_in(inner)]
+    missing += [name for name in cited if not contracts.has(name)]
+    return missing + [f"clause {name}" for name, _ in names_in(clauses) if name not in known]
+
+
+def see_contracts(count, page):
+    """Checks each cell of the column of contracts, whose groups are parted by ';'."""
+    contracts = Contracts()
+    tables = re.findall(r"^\|.*\| Contract \|\n\|---\|---\|\n((?:\|.*\n)+)", page.read_text(), re.M)
+    for row in "".join(tables).splitlines():
+        cell = row.strip("| ").split(" | ")[1]
+        groups = re.split(r";(?![^(]*\))", cell)
+        missing = [it for group in groups for it in faults_of_group(contracts, group)]
+        count.see(page, [f"there is no {it}: {cell[:60]}.." for it in missing])
+    if not tables:
+        count.see(page, ["there is no table of contracts"])
+
+
 # --- all of them ---
 
 
@@ -213,6 +296,7 @@ def main():
     count = Count()
     see_wrong_bodies(count, TOP / "docs/PROVING.md")
     see_words(count, TOP / "docs/RULES.md")
+    see_contracts(count, TOP / "docs/PROMISES.md")
     headers = list((TOP / "include").glob("*.h"))
     names = {name for header in headers for name in (header.stem, *CALL.findall(header.read_text()))}
     header = VARIABLES | names
