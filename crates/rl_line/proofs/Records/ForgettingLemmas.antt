@@ -1,10 +1,10 @@
 -- Forgetting the oldest units: where entries fit a bound, which units go, and what is left.
-use Rattle.std.proofs.Common.{◌≡◌, ℕ, Some, zero, suc, ◌+◌, ◌-◌, ◌≤◌, ◌<◌, ◌⊎◌, inl, inr, leb, cond, arith, Bool, true, false, List, [], ◌∷◌, ◌++◌, length, length-append, take, drop, take_at, drop_at, drop-cons, get_or, map, append-nil, reverse, refl, sym, ap, subst, ◌∙◌}
+use Rattle.std.proofs.Common.{◌≡◌, ℕ, Some, zero, suc, ◌+◌, ◌-◌, ◌≤◌, ◌<◌, ◌⊎◌, inl, inr, leb, cond, arith, Bool, true, false, List, [], ◌∷◌, ◌++◌, length, length-append, take, drop, take_at, drop_at, drop-cons, get_or, map, append-nil, append_assoc, reverse, refl, sym, ap, subst, ◌∙◌}
 use Rattle.std.proofs.lemmas.Bool.{le-leb, leb-false, leb-true, lt-leb}
 use Rattle.std.proofs.lemmas.List.{drop-drop, drop-map, drop-take, length-drop, length-map, length-take-le, reverse-append, reverse-reverse, take-map}
 use Rattle.std.specs.Prelude.{nat_le, ◌&&◌, ◌||◌}
 use Rattle.rl_line.specs.declared.change.Change.{Change}
-use Rattle.rl_line.specs.Record.{Entry, Record, entry_of, new_text, old_text, replay_entries}
+use Rattle.rl_line.specs.Record.{Begin, Entry, Record, entry_of, new_text, old_text, replay_entries}
 use Rattle.rl_line.specs.Walk.{Walk, Walks}
 use Rattle.rl_line.proofs.Records.WalkLemmas.{Walk-IsUtf8, Walk-split}
 use Rattle.rl_line.proofs.Records.RecordLemmas.{replay-append, through}
@@ -14,7 +14,7 @@ use Rattle.rl_line.specs.Entries.{cut_at}
 use Rattle.std.specs.List.{remove_range}
 use Rattle.rl_line.specs.Forgetting.{FitsFrom, ForgetsFirst, bytes_held, fits, forgotten, gone_within, is_within, kept_within, unbounded, units_kept}
 use Rattle.rl_line.proofs.Records.MatchLemmas.{Redoes-of}
-use Rattle.rl_line.proofs.Records.UnitLemmas.{AllGood, AllGood-left, AllGood-reverse, AllGood-right, IsMatched-together, Settles, good_cuts, opens-reverse, or_true, together-append, together-units, units-good}
+use Rattle.rl_line.proofs.Records.UnitLemmas.{AllGood, AllGood-left, AllGood-reverse, AllGood-right, IsMatched-together, Settles, good_cuts, opens-reverse, or_true, together-append, together-units, units-append, units-good}
 
 -- ---- where entries fit
 -- fewer entries hold no more bytes
@@ -274,6 +274,35 @@ level-kept most bytes es m =
     let us = units_kept most bytes (reverse (units es)) in
     ap opens (good_cuts (reverse us) [] (kept-good most bytes es m) ∙ append-nil (reverse us)) ∙ opens-reverse us
     ∙ units_kept-opens most bytes (reverse (units es)) ∙ opens-reverse (units es)
+
+-- from the Begin of an open group on all stays
+kept-from_open : (most bytes : ℕ) (us vs : List UndoUnit) → (stay : List UndoUnit) × (units_kept most bytes (us ++ Open ∷ vs) ≡ stay ++ Open ∷ vs)
+kept-from_open most bytes [] vs = ([], refl)
+kept-from_open most bytes (Open ∷ us) vs = (Open ∷ us, refl)
+kept-from_open most bytes (Whole es ∷ us) vs = from (fits most bytes (together (reverse (Whole es ∷ (us ++ Open ∷ vs))))) (kept-from_open most bytes us vs)
+  where
+    from : (b : Bool) → (stay : List UndoUnit) × (units_kept most bytes (us ++ Open ∷ vs) ≡ stay ++ Open ∷ vs)
+        → (stay : List UndoUnit) × (cond b (Whole es ∷ (us ++ Open ∷ vs)) (units_kept most bytes (us ++ Open ∷ vs)) ≡ stay ++ Open ∷ vs)
+    from true rest = (Whole es ∷ us, refl)
+    from false rest = rest
+
+pub group-stays : (most bytes : ℕ) (front inside : List Entry) → IsMatched inside
+    → (stay : List Entry) × (kept_within most bytes (front ++ Begin ∷ inside) ≡ stay ++ Begin ∷ inside)
+group-stays most bytes front inside m =
+    let us = units front in
+    let vs = units inside in
+    let cut : units (front ++ Begin ∷ inside) ≡ vs ++ Open ∷ us =
+    ap units (sym (append_assoc front (Begin ∷ []) inside)) ∙ units-append (front ++ Begin ∷ []) inside m ∙ ap (λ ws. vs ++ ws) (units-append front (Begin ∷ []) refl) in
+    let turned : reverse (units (front ++ Begin ∷ inside)) ≡ reverse us ++ Open ∷ reverse vs =
+    ap reverse cut ∙ reverse-append vs (Open ∷ us) ∙ ap (λ ws. ws ++ reverse vs) (reverse-append (Open ∷ []) us) ∙ append_assoc (reverse us) (Open ∷ []) (reverse vs) in
+    let k = kept-from_open most bytes (reverse us) (reverse vs) in
+    let back : reverse (k.0 ++ Open ∷ reverse vs) ≡ (vs ++ Open ∷ []) ++ reverse k.0 =
+    reverse-append k.0 (Open ∷ reverse vs) ∙ ap (λ ws. ws ++ reverse k.0) (reverse-append (Open ∷ []) (reverse vs) ∙ ap (λ ws. ws ++ Open ∷ []) (reverse-reverse vs)) in (
+      together (reverse k.0),
+      ap (λ ws. together (reverse (units_kept most bytes ws))) turned ∙ ap (λ ws. together (reverse ws)) k.1 ∙ ap together back
+          ∙ together-append (vs ++ Open ∷ []) (reverse k.0)
+          ∙ ap (λ l. together (reverse k.0) ++ l) (together-append vs (Open ∷ []) ∙ ap (λ l. Begin ∷ l) (together-units inside)),
+    )
 
 pub AtLevel-forgotten : (most bytes n : ℕ) (r : Record) → AtLevel n r → AtLevel n (forgotten most bytes r)
 AtLevel-forgotten most bytes n r a = record {
