@@ -2,7 +2,7 @@
 use Rattle.std.proofs.Common.{◌≡◌, ℕ, Some, zero, suc, ◌+◌, ◌-◌, ◌≤◌, ◌<◌, ◌⊎◌, inl, inr, leb, cond, arith, Bool, true, false, List, [], ◌∷◌, ◌++◌, length, length-append, take, drop, take_at, drop_at, drop-cons, get_or, map, append-nil, append_assoc, reverse, refl, sym, ap, subst, ◌∙◌}
 use Rattle.std.proofs.lemmas.Bool.{le-leb, leb-false, leb-true, lt-leb}
 use Rattle.std.proofs.lemmas.List.{drop-drop, drop-map, drop-take, length-drop, length-map, length-take-le, reverse-append, reverse-reverse, take-map}
-use Rattle.std.specs.Prelude.{nat_le, ◌&&◌, ◌||◌}
+use Rattle.std.specs.Prelude.{nat_le, ◌&&◌}
 use Rattle.rl_line.specs.declared.change.Change.{Change}
 use Rattle.rl_line.specs.Record.{Begin, Entry, Record, entry_of, new_text, old_text, replay_entries}
 use Rattle.rl_line.specs.Walk.{Walk, Walks}

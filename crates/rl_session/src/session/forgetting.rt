@@ -1,7 +1,11 @@
 //! The bound of a session's record, beyond which the session forgets the oldest changes.
 ghost use Rattle.std.specs.Prelude.{◌≡◌, List, ℕ};
 ghost use Rattle.rl_session.specs.State.{ChangedFrom, Follows, Replays, ReportedFrom, Stands, State};
+ghost use Rattle.rl_session.specs.Commands.{Step};
 ghost use Rattle.rl_session.specs.Forgetting.{ReplaysOn, bounded_by, within_bound};
+ghost use Rattle.rl_session.specs.Options.{no_bound};
+ghost use Rattle.rl_session.specs.declared.session.Command.{Command};
+ghost use Rattle.rl_session.specs.declared.session.Reply.{Reply};
 
 use crate::options::Bound;
 use crate::session::Session;
@@ -42,4 +46,10 @@ pub fn what_is_left_replays()
     ensures replays { (start : List ℕ) (s : State) → Replays start s → ReplaysOn start s }
     ensures changed { (asked : List ℕ) (s : State) → ChangedFrom asked s → ChangedFrom asked (within_bound s) }
     ensures reported { (read : List ℕ) (s : State) → ReportedFrom read s → ReportedFrom read (within_bound s) }
+{}
+
+/// A session without a bound forgets nothing, and no command gives it one.
+pub fn nothing_goes_without_a_bound()
+    ensures forgets { (s : State) → s.options.bound ≡ no_bound → within_bound s ≡ s }
+    ensures keeps { (old new : State) (command : Command) (reply : Reply) → Step old command reply new → new.options ≡ old.options }
 {}
