@@ -8,13 +8,17 @@ abbrev pub bytes_held : List Entry → ℕ
 bytes_held [] = 0
 bytes_held (e ∷ es) = (length (old_text e) + length (new_text e)) + bytes_held es
 
--- the bound on bytes that is none
+-- the bound that is none, of entries and of bytes
 abbrev pub unbounded : ℕ
 unbounded = 2 ^ 64 - 1
 
--- whether entries are within a bound: no more than so many, which hold no more than so many bytes
+-- whether a number is within a bound
+abbrev pub is_within : ℕ → ℕ → Bool
+is_within bound n = nat_le unbounded bound || nat_le n bound
+
+-- whether entries are within two bounds: how many they are, and how many bytes they hold
 abbrev pub fits : ℕ → ℕ → List Entry → Bool
-fits most bytes es = nat_le (length es) most && (nat_le unbounded bytes || nat_le (bytes_held es) bytes)
+fits most bytes es = is_within most (length es) && is_within bytes (bytes_held es)
 
 -- the units that stay, listed the oldest first: a change or a closed group goes as long as it and what comes after it do not fit.
 -- The Begin of an open group stays, and all after it

@@ -11,7 +11,7 @@ ghost use Rattle.rl_line.specs.declared.change.Freshness.TheVariants.{Stale};
 ghost use Rattle.rl_line.specs.Forgetting.{fits, forgotten, gone_within, kept_within};
 ghost use Rattle.rl_line.specs.Line.{Line, NeedsRoom};
 ghost use Rattle.rl_line.specs.Plan.{NeverRefuses, after, listener_after};
-ghost use Rattle.rl_line.specs.Record.{Entry, End, IsOfKind, Record, last_insert, record_step, replay_entries, replays_to, unwind};
+ghost use Rattle.rl_line.specs.Record.{Begin, Entry, End, IsOfKind, Record, last_insert, record_step, replay_entries, replays_to, unwind};
 ghost use Rattle.rl_line.specs.Undo.{CopiesAhead, CopiesBack, Redone, Redos, StandAfter, StandBefore, Undone, line_ahead, line_back, steps_ahead, steps_back, texts_ahead, texts_back};
 ghost use Rattle.rl_line.specs.Units.{BothMatched, GroupAt, InGroup, IsMatched, adds_end, after_in_group, begun, ended, ended_one, has_change, in_group, kept_of, last_of, last_units, level, opens, redo_of, truncated, with_closed};
 
@@ -572,7 +572,7 @@ pub fn redos_of_a_line_give_back()
 /// Forgetting takes whole changes and closed groups off the front of a record: what goes and what is left are the record,
 /// and what goes has matched marks and leaves no group open. So what was recorded, from the text with which it began, leads
 /// to a text with which what is left begins, and that leads on to the same end. What is left fits the bound, unless a group
-/// is open; and entries that fit it all stay.
+/// is open; and entries that fit it all stay. From the begin of an open group on, all stay.
 pub fn what_is_left_replays()
     ensures parts { (most bytes : ℕ) (es : List Entry) → gone_within most bytes es ++ kept_within most bytes es ≡ es }
     ensures whole { (most bytes : ℕ) (es : List Entry) → IsMatched es → IsMatched (gone_within most bytes es) × (level (gone_within most bytes es) ≡ 0) }
@@ -580,4 +580,6 @@ pub fn what_is_left_replays()
         → (begin : List ℕ) × (replay_entries (gone_within most bytes es) start ≡ Some begin) × (replay_entries (kept_within most bytes es) begin ≡ Some text) }
     ensures bound { (most bytes : ℕ) (es : List Entry) → level es ≡ 0 → fits most bytes (kept_within most bytes es) ≡ true }
     ensures stays { (most bytes : ℕ) (es : List Entry) → fits most bytes es ≡ true → kept_within most bytes es ≡ es }
+    ensures group { (most bytes : ℕ) (front inside : List Entry) → IsMatched inside
+        → (stay : List Entry) × (kept_within most bytes (front ++ Begin ∷ inside) ≡ stay ++ Begin ∷ inside) }
 {}

@@ -1,8 +1,9 @@
 -- The bound of a session's record, and what the session forgets beyond it.
-use Rattle.std.specs.Prelude.{◌≡◌, List, ℕ, Some}
+use Rattle.std.specs.Prelude.{◌≡◌, ◌∷◌, List, ℕ, Some}
 use Rattle.rl_line.specs.Forgetting.{forgotten, gone_within}
-use Rattle.rl_line.specs.Record.{replay_entries}
+use Rattle.rl_line.specs.Record.{Entry, replay_entries}
 use Rattle.rl_session.specs.declared.options.Bound.{Bound}
+use Rattle.rl_session.specs.History.{Holds, StandsAfter}
 use Rattle.rl_session.specs.State.{State, Replays}
 
 -- the same with another bound
@@ -14,8 +15,20 @@ abbrev pub within_bound : State → State
 within_bound s =
     record s { pair = record s.pair { changes = forgotten s.options.bound.entries s.options.bound.bytes s.pair.changes } }
 
+-- the entries that the session forgets
+abbrev pub gone : State → List Entry
+gone s = gone_within s.options.bound.entries s.options.bound.bytes s.pair.changes.recorded
+
 -- the text that what was forgotten made of the start is the one from which what is left leads to the present text
 pub record ReplaysOn (start : List ℕ) (old : State) : Type 0 where
   pub begin : List ℕ
-  pub made : replay_entries (gone_within old.options.bound.entries old.options.bound.bytes old.pair.changes.recorded) start ≡ Some begin
+  pub made : replay_entries (gone old) start ≡ Some begin
   pub replays : Replays begin (within_bound old)
+
+-- that text is one of those that were held, and what is left is placed among them from there on
+pub record HoldsOn (start : List ℕ) (held : List (List ℕ)) (old : State) : Type 0 where
+  pub begin : List ℕ
+  pub made : replay_entries (gone old) start ≡ Some begin
+  pub before : List (List ℕ)
+  pub stands : StandsAfter before begin held
+  pub holds : Holds begin (begin ∷ stands.rest) (within_bound old)

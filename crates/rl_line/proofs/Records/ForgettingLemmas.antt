@@ -1,10 +1,10 @@
 -- Forgetting the oldest units: where entries fit a bound, which units go, and what is left.
-use Rattle.std.proofs.Common.{◌≡◌, ℕ, Some, zero, suc, ◌+◌, ◌-◌, ◌≤◌, ◌<◌, ◌⊎◌, inl, inr, leb, cond, arith, Bool, true, false, List, [], ◌∷◌, ◌++◌, length, length-append, take, drop, take_at, drop_at, drop-cons, get_or, map, append-nil, reverse, refl, sym, ap, subst, ◌∙◌}
+use Rattle.std.proofs.Common.{◌≡◌, ℕ, Some, zero, suc, ◌+◌, ◌-◌, ◌≤◌, ◌<◌, ◌⊎◌, inl, inr, leb, cond, arith, Bool, true, false, List, [], ◌∷◌, ◌++◌, length, length-append, take, drop, take_at, drop_at, drop-cons, get_or, map, append-nil, append_assoc, reverse, refl, sym, ap, subst, ◌∙◌}
 use Rattle.std.proofs.lemmas.Bool.{le-leb, leb-false, leb-true, lt-leb}
 use Rattle.std.proofs.lemmas.List.{drop-drop, drop-map, drop-take, length-drop, length-map, length-take-le, reverse-append, reverse-reverse, take-map}
-use Rattle.std.specs.Prelude.{nat_le, ◌&&◌, ◌||◌}
+use Rattle.std.specs.Prelude.{nat_le, ◌&&◌}
 use Rattle.rl_line.specs.declared.change.Change.{Change}
-use Rattle.rl_line.specs.Record.{Entry, Record, entry_of, new_text, old_text, replay_entries}
+use Rattle.rl_line.specs.Record.{Begin, Entry, Record, entry_of, new_text, old_text, replay_entries}
 use Rattle.rl_line.specs.Walk.{Walk, Walks}
 use Rattle.rl_line.proofs.Records.WalkLemmas.{Walk-IsUtf8, Walk-split}
 use Rattle.rl_line.proofs.Records.RecordLemmas.{replay-append, through}
@@ -12,9 +12,9 @@ use Rattle.rl_line.specs.Units.{AtLevel, IsMatched, Open, UndoUnit, Whole, level
 use Rattle.rl_line.specs.declared.change.Freshness.{Freshness}
 use Rattle.rl_line.specs.Entries.{cut_at}
 use Rattle.std.specs.List.{remove_range}
-use Rattle.rl_line.specs.Forgetting.{FitsFrom, ForgetsFirst, bytes_held, fits, forgotten, gone_within, kept_within, unbounded, units_kept}
+use Rattle.rl_line.specs.Forgetting.{FitsFrom, ForgetsFirst, bytes_held, fits, forgotten, gone_within, is_within, kept_within, unbounded, units_kept}
 use Rattle.rl_line.proofs.Records.MatchLemmas.{Redoes-of}
-use Rattle.rl_line.proofs.Records.UnitLemmas.{AllGood, AllGood-left, AllGood-reverse, AllGood-right, IsMatched-together, Settles, good_cuts, opens-reverse, together-append, together-units, units-good}
+use Rattle.rl_line.proofs.Records.UnitLemmas.{AllGood, AllGood-left, AllGood-reverse, AllGood-right, IsMatched-together, Settles, good_cuts, opens-reverse, or_true, together-append, together-units, units-append, units-good}
 
 -- ---- where entries fit
 -- fewer entries hold no more bytes
@@ -27,21 +27,26 @@ bytes-after (e ∷ es) zero (suc j) h = omega (arith, bytes-after es zero j (ome
 bytes-after (e ∷ es) (suc i) zero h = absurd (omega arith)
 bytes-after (e ∷ es) (suc i) (suc j) h = bytes-after es i j (omega arith)
 
+within-none : (bound n : ℕ) → unbounded ≤ bound → is_within bound n ≡ true
+within-none bound n free = rw (le-leb unbounded bound free) refl
+
+within-few : (bound n : ℕ) → n ≤ bound → is_within bound n ≡ true
+within-few bound n few = rw (le-leb n bound few) (or_true (leb unbounded bound))
+
+past-bound : (bound n : ℕ) → bound < unbounded → bound < n → is_within bound n ≡ false
+past-bound bound n some many = rw (lt-leb unbounded bound some, lt-leb n bound many) refl
+
 pub fits-any : (most bytes : ℕ) (es : List Entry) → length es ≤ most → unbounded ≤ bytes → fits most bytes es ≡ true
-fits-any most bytes es few free = rw (le-leb (length es) most few, le-leb unbounded bytes free) refl
+fits-any most bytes es few free = rw (within-few most (length es) few, within-none bytes (bytes_held es) free) refl
 
 pub fits-counted : (most bytes : ℕ) (es : List Entry) → length es ≤ most → bytes_held es ≤ bytes → fits most bytes es ≡ true
-fits-counted most bytes es few light = rw (le-leb (length es) most few, le-leb (bytes_held es) bytes light) (or-true (leb unbounded bytes))
-  where
-    or-true : (b : Bool) → (b || true) ≡ true
-    or-true true = refl
-    or-true false = refl
+fits-counted most bytes es few light = rw (within-few most (length es) few, within-few bytes (bytes_held es) light) refl
 
-pub fits-long : (most bytes : ℕ) (es : List Entry) → most < length es → fits most bytes es ≡ false
-fits-long most bytes es long = rw (lt-leb (length es) most long) refl
+pub fits-long : (most bytes : ℕ) (es : List Entry) → most < unbounded → most < length es → fits most bytes es ≡ false
+fits-long most bytes es some long = rw (past-bound most (length es) some long) refl
 
 pub fits-heavy : (most bytes : ℕ) (es : List Entry) → bytes < unbounded → bytes < bytes_held es → fits most bytes es ≡ false
-fits-heavy most bytes es bound heavy = rw (lt-leb unbounded bytes bound, lt-leb (bytes_held es) bytes heavy) (and-false (leb (length es) most))
+fits-heavy most bytes es bound heavy = rw (past-bound bytes (bytes_held es) bound heavy) (and-false (is_within most (length es)))
   where
     and-false : (b : Bool) → (b && false) ≡ false
     and-false true = refl
@@ -57,14 +62,14 @@ from-cases most bytes k es inside outside j = go (leb k j) refl
     go false h = outside j (leb-false k j h) ∙ sym h
 
 -- any number of bytes fits
-pub FitsFrom-any : (most bytes k : ℕ) (xs : List Change) → k ≡ length xs - most → bytes ≡ unbounded → FitsFrom most bytes (map entry_of xs) k
-FitsFrom-any most bytes k xs e free =
+pub FitsFrom-any : (most bytes k : ℕ) (xs : List Change) → length xs ≤ unbounded → k ≡ length xs - most → bytes ≡ unbounded → FitsFrom most bytes (map entry_of xs) k
+FitsFrom-any most bytes k xs short e free =
     let n = length-map xs entry_of in
     record {
       within = omega arith;
       from = from-cases most bytes k (map entry_of xs)
           (λ j le. fits-any most bytes (drop j (map entry_of xs)) (omega (arith, length-drop j (map entry_of xs), le)) (omega (arith, free)))
-          (λ j lt. fits-long most bytes (drop j (map entry_of xs)) (omega (arith, length-drop j (map entry_of xs), lt)));
+          (λ j lt. fits-long most bytes (drop j (map entry_of xs)) (omega (arith, lt, e, short)) (omega (arith, length-drop j (map entry_of xs), lt)));
     }
 
 -- from the place `at` on the bytes were counted, and so many more fit
@@ -75,15 +80,15 @@ pub record Counted (most bytes first : ℕ) (xs : List Change) (at left : ℕ) :
   pub count : left + bytes_held (drop at (map entry_of xs)) ≡ bytes
 
 -- no more than `most` entries are left
-pub FitsFrom-counted : (most bytes first at left : ℕ) (xs : List Change) → at ≤ first → Counted most bytes first xs at left → FitsFrom most bytes (map entry_of xs) at
-FitsFrom-counted most bytes first at left xs end c =
+pub FitsFrom-counted : (most bytes first at left : ℕ) (xs : List Change) → length xs ≤ unbounded → at ≤ first → Counted most bytes first xs at left → FitsFrom most bytes (map entry_of xs) at
+FitsFrom-counted most bytes first at left xs short end c =
     let es = map entry_of xs in
     let n = length-map xs entry_of in
     record {
       within = omega (arith, c.within);
       from = from-cases most bytes at es
           (λ j le. fits-counted most bytes (drop j es) (omega (arith, length-drop j es, le, c.first_is, c.after)) (omega (arith, c.count, bytes-after es at j le)))
-          (λ j lt. fits-long most bytes (drop j es) (omega (arith, length-drop j es, lt, c.first_is, c.after, c.within)));
+          (λ j lt. fits-long most bytes (drop j es) (omega (arith, lt, c.first_is, c.after, c.within, end, short)) (omega (arith, length-drop j es, lt, c.first_is, c.after, c.within)));
     }
 
 -- the entries from a place on hold what the one there does and what those after it do
@@ -269,6 +274,35 @@ level-kept most bytes es m =
     let us = units_kept most bytes (reverse (units es)) in
     ap opens (good_cuts (reverse us) [] (kept-good most bytes es m) ∙ append-nil (reverse us)) ∙ opens-reverse us
     ∙ units_kept-opens most bytes (reverse (units es)) ∙ opens-reverse (units es)
+
+-- from the Begin of an open group on all stays
+kept-from_open : (most bytes : ℕ) (us vs : List UndoUnit) → (stay : List UndoUnit) × (units_kept most bytes (us ++ Open ∷ vs) ≡ stay ++ Open ∷ vs)
+kept-from_open most bytes [] vs = ([], refl)
+kept-from_open most bytes (Open ∷ us) vs = (Open ∷ us, refl)
+kept-from_open most bytes (Whole es ∷ us) vs = from (fits most bytes (together (reverse (Whole es ∷ (us ++ Open ∷ vs))))) (kept-from_open most bytes us vs)
+  where
+    from : (b : Bool) → (stay : List UndoUnit) × (units_kept most bytes (us ++ Open ∷ vs) ≡ stay ++ Open ∷ vs)
+        → (stay : List UndoUnit) × (cond b (Whole es ∷ (us ++ Open ∷ vs)) (units_kept most bytes (us ++ Open ∷ vs)) ≡ stay ++ Open ∷ vs)
+    from true rest = (Whole es ∷ us, refl)
+    from false rest = rest
+
+pub group-stays : (most bytes : ℕ) (front inside : List Entry) → IsMatched inside
+    → (stay : List Entry) × (kept_within most bytes (front ++ Begin ∷ inside) ≡ stay ++ Begin ∷ inside)
+group-stays most bytes front inside m =
+    let us = units front in
+    let vs = units inside in
+    let cut : units (front ++ Begin ∷ inside) ≡ vs ++ Open ∷ us =
+    ap units (sym (append_assoc front (Begin ∷ []) inside)) ∙ units-append (front ++ Begin ∷ []) inside m ∙ ap (λ ws. vs ++ ws) (units-append front (Begin ∷ []) refl) in
+    let turned : reverse (units (front ++ Begin ∷ inside)) ≡ reverse us ++ Open ∷ reverse vs =
+    ap reverse cut ∙ reverse-append vs (Open ∷ us) ∙ ap (λ ws. ws ++ reverse vs) (reverse-append (Open ∷ []) us) ∙ append_assoc (reverse us) (Open ∷ []) (reverse vs) in
+    let k = kept-from_open most bytes (reverse us) (reverse vs) in
+    let back : reverse (k.0 ++ Open ∷ reverse vs) ≡ (vs ++ Open ∷ []) ++ reverse k.0 =
+    reverse-append k.0 (Open ∷ reverse vs) ∙ ap (λ ws. ws ++ reverse k.0) (reverse-append (Open ∷ []) (reverse vs) ∙ ap (λ ws. ws ++ Open ∷ []) (reverse-reverse vs)) in (
+      together (reverse k.0),
+      ap (λ ws. together (reverse (units_kept most bytes ws))) turned ∙ ap (λ ws. together (reverse ws)) k.1 ∙ ap together back
+          ∙ together-append (vs ++ Open ∷ []) (reverse k.0)
+          ∙ ap (λ l. together (reverse k.0) ++ l) (together-append vs (Open ∷ []) ∙ ap (λ l. Begin ∷ l) (together-units inside)),
+    )
 
 pub AtLevel-forgotten : (most bytes n : ℕ) (r : Record) → AtLevel n r → AtLevel n (forgotten most bytes r)
 AtLevel-forgotten most bytes n r a = record {

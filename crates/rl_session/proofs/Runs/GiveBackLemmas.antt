@@ -44,7 +44,7 @@ use Rattle.rl_session.specs.declared.session.Reply.TheVariants as says
 use Rattle.rl_session.specs.History.{IsEdit, WasRefused}
 use Rattle.rl_session.specs.Pair.{pair_step}
 use Rattle.rl_session.specs.Run.{Leads, Row, Run}
-use Rattle.rl_session.specs.State.{Begins, State}
+use Rattle.rl_session.specs.State.{Stands, State}
 
 -- ---- an event of an empty text
 next-nothing : (event : Event) (es : List Entry) (b a : ℕ) → IsLone event [] → entries_of event ≡ [] → next event es b a ≡ es
@@ -332,14 +332,14 @@ pub record AddedBy (row : Row) (e : Entry) (later : List Row) (new : State) : Ty
   pub utf8 : IsUtf8 row.before.line.text
   pub goes_on : Leads row.after later new
 
-added-by : (text : List ℕ) (old new : State) (commands : List Command) (replies : List Reply)
-    (earlier later : List Row) (row : Row) (e : Entry) → Begins text old → (run : Run old commands replies new)
+added-by : (old new : State) (commands : List Command) (replies : List Reply)
+    (earlier later : List Row) (row : Row) (e : Entry) → Stands old → (run : Run old commands replies new)
     → run.rows ≡ earlier ++ (row ∷ later) → IsEdit row.before.line row.command → ¬ (WasRefused row.reply)
     → row.after.pair.changes.recorded ≡ row.before.pair.changes.recorded ++ e ∷ [] → AddedBy row e later new
 unfolding Sound
-added-by text old new commands replies earlier later row e b run is i w adds =
+added-by old new commands replies earlier later row e b run is i w adds =
     let p = Leads-split earlier (row ∷ later) old new (subst (λ rows. Leads old rows new) is run.leads) in
-    let sound : Sound row.before = subst Sound (sym p.2.0) (Sound-Leads earlier old p.0 p.1 (b.stands.utf8, b.stands.cursor)) in
+    let sound : Sound row.before = subst Sound (sym p.2.0) (Sound-Leads earlier old p.0 p.1 (b.utf8, b.cursor)) in
     record { adds = row-adds row e sound.0 sound.1 i w adds; utf8 = sound.0; goes_on = p.2.1 }
 
 -- an undo right after it, and what waits to be redone then
@@ -360,22 +360,22 @@ undone-row row back e later new a more is w =
     ap (λ (k : Record). k.pending) here.record_is ∙ ap (λ es. es ++ r.pending) last ∙ ap (λ es. e ∷ es) a.adds.dropped in
     (over-one (inverse e) row.after.line back.after.line old.text old.cursor makes (cursor_told-back e _ told) went, waits)
 
-pub undo-gives_back : (text : List ℕ) (old new : State) (commands : List Command) (replies : List Reply)
-    (earlier later : List Row) (row back : Row) (e : Entry) → Begins text old → (run : Run old commands replies new)
+pub undo-gives_back : (old new : State) (commands : List Command) (replies : List Reply)
+    (earlier later : List Row) (row back : Row) (e : Entry) → Stands old → (run : Run old commands replies new)
     → run.rows ≡ earlier ++ (row ∷ (back ∷ later)) → IsEdit row.before.line row.command → ¬ (WasRefused row.reply)
     → row.after.pair.changes.recorded ≡ row.before.pair.changes.recorded ++ e ∷ [] → back.command ≡ asks.Undo 1 → ¬ (WasRefused back.reply)
     → (back.after.line.text ≡ row.before.line.text) × (back.after.line.cursor ≡ row.before.line.cursor)
-undo-gives_back text old new commands replies earlier later row back e b run is i w more undoes v =
-    let a = added-by text old new commands replies earlier (back ∷ later) row e b run is i w more in
+undo-gives_back old new commands replies earlier later row back e b run is i w more undoes v =
+    let a = added-by old new commands replies earlier (back ∷ later) row e b run is i w more in
     (undone-row row back e later new a more undoes v).0
 
-pub redo-gives_again : (text : List ℕ) (old new : State) (commands : List Command) (replies : List Reply)
-    (earlier later : List Row) (row back again : Row) (e : Entry) → Begins text old → (run : Run old commands replies new)
+pub redo-gives_again : (old new : State) (commands : List Command) (replies : List Reply)
+    (earlier later : List Row) (row back again : Row) (e : Entry) → Stands old → (run : Run old commands replies new)
     → run.rows ≡ earlier ++ (row ∷ (back ∷ (again ∷ later))) → IsEdit row.before.line row.command → ¬ (WasRefused row.reply)
     → row.after.pair.changes.recorded ≡ row.before.pair.changes.recorded ++ e ∷ [] → back.command ≡ asks.Undo 1 → ¬ (WasRefused back.reply)
     → again.command ≡ asks.Redo → ¬ (WasRefused again.reply) → (again.after.line.text ≡ row.after.line.text) × (again.after.line.cursor ≡ row.after.line.cursor)
-redo-gives_again text old new commands replies earlier later row back again e first run is i w more undoes v redoes x =
-    let a = added-by text old new commands replies earlier (back ∷ (again ∷ later)) row e first run is i w more in
+redo-gives_again old new commands replies earlier later row back again e first run is i w more undoes v redoes x =
+    let a = added-by old new commands replies earlier (back ∷ (again ∷ later)) row e first run is i w more in
     let b = undone-row row back e (again ∷ later) new a more undoes v in
     let d = redo-row again redoes x in
     let told = a.adds.alone.cursors in

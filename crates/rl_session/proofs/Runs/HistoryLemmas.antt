@@ -95,24 +95,24 @@ Holds-Begins text s b = rw (b.text_is, b.changes) record {
   matched = record { recorded = refl; pending = refl };
 }
 
--- what holds at the end of a run of a session that begins with a text
-pub Holds-run : (text : List ℕ) (old new : State) (commands : List Command) (replies : List Reply) → Begins text old
-    → (run : Run old commands replies new) → Holds text (text ∷ held_of run.rows) new
-Holds-run text old new commands replies b run = Holds-Leads text run.rows (text ∷ []) old new (Holds-Begins text old b) run.leads
-
 -- ---- rows in a run
 -- what holds before a row of a run, and that the later rows go on from it
-pub record At (text : List ℕ) (earlier later : List Row) (row : Row) (new : State) : Type 0 where
-  pub holds : Holds text (text ∷ held_of earlier) row.before
+pub record At (start : List ℕ) (held : List (List ℕ)) (earlier later : List Row) (row : Row) (new : State) : Type 0 where
+  pub holds : Holds start (held ++ held_of earlier) row.before
   pub goes_on : Leads row.after later new
+
+pub row_at : (start : List ℕ) (held : List (List ℕ)) (old new : State) (commands : List Command) (replies : List Reply)
+    (earlier later : List Row) (row : Row) → Holds start held old → (run : Run old commands replies new)
+    → run.rows ≡ earlier ++ (row ∷ later) → At start held earlier later row new
+row_at start held old new commands replies earlier later row h run e =
+    let p = Leads-split earlier (row ∷ later) old new (subst (λ rows. Leads old rows new) e run.leads) in
+    let before = Holds-Leads start earlier held old p.0 h p.1 in
+    record { holds = subst (λ s. Holds start (held ++ held_of earlier) s) (sym p.2.0) before; goes_on = p.2.1 }
 
 pub at_row : (text : List ℕ) (old new : State) (commands : List Command) (replies : List Reply)
     (earlier later : List Row) (row : Row) → Begins text old → (run : Run old commands replies new)
-    → run.rows ≡ earlier ++ (row ∷ later) → At text earlier later row new
-at_row text old new commands replies earlier later row b run e =
-    let p = Leads-split earlier (row ∷ later) old new (subst (λ rows. Leads old rows new) e run.leads) in
-    let before = Holds-Leads text earlier (text ∷ []) old p.0 (Holds-Begins text old b) p.1 in
-    record { holds = subst (λ s. Holds text (text ∷ held_of earlier) s) (sym p.2.0) before; goes_on = p.2.1 }
+    → run.rows ≡ earlier ++ (row ∷ later) → At text (text ∷ []) earlier later row new
+at_row text old new commands replies earlier later row b = row_at text (text ∷ []) old new commands replies earlier later row (Holds-Begins text old b)
 
 -- what a row did, where its command is known
 pub does_as : (row : Row) (command : Command) → row.command ≡ command → (left : State) × Does (readied command row.before) command row.reply left × (row.after.line ≡ left.line) × (row.after.pair.changes ≡ left.pair.changes)
@@ -136,14 +136,14 @@ undo-row row n e w =
           (subst (λ (k : Record). Undone n row.before.pair.changes k row.before.line d.0.line u.0) (sym d.3) u.1),
     )
 
-pub undo-in_run : (text : List ℕ) (old new : State) (commands : List Command) (replies : List Reply)
-    (earlier later : List Row) (row : Row) (n : ℕ) → Begins text old → (run : Run old commands replies new)
-    → run.rows ≡ earlier ++ (row ∷ later) → row.command ≡ Undo n → ¬ (WasRefused row.reply) → WasHeld row.after.line.text (text ∷ held_of earlier)
-undo-in_run text old new commands replies earlier later row n b run e is_undo done =
-    let at = at_row text old new commands replies earlier later row b run e in
+pub undo-in_run : (start : List ℕ) (held : List (List ℕ)) (old new : State) (commands : List Command) (replies : List Reply)
+    (earlier later : List Row) (row : Row) (n : ℕ) → Holds start held old → (run : Run old commands replies new)
+    → run.rows ≡ earlier ++ (row ∷ later) → row.command ≡ Undo n → ¬ (WasRefused row.reply) → WasHeld row.after.line.text (held ++ held_of earlier)
+undo-in_run start held old new commands replies earlier later row n h run e is_undo done =
+    let at = row_at start held old new commands replies earlier later row h run e in
     let d = undo-row row n is_undo done in
     let r = row.before.pair.changes in
-    undo-held n text (text ∷ held_of earlier) row.before.line.text row.after.line.text r at.holds (line_back-unwind (last_of n r.recorded) row.before.line row.after.line d.1.line_is)
+    undo-held n start (held ++ held_of earlier) row.before.line.text row.after.line.text r at.holds (line_back-unwind (last_of n r.recorded) row.before.line row.after.line d.1.line_is)
 
 pub undo-drops : (row : Row) (n : ℕ) → row.command ≡ Undo n → ¬ (WasRefused row.reply)
     → (row.after.pair.changes ≡ undone n row.before.pair.changes)
@@ -176,17 +176,17 @@ redo-rows (row ∷ rows) old new all l =
     subst (λ (s : State). Redos (suc (length rows)) s.pair.changes new.pair.changes s.line new.line) l.0
     (row.after.pair.changes, row.after.line, first.0, first.1, others)
 
-pub redo-in_run : (text : List ℕ) (old new : State) (commands : List Command) (replies : List Reply)
-    (earlier redos : List Row) (row : Row) (n : ℕ) → Begins text old → (run : Run old commands replies new)
+pub redo-in_run : (start : List ℕ) (held : List (List ℕ)) (old new : State) (commands : List Command) (replies : List Reply)
+    (earlier redos : List Row) (row : Row) (n : ℕ) → Holds start held old → (run : Run old commands replies new)
     → run.rows ≡ earlier ++ (row ∷ redos) → row.command ≡ Undo n → ¬ (WasRefused row.reply) → opens (last_units n row.before.pair.changes.recorded) ≡ 0
     → AllRedone redos → length redos ≡ length (last_units n row.before.pair.changes.recorded)
     → (new.line.text ≡ row.before.line.text) × (new.pair.changes.recorded ≡ row.before.pair.changes.recorded)
     × (new.pair.changes.pending ≡ row.before.pair.changes.pending)
-redo-in_run text old new commands replies earlier redos row n b run e is_undo done whole all long =
-    let at = at_row text old new commands replies earlier redos row b run e in
+redo-in_run start held old new commands replies earlier redos row n h run e is_undo done whole all long =
+    let at = row_at start held old new commands replies earlier redos row h run e in
     let d = undo-row row n is_undo done in
     let r = row.before.pair.changes in
     let again = subst (λ k. Redos k row.after.pair.changes new.pair.changes row.after.line new.line) long (redo-rows redos row.after new all at.goes_on) in
-    let text_of = replay-IsUtf8 r.recorded text row.before.line.text at.holds.is_text at.holds.leads in
+    let text_of = replay-IsUtf8 r.recorded start row.before.line.text at.holds.is_text at.holds.leads in
     let back = redos-give-back n r row.after.pair.changes new.pair.changes row.before.line row.after.line new.line d.0 text_of at.holds.matched whole d.1 again in
     (back.2, back.0, back.1)

@@ -1,5 +1,5 @@
 -- A record is placed among the texts that were held, whatever it hears.
-use Rattle.std.proofs.Common.{◌≡◌, ◌≤◌, ℕ, zero, suc, List, [], ◌∷◌, ◌++◌, length, take, drop, map, reverse, Option, Some, None, refl, sym, ap, subst, ◌∙◌, ◌⊎◌, inl, inr, append-nil, append_assoc}
+use Rattle.std.proofs.Common.{◌≡◌, ◌≤◌, ℕ, zero, suc, List, [], ◌∷◌, ◌++◌, length, length-append, take, drop, map, reverse, Option, Some, None, refl, sym, ap, subst, ◌∙◌, ◌⊎◌, inl, inr, append-nil, append_assoc, arith}
 use Rattle.std.proofs.lemmas.List.{take-append-drop, reverse-append, reverse-reverse, map-append}
 use Rattle.std.specs.Option.{option_map_or}
 use Rattle.std.specs.Prelude.{option_and_then, IsSome}
@@ -15,7 +15,11 @@ use Rattle.rl_line.proofs.Records.EndLemmas.{end_one-cases}
 use Rattle.rl_line.proofs.Records.MatchLemmas.{IsMatched-after, BothMatched-begun, BothMatched-closed, BothMatched-undone, BothMatched-redone, BothMatched-truncated, Redoes-of, BothMatched-step}
 use Rattle.rl_line.proofs.Records.RecordLemmas.{none_or_one, then_some, through, replay-append, replay-IsUtf8, replay-unwind, unwind-replay, entries_after-unwind}
 use Rattle.rl_line.proofs.Records.UnitLemmas.{kept-last}
-use Rattle.rl_session.specs.History.{StandsAfter, WasHeld, PlacedBack, Placed, History}
+use Rattle.rl_line.specs.Forgetting.{kept_within}
+use Rattle.rl_line.proofs.Records.ForgettingLemmas.{IsMatched-kept, gone-kept}
+use Rattle.rl_session.specs.Forgetting.{HoldsOn, gone}
+use Rattle.rl_session.specs.History.{StandsAfter, WasHeld, PlacedBack, Placed, History, Holds}
+use Rattle.rl_session.specs.State.{State}
 use Rattle.rl_line.proofs.Records.RoomLemmas.{texts_after-more}
 use Rattle.rl_session.specs.Run.{texts_of_steps}
 use Rattle.rl_line.proofs.Plans.PlanLemmas.{first_step}
@@ -346,3 +350,70 @@ pending-leads start held text r h =
     let both : Some p.0 ≡ Some text = sym p.1 ∙ h.leads in
     let same : p.0 ≡ text = cc in
     subst (λ t. IsSome (replay_entries r.pending t)) same (subst IsSome (sym p.2) refl)
+
+-- ---- once the first entries went
+-- the last text of a list is the last one of each end of it
+last_of_end : (xs bs rs : List (List ℕ)) (x y : List ℕ) → xs ++ x ∷ [] ≡ bs ++ y ∷ rs → (front : List (List ℕ)) × (front ++ x ∷ [] ≡ y ∷ rs)
+last_of_end xs [] rs x y e = (xs, e)
+last_of_end [] (b ∷ bs) rs x y e = absurd (omega (arith, ap length e, length-append bs (y ∷ rs)))
+last_of_end (c ∷ xs) (b ∷ bs) rs x y e = let rest : xs ++ x ∷ [] ≡ bs ++ y ∷ rs = cc in last_of_end xs bs rs x y rest
+
+-- entries, the last first, that are placed after others are placed among the texts from the one on to which those lead
+record GoesOn (start : List ℕ) (first es : List Entry) (held : List (List ℕ)) : Type 0 where
+  before : List (List ℕ)
+  begin : List ℕ
+  stands : StandsAfter before begin held
+  leads : replay_entries (reverse first) start ≡ Some begin
+  placed : PlacedBack begin es (begin ∷ stands.rest)
+
+goes_on : (start : List ℕ) (first es : List Entry) (held : List (List ℕ)) → PlacedBack start (es ++ first) held → GoesOn start first es held
+goes_on start first [] held p =
+    let l = lands start first held p in
+    record { before = l.before; begin = l.text; stands = l.stands; leads = l.leads; placed = ([], record { rest = l.stands.rest; is = refl }) }
+goes_on start first (e ∷ es) held p =
+    let g = goes_on start first es (p.0 ++ p.1 ∷ []) p.4 in
+    let more = p.2.rest in
+    let last = last_of_end p.0 g.before g.stands.rest p.1 g.begin g.stands.is in
+    let on : replay_entries (reverse (e ∷ es)) g.begin ≡ Some p.1 =
+    sym (ap (option_and_then (replay_entries (reverse (e ∷ es)))) g.leads) ∙ sym (replay-append (reverse first) (reverse (e ∷ es)) start)
+    ∙ sym (ap (λ l. replay_entries l start) (reverse-append (e ∷ es) first)) ∙ p.3 in
+    record {
+      before = g.before;
+      begin = g.begin;
+      stands = record {
+        rest = g.stands.rest ++ more;
+        is = p.2.is ∙ sym (append_assoc p.0 (p.1 ∷ []) more) ∙ ap (λ h. h ++ more) g.stands.is ∙ append_assoc g.before (g.begin ∷ g.stands.rest) more;
+      };
+      leads = g.leads;
+      placed = (
+        last.0,
+        p.1,
+        record { rest = more; is = ap (λ h. h ++ more) (sym last.1) ∙ append_assoc last.0 (p.1 ∷ []) more },
+        on,
+        subst (PlacedBack g.begin es) (sym last.1) g.placed,
+      );
+    }
+
+-- the session forgets its first entries
+pub Holds-forgotten : (start : List ℕ) (held : List (List ℕ)) (s : State) → Holds start held s → HoldsOn start held s
+Holds-forgotten start held s h =
+    let r = s.pair.changes in
+    let bound = s.options.bound in
+    let kept = kept_within bound.entries bound.bytes r.recorded in
+    let all : gone s ++ kept ≡ r.recorded = gone-kept bound.entries bound.bytes r.recorded in
+    let turned : reverse (r.recorded ++ r.pending) ≡ reverse (kept ++ r.pending) ++ reverse (gone s) =
+    ap reverse (ap (λ l. l ++ r.pending) (sym all) ∙ append_assoc (gone s) kept r.pending) ∙ reverse-append (gone s) (kept ++ r.pending) in
+    let g = goes_on start (reverse (gone s)) (reverse (kept ++ r.pending)) held (subst (λ l. PlacedBack start l held) turned h.placed) in
+    let made = sym (back_again (gone s) start) ∙ g.leads in
+    record {
+      begin = g.begin;
+      made = made;
+      before = g.before;
+      stands = g.stands;
+      holds = record {
+        is_text = replay-IsUtf8 (gone s) start g.begin h.is_text made;
+        leads = sym (ap (option_and_then (replay_entries kept)) made) ∙ sym (replay-append (gone s) kept start) ∙ ap (λ l. replay_entries l start) all ∙ h.leads;
+        placed = g.placed;
+        matched = record { recorded = IsMatched-kept bound.entries bound.bytes r.recorded h.matched.recorded; pending = h.matched.pending };
+      };
+    }

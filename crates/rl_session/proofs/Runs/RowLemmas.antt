@@ -1,18 +1,25 @@
 -- What each row of a session keeps, and how a run goes on.
-use Rattle.std.proofs.Common.{List, [], ◌∷◌, ◌++◌, ◌≡◌, ◌∙◌, ap, refl, subst, sym, append_assoc}
+use Rattle.std.proofs.Common.{List, [], ◌∷◌, ◌++◌, ◌≡◌, ◌∙◌, ap, true, false, inl, inr, refl, subst, sym, append_assoc}
 use Rattle.std.proofs.lemmas.List.{map-append}
 use Rattle.std.specs.Prelude.{ℕ, IsSome, min}
 use Rattle.std.specs.Str.{IsUtf8}
 use Rattle.rl_line.specs.Plan.{Step as PlanStep}
-use Rattle.rl_line.specs.Record.{unwind}
+use Rattle.rl_line.specs.Forgetting.{forgotten, unbounded}
+use Rattle.rl_line.specs.Record.{Entry, unwind}
 use Rattle.rl_line.specs.Units.{level}
+use Rattle.rl_line.proofs.Records.ForgettingLemmas.{fitting-stay}
 use Rattle.rl_line.proofs.Records.MarkLemmas.{Kept-begun, Kept-closed, Kept-Redone, Kept-truncated}
 use Rattle.rl_line.proofs.Records.OriginLemmas.{Kept, Kept-Taken, Kept-Undone}
 use Rattle.rl_line.proofs.Records.RecordLemmas.{unwind-replay, replay-unwind, replay-IsUtf8, value_of}
 use Rattle.rl_session.specs.declared.session.Command.{Command}
 use Rattle.rl_session.specs.declared.session.Reply.{Reply}
 use Rattle.rl_session.specs.State.{State, Replays, origin}
-use Rattle.rl_session.specs.Commands.{Effect, by_steps, puts_begin, puts_ends, puts_end, shortens, takes_back, puts_again, Became, effect, Step, readied, keeps}
+use Rattle.rl_base.specs.Event.{Start}
+use Rattle.rl_session.specs.Commands.{Course, never, when, stays, goes, edits, stops, respells, lends, pops, tells, Came, lent, popped, Effect, by_steps, puts_begin, puts_ends, puts_end, shortens, takes_back, puts_again, Became, effect, Step, readied, keeps}
+use Rattle.rl_session.specs.Forgetting.{within_bound}
+use Rattle.rl_session.specs.Options.{no_bound}
+use Rattle.rl_session.specs.Pair.{pair_step}
+use Rattle.rl_session.specs.declared.options.Bound.{Bound}
 use Rattle.rl_session.specs.Run.{Row, held, held_of, Leads, Run, AfterEach, commands_of, replies_of, steps_in}
 use Rattle.rl_session.proofs.Sessions.CourseLemmas.{Heard, Heard-Came}
 
@@ -54,6 +61,42 @@ step_replays start old command reply new s h =
     let came = unwind-replay old.pair.changes.recorded start old.line.text h.is_text h.leads in
     let kept = Kept-Step old command reply new s u in
     record { is_text = h.is_text; leads = replay-unwind new.pair.changes.recorded new.line.text start kept.utf8 (kept.origin_is start came) }
+
+-- ---- the options
+Came-options : (course : Course) (old new : State) → Came course old new → new.options ≡ old.options
+Came-options never old new d = absurd d
+Came-options (when condition course) old new d = Came-options course old new d.1
+Came-options stays old new d = ap (λ (s : State). s.options) d
+Came-options (goes place a) old new d = ap (λ (s : State). s.options) d.1
+Came-options (edits plan a) old new d = d.options
+Came-options (stops unbegun takes plan) old new (inl e) = ap (λ (s : State). s.options) e.1
+Came-options (stops unbegun takes plan) old new (inr c) = c.options
+Came-options (respells action course) old new d = Came-options (course d.made) old new d.holds
+Came-options (lends course) old new d = Came-options course (lent old) new d
+Came-options (pops course) old new d = Came-options course (popped old) new d
+Came-options (tells true course) old new d = Came-options course old new d
+Came-options (tells false course) old new d = Came-options course (record old { pair = pair_step old.pair Start }) (record new { pair = d.last }) d.inside
+
+Became-options : (effect : Effect) (old new : State) → Became effect old new → new.options ≡ old.options
+Became-options (by_steps course) old new d = Came-options course old new d
+Became-options (puts_begin n) old new d = ap (λ (s : State). s.options) d.1
+Became-options (puts_ends a) old new d = ap (λ (s : State). s.options) d.1
+Became-options (puts_end a) old new d = ap (λ (s : State). s.options) d.1
+Became-options (shortens len) old new d = ap (λ (s : State). s.options) d.1
+Became-options (keeps text) old new d = ap (λ (s : State). s.options) d
+Became-options (takes_back n a) old new d = ap (λ (s : State). s.options) d.1
+Became-options (puts_again a) old new d = ap (λ (s : State). s.options) d.1
+
+-- no command changes them, and with no bound among them nothing is forgotten
+pub Step-options : (old new : State) (command : Command) (reply : Reply) → Step old command reply new → new.options ≡ old.options
+Step-options old new command reply s =
+    ap (λ (t : State). t.options) s.settles ∙ Became-options (effect (readied command old) command reply) (readied command old) s.left s.does
+
+pub within_bound-none : (s : State) → s.options.bound ≡ no_bound → within_bound s ≡ s
+within_bound-none s none =
+    let r = s.pair.changes in
+    ap (λ (b : Bound). record s { pair = record s.pair { changes = forgotten b.entries b.bytes r } }) none
+    ∙ ap (λ (es : List Entry). record s { pair = record s.pair { changes = record r { recorded = es } } }) (fitting-stay unbounded unbounded r.recorded refl)
 
 Leads-more : (rows : List Row) (row : Row) (old mid : State) → Leads old rows mid → row.before ≡ mid → Leads old (rows ++ row ∷ []) row.after
 Leads-more [] row old mid l e = (e ∙ l, refl)

@@ -1,7 +1,12 @@
 //! The bound of a session's record, beyond which the session forgets the oldest changes.
 ghost use Rattle.std.specs.Prelude.{◌≡◌, List, ℕ};
 ghost use Rattle.rl_session.specs.State.{ChangedFrom, Follows, Replays, ReportedFrom, Stands, State};
-ghost use Rattle.rl_session.specs.Forgetting.{ReplaysOn, bounded_by, within_bound};
+ghost use Rattle.rl_session.specs.Commands.{Step};
+ghost use Rattle.rl_session.specs.Forgetting.{HoldsOn, ReplaysOn, bounded_by, within_bound};
+ghost use Rattle.rl_session.specs.History.{Holds};
+ghost use Rattle.rl_session.specs.Options.{no_bound};
+ghost use Rattle.rl_session.specs.declared.session.Command.{Command};
+ghost use Rattle.rl_session.specs.declared.session.Reply.{Reply};
 
 use crate::options::Bound;
 use crate::session::Session;
@@ -21,8 +26,9 @@ impl Session {
     /// of text in them, old and new. It stops at the begin of an open group. An undo goes back to the text with which the
     /// rest begins, and what was undone can be redone as before; text, cursor, ring and reports stay. It takes no memory.
     ///
-    /// `apply`, `run` and scripts never forget by themselves. So what is said of runs holds between two calls of `forget`,
-    /// from the text with which the record begins then (`what_is_left_replays`).
+    /// `apply`, `run` and scripts never forget by themselves. What is said of runs goes on after it, from the text with
+    /// which the record then begins (`what_is_left_replays`). Only an undo may find nothing, or less than it is to take:
+    /// where nothing is left, it answers false.
     #[inline(always)]
     pub fn forget(&mut self)
         ensures forgets { self.new ≡ within_bound self.old }
@@ -36,10 +42,19 @@ impl Session {
 }
 
 /// What a session's record forgets leads from the text with which it began to another, and what is left leads from that to
-/// the present text. Where nothing is forgotten, that is the text with which it began. What tells of changes has nothing to
-/// tell of it.
+/// the present text. Where the record was placed among the texts that were held, that is one of them, and what is left is
+/// placed among those from there on: so the laws of its history (`history`) go on from that text, and each undo still leaves
+/// a text that was held. Where nothing is forgotten, that is the text with which it began. What tells of changes has nothing
+/// to tell of it.
 pub fn what_is_left_replays()
     ensures replays { (start : List ℕ) (s : State) → Replays start s → ReplaysOn start s }
+    ensures held { (start : List ℕ) (held : List (List ℕ)) (s : State) → Holds start held s → HoldsOn start held s }
     ensures changed { (asked : List ℕ) (s : State) → ChangedFrom asked s → ChangedFrom asked (within_bound s) }
     ensures reported { (read : List ℕ) (s : State) → ReportedFrom read s → ReportedFrom read (within_bound s) }
+{}
+
+/// A session without a bound forgets nothing, and no command gives it one.
+pub fn nothing_goes_without_a_bound()
+    ensures forgets { (s : State) → s.options.bound ≡ no_bound → within_bound s ≡ s }
+    ensures keeps { (old new : State) (command : Command) (reply : Reply) → Step old command reply new → new.options ≡ old.options }
 {}

@@ -3,7 +3,7 @@ use Rattle.rl_line.proofs.Records.ForgettingLemmas.{Counted-next, FitsFrom-any, 
 use Rattle.rl_line.proofs.forgetting.first_that_fits.Goals as goal
 
 pub returns-then-bytes-eq18446744073709551615 : goal.returns-then-bytes-eq18446744073709551615
-returns-then-bytes-eq18446744073709551615 c = FitsFrom-any c.args.most c.args.bytes c.saturating_sub-first.result c.args.entries.now (omega (arith, c.saturating_sub-first.ensures)) c.if-bytes-eq18446744073709551615.true
+returns-then-bytes-eq18446744073709551615 c = FitsFrom-any c.args.most c.args.bytes c.saturating_sub-first.result c.args.entries.now (omega arith) (omega (arith, c.saturating_sub-first.ensures)) c.if-bytes-eq18446744073709551615.true
 
 pub returns-then-size-left : goal.returns-then-size-left
 returns-then-size-left c =
@@ -17,4 +17,4 @@ loop-start-preserved c =
 
 pub returns : goal.returns
 returns c =
-    FitsFrom-counted c.args.most c.args.bytes c.saturating_sub-first.result c.loop-start.start c.loop-start.left c.args.entries.now (omega (arith, c.loop-start-test.false)) c.loop-start.invariant
+    FitsFrom-counted c.args.most c.args.bytes c.saturating_sub-first.result c.loop-start.start c.loop-start.left c.args.entries.now (omega arith) (omega (arith, c.loop-start-test.false)) c.loop-start.invariant

@@ -1,4 +1,4 @@
-use Rattle.rl_line.proofs.Records.ForgettingLemmas.{fitting-stay, gone-kept, gone-level, gone-matched, left-fits, left-replays}
+use Rattle.rl_line.proofs.Records.ForgettingLemmas.{fitting-stay, gone-kept, gone-level, gone-matched, group-stays, left-fits, left-replays}
 use Rattle.rl_line.proofs.undo.what_is_left_replays.Goals as goal
 
 pub returns-clause-parts : goal.returns-clause-parts
@@ -15,3 +15,6 @@ returns-clause-bound c = left-fits
 
 pub returns-clause-stays : goal.returns-clause-stays
 returns-clause-stays c = fitting-stay
+
+pub returns-clause-group : goal.returns-clause-group
+returns-clause-group c = group-stays
