@@ -70,8 +70,8 @@ IsEdit line YankPop = Unit {0}
 IsEdit line (EditWord _) = FindsAsciiWord line
 IsEdit line command = IsAsked (asked line command)
 
--- what may happen inside a group, before whose begin `below` groups were open, and after which `now` are: an end, an undo, a
--- redo or a truncation only where it was refused, or the end of one group that leaves the group itself open
+-- what may happen inside a group: an end, an undo, a redo or a truncation only where it was refused, or the end of one group
+-- where the group itself stays open. Before its begin `below` groups were open, and `now` are after the row.
 abbrev pub MayStandInGroup : (below now : ℕ) → Command → Reply → Type 0
 MayStandInGroup below now End reply = WasRefused reply
 MayStandInGroup below now EndOne reply = WasRefused reply ⊎ (below < now)
@@ -86,8 +86,8 @@ AllStandInGroup below [] = Unit {0}
 AllStandInGroup below (row ∷ rows) =
     MayStandInGroup below (level row.after.pair.changes.recorded) row.command row.reply × AllStandInGroup below rows
 
--- what closes it, where `now` groups are open: the end of all, where none was open before, or the end of one, where the groups
--- begun inside are closed
+-- what closes such a group, where `now` groups are open: the end of all where none was open before its begin, or the end of one
+-- where all that were begun inside are closed
 abbrev pub ClosesGroup : (below now : ℕ) → Command → Type 0
 ClosesGroup below now End = below ≡ 0
 ClosesGroup below now EndOne = now ≡ suc below

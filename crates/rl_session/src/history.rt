@@ -48,10 +48,10 @@ pub fn undo_leaves_a_held_text()
         × (row.before.pair.changes.recorded ≡ row.after.pair.changes.recorded ++ last_of n row.before.pair.changes.recorded) }
 {}
 
-/// One undo right after the end of a group gives back the text at its begin, whatever groups it stands in, and whatever groups
-/// were begun inside and ended one by one, which may hold groups themselves. It ends by `EndOne`, where all that were begun
-/// inside are ended, or by `End`, where no group was open before it. Conditions: none of begin, end and undo was refused, a
-/// change was recorded in it, and each undo, redo or truncation inside was refused.
+/// One undo right after the end of a group gives back the text at its begin. Groups may be begun inside and ended there by
+/// `EndOne`, and hold groups themselves. The group ends by `EndOne` where all begun inside are ended, whatever groups it stands
+/// in, or by `End` where no group was open before it. Conditions: none of begin, end and undo was refused, a change was
+/// recorded in the group, and each undo, redo, truncation or `End` inside was refused.
 pub fn group_is_undone_at_once()
     ensures { (start : List ℕ) (held : List (List ℕ)) (old new : State) (commands : List Command) (replies : List Reply)
         (earlier inside later : List Row) (b e u : Row)
