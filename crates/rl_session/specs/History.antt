@@ -1,12 +1,12 @@
 -- The history of a session: where its record stands among the texts that it held, and the rows of which its laws speak.
-use Rattle.std.specs.Prelude.{◌≡◌, ℕ, List, [], ◌∷◌, ◌++◌, reverse, Some, IsAscii}
+use Rattle.std.specs.Prelude.{◌≡◌, ◌⊎◌, ◌<◌, ℕ, suc, List, [], ◌∷◌, ◌++◌, reverse, Some, IsAscii}
 use Rattle.std.specs.declared.ops.Range.{Range}
 use Rattle.std.specs.Str.{IsUtf8}
 use Rattle.rl_line.specs.LetterCase.{word_ahead}
 use Rattle.rl_line.specs.Line.{Line}
 use Rattle.rl_line.specs.Ranges.{text_in}
 use Rattle.rl_line.specs.Record.{Entry, Record, replay_entries}
-use Rattle.rl_line.specs.Units.{BothMatched}
+use Rattle.rl_line.specs.Units.{BothMatched, level}
 use Rattle.rl_session.specs.declared.session.Command.{Command}
 use Rattle.rl_session.specs.declared.session.Command.TheVariants.{EditWord, End, EndOne, Kill, Redo, Truncate, Undo, Yank, YankPop, KillRange}
 use Rattle.rl_session.specs.declared.session.Reply.{Reply}
@@ -70,19 +70,28 @@ IsEdit line YankPop = Unit {0}
 IsEdit line (EditWord _) = FindsAsciiWord line
 IsEdit line command = IsAsked (asked line command)
 
--- what may happen inside a group: an end, an undo, a redo or a truncation may only where it was refused
-abbrev pub MayStandInGroup : Command → Reply → Type 0
-MayStandInGroup End reply = WasRefused reply
-MayStandInGroup EndOne reply = WasRefused reply
-MayStandInGroup (Undo _) reply = WasRefused reply
-MayStandInGroup Redo reply = WasRefused reply
-MayStandInGroup (Truncate _) reply = WasRefused reply
-MayStandInGroup _ _ = Unit {0}
+-- what may happen inside a group: an end, an undo, a redo or a truncation only where it was refused, or the end of one group
+-- where the group itself stays open. Before its begin `below` groups were open, and `now` are after the row.
+abbrev pub MayStandInGroup : (below now : ℕ) → Command → Reply → Type 0
+MayStandInGroup below now End reply = WasRefused reply
+MayStandInGroup below now EndOne reply = WasRefused reply ⊎ (below < now)
+MayStandInGroup below now (Undo _) reply = WasRefused reply
+MayStandInGroup below now Redo reply = WasRefused reply
+MayStandInGroup below now (Truncate _) reply = WasRefused reply
+MayStandInGroup below now _ _ = Unit {0}
 
--- all rows may stand in a group
-abbrev pub AllStandInGroup : List Row → Type 0
-AllStandInGroup [] = Unit {0}
-AllStandInGroup (row ∷ rows) = MayStandInGroup row.command row.reply × AllStandInGroup rows
+-- all rows may stand in such a group
+abbrev pub AllStandInGroup : ℕ → List Row → Type 0
+AllStandInGroup below [] = Unit {0}
+AllStandInGroup below (row ∷ rows) =
+    MayStandInGroup below (level row.after.pair.changes.recorded) row.command row.reply × AllStandInGroup below rows
+
+-- what closes such a group, where `now` groups are open: the end of all where none was open before its begin, or the end of one
+-- where all that were begun inside are closed
+abbrev pub ClosesGroup : (below now : ℕ) → Command → Type 0
+ClosesGroup below now End = below ≡ 0
+ClosesGroup below now EndOne = now ≡ suc below
+ClosesGroup below now _ = ⊥
 
 -- all rows are of redos, and none was refused
 abbrev pub AllRedone : List Row → Type 0

@@ -5,11 +5,11 @@
 ghost use Rattle.std.specs.Prelude.{◌≡◌, ◌++◌, ◌∷◌, [], ℕ, List, IsSome, drop, length, suc, true};
 ghost use Rattle.rl_line.specs.Record.{Entry, replay_entries};
 ghost use Rattle.rl_line.specs.Units.{BothMatched, has_change, last_of, last_units, level, opens, undone};
-ghost use Rattle.rl_session.specs.History.{AllRedone, AllStandInGroup, Holds, IsEdit, WasHeld, WasRefused};
+ghost use Rattle.rl_session.specs.History.{AllRedone, AllStandInGroup, ClosesGroup, Holds, IsEdit, WasHeld, WasRefused};
 ghost use Rattle.rl_session.specs.Run.{Row, Run, held_of};
 ghost use Rattle.rl_session.specs.State.{Begins, Stands, State};
 ghost use Rattle.rl_session.specs.declared.session.Command.{Command};
-ghost use Rattle.rl_session.specs.declared.session.Command.TheVariants.{Begin, End, EndOne, Redo, Undo};
+ghost use Rattle.rl_session.specs.declared.session.Command.TheVariants.{Begin, Redo, Undo};
 ghost use Rattle.rl_session.specs.declared.session.Reply.{Reply};
 
 /// A history (`Holds`): the recorded entries, followed by the undone ones, are placed among the texts that were held,
@@ -45,31 +45,18 @@ pub fn undo_leaves_a_held_text()
         × (row.before.pair.changes.recorded ≡ row.after.pair.changes.recorded ++ last_of n row.before.pair.changes.recorded) }
 {}
 
-/// One undo right after the end of a group gives back the text at its begin. Conditions: none of the three was refused,
-/// no other group was open, a change was recorded in it, and each undo, redo or truncation inside was refused.
+/// One undo right after the end of a group gives back the text at its begin. Groups may be begun inside and ended there by
+/// `EndOne`, and hold groups themselves. The group ends by `EndOne` where all begun inside are ended, whatever groups it stands
+/// in, or by `End` where no group was open before it. Conditions: none of begin, end and undo was refused, a change was
+/// recorded in the group, and each undo, redo, truncation or `End` inside was refused.
 pub fn group_is_undone_at_once()
-    ensures { (text : List ℕ) (old new : State) (commands : List Command) (replies : List Reply)
+    ensures { (start : List ℕ) (held : List (List ℕ)) (old new : State) (commands : List Command) (replies : List Reply)
         (earlier inside later : List Row) (b e u : Row)
-        → Begins text old → (run : Run old commands replies new)
-        → run.rows ≡ earlier ++ (b ∷ (inside ++ (e ∷ (u ∷ later))))
-        → b.command ≡ Begin → ¬ (WasRefused b.reply) → level b.before.pair.changes.recorded ≡ 0
-        → AllStandInGroup inside → e.command ≡ End → ¬ (WasRefused e.reply)
-        → has_change (drop (suc (length b.before.pair.changes.recorded)) e.before.pair.changes.recorded) ≡ true
-        → u.command ≡ Undo 1 → ¬ (WasRefused u.reply)
-        → u.after.line.text ≡ b.before.line.text }
-{}
-
-/// The same of the end of one group, whatever groups it stands in. Conditions: none of the three was refused, it was the
-/// only group that was opened since and is open, a change was recorded in it, and each end, undo, redo or truncation inside
-/// was refused.
-pub fn group_closed_alone_is_undone_at_once()
-    ensures { (text : List ℕ) (old new : State) (commands : List Command) (replies : List Reply)
-        (earlier inside later : List Row) (b e u : Row)
-        → Begins text old → (run : Run old commands replies new)
+        → Holds start held old → (run : Run old commands replies new)
         → run.rows ≡ earlier ++ (b ∷ (inside ++ (e ∷ (u ∷ later))))
         → b.command ≡ Begin → ¬ (WasRefused b.reply)
-        → AllStandInGroup inside → e.command ≡ EndOne → ¬ (WasRefused e.reply)
-        → level e.before.pair.changes.recorded ≡ suc (level b.before.pair.changes.recorded)
+        → AllStandInGroup (level b.before.pair.changes.recorded) inside
+        → ClosesGroup (level b.before.pair.changes.recorded) (level e.before.pair.changes.recorded) e.command → ¬ (WasRefused e.reply)
         → has_change (drop (suc (length b.before.pair.changes.recorded)) e.before.pair.changes.recorded) ≡ true
         → u.command ≡ Undo 1 → ¬ (WasRefused u.reply)
         → u.after.line.text ≡ b.before.line.text }

@@ -1,17 +1,17 @@
 -- A group that was closed is one unit, whatever happened inside, so that one undo takes it off.
-use Rattle.std.proofs.Common.{◌≡◌, ℕ, inl, inr, zero, suc, Bool, true, false, List, [], ◌∷◌, ◌++◌, length, drop, Some, refl, sym, ap, subst, ◌∙◌, arith}
+use Rattle.std.proofs.Common.{◌≡◌, ◌<◌, ◌+◌, ℕ, inl, inr, zero, suc, Bool, true, false, List, [], ◌∷◌, ◌++◌, length, drop, Some, refl, sym, ap, subst, ◌∙◌, arith}
 use Rattle.std.specs.Prelude.{min, ◌||◌}
 use Rattle.rl_line.specs.Plan.{Step, listener_after, listener_after_step}
 use Rattle.rl_line.specs.Record.{Begin, End, Entry, Record, record_step, replay_entries}
-use Rattle.rl_line.specs.Units.{IsMatched, begun, end_one, end_times, ended, ended_one, has_change, kept_of, last_of, level}
-use Rattle.rl_line.proofs.Records.GroupLemmas.{has_change-append, Inside, Inside-event, Inside-begun, past_begin}
-use Rattle.rl_line.proofs.Records.EndLemmas.{closed_group, end_one-cases, end_one-past, level-group}
+use Rattle.rl_line.specs.Units.{IsMatched, begun, end_one, end_times, ended, ended_one, has_change, kept_of, last_of, level, opens, with_closed}
+use Rattle.rl_line.proofs.Records.GroupLemmas.{end_one-begin, has_change-append, Inside, InsideOf, Inside-event, Inside-begun, past_begin}
+use Rattle.rl_line.proofs.Records.EndLemmas.{closed_alone, closed_group, end_one-cases, end_one-past, level-group}
 use Rattle.rl_line.proofs.Records.MatchLemmas.{Lower-end_one, Lower-end_times, end_one-cons}
 use Rattle.rl_line.proofs.Records.UndoLemmas.{line_back-unwind}
-use Rattle.rl_session.specs.Commands.{Effect, by_steps, puts_begin, Became, effect, Does, readied, with_changes, keeps}
-use Rattle.rl_session.specs.History.{AllStandInGroup, Holds, MayStandInGroup, WasRefused}
+use Rattle.rl_session.specs.Commands.{Effect, by_steps, puts_begin, puts_end, Became, effect, Does, readied, with_changes, keeps}
+use Rattle.rl_session.specs.History.{AllStandInGroup, ClosesGroup, Holds, MayStandInGroup, WasRefused}
 use Rattle.rl_session.specs.Run.{Leads, Row, Run, held, held_of, steps_in}
-use Rattle.rl_session.specs.State.{Begins, State, with_ring}
+use Rattle.rl_session.specs.State.{State, with_ring}
 use Rattle.rl_base.specs.KillRing.{killed, reset}
 use Rattle.rl_base.specs.declared.kill_ring.Mode.TheVariants.{Append}
 use Rattle.rl_session.specs.declared.session.Command.{Command}
@@ -20,7 +20,7 @@ use Rattle.rl_session.specs.declared.session.Reply.{Reply}
 use Rattle.rl_session.specs.declared.session.Reply.TheVariants as says
 use Rattle.rl_session.proofs.Runs.RowLemmas.{Leads-split}
 use Rattle.rl_session.proofs.Sessions.CourseLemmas.{Heard-Came}
-use Rattle.rl_session.proofs.Runs.HistoryLemmas.{Holds-Leads, Holds-row, at_row, does_as, undo-row}
+use Rattle.rl_session.proofs.Runs.HistoryLemmas.{Holds-Leads, Holds-row, does_as, undo-row}
 use Rattle.rl_session.proofs.Runs.PlaceLemmas.{kept-leads}
 use Rattle.rl_base.specs.Event.{Cursors}
 
@@ -50,14 +50,11 @@ has_change-end_times : (n : ℕ) (es : List Entry) → has_change (end_times n e
 has_change-end_times zero es = refl
 has_change-end_times (suc n) es = has_change-end_times n (end_one es) ∙ has_change-end_one es
 
--- after the end of a group, an undo of one unit keeps what was recorded before its begin
-ended_group : (xs inner : List Entry) → IsMatched inner → level xs ≡ 0 → has_change inner ≡ true
-    → kept_of 1 (end_times (level (xs ++ (Begin ∷ inner))) (xs ++ (Begin ∷ inner))) ≡ xs
-ended_group xs inner h none c =
-    let n : level (xs ++ (Begin ∷ inner)) ≡ suc (level inner) = level-group xs inner h ∙ (omega arith) in
+-- once a group and those that are open in it are closed, an undo of one unit keeps what was recorded before its begin
+ended_group : (xs inner : List Entry) → IsMatched inner → has_change inner ≡ true → kept_of 1 (end_times (suc (level inner)) (xs ++ (Begin ∷ inner))) ≡ xs
+ended_group xs inner h c =
     let low = Lower-end_times (level inner) 0 inner h (omega arith) in
-    ap (λ k. kept_of 1 (end_times k (xs ++ (Begin ∷ inner)))) n
-    ∙ ap (kept_of 1) (ends_inside (level inner) xs inner h refl)
+    ap (kept_of 1) (ends_inside (level inner) xs inner h refl)
     ∙ closed_group xs (end_times (level inner) inner) low.matched low.level_is (has_change-end_times (level inner) inner ∙ c)
 
 -- ---- what stands in the record after the Begin of an open group
@@ -69,37 +66,62 @@ Inside-steps cursor (s ∷ ss) front r k =
 Inside-same : (front : List Entry) (old new : State) → Inside front old.pair.changes → new ≡ old → Inside front new.pair.changes
 Inside-same front old new k e = subst (λ (s : State). Inside front s.pair.changes) (sym e) k
 
--- what leaves a group open
-abbrev StaysOpen : Effect → Type 0
-StaysOpen (by_steps _) = Unit {0}
-StaysOpen (puts_begin _) = Unit {0}
-StaysOpen (keeps _) = Unit {0}
-StaysOpen _ = ⊥
+-- what leaves a group open, after which so many groups are open
+abbrev StaysOpen : (below now : ℕ) → Effect → Type 0
+StaysOpen below now (by_steps _) = Unit {0}
+StaysOpen below now (puts_begin _) = Unit {0}
+StaysOpen below now (puts_end _) = below < now
+StaysOpen below now (keeps _) = Unit {0}
+StaysOpen below now _ = ⊥
 
-stays_open : (old : State) (command : Command) (reply : Reply) → MayStandInGroup command reply → StaysOpen (effect old command reply)
-stays_open old asks.End (says.Answer a) i = absurd i
-stays_open old asks.EndOne (says.Answer a) i = absurd i
-stays_open old (asks.Undo n) (says.Answer a) i = absurd i
-stays_open old asks.Redo (says.Answer a) i = absurd i
-stays_open old (asks.Truncate len) says.Done i = absurd i
-stays_open old asks.Begin (says.Mark n) i = tt
-stays_open old (asks.Keep t) says.Done i = tt
-stays_open old _ _ i = tt
+stays_open : (below now : ℕ) (old : State) (command : Command) (reply : Reply) → MayStandInGroup below now command reply → StaysOpen below now (effect old command reply)
+stays_open below now old asks.End (says.Answer a) i = absurd i
+stays_open below now old asks.EndOne (says.Answer a) i = elim i [ inl refused ↦ absurd refused | inr above ↦ above ]
+stays_open below now old (asks.Undo n) (says.Answer a) i = absurd i
+stays_open below now old asks.Redo (says.Answer a) i = absurd i
+stays_open below now old (asks.Truncate len) says.Done i = absurd i
+stays_open below now old asks.Begin (says.Mark n) i = tt
+stays_open below now old (asks.Keep t) says.Done i = tt
+stays_open below now old _ _ i = tt
 
-Inside-Became : (front : List Entry) (effect : Effect) (old new : State) → StaysOpen effect → Became effect old new → Inside front old.pair.changes → Inside front new.pair.changes
+-- the end of one group that leaves the group open closes one that was begun inside
+Inside-end_one : (front inner : List Entry) → IsMatched inner → level front < level (end_one (front ++ (Begin ∷ inner))) → InsideOf front (end_one (front ++ (Begin ∷ inner)))
+Inside-end_one front [] m up = absurd (omega (arith, up, ap level (end_one-begin front)))
+Inside-end_one front (e ∷ es) m up = by_level (level (e ∷ es)) refl
+  where
+    by_level : (n : ℕ) → level (e ∷ es) ≡ n → InsideOf front (end_one (front ++ (Begin ∷ (e ∷ es))))
+    by_level zero l = let g = closed_alone front e es m l in absurd (omega (arith, up, ap level g.is, ap opens g.cut))
+    by_level (suc n) l = record {
+      inner = end_one (e ∷ es);
+      is = end_one-past front Begin (e ∷ es) ∙ ap (λ x. front ++ x) (end_one-cons Begin e es);
+      matched = (Lower-end_one (e ∷ es) n m l).matched;
+    }
+
+Inside-ended_one : (front : List Entry) (r : Record) → Inside front r → level front < level (ended_one r).recorded → Inside front (ended_one r)
+Inside-ended_one front r k up =
+    let one : min 1 (level r.recorded) ≡ 1 = omega (arith, ap level k.is, level-group front k.inner k.matched) in
+    let is : (ended_one r).recorded ≡ end_one (front ++ (Begin ∷ k.inner)) = ap (λ n. end_times n r.recorded) one ∙ ap end_one k.is in
+    subst (InsideOf front) (sym is) (Inside-end_one front k.inner k.matched (subst (λ es. level front < level es) is up))
+
+Inside-Became : (front : List Entry) (effect : Effect) (old new : State) → StaysOpen (level front) (level new.pair.changes.recorded) effect → Became effect old new → Inside front old.pair.changes → Inside front new.pair.changes
 Inside-Became front (by_steps course) old new i d k =
     subst (λ (r : Record). Inside front r) (sym (Heard-Came course old new d).taken.listener) (Inside-steps old.line.cursor (steps_in course old new d) front old.pair.changes k)
 Inside-Became front (puts_begin n) old new i d k = Inside-same front (with_changes (begun old.pair.changes) old) new (Inside-begun front old.pair.changes k) d.1
+Inside-Became front (puts_end a) old new i d k =
+    let up = subst (λ (s : State). level front < level s.pair.changes.recorded) d.1 i in
+    Inside-same front (with_changes (ended_one old.pair.changes) old) new (Inside-ended_one front old.pair.changes k up) d.1
 Inside-Became front (keeps text) old new i d k = Inside-same front (with_ring (reset (killed text Append old.pair.ring)) old) new k d
 Inside-Became front _ old new i d k = absurd i
 
-Inside-row : (front : List Entry) (row : Row) → MayStandInGroup row.command row.reply → Inside front row.before.pair.changes → Inside front row.after.pair.changes
+Inside-row : (front : List Entry) (row : Row) → MayStandInGroup (level front) (level row.after.pair.changes.recorded) row.command row.reply → Inside front row.before.pair.changes → Inside front row.after.pair.changes
 Inside-row front row i k =
     let before = readied row.command row.before in
+    let left = row.step.left in
+    let may = subst (λ (s : State). MayStandInGroup (level front) (level s.pair.changes.recorded) row.command row.reply) row.step.settles i in
     subst (λ (s : State). Inside front s.pair.changes) (sym row.step.settles)
-    (Inside-Became front (effect before row.command row.reply) before row.step.left (stays_open before row.command row.reply i) row.step.does k)
+    (Inside-Became front (effect before row.command row.reply) before left (stays_open (level front) (level left.pair.changes.recorded) before row.command row.reply may) row.step.does k)
 
-Inside-Leads : (front : List Entry) (rows : List Row) (old new : State) → AllStandInGroup rows → Leads old rows new → Inside front old.pair.changes → Inside front new.pair.changes
+Inside-Leads : (front : List Entry) (rows : List Row) (old new : State) → AllStandInGroup (level front) rows → Leads old rows new → Inside front old.pair.changes → Inside front new.pair.changes
 Inside-Leads front [] old new all l k = Inside-same front old new k l
 Inside-Leads front (row ∷ rows) old new all l k =
     Inside-Leads front rows row.after new all.1 l.1 (Inside-row front row all.0 (subst (λ (s : State). Inside front s.pair.changes) (sym l.0) k))
@@ -129,24 +151,23 @@ EndOne-done old left _ d w = absurd d
 end_one-row : (row : Row) → row.command ≡ asks.EndOne → ¬ (WasRefused row.reply) → row.after.pair.changes ≡ ended_one row.before.pair.changes
 end_one-row row e w = let d = does_as row asks.EndOne e in d.3 ∙ EndOne-done (readied asks.EndOne row.before) d.0 row.reply d.1 w
 
--- what an undo keeps, right after the end of a group
-kept-before : (front : List Entry) (r : Record) → Inside front r → level front ≡ 0 → has_change (drop (suc (length front)) r.recorded) ≡ true
-    → kept_of 1 (ended r).recorded ≡ front
-kept-before front r i none change =
-    let inner_is : drop (suc (length front)) r.recorded ≡ i.inner = ap (drop (suc (length front))) i.is ∙ past_begin front i.inner in
-    ap (λ x. kept_of 1 (end_times (level x) x)) i.is ∙ ended_group front i.inner i.matched none (ap has_change (sym inner_is) ∙ change)
+-- the end of a group closes the groups that were not open before its begin
+closing-row : (row : Row) (command : Command) (below : ℕ) → row.command ≡ command → ClosesGroup below (level row.before.pair.changes.recorded) command → ¬ (WasRefused row.reply)
+    → (n : ℕ) × (level row.before.pair.changes.recorded ≡ n + below) × (row.after.pair.changes ≡ with_closed n row.before.pair.changes)
+closing-row row asks.End below e c w = (level row.before.pair.changes.recorded, omega (arith, c), end-row row e w)
+closing-row row asks.EndOne below e c w = (min 1 (level row.before.pair.changes.recorded), omega (arith, c), end_one-row row e w)
+closing-row row _ below e c w = absurd c
 
--- the same right after the end of one group alone, where no group is open that was begun in it
-kept-alone : (front : List Entry) (r : Record) → Inside front r → level r.recorded ≡ suc (level front) → has_change (drop (suc (length front)) r.recorded) ≡ true
-    → kept_of 1 (ended_one r).recorded ≡ front
-kept-alone front r i last change =
+-- what an undo keeps right after that
+kept-closed : (front : List Entry) (r : Record) (n : ℕ) → Inside front r → level r.recorded ≡ n + level front → has_change (drop (suc (length front)) r.recorded) ≡ true
+    → kept_of 1 (with_closed n r).recorded ≡ front
+kept-closed front r n i all change =
     let inner_is : drop (suc (length front)) r.recorded ≡ i.inner = ap (drop (suc (length front))) i.is ∙ past_begin front i.inner in
-    let one : min 1 (level r.recorded) ≡ 1 = omega (arith, last) in
-    let closed : level i.inner ≡ 0 = omega (arith, last, ap level i.is, level-group front i.inner i.matched) in
-    ap (λ n. kept_of 1 (end_times n r.recorded)) one ∙ ap (λ x. kept_of 1 (end_one x)) i.is ∙ closed_group front i.inner i.matched closed (ap has_change (sym inner_is) ∙ change)
+    let n_is : n ≡ suc (level i.inner) = omega (arith, all, ap level i.is, level-group front i.inner i.matched) in
+    ap (λ k. kept_of 1 (end_times k r.recorded)) n_is ∙ ap (λ x. kept_of 1 (end_times (suc (level i.inner)) x)) i.is ∙ ended_group front i.inner i.matched (ap has_change (sym inner_is) ∙ change)
 
 -- what stands in the record after the begin of a group, once rows stood in it
-group-inside : (inside : List Row) (b e : Row) (mid : State) → b.command ≡ asks.Begin → ¬ (WasRefused b.reply) → AllStandInGroup inside → Leads b.after inside mid → e.before ≡ mid
+group-inside : (inside : List Row) (b e : Row) (mid : State) → b.command ≡ asks.Begin → ¬ (WasRefused b.reply) → AllStandInGroup (level b.before.pair.changes.recorded) inside → Leads b.after inside mid → e.before ≡ mid
     → Inside b.before.pair.changes.recorded e.before.pair.changes
 group-inside inside b e mid is_begin begins all l to_end =
     let front = b.before.pair.changes.recorded in
@@ -170,31 +191,19 @@ group-undone start texts inside b e u mid h l to_end still to_undo is_undo undoe
     let both : Some u.after.line.text ≡ Some b.before.line.text = sym leads ∙ ap (λ x. replay_entries x start) kept ∙ h.leads in
     cc
 
-pub group-in_run : (text : List ℕ) (old new : State) (commands : List Command) (replies : List Reply)
-    (earlier inside later : List Row) (b e u : Row) → Begins text old → (run : Run old commands replies new)
+pub group-in_run : (start : List ℕ) (texts : List (List ℕ)) (old new : State) (commands : List Command) (replies : List Reply)
+    (earlier inside later : List Row) (b e u : Row) → Holds start texts old → (run : Run old commands replies new)
     → run.rows ≡ earlier ++ (b ∷ (inside ++ (e ∷ (u ∷ later))))
-    → b.command ≡ asks.Begin → ¬ (WasRefused b.reply) → level b.before.pair.changes.recorded ≡ 0
-    → AllStandInGroup inside → e.command ≡ asks.End → ¬ (WasRefused e.reply)
+    → b.command ≡ asks.Begin → ¬ (WasRefused b.reply) → AllStandInGroup (level b.before.pair.changes.recorded) inside
+    → ClosesGroup (level b.before.pair.changes.recorded) (level e.before.pair.changes.recorded) e.command → ¬ (WasRefused e.reply)
     → has_change (drop (suc (length b.before.pair.changes.recorded)) e.before.pair.changes.recorded) ≡ true
     → u.command ≡ asks.Undo 1 → ¬ (WasRefused u.reply) → u.after.line.text ≡ b.before.line.text
-group-in_run text old new commands replies earlier inside later b e u first run rows is_begin begins none all is_end ends change is_undo undoes =
-    let at = at_row text old new commands replies earlier (inside ++ (e ∷ (u ∷ later))) b first run rows in
-    let p = Leads-split inside (e ∷ (u ∷ later)) b.after new at.goes_on in
-    let i = group-inside inside b e p.0 is_begin begins all p.1 p.2.0 in
-    let keeps = ap (λ (r : Record). kept_of 1 r.recorded) (end-row e is_end ends) ∙ kept-before b.before.pair.changes.recorded e.before.pair.changes i none change in
-    group-undone text (text ∷ held_of earlier) inside b e u p.0 at.holds p.1 p.2.0 keeps p.2.1.0 is_undo undoes
-
-pub group-alone-in_run : (text : List ℕ) (old new : State) (commands : List Command) (replies : List Reply)
-    (earlier inside later : List Row) (b e u : Row) → Begins text old → (run : Run old commands replies new)
-    → run.rows ≡ earlier ++ (b ∷ (inside ++ (e ∷ (u ∷ later))))
-    → b.command ≡ asks.Begin → ¬ (WasRefused b.reply)
-    → AllStandInGroup inside → e.command ≡ asks.EndOne → ¬ (WasRefused e.reply)
-    → level e.before.pair.changes.recorded ≡ suc (level b.before.pair.changes.recorded)
-    → has_change (drop (suc (length b.before.pair.changes.recorded)) e.before.pair.changes.recorded) ≡ true
-    → u.command ≡ asks.Undo 1 → ¬ (WasRefused u.reply) → u.after.line.text ≡ b.before.line.text
-group-alone-in_run text old new commands replies earlier inside later b e u first run rows is_begin begins all is_end ends last change is_undo undoes =
-    let at = at_row text old new commands replies earlier (inside ++ (e ∷ (u ∷ later))) b first run rows in
-    let p = Leads-split inside (e ∷ (u ∷ later)) b.after new at.goes_on in
-    let i = group-inside inside b e p.0 is_begin begins all p.1 p.2.0 in
-    let keeps = ap (λ (r : Record). kept_of 1 r.recorded) (end_one-row e is_end ends) ∙ kept-alone b.before.pair.changes.recorded e.before.pair.changes i last change in
-    group-undone text (text ∷ held_of earlier) inside b e u p.0 at.holds p.1 p.2.0 keeps p.2.1.0 is_undo undoes
+group-in_run start texts old new commands replies earlier inside later b e u holds run rows is_begin begins all closes ends change is_undo undoes =
+    let front = b.before.pair.changes.recorded in
+    let p = Leads-split earlier (b ∷ (inside ++ (e ∷ (u ∷ later)))) old new (subst (λ rs. Leads old rs new) rows run.leads) in
+    let at_begin = subst (λ s. Holds start (texts ++ held_of earlier) s) (sym p.2.0) (Holds-Leads start earlier texts old p.0 holds p.1) in
+    let q = Leads-split inside (e ∷ (u ∷ later)) b.after new p.2.1 in
+    let i = group-inside inside b e q.0 is_begin begins all q.1 q.2.0 in
+    let c = closing-row e e.command (level front) refl closes ends in
+    let keeps = ap (λ (r : Record). kept_of 1 r.recorded) c.2 ∙ kept-closed front e.before.pair.changes c.0 i c.1 change in
+    group-undone start (texts ++ held_of earlier) inside b e u q.0 at_begin q.1 q.2.0 keeps q.2.1.0 is_undo undoes
