@@ -1,6 +1,10 @@
 //! The calls that ask a session for a command, and answer the number of its reply.
 ghost use Rattle.std.specs.Prelude.{◌≡◌, Ok};
+ghost use Rattle.rl_session.specs.Commands.{Step};
+ghost use Rattle.rl_session.specs.Options.{no_bound};
+ghost use Rattle.rl_session.specs.State.{State};
 ghost use Rattle.rl_session.specs.declared.session.Command.{Command};
+ghost use Rattle.rl_session.specs.declared.session.Reply.{Reply};
 ghost use Rattle.rl_ffi.specs.Numbers.{action_of, at_of, char_of, dedents_of, direction_of, movement_of, search_of, word_of};
 ghost use Rattle.rl_ffi.specs.Commands.{Called, CalledWith, IsTextOf, Replies, both_named, named, number_of, Obeys};
 
@@ -22,6 +26,12 @@ pub(crate) fn obey(session: &mut Session, command: &Command) -> Reply
     session.forget();
     reply
 }
+
+/// A command of C on a session without a bound is a row of a run, since nothing is forgotten after it. So what is said of
+/// runs holds of such calls as it stands.
+pub fn calls_are_rows()
+    ensures { (old new : State) (command : Command) (reply : Reply) → old.options.bound ≡ no_bound → Obeys old command reply new → Step old command reply new }
+{}
 
 // Asks the session for the command, unless a number says why there is none.
 #[inline(always)]

@@ -359,40 +359,18 @@ last_of_end [] (b ∷ bs) rs x y e = absurd (omega (arith, ap length e, length-a
 last_of_end (c ∷ xs) (b ∷ bs) rs x y e = let rest : xs ++ x ∷ [] ≡ bs ++ y ∷ rs = cc in last_of_end xs bs rs x y rest
 
 -- entries, the last first, that are placed after others are placed among the texts from the one on to which those lead
-record GoesOn (start : List ℕ) (first es : List Entry) (held : List (List ℕ)) : Type 0 where
-  before : List (List ℕ)
-  begin : List ℕ
-  stands : StandsAfter before begin held
-  leads : replay_entries (reverse first) start ≡ Some begin
-  placed : PlacedBack begin es (begin ∷ stands.rest)
-
-goes_on : (start : List ℕ) (first es : List Entry) (held : List (List ℕ)) → PlacedBack start (es ++ first) held → GoesOn start first es held
-goes_on start first [] held p =
-    let l = lands start first held p in
-    record { before = l.before; begin = l.text; stands = l.stands; leads = l.leads; placed = ([], record { rest = l.stands.rest; is = refl }) }
-goes_on start first (e ∷ es) held p =
-    let g = goes_on start first es (p.0 ++ p.1 ∷ []) p.4 in
-    let more = p.2.rest in
-    let last = last_of_end p.0 g.before g.stands.rest p.1 g.begin g.stands.is in
-    let on : replay_entries (reverse (e ∷ es)) g.begin ≡ Some p.1 =
-    sym (ap (option_and_then (replay_entries (reverse (e ∷ es)))) g.leads) ∙ sym (replay-append (reverse first) (reverse (e ∷ es)) start)
-    ∙ sym (ap (λ l. replay_entries l start) (reverse-append (e ∷ es) first)) ∙ p.3 in
-    record {
-      before = g.before;
-      begin = g.begin;
-      stands = record {
-        rest = g.stands.rest ++ more;
-        is = p.2.is ∙ sym (append_assoc p.0 (p.1 ∷ []) more) ∙ ap (λ h. h ++ more) g.stands.is ∙ append_assoc g.before (g.begin ∷ g.stands.rest) more;
-      };
-      leads = g.leads;
-      placed = (
-        last.0,
-        p.1,
-        record { rest = more; is = ap (λ h. h ++ more) (sym last.1) ∙ append_assoc last.0 (p.1 ∷ []) more },
-        on,
-        subst (PlacedBack g.begin es) (sym last.1) g.placed,
-      );
-    }
+goes_on : (start : List ℕ) (first es : List Entry) (held : List (List ℕ)) → PlacedBack start (es ++ first) held
+    → (before : List (List ℕ)) × (begin : List ℕ) × (s : StandsAfter before begin held) × (replay_entries (reverse first) start ≡ Some begin) × PlacedBack begin es (begin ∷ s.rest)
+goes_on start first [] held p = let l = lands start first held p in (l.before, l.text, l.stands, l.leads, ([], record { rest = l.stands.rest; is = refl }))
+goes_on start first (e ∷ es) held (before, text, s, leads, placed) =
+    let (b, begin, t, made, on) = goes_on start first es (before ++ text ∷ []) placed in
+    let (front, last) = last_of_end before b t.rest text begin t.is in
+    let makes : replay_entries (reverse (e ∷ es)) begin ≡ Some text =
+    sym (ap (option_and_then (replay_entries (reverse (e ∷ es)))) made) ∙ sym (replay-append (reverse first) (reverse (e ∷ es)) start)
+    ∙ sym (ap (λ l. replay_entries l start) (reverse-append (e ∷ es) first)) ∙ leads in
+    let is = s.is ∙ sym (append_assoc before (text ∷ []) s.rest) ∙ ap (λ h. h ++ s.rest) t.is ∙ append_assoc b (begin ∷ t.rest) s.rest in
+    let within = ap (λ h. h ++ s.rest) (sym last) ∙ append_assoc front (text ∷ []) s.rest in
+    (b, begin, record { rest = t.rest ++ s.rest; is = is }, made, (front, text, record { rest = s.rest; is = within }, makes, subst (PlacedBack begin es) (sym last) on))
 
 -- the session forgets its first entries
 pub Holds-forgotten : (start : List ℕ) (held : List (List ℕ)) (s : State) → Holds start held s → HoldsOn start held s
@@ -403,17 +381,17 @@ Holds-forgotten start held s h =
     let all : gone s ++ kept ≡ r.recorded = gone-kept bound.entries bound.bytes r.recorded in
     let turned : reverse (r.recorded ++ r.pending) ≡ reverse (kept ++ r.pending) ++ reverse (gone s) =
     ap reverse (ap (λ l. l ++ r.pending) (sym all) ∙ append_assoc (gone s) kept r.pending) ∙ reverse-append (gone s) (kept ++ r.pending) in
-    let g = goes_on start (reverse (gone s)) (reverse (kept ++ r.pending)) held (subst (λ l. PlacedBack start l held) turned h.placed) in
-    let made = sym (back_again (gone s) start) ∙ g.leads in
+    let (before, begin, stands, leads, placed) = goes_on start (reverse (gone s)) (reverse (kept ++ r.pending)) held (subst (λ l. PlacedBack start l held) turned h.placed) in
+    let made = sym (back_again (gone s) start) ∙ leads in
     record {
-      begin = g.begin;
+      begin = begin;
       made = made;
-      before = g.before;
-      stands = g.stands;
+      before = before;
+      stands = stands;
       holds = record {
-        is_text = replay-IsUtf8 (gone s) start g.begin h.is_text made;
+        is_text = replay-IsUtf8 (gone s) start begin h.is_text made;
         leads = sym (ap (option_and_then (replay_entries kept)) made) ∙ sym (replay-append (gone s) kept start) ∙ ap (λ l. replay_entries l start) all ∙ h.leads;
-        placed = g.placed;
+        placed = placed;
         matched = record { recorded = IsMatched-kept bound.entries bound.bytes r.recorded h.matched.recorded; pending = h.matched.pending };
       };
     }
