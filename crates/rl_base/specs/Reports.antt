@@ -1,6 +1,8 @@
 -- A queue of reports of changes, for who reads late.
-use Rattle.std.specs.Prelude.{◌≡◌, ℕ, ◌+◌, ◌-◌, ◌^◌, ◌<◌, ◌≤◌, ◌==◌, ◌&&◌, Bool, true, false, min, nat_le, nat_lt, List, [], ◌∷◌, ◌++◌, length, take, drop, fold, map, slice_range, encode_utf8, Option, Some, None, OnSome, if◌then◌else◌}
-use Rattle.std.specs.Str.{IsUtf8}
+use Rattle.std.specs.Prelude.{◌≡◌, ℕ, ◌+◌, ◌-◌, ◌^◌, ◌<◌, ◌≤◌, ◌==◌, ◌&&◌, ◌⊎◌, Bool, true, false, min, nat_le, nat_lt, List, [], ◌∷◌, ◌++◌, length, take, drop, fold, map, slice_range, encode_utf8, Option, Some, None, OnSome, if◌then◌else◌}
+use Rattle.std.specs.Bool.{OnFalse, OnTrue}
+use Rattle.std.specs.List.{replace_range}
+use Rattle.std.specs.Str.{IsCharBoundary, IsUtf8}
 use Rattle.rl_base.specs.declared.splice.Splice.{Splice}
 use Rattle.rl_base.specs.declared.reports.Joined.{Joined}
 use Rattle.rl_base.specs.declared.reports.Report.{Report}
@@ -26,9 +28,9 @@ pub record Queue : Type 0 where
   pub text_room : ℕ
   pub waiting : Waiting
 
--- nothing waits
+-- nothing waits; without texts there is room for one report, so that what came is always in the present text
 abbrev pub new_queue : ℕ → ℕ → Queue
-new_queue room text_room = record { room = room; text_room = text_room; waiting = Whole [] }
+new_queue room text_room = record { room = if text_room == 0 then min room 1 else room; text_room = text_room; waiting = Whole [] }
 
 -- a report of this kind is of a change of the text; the other two are marks
 abbrev pub is_change : ReportKind → Bool
@@ -169,6 +171,13 @@ abbrev pub texts_of : Option Noted → List ℕ
 texts_of None = []
 texts_of (Some n) = n.texts
 
+-- an event changes a text: it is no start or stop of a kill, and no telling of cursors
+abbrev pub IsChange : Event → Type 0
+IsChange Start = ⊥
+IsChange Stop = ⊥
+IsChange (Cursors _ _) = ⊥
+IsChange _ = Unit {0}
+
 -- a text that a line may hold
 pub record IsLineText (text : List ℕ) : Type 0 where
   pub utf8 : IsUtf8 text
@@ -178,43 +187,78 @@ pub record IsLineText (text : List ℕ) : Type 0 where
 abbrev pub splice_of : Report → Splice
 splice_of r = record { from = r.at; old_end = r.at + r.old_len; new_end = r.at + r.new_len }
 
--- a splice of two texts, with what went and what came where texts are kept
-pub record TellsChange (text_room : ℕ) (s : Splice) (texts old new : List ℕ) : Type 0 where
-  pub splices : Splices s old new
-  pub texts_are : texts ≡ kept text_room (slice_range old s.from s.old_end ++ slice_range new s.from s.new_end)
+-- a report that waits apart tells how a text became another: by a splice, with what went and what came where texts are kept. A
+-- mark leaves the text, and none was folded
+pub record Tells (text_room : ℕ) (n : Noted) (old new : List ℕ) : Type 0 where
+  pub splices : Splices (splice_of n.report) old new
+  pub texts_are : n.texts ≡ kept text_room (slice_range old n.report.at (n.report.at + n.report.old_len) ++ slice_range new n.report.at (n.report.at + n.report.new_len))
+  pub mark : OnFalse (is_change n.report.kind) (new ≡ old)
+  pub apart : ¬ (n.report.kind ≡ kind.Folded)
 
--- what a report of a kind tells of two texts: a mark that they are the same, and one that was folded no texts
-abbrev pub TellsAs : ReportKind → ℕ → Splice → List ℕ → List ℕ → List ℕ → Type 0
-TellsAs kind.CharInserted text_room s texts old new = TellsChange text_room s texts old new
-TellsAs kind.TextInserted text_room s texts old new = TellsChange text_room s texts old new
-TellsAs kind.DeletedForward text_room s texts old new = TellsChange text_room s texts old new
-TellsAs kind.DeletedBackward text_room s texts old new = TellsChange text_room s texts old new
-TellsAs kind.Replaced text_room s texts old new = TellsChange text_room s texts old new
-TellsAs kind.KillStarted text_room s texts old new = new ≡ old
-TellsAs kind.KillStopped text_room s texts old new = new ≡ old
-TellsAs kind.Folded text_room s texts old new = Splices s old new
+-- cursors that were told stand between two characters, the first in the text before and the second in that after; where none
+-- were, the text is as it was
+abbrev pub Stand : Option (ℕ × ℕ) → List ℕ → List ℕ → Type 0
+Stand None old new = new ≡ old
+Stand (Some cursors) old new = IsCharBoundary old cursors.0 × IsCharBoundary new cursors.1
 
--- a note tells how a text became another
-abbrev pub Tells : ℕ → Noted → List ℕ → List ℕ → Type 0
-Tells text_room n old new = TellsAs n.report.kind text_room (splice_of n.report) n.texts old new
-
--- notes lead from a text to another, one by one
-abbrev pub LeadsBy : ℕ → List Noted → List ℕ → List ℕ → Type 0
-LeadsBy text_room [] old new = new ≡ old
-LeadsBy text_room (n ∷ ns) old new =
-    (between : List ℕ) × Tells text_room n old between × IsLineText between × LeadsBy text_room ns between new
+-- notes lead from a text to another, one by one; with `placed`, their cursors stand there too
+abbrev pub LeadsBy : Bool → ℕ → List Noted → List ℕ → List ℕ → Type 0
+LeadsBy placed text_room [] old new = new ≡ old
+LeadsBy placed text_room (n ∷ ns) old new =
+    (between : List ℕ) × Tells text_room n old between × IsLineText between × OnTrue placed (Stand n.report.cursors old between)
+    × LeadsBy placed text_room ns between new
 
 -- what waits leads from a text to another
-abbrev pub Leads : ℕ → Waiting → List ℕ → List ℕ → Type 0
-Leads text_room (Whole ns) old new = LeadsBy text_room ns old new
-Leads text_room (AsOne all) old new = Covers all.splice old new
+abbrev pub WaitLeads : Bool → ℕ → Waiting → List ℕ → List ℕ → Type 0
+WaitLeads placed text_room (Whole ns) old new = LeadsBy placed text_room ns old new
+WaitLeads placed text_room (AsOne all) old new = Covers all.splice old new × OnTrue placed (Stand all.cursors old new)
 
--- the oldest note tells how a text became one between, and what is left leads on from there
-pub record ReadsTo (q : Queue) (n : Noted) (old new : List ℕ) : Type 0 where
-  pub between : List ℕ
-  pub text : IsLineText between
-  pub tells : Tells q.text_room n old between
-  pub rest : Leads q.text_room (forgotten q).waiting between new
+-- how many reports wait apart
+abbrev pub apart : Waiting → ℕ
+apart (Whole ns) = length ns
+apart (AsOne all) = 0
+
+-- what waits in a queue leads from a text to another, and keeps to the room, which without texts is that of one report
+pub record Leads (placed : Bool) (q : Queue) (old new : List ℕ) : Type 0 where
+  pub leads : WaitLeads placed q.text_room q.waiting old new
+  pub within : apart q.waiting ≤ q.room
+  pub one : q.text_room ≡ 0 → q.room ≤ 1
+
+-- a text after a report: what went gave way to the end of its texts
+abbrev pub after_texts : Noted → List ℕ → List ℕ
+after_texts n text = replace_range text n.report.at (n.report.at + n.report.old_len) (drop n.report.old_len n.texts)
+
+-- and without texts: it gave way to what stands at the place of what came in the present text
+abbrev pub after_numbers : Report → List ℕ → List ℕ → List ℕ
+after_numbers r present text = replace_range text r.at (r.at + r.old_len) (slice_range present r.at (r.at + r.new_len))
+
+-- a note tells by its texts how a text goes on: they begin with what stood there, and end with as many bytes as came
+pub record TellsByTexts (n : Noted) (old : List ℕ) : Type 0 where
+  pub went : take n.report.old_len n.texts ≡ slice_range old n.report.at (n.report.at + n.report.old_len)
+  pub came : length (drop n.report.old_len n.texts) ≡ n.report.new_len
+  pub mark : OnFalse (is_change n.report.kind) (after_texts n old ≡ old)
+
+-- texts are kept of a report, which was not folded; they are not
+pub record HasTexts (text_room : ℕ) (r : Report) : Type 0 where
+  pub kept : 0 < text_room
+  pub apart : ¬ (r.kind ≡ kind.Folded)
+
+abbrev pub LacksTexts : ℕ → Report → Type 0
+LacksTexts text_room r = (text_room ≡ 0) ⊎ (r.kind ≡ kind.Folded)
+
+-- the oldest note, which has texts, tells how a text goes on, and what is left leads on from there
+pub record ReadsTexts (placed : Bool) (q : Queue) (n : Noted) (old new : List ℕ) : Type 0 where
+  pub text : IsLineText (after_texts n old)
+  pub tells : TellsByTexts n old
+  pub cursors : OnTrue placed (Stand n.report.cursors old (after_texts n old))
+  pub rest : Leads placed (forgotten q) (after_texts n old) new
+
+-- the oldest note, which has no texts, is all that waits: what came stands in the present text, which it leads to
+pub record ReadsWhole (placed : Bool) (q : Queue) (n : Noted) (old new : List ℕ) : Type 0 where
+  pub all : oldest (forgotten q).waiting ≡ None
+  pub tells : after_numbers n.report new old ≡ new
+  pub cursors : OnTrue placed (Stand n.report.cursors old new)
+  pub rest : Leads placed (forgotten q) new new
 
 -- how many bytes of texts are kept of a report
 abbrev pub bytes_kept : ℕ → Report → ℕ

@@ -1,11 +1,11 @@
 -- What a watch tells: what changed since it was asked last, and the reports that wait to be read.
-use Rattle.std.specs.Prelude.{◌≡◌, ℕ, ◌<◌, List, Option, Some, None, IsSome, option_and_then}
+use Rattle.std.specs.Prelude.{◌≡◌, ℕ, ◌<◌, Bool, List, Option, Some, None, IsSome, option_and_then, unwrap_or}
 use Rattle.std.specs.Option.{option_map}
 use Rattle.rl_base.specs.declared.splice.Splice.{Splice}
 use Rattle.rl_base.specs.declared.watch.WatchFault.{WatchFault}
 use Rattle.rl_base.specs.declared.watch.WatchFault.TheVariants.{NoMemory, NoRoom, IsWatched}
 use Rattle.rl_base.specs.Event.{Event}
-use Rattle.rl_base.specs.Reports.{Leads, Noted, Queue, Tells, forgotten, oldest, queue_step}
+use Rattle.rl_base.specs.Reports.{Leads, Noted, Queue, forgotten, oldest, queue_step}
 use Rattle.rl_base.specs.Splice.{spliced, untouched}
 
 -- all that changed, as one splice, and a queue of reports, where one is kept
@@ -35,12 +35,11 @@ next_note w = option_and_then (λ (q : Queue). oldest q.waiting) w.reports
 abbrev pub past_next : Watched → Watched
 past_next w = record w { reports = option_map forgotten w.reports }
 
--- a queue is kept, and its reports lead from a text to another
-abbrev pub ReportsLead : Option Queue → List ℕ → List ℕ → Type 0
-ReportsLead None old new = ⊥
-ReportsLead (Some q) old new = Leads q.text_room q.waiting old new
+-- how many bytes of texts the queue keeps, where one is kept
+abbrev pub text_room : Watched → ℕ
+text_room w = unwrap_or (option_map (λ (q : Queue). q.text_room) w.reports) 0
 
--- a report of the queue that is kept tells how a text became another
-abbrev pub ReportTells : Option Queue → Noted → List ℕ → List ℕ → Type 0
-ReportTells None n old new = ⊥
-ReportTells (Some q) n old new = Tells q.text_room n old new
+-- a queue is kept, and its reports lead from a text to another; with `placed`, their cursors stand there too
+abbrev pub ReportsLead : Bool → Option Queue → List ℕ → List ℕ → Type 0
+ReportsLead placed None old new = ⊥
+ReportsLead placed (Some q) old new = Leads placed q old new

@@ -67,7 +67,7 @@ impl Gathered {
     /// Puts a part at the end. Refused only where memory is out, and then it changes nothing; an empty part never is.
     pub fn push_back(&mut self, part: &str) -> Result<(), Refusal>
         ensures ok { OnOk result (self.new.text ≡ self.old.text ++ part.now) }
-        ensures err { IfErr result (λ r. (r ≡ NoMemory) × (self.new.text ≡ self.old.text) × (0 < length part.now)) }
+        ensures err { IfErr result (λ r. (r ≡ NoMemory) × (self.new ≡ self.old) × (0 < length part.now)) }
     {
         self.buf.push_str(part)?;
         Ok(())

@@ -1,10 +1,11 @@
 //! A queue of reports of changes, for who reads late.
-ghost use Rattle.std.specs.Prelude.{◌≡◌, ℕ, ◌+◌, ◌^◌, ◌<◌, ◌≤◌, ◌⊎◌, ◌++◌, [], List, Some, MatchOption, encode_utf8, length, option_map, vec_capacity, IfErr, IfOk};
+ghost use Rattle.std.specs.Prelude.{◌≡◌, ℕ, ◌+◌, ◌^◌, ◌<◌, ◌≤◌, ◌⊎◌, ◌++◌, [], Bool, List, None, Some, encode_utf8, false, true, length, option_map, vec_capacity, IfErr, IfOk};
+ghost use Rattle.std.specs.Str.{IsCharBoundary};
 ghost use Rattle.std.specs.String.{string_bytes, string_capacity};
 ghost use Rattle.rl_base.specs.declared.listeners.Refusal.TheVariants.{NoMemory};
 ghost use Rattle.rl_base.specs.declared.reports.ReportKind.TheVariants.{CharInserted};
-ghost use Rattle.rl_base.specs.Event.{Event, apply};
-ghost use Rattle.rl_base.specs.Reports.{AsOne, IsLineText, Leads, Queue, ReadsTo, as_one, bytes_kept, forgotten, has_room_in, is_change, joined, joined_cursors, kept, new_queue, noting, oldest, on_last, queue_step, taken_in, texts_of, told_cursors, told_whole, with_note};
+ghost use Rattle.rl_base.specs.Event.{Event, Cursors, Start, Stop, apply};
+ghost use Rattle.rl_base.specs.Reports.{AsOne, HasTexts, IsChange, IsLineText, LacksTexts, Leads, Noted, Queue, ReadsTexts, ReadsWhole, as_one, bytes_kept, forgotten, has_room_in, is_change, joined, joined_cursors, kept, new_queue, noting, oldest, on_last, queue_step, taken_in, texts_of, told_cursors, told_whole, with_note};
 
 use crate::listeners::{ChangeListener, DeleteListener, Direction, Refusal};
 use crate::splice::{Splice, UNTOUCHED};
@@ -157,7 +158,8 @@ fn join_all(reports: &[Report]) -> Joined
 /// A queue of reports of changes, for who reads late: what it hears as a listener becomes a report, which waits until it
 /// is forgotten. It refuses nothing, and takes no memory once it is made. Where there is no room for one more report,
 /// or for its texts, all that waits and the new one become one report of the kind `Folded`, which takes in each later
-/// change too, until it is forgotten. So who reads late loses detail, and never step.
+/// change too, until it is forgotten. So who reads late loses detail, and never step. Without texts at most one report waits: a
+/// change that comes before it was read is folded into it, so what came is always in the present text.
 #[derive(Drop)]
 pub struct Reports {
     room: usize,
@@ -182,12 +184,14 @@ impl Model for Reports {
 }
 
 impl Reports {
-    /// An empty queue with room for `room` reports and for `text_room` bytes of their texts. With no room for texts it
-    /// keeps none. Refused only where memory is out, and never where it needs none.
+    /// An empty queue with room for `room` reports and for `text_room` bytes of their texts. Without texts at most one report
+    /// waits: a change that comes before it was read is folded into it, so what came is always in the present text. Refused
+    /// only where memory is out, and never where it needs none.
     pub fn new(alloc: Global, room: usize, text_room: usize) -> Result<Self, Refusal>
         ensures ok { IfOk result (λ reports. reports ≡ new_queue room text_room) }
         ensures err { IfErr result (λ r. (r ≡ NoMemory) × ((0 < room) ⊎ (0 < text_room))) }
     {
+        let room = if text_room == 0 { room.min(1) } else { room };
         let waiting = Vec::with_capacity(alloc, room)?;
         let texts = String::with_capacity(alloc, text_room)?;
         Ok(Reports {
@@ -425,12 +429,22 @@ impl ChangeListener for Reports {
 }
 
 /// Who reads late loses detail, and never step. A new queue leads from each text to itself. A queue that leads from a text
-/// to another, and hears of a change of that, leads to the changed text. And its oldest report tells how the text became
-/// one from which the rest leads on; where nothing waits, the text is as it was.
+/// to another, and hears of a change of that, leads to the changed text; where cursors are told after each change, between two
+/// characters, it leads on with them. What its oldest report tells leads on: with texts, to the text in which what went gave way
+/// to the end of its texts, and from there what is left leads on; without texts it is all that waits, and what came stands in the
+/// present text. The cursors of a report stand in the texts before it and after it. Where nothing waits, the text is as it was.
 pub fn no_step_is_lost()
-    ensures new { (room text_room : ℕ) (text : List ℕ) → Leads text_room (new_queue room text_room).waiting text text }
-    ensures heard { (q : Queue) (event : Event) (old text new : List ℕ) → Leads q.text_room q.waiting old text → IsLineText old → IsLineText text → length new < 2 ^ 64
-        → apply event text ≡ Some new → Leads q.text_room (queue_step q event).waiting old new }
-    ensures read { (q : Queue) (old new : List ℕ) → Leads q.text_room q.waiting old new → IsLineText old → IsLineText new
-        → MatchOption (oldest q.waiting) (new ≡ old) (λ note. ReadsTo q note old new) }
+    ensures new { (placed : Bool) (room text_room : ℕ) (text : List ℕ) → Leads placed (new_queue room text_room) text text }
+    ensures heard { (q : Queue) (event : Event) (old text new : List ℕ) → Leads false q old text → IsLineText old → IsLineText text → length new < 2 ^ 64
+        → apply event text ≡ Some new → Leads false (queue_step q event) old new }
+    ensures placed { (q : Queue) (event : Event) (before after : ℕ) (old text new : List ℕ) → Leads true q old text → IsLineText old → IsLineText text → length new < 2 ^ 64
+        → IsChange event → IsCharBoundary text before → apply event text ≡ Some new → IsCharBoundary new after
+        → Leads true (queue_step (queue_step q event) (Cursors before after)) old new }
+    ensures marked { (placed : Bool) (q : Queue) (old new : List ℕ) → Leads placed q old new → IsLineText old → IsLineText new
+        → Leads placed (queue_step q Start) old new × Leads placed (queue_step q Stop) old new }
+    ensures nothing { (placed : Bool) (q : Queue) (old new : List ℕ) → Leads placed q old new → oldest q.waiting ≡ None → new ≡ old }
+    ensures with_texts { (placed : Bool) (q : Queue) (note : Noted) (old new : List ℕ) → Leads placed q old new → IsLineText old
+        → oldest q.waiting ≡ Some note → HasTexts q.text_room note.report → ReadsTexts placed q note old new }
+    ensures whole { (placed : Bool) (q : Queue) (note : Noted) (old new : List ℕ) → Leads placed q old new
+        → oldest q.waiting ≡ Some note → LacksTexts q.text_room note.report → ReadsWhole placed q note old new }
 {}

@@ -73,7 +73,8 @@ impl Watch {
     }
 
     /// Keeps a report of each change from now on, in a queue with room for `room` reports and for `text_room` bytes of
-    /// their texts; with no room for texts it keeps numbers alone. All room is found here. Refused, it changes nothing.
+    /// their texts. Without texts it keeps numbers alone, and at most one report waits: a change that comes before it was read is
+    /// folded into it, so what came is always in the present text. All room is found here. Refused, it changes nothing.
     pub fn keep_reports(
         &mut self,
         alloc: Global,

@@ -127,4 +127,4 @@ pub record ReportedFrom (read : List ℕ) (s : State) : Type 0 where
   pub stands : Stands s
   pub bounded : IsBounded s
   pub text : IsLineText read
-  pub leads : ReportsLead s.pair.watch.reports read s.line.text
+  pub leads : ReportsLead false s.pair.watch.reports read s.line.text

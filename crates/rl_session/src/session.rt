@@ -4,9 +4,9 @@ ghost use Rattle.rl_base.specs.Event.{replay};
 ghost use Rattle.rl_line.specs.Line.{Line};
 ghost use Rattle.rl_line.specs.Record.{Record, replay_entries, unwind};
 ghost use Rattle.std.specs.Option.{option_map};
-ghost use Rattle.rl_base.specs.Reports.{new_queue, texts_of};
+ghost use Rattle.rl_base.specs.Reports.{HasTexts, LacksTexts, Noted, TellsByTexts, after_numbers, after_texts, new_queue, texts_of};
 ghost use Rattle.rl_base.specs.Splice.{Splices, told, untouched};
-ghost use Rattle.rl_base.specs.Watch.{RefusesQueue, ReportTells, next_note, past_next};
+ghost use Rattle.rl_base.specs.Watch.{RefusesQueue, next_note, past_next, text_room};
 ghost use Rattle.rl_session.specs.State.{State, ChangedFrom, Follows, IsBounded, ReportedFrom, Stands, with_watch, Replays, origin};
 ghost use Rattle.rl_session.specs.Commands.{CarriesOut, Does, Step};
 ghost use Rattle.rl_session.specs.Run.{Row, Run, AfterEach, commands_of, held_of, replies_of, reports, reports_of};
@@ -219,9 +219,11 @@ impl Session {
     }
 
     /// Keeps a report of each change from now on, in a queue with room for `reports` of them and for `text_bytes` bytes
-    /// of their texts; with no room for texts, reports carry numbers alone. All room is found here, so that no command is
-    /// refused because of it: where a report or its texts find no room, all that waits becomes one report. Refused, it
-    /// changes nothing.
+    /// of their texts. All room is found here, so that no command is refused because of it: where a report or its texts
+    /// find no room, all that waits becomes one report. Without texts, reports carry numbers alone, and at most one waits: a
+    /// change that comes before it was read is folded into it, so what came is always in the present text. Refused, it changes
+    /// nothing.
+    #[tactic(auto, using(rl_base::proofs::Queue::LeadLemmas::new_leads))]
     pub fn watch(&mut self, reports: usize, text_bytes: usize) -> Result<(), WatchFault>
         ensures ok { OnOk result ((0 < reports) × (self.old.pair.watch.reports ≡ None)
             × (self.new ≡ with_watch (record self.old.pair.watch { reports = Some (new_queue reports text_bytes) }) self.old)) }
@@ -250,12 +252,16 @@ impl Session {
     }
 
     /// Forgets the oldest report, so that the next becomes the oldest. The report told how the text at which reading
-    /// left off became one from which the reports that still wait lead to the present text; where none waited, that text
-    /// is the present one.
+    /// left off goes on. With texts, what went gave way to the end of its texts, and from the text so made the reports that still
+    /// wait lead to the present one. Without texts, or folded, it was all that waited, and what came stands in the present text.
+    /// Where no report waited, the text at which reading left off is the present one.
     pub fn forget_report(&mut self)
         ensures forgotten { self.new ≡ with_watch (past_next self.old.pair.watch) self.old }
-        ensures read { (read : List ℕ) → ReportedFrom read self.old → MatchOption (next_note self.old.pair.watch) (self.old.line.text ≡ read)
-            (λ note. (between : List ℕ) × ReportTells self.old.pair.watch.reports note read between × ReportedFrom between self.new) }
+        ensures nothing { (read : List ℕ) → ReportedFrom read self.old → next_note self.old.pair.watch ≡ None → self.old.line.text ≡ read }
+        ensures with_texts { (read : List ℕ) (note : Noted) → ReportedFrom read self.old → next_note self.old.pair.watch ≡ Some note → HasTexts (text_room self.old.pair.watch) note.report
+            → TellsByTexts note read × ReportedFrom (after_texts note read) self.new }
+        ensures whole { (read : List ℕ) (note : Noted) → ReportedFrom read self.old → next_note self.old.pair.watch ≡ Some note → LacksTexts (text_room self.old.pair.watch) note.report
+            → (next_note self.new.pair.watch ≡ None) × (after_numbers note.report self.old.line.text read ≡ self.old.line.text) × ReportedFrom self.old.line.text self.new }
     {
         self.pair.watch.forget_report();
     }

@@ -1,6 +1,13 @@
 -- What reports lead to.
-use Rattle.std.proofs.Common.{◌≡◌, ℕ, ◌+◌, ◌^◌, ◌<◌, ◌≤◌, ◌⊎◌, inl, inr, Bool, true, false, min, List, [], ◌∷◌, ◌++◌, length, fold, encode_utf8, slice_range, Some, MatchOption, if◌then◌else◌, refl, sym, ap, subst, ◌∙◌, arith}
+use Rattle.std.proofs.Common.{◌≡◌, ℕ, ◌+◌, ◌-◌, ◌^◌, ◌<◌, ◌≤◌, ◌⊎◌, inl, inr, Bool, true, false, min, List, [], ◌∷◌, ◌++◌, length, take, drop, fold, encode_utf8, slice_range, Option, Some, None, if◌then◌else◌, ◌==◌, ◌&&◌, refl, sym, ap, subst, ◌∙◌, arith, length-append, take_at, drop_at}
+use Rattle.std.proofs.lemmas.Bool.{OnTrue_at, OnTrue_from}
+use Rattle.std.proofs.lemmas.Bool.Decides.{nat_tests}
+use Rattle.std.proofs.lemmas.List.{length-take-le, length-drop}
 use Rattle.std.proofs.lemmas.Str.{IsCharBoundary-start}
+use Rattle.std.specs.Bool.{OnFalse, OnTrue}
+use Rattle.std.specs.List.{replace_range}
+use Rattle.std.specs.Prelude.{nat_le, nat_lt}
+use Rattle.std.specs.Str.{IsCharBoundary}
 use Rattle.rl_base.specs.declared.listeners.Direction.TheVariants.{Forward, Backward}
 use Rattle.rl_base.specs.declared.reports.Joined.{Joined}
 use Rattle.rl_base.specs.declared.reports.Report.{Report}
@@ -8,105 +15,257 @@ use Rattle.rl_base.specs.declared.reports.ReportKind.{ReportKind}
 use Rattle.rl_base.specs.declared.reports.ReportKind.TheVariants as kind
 use Rattle.rl_base.specs.declared.splice.Splice.{Splice}
 use Rattle.rl_base.specs.Event.{Event, InsertChar, InsertStr, Delete, Replace, Start, Stop, Cursors, apply}
-use Rattle.rl_base.specs.Reports.{AsOne, IsLineText, Leads, LeadsBy, Noted, Queue, ReadsTo, Tells, TellsAs, TellsChange, Waiting, Whole, as_one, has_room_in, is_change, kept, noted, nothing_joined, oldest, on_last, queue_step, reports_of, splice_of, taken_in, told_cursors, told_whole, with_cursors, with_note}
+use Rattle.rl_base.specs.Reports.{AsOne, HasTexts, IsChange, IsLineText, LacksTexts, Leads, LeadsBy, Noted, Queue, ReadsTexts, ReadsWhole, Stand, Tells, WaitLeads, Waiting, Whole, after_texts, apart, as_one, forgotten, has_room_in, is_change, joined_cursors, kept, new_queue, noted, noting, nothing_joined, oldest, on_last, queue_step, reports_of, splice_of, taken_in, told_cursors, told_whole, with_cursors, with_note}
 use Rattle.rl_base.specs.Splice.{Covers, Splices, folded, untouched}
-use Rattle.rl_base.proofs.Texts.SpliceLemmas.{Covers-more, Splices-Swaps, Splices-as, came, went}
+use Rattle.rl_base.proofs.Queue.QueueLemmas.{length-on_last}
+use Rattle.rl_base.proofs.Texts.SpliceLemmas.{Covers-more, Splices-Swaps, Splices-as, Splices-new, came, went}
 use Rattle.rl_base.proofs.Texts.SwapLemmas.{Swaps, Swaps-InsertChar, Swaps-InsertStr, Swaps-Delete, Swaps-Replace, apply-IsUtf8}
+use Rattle.rl_base.proofs.Texts.TextLemmas.{and_left}
 
 -- a note that is put at the end leads one text further
-pub LeadsBy-push : (k : ℕ) (n : Noted) (ns : List Noted) (old text new : List ℕ) → LeadsBy k ns old text → Tells k n text new → IsLineText new → LeadsBy k (ns ++ n ∷ []) old new
-LeadsBy-push k n [] old text new l t u = (new, subst (λ x. Tells k n x new) l t, u, refl)
-LeadsBy-push k n (m ∷ ms) old text new l t u = (l.0, l.1, l.2, LeadsBy-push k n ms l.0 text new l.3 t u)
+pub LeadsBy-push : (placed : Bool) (k : ℕ) (n : Noted) (ns : List Noted) (old text new : List ℕ) → LeadsBy placed k ns old text → Tells k n text new → IsLineText new
+    → OnTrue placed (Stand n.report.cursors text new) → LeadsBy placed k (ns ++ n ∷ []) old new
+LeadsBy-push placed k n [] old text new l t u c = (new, subst (λ x. Tells k n x new) l t, u, subst (λ x. OnTrue placed (Stand n.report.cursors x new)) l c, refl)
+LeadsBy-push placed k n (m ∷ ms) old text new l t u c = (l.0, l.1, l.2, l.3, LeadsBy-push placed k n ms l.0 text new l.4 t u c)
 
 -- cursors leave what a note tells
 told-same : (b : Bool) (k before after : ℕ) (n : Noted) (old new : List ℕ) → Tells k n old new → Tells k (record { report = if b then record n.report { cursors = Some (before, after) } else n.report; texts = n.texts }) old new
-told-same true k before after n old new t = t
-told-same false k before after n old new t = t
+told-same true k before after n old new t = record { splices = t.splices; texts_are = t.texts_are; mark = t.mark; apart = t.apart }
+told-same false k before after n old new t = record { splices = t.splices; texts_are = t.texts_are; mark = t.mark; apart = t.apart }
 
-pub LeadsBy-told : (k before after : ℕ) (ns : List Noted) (old new : List ℕ) → LeadsBy k ns old new
-    → LeadsBy k (on_last (λ n. record { report = told_cursors before after n.report; texts = n.texts }) ns) old new
+pub LeadsBy-told : (k before after : ℕ) (ns : List Noted) (old new : List ℕ) → LeadsBy false k ns old new
+    → LeadsBy false k (on_last (λ n. record { report = told_cursors before after n.report; texts = n.texts }) ns) old new
 LeadsBy-told k before after [] old new l = l
-LeadsBy-told k before after (n ∷ []) old new l = (l.0, told-same (is_change n.report.kind) k before after n old l.0 l.1, l.2, l.3)
-LeadsBy-told k before after (n ∷ (m ∷ ms)) old new l = (l.0, l.1, l.2, LeadsBy-told k before after (m ∷ ms) l.0 new l.3)
+LeadsBy-told k before after (n ∷ []) old new l = (l.0, told-same (is_change n.report.kind) k before after n old l.0 l.1, l.2, tt, l.4)
+LeadsBy-told k before after (n ∷ (m ∷ ms)) old new l = (l.0, l.1, l.2, tt, LeadsBy-told k before after (m ∷ ms) l.0 new l.4)
+
+-- cursors of two changes as one
+Stand-joined : (first later : Option (ℕ × ℕ)) (old text new : List ℕ) → Stand first old text → Stand later text new → Stand (joined_cursors first later) old new
+Stand-joined None later old text new s t = subst (λ x. Stand later x new) s t
+Stand-joined (Some first) None old text new s t = (s.0, subst (λ x. IsCharBoundary x first.1) (sym t) s.1)
+Stand-joined (Some first) (Some later) old text new s t = (s.0, t.1)
 
 -- one more report as one with what covers the texts before it
-Covers-kind : (which : ReportKind) (k : ℕ) (r : Report) (texts : List ℕ) (s : Splice) (old text new : List ℕ) → Covers s old text → TellsAs which k (splice_of r) texts text new
-    → IsLineText text → IsLineText new → Covers (if is_change which then folded s r.at r.old_len r.new_len else s) old new
-Covers-kind kind.CharInserted k r texts s old text new c t u v = Covers-more s r.at r.old_len r.new_len old text new c t.splices u.fits v.fits
-Covers-kind kind.TextInserted k r texts s old text new c t u v = Covers-more s r.at r.old_len r.new_len old text new c t.splices u.fits v.fits
-Covers-kind kind.DeletedForward k r texts s old text new c t u v = Covers-more s r.at r.old_len r.new_len old text new c t.splices u.fits v.fits
-Covers-kind kind.DeletedBackward k r texts s old text new c t u v = Covers-more s r.at r.old_len r.new_len old text new c t.splices u.fits v.fits
-Covers-kind kind.Replaced k r texts s old text new c t u v = Covers-more s r.at r.old_len r.new_len old text new c t.splices u.fits v.fits
-Covers-kind kind.KillStarted k r texts s old text new c t u v = subst (Covers s old) (sym t) c
-Covers-kind kind.KillStopped k r texts s old text new c t u v = subst (Covers s old) (sym t) c
-Covers-kind kind.Folded k r texts s old text new c t u v = Covers-more s r.at r.old_len r.new_len old text new c t u.fits v.fits
+Covers-report : (b : Bool) (r : Report) (s : Splice) (old text new : List ℕ) → Covers s old text → Splices (splice_of r) text new → OnFalse b (new ≡ text) → IsLineText text → IsLineText new
+    → Covers (if b then folded s r.at r.old_len r.new_len else s) old new
+Covers-report true r s old text new c t same u v = Covers-more s r.at r.old_len r.new_len old text new c t u.fits v.fits
+Covers-report false r s old text new c t same u v = subst (Covers s old) (sym same) c
 
-pub Covers-note : (all : Joined) (k : ℕ) (n : Noted) (old text new : List ℕ) → Covers all.splice old text → Tells k n text new → IsLineText text → IsLineText new
-    → Covers (taken_in all n.report).splice old new
-Covers-note all k n old text new c t u v = Covers-kind n.report.kind k n.report n.texts all.splice old text new c t u v
+joined-note : (placed : Bool) (all : Joined) (k : ℕ) (n : Noted) (old text new : List ℕ) → WaitLeads placed k (AsOne all) old text → Tells k n text new
+    → OnTrue placed (Stand n.report.cursors text new) → IsLineText text → IsLineText new → WaitLeads placed k (AsOne (taken_in all n.report)) old new
+joined-note placed all k n old text new l t c u v = (
+  Covers-report (is_change n.report.kind) n.report all.splice old text new l.0 t.splices t.mark u v,
+  OnTrue_from placed _ (λ e. Stand-joined all.cursors n.report.cursors old text new (OnTrue_at e l.1) (OnTrue_at e c)),
+)
 
-Covers-notes : (all : Joined) (k : ℕ) (ns : List Noted) (old text new : List ℕ) → Covers all.splice old text → LeadsBy k ns text new → IsLineText text
-    → Covers (fold taken_in all (reports_of ns)).splice old new
-Covers-notes all k [] old text new c l u = subst (Covers all.splice old) (sym l) c
-Covers-notes all k (n ∷ ns) old text new c l u = Covers-notes (taken_in all n.report) k ns old l.0 new (Covers-note all k n old text l.0 c l.1 u l.2) l.3 l.2
+joined-notes : (placed : Bool) (all : Joined) (k : ℕ) (ns : List Noted) (old text new : List ℕ) → WaitLeads placed k (AsOne all) old text → LeadsBy placed k ns text new → IsLineText text
+    → WaitLeads placed k (AsOne (fold taken_in all (reports_of ns))) old new
+joined-notes placed all k [] old text new l by u = subst (WaitLeads placed k (AsOne all) old) (sym by) l
+joined-notes placed all k (n ∷ ns) old text new l by u =
+    joined-notes placed (taken_in all n.report) k ns old by.0 new (joined-note placed all k n old text by.0 l by.1 by.3 u by.2) by.4 by.2
 
-Covers-nothing : (text : List ℕ) → IsLineText text → Covers untouched text text
-Covers-nothing text u = record { utf8 = u.utf8; fits = u.fits; differ = inl (refl, refl) }
-
--- all that waits, as one, covers what it leads over
-pub Covers-as_one : (k : ℕ) (w : Waiting) (old new : List ℕ) → Leads k w old new → IsLineText old → Covers (as_one w).splice old new
-Covers-as_one k (Whole ns) old new l u = Covers-notes nothing_joined k ns old old new (Covers-nothing old u) l u
-Covers-as_one k (AsOne all) old new l u = l
+-- all that waits, as one, leads on as it does apart
+leads-as_one : (placed : Bool) (k : ℕ) (w : Waiting) (old new : List ℕ) → WaitLeads placed k w old new → IsLineText old → WaitLeads placed k (AsOne (as_one w)) old new
+leads-as_one placed k (Whole ns) old new l u =
+    joined-notes placed nothing_joined k ns old old new (record { utf8 = u.utf8; fits = u.fits; differ = inl (refl, refl) }, OnTrue_from placed _ (λ e. refl)) l u
+leads-as_one placed k (AsOne all) old new l u = l
 
 -- one more note leads one text further
-pub Leads-note : (q : Queue) (n : Noted) (old text new : List ℕ) → Leads q.text_room q.waiting old text → Tells q.text_room n text new → IsLineText old → IsLineText text → IsLineText new
-    → Leads q.text_room (with_note q.room q.text_room n q.waiting) old new
-Leads-note q n old text new l t u v w = from q.waiting l
+pub Leads-note : (placed : Bool) (q : Queue) (n : Noted) (old text new : List ℕ) → Leads placed q old text → Tells q.text_room n text new → OnTrue placed (Stand n.report.cursors text new)
+    → IsLineText old → IsLineText text → IsLineText new → Leads placed (record q { waiting = with_note q.room q.text_room n q.waiting }) old new
+Leads-note placed q n old text new l t c u v w = record { leads = leads q.waiting l.leads; within = within q.waiting l.within; one = l.one }
   where
-    by_room : (b : Bool) (ns : List Noted) → LeadsBy q.text_room ns old text → Leads q.text_room (if b then Whole (ns ++ n ∷ []) else AsOne (taken_in (as_one (Whole ns)) n.report)) old new
-    by_room true ns l = LeadsBy-push q.text_room n ns old text new l t w
-    by_room false ns l = Covers-note (as_one (Whole ns)) q.text_room n old text new (Covers-as_one q.text_room (Whole ns) old text l u) t v w
+    leads_by : (b : Bool) (ns : List Noted) → LeadsBy placed q.text_room ns old text → WaitLeads placed q.text_room (if b then Whole (ns ++ n ∷ []) else AsOne (taken_in (as_one (Whole ns)) n.report)) old new
+    leads_by true ns l = LeadsBy-push placed q.text_room n ns old text new l t w c
+    leads_by false ns l = joined-note placed (as_one (Whole ns)) q.text_room n old text new (leads-as_one placed q.text_room (Whole ns) old text l u) t c v w
 
-    from : (waiting : Waiting) → Leads q.text_room waiting old text → Leads q.text_room (with_note q.room q.text_room n waiting) old new
-    from (Whole ns) l = by_room (has_room_in q.room q.text_room (length n.texts) (Whole ns)) ns l
-    from (AsOne all) l = Covers-note all q.text_room n old text new l t v w
+    leads : (waiting : Waiting) → WaitLeads placed q.text_room waiting old text → WaitLeads placed q.text_room (with_note q.room q.text_room n waiting) old new
+    leads (Whole ns) l = leads_by (has_room_in q.room q.text_room (length n.texts) (Whole ns)) ns l
+    leads (AsOne all) l = joined-note placed all q.text_room n old text new l t c v w
 
-Leads-told : (k before after : ℕ) (w : Waiting) (old new : List ℕ) → Leads k w old new → Leads k (with_cursors before after w) old new
-Leads-told k before after (Whole ns) old new l = LeadsBy-told k before after ns old new l
-Leads-told k before after (AsOne all) old new l = l
+    within_by : (b : Bool) (ns : List Noted) → has_room_in q.room q.text_room (length n.texts) (Whole ns) ≡ b → apart (if b then Whole (ns ++ n ∷ []) else AsOne (taken_in (as_one (Whole ns)) n.report)) ≤ q.room
+    within_by true ns h =
+        let left : nat_lt (length ns) q.room ≡ true = and_left (nat_lt (length ns) q.room) _ h in
+        let few : length ns < q.room = grind (arith, nat_tests) in
+        omega (arith, few, length-append ns (n ∷ []))
+    within_by false ns h = omega arith
 
--- a swap is told by its report
-Tells-Swaps : (k : ℕ) (which : ReportKind) (i : ℕ) (gone come text new : List ℕ) → Swaps text new i gone come
-    → TellsChange k (splice_of (noted k which i gone come).report) (noted k which i gone come).texts text new
-Tells-Swaps k which i gone come text new s = record {
+    within : (waiting : Waiting) → apart waiting ≤ q.room → apart (with_note q.room q.text_room n waiting) ≤ q.room
+    within (Whole ns) h = within_by (has_room_in q.room q.text_room (length n.texts) (Whole ns)) ns refl
+    within (AsOne all) h = omega arith
+
+-- a swap is told by its report, and a mark by its own
+pub Tells-Swaps : (k : ℕ) (which : ReportKind) (i : ℕ) (gone come text new : List ℕ) → is_change which ≡ true → ¬ (which ≡ kind.Folded) → Swaps text new i gone come
+    → Tells k (noted k which i gone come) text new
+Tells-Swaps k which i gone come text new b f s = record {
   splices = Splices-Swaps text new i gone come s;
   texts_are = ap (λ x. kept k (x ++ come)) (sym (went text new i gone come s)) ∙ ap (λ y. kept k (slice_range text i (i + length gone) ++ y)) (sym (came text new i gone come s));
+  mark = rw b tt;
+  apart = f;
 }
 
-pub heard : (q : Queue) (event : Event) (old text new : List ℕ) → Leads q.text_room q.waiting old text → IsLineText old → IsLineText text → length new < 2 ^ 64
-    → apply event text ≡ Some new → Leads q.text_room (queue_step q event).waiting old new
+pub Tells-mark : (k : ℕ) (which : ReportKind) (text : List ℕ) → IsLineText text → is_change which ≡ false → Tells k (noted k which 0 [] []) text text
+Tells-mark k which text u b = record {
+  splices = record {
+    old_order = omega arith;
+    new_order = omega arith;
+    old_from = IsCharBoundary-start text u.utf8;
+    new_from = IsCharBoundary-start text u.utf8;
+    old_to = IsCharBoundary-start text u.utf8;
+    new_to = IsCharBoundary-start text u.utf8;
+    before = refl;
+    after = refl;
+  };
+  texts_are = refl;
+  mark = rw b refl;
+  apart = λ e. let same : true ≡ false = sym (ap is_change e) ∙ b in absurd cc;
+}
+
+-- a change is heard as a note
+heard_as : (P : Queue → Type 0) (q : Queue) (event : Event) (text new : List ℕ) → IsLineText text → IsChange event → apply event text ≡ Some new
+    → ((which : ReportKind) (i : ℕ) (gone come : List ℕ) → is_change which ≡ true → Tells q.text_room (noted q.text_room which i gone come) text new → P (noting which i gone come q)) → P (queue_step q event)
+heard_as P q (InsertChar i c) text new v is h note = note kind.CharInserted i [] (encode_utf8 c) refl (Tells-Swaps q.text_room kind.CharInserted i [] (encode_utf8 c) text new refl (λ e. absurd cc) (Swaps-InsertChar text new i c v.utf8 h))
+heard_as P q (InsertStr i s) text new v is h note = note kind.TextInserted i [] s refl (Tells-Swaps q.text_room kind.TextInserted i [] s text new refl (λ e. absurd cc) (Swaps-InsertStr text new i s v.utf8 h))
+heard_as P q (Delete i s Forward) text new v is h note =
+    note kind.DeletedForward i s [] refl (Tells-Swaps q.text_room kind.DeletedForward i s [] text new refl (λ e. absurd cc) (Swaps-Delete text new i s Forward v.utf8 h))
+heard_as P q (Delete i s Backward) text new v is h note =
+    note kind.DeletedBackward i s [] refl (Tells-Swaps q.text_room kind.DeletedBackward i s [] text new refl (λ e. absurd cc) (Swaps-Delete text new i s Backward v.utf8 h))
+heard_as P q (Replace i s t) text new v is h note = note kind.Replaced i s t refl (Tells-Swaps q.text_room kind.Replaced i s t text new refl (λ e. absurd cc) (Swaps-Replace text new i s t v.utf8 h))
+heard_as P q Start text new v is h note = absurd is
+heard_as P q Stop text new v is h note = absurd is
+heard_as P q (Cursors b a) text new v is h note = absurd is
+
+-- a kill's start and stop leave the text
+pub marked : (placed : Bool) (q : Queue) (old new : List ℕ) → Leads placed q old new → IsLineText old → IsLineText new → Leads placed (queue_step q Start) old new × Leads placed (queue_step q Stop) old new
+marked placed q old new l u v = (
+  Leads-note placed q (noted q.text_room kind.KillStarted 0 [] []) old new new l (Tells-mark q.text_room kind.KillStarted new v refl) (OnTrue_from placed _ (λ e. refl)) u v v,
+  Leads-note placed q (noted q.text_room kind.KillStopped 0 [] []) old new new l (Tells-mark q.text_room kind.KillStopped new v refl) (OnTrue_from placed _ (λ e. refl)) u v v,
+)
+
+-- cursors that are told after a change are those of its note
+pub on_last-one : (f : Noted → Noted) (ns : List Noted) (n : Noted) → on_last f (ns ++ n ∷ []) ≡ ns ++ f n ∷ []
+on_last-one f [] n = refl
+on_last-one f (m ∷ []) n = refl
+on_last-one f (m ∷ (k ∷ ks)) n = ap (λ l. m ∷ l) (on_last-one f (k ∷ ks) n)
+
+joined-none : (c : Option (ℕ × ℕ)) → joined_cursors c None ≡ c
+joined-none None = refl
+joined-none (Some c) = refl
+
+abbrev with_told : ℕ → ℕ → Noted → Noted
+with_told before after n = record { report = record n.report { cursors = Some (before, after) }; texts = n.texts }
+
+told-note : (room k before after : ℕ) (n : Noted) (w : Waiting) → is_change n.report.kind ≡ true → n.report.cursors ≡ None
+    → with_cursors before after (with_note room k n w) ≡ with_note room k (with_told before after n) w
+told-note room k before after n w b none = from w
+  where
+    more : (all : Joined) → with_cursors before after (AsOne (taken_in all n.report)) ≡ AsOne (taken_in all (with_told before after n).report)
+    more all = ap (λ c. AsOne (record { splice = (taken_in all n.report).splice; cursors = joined_cursors c (Some (before, after)) })) (ap (joined_cursors all.cursors) none ∙ joined-none all.cursors)
+
+    told : told_cursors before after n.report ≡ record n.report { cursors = Some (before, after) }
+    told = ap (λ c. if c then record n.report { cursors = Some (before, after) } else n.report) b
+
+    by : (c : Bool) (ns : List Noted) → with_cursors before after (if c then Whole (ns ++ n ∷ []) else AsOne (taken_in (as_one (Whole ns)) n.report))
+        ≡ (if c then Whole (ns ++ with_told before after n ∷ []) else AsOne (taken_in (as_one (Whole ns)) (with_told before after n).report))
+    by true ns = ap Whole (on_last-one _ ns n ∙ ap (λ r. ns ++ record { report = r; texts = n.texts } ∷ []) told)
+    by false ns = more (as_one (Whole ns))
+
+    from : (w : Waiting) → with_cursors before after (with_note room k n w) ≡ with_note room k (with_told before after n) w
+    from (Whole ns) = by (has_room_in room k (length n.texts) (Whole ns)) ns
+    from (AsOne all) = more all
+
+pub placed : (q : Queue) (event : Event) (before after : ℕ) (old text new : List ℕ) → Leads true q old text → IsLineText old → IsLineText text → length new < 2 ^ 64
+    → IsChange event → IsCharBoundary text before → apply event text ≡ Some new → IsCharBoundary new after → Leads true (queue_step (queue_step q event) (Cursors before after)) old new
+placed q event before after old text new l u v fits is b h a =
+    heard_as (λ now. Leads true (queue_step now (Cursors before after)) old new) q event text new v is h λ which i gone come change t.
+    let n = noted q.text_room which i gone come in
+    let tells : Tells q.text_room (with_told before after n) text new = record { splices = t.splices; texts_are = t.texts_are; mark = t.mark; apart = t.apart } in
+    subst (λ w. Leads true (record q { waiting = w }) old new) (sym (told-note q.room q.text_room before after n q.waiting change refl))
+    (Leads-note true q (with_told before after n) old text new l tells (b, a) u v (record { utf8 = apply-IsUtf8 event text new v.utf8 h; fits = fits }))
+
+-- cursors that are told alone leave where a queue leads
+apart-told : (before after : ℕ) (w : Waiting) → apart (with_cursors before after w) ≡ apart w
+apart-told before after (Whole ns) = length-on_last (λ n. record { report = told_cursors before after n.report; texts = n.texts }) ns
+apart-told before after (AsOne all) = refl
+
+waits-told : (k before after : ℕ) (w : Waiting) (old new : List ℕ) → WaitLeads false k w old new → WaitLeads false k (with_cursors before after w) old new
+waits-told k before after (Whole ns) old new l = LeadsBy-told k before after ns old new l
+waits-told k before after (AsOne all) old new l = (l.0, tt)
+
+pub heard : (q : Queue) (event : Event) (old text new : List ℕ) → Leads false q old text → IsLineText old → IsLineText text → length new < 2 ^ 64
+    → apply event text ≡ Some new → Leads false (queue_step q event) old new
 unfolding apply
 heard q event old text new l u v fits h = from event h
   where
     after : IsLineText new
     after = record { utf8 = apply-IsUtf8 event text new v.utf8 h; fits = fits }
 
-    from : (e : Event) → apply e text ≡ Some new → Leads q.text_room (queue_step q e).waiting old new
-    from (InsertChar i c) h =
-        Leads-note q (noted q.text_room kind.CharInserted i [] (encode_utf8 c)) old text new l (Tells-Swaps q.text_room kind.CharInserted i [] (encode_utf8 c) text new (Swaps-InsertChar text new i c v.utf8 h)) u v after
-    from (InsertStr i s) h = Leads-note q (noted q.text_room kind.TextInserted i [] s) old text new l (Tells-Swaps q.text_room kind.TextInserted i [] s text new (Swaps-InsertStr text new i s v.utf8 h)) u v after
-    from (Delete i s Forward) h =
-        Leads-note q (noted q.text_room kind.DeletedForward i s []) old text new l (Tells-Swaps q.text_room kind.DeletedForward i s [] text new (Swaps-Delete text new i s Forward v.utf8 h)) u v after
-    from (Delete i s Backward) h =
-        Leads-note q (noted q.text_room kind.DeletedBackward i s []) old text new l (Tells-Swaps q.text_room kind.DeletedBackward i s [] text new (Swaps-Delete text new i s Backward v.utf8 h)) u v after
-    from (Replace i s t) h = Leads-note q (noted q.text_room kind.Replaced i s t) old text new l (Tells-Swaps q.text_room kind.Replaced i s t text new (Swaps-Replace text new i s t v.utf8 h)) u v after
-    from Start h = let same : new ≡ text = cc in Leads-note q (noted q.text_room kind.KillStarted 0 [] []) old text new l same u v after
-    from Stop h = let same : new ≡ text = cc in Leads-note q (noted q.text_room kind.KillStopped 0 [] []) old text new l same u v after
-    from (Cursors b a) h = let same : text ≡ new = cc in Leads-told q.text_room b a q.waiting old new (subst (Leads q.text_room q.waiting old) same l)
+    change : (e : Event) → IsChange e → apply e text ≡ Some new → Leads false (queue_step q e) old new
+    change e is h = heard_as (λ now. Leads false now old new) q e text new v is h λ which i gone come c t. Leads-note false q (noted q.text_room which i gone come) old text new l t tt u v after
+
+    from : (e : Event) → apply e text ≡ Some new → Leads false (queue_step q e) old new
+    from (InsertChar i c) h = change (InsertChar i c) tt h
+    from (InsertStr i s) h = change (InsertStr i s) tt h
+    from (Delete i s side) h = change (Delete i s side) tt h
+    from (Replace i s t) h = change (Replace i s t) tt h
+    from Start h = let same : text ≡ new = cc in (marked false q old new (subst (Leads false q old) same l) u after).0
+    from Stop h = let same : text ≡ new = cc in (marked false q old new (subst (Leads false q old) same l) u after).1
+    from (Cursors b a) h =
+        let same : text ≡ new = cc in
+        record { leads = waits-told q.text_room b a q.waiting old new (subst (WaitLeads false q.text_room q.waiting old) same l.leads); within = rw (apart-told b a q.waiting) l.within; one = l.one }
+
+pub new_leads : (placed : Bool) (room text_room : ℕ) (text : List ℕ) → Leads placed (new_queue room text_room) text text
+new_leads placed room text_room text = record { leads = refl; within = omega arith; one = λ e. rw e (omega arith) }
+
+-- ---- what is read
+pub nothing : (placed : Bool) (q : Queue) (old new : List ℕ) → Leads placed q old new → oldest q.waiting ≡ None → new ≡ old
+nothing placed q old new l h = from q.waiting l.leads h
+  where
+    from : (w : Waiting) → WaitLeads placed q.text_room w old new → oldest w ≡ None → new ≡ old
+    from (Whole []) l h = l
+    from (Whole (n ∷ ns)) l h = absurd cc
+    from (AsOne all) l h = absurd cc
+
+-- texts that are kept of a note
+texts-kept : (k : ℕ) (x y : List ℕ) → 0 < k → kept k (x ++ y) ≡ x ++ y
+texts-kept k x y l = let some : (k == 0) ≡ false = grind (arith, nat_tests) in rw some refl
+
+slice-length : (x : List ℕ) (i n : ℕ) → i + n ≤ length x → length (slice_range x i (i + n)) ≡ n
+slice-length x i n le = length-take-le ((i + n) - i) (drop i x) (omega (arith, length-drop i x)) ∙ omega arith
+
+pub with_texts : (placed : Bool) (q : Queue) (note : Noted) (old new : List ℕ) → Leads placed q old new → IsLineText old → oldest q.waiting ≡ Some note → HasTexts q.text_room note.report
+    → ReadsTexts placed q note old new
+with_texts placed q note old new l u is has = from q.waiting l.leads l.within is
+  where
+    from : (w : Waiting) → WaitLeads placed q.text_room w old new → apart w ≤ q.room → oldest w ≡ Some note → ReadsTexts placed (record q { waiting = w }) note old new
+    from (Whole []) l within h = absurd cc
+    from (AsOne all) l within h =
+        let same : record { report = told_whole all; texts = [] } ≡ note = cc in
+        absurd (has.apart (ap (λ (n : Noted). n.report.kind) (sym same)))
+    from (Whole (n ∷ ns)) by within h =
+        let same : n ≡ note = cc in
+        let t : Tells q.text_room note old by.0 = subst (λ m. Tells q.text_room m old by.0) same by.1 in
+        let r = note.report in
+        let gone = slice_range old r.at (r.at + r.old_len) in
+        let come = slice_range by.0 r.at (r.at + r.new_len) in
+        let texts : note.texts ≡ gone ++ come = t.texts_are ∙ texts-kept q.text_room gone come has.kept in
+        let went : length gone ≡ r.old_len = slice-length old r.at r.old_len t.splices.old_to.0 in
+        let after : drop r.old_len note.texts ≡ come = ap (drop r.old_len) texts ∙ drop_at gone come r.old_len went in
+        let next : after_texts note old ≡ by.0 = ap (replace_range old r.at (r.at + r.old_len)) after ∙ Splices-new (splice_of r) old by.0 t.splices in
+        record {
+          text = rw next by.2;
+          tells = record {
+            went = ap (take r.old_len) texts ∙ take_at gone come r.old_len went;
+            came = ap length after ∙ slice-length by.0 r.at r.new_len t.splices.new_to.0;
+            mark = rw next t.mark;
+          };
+          cursors = rw (next, ← same) by.3;
+          rest = rw next record { leads = by.4; within = omega (arith, within); one = l.one };
+        }
 
 -- all as one report tells what it covers
-Splices-told : (all : Joined) (old new : List ℕ) → Covers all.splice old new → IsLineText new → Splices (splice_of (told_whole all)) old new
-Splices-told all old new c v = from c.differ
+Splices-told : (all : Joined) (old new : List ℕ) → Covers all.splice old new → Splices (splice_of (told_whole all)) old new
+Splices-told all old new c = from c.differ
   where
     from : ((all.splice ≡ untouched) × (new ≡ old)) ⊎ Splices all.splice old new → Splices (splice_of (told_whole all)) old new
     from (inl same) = rw (same.0, same.1) record {
@@ -125,12 +284,27 @@ Splices-told all old new c v = from c.differ
         let at : min all.splice.from all.splice.old_end ≡ all.splice.from = omega arith in
         Splices-as old new all.splice.from all.splice.old_end all.splice.new_end _ _ _ (sym at) (omega (arith, at)) (omega (arith, at)) s
 
-pub read : (q : Queue) (old new : List ℕ) → Leads q.text_room q.waiting old new → IsLineText old → IsLineText new
-    → MatchOption (oldest q.waiting) (new ≡ old) (λ note. ReadsTo q note old new)
-read q old new l u v = from q.waiting l
+pub whole : (placed : Bool) (q : Queue) (note : Noted) (old new : List ℕ) → Leads placed q old new → oldest q.waiting ≡ Some note → LacksTexts q.text_room note.report
+    → ReadsWhole placed q note old new
+whole placed q note old new l is lacks = from q.waiting l.leads l.within is
   where
-    from : (w : Waiting) → Leads q.text_room w old new
-        → MatchOption (oldest w) (new ≡ old) (λ note. ReadsTo (record { room = q.room; text_room = q.text_room; waiting = w }) note old new)
-    from (Whole []) l = l
-    from (Whole (n ∷ ns)) l = record { between = l.0; text = l.2; tells = l.1; rest = l.3 }
-    from (AsOne all) l = record { between = new; text = v; tells = Splices-told all old new l v; rest = refl }
+    read : (w : Waiting) (n : Noted) → n ≡ note → Splices (splice_of n.report) old new → OnTrue placed (Stand n.report.cursors old new) → oldest (forgotten (record q { waiting = w })).waiting ≡ None
+        → Leads placed (forgotten (record q { waiting = w })) new new → ReadsWhole placed (record q { waiting = w }) note old new
+    read w n same s c all rest = rw (← same) record { all = all; tells = Splices-new (splice_of n.report) old new s; cursors = c; rest = rest }
+
+    left : Leads placed (record q { waiting = Whole [] }) new new
+    left = record { leads = refl; within = omega arith; one = l.one }
+
+    alone : (n : Noted) (ns : List Noted) → n ≡ note → ¬ (n.report.kind ≡ kind.Folded) → length (n ∷ ns) ≤ q.room → ns ≡ []
+    alone n [] same f within = refl
+    alone n (m ∷ ms) same f within = absurd (elim lacks [ inl none ↦ omega (arith, within, l.one none) | inr fold ↦ f (ap (λ (x : Noted). x.report.kind) same ∙ fold) ])
+
+    from : (w : Waiting) → WaitLeads placed q.text_room w old new → apart w ≤ q.room → oldest w ≡ Some note → ReadsWhole placed (record q { waiting = w }) note old new
+    from (Whole []) l within h = absurd cc
+    from (AsOne all) l within h =
+        let same : record { report = told_whole all; texts = [] } ≡ note = cc in read (AsOne all) _ same (Splices-told all old new l.0) l.1 refl left
+    from (Whole (n ∷ ns)) by within h =
+        let same : n ≡ note = cc in
+        let none : ns ≡ [] = alone n ns same by.1.apart within in
+        let ends : new ≡ by.0 = subst (λ rest. LeadsBy placed q.text_room rest by.0 new) none by.4 in
+        rw none (read (Whole (n ∷ [])) n same (subst (Splices (splice_of n.report) old) (sym ends) by.1.splices) (subst (λ x. OnTrue placed (Stand n.report.cursors old x)) (sym ends) by.3) refl left)

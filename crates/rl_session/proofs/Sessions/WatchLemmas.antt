@@ -1,13 +1,13 @@
 -- What a watch keeps of a text at each event, it keeps over a command.
 use Rattle.std.proofs.Common.{◌≡◌, ◌∙◌, ℕ, ◌^◌, ◌<◌, arith, true, false, List, [], ◌∷◌, length, Option, Some, None, MatchOption, option_map, ◌≤◌, inl, inr, refl, sym, ap, subst}
-use Rattle.std.specs.Prelude.{option_and_then}
+use Rattle.std.specs.Prelude.{option_and_then, unwrap_or}
 use Rattle.std.specs.Str.{IsCharBoundary, IsUtf8}
 use Rattle.rl_base.specs.Event.{Event, InsertChar, InsertStr, Delete, Replace, Start, Stop, Cursors, apply}
 use Rattle.rl_base.specs.declared.listeners.Direction.TheVariants.{Forward, Backward}
-use Rattle.rl_base.specs.Reports.{IsLineText, Leads as ReportsLeadOn, Noted, Queue, ReadsTo, Tells, forgotten, oldest, queue_step}
+use Rattle.rl_base.specs.Reports.{HasTexts, IsLineText, LacksTexts, Noted, Queue, TellsByTexts, after_numbers, after_texts, forgotten, oldest, queue_step}
 use Rattle.rl_base.specs.Splice.{Covers, spliced}
-use Rattle.rl_base.specs.Watch.{Watched, ReportTells, ReportsLead, next_note, past_next, watch_step}
-use Rattle.rl_base.proofs.Queue.LeadLemmas.{heard as reports_heard, read as reports_read}
+use Rattle.rl_base.specs.Watch.{Watched, ReportsLead, next_note, past_next, text_room, watch_step}
+use Rattle.rl_base.proofs.Queue.LeadLemmas.{heard as reports_heard, nothing, whole, with_texts}
 use Rattle.rl_base.specs.declared.listeners.Refusal.TheVariants as why
 use Rattle.rl_base.proofs.Texts.SpliceLemmas.{Covers-apply}
 use Rattle.rl_line.specs.Line.{Line}
@@ -139,38 +139,15 @@ goes_on : (asked : List ℕ) (w : Watched) (event : Event) (text new : List ℕ)
     → Covers (spliced w.changed event) asked new
 goes_on asked w event text new k u small large e = Covers-apply w.changed event asked text new k u small large e
 
--- a queue keeps its room for texts
-room-step : (q : Queue) (event : Event) → (queue_step q event).text_room ≡ q.text_room
-room-step q (InsertChar i c) = refl
-room-step q (InsertStr i s) = refl
-room-step q (Delete i s Forward) = refl
-room-step q (Delete i s Backward) = refl
-room-step q (Replace i s t) = refl
-room-step q Start = refl
-room-step q Stop = refl
-room-step q (Cursors before after) = refl
-
 -- reports lead on over one more event
-lead_on : (read : List ℕ) (w : Watched) (event : Event) (text new : List ℕ) → IsLineText read × ReportsLead w.reports read text → IsUtf8 text → length text < 2 ^ 64 → length new < 2 ^ 64 → apply event text ≡ Some new
-    → IsLineText read × ReportsLead (watch_step w event).reports read new
+lead_on : (read : List ℕ) (w : Watched) (event : Event) (text new : List ℕ) → IsLineText read × ReportsLead false w.reports read text → IsUtf8 text → length text < 2 ^ 64 → length new < 2 ^ 64 → apply event text ≡ Some new
+    → IsLineText read × ReportsLead false (watch_step w event).reports read new
 lead_on read w event text new k u small large e = (k.0, from w.reports k.1)
   where
-    from : (reports : Option Queue) → ReportsLead reports read text → ReportsLead (option_map (λ (q : Queue). queue_step q event) reports) read new
+    from : (reports : Option Queue) → ReportsLead false reports read text → ReportsLead false (option_map (λ (q : Queue). queue_step q event) reports) read new
     from None h = absurd h
     from (Some q) h =
-        let leads = reports_heard q event read text new h k.0 (record { utf8 = u; fits = small }) large e in
-        subst (λ room. ReportsLeadOn room (queue_step q event).waiting read new) (sym (room-step q event)) leads
-
--- what the oldest report tells, and where the others lead on from
-read_on : (reports : Option Queue) (read text : List ℕ) → IsLineText read → IsLineText text → ReportsLead reports read text
-    → MatchOption (option_and_then (λ (q : Queue). oldest q.waiting) reports) (text ≡ read) (λ note. (between : List ℕ) × ReportTells reports note read between × (IsLineText between × ReportsLead (option_map forgotten reports) between text))
-read_on None read text u v h = absurd h
-read_on (Some q) read text u v h = from (oldest q.waiting) (reports_read q read text h u v)
-  where
-    from : (o : Option Noted) → MatchOption o (text ≡ read) (λ note. ReadsTo q note read text)
-        → MatchOption o (text ≡ read) (λ note. (between : List ℕ) × Tells q.text_room note read between × (IsLineText between × ReportsLeadOn q.text_room (forgotten q).waiting between text))
-    from None h = h
-    from (Some n) h = (h.between, h.tells, (h.text, h.rest))
+        reports_heard q event read text new h k.0 (record { utf8 = u; fits = small }) large e
 
 -- so what changed is told after a command, and after a run
 pub changed_row : (asked : List ℕ) (row : Row) → ChangedFrom asked row.before → ChangedFrom asked row.after
@@ -182,7 +159,7 @@ changed_row asked row k = record {
 
 pub reported_row : (read : List ℕ) (row : Row) → ReportedFrom read row.before → ReportedFrom read row.after
 reported_row read row k =
-    let kept = Kept-Step (λ w text. IsLineText read × ReportsLead w.reports read text) (lead_on read) row.before row.command row.reply row.after row.step k.stands k.bounded (k.text, k.leads) in
+    let kept = Kept-Step (λ w text. IsLineText read × ReportsLead false w.reports read text) (lead_on read) row.before row.command row.reply row.after row.step k.stands k.bounded (k.text, k.leads) in
     record { stands = row.step.stands; bounded = row.step.bounded; text = kept.0; leads = kept.1 }
 
 -- and after a restart
@@ -197,8 +174,8 @@ pub reported_restarted : (read text : List ℕ) (pos : ℕ) (old new : State) �
 reported_restarted read text pos old new e h b k =
     let utf8 : IsUtf8 text = subst (λ (s : State). IsUtf8 s.line.text) e h.utf8 in
     let is : new.line.text ≡ text = ap (λ (s : State). s.line.text) e in
-    let kept = Kept-restarted (λ w text. IsLineText read × ReportsLead w.reports read text) (lead_on read) text pos old k.stands k.bounded utf8 (omega (arith, ap length is, h.within, b)) (k.text, k.leads) in
-    record { stands = h; bounded = b; text = kept.0; leads = subst (λ (s : State). ReportsLead s.pair.watch.reports read s.line.text) (sym e) kept.1 }
+    let kept = Kept-restarted (λ w text. IsLineText read × ReportsLead false w.reports read text) (lead_on read) text pos old k.stands k.bounded utf8 (omega (arith, ap length is, h.within, b)) (k.text, k.leads) in
+    record { stands = h; bounded = b; text = kept.0; leads = subst (λ (s : State). ReportsLead false s.pair.watch.reports read s.line.text) (sym e) kept.1 }
 
 -- what a fact keeps at each row it keeps over rows
 over : (Holds : State → Type 0) → ((row : Row) → Holds row.before → Holds row.after) → (rows : List Row) (old new : State) → Leads old rows new → Holds old → Holds new
@@ -211,19 +188,46 @@ changed_run asked old new commands replies run k = over (ChangedFrom asked) (cha
 pub reported_run : (read : List ℕ) (old new : State) (commands : List Command) (replies : List Reply) → Run old commands replies new → ReportedFrom read old → ReportedFrom read new
 reported_run read old new commands replies run k = over (ReportedFrom read) (reported_row read) run.rows old new run.leads k
 
--- the oldest report is read and forgotten
-pub reported_on : (old : State) (read : List ℕ) → ReportedFrom read old → MatchOption (next_note old.pair.watch) (old.line.text ≡ read)
-    (λ note. (between : List ℕ) × ReportTells old.pair.watch.reports note read between × ReportedFrom between (with_watch (past_next old.pair.watch) old))
-reported_on old read k = from (next_note old.pair.watch) (read_on old.pair.watch.reports read old.line.text k.text text k.leads)
+-- ---- the oldest report is read and forgotten
+present : (s : State) (read : List ℕ) → ReportedFrom read s → IsLineText s.line.text
+present s read k = record { utf8 = k.stands.utf8; fits = omega (arith, k.stands.within, k.bounded) }
+
+-- where reading left off, once it went on
+goes_on_from : (s : State) (read text : List ℕ) → ReportedFrom read s → IsLineText text → ReportsLead false (option_map forgotten s.pair.watch.reports) text s.line.text
+    → ReportedFrom text (with_watch (past_next s.pair.watch) s)
+goes_on_from s read text k u l = record {
+  stands = record { utf8 = k.stands.utf8; cursor = k.stands.cursor; within = k.stands.within; ring = k.stands.ring; idle = k.stands.idle };
+  bounded = k.bounded;
+  text = u;
+  leads = l;
+}
+
+pub reads_nothing : (s : State) (read : List ℕ) → ReportedFrom read s → next_note s.pair.watch ≡ None → s.line.text ≡ read
+reads_nothing s read k = from s.pair.watch.reports k.leads
   where
-    text : IsLineText old.line.text
-    text = record { utf8 = k.stands.utf8; fits = omega (arith, k.stands.within, k.bounded) }
+    from : (reports : Option Queue) → ReportsLead false reports read s.line.text → option_and_then (λ (q : Queue). oldest q.waiting) reports ≡ None → s.line.text ≡ read
+    from None l h = absurd l
+    from (Some q) l h = nothing false q read s.line.text l h
 
-    stands : Stands (with_watch (past_next old.pair.watch) old)
-    stands = record { utf8 = k.stands.utf8; cursor = k.stands.cursor; within = k.stands.within; ring = k.stands.ring; idle = k.stands.idle }
+pub reads_texts : (s : State) (read : List ℕ) (note : Noted) → ReportedFrom read s → next_note s.pair.watch ≡ Some note → HasTexts (text_room s.pair.watch) note.report
+    → TellsByTexts note read × ReportedFrom (after_texts note read) (with_watch (past_next s.pair.watch) s)
+reads_texts s read note k h has =
+    let r = from s.pair.watch.reports k.leads h has in (r.1, goes_on_from s read (after_texts note read) k r.0 r.2)
+  where
+    from : (reports : Option Queue) → ReportsLead false reports read s.line.text → option_and_then (λ (q : Queue). oldest q.waiting) reports ≡ Some note
+        → HasTexts (unwrap_or (option_map (λ (q : Queue). q.text_room) reports) 0) note.report
+        → IsLineText (after_texts note read) × TellsByTexts note read × ReportsLead false (option_map forgotten reports) (after_texts note read) s.line.text
+    from None l h has = absurd l
+    from (Some q) l h has = let r = with_texts false q note read s.line.text l k.text h has in (r.text, r.tells, r.rest)
 
-    from : (o : Option Noted) → MatchOption o (old.line.text ≡ read) (λ note. (between : List ℕ) × ReportTells old.pair.watch.reports note read between
-        × (IsLineText between × ReportsLead (option_map forgotten old.pair.watch.reports) between old.line.text))
-        → MatchOption o (old.line.text ≡ read) (λ note. (between : List ℕ) × ReportTells old.pair.watch.reports note read between × ReportedFrom between (with_watch (past_next old.pair.watch) old))
-    from None h = h
-    from (Some n) h = (h.0, h.1, record { stands = stands; bounded = k.bounded; text = h.2.0; leads = h.2.1 })
+pub reads_whole : (s : State) (read : List ℕ) (note : Noted) → ReportedFrom read s → next_note s.pair.watch ≡ Some note → LacksTexts (text_room s.pair.watch) note.report
+    → (next_note (past_next s.pair.watch) ≡ None) × (after_numbers note.report s.line.text read ≡ s.line.text) × ReportedFrom s.line.text (with_watch (past_next s.pair.watch) s)
+reads_whole s read note k h lacks =
+    let r = from s.pair.watch.reports k.leads h lacks in (r.0, r.1, goes_on_from s read s.line.text k (present s read k) r.2)
+  where
+    from : (reports : Option Queue) → ReportsLead false reports read s.line.text → option_and_then (λ (q : Queue). oldest q.waiting) reports ≡ Some note
+        → LacksTexts (unwrap_or (option_map (λ (q : Queue). q.text_room) reports) 0) note.report
+        → (option_and_then (λ (q : Queue). oldest q.waiting) (option_map forgotten reports) ≡ None) × (after_numbers note.report s.line.text read ≡ s.line.text)
+        × ReportsLead false (option_map forgotten reports) s.line.text s.line.text
+    from None l h lacks = absurd l
+    from (Some q) l h lacks = let r = whole false q note read s.line.text l h lacks in (r.all, r.tells, r.rest)
