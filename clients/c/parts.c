@@ -185,7 +185,15 @@ static void lines_report(void) {
     SEE(lodvarn_line_reports(&l) == 2);
     SEE(told(&l, LODVARN_CHAR_INSERTED, 7, "", "x", 7, 8));
     SEE(told(&l, LODVARN_DELETED_BACKWARD, 7, "x", "", 8, 7));
+    ANSWERS(lodvarn_line_replace(&l, 1, 1, "", 0), DONE);
+    ANSWERS(lodvarn_line_set_pos(&l, 7), DONE);
+    ANSWERS(lodvarn_line_kill(&l, LODVARN_BACKWARD_CHAR, 0, 0), FALSE);
+    ANSWERS(lodvarn_line_kill_range(&l, 2, 2, LODVARN_KILL_FORWARD), FALSE);
+    SEE(lodvarn_line_reports(&l) == 3 && told(&l, LODVARN_REPLACED, 1, "", "", 7, 1));
+    SEE(told(&l, LODVARN_KILL_STARTED, 0, "", "", 0, 0));
+    ANSWERS(lodvarn_line_set_pos(&l, 7), DONE);
     ANSWERS(lodvarn_line_kill(&l, LODVARN_BACKWARD_EMACS_WORD, 1, 0), TRUE);
+    SEE(told(&l, LODVARN_KILL_STOPPED, 0, "", "", 0, 0));
     SEE(told(&l, LODVARN_KILL_STARTED, 0, "", "", 0, 0));
     ANSWERS(lodvarn_line_next_report(&l, &kind, &at, &old_len, &new_len, &before, &after, out, 2), TOO_SMALL);
     SEE(kind == LODVARN_DELETED_BACKWARD && at == 4 && old_len == 3 && new_len == 0 && before == 7 && after == 4);
@@ -202,6 +210,9 @@ static void lines_report(void) {
     ANSWERS(lodvarn_line_set_can_grow(&l, 1), DONE);
     ANSWERS(lodvarn_line_yank(&l, "abc", 3, 4), FALSE);
     SEE(stands(&l, "abcabcabcabc ", 12));
+    ANSWERS(lodvarn_line_open(&l, "x", 1, 0, LODVARN_NO_LIMIT, 0), DONE);
+    ANSWERS(lodvarn_line_insert(&l, 'y', 1), FALSE);
+    SEE(told(&l, LODVARN_CHAR_INSERTED, 0, "", "y", 0, 1));
     lodvarn_line_close(&l);
 }
 
@@ -232,10 +243,23 @@ static void records_undo(void) {
     SEE(told(&l, LODVARN_REPLACED, 3, "-", "", 4, 3) && told(&l, LODVARN_REPLACED, 0, "one", "", 3, 0));
     ANSWERS(lodvarn_record_undo(&r, &l, 1), FALSE);
     ANSWERS(lodvarn_record_redo(&r, &l), TRUE);
+    ANSWERS(lodvarn_record_redo(&r, &l), FALSE);
     SEE(stands(&l, "one-", 4) && lodvarn_line_reports(&l) == 2);
     ANSWERS(lodvarn_record_replays_to(&r, 0, &l), FALSE);
     ANSWERS(lodvarn_record_truncate(&r, 0), DONE);
     ANSWERS(lodvarn_record_undo(&r, &l, 1), FALSE);
+    ANSWERS(lodvarn_record_insert_char(&r, 5000, 'c'), DONE);
+    ANSWERS(lodvarn_record_truncate(&r, 0), DONE);
+    ANSWERS(lodvarn_record_begin(&r, &mark), MARK);
+    ANSWERS(lodvarn_record_insert_str(&r, 0, "one-", 4), DONE);
+    ANSWERS(lodvarn_record_undo(&r, &l, 1), TRUE);
+    SEE(lodvarn_record_level(&r) == 1 && stands(&l, "", 0));
+    ANSWERS(lodvarn_record_redo(&r, &l), TRUE);
+    SEE(stands(&l, "one-", 4));
+    ANSWERS(lodvarn_record_truncate(&r, 0), DONE);
+    ANSWERS(lodvarn_record_insert_str(&r, 0, "one-", 4), DONE);
+    ANSWERS(lodvarn_record_cursors(&r, 1, 4), DONE);
+    ANSWERS(lodvarn_record_undo(&r, &l, 1), NOT_REPLAYING);
     lodvarn_record_close(&r);
     lodvarn_line_close(&other);
     lodvarn_line_close(&l);

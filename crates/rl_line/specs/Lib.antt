@@ -17,3 +17,4 @@ pub mod Units
 pub mod Forgetting
 pub mod Undo
 pub mod Walk
+pub mod Foretelling

@@ -1,15 +1,21 @@
 -- What a listener hears of a line that goes over its record.
-use Rattle.std.proofs.Common.{◌≡◌, ℕ, ◌≤◌, max, List, [], ◌∷◌, ◌++◌, length, map, reverse, Some, refl, sym, ap, subst, ◌∙◌, arith}
+use Rattle.std.proofs.Common.{◌≡◌, ℕ, ◌^◌, ◌<◌, ◌≤◌, ◌⊎◌, inl, inr, zero, suc, Bool, true, false, max, List, [], ◌∷◌, ◌++◌, length, map, reverse, Some, refl, sym, ap, subst, append_assoc, ◌∙◌, arith}
 use Rattle.std.proofs.lemmas.List.{map-append, reverse-append}
+use Rattle.std.proofs.lemmas.Simd.{map-map}
 use Rattle.std.proofs.lemmas.Option.{same_Some}
-use Rattle.std.specs.Prelude.{option_and_then}
+use Rattle.std.specs.Prelude.{Any, get_or, option_and_then, ◌||◌}
 use Rattle.std.specs.Str.{IsCharBoundary}
 use Rattle.rl_base.specs.Event.{Event, Replace, apply}
-use Rattle.rl_line.specs.Line.{Line, stepped}
-use Rattle.rl_line.specs.Plan.{after, listener_after, listener_after_step}
+use Rattle.rl_base.specs.declared.listeners.Refusal.{Refusal}
+use Rattle.rl_base.specs.declared.listeners.Refusal.TheVariants.{NoMemory}
+use Rattle.rl_line.specs.Foretelling.{HeardInPart}
+use Rattle.rl_line.specs.Line.{Line, NeedsRoom, stepped}
+use Rattle.rl_line.specs.Plan.{Step, after, listener_after, listener_after_step}
 use Rattle.rl_line.specs.Record.{Entry, Begin, End, Changed, event_of, inverse, new_text, old_text}
 use Rattle.rl_line.specs.Change.{place}
-use Rattle.rl_line.specs.Undo.{cursor_after, line_after, line_ahead, line_back, steps_ahead, steps_back}
+use Rattle.rl_line.specs.Undo.{cursor_after, line_after, line_ahead, line_back, steps_ahead, steps_back, texts_after, texts_ahead, texts_back}
+use Rattle.rl_line.specs.Units.{has_change, is_change}
+use Rattle.rl_line.proofs.Records.GroupLemmas.{has_change-append}
 use Rattle.rl_line.proofs.Plans.PlanLemmas.{Fits-from, standing-is}
 use Rattle.rl_line.proofs.Records.RecordLemmas.{inverse-inverse, then_some, through}
 use Rattle.rl_line.proofs.Records.UndoLemmas.{line_ahead-append, then-same}
@@ -21,6 +27,9 @@ line_back-ahead (e ∷ es) line =
     ap (λ l. line_ahead (map inverse l) line) (reverse-append (e ∷ []) es) ∙ ap (λ l. line_ahead l line) (map-append inverse (reverse es) (e ∷ []))
     ∙ line_ahead-append (map inverse (reverse es)) (inverse e ∷ []) line ∙ ap (option_and_then (line_ahead (inverse e ∷ []))) (line_back-ahead es line)
     ∙ then-same (line_ahead (inverse e ∷ [])) (line_after (inverse e)) (λ l. then_some (line_after (inverse e) l)) (line_back es line)
+
+turned-cons : (e : Entry) (es : List Entry) → map inverse (reverse (e ∷ es)) ≡ map inverse (reverse es) ++ inverse e ∷ []
+turned-cons e es = ap (map inverse) (reverse-append (e ∷ []) es) ∙ map-append inverse (reverse es) (e ∷ [])
 
 -- entries that are turned round twice
 turned-turned : (es : List Entry) → map inverse (reverse (map inverse (reverse es))) ≡ es
@@ -93,7 +102,71 @@ cursor_past-append (d ∷ es) e cursor = cursor_past-append es e (cursor_after c
 
 pub cursor_past_back-one_more : (e : Entry) (es : List Entry) (cursor : ℕ) → cursor_past_back cursor (e ∷ es) ≡ cursor_after (cursor_past_back cursor es) (inverse e)
 cursor_past_back-one_more e es cursor =
-    ap (cursor_past cursor) (ap (map inverse) (reverse-append (e ∷ []) es) ∙ map-append inverse (reverse es) (e ∷ [])) ∙ cursor_past-append (map inverse (reverse es)) (inverse e) cursor
+    ap (cursor_past cursor) (turned-cons e es) ∙ cursor_past-append (map inverse (reverse es)) (inverse e) cursor
+
+steps_ahead-append : (es ds : List Entry) (cursor : ℕ) → steps_ahead cursor (es ++ ds) ≡ steps_ahead cursor es ++ steps_ahead (cursor_past cursor es) ds
+steps_ahead-append [] ds cursor = refl
+steps_ahead-append (Begin ∷ es) ds cursor = steps_ahead-append es ds cursor
+steps_ahead-append (End ∷ es) ds cursor = steps_ahead-append es ds cursor
+steps_ahead-append (Changed kind swap ∷ es) ds cursor =
+    let d = Changed kind swap in
+    ap (λ ss. (event_of d, cursor_after cursor d) ∷ ss) (steps_ahead-append es ds (cursor_after cursor d))
+
+-- the way back over entries is that over the last ones, and then over those before them
+steps_back-parts : (more : List Entry) (e : Entry) (es : List Entry) (cursor : ℕ)
+    → steps_back cursor (more ++ e ∷ es) ≡ steps_back cursor es ++ steps_ahead (cursor_past_back cursor es) (inverse e ∷ map inverse (reverse more))
+steps_back-parts more e es cursor =
+    let back = map inverse (reverse es) in
+    ap (steps_ahead cursor)
+    (ap (map inverse) (reverse-append more (e ∷ es) ∙ ap (λ l. l ++ reverse more) (reverse-append (e ∷ []) es) ∙ append_assoc (reverse es) (e ∷ []) (reverse more))
+    ∙ map-append inverse (reverse es) (e ∷ reverse more))
+    ∙ steps_ahead-append back (inverse e ∷ map inverse (reverse more)) cursor
+
+same_room : (text : List ℕ) → NeedsRoom text text → ⊥
+same_room text (inl longer) = omega (arith, longer)
+same_room text (inr more) = omega (arith, more)
+
+-- ---- something is told, and a text on the way needs room, only where there is a change
+pub told-change : (es : List Entry) (cursor : ℕ) → 0 < length (steps_ahead cursor es) → has_change es ≡ true
+told-change [] cursor some = absurd (omega (arith, some))
+told-change (Begin ∷ es) cursor some = told-change es cursor some
+told-change (End ∷ es) cursor some = told-change es cursor some
+told-change (Changed kind swap ∷ es) cursor some = refl
+
+room-change : (es : List Entry) (text : List ℕ) (k : ℕ) (x : List ℕ) → k < length (texts_ahead es text) → get_or (texts_ahead es text) k x ≡ x → NeedsRoom text x → has_change es ≡ true
+unfolding apply
+room-change [] text k x within is needs = absurd (omega (arith, within))
+room-change (Begin ∷ es) text zero x within is needs = absurd (same_room text (subst (NeedsRoom text) (sym is) needs))
+room-change (Begin ∷ es) text (suc k) x within is needs = room-change es text k x (omega (arith, within)) is needs
+room-change (End ∷ es) text zero x within is needs = absurd (same_room text (subst (NeedsRoom text) (sym is) needs))
+room-change (End ∷ es) text (suc k) x within is needs = room-change es text k x (omega (arith, within)) is needs
+room-change (Changed kind swap ∷ es) text k x within is needs = refl
+
+pub room_ahead-change : (es : List Entry) (text : List ℕ) → Any (NeedsRoom text) (texts_ahead es text) → has_change es ≡ true
+room_ahead-change es text some = room-change es text some.0 some.1 some.2 some.3 some.4
+
+-- turned round, entries hold a change where they did
+or_nothing : (b : Bool) → (b || false) ≡ b
+or_nothing true = refl
+or_nothing false = refl
+
+turned-mark : (m : Entry) (es : List Entry) → is_change (inverse m) ≡ false → has_change (map inverse (reverse (m ∷ es))) ≡ true → has_change (map inverse (reverse es)) ≡ true
+turned-mark m es none h =
+    let ds = map inverse (reverse es) in
+    sym (ap has_change (turned-cons m es) ∙ has_change-append ds (inverse m ∷ []) ∙ ap (λ b. has_change ds || (b || false)) none ∙ or_nothing (has_change ds)) ∙ h
+
+turned-change : (es : List Entry) → has_change (map inverse (reverse es)) ≡ true → has_change es ≡ true
+turned-change [] h = h
+turned-change (Begin ∷ es) h = turned-change es (turned-mark Begin es refl h)
+turned-change (End ∷ es) h = turned-change es (turned-mark End es refl h)
+turned-change (Changed kind swap ∷ es) h = refl
+
+pub told_back-change : (es : List Entry) (cursor : ℕ) → 0 < length (steps_back cursor es) → has_change es ≡ true
+told_back-change es cursor some = turned-change es (told-change (map inverse (reverse es)) cursor some)
+
+pub room_back-change : (es : List Entry) (text : List ℕ) → Any (NeedsRoom text) (texts_back es text) → has_change es ≡ true
+room_back-change es text some =
+    turned-change es (room_ahead-change (map inverse (reverse es)) text (subst (λ events. Any (NeedsRoom text) (texts_after events text)) (sym (map-map event_of inverse (reverse es))) some))
 
 -- ---- what a listener became
 module _ {L : Type 0} (step : L → Event → L) where
@@ -121,27 +194,60 @@ module _ {L : Type 0} (step : L → Event → L) where
       (ahead-one_more es e p.0 now heard p.2)
 
   -- the same by the cursor alone
-  ahead-past : (es : List Entry) (e : Entry) (cursor : ℕ) (l : L)
-      → listener_after step cursor (steps_ahead cursor (es ++ e ∷ [])) l
-      ≡ listener_after step (cursor_past cursor es) (steps_ahead (cursor_past cursor es) (e ∷ [])) (listener_after step cursor (steps_ahead cursor es) l)
-  ahead-past [] e cursor l = refl
-  ahead-past (Begin ∷ es) e cursor l = ahead-past es e cursor l
-  ahead-past (End ∷ es) e cursor l = ahead-past es e cursor l
-  ahead-past (Changed kind swap ∷ es) e cursor l =
+  heard-past : (es : List Entry) (cursor : ℕ) (ss : List Step) (l : L)
+      → listener_after step cursor (steps_ahead cursor es ++ ss) l ≡ listener_after step (cursor_past cursor es) ss (listener_after step cursor (steps_ahead cursor es) l)
+  heard-past [] cursor ss l = refl
+  heard-past (Begin ∷ es) cursor ss l = heard-past es cursor ss l
+  heard-past (End ∷ es) cursor ss l = heard-past es cursor ss l
+  heard-past (Changed kind swap ∷ es) cursor ss l =
       let d = Changed kind swap in
-      ahead-past es e (cursor_after cursor d) (listener_after_step step cursor (event_of d, cursor_after cursor d) l)
+      heard-past es (cursor_after cursor d) ss (listener_after_step step cursor (event_of d, cursor_after cursor d) l)
 
   pub back-past : (e : Entry) (es : List Entry) (cursor : ℕ) (l : L)
       → listener_after step cursor (steps_back cursor (e ∷ es)) l
       ≡ listener_after step (cursor_past_back cursor es) (steps_ahead (cursor_past_back cursor es) (inverse e ∷ [])) (listener_after step cursor (steps_back cursor es) l)
   back-past e es cursor l =
-      ap (λ ds. listener_after step cursor (steps_ahead cursor ds) l) (ap (map inverse) (reverse-append (e ∷ []) es) ∙ map-append inverse (reverse es) (e ∷ []))
-      ∙ ahead-past (map inverse (reverse es)) (inverse e) cursor l
+      let back = map inverse (reverse es) in
+      ap (λ ss. listener_after step cursor ss l) (steps_back-parts [] e es cursor) ∙ heard-past back cursor (steps_ahead (cursor_past cursor back) (inverse e ∷ [])) l
+
+  -- a change was refused, the first of which a listener heard
+  pub HeardInPart-one : (refused : L → Event → Refusal → L → Type 0) (e : Entry) (i cursor : ℕ) (b n : L) (r : Refusal) → place e ≡ Some i
+      → (refused b (Replace i (new_text e) (old_text e)) r n ⊎ ((r ≡ NoMemory) × (n ≡ b) × (2 ^ 64 ≤ cursor_after cursor (inverse e))))
+      → HeardInPart step refused cursor (steps_ahead cursor (inverse e ∷ [])) b n r
+  HeardInPart-one refused e i cursor b n r at cause = record {
+    first = [];
+    next = (Replace i (new_text e) (old_text e), cursor_after cursor (inverse e));
+    others = [];
+    split = told-one e i cursor at;
+    middle = b;
+    heard = refl;
+    cause = cause;
+  }
+
+  -- a change among others was refused, where those before it on the way back were heard
+  pub HeardInPart-back : (refused : L → Event → Refusal → L → Type 0) (more : List Entry) (e : Entry) (es : List Entry) (cursor : ℕ) (b n : L) (r : Refusal)
+      → HeardInPart step refused (cursor_past_back cursor es) (steps_ahead (cursor_past_back cursor es) (inverse e ∷ [])) (listener_after step cursor (steps_back cursor es) b) n r
+      → HeardInPart step refused cursor (steps_back cursor (more ++ e ∷ es)) b n r
+  HeardInPart-back refused more e es cursor b n r h =
+      let back = map inverse (reverse es) in
+      let past = cursor_past cursor back in
+      let others = steps_ahead (cursor_after past (inverse e)) (map inverse (reverse more)) in
+      record {
+        first = steps_back cursor es ++ h.first;
+        next = h.next;
+        others = h.others ++ others;
+        split = steps_back-parts more e es cursor
+            ∙ ap (λ ss. steps_back cursor es ++ ss) (steps_ahead-append (inverse e ∷ []) (map inverse (reverse more)) past ∙ ap (λ ss. ss ++ others) h.split ∙ append_assoc h.first (h.next ∷ h.others) others)
+            ∙ sym (append_assoc (steps_back cursor es) h.first (h.next ∷ h.others ++ others));
+        middle = h.middle;
+        heard = h.heard ∙ sym (heard-past back cursor h.first b);
+        cause = h.cause;
+      }
 
   -- a line went back over entries, and now over one before them
   pub back-one_more : (e : Entry) (es : List Entry) (line now : Line) (l : L) → line_back es line ≡ Some now
       → listener_after step line.cursor (steps_back line.cursor (e ∷ es)) l
       ≡ listener_after step now.cursor (steps_ahead now.cursor (inverse e ∷ [])) (listener_after step line.cursor (steps_back line.cursor es) l)
   back-one_more e es line now l h =
-      ap (λ ds. listener_after step line.cursor (steps_ahead line.cursor ds) l) (ap (map inverse) (reverse-append (e ∷ []) es) ∙ map-append inverse (reverse es) (e ∷ []))
+      ap (λ ds. listener_after step line.cursor (steps_ahead line.cursor ds) l) (turned-cons e es)
       ∙ ahead-one_more (map inverse (reverse es)) (inverse e) line now l (line_back-ahead es line ∙ h)

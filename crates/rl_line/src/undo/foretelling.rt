@@ -1,6 +1,7 @@
 //! Telling a listener what an undo or a redo would tell it, before anything is undone or redone.
-ghost use Rattle.std.specs.Prelude.{◌≡◌, [], ◌∷◌, IfOk, OnOk};
+ghost use Rattle.std.specs.Prelude.{◌≡◌, [], ◌∷◌, IfErr, IfOk, OnOk};
 ghost use Rattle.rl_line.specs.Change.{entries_to_undo, entry_to_undo};
+ghost use Rattle.rl_line.specs.Foretelling.{HeardInPart};
 ghost use Rattle.rl_line.specs.Plan.{listener_after};
 ghost use Rattle.rl_line.specs.Record.{inverse};
 ghost use Rattle.rl_line.specs.Undo.{cursor_after, steps_ahead, steps_back};
@@ -14,14 +15,16 @@ use rl_base::{ChangeListener, Refusal, RepeatCount};
 
 impl Changeset {
     /// Tells a listener, which may refuse, what `undo_telling` would tell it of an undo of `n`, and undoes nothing. Refused,
-    /// it has heard of some first of these changes.
+    /// it has heard of the first of these changes, and refused the next; or, with NoMemory, the next leaves the cursor at no
+    /// place that fits a `usize`, and it heard nothing of that.
     pub fn foretell_undo<L: ChangeListener>(
         &self,
         line: &LineBuffer,
         n: RepeatCount,
         listener: &mut L,
     ) -> Result<(), Refusal>
-        ensures { OnOk result (listener.new ≡ listener_after L.step line.now.cursor (steps_back line.now.cursor (last_of n self.now.recorded)) listener.old) }
+        ensures done { OnOk result (listener.new ≡ listener_after L.step line.now.cursor (steps_back line.now.cursor (last_of n self.now.recorded)) listener.old) }
+        ensures err { IfErr result (HeardInPart L.step L.refused line.now.cursor (steps_back line.now.cursor (last_of n self.now.recorded)) listener.old listener.new) }
     {
         let taken = entries::last_len(&self.entries[..self.recorded], n);
         let first = self.recorded - taken;
@@ -29,14 +32,15 @@ impl Changeset {
         foretell(unit, Way::Back, line.pos(), listener)
     }
 
-    /// Tells a listener, which may refuse, what `redo_telling` would tell it, and redoes nothing. Refused, it has heard of some
-    /// first of these changes.
+    /// Tells a listener, which may refuse, what `redo_telling` would tell it, and redoes nothing. Refused, all is as after a
+    /// refused `foretell_undo`.
     pub fn foretell_redo<L: ChangeListener>(
         &self,
         line: &LineBuffer,
         listener: &mut L,
     ) -> Result<(), Refusal>
-        ensures { OnOk result (listener.new ≡ listener_after L.step line.now.cursor (steps_ahead line.now.cursor (redo_of self.now.pending)) listener.old) }
+        ensures done { OnOk result (listener.new ≡ listener_after L.step line.now.cursor (steps_ahead line.now.cursor (redo_of self.now.pending)) listener.old) }
+        ensures err { IfErr result (HeardInPart L.step L.refused line.now.cursor (steps_ahead line.now.cursor (redo_of self.now.pending)) listener.old listener.new) }
     {
         let coming = entries::next_len(&self.entries[self.recorded..]);
         let end = self.recorded + coming;
@@ -53,7 +57,8 @@ fn foretell<L: ChangeListener>(
     cursor: usize,
     listener: &mut L,
 ) -> Result<(), Refusal>
-    ensures { OnOk result (listener.new ≡ listener_after L.step cursor (steps_back cursor (entries_to_undo way changes.now)) listener.old) }
+    ensures done { OnOk result (listener.new ≡ listener_after L.step cursor (steps_back cursor (entries_to_undo way changes.now)) listener.old) }
+    ensures err { IfErr result (HeardInPart L.step L.refused cursor (steps_back cursor (entries_to_undo way changes.now)) listener.old listener.new) }
 {
     let mut before = cursor;
     let mut left = changes.len();
@@ -74,6 +79,7 @@ fn foretell_one<L: ChangeListener>(
 ) -> Result<usize, Refusal>
     ensures after { IfOk result (λ after. after ≡ cursor_after before (inverse (entry_to_undo way change.now))) }
     ensures told { OnOk result (listener.new ≡ listener_after L.step before (steps_ahead before (inverse (entry_to_undo way change.now) ∷ [])) listener.old) }
+    ensures err { IfErr result (HeardInPart L.step L.refused before (steps_ahead before (inverse (entry_to_undo way change.now) ∷ [])) listener.old listener.new) }
 {
     let Some(at) = change.place() else {
         return Ok(before);
@@ -86,7 +92,11 @@ fn foretell_one<L: ChangeListener>(
             None => return Err(Refusal::NoMemory),
         },
     };
-    listener.replace(at, going, coming)?;
-    listener.cursors(before, after);
-    Ok(after)
+    match listener.replace(at, going, coming) {
+        Ok(()) => {
+            listener.cursors(before, after);
+            Ok(after)
+        }
+        Err(why) => Err(why),
+    }
 }
