@@ -1,7 +1,8 @@
 /* Refuses each request of the library for memory in turn: the call says so, the session is sound, and undo leads back
- * to the text that it began with. A call whose comment names no NO_MEMORY makes none. And reports that were read take no
- * memory. To be linked with -Wl,--wrap=malloc,--wrap=realloc. Its last line is 'N passed, M failed', where each request,
- * each such call and each of two readers counts one. */
+ * to the text that it began with. A call whose comment names no NO_MEMORY makes none. Reports that were read take no
+ * memory, and nothing takes more than it needs. To be compiled with -fsanitize=address, which tells how much is held,
+ * and linked with -Wl,--wrap=malloc,--wrap=realloc. Its last line is 'N passed, M failed', where each request, each
+ * such call, each of two readers and each check of what is taken counts one. */
 #include "lodvarn_parts.h"
 #include <stdio.h>
 #include <stdlib.h>
@@ -11,14 +12,21 @@ static lodvarn *s;
 static size_t left = SIZE_MAX; /* requests before the one that is refused */
 static int was_refused;
 static size_t greatest; /* the greatest request */
+static size_t requests; /* how many there were */
+static size_t peak;     /* the most bytes that were held, with what was asked for */
 
+/* How many bytes are held now. */
+size_t __sanitizer_get_current_allocated_bytes(void);
 void *__real_malloc(size_t size);
 void *__real_realloc(void *at, size_t size);
 void *__wrap_malloc(size_t size);
 void *__wrap_realloc(void *at, size_t size);
 
 static int refuses(size_t size) {
+    size_t held = __sanitizer_get_current_allocated_bytes() + size;
+    requests++;
     if (size > greatest) greatest = size;
+    if (held > peak) peak = held;
     if (left-- > 0) return 0;
     was_refused = 1;
     return 1;
@@ -216,10 +224,69 @@ static int reader_takes_little(size_t late) {
     return holds && greatest < 4096;
 }
 
+/* A great text, as a line of a script, and what comes of it. */
+enum { GREAT = 1000000 };
+static char great[GREAT + 6], come[GREAT + 64];
+
+static int opens_all(lodvarn_line **l, lodvarn_killring **g) {
+    return lodvarn_open(&s, "", 0, 0, 2 * GREAT, GREAT, LODVARN_UNICODE) == LODVARN_DONE
+        && lodvarn_line_open(l, "", 0, 0, 2 * GREAT, 0) == LODVARN_DONE
+        && lodvarn_killring_open(g, GREAT) == LODVARN_DONE;
+}
+
+static int closes_a_group(void) {
+    return lodvarn_begin(&s, NULL) == LODVARN_MARK && lodvarn_insert(&s, 'a', 1) == LODVARN_TRUE
+        && lodvarn_end(&s) == LODVARN_TRUE;
+}
+
+/* The texts of a report of a great insertion are given back once it is read. */
+static int gives_back(lodvarn_line **l) {
+    uint32_t kind;
+    size_t at, old_len, new_len, before, after;
+    if (lodvarn_line_insert_str(l, 0, great, GREAT) != LODVARN_TRUE) return 0;
+    size_t held = __sanitizer_get_current_allocated_bytes();
+    uint32_t answer = lodvarn_line_next_report(l, &kind, &at, &old_len, &new_len, &before, &after, come, sizeof come);
+    return answer == LODVARN_DONE && __sanitizer_get_current_allocated_bytes() + GREAT <= held;
+}
+
+static int puts_in_all(void) { return lodvarn_insert_str(&s, 0, great, GREAT) == LODVARN_FALSE; }
+
+static int kills_all(void) { return lodvarn_kill(&s, LODVARN_WHOLE_BUFFER, 1, 0) == LODVARN_TRUE; }
+
+static void see(const char *what, int holds, int *passed, int *failed) {
+    ++*(holds ? passed : failed);
+    if (!holds) printf("FAILED: %s: %zu requests, the greatest %zu, %zu held\n", what, requests, greatest, peak);
+    greatest = requests = peak = 0;
+}
+
+/* Counts the checks that no call takes memory before it is needed, more of it than is needed, or for longer. */
+static void count_taken(int *passed, int *failed) {
+    lodvarn_line *l = NULL;
+    lodvarn_killring *g = NULL;
+    size_t len;
+    memset(great, 'a', sizeof great);
+    memcpy(great, "text ", 5);
+    great[sizeof great - 1] = '\n';
+    greatest = requests = peak = 0;
+    see("nothing is taken for what may come", opens_all(&l, &g) && greatest < 4096, passed, failed);
+    see("the end of a group", closes_a_group() && greatest < 4096, passed, failed);
+    see("a queue", lodvarn_watch(&s, 3, 40) == LODVARN_DONE && requests == 2, passed, failed);
+    see("a great text", puts_in_all() && greatest < GREAT * 3 / 2, passed, failed);
+    see("a great kill", kills_all() && greatest < GREAT * 3 / 2, passed, failed);
+    see("a report that was read", gives_back(&l), passed, failed);
+    lodvarn_close(&s);
+    lodvarn_line_close(&l);
+    lodvarn_killring_close(&g);
+    size_t held = __sanitizer_get_current_allocated_bytes();
+    uint32_t answer = lodvarn_script(great, sizeof great, come, sizeof come, &len);
+    see("a great line of a script", answer == LODVARN_DONE && peak < held + GREAT * 9 / 2, passed, failed);
+}
+
 int main(void) {
     int passed = 0, failed = 0;
     size_t request = 0;
     count_frugal(&passed, &failed);
+    count_taken(&passed, &failed);
     for (size_t late = 0; late < 2; late++) {
         if (reader_takes_little(late)) passed++;
         else {

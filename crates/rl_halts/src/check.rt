@@ -1,4 +1,6 @@
 //! Makes an edit with more and more changes allowed, and compares what it leaves with the rules.
+ghost use Rattle.std.specs.Prelude.{◌≡◌};
+
 use crate::calls::{Answer, make};
 use crate::cases::Case;
 use crate::extents::is_first;
@@ -8,7 +10,7 @@ use rl_base::testing::{RefuseAt, TextEvent};
 use rl_base::{NoListener, Refusal};
 use rl_line::LineBuffer;
 use std::alloc::{AllocError, Global};
-use std::io;
+use std::{fmt, io};
 use thiserror::Error;
 
 /// Why the program stopped.
@@ -34,12 +36,43 @@ impl From<AllocError> for Fault {
     }
 }
 
-/// How many edits were made, how many of them were refused, and how many changes they told.
+/// How many edits left what the rules say, how many of them were refused, and how many changes they told. Nothing but
+/// a comparison counts them.
 #[derive(Clone, Copy, Debug, Default)]
 pub(crate) struct Tally {
-    pub(crate) made: usize,
-    pub(crate) refused: usize,
-    pub(crate) changes: usize,
+    made: usize,
+    refused: usize,
+    changes: usize,
+}
+
+impl Tally {
+    /// How many edits left what the rules say.
+    pub(crate) fn made(&self) -> usize
+        ensures { result ≡ self.now.made }
+    {
+        self.made
+    }
+
+    /// Takes in what a part counted.
+    pub(crate) fn add(&mut self, part: &Tally) {
+        self.made = self.made.saturating_add(part.made);
+        self.refused = self.refused.saturating_add(part.refused);
+        self.changes = self.changes.saturating_add(part.changes);
+    }
+}
+
+impl fmt::Display for Tally {
+    fn fmt<W: fmt::Write>(&self, f: &mut fmt::Formatter<W>) -> fmt::Result {
+        let Tally {
+            made,
+            refused,
+            changes,
+        } = self;
+        write!(
+            f,
+            "{made} made, {refused} of them refused, {changes} changes told"
+        )
+    }
 }
 
 // What an edit left.

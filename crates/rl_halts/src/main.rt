@@ -11,7 +11,7 @@ mod replay;
 mod rules;
 mod wrong;
 
-ghost use Rattle.std.specs.Prelude.{◌≡◌, OnOk, OnErr};
+ghost use Rattle.std.specs.Prelude.{◌≡◌, IfOk, OnOk, OnErr};
 ghost use Rattle.std.specs.Process.{exit_status};
 
 use cases::{
@@ -23,6 +23,9 @@ use rl_base::RepeatCount;
 use std::alloc::Global;
 use std::process::ExitCode;
 use wrong::check_all_wrong;
+
+// How many edits there are to make, each number of changes that is allowed counted.
+const EDITS: usize = 223_769;
 
 // Checks the edit with each of the counts, with the cursor at each place of each text, which may grow or not.
 fn check_everywhere(
@@ -130,33 +133,37 @@ fn check_indents(alloc: Global) -> Result<Tally, Fault> {
     Ok(tally)
 }
 
-// Prints what was counted.
-fn report(rt: &impl Print, name: &str, tally: Tally) -> Result<(), Fault> {
-    let Tally {
-        made,
-        refused,
-        changes,
-    } = tally;
-    println!(rt; "{name}: {made} made, {refused} of them refused, {changes} changes told")?;
+// Prints what a part counted, and adds it to what all did.
+fn report(rt: &impl Print, name: &str, part: Tally, all: &mut Tally) -> Result<(), Fault> {
+    all.add(&part);
+    println!(rt; "{name}: {part}")?;
     Ok(())
 }
 
-fn check_all(rt: &impl Print, alloc: Global) -> Result<(), Fault> {
+// Makes every edit. It ends well only where each of them left what the rules say, and none was left out.
+fn check_all(rt: &impl Print, alloc: Global) -> Result<Tally, Fault>
+    ensures { IfOk result (λ all. all.made ≡ 223769) }
+{
     let told = check_all_wrong(alloc)?;
     println!(rt; "wrong edits, to show that they are told: {told}")?;
-    report(rt, "edits", check_edits(alloc)?)?;
-    report(rt, "edits at places", check_ranges(alloc)?)?;
-    report(rt, "kills by a movement", check_kills(alloc)?)?;
-    report(rt, "indents and dedents", check_indents(alloc)?)
+    let mut all = Tally::default();
+    report(rt, "edits", check_edits(alloc)?, &mut all)?;
+    report(rt, "edits at places", check_ranges(alloc)?, &mut all)?;
+    report(rt, "kills by a movement", check_kills(alloc)?, &mut all)?;
+    report(rt, "indents and dedents", check_indents(alloc)?, &mut all)?;
+    if all.made() == EDITS {
+        return Ok(all);
+    }
+    Err(Fault::Wrong(format!(in alloc; "{EDITS} edits are to be made: {all}")?))
 }
 
 // The status at the end: 0 exactly where every edit left what the rules say, else 1.
-fn status(outcome: &Result<(), Fault>) -> ExitCode
+fn status(outcome: &Result<Tally, Fault>) -> ExitCode
     ensures right { OnOk outcome.now (exit_status result ≡ 0) }
     ensures wrong { OnErr outcome.now (exit_status result ≡ 1) }
 {
     match outcome {
-        Ok(()) => ExitCode::SUCCESS,
+        Ok(_) => ExitCode::SUCCESS,
         Err(_) => ExitCode::FAILURE,
     }
 }
