@@ -1,7 +1,7 @@
 //! The laws of a session's history: its record, undo groups, undo and redo, each over rows of a run. A run goes on from a
 //! history (`Holds`): the texts that were held by then, among which the record is placed. A new session and one that was
-//! restarted begin one (`record_is_placed`), each run goes on with it, and after `forget` the session goes on with what the
-//! texts are from the one on with which its record then begins (`what_is_left_replays`).
+//! restarted begin one (`record_is_placed`), and each run goes on with it. After `forget` it is that of the texts from the one
+//! on with which the record then begins (`what_is_left_replays`).
 ghost use Rattle.std.specs.Prelude.{◌≡◌, ◌++◌, ◌∷◌, [], ℕ, List, IsSome, drop, length, suc, true};
 ghost use Rattle.rl_line.specs.Record.{Entry, replay_entries};
 ghost use Rattle.rl_line.specs.Units.{BothMatched, has_change, last_of, last_units, level, opens, undone};

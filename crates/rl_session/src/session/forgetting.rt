@@ -43,7 +43,7 @@ impl Session {
 
 /// What a session's record forgets leads from the text with which it began to another, and what is left leads from that to
 /// the present text. Where the record was placed among the texts that were held, that is one of them, and what is left is
-/// placed among those from there on: so the laws of its history (`history`) go on from that text, and each undo still leaves
+/// placed among those from there on. So the laws of its history (`history`) go on from that text, and each undo still leaves
 /// a text that was held. Where nothing is forgotten, that is the text with which it began. What tells of changes has nothing
 /// to tell of it.
 pub fn what_is_left_replays()
@@ -53,7 +53,7 @@ pub fn what_is_left_replays()
     ensures reported { (read : List ℕ) (s : State) → ReportedFrom read s → ReportedFrom read (within_bound s) }
 {}
 
-/// A session without a bound forgets nothing, and no command gives it one.
+/// A session without a bound forgets nothing, and no command changes a session's options.
 pub fn nothing_goes_without_a_bound()
     ensures forgets { (s : State) → s.options.bound ≡ no_bound → within_bound s ≡ s }
     ensures keeps { (old new : State) (command : Command) (reply : Reply) → Step old command reply new → new.options ≡ old.options }
