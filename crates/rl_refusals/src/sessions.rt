@@ -1,5 +1,5 @@
-//! The sessions that are run. Each answers how much of it was refused.
-use crate::checks::{Failed, holds};
+//! The sessions that are run. Each adds to a tally what it checked and what was refused.
+use crate::checks::{Failed, Tally};
 use crate::watched::{Watched, stands};
 use rl_base::{Direction, Movement, Word, WordAction};
 use rl_line::{Changeset, LineBuffer};
@@ -36,38 +36,40 @@ fn commands(alloc: Global) -> Result<[Command; 20], AllocError> {
 }
 
 /// A line and a record that do not belong together, which the check after every command must detect.
-pub(crate) fn wrong_record(rt: &impl Print, alloc: Global) -> Result<usize, Failed> {
+pub(crate) fn wrong_record(rt: &impl Print, alloc: Global, all: &mut Tally) -> Result<(), Failed> {
     let _ = println!(rt; "A wrong record");
     let Ok(line) = LineBuffer::with_capacity(alloc, 2) else {
         let _ = println!(rt; "no line");
-        return Ok(1);
+        all.refuse();
+        return Ok(());
     };
     let mut record = Changeset::new(alloc);
     if record.delete(5, "x").is_err() {
         let _ = println!(rt; "no record");
-        return Ok(1);
+        all.refuse();
+        return Ok(());
     }
-    match stands(rt, &line, &record) {
-        Ok(refused) => {
-            holds(refused > 0, "a wrong record that is told")?;
-            Ok(refused)
-        }
-        Err(failed) => {
-            let _ = println!(rt; "it is told: {failed}");
-            Ok(0)
-        }
+    let mut tally = Tally::default();
+    if let Err(failed) = stands(rt, &mut tally, &line, &record) {
+        let _ = println!(rt; "it is told: {failed}");
+    } else {
+        let refused = tally.refused() > 0;
+        tally.holds(refused, "a wrong record that is told")?;
     }
+    all.add(tally);
+    Ok(())
 }
 
 /// Commands of many kinds, one by one.
-pub(crate) fn one_by_one(rt: &impl Print, alloc: Global) -> Result<usize, Failed> {
+pub(crate) fn one_by_one(rt: &impl Print, alloc: Global, all: &mut Tally) -> Result<(), Failed> {
     let _ = println!(rt; "One by one");
     let Ok(commands) = commands(alloc) else {
         let _ = println!(rt; "no commands");
-        return Ok(1);
+        all.refuse();
+        return Ok(());
     };
-    let Some(mut watched) = Watched::open(rt, alloc, "ab cd", 5)? else {
-        return Ok(1);
+    let Some(mut watched) = Watched::open(rt, alloc, all, "ab cd", 5)? else {
+        return Ok(());
     };
     for command in &commands {
         watched.apply(rt, command)?;
@@ -75,7 +77,8 @@ pub(crate) fn one_by_one(rt: &impl Print, alloc: Global) -> Result<usize, Failed
     let recorded = watched.recorded();
     watched.apply(rt, &Command::Truncate(recorded))?;
     watched.undo_all(rt, alloc)?;
-    Ok(watched.refused())
+    all.add(watched.tally());
+    Ok(())
 }
 
 // The word was deleted, and its capitals were refused: what stands is undone by one undo.
@@ -84,7 +87,7 @@ fn undo_between(rt: &impl Print, watched: &mut Watched) -> Result<(), Failed> {
     watched.leaves("", 0, 1, "what stands between the two events")?;
     match watched.apply(rt, &Command::Undo(1))? {
         Reply::Answer(answer) => {
-            holds(answer, "the undo of the first event")?;
+            watched.holds(answer, "the undo of the first event")?;
             watched.leaves("ab", 0, 0, "the undone first event")
         }
         _ => watched.leaves("", 0, 1, "a refused undo"),
@@ -92,28 +95,33 @@ fn undo_between(rt: &impl Print, watched: &mut Watched) -> Result<(), Failed> {
 }
 
 /// Two events put a word in capitals: it is deleted, and then inserted. Either may be refused.
-pub(crate) fn word_in_capitals(rt: &impl Print, alloc: Global) -> Result<usize, Failed> {
+pub(crate) fn word_in_capitals(
+    rt: &impl Print,
+    alloc: Global,
+    all: &mut Tally,
+) -> Result<(), Failed> {
     let _ = println!(rt; "A word in capitals");
-    let Some(mut watched) = Watched::open(rt, alloc, "ab", 0)? else {
-        return Ok(1);
+    let Some(mut watched) = Watched::open(rt, alloc, all, "ab", 0)? else {
+        return Ok(());
     };
     match watched.apply(rt, &Command::EditWord(WordAction::Uppercase))? {
         Reply::Answer(answer) => {
-            holds(answer, "the answer to a word")?;
+            watched.holds(answer, "the answer to a word")?;
             watched.leaves("AB", 2, 2, "the word in capitals")?;
         }
         Reply::Refused(Fault::NoMemory) if watched.is_empty() => undo_between(rt, &mut watched)?,
         _ => watched.leaves("ab", 0, 0, "the word that was refused")?,
     }
     watched.undo_all(rt, alloc)?;
-    Ok(watched.refused())
+    all.add(watched.tally());
+    Ok(())
 }
 
 /// Commands in one run. None is done where there is no room for their replies.
-pub(crate) fn all_at_once(rt: &impl Print, alloc: Global) -> Result<usize, Failed> {
+pub(crate) fn all_at_once(rt: &impl Print, alloc: Global, all: &mut Tally) -> Result<(), Failed> {
     let _ = println!(rt; "All at once");
-    let Some(mut watched) = Watched::open(rt, alloc, "ab cd", 5)? else {
-        return Ok(1);
+    let Some(mut watched) = Watched::open(rt, alloc, all, "ab cd", 5)? else {
+        return Ok(());
     };
     let commands = [
         Command::Insert('é', 2),
@@ -122,9 +130,10 @@ pub(crate) fn all_at_once(rt: &impl Print, alloc: Global) -> Result<usize, Faile
     ];
     if !watched.run(rt, &commands)? {
         watched.leaves("ab cd", 5, 0, "a run that was refused")?;
-    } else if watched.refused() == 0 {
+    } else if watched.tally().refused() == 0 {
         watched.leaves("ab ", 3, 3, "a run of which nothing was refused")?;
     }
     watched.undo_all(rt, alloc)?;
-    Ok(watched.refused())
+    all.add(watched.tally());
+    Ok(())
 }

@@ -1,5 +1,7 @@
 //! A session that is watched: what each command leaves is printed and checked.
-use crate::checks::{Failed, holds};
+ghost use Rattle.std.specs.Prelude.{◌≡◌, OnOk, OnErr, true, false};
+
+use crate::checks::{Failed, Tally};
 use rl_base::{GraphemeClusterMode, Refusal};
 use rl_line::{Changeset, LineBuffer};
 use rl_session::{Command, Fault, Reply, Session};
@@ -9,44 +11,38 @@ use std::alloc::Global;
 // refusal.
 const TRIES: u8 = 8;
 
-// The question is answered with yes, or refused. Answers how often it was refused.
+// The question is answered with yes, or refused.
 fn expect_yes(
     rt: &impl Print,
+    tally: &mut Tally,
     answer: Result<bool, Refusal>,
     question: &'static str,
-) -> Result<usize, Failed> {
+) -> Result<(), Failed> {
     match answer {
-        Ok(yes) => {
-            holds(yes, question)?;
-            Ok(0)
-        }
+        Ok(yes) => tally.holds(yes, question),
         Err(refusal) => {
             let _ = println!(rt; "{question}: {refusal}");
-            holds(refusal == Refusal::NoMemory, question)?;
-            Ok(1)
+            tally.refuse();
+            tally.holds(refusal == Refusal::NoMemory, question)
         }
     }
 }
 
 /// What holds after every command: the cursor stands between two characters, and the record can be undone and redone,
-/// and replays. Answers how many of the three questions were refused.
+/// and replays. Each of the three questions may be refused.
 pub(crate) fn stands(
     rt: &impl Print,
+    tally: &mut Tally,
     line: &LineBuffer,
     record: &Changeset,
-) -> Result<usize, Failed> {
-    holds(line.as_str().is_char_boundary(line.pos()), "the cursor")?;
+) -> Result<(), Failed> {
+    tally.holds(line.as_str().is_char_boundary(line.pos()), "the cursor")?;
     let can_undo = record.can_undo(line);
     let can_redo = record.can_redo(line);
     let replays = record.replays_to(record.len(), line);
-    let undo_refused = expect_yes(rt, can_undo, "can_undo")?;
-    let redo_refused = expect_yes(rt, can_redo, "can_redo")?;
-    let replays_refused = expect_yes(rt, replays, "replays_to")?;
-    Ok(
-        undo_refused
-            .saturating_add(redo_refused)
-            .saturating_add(replays_refused),
-    )
+    expect_yes(rt, tally, can_undo, "can_undo")?;
+    expect_yes(rt, tally, can_redo, "can_redo")?;
+    expect_yes(rt, tally, replays, "replays_to")
 }
 
 /// A session, with the text that it began with.
@@ -55,14 +51,15 @@ pub(crate) struct Watched {
     session: Session,
     start: &'static str,
     commands_refused: usize,
-    questions_refused: usize,
+    tally: Tally,
 }
 
 impl Watched {
-    /// A session on the text, with the cursor there; or None, printed as `no session`, where it was refused.
+    /// A session on the text, with the cursor there; or None, printed as `no session` and counted, where it was refused.
     pub(crate) fn open(
         rt: &impl Print,
         alloc: Global,
+        all: &mut Tally,
         start: &'static str,
         pos: usize,
     ) -> Result<Option<Self>, Failed> {
@@ -71,19 +68,20 @@ impl Watched {
                 session,
                 start,
                 commands_refused: 0,
-                questions_refused: 0,
+                tally: Tally::default(),
             })),
             Err(fault) => {
-                holds(fault == Fault::NoMemory, "why there is no session")?;
+                all.holds(fault == Fault::NoMemory, "why there is no session")?;
+                all.refuse();
                 let _ = println!(rt; "no session");
                 Ok(None)
             }
         }
     }
 
-    /// How many commands and questions were refused.
-    pub(crate) fn refused(&self) -> usize {
-        self.commands_refused.saturating_add(self.questions_refused)
+    /// The checks that held, and what was refused.
+    pub(crate) fn tally(&self) -> Tally {
+        self.tally
     }
 
     /// How many entries the record has.
@@ -98,20 +96,30 @@ impl Watched {
 
     /// Checks that the session has that text, cursor and number of entries.
     pub(crate) fn leaves(
-        &self,
+        &mut self,
         text: &str,
         cursor: usize,
         recorded: usize,
         what: &'static str,
     ) -> Result<(), Failed> {
+        let entries = self.recorded();
         let line = self.session.line();
-        holds(line.as_str() == text, what)?;
-        holds(line.pos() == cursor, what)?;
-        holds(self.recorded() == recorded, what)
+        self.tally.holds(line.as_str() == text, what)?;
+        self.tally.holds(line.pos() == cursor, what)?;
+        self.tally.holds(entries == recorded, what)
+    }
+
+    /// Fails exactly where it is not so.
+    pub(crate) fn holds(&mut self, is_so: bool, what: &'static str) -> Result<(), Failed>
+        ensures held { OnOk result (is_so ≡ true) }
+        ensures failed { OnErr result (is_so ≡ false) }
+    {
+        self.tally.holds(is_so, what)
     }
 
     fn count_refused_command(&mut self) {
         self.commands_refused = self.commands_refused.saturating_add(1);
+        self.tally.refuse();
     }
 
     // A command is refused since memory is out, or after such a refusal for a place that is no longer valid.
@@ -119,12 +127,14 @@ impl Watched {
         match reply {
             Reply::Refused(Fault::NoMemory) => {}
             Reply::Refused(Fault::BadPlace) | Reply::Refused(Fault::BadYankSize) => {
-                holds(
+                self.tally.holds(
                     self.commands_refused > 0,
                     "a place, where no command was refused",
                 )?;
             }
-            Reply::Refused(Fault::NotReplaying) => holds(false, "a record that does not replay")?,
+            Reply::Refused(Fault::NotReplaying) => {
+                self.tally.holds(false, "a record that does not replay")?;
+            }
             _ => return Ok(()),
         }
         self.count_refused_command();
@@ -133,9 +143,8 @@ impl Watched {
 
     // Asks what holds after every command.
     fn check(&mut self, rt: &impl Print) -> Result<(), Failed> {
-        let refused = stands(rt, self.session.line(), self.session.record())?;
-        self.questions_refused = self.questions_refused.saturating_add(refused);
-        Ok(())
+        let session = &self.session;
+        stands(rt, &mut self.tally, session.line(), session.record())
     }
 
     // Prints what is there now, after what was done.
@@ -162,13 +171,14 @@ impl Watched {
             Ok(replies) => replies,
             Err(fault) => {
                 let _ = println!(rt; "the run was refused: {fault}");
-                holds(fault == Fault::NoMemory, "why the run was refused")?;
+                self.tally
+                    .holds(fault == Fault::NoMemory, "why the run was refused")?;
                 self.count_refused_command();
                 self.check(rt)?;
                 return Ok(false);
             }
         };
-        holds(
+        self.tally.holds(
             replies.len() == commands.len(),
             "one reply for each command",
         )?;
@@ -189,7 +199,8 @@ impl Watched {
                 Reply::Answer(true) => {}
                 Reply::Answer(false) => {
                     let text = self.session.line().as_str();
-                    return holds(text == self.start, "the text when all is undone");
+                    let is_first = text == self.start;
+                    return self.tally.holds(is_first, "the text when all is undone");
                 }
                 _ => match String::from_str(alloc, "there is memory: asked again") {
                     Ok(again) => {
@@ -202,6 +213,6 @@ impl Watched {
                 },
             }
         }
-        holds(false, "an undo that ends")
+        self.tally.holds(false, "an undo that ends")
     }
 }

@@ -1,6 +1,7 @@
 //! What no clause says: that a call comes back with its answer, and printed text.
+use crate::script::is_so;
 use rl_base::testing::RefuseAt;
-use rl_base::{ChangeListener, DeleteListener, Direction, NoListener, Refusal};
+use rl_base::{ChangeListener, DeleteListener, Direction, NoListener, Refusal, WatchFault};
 use std::alloc::{AllocError, Global};
 use std::process::Abort;
 use std::test::Fail;
@@ -66,5 +67,14 @@ fn refusals_are_printed(rt: HostRuntime) -> Result<(), Fail> {
     let words = "the listener refused the change";
     prints(&rt, rt.alloc(), Refusal::NoMemory, 1, "out of memory")?;
     prints(&rt, rt.alloc(), Refusal::Listener, 2, words)?;
+    let said = format!(in rt.alloc();
+        "{}, {}, {}",
+        WatchFault::NoMemory,
+        WatchFault::NoRoom,
+        WatchFault::IsWatched
+    )?;
+    let wanted =
+        "out of memory, a queue needs room for a report, there is a queue of reports already";
+    is_so(&rt, said.as_str() == wanted, "why there is no queue");
     Ok(())
 }

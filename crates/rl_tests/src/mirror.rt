@@ -196,6 +196,11 @@ fn a_mirror_hears_of_undo_and_redo(rt: HostRuntime) -> Result<(), Fail> {
     change(&rt, &mut equal, &mut mirror)?;
     equal.insert('!', 2, &mut mirror)?;
     both_hold(&rt, &line, &mirror, "a zwei!!", 8, 0);
+    // an empty record foretells nothing
+    let empty = Changeset::new(rt.alloc());
+    empty.foretell_undo(&line, 1, &mut mirror)?;
+    empty.foretell_redo(&line, &mut mirror)?;
+    both_hold(&rt, &line, &mirror, "a zwei!!", 8, 0);
     go_all(&rt, &mut line, &mut record, &mut mirror, STEPS)?;
     Ok(())
 }

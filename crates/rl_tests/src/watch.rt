@@ -5,6 +5,7 @@ use rl_base::{
     Reports, Splice, WatchFault, Word,
 };
 use rl_session::{Command, Fault, Reply, Session};
+use std::alloc::Global;
 use std::process::Abort;
 use std::test::Fail;
 
@@ -142,6 +143,16 @@ fn reads(rt: &impl Abort, session: &mut Session, at: usize, text: &str) {
     is_so(rt, session.next_report().is_none(), "no report waits");
 }
 
+// A session with no limit on its text keeps reports in a queue with so much room.
+fn keeps(rt: &impl Abort, alloc: Global, room: usize, text_room: usize) -> Result<(), Fail> {
+    let mode = GraphemeClusterMode::Unicode;
+    let mut session = Session::open(alloc, "a", 1, usize::MAX, 60, mode)?;
+    is_so(rt, session.watch(room, text_room).is_ok(), "a queue");
+    let _ = session.apply(&Command::Insert('b', 1));
+    is_so(rt, session.next_report().is_some(), "a report waits");
+    Ok(())
+}
+
 #[test]
 fn a_session_keeps_reports(rt: HostRuntime) -> Result<(), Fail> {
     let mode = GraphemeClusterMode::Unicode;
@@ -162,6 +173,11 @@ fn a_session_keeps_reports(rt: HostRuntime) -> Result<(), Fail> {
     reads(&rt, s, 2, "é");
     let _ = s.apply(&Command::Insert('c', 1));
     reads(&rt, s, 4, "c");
+    // numbers alone, one byte of texts, and much of both
+    const ROOMS: &[(usize, usize)] = &[(1, 0), (1500, 0), (1, 1), (1, 2), (1500, 100_000)];
+    for (room, text_room) in ROOMS {
+        keeps(&rt, rt.alloc(), *room, *text_room)?;
+    }
     Ok(())
 }
 
