@@ -109,11 +109,6 @@ row_at start held old new commands replies earlier later row h run e =
     let before = Holds-Leads start earlier held old p.0 h p.1 in
     record { holds = subst (λ s. Holds start (held ++ held_of earlier) s) (sym p.2.0) before; goes_on = p.2.1 }
 
-pub at_row : (text : List ℕ) (old new : State) (commands : List Command) (replies : List Reply)
-    (earlier later : List Row) (row : Row) → Begins text old → (run : Run old commands replies new)
-    → run.rows ≡ earlier ++ (row ∷ later) → At text (text ∷ []) earlier later row new
-at_row text old new commands replies earlier later row b = row_at text (text ∷ []) old new commands replies earlier later row (Holds-Begins text old b)
-
 -- what a row did, where its command is known
 pub does_as : (row : Row) (command : Command) → row.command ≡ command → (left : State) × Does (readied command row.before) command row.reply left × (row.after.line ≡ left.line) × (row.after.pair.changes ≡ left.pair.changes)
 does_as row command e =

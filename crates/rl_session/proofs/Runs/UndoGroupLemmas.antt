@@ -200,10 +200,9 @@ pub group-in_run : (start : List ℕ) (texts : List (List ℕ)) (old new : State
     → u.command ≡ asks.Undo 1 → ¬ (WasRefused u.reply) → u.after.line.text ≡ b.before.line.text
 group-in_run start texts old new commands replies earlier inside later b e u holds run rows is_begin begins all closes ends change is_undo undoes =
     let front = b.before.pair.changes.recorded in
-    let p = Leads-split earlier (b ∷ (inside ++ (e ∷ (u ∷ later)))) old new (subst (λ rs. Leads old rs new) rows run.leads) in
-    let at_begin = subst (λ s. Holds start (texts ++ held_of earlier) s) (sym p.2.0) (Holds-Leads start earlier texts old p.0 holds p.1) in
-    let q = Leads-split inside (e ∷ (u ∷ later)) b.after new p.2.1 in
+    let at = row_at start texts old new commands replies earlier (inside ++ (e ∷ (u ∷ later))) b holds run rows in
+    let q = Leads-split inside (e ∷ (u ∷ later)) b.after new at.goes_on in
     let i = group-inside inside b e q.0 is_begin begins all q.1 q.2.0 in
     let c = closing-row e e.command (level front) refl closes ends in
     let keeps = ap (λ (r : Record). kept_of 1 r.recorded) c.2 ∙ kept-closed front e.before.pair.changes c.0 i c.1 change in
-    group-undone start (texts ++ held_of earlier) inside b e u q.0 at_begin q.1 q.2.0 keeps q.2.1.0 is_undo undoes
+    group-undone start (texts ++ held_of earlier) inside b e u q.0 at.holds q.1 q.2.0 keeps q.2.1.0 is_undo undoes
