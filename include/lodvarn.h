@@ -442,17 +442,19 @@ enum lodvarn_report {
 uint32_t lodvarn_changed(lodvarn **s, size_t *from, size_t *old_end, size_t *new_end);
 
 /* Keeps a report of each change from now on, in a queue with room for that many reports and for text_bytes bytes of
- * their texts. Where text_bytes is 0, reports have no texts. All room is found here, so nothing else is ever refused
- * because of it: where a report or its texts find no room, all that waits and the new one become one report, of the
- * kind FOLDED, which takes in each later change until it is read. Answers DONE, or FALSE where the session has a queue
- * already. Errors: NO_SUCH_NUMBER where reports is 0, NO_MEMORY. A kill after it still goes on from the kill before
- * it. */
+ * their texts. All room is found here, so nothing else is ever refused because of it: where a report or its texts find
+ * no room, all that waits and the new one become one report, of the kind FOLDED, which takes in each later change until
+ * it is read. Where text_bytes is 0, reports have no texts, and at most one waits: a change that comes before it was
+ * read is folded into it, so what came is always in the present text. A kill, which tells its start, its deletion and
+ * its stop, is then one report of the kind FOLDED. Answers DONE, or FALSE where the session has a queue already.
+ * Errors: NO_SUCH_NUMBER where reports is 0, NO_MEMORY. A kill after it still goes on from the kill before it. */
 uint32_t lodvarn_watch(lodvarn **s, size_t reports, size_t text_bytes);
 
 /* Hands out the oldest report that waits, and forgets it. Answers DONE with its enum lodvarn_report in *kind, its place
  * in *at, the bytes that went and that came in *old_len and *new_len, the places of the cursor before and after in
  * *pos_before and *pos_after, and, where texts are kept, what went and right after it what came in out, a buffer of
- * cap bytes. A report that is FOLDED has no texts. What puts in an empty text is reported too, with lengths of 0.
+ * cap bytes. A report that is FOLDED has no texts. The two places of the cursor stand between two characters, of the
+ * text before and of the text after it. What puts in an empty text is reported too, with lengths of 0.
  * Answers NONE where no report waits. Errors: TOO_SMALL with all numbers where the old_len + new_len bytes of its texts
  * do not fit: the report is kept. A kill after it still goes on from the kill before it. */
 uint32_t lodvarn_next_report(lodvarn **s, uint32_t *kind, size_t *at, size_t *old_len, size_t *new_len,

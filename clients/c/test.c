@@ -1188,7 +1188,7 @@ static void a_queue_is_asked_for(void) {
     LEAVES(LODVARN_NONE, NEXT_REPORT(out, sizeof out));
     LEAVES(LODVARN_NO_SUCH_NUMBER, lodvarn_watch(&s, 0, 0));
     LEAVES(LODVARN_NO_SUCH_NUMBER, lodvarn_watch(&s, 0, 64));
-    LEAVES(LODVARN_NO_MEMORY, lodvarn_watch(&s, SIZE_MAX, 0));
+    LEAVES(LODVARN_NO_MEMORY, lodvarn_watch(&s, SIZE_MAX, 1));
     LEAVES(LODVARN_NO_MEMORY, lodvarn_watch(&s, 1, SIZE_MAX));
     LEAVES(LODVARN_NO_MEMORY, lodvarn_watch(&s, SIZE_MAX, SIZE_MAX));
     lodvarn_insert(&s, 'a', 1);
@@ -1239,13 +1239,15 @@ static const struct reported {
     {{"back 1", "pos 2"}, "undo 1", 8, 64, "REPLACED 6 0 1 2 7 o\n"},
     {{"pos 3", "ins 1 x", "rep 0 1 O"}, "undo 2", 8, 64, "REPLACED 0 1 1 1 4 Oo\nREPLACED 3 1 0 4 3 x\n"},
     {{0}, "move home", 8, 64, ""},
-    {{0}, "kill eol", 8, 0, "KILL_STARTED 0 0 0 0 0 \nKILL_STOPPED 0 0 0 0 0 \n"},
+    {{0}, "kill eol", 8, 1, "KILL_STARTED 0 0 0 0 0 \nKILL_STOPPED 0 0 0 0 0 \n"},
+    {{0}, "kill eol", 8, 0, "FOLDED 0 0 0 0 0 \n"},
     {{0}, "rep 0 3 1é", 8, 0, "REPLACED 0 3 3 7 3 \n"},
     {{0}, "rep 0 3 1é", 8, 6, "REPLACED 0 3 3 7 3 one1é\n"},
     {{0}, "rep 0 3 1é", 8, 5, "FOLDED 0 3 3 7 3 \n"},
-    {{0}, "kill bword 1 emacs", 3, 0,
-     "KILL_STARTED 0 0 0 0 0 \nDELETED_BACKWARD 4 3 0 7 4 \nKILL_STOPPED 0 0 0 0 0 \n"},
-    {{0}, "kill bword 1 emacs", 2, 0, "FOLDED 4 3 0 7 4 \n"},
+    {{0}, "kill bword 1 emacs", 3, 3,
+     "KILL_STARTED 0 0 0 0 0 \nDELETED_BACKWARD 4 3 0 7 4 two\nKILL_STOPPED 0 0 0 0 0 \n"},
+    {{0}, "kill bword 1 emacs", 2, 3, "FOLDED 4 3 0 7 4 \n"},
+    {{0}, "kill bword 1 emacs", 8, 0, "FOLDED 4 3 0 7 4 \n"},
     {{0}, "kill bword 1 emacs", 1, 64, "FOLDED 4 3 0 7 4 \n"},
 };
 
@@ -1296,10 +1298,14 @@ static void reports_without_texts_need_no_buffer(void) {
     open_watched("one two", 7, 2, 0);
     memset(out, '#', sizeof out);
     lodvarn_replace(&s, 0, 3, "1", 1);
-    lodvarn_backspace(&s, 1);
     see("without a buffer", NEXT_REPORT(NULL, 0) == LODVARN_DONE && report_is(LODVARN_REPLACED, 0, 3, 1, 7, 1));
+    lodvarn_backspace(&s, 1);
     see("or with one", NEXT_REPORT(out, 8) == LODVARN_DONE && report_is(LODVARN_DELETED_BACKWARD, 0, 1, 0, 1, 0));
     see("that is left", !memcmp(out, "########", 8));
+    lodvarn_insert(&s, 'a', 1);
+    lodvarn_insert_str(&s, 0, "b", 1);
+    see("two are one", NEXT_REPORT(NULL, 0) == LODVARN_DONE && report_is(LODVARN_FOLDED, 0, 0, 2, 0, 1));
+    LEAVES(LODVARN_NONE, NEXT_REPORT(out, sizeof out));
 }
 
 static void a_full_queue_is_folded(void) {
@@ -1338,7 +1344,7 @@ static void what_changed_and_reports_are_apart(void) {
 
 static void memory_that_is_not_there(void) {
     begin_bad_input();
-    LEAVES(LODVARN_NO_MEMORY, lodvarn_watch(&s, SIZE_MAX / 2, 0));
+    LEAVES(LODVARN_NO_MEMORY, lodvarn_watch(&s, SIZE_MAX / 2, 1));
 }
 
 static void a_limit_takes_no_memory(void) {

@@ -894,12 +894,12 @@ class Changes(Case):
         session = Session("é")
         session.watch(2, 0)
         session.insert("漢")
+        self.tells(session, Report(ReportKind.CHAR_INSERTED, 2, 0, 3, 2, 5, None, None))
         session.backspace(2)
-        self.tells(
-            session,
-            Report(ReportKind.CHAR_INSERTED, 2, 0, 3, 2, 5, None, None),
-            Report(ReportKind.DELETED_BACKWARD, 0, 5, 0, 5, 0, None, None),
-        )
+        self.tells(session, Report(ReportKind.DELETED_BACKWARD, 0, 5, 0, 5, 0, None, None))
+        session.insert("a")
+        session.insert_str(0, "b")
+        self.tells(session, folded(0, 0, 2, 0, 1))
 
     def test_long_texts_are_told(self):
         session = Session("", limit=100000)

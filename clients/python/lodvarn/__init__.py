@@ -803,8 +803,10 @@ class Session:
     def watch(self, reports: int = 64, text_bytes: int = 65536) -> None:
         """Keeps a report of each change from now on, for `changes` to hand out.
 
-        The queue has room for that many reports, and for `text_bytes` bytes of their texts; with 0 they have no texts.
-        Where a report or its texts find no room, all that waits and the new one become one report, of the kind FOLDED.
+        The queue has room for that many reports, and for `text_bytes` bytes of their texts. Where a report or its texts
+        find no room, all that waits and the new one become one report, of the kind FOLDED. Where `text_bytes` is 0,
+        reports have no texts, and at most one waits: a change that comes before it was read is folded into it, so what
+        came is always in the present text.
         Raises ValueError where `reports` is 0, IsWatched where the session has a queue already, NoMemory.
         """
         try:
@@ -818,8 +820,8 @@ class Session:
     def changes(self) -> Iterator[Report]:
         """Hands out the reports that wait, the oldest first, and forgets each. None waits where nothing is watched.
 
-        Whoever applies them in order to the text that he had has the text of the session. One that is FOLDED comes
-        alone, and what came by it is in the present text: apply it before the next command.
+        Whoever applies them in order to the text that he had has the text of the session. One that is FOLDED, or has no
+        texts, comes alone, and what came by it is in the present text: apply it before the next command.
         """
         self._see_open()
         return iter(self._next_report, None)

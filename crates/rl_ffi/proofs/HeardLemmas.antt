@@ -5,61 +5,48 @@ use Rattle.rl_base.specs.declared.listeners.Direction.TheVariants.{Forward, Back
 use Rattle.rl_base.specs.declared.reports.ReportKind.{ReportKind}
 use Rattle.rl_base.specs.declared.reports.ReportKind.TheVariants as kind
 use Rattle.rl_base.specs.Event.{Event, InsertChar, InsertStr, Delete, Replace, Start, Stop, Cursors, apply}
-use Rattle.rl_base.specs.Reports.{IsLineText, LeadsBy, Noted, Tells, TellsChange, on_last, splice_of, told_cursors}
-use Rattle.rl_base.proofs.Queue.LeadLemmas.{LeadsBy-push, LeadsBy-told}
-use Rattle.rl_base.proofs.Texts.SpliceLemmas.{Splices-Swaps, came, went}
+use Rattle.rl_base.specs.Reports.{IsLineText, LeadsBy, Noted, Tells, is_change, on_last, told_cursors}
+use Rattle.rl_base.proofs.Queue.LeadLemmas.{LeadsBy-push, LeadsBy-told, Tells-Swaps, Tells-mark, on_last-one}
 use Rattle.rl_base.proofs.Texts.SwapLemmas.{Swaps, Swaps-InsertChar, Swaps-InsertStr, Swaps-Delete, Swaps-Replace, apply-IsUtf8}
 use Rattle.rl_line.specs.Plan.{listener_after, listener_after_step}
 use Rattle.rl_line.specs.Record.{Entry, Begin, End, Changed, event_of}
 use Rattle.rl_line.specs.Undo.{cursor_after, steps_ahead}
 use Rattle.rl_ffi.specs.Heard.{Heard, first_kept, heard_step, joined, marking, note, nothing_heard}
 
--- a change is told by its report
-Tells-Swaps : (which : ReportKind) (i : ℕ) (gone come text new : List ℕ) → Swaps text new i gone come
-    → TellsChange 1 (splice_of (note which i gone come).report) (note which i gone come).texts text new
-Tells-Swaps which i gone come text new s = record {
-  splices = Splices-Swaps text new i gone come s;
-  texts_are = ap (λ x. x ++ come) (sym (went text new i gone come s)) ∙ ap (λ y. slice_range text i (i + length gone) ++ y) (sym (came text new i gone come s));
-}
-
 -- a mark leads nowhere, where it is kept and where it is not
-leads-marking : (b : Bool) (n : Noted) (h : Heard) (old text : List ℕ) → LeadsBy 1 h.waiting old text → Tells 1 n text text → IsLineText text
-    → LeadsBy 1 (if b then record { waiting = h.waiting ++ n ∷ []; marks = h.marks - 1 } else h).waiting old text
-leads-marking true n h old text l t v = LeadsBy-push 1 n h.waiting old text text l t v
+leads-marking : (b : Bool) (n : Noted) (h : Heard) (old text : List ℕ) → LeadsBy false 1 h.waiting old text → Tells 1 n text text → IsLineText text
+    → LeadsBy false 1 (if b then record { waiting = h.waiting ++ n ∷ []; marks = h.marks - 1 } else h).waiting old text
+leads-marking true n h old text l t v = LeadsBy-push false 1 n h.waiting old text text l t v tt
 leads-marking false n h old text l t v = l
 
 -- what waits leads on over each event
-pub leads : (h : Heard) (event : Event) (old text new : List ℕ) → LeadsBy 1 h.waiting old text → IsLineText text → length new < 2 ^ 64 → apply event text ≡ Some new
-    → LeadsBy 1 (heard_step h event).waiting old new
+pub leads : (h : Heard) (event : Event) (old text new : List ℕ) → LeadsBy false 1 h.waiting old text → IsLineText text → length new < 2 ^ 64 → apply event text ≡ Some new
+    → LeadsBy false 1 (heard_step h event).waiting old new
 unfolding apply
 leads h event old text new l v fits made = from event made
   where
     after : IsLineText new
     after = record { utf8 = apply-IsUtf8 event text new v.utf8 made; fits = fits }
 
-    push : (which : ReportKind) (i : ℕ) (gone come : List ℕ) → Tells 1 (note which i gone come) text new → LeadsBy 1 (h.waiting ++ note which i gone come ∷ []) old new
-    push which i gone come t = LeadsBy-push 1 (note which i gone come) h.waiting old text new l t after
+    push : (which : ReportKind) (i : ℕ) (gone come : List ℕ) → is_change which ≡ true → ¬ (which ≡ kind.Folded) → Swaps text new i gone come
+        → LeadsBy false 1 (h.waiting ++ note which i gone come ∷ []) old new
+    push which i gone come b f s = LeadsBy-push false 1 (note which i gone come) h.waiting old text new l (Tells-Swaps 1 which i gone come text new b f s) after tt
 
-    from : (e : Event) → apply e text ≡ Some new → LeadsBy 1 (heard_step h e).waiting old new
-    from (InsertChar i c) m = push kind.CharInserted i [] (encode_utf8 c) (Tells-Swaps kind.CharInserted i [] (encode_utf8 c) text new (Swaps-InsertChar text new i c v.utf8 m))
-    from (InsertStr i s) m = push kind.TextInserted i [] s (Tells-Swaps kind.TextInserted i [] s text new (Swaps-InsertStr text new i s v.utf8 m))
-    from (Delete i s Forward) m = push kind.DeletedForward i s [] (Tells-Swaps kind.DeletedForward i s [] text new (Swaps-Delete text new i s Forward v.utf8 m))
-    from (Delete i s Backward) m = push kind.DeletedBackward i s [] (Tells-Swaps kind.DeletedBackward i s [] text new (Swaps-Delete text new i s Backward v.utf8 m))
-    from (Replace i s t) m = push kind.Replaced i s t (Tells-Swaps kind.Replaced i s t text new (Swaps-Replace text new i s t v.utf8 m))
+    from : (e : Event) → apply e text ≡ Some new → LeadsBy false 1 (heard_step h e).waiting old new
+    from (InsertChar i c) m = push kind.CharInserted i [] (encode_utf8 c) refl (λ e. absurd cc) (Swaps-InsertChar text new i c v.utf8 m)
+    from (InsertStr i s) m = push kind.TextInserted i [] s refl (λ e. absurd cc) (Swaps-InsertStr text new i s v.utf8 m)
+    from (Delete i s Forward) m = push kind.DeletedForward i s [] refl (λ e. absurd cc) (Swaps-Delete text new i s Forward v.utf8 m)
+    from (Delete i s Backward) m = push kind.DeletedBackward i s [] refl (λ e. absurd cc) (Swaps-Delete text new i s Backward v.utf8 m)
+    from (Replace i s t) m = push kind.Replaced i s t refl (λ e. absurd cc) (Swaps-Replace text new i s t v.utf8 m)
     from Start m =
         let same : text ≡ new = cc in
-        subst (LeadsBy 1 (marking kind.KillStarted h).waiting old) same (leads-marking (nat_lt 0 h.marks) (note kind.KillStarted 0 [] []) h old text l refl v)
+        subst (LeadsBy false 1 (marking kind.KillStarted h).waiting old) same (leads-marking (nat_lt 0 h.marks) (note kind.KillStarted 0 [] []) h old text l (Tells-mark 1 kind.KillStarted text v refl) v)
     from Stop m =
         let same : text ≡ new = cc in
-        subst (LeadsBy 1 (marking kind.KillStopped h).waiting old) same (leads-marking (nat_lt 0 h.marks) (note kind.KillStopped 0 [] []) h old text l refl v)
-    from (Cursors b a) m = let same : text ≡ new = cc in LeadsBy-told 1 b a h.waiting old new (subst (LeadsBy 1 h.waiting old) same l)
+        subst (LeadsBy false 1 (marking kind.KillStopped h).waiting old) same (leads-marking (nat_lt 0 h.marks) (note kind.KillStopped 0 [] []) h old text l (Tells-mark 1 kind.KillStopped text v refl) v)
+    from (Cursors b a) m = let same : text ≡ new = cc in LeadsBy-told 1 b a h.waiting old new (subst (LeadsBy false 1 h.waiting old) same l)
 
 -- ---- what a listener hears apart
-on_last-one : (f : Noted → Noted) (ns : List Noted) (n : Noted) → on_last f (ns ++ n ∷ []) ≡ ns ++ f n ∷ []
-on_last-one f [] n = refl
-on_last-one f (m ∷ []) n = refl
-on_last-one f (m ∷ (k ∷ ks)) n = ap (λ l. m ∷ l) (on_last-one f (k ∷ ks) n)
-
 abbrev with_told : ℕ → ℕ → Noted → Noted
 with_told before after n = record { report = told_cursors before after n.report; texts = n.texts }
 

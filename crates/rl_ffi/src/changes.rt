@@ -59,8 +59,9 @@ fn watch(session: &mut Session, reports: usize, text_bytes: usize) -> u32
 }
 
 /// Keeps a report of each change from now on, in a queue with room for `reports` of them and `text_bytes` bytes of their
-/// texts, all found here: DONE. FALSE where there is a queue already, NO_SUCH_NUMBER for one of no reports, NO_MEMORY
-/// and CLOSED change nothing.
+/// texts, all found here: DONE. Without texts at most one report waits: a change that comes before it was read is folded
+/// into it. FALSE where there is a queue already, NO_SUCH_NUMBER for one of no reports, NO_MEMORY and CLOSED change
+/// nothing.
 #[unsafe(no_mangle)]
 pub extern "C" fn lodvarn_watch(
     alloc: Global,

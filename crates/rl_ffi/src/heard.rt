@@ -1,5 +1,5 @@
 //! A listener that keeps a report of everything that it hears, until the report is read.
-ghost use Rattle.std.specs.Prelude.{◌≡◌, ℕ, ◌-◌, ◌^◌, ◌<◌, ◌++◌, List, None, Some, IfErr, OnOk, length, take};
+ghost use Rattle.std.specs.Prelude.{◌≡◌, ℕ, ◌-◌, ◌^◌, ◌<◌, ◌++◌, List, None, Some, IfErr, OnOk, false, length, take};
 ghost use Rattle.std.specs.Option.{option_map};
 ghost use Rattle.std.specs.String.{string_bytes};
 ghost use Rattle.std.specs.VecDeque.{deque_len, deque_capacity};
@@ -315,6 +315,6 @@ impl ChangeListener for Heard {
 /// Who reads late misses no step. Where what waits leads from a text to another, report by report, and an event of that is
 /// heard, what waits leads to the changed text.
 pub fn no_event_is_lost()
-    ensures { (h : Heard) (event : Event) (old text new : List ℕ) → LeadsBy 1 h.waiting old text → IsLineText text → length new < 2 ^ 64 → apply event text ≡ Some new
-        → LeadsBy 1 (heard_step h event).waiting old new }
+    ensures { (h : Heard) (event : Event) (old text new : List ℕ) → LeadsBy false 1 h.waiting old text → IsLineText text → length new < 2 ^ 64 → apply event text ≡ Some new
+        → LeadsBy false 1 (heard_step h event).waiting old new }
 {}

@@ -1,5 +1,5 @@
 -- What a session holds.
-use Rattle.std.specs.Prelude.{◌≡◌, ℕ, ◌^◌, ◌<◌, ◌≤◌, max, false, IsSome, List, [], length, Option, Some, Result, Ok, Err}
+use Rattle.std.specs.Prelude.{◌≡◌, ℕ, ◌^◌, ◌<◌, ◌≤◌, max, false, true, IsSome, List, [], length, Option, Some, Result, Ok, Err}
 use Rattle.std.specs.Str.{IsCharBoundary, IsUtf8}
 use Rattle.rl_base.specs.Event.{Cursors, Replace}
 use Rattle.rl_base.specs.KillRing.{Ring, IsRing, new_ring, reset}
@@ -122,9 +122,10 @@ pub record ChangedFrom (asked : List ℕ) (s : State) : Type 0 where
   pub bounded : IsBounded s
   pub covers : Covers s.pair.watch.changed asked s.line.text
 
--- a session keeps reports, and those that wait lead from the text at which reading left off to the present one
+-- a session keeps reports, and those that wait lead from the text at which reading left off to the present one, with cursors
+-- that stand there
 pub record ReportedFrom (read : List ℕ) (s : State) : Type 0 where
   pub stands : Stands s
   pub bounded : IsBounded s
   pub text : IsLineText read
-  pub leads : ReportsLead false s.pair.watch.reports read s.line.text
+  pub leads : ReportsLead true s.pair.watch.reports read s.line.text

@@ -4,7 +4,7 @@ ghost use Rattle.rl_base.specs.Event.{replay};
 ghost use Rattle.rl_line.specs.Line.{Line};
 ghost use Rattle.rl_line.specs.Record.{Record, replay_entries, unwind};
 ghost use Rattle.std.specs.Option.{option_map};
-ghost use Rattle.rl_base.specs.Reports.{HasTexts, LacksTexts, Noted, TellsByTexts, after_numbers, after_texts, new_queue, texts_of};
+ghost use Rattle.rl_base.specs.Reports.{HasTexts, LacksTexts, Noted, Stand, TellsByTexts, after_numbers, after_texts, new_queue, texts_of};
 ghost use Rattle.rl_base.specs.Splice.{Splices, told, untouched};
 ghost use Rattle.rl_base.specs.Watch.{RefusesQueue, next_note, past_next, text_room};
 ghost use Rattle.rl_session.specs.State.{State, ChangedFrom, Follows, IsBounded, ReportedFrom, Stands, with_watch, Replays, origin};
@@ -254,14 +254,15 @@ impl Session {
     /// Forgets the oldest report, so that the next becomes the oldest. The report told how the text at which reading
     /// left off goes on. With texts, what went gave way to the end of its texts, and from the text so made the reports that still
     /// wait lead to the present one. Without texts, or folded, it was all that waited, and what came stands in the present text.
-    /// Where no report waited, the text at which reading left off is the present one.
+    /// The cursors of a report stand between two characters, the first in the text before it, the second in that after it. Where
+    /// no report waited, the text at which reading left off is the present one.
     pub fn forget_report(&mut self)
         ensures forgotten { self.new ≡ with_watch (past_next self.old.pair.watch) self.old }
         ensures nothing { (read : List ℕ) → ReportedFrom read self.old → next_note self.old.pair.watch ≡ None → self.old.line.text ≡ read }
         ensures with_texts { (read : List ℕ) (note : Noted) → ReportedFrom read self.old → next_note self.old.pair.watch ≡ Some note → HasTexts (text_room self.old.pair.watch) note.report
-            → TellsByTexts note read × ReportedFrom (after_texts note read) self.new }
+            → TellsByTexts note read × Stand note.report.cursors read (after_texts note read) × ReportedFrom (after_texts note read) self.new }
         ensures whole { (read : List ℕ) (note : Noted) → ReportedFrom read self.old → next_note self.old.pair.watch ≡ Some note → LacksTexts (text_room self.old.pair.watch) note.report
-            → (next_note self.new.pair.watch ≡ None) × (after_numbers note.report self.old.line.text read ≡ self.old.line.text) × ReportedFrom self.old.line.text self.new }
+            → (next_note self.new.pair.watch ≡ None) × (after_numbers note.report self.old.line.text read ≡ self.old.line.text) × Stand note.report.cursors read self.old.line.text × ReportedFrom self.old.line.text self.new }
     {
         self.pair.watch.forget_report();
     }

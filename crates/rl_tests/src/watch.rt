@@ -89,6 +89,10 @@ fn a_full_queue_folds(rt: HostRuntime) -> Result<(), Fail> {
     queue.insert_str(0, "12345678901")?;
     tells(&rt, &mut queue, ReportKind::Folded, (0, 0, 11), None, "");
     is_so(&rt, queue.oldest().is_none(), "nothing waits");
+    let mut queue = Reports::new(rt.alloc(), 9, 0)?;
+    queue.insert_char(0, 'a')?;
+    queue.insert_str(0, "b")?;
+    tells(&rt, &mut queue, ReportKind::Folded, (0, 0, 2), None, "");
     Ok(())
 }
 

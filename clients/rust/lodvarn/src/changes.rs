@@ -205,8 +205,9 @@ impl Session {
 
     /// Keeps a report of each change of the text from now on, and none of a motion, in a queue with room for so many
     /// reports and for `text_bytes` bytes of their texts, what went and what came. Where `text_bytes` is 0, reports
-    /// have no texts. [`changes`] hands them out, and [`tell`] tells a listener of them. False where the session has a
-    /// queue already, which stays as it is.
+    /// have no texts, and at most one waits: a change that comes before it was read is folded into it, so what came is
+    /// always in the present text. [`changes`] hands them out, and [`tell`] tells a listener of them. False where the
+    /// session has a queue already, which stays as it is.
     ///
     /// All room is found here, and nothing else is ever refused because of the queue: where a report or its texts find
     /// no room, all that waits and the new one become one report, of the kind `Folded`. It takes in each later change
@@ -233,7 +234,8 @@ impl Session {
     /// The reports that wait, the oldest first. Each is forgotten once it is handed out; those that are not taken go on
     /// waiting. There are none before `watch`. A kill after it still goes on from the kill before it.
     ///
-    /// Whoever applies them in order to the text that he had, has the text of the session.
+    /// Whoever applies them in order to the text that he had, has the text of the session. What came by one that has no
+    /// texts is in the present text: apply it before the next command.
     ///
     /// ```
     /// # use lodvarn::{Fault, ReportKind, Session};

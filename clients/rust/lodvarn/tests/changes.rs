@@ -329,7 +329,7 @@ fn reports_that_are_not_taken_wait() -> Result<(), Fault> {
 fn a_session_has_one_queue() -> Result<(), Fault> {
     let mut s = opened("", 0);
     assert_eq!(s.watch(0, 100), Err(Fault::NoRoom));
-    assert_eq!(s.watch(usize::MAX, 0), Err(Fault::NoMemory));
+    assert_eq!(s.watch(usize::MAX, 1), Err(Fault::NoMemory));
     assert_eq!(s.watch(1, usize::MAX), Err(Fault::NoMemory));
     assert_eq!(Fault::NoRoom.to_string(), "no room for a report");
     s.insert('a', 1)?;
@@ -351,16 +351,17 @@ fn reports_may_have_no_texts() -> Result<(), Fault> {
     use ReportKind::*;
     let mut s = watched("aé", 3, 10, 0);
     s.backspace(1)?;
-    s.paste("漢", 2)?;
-    // who may not hear them leaves them
+    // who may not hear it leaves it
     let mut heard = Heard::default();
     assert_eq!(s.tell(&mut heard), Err(Untold::NoTexts));
-    let wanted = [
-        report(DeletedBackward, 1, "é", "", (3, 1)),
-        report(TextInserted, 1, "", "漢漢", (1, 7)),
-    ];
-    reports(&mut s, &wanted.map(without_texts));
+    let wanted = report(DeletedBackward, 1, "é", "", (3, 1));
+    reports(&mut s, &[without_texts(wanted)]);
     assert!(heard.0.is_empty());
+    // at most one waits
+    s.paste("漢", 2)?;
+    s.insert_str(1, "bcd")?;
+    let folded = report(Folded, 1, "", "bcd漢漢", (1, 7));
+    reports(&mut s, &[without_texts(folded)]);
     Ok(())
 }
 

@@ -7,6 +7,7 @@ use Rattle.rl_base.specs.Event.{Event, InsertChar, InsertStr, Delete, Replace, S
 use Rattle.rl_base.specs.declared.kill_ring.Action.{Action}
 use Rattle.rl_base.specs.declared.kill_ring.Action.TheVariants as did
 use Rattle.rl_base.specs.declared.kill_ring.Mode.{Mode}
+use Rattle.rl_base.specs.Reports.{IsChange}
 use Rattle.rl_base.specs.KillRing.{Ring, after_deletion, killed_as, lent, popped_ring, ring_step, turned, yank, yank_popped, yank_size, yanked}
 use Rattle.rl_base.specs.declared.listeners.Direction.{Direction}
 use Rattle.rl_base.specs.declared.listeners.Refusal.{Refusal}
@@ -18,30 +19,27 @@ use Rattle.rl_line.specs.LetterCase.{edit_word_plan, put_for, word_ahead}
 use Rattle.rl_line.specs.Line.{Line, stepped}
 use Rattle.rl_line.specs.Plan.{Step, Plan, listener_after, Done, Halted, or_no_memory}
 use Rattle.rl_line.specs.Ranges.{killed}
+use Rattle.rl_line.specs.Record.{Entry, Begin, End, Changed}
+use Rattle.rl_line.specs.Undo.{cursor_after, steps_ahead}
 use Rattle.rl_line.specs.Transpositions.{are_two, first_word, pulled_back, second_word, transpose_chars_plan, transpose_words_plan}
+use Rattle.rl_line.proofs.Plans.HearingLemmas.{AreChanges}
 use Rattle.rl_session.specs.Pair.{pair_step, pair_refused}
 use Rattle.rl_session.specs.declared.pair.Pair.{Pair}
 use Rattle.rl_session.proofs.Sessions.PairLemmas.{listener_after-ring}
 
--- it is not the start of a kill
-abbrev pub IsNoStart : Event → Type 0
-IsNoStart Start = ⊥
-IsNoStart _ = Unit {0}
-
--- no step tells the start of a kill
+-- each step changes the text, so none tells the start of a kill
 abbrev pub NoneStarts : List Step → Type 0
-NoneStarts [] = Unit {0}
-NoneStarts (s ∷ ss) = IsNoStart s.0 × NoneStarts ss
+NoneStarts steps = AreChanges steps
 
 -- ---- a ring that hears of no start
-idle-step : (event : Event) (r : Ring) → IsNoStart event → r.killing ≡ false → (ring_step r event).killing ≡ false
+idle-step : (event : Event) (r : Ring) → IsChange event → r.killing ≡ false → (ring_step r event).killing ≡ false
 idle-step (InsertChar i c) r n h = h
 idle-step (InsertStr i s) r n h = h
 idle-step (Delete i s side) r n h = ap (λ b. (after_deletion b s side r).killing) h ∙ h
 idle-step (Replace i s t) r n h = h
 idle-step Start r n h = absurd n
-idle-step Stop r n h = refl
-idle-step (Cursors b a) r n h = h
+idle-step Stop r n h = absurd n
+idle-step (Cursors b a) r n h = absurd n
 
 idle-steps : (cursor : ℕ) (steps : List Step) (r : Ring) → NoneStarts steps → r.killing ≡ false → (listener_after ring_step cursor steps r).killing ≡ false
 idle-steps cursor [] r n h = h
@@ -55,18 +53,18 @@ pub idle-Done : {A : Type 0} (plan : Plan A) (old new : Line) (p q : Pair) (a : 
     → p.ring.killing ≡ false → q.ring.killing ≡ false
 idle-Done plan old new p q a n d h = idle-taken old.cursor plan.steps p q d.taken.listener n h
 
-NoneStarts-first : (first : List Step) (next : Step) (others : List Step) → NoneStarts (first ++ next ∷ others) → NoneStarts first × IsNoStart next.0
+pub NoneStarts-first : (first : List Step) (next : Step) (others : List Step) → NoneStarts (first ++ next ∷ others) → NoneStarts first × IsChange next.0
 NoneStarts-first [] next others n = (tt, n.0)
 NoneStarts-first (s ∷ ss) next others n = let rest = NoneStarts-first ss next others n.1 in ((n.0, rest.0), rest.1)
 
 -- a refused event leaves the ring, or the ring heard it
-idle-refused : (p q : Pair) (e : Event) (w : Refusal) → IsNoStart e → p.ring.killing ≡ false → pair_refused p e w q → q.ring.killing ≡ false
+idle-refused : (p q : Pair) (e : Event) (w : Refusal) → IsChange e → p.ring.killing ≡ false → pair_refused p e w q → q.ring.killing ≡ false
 idle-refused p q e w n h c = elim c.3 [
   | inl same ↦ ap (λ (r : Ring). r.killing) same.0 ∙ h
   | inr step ↦ ap (λ (r : Ring). r.killing) step.0 ∙ idle-step e p.ring n h
 ]
 
-idle-cause : (p q : Pair) (e : Event) (w : Refusal) → IsNoStart e → p.ring.killing ≡ false → or_no_memory pair_refused p e w q → q.ring.killing ≡ false
+idle-cause : (p q : Pair) (e : Event) (w : Refusal) → IsChange e → p.ring.killing ≡ false → or_no_memory pair_refused p e w q → q.ring.killing ≡ false
 idle-cause p q e w n h c = elim c [ inl same ↦ ap (λ (k : Pair). k.ring.killing) same.1 ∙ h | inr d ↦ idle-refused p q e w n h d ]
 
 pub idle-Halted : {A : Type 0} (plan : Plan A) (old new : Line) (p q : Pair) (w : Refusal) → NoneStarts plan.steps
@@ -102,18 +100,18 @@ idle-popped_ring (Some size) r h = idle-lent (yank (turned r)) (turned r) h
 pub idle-popped : (r now : Ring) → now ≡ yank_popped r → r.killing ≡ false → now.killing ≡ false
 idle-popped r now e h = ap (λ (k : Ring). k.killing) e ∙ idle-popped_ring (yank_size r) r h
 
--- ---- no plan tells the start of a kill
+-- ---- no plan tells the start of a kill: each step is a change
 -- one plan or another
 NoneStarts-either : {A : Type 0} (b : Bool) (plan other : Plan A) → NoneStarts plan.steps → NoneStarts other.steps → NoneStarts (cond b plan other).steps
 NoneStarts-either true plan other n m = n
 NoneStarts-either false plan other n m = m
 
-IsNoStart-insert_event : (once : Bool) (i c : ℕ) (text : List ℕ) → IsNoStart (cond once (InsertChar i c) (InsertStr i text))
-IsNoStart-insert_event true i c text = tt
-IsNoStart-insert_event false i c text = tt
+IsChange-insert_event : (once : Bool) (i c : ℕ) (text : List ℕ) → IsChange (cond once (InsertChar i c) (InsertStr i text))
+IsChange-insert_event true i c text = tt
+IsChange-insert_event false i c text = tt
 
 pub NoneStarts-insert : (line : Line) (c n : ℕ) → NoneStarts (insert_plan line c n).steps
-NoneStarts-insert line c n = NoneStarts-either (too_long line (length line.text + length (encode_utf8 c) * n)) _ _ tt (IsNoStart-insert_event (n == 1) line.cursor c _, tt)
+NoneStarts-insert line c n = NoneStarts-either (too_long line (length line.text + length (encode_utf8 c) * n)) _ _ tt (IsChange-insert_event (n == 1) line.cursor c _, tt)
 
 pub NoneStarts-yank : (line : Line) (s : List ℕ) (n : ℕ) → NoneStarts (yank_plan line s n).steps
 NoneStarts-yank line s n = NoneStarts-either ((length s == 0) || too_long line (length line.text + length s * n)) _ _ tt (tt, tt)
@@ -165,3 +163,9 @@ NoneStarts-lines dedent n (text ∷ more) i cursor =
 
 pub NoneStarts-indent : (line : Line) (m : Movement) (n : ℕ) (dedent : Bool) → NoneStarts (indent_plan line m n dedent).steps
 NoneStarts-indent line m n dedent = NoneStarts-lines dedent n _ _ _
+
+pub NoneStarts-ahead : (es : List Entry) (cursor : ℕ) → NoneStarts (steps_ahead cursor es)
+NoneStarts-ahead [] cursor = tt
+NoneStarts-ahead (Begin ∷ es) cursor = NoneStarts-ahead es cursor
+NoneStarts-ahead (End ∷ es) cursor = NoneStarts-ahead es cursor
+NoneStarts-ahead (Changed kind swap ∷ es) cursor = (tt, NoneStarts-ahead es (cursor_after cursor (Changed kind swap)))

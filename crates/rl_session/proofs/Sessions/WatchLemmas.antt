@@ -1,13 +1,14 @@
 -- What a watch keeps of a text at each event, it keeps over a command.
 use Rattle.std.proofs.Common.{◌≡◌, ◌∙◌, ℕ, ◌^◌, ◌<◌, arith, true, false, List, [], ◌∷◌, length, Option, Some, None, MatchOption, option_map, ◌≤◌, inl, inr, refl, sym, ap, subst}
-use Rattle.std.specs.Prelude.{option_and_then, unwrap_or}
+use Rattle.std.specs.Prelude.{map, option_and_then, reverse, unwrap_or}
+use Rattle.std.proofs.lemmas.Str.{IsCharBoundary-end}
 use Rattle.std.specs.Str.{IsCharBoundary, IsUtf8}
 use Rattle.rl_base.specs.Event.{Event, InsertChar, InsertStr, Delete, Replace, Start, Stop, Cursors, apply}
 use Rattle.rl_base.specs.declared.listeners.Direction.TheVariants.{Forward, Backward}
-use Rattle.rl_base.specs.Reports.{HasTexts, IsLineText, LacksTexts, Noted, Queue, TellsByTexts, after_numbers, after_texts, forgotten, oldest, queue_step}
+use Rattle.rl_base.specs.Reports.{HasTexts, IsChange, IsLineText, LacksTexts, Noted, Queue, Stand, TellsByTexts, after_numbers, after_texts, forgotten, oldest, queue_step}
 use Rattle.rl_base.specs.Splice.{Covers, spliced}
 use Rattle.rl_base.specs.Watch.{Watched, ReportsLead, next_note, past_next, text_room, watch_step}
-use Rattle.rl_base.proofs.Queue.LeadLemmas.{heard as reports_heard, nothing, whole, with_texts}
+use Rattle.rl_base.proofs.Queue.LeadLemmas.{marked, nothing, placed, whole, with_texts}
 use Rattle.rl_base.specs.declared.listeners.Refusal.TheVariants as why
 use Rattle.rl_base.proofs.Texts.SpliceLemmas.{Covers-apply}
 use Rattle.rl_line.specs.Line.{Line}
@@ -15,7 +16,8 @@ use Rattle.rl_line.specs.Plan.{Step as PlanStep, Taken, after}
 use Rattle.rl_line.specs.Undo.{steps_ahead, steps_back}
 use Rattle.rl_line.specs.Units.{last_of, redo_of}
 use Rattle.rl_line.proofs.Records.HeardLemmas.{after-steps_ahead, after-steps_back}
-use Rattle.rl_line.proofs.Plans.HearingLemmas.{Keeps-after}
+use Rattle.rl_line.specs.Record.{inverse}
+use Rattle.rl_line.proofs.Plans.HearingLemmas.{AreChanges, Keeps-after}
 use Rattle.rl_session.specs.Commands.{Effect, by_steps, puts_begin, puts_ends, puts_end, shortens, takes_back, puts_again, Became, Step, effect, readied, Course, never, when, stays, goes, edits, stops, respells, lends, pops, tells, Came, WatchHears, lent, popped, keeps}
 use Rattle.rl_session.specs.Pair.{pair_step}
 use Rattle.rl_session.specs.State.{State, ChangedFrom, IsBounded, ReportedFrom, Stands, restarted, with_watch}
@@ -23,22 +25,11 @@ use Rattle.rl_session.specs.Run.{Row, Leads, Run}
 use Rattle.rl_session.specs.declared.session.Command.{Command}
 use Rattle.rl_session.specs.declared.session.Reply.{Reply}
 use Rattle.rl_session.specs.declared.pair.Pair.{Pair}
+use Rattle.rl_session.proofs.Sessions.CourseChanges.{Changes, EffectChanges, effect-changes}
 use Rattle.rl_session.proofs.Sessions.CourseLemmas.{Moved-text}
+use Rattle.rl_session.proofs.Sessions.IdleLemmas.{NoneStarts-ahead, NoneStarts-first}
 use Rattle.rl_session.proofs.Sessions.PairLemmas.{cause-watch, listener_after-watch, own}
 use Rattle.rl_session.proofs.Sessions.RestartLemmas.{apply-all}
-
--- a kill's start and stop leave the text
-apply-Start : (text : List ℕ) → apply Start text ≡ Some text
-unfolding apply
-apply-Start text = refl
-
-apply-Stop : (text : List ℕ) → apply Stop text ≡ Some text
-unfolding apply
-apply-Stop text = refl
-
-apply-Cursors : (before after : ℕ) (text : List ℕ) → apply (Cursors before after) text ≡ Some text
-unfolding apply
-apply-Cursors before after text = refl
 
 -- what is known of a line before a command and after it
 pub record Texts (old new : Line) : Type 0 where
@@ -51,7 +42,9 @@ pub record Texts (old new : Line) : Type 0 where
   pub limit : new.limit < 2 ^ 64
 
 module _ (Keeps : Watched → List ℕ → Type 0)
-    (heard : (w : Watched) (event : Event) (text new : List ℕ) → Keeps w text → IsUtf8 text → length text < 2 ^ 64 → length new < 2 ^ 64 → apply event text ≡ Some new → Keeps (watch_step w event) new) where
+    (heard : (w : Watched) (event : Event) (before after : ℕ) (text new : List ℕ) → Keeps w text → IsUtf8 text → length text < 2 ^ 64 → length new < 2 ^ 64
+    → IsChange event → IsCharBoundary text before → apply event text ≡ Some new → IsCharBoundary new after → Keeps (watch_step (watch_step w event) (Cursors before after)) new)
+    (over_marks : (w : Watched) (text : List ℕ) → Keeps w text → IsUtf8 text → length text < 2 ^ 64 → Keeps (watch_step w Start) text × Keeps (watch_step w Stop) text) where
   -- it keeps this of a state
   abbrev Kept : State → Type 0
   Kept s = Keeps s.pair.watch s.line.text
@@ -59,57 +52,57 @@ module _ (Keeps : Watched → List ℕ → Type 0)
   Kept-same : (old new : State) → new ≡ old → Kept old → Kept new
   Kept-same old new e k = subst Kept (sym e) k
 
-  pub Keeps-Taken : (steps : List PlanStep) (old new : Line) (p q : Pair) → IsUtf8 old.text → length old.text < 2 ^ 64 → new.limit < 2 ^ 64 → Taken pair_step steps old new p q
-      → Keeps p.watch old.text → Keeps q.watch new.text
-  Keeps-Taken steps old new p q u small large t k =
+  pub Keeps-Taken : (steps : List PlanStep) (old new : Line) (p q : Pair) → IsUtf8 old.text → length old.text < 2 ^ 64 → new.limit < 2 ^ 64 → AreChanges steps → IsCharBoundary old.text old.cursor
+      → Taken pair_step steps old new p q → Keeps p.watch old.text → Keeps q.watch new.text
+  Keeps-Taken steps old new p q u small large c at t k =
       let same : q.watch ≡ _ = ap (λ (l : Pair). l.watch) t.listener ∙ listener_after-watch old.cursor steps p in
-      subst (λ w. Keeps w new.text) (sym same) (Keeps-after watch_step Keeps heard steps old new p.watch k u small large t.line)
+      subst (λ w. Keeps w new.text) (sym same) (Keeps-after watch_step Keeps heard steps old new p.watch k u small large c at t.line)
 
-  pub Kept-Came : (course : Course) (old new : State) → Texts old.line new.line → Came course old new → Kept old → Kept new
-  Kept-Came never old new t d k = absurd d
-  Kept-Came (when condition course) old new t d k = Kept-Came course old new t d.1 k
-  Kept-Came stays old new t d k = Kept-same old new d k
-  Kept-Came (goes place a) old new t d k =
+  pub Kept-Came : (course : Course) (old new : State) → Texts old.line new.line → Changes course → Came course old new → Kept old → Kept new
+  Kept-Came never old new t c d k = absurd d
+  Kept-Came (when condition course) old new t c d k = Kept-Came course old new t c d.1 k
+  Kept-Came stays old new t c d k = Kept-same old new d k
+  Kept-Came (goes place a) old new t c d k =
       subst (λ w. Keeps w new.line.text) (sym (ap (λ (s : State). s.pair.watch) d.1)) (subst (Keeps old.pair.watch) (sym (Moved-text place old.line new.line a d.0)) k)
-  Kept-Came (edits plan a) old new t d k =
+  Kept-Came (edits plan a) old new t c d k =
       let last = d.done.last in
       let limit : new.line.limit ≡ last.limit = ap (λ (l : Line). l.limit) d.done.line in
-      subst (Keeps new.pair.watch) (sym (ap (λ (l : Line). l.text) d.done.line)) (Keeps-Taken plan.steps old.line last old.pair new.pair t.utf8 t.fits (omega (arith, t.limit)) d.done.taken k)
-  Kept-Came (stops unbegun takes plan) old new t (inl e) k = Kept-same old new e.1 k
-  Kept-Came (stops unbegun takes plan) old new t (inr c) k =
-      let h = c.halted in
+      subst (Keeps new.pair.watch) (sym (ap (λ (l : Line). l.text) d.done.line)) (Keeps-Taken plan.steps old.line last old.pair new.pair t.utf8 t.fits (omega (arith, t.limit)) c t.at d.done.taken k)
+  Kept-Came (stops unbegun takes plan) old new t c (inl e) k = Kept-same old new e.1 k
+  Kept-Came (stops unbegun takes plan) old new t c (inr cut) k =
+      let h = cut.halted in
       let cause = cause-watch h.middle new.pair h.next.0 why.NoMemory (own takes h.middle new.pair h.next.0 why.NoMemory h.cause) in
-      subst (λ w. Keeps w new.line.text) (sym cause) (Keeps-Taken h.first old.line new.line old.pair h.middle t.utf8 t.fits t.limit h.taken k)
-  Kept-Came (respells action course) old new t d k = Kept-Came (course d.made) old new t d.holds k
-  Kept-Came (lends course) old new t d k = Kept-Came course (lent old) new t d k
-  Kept-Came (pops course) old new t d k = Kept-Came course (popped old) new t d k
-  Kept-Came (tells true course) old new t d k = Kept-Came course old new t d k
-  Kept-Came (tells false course) old new t d k =
+      subst (λ w. Keeps w new.line.text) (sym cause) (Keeps-Taken h.first old.line new.line old.pair h.middle t.utf8 t.fits t.limit (NoneStarts-first h.first h.next h.others (subst AreChanges h.split c)).0 t.at h.taken k)
+  Kept-Came (respells action course) old new t c d k = Kept-Came (course d.made) old new t (c d.made) d.holds k
+  Kept-Came (lends course) old new t c d k = Kept-Came course (lent old) new t c d k
+  Kept-Came (pops course) old new t c d k = Kept-Came course (popped old) new t c d k
+  Kept-Came (tells true course) old new t c d k = Kept-Came course old new t c d k
+  Kept-Came (tells false course) old new t c d k =
       let begun = record old { pair = pair_step old.pair Start } in
       let inside = record new { pair = d.last } in
-      let kept = Kept-Came course begun inside t d.inside (heard old.pair.watch Start old.line.text old.line.text k t.utf8 t.fits t.fits (apply-Start old.line.text)) in
-      subst (λ w. Keeps w new.line.text) (sym (ap (λ (p : Pair). p.watch) d.ended)) (heard d.last.watch Stop new.line.text new.line.text kept t.new_utf8 t.new_fits t.new_fits (apply-Stop new.line.text))
+      let kept = Kept-Came course begun inside t c d.inside (over_marks old.pair.watch old.line.text k t.utf8 t.fits).0 in
+      subst (λ w. Keeps w new.line.text) (sym (ap (λ (p : Pair). p.watch) d.ended)) (over_marks d.last.watch new.line.text kept t.new_utf8 t.new_fits).1
 
   -- over the steps of an undo or a redo
-  Kept-over : (steps : List PlanStep) (old new : State) → Texts old.line new.line → after steps old.line ≡ Some new.line → WatchHears steps old new → Kept old → Kept new
-  Kept-over steps old new t e hears k =
-      subst (λ w. Keeps w new.line.text) (sym hears) (Keeps-after watch_step Keeps heard steps old.line new.line old.pair.watch k t.utf8 t.fits t.limit e)
+  Kept-over : (steps : List PlanStep) (old new : State) → Texts old.line new.line → AreChanges steps → after steps old.line ≡ Some new.line → WatchHears steps old new → Kept old → Kept new
+  Kept-over steps old new t c e hears k =
+      subst (λ w. Keeps w new.line.text) (sym hears) (Keeps-after watch_step Keeps heard steps old.line new.line old.pair.watch k t.utf8 t.fits t.limit c t.at e)
 
-  pub Kept-Became : (effect : Effect) (old new : State) → Texts old.line new.line → Became effect old new → Kept old → Kept new
-  Kept-Became (by_steps course) old new t d k = Kept-Came course old new t d k
-  Kept-Became (puts_begin n) old new t d k = subst Kept (sym d.1) k
-  Kept-Became (puts_ends a) old new t d k = subst Kept (sym d.1) k
-  Kept-Became (puts_end a) old new t d k = subst Kept (sym d.1) k
-  Kept-Became (shortens len) old new t d k = subst Kept (sym d.1) k
-  Kept-Became (keeps text) old new t d k = subst Kept (sym d) k
-  Kept-Became (takes_back n a) old new t d k =
+  pub Kept-Became : (effect : Effect) (old new : State) → Texts old.line new.line → EffectChanges effect → Became effect old new → Kept old → Kept new
+  Kept-Became (by_steps course) old new t c d k = Kept-Came course old new t c d k
+  Kept-Became (puts_begin n) old new t c d k = subst Kept (sym d.1) k
+  Kept-Became (puts_ends a) old new t c d k = subst Kept (sym d.1) k
+  Kept-Became (puts_end a) old new t c d k = subst Kept (sym d.1) k
+  Kept-Became (shortens len) old new t c d k = subst Kept (sym d.1) k
+  Kept-Became (keeps text) old new t c d k = subst Kept (sym d) k
+  Kept-Became (takes_back n a) old new t c d k =
       let back = last_of n old.pair.changes.recorded in
       let steps = after-steps_back back old.line new.line t.at t.within d.0.line_is in
-      Kept-over (steps_back old.line.cursor back) old new t steps d.2 k
-  Kept-Became (puts_again a) old new t d k =
+      Kept-over (steps_back old.line.cursor back) old new t (NoneStarts-ahead (map inverse (reverse back)) old.line.cursor) steps d.2 k
+  Kept-Became (puts_again a) old new t c d k =
       let ahead = redo_of old.pair.changes.pending in
       let steps = after-steps_ahead ahead old.line new.line t.at t.within d.0.line_is in
-      Kept-over (steps_ahead old.line.cursor ahead) old new t steps d.2 k
+      Kept-over (steps_ahead old.line.cursor ahead) old new t (NoneStarts-ahead ahead old.line.cursor) steps d.2 k
 
   -- the ring's resets touch neither the watch nor the line
   pub Kept-Step : (old : State) (command : Command) (reply : Reply) (new : State) → Step old command reply new → Stands old → IsBounded old → Kept old → Kept new
@@ -126,40 +119,47 @@ module _ (Keeps : Watched → List ℕ → Type 0)
         new_fits = omega (arith, now.1, now.2);
         limit = now.2;
       } in
-      subst Kept (sym s.settles) (Kept-Became (effect begun command reply) begun s.left texts s.does k)
+      subst Kept (sym s.settles) (Kept-Became (effect begun command reply) begun s.left texts (effect-changes begun command reply) s.does k)
 
   -- a restart is told as one change of the whole text
   pub Kept-restarted : (text : List ℕ) (pos : ℕ) (s : State) → Stands s → IsBounded s → IsUtf8 text → length text < 2 ^ 64 → Kept s → Kept (restarted text pos s)
   Kept-restarted text pos s h b u fits k =
-      let all = heard s.pair.watch (Replace 0 s.line.text text) s.line.text text k h.utf8 (omega (arith, h.within, b)) fits (apply-all s.line.text text h.utf8 u) in
-      heard (watch_step s.pair.watch (Replace 0 s.line.text text)) (Cursors s.line.cursor (length text)) text text all u fits fits (apply-Cursors s.line.cursor (length text) text)
+      heard s.pair.watch (Replace 0 s.line.text text) s.line.cursor (length text) s.line.text text k h.utf8 (omega (arith, h.within, b)) fits tt h.cursor (apply-all s.line.text text h.utf8 u) (IsCharBoundary-end text)
 
--- what covers all that changed covers it after one more event
-goes_on : (asked : List ℕ) (w : Watched) (event : Event) (text new : List ℕ) → Covers w.changed asked text → IsUtf8 text → length text < 2 ^ 64 → length new < 2 ^ 64 → apply event text ≡ Some new
-    → Covers (spliced w.changed event) asked new
-goes_on asked w event text new k u small large e = Covers-apply w.changed event asked text new k u small large e
+-- what covers all that changed covers it after one more change
+goes_on : (asked : List ℕ) (w : Watched) (event : Event) (before after : ℕ) (text new : List ℕ) → Covers w.changed asked text → IsUtf8 text → length text < 2 ^ 64 → length new < 2 ^ 64
+    → IsChange event → IsCharBoundary text before → apply event text ≡ Some new → IsCharBoundary new after → Covers (spliced w.changed event) asked new
+goes_on asked w event before after text new k u small large c at e to = Covers-apply w.changed event asked text new k u small large e
 
--- reports lead on over one more event
-lead_on : (read : List ℕ) (w : Watched) (event : Event) (text new : List ℕ) → IsLineText read × ReportsLead false w.reports read text → IsUtf8 text → length text < 2 ^ 64 → length new < 2 ^ 64 → apply event text ≡ Some new
-    → IsLineText read × ReportsLead false (watch_step w event).reports read new
-lead_on read w event text new k u small large e = (k.0, from w.reports k.1)
+-- reports lead on over one more change, and over marks
+lead_on : (read : List ℕ) (w : Watched) (event : Event) (before after : ℕ) (text new : List ℕ) → IsLineText read × ReportsLead true w.reports read text → IsUtf8 text → length text < 2 ^ 64 → length new < 2 ^ 64
+    → IsChange event → IsCharBoundary text before → apply event text ≡ Some new → IsCharBoundary new after → IsLineText read × ReportsLead true (watch_step (watch_step w event) (Cursors before after)).reports read new
+lead_on read w event before after text new k u small large c at e to = (k.0, from w.reports k.1)
   where
-    from : (reports : Option Queue) → ReportsLead false reports read text → ReportsLead false (option_map (λ (q : Queue). queue_step q event) reports) read new
+    from : (reports : Option Queue) → ReportsLead true reports read text → ReportsLead true (option_map (λ (q : Queue). queue_step q (Cursors before after)) (option_map (λ (q : Queue). queue_step q event) reports)) read new
     from None h = absurd h
-    from (Some q) h =
-        reports_heard q event read text new h k.0 (record { utf8 = u; fits = small }) large e
+    from (Some q) h = placed q event before after read text new h k.0 (record { utf8 = u; fits = small }) large c at e to
+
+lead_over : (read : List ℕ) (w : Watched) (text : List ℕ) → IsLineText read × ReportsLead true w.reports read text → IsUtf8 text → length text < 2 ^ 64
+    → (IsLineText read × ReportsLead true (watch_step w Start).reports read text) × (IsLineText read × ReportsLead true (watch_step w Stop).reports read text)
+lead_over read w text k u small = let both = from w.reports k.1 in ((k.0, both.0), (k.0, both.1))
+  where
+    from : (reports : Option Queue) → ReportsLead true reports read text
+        → ReportsLead true (option_map (λ (q : Queue). queue_step q Start) reports) read text × ReportsLead true (option_map (λ (q : Queue). queue_step q Stop) reports) read text
+    from None h = absurd h
+    from (Some q) h = marked true q read text h k.0 (record { utf8 = u; fits = small })
 
 -- so what changed is told after a command, and after a run
 pub changed_row : (asked : List ℕ) (row : Row) → ChangedFrom asked row.before → ChangedFrom asked row.after
 changed_row asked row k = record {
   stands = row.step.stands;
   bounded = row.step.bounded;
-  covers = Kept-Step (λ w text. Covers w.changed asked text) (goes_on asked) row.before row.command row.reply row.after row.step k.stands k.bounded k.covers;
+  covers = Kept-Step (λ w text. Covers w.changed asked text) (goes_on asked) (λ w text k u small. (k, k)) row.before row.command row.reply row.after row.step k.stands k.bounded k.covers;
 }
 
 pub reported_row : (read : List ℕ) (row : Row) → ReportedFrom read row.before → ReportedFrom read row.after
 reported_row read row k =
-    let kept = Kept-Step (λ w text. IsLineText read × ReportsLead false w.reports read text) (lead_on read) row.before row.command row.reply row.after row.step k.stands k.bounded (k.text, k.leads) in
+    let kept = Kept-Step (λ w text. IsLineText read × ReportsLead true w.reports read text) (lead_on read) (lead_over read) row.before row.command row.reply row.after row.step k.stands k.bounded (k.text, k.leads) in
     record { stands = row.step.stands; bounded = row.step.bounded; text = kept.0; leads = kept.1 }
 
 -- and after a restart
@@ -167,15 +167,15 @@ pub changed_restarted : (asked text : List ℕ) (pos : ℕ) (old new : State) �
 changed_restarted asked text pos old new e h b k =
     let utf8 : IsUtf8 text = subst (λ (s : State). IsUtf8 s.line.text) e h.utf8 in
     let is : new.line.text ≡ text = ap (λ (s : State). s.line.text) e in
-    let kept = Kept-restarted (λ w text. Covers w.changed asked text) (goes_on asked) text pos old k.stands k.bounded utf8 (omega (arith, ap length is, h.within, b)) k.covers in
+    let kept = Kept-restarted (λ w text. Covers w.changed asked text) (goes_on asked) (λ w text k u small. (k, k)) text pos old k.stands k.bounded utf8 (omega (arith, ap length is, h.within, b)) k.covers in
     record { stands = h; bounded = b; covers = subst (λ (s : State). Covers s.pair.watch.changed asked s.line.text) (sym e) kept }
 
 pub reported_restarted : (read text : List ℕ) (pos : ℕ) (old new : State) → new ≡ restarted text pos old → Stands new → IsBounded new → ReportedFrom read old → ReportedFrom read new
 reported_restarted read text pos old new e h b k =
     let utf8 : IsUtf8 text = subst (λ (s : State). IsUtf8 s.line.text) e h.utf8 in
     let is : new.line.text ≡ text = ap (λ (s : State). s.line.text) e in
-    let kept = Kept-restarted (λ w text. IsLineText read × ReportsLead false w.reports read text) (lead_on read) text pos old k.stands k.bounded utf8 (omega (arith, ap length is, h.within, b)) (k.text, k.leads) in
-    record { stands = h; bounded = b; text = kept.0; leads = subst (λ (s : State). ReportsLead false s.pair.watch.reports read s.line.text) (sym e) kept.1 }
+    let kept = Kept-restarted (λ w text. IsLineText read × ReportsLead true w.reports read text) (lead_on read) (lead_over read) text pos old k.stands k.bounded utf8 (omega (arith, ap length is, h.within, b)) (k.text, k.leads) in
+    record { stands = h; bounded = b; text = kept.0; leads = subst (λ (s : State). ReportsLead true s.pair.watch.reports read s.line.text) (sym e) kept.1 }
 
 -- what a fact keeps at each row it keeps over rows
 over : (Holds : State → Type 0) → ((row : Row) → Holds row.before → Holds row.after) → (rows : List Row) (old new : State) → Leads old rows new → Holds old → Holds new
@@ -193,7 +193,7 @@ present : (s : State) (read : List ℕ) → ReportedFrom read s → IsLineText s
 present s read k = record { utf8 = k.stands.utf8; fits = omega (arith, k.stands.within, k.bounded) }
 
 -- where reading left off, once it went on
-goes_on_from : (s : State) (read text : List ℕ) → ReportedFrom read s → IsLineText text → ReportsLead false (option_map forgotten s.pair.watch.reports) text s.line.text
+goes_on_from : (s : State) (read text : List ℕ) → ReportedFrom read s → IsLineText text → ReportsLead true (option_map forgotten s.pair.watch.reports) text s.line.text
     → ReportedFrom text (with_watch (past_next s.pair.watch) s)
 goes_on_from s read text k u l = record {
   stands = record { utf8 = k.stands.utf8; cursor = k.stands.cursor; within = k.stands.within; ring = k.stands.ring; idle = k.stands.idle };
@@ -205,29 +205,29 @@ goes_on_from s read text k u l = record {
 pub reads_nothing : (s : State) (read : List ℕ) → ReportedFrom read s → next_note s.pair.watch ≡ None → s.line.text ≡ read
 reads_nothing s read k = from s.pair.watch.reports k.leads
   where
-    from : (reports : Option Queue) → ReportsLead false reports read s.line.text → option_and_then (λ (q : Queue). oldest q.waiting) reports ≡ None → s.line.text ≡ read
+    from : (reports : Option Queue) → ReportsLead true reports read s.line.text → option_and_then (λ (q : Queue). oldest q.waiting) reports ≡ None → s.line.text ≡ read
     from None l h = absurd l
-    from (Some q) l h = nothing false q read s.line.text l h
+    from (Some q) l h = nothing true q read s.line.text l h
 
 pub reads_texts : (s : State) (read : List ℕ) (note : Noted) → ReportedFrom read s → next_note s.pair.watch ≡ Some note → HasTexts (text_room s.pair.watch) note.report
-    → TellsByTexts note read × ReportedFrom (after_texts note read) (with_watch (past_next s.pair.watch) s)
+    → TellsByTexts note read × Stand note.report.cursors read (after_texts note read) × ReportedFrom (after_texts note read) (with_watch (past_next s.pair.watch) s)
 reads_texts s read note k h has =
-    let r = from s.pair.watch.reports k.leads h has in (r.1, goes_on_from s read (after_texts note read) k r.0 r.2)
+    let r = from s.pair.watch.reports k.leads h has in (r.1, r.2, goes_on_from s read (after_texts note read) k r.0 r.3)
   where
-    from : (reports : Option Queue) → ReportsLead false reports read s.line.text → option_and_then (λ (q : Queue). oldest q.waiting) reports ≡ Some note
+    from : (reports : Option Queue) → ReportsLead true reports read s.line.text → option_and_then (λ (q : Queue). oldest q.waiting) reports ≡ Some note
         → HasTexts (unwrap_or (option_map (λ (q : Queue). q.text_room) reports) 0) note.report
-        → IsLineText (after_texts note read) × TellsByTexts note read × ReportsLead false (option_map forgotten reports) (after_texts note read) s.line.text
+        → IsLineText (after_texts note read) × TellsByTexts note read × Stand note.report.cursors read (after_texts note read) × ReportsLead true (option_map forgotten reports) (after_texts note read) s.line.text
     from None l h has = absurd l
-    from (Some q) l h has = let r = with_texts false q note read s.line.text l k.text h has in (r.text, r.tells, r.rest)
+    from (Some q) l h has = let r = with_texts true q note read s.line.text l k.text h has in (r.text, r.tells, r.cursors, r.rest)
 
 pub reads_whole : (s : State) (read : List ℕ) (note : Noted) → ReportedFrom read s → next_note s.pair.watch ≡ Some note → LacksTexts (text_room s.pair.watch) note.report
-    → (next_note (past_next s.pair.watch) ≡ None) × (after_numbers note.report s.line.text read ≡ s.line.text) × ReportedFrom s.line.text (with_watch (past_next s.pair.watch) s)
+    → (next_note (past_next s.pair.watch) ≡ None) × (after_numbers note.report s.line.text read ≡ s.line.text) × Stand note.report.cursors read s.line.text × ReportedFrom s.line.text (with_watch (past_next s.pair.watch) s)
 reads_whole s read note k h lacks =
-    let r = from s.pair.watch.reports k.leads h lacks in (r.0, r.1, goes_on_from s read s.line.text k (present s read k) r.2)
+    let r = from s.pair.watch.reports k.leads h lacks in (r.0, r.1, r.2, goes_on_from s read s.line.text k (present s read k) r.3)
   where
-    from : (reports : Option Queue) → ReportsLead false reports read s.line.text → option_and_then (λ (q : Queue). oldest q.waiting) reports ≡ Some note
+    from : (reports : Option Queue) → ReportsLead true reports read s.line.text → option_and_then (λ (q : Queue). oldest q.waiting) reports ≡ Some note
         → LacksTexts (unwrap_or (option_map (λ (q : Queue). q.text_room) reports) 0) note.report
         → (option_and_then (λ (q : Queue). oldest q.waiting) (option_map forgotten reports) ≡ None) × (after_numbers note.report s.line.text read ≡ s.line.text)
-        × ReportsLead false (option_map forgotten reports) s.line.text s.line.text
+        × Stand note.report.cursors read s.line.text × ReportsLead true (option_map forgotten reports) s.line.text s.line.text
     from None l h lacks = absurd l
-    from (Some q) l h lacks = let r = whole false q note read s.line.text l h lacks in (r.all, r.tells, r.rest)
+    from (Some q) l h lacks = let r = whole true q note read s.line.text l h lacks in (r.all, r.tells, r.cursors, r.rest)
