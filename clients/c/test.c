@@ -475,7 +475,7 @@ static void cells_are_placed(void) {
         {"or three characters", FAMILY "x", 18, 0, 10, 0, LODVARN_WC_WIDTH, 0, 6},
         {"or three parts", FAMILY "x", 18, 0, 10, 0, LODVARN_NO_ZWJ, 0, 6},
         {"a mark takes no column", "e\u0301x", 3, 0, 10, 0, 0, 0, 1},
-        {"inside a cluster", "e\u0301x", 1, 0, 10, 0, 0, 0, 1},
+        {"inside a cluster, where it starts", "xe\u0301x", 2, 0, 10, 0, 0, 0, 1},
         {"a prompt up to the edge", "", 0, 4, 4, 0, 0, 1, 0},
         {"a letter that is wider than the screen", "漢", 3, 0, 1, 0, 0, 2, 0},
         {"a tab as wide as it is measured", "a\tb", 3, 0, 80, 0, LODVARN_UNICODE, 0, 3},

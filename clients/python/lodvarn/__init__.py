@@ -1063,9 +1063,9 @@ def cell(
 ) -> tuple[int, int]:
     """The row and column of a place of a text on a screen with `columns` columns.
 
-    The text begins at the column `prompt` of row 0. A tab goes to the next multiple of `tab` columns, or to the right
-    edge where that is nearer; where `tab` is 0 it is as wide as `width` says. Raises BadPlace, and NoSuchNumber where
-    `columns` is 0.
+    The text begins at the column `prompt` of row 0, and a place inside of a cluster is where the cluster starts. A tab
+    goes to the next multiple of `tab` columns, or to the right edge where that is nearer; where `tab` is 0 it is as wide
+    as `width` says. Raises BadPlace, and NoSuchNumber where `columns` is 0.
     """
     row, column, given = _SIZE(), _SIZE(), _utf8(text)
     _call("cell", (), (given, len(given), place, prompt, columns, tab, mode), (row, column))

@@ -1,8 +1,11 @@
 -- Cells of a text, one after another, and the place that is found for one of them.
-use Rattle.std.proofs.Common.{◌≡◌, ◌⊎◌, inl, inr, ℕ, zero, suc, cond, ◌+◌, ◌-◌, ◌%◌, ◌≤◌, ◌&&◌, min, nat_le, nat_lt, Bool, true, false, List, [], ◌∷◌, length, slice_get, unwrap_or, MatchOption, Some, arith, refl, sym, ap, subst, ◌∙◌}
+use Rattle.std.proofs.Common.{◌≡◌, ◌⊎◌, inl, inr, ℕ, zero, suc, cond, ◌+◌, ◌-◌, ◌%◌, ◌≤◌, ◌<◌, ◌&&◌, All, min, nat_le, nat_lt, Bool, true, false, List, [], ◌∷◌, length, slice_get, unwrap_or, MatchOption, Some, arith, refl, sym, ap, subst, ◌∙◌}
 use Rattle.std.proofs.lemmas.Bool.Decides.{nat_tests}
+use Rattle.std.proofs.lemmas.List.Elements.{All-head, All-tail}
+use Rattle.rl_base.specs.Clusters.{clusters}
 use Rattle.rl_base.specs.Widths.{width}
-use Rattle.rl_ffi.specs.Cells.{after, cells, is_newline, is_tab, is_within, last_within, tabbed, wrapped}
+use Rattle.rl_base.proofs.Clusters.PieceLemmas.{clusters-some}
+use Rattle.rl_ffi.specs.Cells.{after, cells, cells_of, is_newline, is_tab, is_within, laid, last_within, tabbed, wrapped}
 use Rattle.rl_ffi.specs.declared.cells.Screen.{Screen}
 
 within-trans : (a b c : ℕ × ℕ) → is_within a b ≡ true → is_within b c ≡ true → is_within a c ≡ true
@@ -92,6 +95,9 @@ found-first cell at place found ps e rest =
 cell-of : (x : ℕ × (ℕ × ℕ)) (p : ℕ) (cell : ℕ × ℕ) → Some x ≡ Some (p, cell) → x.1 ≡ cell
 cell-of x p cell e = ap (λ o. (unwrap_or o x).1) e
 
+place-of : (x : ℕ × (ℕ × ℕ)) (p : ℕ) (cell : ℕ × ℕ) → Some x ≡ Some (p, cell) → x.0 ≡ p
+place-of x p cell e = ap (λ o. (unwrap_or o x).0) e
+
 pub found-from : (screen : Screen) (cell : ℕ × ℕ) (place : ℕ) (at : ℕ × ℕ) (clusters : List (List ℕ)) (found k p : ℕ) → slice_get (cells screen place at clusters) k ≡ Some (p, cell)
     → (j : ℕ) × (k ≤ j) × (slice_get (cells screen place at clusters) j ≡ Some (last_within cell found (cells screen place at clusters), cell))
 found-from screen cell place at [] found zero p e = found-first cell (wrapped screen.columns at) place found [] (cell-of _ p cell e) (λ f. inl refl)
@@ -104,3 +110,42 @@ found-from screen cell place at (cluster ∷ more) found zero p e =
 found-from screen cell place at (cluster ∷ more) found (suc k) p e =
     let r = found-from screen cell (place + length cluster) (after screen at cluster) more (cond (is_within (wrapped screen.columns at) cell) place found) k p e in
     (suc r.0, omega (arith, r.1), r.2)
+
+-- a cluster that ends after the place is where laying out stops, and one that does not is laid out
+pub laid-stops : (screen : Screen) (place : ℕ) (at : ℕ × ℕ) (ps more : List (List ℕ)) (cluster : List ℕ) → ps ≡ cluster ∷ more → place < length cluster → laid screen place at ps ≡ at
+laid-stops screen place at ps more cluster e past =
+    let none : nat_le (length cluster) place ≡ false = grind (arith, nat_tests) in
+    ap (laid screen place at) e ∙ ap (λ b. cond b (laid screen (place - length cluster) (after screen at cluster) more) at) none
+
+pub laid-goes : (screen : Screen) (place : ℕ) (at : ℕ × ℕ) (ps more : List (List ℕ)) (cluster : List ℕ) → ps ≡ cluster ∷ more → length cluster ≤ place
+    → laid screen place at ps ≡ laid screen (place - length cluster) (after screen at cluster) more
+laid-goes screen place at ps more cluster e fits =
+    let all : nat_le (length cluster) place ≡ true = grind (arith, nat_tests) in
+    ap (laid screen place at) e ∙ ap (λ b. cond b (laid screen (place - length cluster) (after screen at cluster) more) at) all
+
+-- the cell of a place between two clusters is the one that it has among all of them
+cell-at : (screen : Screen) (place : ℕ) (at : ℕ × ℕ) (clusters : List (List ℕ)) (k p : ℕ) (c : ℕ × ℕ) → All (λ (cluster : List ℕ). 0 < length cluster) clusters
+    → slice_get (cells screen place at clusters) k ≡ Some (p, c) → (m : ℕ) × (p ≡ place + m) × (c ≡ wrapped screen.columns (laid screen m at clusters))
+cell-at screen place at [] zero p c some e = (0, omega (arith, place-of (place, wrapped screen.columns at) p c e), sym (cell-of (place, wrapped screen.columns at) p c e))
+cell-at screen place at [] (suc k) p c some e = absurd (subst (λ o. MatchOption o (Unit {0}) (λ _. ⊥)) e tt)
+cell-at screen place at (cluster ∷ more) zero p c some e = (
+  0,
+  omega (arith, place-of (place, wrapped screen.columns at) p c e),
+  sym (cell-of (place, wrapped screen.columns at) p c e)
+      ∙ ap (wrapped screen.columns) (sym (laid-stops screen 0 at (cluster ∷ more) more cluster refl (All-head (λ (x : List ℕ). 0 < length x) cluster more some))),
+)
+cell-at screen place at (cluster ∷ more) (suc k) p c some e =
+    let r = cell-at screen (place + length cluster) (after screen at cluster) more k p c (All-tail (λ (x : List ℕ). 0 < length x) cluster more some) e in
+    let left : r.0 ≡ length cluster + r.0 - length cluster = omega arith in (
+      length cluster + r.0,
+      omega (arith, r.1),
+      r.2 ∙ ap (λ m. wrapped screen.columns (laid screen m (after screen at cluster) more)) left
+          ∙ ap (wrapped screen.columns) (sym (laid-goes screen (length cluster + r.0) at (cluster ∷ more) more cluster refl (omega arith))),
+    )
+
+pub cell-of_place : (screen : Screen) (prompt : ℕ) (text : List ℕ) (k place : ℕ) (c : ℕ × ℕ) → slice_get (cells_of screen prompt text) k ≡ Some (place, c)
+    → c ≡ wrapped screen.columns (laid screen place (0, prompt) (clusters text))
+cell-of_place screen prompt text k place c e =
+    let r = cell-at screen 0 (0, prompt) (clusters text) k place c (clusters-some text) e in
+    let same : r.0 ≡ place = omega (arith, r.1) in
+    r.2 ∙ ap (λ m. wrapped screen.columns (laid screen m (0, prompt) (clusters text))) same

@@ -40,14 +40,14 @@ module _ (screen : Screen) where
       if nat_le (at.1 + width screen.mode cluster) screen.columns then (at.0, at.1 + width screen.mode cluster) else
       (at.0 + 1, width screen.mode cluster)
 
-  -- after clusters, one after another
-  abbrev pub laid : ℕ × ℕ → List (List ℕ) → ℕ × ℕ
-  laid at [] = at
-  laid at (cluster ∷ more) = laid (after at cluster) more
+  -- after those of the clusters, one after another, that end at a place or before it
+  abbrev pub laid : ℕ → ℕ × ℕ → List (List ℕ) → ℕ × ℕ
+  laid place at [] = at
+  laid place at (cluster ∷ more) = if nat_le (length cluster) place then laid (place - length cluster) (after at cluster) more else at
 
-  -- after a text that begins at a column of row 0
-  abbrev pub cell : ℕ → List ℕ → ℕ × ℕ
-  cell prompt text = wrapped screen.columns (laid (0, prompt) (clusters text))
+  -- the cell of a place in a text that begins at a column of row 0
+  abbrev pub cell : ℕ → List ℕ → ℕ → ℕ × ℕ
+  cell prompt text place = wrapped screen.columns (laid place (0, prompt) (clusters text))
 
   -- the places before, between and after clusters, each with its cell, from a place and where the first is laid on
   abbrev pub cells : ℕ → ℕ × ℕ → List (List ℕ) → List (ℕ × (ℕ × ℕ))

@@ -1,12 +1,10 @@
 -- What the edits of a line that C holds do: each carries out a plan, of which its listener hears.
-use Rattle.std.specs.Prelude.{◌≡◌, ◌⊎◌, ℕ, Bool, true, false, List, Option, Some, None}
+use Rattle.std.specs.Prelude.{◌≡◌, ◌⊎◌, ℕ, Bool, true, false, Option, Some, None}
 use Rattle.rl_base.specs.Event.{Event}
 use Rattle.rl_base.specs.declared.listeners.Refusal.{Refusal}
 use Rattle.rl_base.specs.declared.motion.Movement.{Movement}
 use Rattle.rl_base.specs.declared.motion.Movement.TheVariants.{BackwardWord, BeginningOfBuffer, BeginningOfLine, EndOfBuffer, EndOfLine, ForwardWord, ViCharSearch}
-use Rattle.rl_base.specs.declared.motion.WordAction.{WordAction}
 use Rattle.rl_line.specs.Kills.{Told}
-use Rattle.rl_line.specs.LetterCase.{Recased}
 use Rattle.rl_line.specs.Line.{Line}
 use Rattle.rl_line.specs.Plan.{Done, Halted, Plan, or_no_memory}
 use Rattle.rl_session.specs.Commands.{Takes, a_copy, nothing_more, room_by_step, unbegun}
@@ -56,10 +54,6 @@ kills by_characters plan old n new =
     ((answer : Bool) × ToldOf by_characters (λ before now. Done heard_step (plan old.line) old.line new.line before now answer) old new × (n ≡ truth_number answer))
     ⊎ (((why : Refusal) × ToldOf by_characters (λ before now. Halted heard_step heard_refused (plan old.line) old.line new.line before now why) old new) × (n ≡ no_memory))
     ⊎ leaves no_memory old n new
-
--- a text is made for the word ahead, and the plan is of that
-abbrev pub respells : WordAction → (List ℕ → Effect) → Effect
-respells action effect old n new = Recased old.line action (λ made. effect made old n new)
 
 -- the movements by which a line has a call that deletes and tells no kill
 abbrev pub deleting : Movement → Option Movement

@@ -1,5 +1,5 @@
 -- What the calls that need no session answer.
-use Rattle.std.specs.Prelude.{◌≡◌, ◌⊎◌, ℕ, ◌+◌, ◌*◌, zero, suc, List, [], ◌∷◌, length, reverse, take, Option, Some, None, option_map}
+use Rattle.std.specs.Prelude.{◌≡◌, ◌⊎◌, ℕ, ◌+◌, ◌*◌, zero, suc, List, [], ◌∷◌, length, reverse, Option, Some, None, option_map}
 use Rattle.std.specs.Str.{IsCharBoundary, IsUtf8}
 use Rattle.rl_base.specs.Clusters.{clusters}
 use Rattle.rl_base.specs.Widths.{width}
@@ -42,7 +42,7 @@ OnScreen (Some screen) Tells n old new = Tells screen n old new
 -- the cell of a place in two numbers, row and column
 abbrev pub CellIn : Screen → ℕ → List ℕ → ℕ → ℕ → ℕ × ℕ → ℕ × ℕ → Type 0
 CellIn screen prompt text place n old new =
-    (IsUtf8 text × IsCharBoundary text place × (n ≡ done) × (new ≡ cell screen prompt (take place text)))
+    (IsUtf8 text × IsCharBoundary text place × (n ≡ done) × (new ≡ cell screen prompt text place))
     ⊎ ((¬ (IsUtf8 text)) × (n ≡ not_utf8) × (new ≡ old))
     ⊎ (IsUtf8 text × (¬ (IsCharBoundary text place)) × (n ≡ bad_place) × (new ≡ old))
 

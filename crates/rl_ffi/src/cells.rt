@@ -66,14 +66,21 @@ fn wrapped(columns: u16, row: usize, column: usize) -> (usize, usize)
     }
 }
 
-// The row and column after a text that begins at a column of row 0.
-pub(crate) fn cell(screen: &Screen, prompt: u16, text: &str) -> (usize, usize)
-    ensures { result ≡ cell screen.now prompt text.now }
+// The row and column of a byte place of a text that begins at a column of row 0. A place inside of a cluster is where
+// the cluster starts.
+pub(crate) fn cell(screen: &Screen, prompt: u16, text: &str, place: usize) -> (usize, usize)
+    ensures { result ≡ cell screen.now prompt text.now place }
 {
     let mut row: usize = 0;
     let mut column = usize::from(prompt);
+    let mut left = place;
     for cluster in text.graphemes(true) {
+        let bytes = cluster.len();
+        if left < bytes {
+            return wrapped(screen.columns, row, column);
+        }
         (row, column) = after(screen, row, column, cluster);
+        left -= bytes;
     }
     wrapped(screen.columns, row, column)
 }
@@ -108,7 +115,9 @@ pub(crate) fn place_at(screen: &Screen, prompt: u16, text: &str, cell: (usize, u
 
 /// A place between two clusters is found again by its cell, or one after it with the same cell: the place that is found
 /// for the cell of the `k`-th place is the `j`-th for some `j` from `k` on, and has that cell.
-pub(crate) fn cells_are_found()
-    ensures { (screen : Screen) (prompt : ℕ) (text : List ℕ) (k place : ℕ) (cell : ℕ × ℕ) → slice_get (cells_of screen prompt text) k ≡ Some (place, cell)
-        → (j : ℕ) × (k ≤ j) × (slice_get (cells_of screen prompt text) j ≡ Some (place_at screen prompt text cell, cell)) }
+pub fn cells_are_found()
+    ensures each { (screen : Screen) (prompt : ℕ) (text : List ℕ) (k place : ℕ) (at : ℕ × ℕ) → slice_get (cells_of screen prompt text) k ≡ Some (place, at)
+        → at ≡ cell screen prompt text place }
+    ensures found { (screen : Screen) (prompt : ℕ) (text : List ℕ) (k place : ℕ) (at : ℕ × ℕ) → slice_get (cells_of screen prompt text) k ≡ Some (place, at)
+        → let c = cell screen prompt text place in (j : ℕ) × (k ≤ j) × (slice_get (cells_of screen prompt text) j ≡ Some (place_at screen prompt text c, c)) }
 {}

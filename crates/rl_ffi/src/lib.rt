@@ -29,3 +29,6 @@ mod record_handle;
 mod record_lines;
 mod settings;
 mod texts;
+
+pub use cells::cells_are_found;
+pub use heard::no_event_is_lost;

@@ -6,7 +6,7 @@ ghost use Rattle.rl_line.specs.Transpositions.{transpose_chars_plan, transpose_w
 ghost use Rattle.rl_session.specs.Commands.{a_copy, room_by_step};
 ghost use Rattle.rl_ffi.specs.HeldLine.{of_named};
 ghost use Rattle.rl_ffi.specs.PartCalls.{Through};
-ghost use Rattle.rl_ffi.specs.LineEdits.{edits, respells};
+ghost use Rattle.rl_ffi.specs.LineEdits.{edits};
 ghost use Rattle.rl_ffi.specs.Numbers.{action_of, dedents_of, movement_of, truth_number};
 
 use crate::handle::of_part;
@@ -55,7 +55,7 @@ pub extern "C" fn lodvarn_line_transpose_words(alloc: Global, l: &mut LineHandle
 }
 
 fn edit_word(held: &mut HeldLine, action: WordAction) -> u32
-    ensures { respells action (λ made. edits a_copy (λ line. edit_word_plan line made) truth_number) held.old result held.new }
+    ensures { edits a_copy (λ line. edit_word_plan line action) truth_number held.old result held.new }
 {
     match held.line.edit_word(action, &mut held.heard) {
         Ok(answer) => truth_number(answer),
@@ -64,7 +64,7 @@ fn edit_word(held: &mut HeldLine, action: WordAction) -> u32
 }
 
 fn edit_word_named(held: &mut HeldLine, action: Option<WordAction>) -> u32
-    ensures { of_named action (λ a. respells a (λ made. edits a_copy (λ line. edit_word_plan line made) truth_number)) held.old result held.new }
+    ensures { of_named action (λ a. edits a_copy (λ line. edit_word_plan line a) truth_number) held.old result held.new }
 {
     match action {
         Some(action) => edit_word(held, action),
@@ -76,7 +76,7 @@ fn edit_word_named(held: &mut HeldLine, action: Option<WordAction>) -> u32
 /// change nothing; NO_MEMORY stops it after the steps that it made.
 #[unsafe(no_mangle)]
 pub extern "C" fn lodvarn_line_edit_word(alloc: Global, l: &mut LineHandle, action: u32) -> u32
-    ensures { Through (of_named (action_of action) (λ a. respells a (λ made. edits a_copy (λ line. edit_word_plan line made) truth_number))) l.old.value result l.new.value }
+    ensures { Through (of_named (action_of action) (λ a. edits a_copy (λ line. edit_word_plan line a) truth_number)) l.old.value result l.new.value }
 {
     let named = action_of(action);
     of_part!(LineHandle, l, alloc, held => edit_word_named(&mut held, named), CLOSED)

@@ -115,13 +115,13 @@ fn cell_in(
     if !text.is_char_boundary(place) {
         return BAD_PLACE;
     }
-    (*row, *column) = cell(screen, prompt, &text[..place]);
+    (*row, *column) = cell(screen, prompt, text, place);
     DONE
 }
 
 /// The row and the column, from 0, of a byte place of a text on a screen with `columns` columns, whose tab stops are
 /// `tab` columns apart; where that is 0, a tab is as wide as the mode says. The text begins at column `prompt` of row
-/// 0: DONE, with both written. NO_SUCH_NUMBER (also where `columns` is 0), NOT_UTF8, and BAD_PLACE where the place is no
+/// 0, and a place inside of a cluster is where the cluster starts: DONE, with both written. NO_SUCH_NUMBER (also where `columns` is 0), NOT_UTF8, and BAD_PLACE where the place is no
 /// boundary of a character, leave them as they were.
 #[unsafe(no_mangle)]
 pub extern "C" fn lodvarn_cell(

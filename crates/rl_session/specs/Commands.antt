@@ -13,7 +13,6 @@ use Rattle.rl_base.specs.Text.{HasText}
 use Rattle.rl_base.specs.Watch.{watch_step}
 use Rattle.rl_base.specs.declared.listeners.Refusal.{Refusal}
 use Rattle.rl_base.specs.declared.motion.Movement.{Movement}
-use Rattle.rl_base.specs.declared.motion.WordAction.{WordAction}
 use Rattle.rl_base.specs.declared.motion.Movement.TheVariants.{BeginningOfLine, EndOfLine, BackwardWord, ForwardWord, ViCharSearch, BackwardChar, BeginningOfBuffer, EndOfBuffer}
 use Rattle.rl_line.specs.LineRanges.{IsRange}
 use Rattle.rl_line.specs.Line.{Line, NeedsRoom}
@@ -23,7 +22,7 @@ use Rattle.rl_line.specs.Plan.{Step as PlanStep, Plan, nothing, Done, Halted, or
 use Rattle.rl_line.specs.Edits.{insert_plan, insert_str_plan, yank_plan, yank_pop_plan, update_plan, replace_plan, delete_range_plan}
 use Rattle.rl_line.specs.Indents.{indent_plan}
 use Rattle.rl_line.specs.Kills.{copied, delete_plan, kill_plan, kill_range_plan, is_by_characters, Told}
-use Rattle.rl_line.specs.LetterCase.{edit_word_plan, Recased}
+use Rattle.rl_line.specs.LetterCase.{edit_word_plan}
 use Rattle.rl_line.specs.Record.{Record, replays_to}
 use Rattle.rl_line.specs.Transpositions.{transpose_chars_plan, transpose_words_plan}
 use Rattle.rl_line.specs.Undo.{CopiesBack, Undone, Redone, steps_ahead, steps_back, texts_ahead, texts_back}
@@ -124,8 +123,6 @@ pub data Course : Type 1 where
   -- an edit was done; an edit was refused since memory is out: not begun, which comes only where a condition holds, or cut short
   edits : {A : Type 0} → Plan A → A → Course
   stops : {A : Type 0} → Type 0 → Takes → Plan A → Course
-  -- a text was made for the word ahead, and then this
-  respells : WordAction → (List ℕ → Course) → Course
   -- the ring lent its text first, or the text before that one
   lends : Course → Course
   pops : Course → Course
@@ -140,7 +137,6 @@ Came stays old new = new ≡ old
 Came (goes place answer) old new = Moved place old.line new.line answer × (new ≡ record old { line = new.line })
 Came (edits plan answer) old new = Edited plan old new answer
 Came (stops unbegun takes plan) old new = (unbegun × (new ≡ old)) ⊎ CutShort takes plan old new
-Came (respells action course) old new = Recased old.line action (λ made. Came (course made) old new)
 Came (lends course) old new = Came course (lent old) new
 Came (pops course) old new = Came course (popped old) new
 Came (tells by_characters course) old new =
@@ -211,6 +207,7 @@ asked line (DeleteWord at word n) = edit nothing_more (Unit {0}) (kill_plan line
 asked line (DeleteTo cs n) = edit nothing_more (Unit {0}) (kill_plan line (ViCharSearch n cs)) answers
 asked line TransposeChars = edit a_copy (Unit {0}) (transpose_chars_plan line) answers
 asked line (TransposeWords n) = edit a_copy (Unit {0}) (transpose_words_plan line n) answers
+asked line (EditWord action) = edit a_copy (Unit {0}) (edit_word_plan line action) answers
 asked line (Indent m amount dedent) = edit room_by_step (Unit {0}) (indent_plan line m amount dedent) answers
 asked line _ = other
 
@@ -220,17 +217,14 @@ edit_course takes condition plan telling (says.Refused BadPlace) = when (¬ cond
 edit_course takes condition plan telling (says.Refused NoMemory) = when condition (stops (unbegun takes plan) takes plan)
 edit_course takes condition plan telling reply = when condition (told_as telling (edits plan) reply)
 
--- Commands that are no edit, or an edit whose text the command does not tell. A command is not refused where it needs no room,
--- since there is nothing to copy, to close or to make longer.
+-- Commands that are no edit of the table. A command is not refused where it needs no room, since there is nothing to copy,
+-- to close or to make longer.
 abbrev pub other_course : State → Command → Reply → Course
 other_course old (SetPos q) says.Done = when (IsCharBoundary old.line.text q) (goes (Some q) true)
 other_course old (SetPos q) (says.Refused BadPlace) = when (¬ (IsCharBoundary old.line.text q)) stays
 other_course old (Move m) (says.Answer a) = goes (destination old m) a
 other_course old (Copy m) (says.Text t) = when (option_map string_bytes t ≡ copied old.line m) stays
 other_course old (Copy m) (says.Refused NoMemory) = when (HasText (copied old.line m)) stays
-other_course old (EditWord action) (says.Answer a) = respells action (λ made. edits (edit_word_plan old.line made) a)
-other_course old (EditWord action) (says.Refused NoMemory) =
-    respells action (λ made. let plan = edit_word_plan old.line made in stops (unbegun a_copy plan) a_copy plan)
 other_course old (Kill m) (says.Answer a) = tells (is_by_characters m) (edits (kill_plan old.line m) a)
 other_course old (Kill m) (says.Refused NoMemory) = tells (is_by_characters m) (stops ⊥ nothing_more (kill_plan old.line m))
 other_course old (KillRange i j side) (says.Answer a) = when (IsRange old.line.text i j) (tells false (edits (kill_range_plan old.line i j side) a))
@@ -238,10 +232,10 @@ other_course old (KillRange i j side) (says.Refused BadPlace) = when (¬ (IsRang
 other_course old (KillRange i j side) (says.Refused NoMemory) =
     when (IsRange old.line.text i j) (tells false (stops ⊥ nothing_more (kill_range_plan old.line i j side)))
 other_course old (Keep t) (says.Refused NoMemory) = when (Enlarges (string_bytes t) Append old.pair.ring) stays
--- a yanked text is copied out of the ring, which may run out of memory too, unless the text is empty
+-- a yanked text is copied out of the ring, which may run out of memory too, unless the text is empty or goes in no times
 other_course old (Yank n) (says.Inserted a) = lends (edits (lent_plan old.line (yank old.pair.ring) n) a)
 other_course old (Yank n) (says.Refused NoMemory) =
-    lends (stops (HasText (yank old.pair.ring)) room_by_step (lent_plan old.line (yank old.pair.ring) n))
+    lends (stops ((0 < n) × HasText (yank old.pair.ring)) room_by_step (lent_plan old.line (yank old.pair.ring) n))
 other_course old YankPop (says.Inserted a) =
     when (StandsYanked (yank_size old.pair.ring) old.line) (pops (edits (popped_plan old.line (yank_pop old.pair.ring)) a))
 other_course old YankPop (says.Refused BadYankSize) = when (¬ (StandsYanked (yank_size old.pair.ring) old.line)) stays

@@ -1,14 +1,11 @@
 -- The history of a session: where its record stands among the texts that it held, and the rows of which its laws speak.
-use Rattle.std.specs.Prelude.{◌≡◌, ◌⊎◌, ◌<◌, ℕ, suc, List, [], ◌∷◌, ◌++◌, reverse, Some, IsAscii}
-use Rattle.std.specs.declared.ops.Range.{Range}
+use Rattle.std.specs.Prelude.{◌≡◌, ◌⊎◌, ◌<◌, ℕ, suc, List, [], ◌∷◌, ◌++◌, reverse, Some}
 use Rattle.std.specs.Str.{IsUtf8}
-use Rattle.rl_line.specs.LetterCase.{word_ahead}
 use Rattle.rl_line.specs.Line.{Line}
-use Rattle.rl_line.specs.Ranges.{text_in}
 use Rattle.rl_line.specs.Record.{Entry, Record, replay_entries}
 use Rattle.rl_line.specs.Units.{BothMatched, level}
 use Rattle.rl_session.specs.declared.session.Command.{Command}
-use Rattle.rl_session.specs.declared.session.Command.TheVariants.{EditWord, End, EndOne, Kill, Redo, Truncate, Undo, Yank, YankPop, KillRange}
+use Rattle.rl_session.specs.declared.session.Command.TheVariants.{End, EndOne, Kill, Redo, Truncate, Undo, Yank, YankPop, KillRange}
 use Rattle.rl_session.specs.declared.session.Reply.{Reply}
 use Rattle.rl_session.specs.declared.session.Reply.TheVariants as says
 use Rattle.rl_session.specs.Commands.{Asked, asked, edit, other}
@@ -52,22 +49,17 @@ abbrev pub WasRefused : Reply → Type 0
 WasRefused (says.Refused _) = Unit {0}
 WasRefused _ = ⊥
 
--- the word that an edit of a word finds ahead is ASCII
-abbrev pub FindsAsciiWord : Line → Type 0
-FindsAsciiWord line = (word : Range ℕ) → word_ahead line ≡ Some word → IsAscii (text_in line word)
-
 -- the command is in the table of the edits
 abbrev pub IsAsked : Asked → Type 0
 IsAsked (edit _ _ _ _) = Unit {0}
 IsAsked other = ⊥
 
--- an edit: one of the table, a kill, a yank, or an edit of an ASCII word
+-- an edit: one of the table, a kill or a yank
 abbrev pub IsEdit : Line → Command → Type 0
 IsEdit line (Kill _) = Unit {0}
 IsEdit line (KillRange _ _ _) = Unit {0}
 IsEdit line (Yank _) = Unit {0}
 IsEdit line YankPop = Unit {0}
-IsEdit line (EditWord _) = FindsAsciiWord line
 IsEdit line command = IsAsked (asked line command)
 
 -- what may happen inside a group: an end, an undo, a redo or a truncation only where it was refused, or the end of one group

@@ -9,7 +9,7 @@ use Rattle.rl_session.specs.declared.session.Command.{Command}
 use Rattle.rl_session.specs.declared.session.Reply.{Reply}
 use Rattle.rl_session.specs.Pair.{pair_step}
 use Rattle.rl_session.specs.State.{State}
-use Rattle.rl_session.specs.Commands.{Course, when, edits, stops, respells, lends, pops, tells, Came, Effect, by_steps, takes_back, puts_again, Became, effect, lent, popped, Does, Step, readied}
+use Rattle.rl_session.specs.Commands.{Course, when, edits, stops, lends, pops, tells, Came, Effect, by_steps, takes_back, puts_again, Became, effect, lent, popped, Does, Step, readied}
 
 -- the texts after each of these steps of an edit
 abbrev pub texts_of_steps : List PlanStep → List ℕ → List (List ℕ)
@@ -21,7 +21,6 @@ steps_in (when condition course) old new d = steps_in course old new d.1
 steps_in (edits plan answer) old new d = plan.steps
 steps_in (stops unbegun takes plan) old new (inl e) = []
 steps_in (stops unbegun takes plan) old new (inr cut) = cut.halted.first
-steps_in (respells action course) old new d = steps_in (course d.made) old new d.holds
 steps_in (lends course) old new d = steps_in course (lent old) new d
 steps_in (pops course) old new d = steps_in course (popped old) new d
 steps_in (tells true course) old new d = steps_in course old new d

@@ -1,5 +1,5 @@
 -- What a script does, and what is printed for it.
-use Rattle.std.specs.Prelude.{◌≡◌, ◌⊎◌, ℕ, ◌<◌, ◌≤◌, List, [], ◌∷◌, ◌++◌, length, take, Option, IfSome}
+use Rattle.std.specs.Prelude.{◌≡◌, ◌⊎◌, ℕ, ◌<◌, ◌≤◌, max, List, [], ◌∷◌, ◌++◌, length, take, Option, IfSome}
 use Rattle.std.specs.Io.KnownBytes.{Consumes, IsAtEnd, Appends}
 use Rattle.rl_session.specs.State.{State, fresh}
 use Rattle.rl_session.specs.Commands.{Step}
@@ -23,10 +23,12 @@ begun settings text = fresh text (length text) settings.limit settings.ring_size
 abbrev pub started : Interpreter
 started = record { settings = usual; session = begun usual [] }
 
--- what a line means may lead from old to new, and this is printed for it
+-- What a line means may lead from old to new, and this is printed for it. Memory is out for no text that needs none: one that is
+-- empty, where its limit is 0.
 abbrev pub MeaningOut : Interpreter → Meaning → List ℕ → Interpreter → Type 0
 MeaningOut old (NewText t) out new =
-    ((new ≡ record old { session = begun old.settings t }) × (out ≡ printed Done new.session)) ⊎ ((new ≡ old) × (out ≡ printed (Refused NoMemory) old.session))
+    ((new ≡ record old { session = begun old.settings t }) × (out ≡ printed Done new.session))
+    ⊎ ((0 < max old.settings.limit (length t)) × (new ≡ old) × (out ≡ printed (Refused NoMemory) old.session))
 MeaningOut old (Set setting) out new = (new ≡ record old { settings = with_setting setting old.settings }) × (out ≡ printed Done old.session)
 MeaningOut old (Do command) out new =
     (reply : Reply) × (session : State) × Step old.session command reply session × (new ≡ record old { session = session }) × (out ≡ printed reply session)

@@ -64,7 +64,6 @@ pub fn group_is_undone_at_once()
 
 /// An undo of one unit right after an edit that added one entry, and joined none, gives back the text and cursor from
 /// before the edit. A redo right after that gives back those from after it. Condition: none of the three was refused.
-/// An edit of a word past ASCII is left out, since its text is not told.
 pub fn undo_gives_back_the_cursor()
     ensures undone { (old new : State) (commands : List Command) (replies : List Reply)
         (earlier later : List Row) (row back : Row) (e : Entry)

@@ -1,5 +1,5 @@
 //! Scripts: lines of commands from a reader, and one line to a writer for each.
-ghost use Rattle.std.specs.Prelude.{◌≡◌, ℕ, Bool, List, ◌<◌, [], ◌∷◌, ◌++◌, length, take, string_bytes, OnOk, OnErr, IfOk, IfErr, MatchOption};
+ghost use Rattle.std.specs.Prelude.{◌≡◌, ℕ, Bool, List, ◌<◌, [], ◌∷◌, ◌++◌, length, max, take, string_bytes, OnOk, OnErr, IfOk, IfErr, MatchOption};
 ghost use Rattle.std.specs.Str.{IsUtf8};
 ghost use Rattle.std.specs.Io.KnownBytes.{Appends};
 ghost use Rattle.rl_session.specs.Grammar.{Meaning, Means, NewText, Same, Set, Do};
@@ -51,7 +51,7 @@ struct Interpreter {
 // The session that a text begins.
 fn begin(alloc: Global, settings: Settings, text: &str) -> Result<Session, Fault>
     ensures ok { IfOk result (λ session. session ≡ begun settings text.now) }
-    ensures err { IfErr result (λ f. f ≡ Fault.NoMemory) }
+    ensures err { IfErr result (λ f. (f ≡ Fault.NoMemory) × (0 < max settings.limit (length text.now))) }
 {
     Session::new(
         alloc,

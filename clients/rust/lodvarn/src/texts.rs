@@ -42,8 +42,9 @@ pub fn last_cluster(text: &str) -> &str {
 }
 
 /// The row and column of a place of a text on a screen with `columns` columns, where the text begins at the column
-/// `prompt` of row 0. A tab leads to the next column of its row that is a multiple of `tab`, or to the right edge where
-/// that is nearer; where `tab` is 0 it is as wide as [`width`] tells.
+/// `prompt` of row 0. A place inside of a cluster is where the cluster starts. A tab leads to the next column of its row
+/// that is a multiple of `tab`, or to the right edge where that is nearer; where `tab` is 0 it is as wide as [`width`]
+/// tells.
 ///
 /// # Errors
 ///

@@ -1,67 +1,67 @@
 -- The plan of an edit of a word, by its cases.
-use Rattle.std.proofs.Common.{◌≡◌, ℕ, ◌+◌, ◌<◌, ◌⊎◌, Bool, List, [], ◌∷◌, ◌++◌, drop, length, map, min, take, true, false, ltb, Some, None, arith, inl, inr, refl, sym, ap, ap₂, subst, ◌∙◌, suc}
+use Rattle.std.proofs.Common.{◌≡◌, ℕ, ◌+◌, ◌<◌, ◌&&◌, ◌==◌, Bool, not, cond, All, Decides, List, [], ◌∷◌, ◌++◌, drop, length, length-append, map, flat_map, min, take, take-append-drop, true, false, Some, None, chars, encode_utf8_all, IsUtf8, IsCharBoundary, arith, refl, sym, ap, ap₂, subst, ◌∙◌, suc}
+use Rattle.std.specs.Char.Unicode.Rows.{Row, by_runs, by_strings}
+use Rattle.std.specs.Char.Unicode.ToLowercase.{lowercase_runs, lowercase_strings, to_lowercase}
+use Rattle.std.specs.Char.Unicode.ToUppercase.{to_uppercase, uppercase_runs, uppercase_strings}
+use Rattle.std.proofs.lemmas.List.{length-map, nil_from_length}
+use Rattle.std.proofs.lemmas.List.Elements.{All-head}
+use Rattle.std.proofs.lemmas.Str.{IsCharBoundary-start, IsUtf8-drop, IsUtf8-take, encodes-chars, length-le-encodes}
+use Rattle.std.specs.Prelude.{unwrap_or}
+use Rattle.std.specs.StrCase.Lower.{is_in_word_after, lowercase_before, lowercase_chars, starts_with_cased, str_to_lowercase}
+use Rattle.std.specs.StrCase.Upper.{str_to_uppercase}
+use Rattle.unicode_segmentation.proofs.SegmentsLemmas.{All-IsPieceOf, IsPieceOf}
+use Rattle.unicode_segmentation.specs.Grapheme.{is_grapheme_break}
+use Rattle.unicode_segmentation.specs.Segments.{with_offsets}
+use Rattle.rl_base.specs.Clusters.{bytes_in, clusters}
+use Rattle.rl_line.specs.Transpositions.{end_of_cluster}
 use Rattle.std.proofs.lemmas.Bool.Decides.{nat_tests}
-use Rattle.std.proofs.lemmas.Option.{same_Some}
-use Rattle.std.proofs.lemmas.Str.{IsAscii-drop, IsAscii-take, IsUtf8-append, IsUtf8-from_ascii, IsUtf8-nil}
-use Rattle.std.proofs.lemmas.Str.Ascii.{IsAscii-cons, IsAscii-map, IsAscii-nil, lowercase_ascii, uppercase_ascii}
-use Rattle.std.specs.Char.{to_ascii_lowercase, to_ascii_uppercase}
-use Rattle.std.specs.Str.{IsUtf8}
+use Rattle.std.proofs.lemmas.Str.{IsAscii-drop, IsAscii-take}
+use Rattle.std.proofs.lemmas.Str.Ascii.{IsAscii-cons, IsAscii-nil}
+use Rattle.std.specs.Char.{is_ascii, to_ascii_lowercase, to_ascii_uppercase}
+use Rattle.std.specs.List.{list_all}
 use Rattle.std.specs.Prelude.{IsAscii}
 use Rattle.std.specs.declared.ops.Range.{Range}
 use Rattle.rl_base.specs.declared.motion.WordAction.{WordAction}
 use Rattle.rl_base.specs.declared.motion.WordAction.TheVariants.{Capitalize, Lowercase, Uppercase}
 use Rattle.rl_line.specs.Line.{Line}
-use Rattle.rl_line.specs.Plan.{nothing, answering}
+use Rattle.rl_line.specs.Plan.{nothing, answering, bytes_of}
 use Rattle.rl_line.specs.Edits.{exchange_plan}
-use Rattle.rl_line.specs.LetterCase.{edit_word_plan, put_for, recased, word_ahead}
+use Rattle.rl_line.specs.LetterCase.{edit_word_plan, mapped, recased, respell, respelled, word_ahead}
 use Rattle.rl_line.specs.Ranges.{text_in}
 
-pub edit_word_plan-nothing : (line : Line) (made : List ℕ) → None ≡ word_ahead line → edit_word_plan line made ≡ nothing line false
-edit_word_plan-nothing line made e = ap (λ o. put_for line o made) (sym e)
+pub edit_word_plan-nothing : (line : Line) (action : WordAction) → None ≡ word_ahead line → edit_word_plan line action ≡ nothing line false
+edit_word_plan-nothing line action e = ap (respell line action) (sym e)
 
-pub edit_word_plan-some : (line : Line) (word : Range ℕ) (made : List ℕ) (p q : ℕ) → Some word ≡ word_ahead line → p ≡ line.cursor → q ≡ word.start + length made
-    → edit_word_plan line made ≡ answering true (exchange_plan line word p made q)
-edit_word_plan-some line word made p q e at to =
-    ap (λ o. put_for line o made) (sym e) ∙ ap₂ (λ (i j : ℕ). answering true (exchange_plan line word i made j)) (sym at) (sym to)
+-- a word that is not empty is a text that the plan tells
+pub edit_word_plan-tells : (line : Line) (action : WordAction) (word : Range ℕ) (text : List ℕ) → Some word ≡ word_ahead line → text ≡ text_in line word → 0 < length text
+    → 0 < bytes_of (edit_word_plan line action).steps
+edit_word_plan-tells line action word text e is some =
+    let wide : 0 < length (text_in line word) = subst (λ (t : List ℕ). 0 < length t) is some in
+    subst (λ o. 0 < bytes_of (respell line action o).steps) e (omega (arith, wide))
 
--- the text that was made is the word recased, where that is ASCII
-pub recased-ascii : (line : Line) (action : WordAction) (word : Range ℕ) (text made : List ℕ) → Some word ≡ word_ahead line → text ≡ text_in line word
-    → (IsAscii text → made ≡ recased action text) → (w : Range ℕ) → word_ahead line ≡ Some w → IsAscii (text_in line w) → made ≡ recased action (text_in line w)
-recased-ascii line action word text made e is h w f ascii =
-    let same : word ≡ w = same_Some _ _ (e ∙ f) in
-    let eq : text ≡ text_in line w = is ∙ ap (text_in line) same in
-    h (subst IsAscii (sym eq) ascii) ∙ ap (recased action) eq
-
--- an ASCII word recased is text
-utf8-recased : (action : WordAction) (word : List ℕ) → IsAscii word → IsUtf8 (recased action word)
-utf8-recased Uppercase word h = IsUtf8-from_ascii (map to_ascii_uppercase word) (IsAscii-map to_ascii_uppercase word uppercase_ascii h)
-utf8-recased Lowercase word h = IsUtf8-from_ascii (map to_ascii_lowercase word) (IsAscii-map to_ascii_lowercase word lowercase_ascii h)
-utf8-recased Capitalize word h =
-    IsUtf8-append (map to_ascii_uppercase (take 1 word)) (map to_ascii_lowercase (drop 1 word))
-    (IsUtf8-from_ascii _ (IsAscii-map to_ascii_uppercase (take 1 word) uppercase_ascii (IsAscii-take word 1 h)))
-    (IsUtf8-from_ascii _ (IsAscii-map to_ascii_lowercase (drop 1 word) lowercase_ascii (IsAscii-drop word 1 h)))
-
-ascii_or_not : (s : List ℕ) → IsAscii s ⊎ ¬ (IsAscii s)
-ascii_or_not [] = inl IsAscii-nil
-ascii_or_not (c ∷ cs) = from (ltb c 128) refl (ascii_or_not cs)
+ascii-all : (s : List ℕ) → Decides (list_all is_ascii s) (IsAscii s)
+ascii-all [] = (λ h. IsAscii-nil, λ h. refl)
+ascii-all (c ∷ cs) = from (is_ascii c) refl (ascii-all cs)
   where
-    from : (b : Bool) → ltb c 128 ≡ b → IsAscii cs ⊎ ¬ (IsAscii cs) → IsAscii (c ∷ cs) ⊎ ¬ (IsAscii (c ∷ cs))
-    from true low (inl all) = inl (IsAscii-cons c cs (grind (arith, nat_tests)) all)
-    from true low (inr none) = inr (λ all. none (λ k. all (suc k)))
-    from false high rest = inr (λ all. let low : c < 128 = all 0 in grind (arith, nat_tests))
+    from : (b : Bool) → is_ascii c ≡ b → Decides (list_all is_ascii cs) (IsAscii cs) → Decides (b && list_all is_ascii cs) (IsAscii (c ∷ cs))
+    from true low rest = (λ h. IsAscii-cons c cs (grind (arith, nat_tests)) (rest.0 h), λ all. rest.1 (λ k. all (suc k)))
+    from false high rest = (λ h. absurd cc, λ all. let less : c < 128 = all 0 in grind (arith, nat_tests))
 
--- some text for a word that there was no memory to make
-pub record MadeFor (action : WordAction) (word : List ℕ) : Type 0 where
-  pub made : List ℕ
-  pub utf8 : IsUtf8 made
-  pub ascii : IsAscii word → made ≡ recased action word
+-- a text is the word respelled, where it is that in each of the two cases
+respelled-is : (action : WordAction) (word made : List ℕ) → (IsAscii word → made ≡ recased action word) → (¬ (IsAscii word) → made ≡ mapped action word) → made ≡ respelled action word
+respelled-is action word made ascii others = from (list_all is_ascii word) refl
+  where
+    from : (b : Bool) → list_all is_ascii word ≡ b → made ≡ cond b (recased action word) (mapped action word)
+    from true h = ascii ((ascii-all word).0 h)
+    from false h = others (λ all. absurd (cc (h, (ascii-all word).1 all)))
 
-pub made_for : (action : WordAction) (word : List ℕ) → MadeFor action word
-made_for action word =
-    elim (ascii_or_not word) [
-      | inl all ↦ record { made = recased action word; utf8 = utf8-recased action word all; ascii = λ a. refl }
-      | inr none ↦ record { made = []; utf8 = IsUtf8-nil; ascii = λ all. absurd (none all) }
-    ]
+pub edit_word_plan-some : (line : Line) (action : WordAction) (word : Range ℕ) (text made : List ℕ) (p q : ℕ) → Some word ≡ word_ahead line → text ≡ text_in line word
+    → (IsAscii text → made ≡ recased action text) → (¬ (IsAscii text) → made ≡ mapped action text) → p ≡ line.cursor → q ≡ word.start + length made
+    → edit_word_plan line action ≡ answering true (exchange_plan line word p made q)
+edit_word_plan-some line action word text made p q e is ascii others at to =
+    let put : made ≡ respelled action (text_in line word) = respelled-is action text made ascii others ∙ ap (respelled action) is in
+    let stop : q ≡ word.start + length (respelled action (text_in line word)) = to ∙ ap (λ (t : List ℕ). word.start + length t) put in
+    ap (respell line action) (sym e) ∙ (λ i. answering true (exchange_plan line word (sym at i) (sym put i) (sym stop i)))
 
 -- a capitalized ASCII word: its first byte is raised, the others are lowered
 first_byte : (word : List ℕ) (first : ℕ) → first ≡ min 1 (length word) → (take first word ≡ take 1 word) × (drop first word ≡ drop 1 word)
@@ -75,3 +75,88 @@ capitalized-ascii word front after upper lower made first a n f b up low is =
     let raised : upper ≡ map to_ascii_uppercase (take 1 word) = up (subst IsAscii (sym f) (IsAscii-take word first a)) ∙ ap (map to_ascii_uppercase) (f ∙ cut.0) in
     let lowered : lower ≡ map to_ascii_lowercase (drop 1 word) = low (subst IsAscii (sym b) (IsAscii-drop word first a)) ∙ ap (map to_ascii_lowercase) (b ∙ cut.1) in
     is ∙ ap₂ (λ x y. x ++ y) raised lowered
+
+-- ---- no mapping takes all of a text away
+string-some : (rows : List Row) (d c : ℕ) → 0 < length (by_strings (d ∷ []) rows c)
+unfolding by_strings
+string-some [] d c = omega arith
+string-some (row ∷ rows) d c = from (row.0 == c) (row.3 == 0) (string-some rows d c)
+  where
+    from : (a b : Bool) → 0 < length (by_strings (d ∷ []) rows c) → 0 < length (cond a (cond b (row.1 ∷ row.2 ∷ []) (row.1 ∷ row.2 ∷ row.3 ∷ [])) (by_strings (d ∷ []) rows c))
+    from true true rest = omega arith
+    from true false rest = omega arith
+    from false b rest = rest
+
+upper-some : (c : ℕ) → 0 < length (to_uppercase c)
+unfolding to_uppercase
+upper-some c = string-some uppercase_strings (by_runs uppercase_runs c) c
+
+lower-some : (c : ℕ) → 0 < length (to_lowercase c)
+unfolding to_lowercase
+lower-some c = string-some lowercase_strings (by_runs lowercase_runs c) c
+
+uppers-some : (cs : List ℕ) → length (flat_map to_uppercase cs) ≡ 0 → length cs ≡ 0
+uppers-some [] e = refl
+uppers-some (c ∷ cs) e = absurd (omega (arith, e, length-append (to_uppercase c) (flat_map to_uppercase cs), upper-some c))
+
+lowers-some : (in_word : Bool) (cs : List ℕ) → length (lowercase_chars in_word cs) ≡ 0 → length cs ≡ 0
+lowers-some in_word [] e = refl
+lowers-some in_word (c ∷ cs) e =
+    absurd (omega (arith, e, length-append (lowercase_before in_word c cs) (lowercase_chars (is_in_word_after in_word c) cs), first (c == 0x3A3 && in_word && not (starts_with_cased cs))))
+  where
+    first : (b : Bool) → 0 < length (cond b (0x3C2 ∷ []) (to_lowercase c))
+    first true = omega arith
+    first false = lower-some c
+
+chars-none : (s : List ℕ) → IsUtf8 s → length (chars s) ≡ 0 → length s ≡ 0
+chars-none s u e = ap length (sym (encodes-chars s u) ∙ ap encode_utf8_all (nil_from_length (chars s) e))
+
+upper-none : (s : List ℕ) → IsUtf8 s → length (str_to_uppercase s) ≡ 0 → length s ≡ 0
+unfolding str_to_uppercase
+upper-none s u e = chars-none s u (uppers-some (chars s) (omega (arith, e, length-le-encodes (flat_map to_uppercase (chars s)))))
+
+lower-none : (s : List ℕ) → IsUtf8 s → length (str_to_lowercase s) ≡ 0 → length s ≡ 0
+unfolding str_to_lowercase
+lower-none s u e = chars-none s u (lowers-some false (chars s) (omega (arith, e, length-le-encodes (lowercase_chars false (chars s)))))
+
+first-cut : (word : List ℕ) → IsUtf8 word → IsCharBoundary word (end_of_cluster word 0)
+unfolding with_offsets
+first-cut word u = from (0 == length word) (clusters word) (All-IsPieceOf (is_grapheme_break true) word u)
+  where
+    from : (b : Bool) (ps : List (List ℕ)) → All (IsPieceOf word) (with_offsets 0 ps) → IsCharBoundary word (unwrap_or (cond b None (Some (0 + bytes_in (take 1 ps)))) 0)
+    from true ps h = IsCharBoundary-start word u
+    from false [] h = IsCharBoundary-start word u
+    from false (p ∷ ps) h = subst (IsCharBoundary word) (omega (arith, length-append p [])) (All-head (IsPieceOf word) (0, p) _ h).end
+
+mapped-none : (action : WordAction) (word : List ℕ) → IsUtf8 word → length (mapped action word) ≡ 0 → length word ≡ 0
+mapped-none Uppercase word u e = upper-none word u e
+mapped-none Lowercase word u e = lower-none word u e
+mapped-none Capitalize word u e =
+    let first = end_of_cluster word 0 in
+    let cut = first-cut word u in
+    let both = length-append (str_to_uppercase (take first word)) (str_to_lowercase (drop first word)) in
+    let front = upper-none (take first word) (IsUtf8-take word first u cut) (omega (arith, e, both)) in
+    let rest = lower-none (drop first word) (IsUtf8-drop word first u cut) (omega (arith, e, both)) in
+    omega (arith, front, rest, length-append (take first word) (drop first word), ap length (take-append-drop first word))
+
+recased-none : (action : WordAction) (word : List ℕ) → length (recased action word) ≡ 0 → length word ≡ 0
+recased-none Uppercase word e = omega (arith, e, length-map word to_ascii_uppercase)
+recased-none Lowercase word e = omega (arith, e, length-map word to_ascii_lowercase)
+recased-none Capitalize word e =
+    omega (
+      arith,
+      e,
+      length-append (map to_ascii_uppercase (take 1 word)) (map to_ascii_lowercase (drop 1 word)),
+      length-map (take 1 word) to_ascii_uppercase,
+      length-map (drop 1 word) to_ascii_lowercase,
+      length-append (take 1 word) (drop 1 word),
+      ap length (take-append-drop 1 word),
+    )
+
+-- so a word that is not empty gives way to a text that is not
+pub respelled-none : (action : WordAction) (word : List ℕ) → IsUtf8 word → length (respelled action word) ≡ 0 → length word ≡ 0
+respelled-none action word u = from (list_all is_ascii word)
+  where
+    from : (b : Bool) → length (cond b (recased action word) (mapped action word)) ≡ 0 → length word ≡ 0
+    from true e = recased-none action word e
+    from false e = mapped-none action word u e

@@ -1,9 +1,9 @@
 //! Editing the letters of a word.
-ghost use Rattle.std.specs.Prelude.{◌≡◌, ◌<◌, ◌≤◌, min, length, string_bytes, IsAscii, IfSome, IfOk, IfErr, OnErr, OnOk};
+ghost use Rattle.std.specs.Prelude.{◌≡◌, ◌<◌, ◌≤◌, min, length, string_bytes, IsAscii, IfSome, IfOk, IfErr, OnErr};
 ghost use Rattle.std.specs.Str.{IsCharBoundary};
 ghost use Rattle.rl_line.specs.Plan.{Done, Stopped};
 ghost use Rattle.rl_base.specs.declared.motion.WordAction.TheVariants.{Capitalize};
-ghost use Rattle.rl_line.specs.LetterCase.{Maps, Recased, edit_word_plan, mapped, recased, word_ahead};
+ghost use Rattle.rl_line.specs.LetterCase.{edit_word_plan, mapped, recased, word_ahead};
 ghost use Rattle.rl_line.specs.Transpositions.{end_of_cluster};
 
 use crate::line_buffer::LineBuffer;
@@ -15,7 +15,8 @@ use std::ops::Range;
 
 impl LineBuffer {
     /// Edits the letters of the Emacs word at the cursor or ahead, but none before the cursor (GNU readline:
-    /// capitalize-word, downcase-word, upcase-word), and moves the cursor past it.
+    /// capitalize-word, downcase-word, upcase-word), and moves the cursor past it. A word past ASCII goes by the
+    /// standard library's case mappings.
     /// Answers whether there is one. Where it finds no memory, it leaves the line as it was. Where its
     /// listener refuses, it leaves the line as it was or without the word.
     pub fn edit_word<L: ChangeListener>(
@@ -23,9 +24,8 @@ impl LineBuffer {
         action: WordAction,
         listener: &mut L,
     ) -> Result<bool, Refusal>
-        ensures done { IfOk result (λ answer. Recased self.old action (λ made. Done L.step (edit_word_plan self.old made) self.old self.new listener.old listener.new answer)) }
-        ensures mapped { OnOk result (Maps self.old action self.new) }
-        ensures halted { IfErr result (λ r. Recased self.old action (λ made. Stopped L.step L.refused (edit_word_plan self.old made) self.old self.new listener.old listener.new r)) }
+        ensures done { IfOk result (λ answer. Done L.step (edit_word_plan self.old action) self.old self.new listener.old listener.new answer) }
+        ensures halted { IfErr result (λ r. Stopped L.step L.refused (edit_word_plan self.old action) self.old self.new listener.old listener.new r) }
     {
         let at = self.pos();
         let Some(word) = self.word_ahead() else {

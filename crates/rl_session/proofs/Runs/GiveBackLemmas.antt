@@ -1,9 +1,7 @@
 -- An undo right after an edit that added one entry gives back text and cursor from before the edit, and a redo those from after it.
-use Rattle.std.proofs.Common.{◌≡◌, ℕ, ◌+◌, ◌≤◌, Bool, true, false, List, [], ◌∷◌, ◌++◌, length, length-append, map, take, drop, take-append-drop, Option, Some, None, refl, sym, ap, subst, ◌∙◌, arith}
-use Rattle.std.proofs.lemmas.List.{length-map}
+use Rattle.std.proofs.Common.{◌≡◌, ℕ, ◌+◌, ◌≤◌, Bool, true, false, List, [], ◌∷◌, ◌++◌, length, length-append, IfSome, Option, Some, None, refl, sym, ap, subst, ◌∙◌, arith}
 use Rattle.std.proofs.lemmas.Bool.{eqb-true}
 use Rattle.std.proofs.lemmas.Option.{same_Some}
-use Rattle.std.specs.Char.{to_ascii_lowercase, to_ascii_uppercase}
 use Rattle.std.specs.Option.{option_map}
 use Rattle.std.specs.Prelude.{◌==◌, unwrap_or}
 use Rattle.std.specs.declared.ops.Range.{Range}
@@ -15,9 +13,8 @@ use Rattle.rl_base.specs.declared.listeners.Direction.{Direction}
 use Rattle.rl_base.specs.declared.listeners.Direction.TheVariants.{Forward}
 use Rattle.rl_base.specs.declared.motion.Movement.TheVariants.{BackwardChar, EndOfLine, EndOfBuffer, BeginningOfLine, BeginningOfBuffer, BackwardWord, ForwardWord, ViCharSearch}
 use Rattle.rl_base.specs.declared.motion.WordAction.{WordAction}
-use Rattle.rl_base.specs.declared.motion.WordAction.TheVariants.{Capitalize, Lowercase, Uppercase}
 use Rattle.rl_line.specs.Kills.{is_by_characters, kill_plan, kill_range_plan, removal, side_of}
-use Rattle.rl_line.specs.LetterCase.{edit_word_plan, put_for, recased, word_ahead}
+use Rattle.rl_line.specs.LetterCase.{respell, respelled, word_ahead}
 use Rattle.rl_line.specs.Line.{Line}
 use Rattle.rl_line.specs.Plan.{Step as PlanStep, Plan, single, listener_after, listener_after_step, Done}
 use Rattle.rl_line.specs.Ranges.{killed, text_in, unless_empty}
@@ -25,6 +22,7 @@ use Rattle.rl_line.specs.Record.{Entry, Begin, End, Changed, Record, cursors_of,
 use Rattle.rl_line.specs.Undo.{cursor_after, cursor_told, line_after, line_ahead, line_back, place_after, Redone, Undone}
 use Rattle.rl_line.specs.Units.{is_change, last_of, redo_of}
 use Rattle.rl_line.proofs.Records.JoinLemmas.{after-Delete-nothing, after-InsertStr-nothing, fresh-Delete-nothing, fresh-InsertStr-nothing}
+use Rattle.rl_line.proofs.Plans.LetterCaseLemmas.{respelled-none}
 use Rattle.rl_line.proofs.Plans.PlanLemmas.{Fits-from}
 use Rattle.rl_line.proofs.Records.RecordLemmas.{inverse-undoes, then_some}
 use Rattle.rl_line.proofs.Records.UnitLemmas.{last_of-change}
@@ -33,7 +31,7 @@ use Rattle.rl_session.proofs.Runs.CursorLemmas.{AddedAlone, IsLone, Quiet, added
 use Rattle.rl_session.proofs.Runs.HistoryLemmas.{redo-row, undo-row}
 use Rattle.rl_session.proofs.Sessions.PairLemmas.{Done-changes}
 use Rattle.rl_base.proofs.Clusters.PieceLemmas.{clusters-some, places-before_end}
-use Rattle.rl_session.proofs.Sessions.QuietLemmas.{Settles, Settles-delete, Settles-indent, Settles-insert, Settles-insert_str, Settles-nothing, Settles-replace, Settles-transpose_chars, Settles-transpose_words, Settles-update, Settles-yank, Settles-yank_pop, empty-deleted, empty-inserted, never-char, never-replaced}
+use Rattle.rl_session.proofs.Sessions.QuietLemmas.{IsUtf8-word_ahead, Settles, Settles-delete, Settles-indent, Settles-insert, Settles-insert_str, Settles-nothing, Settles-replace, Settles-transpose_chars, Settles-transpose_words, Settles-update, Settles-yank, Settles-yank_pop, empty-deleted, empty-inserted, never-char, never-replaced}
 use Rattle.rl_session.proofs.Runs.RowLemmas.{Leads-split}
 use Rattle.rl_session.proofs.Sessions.SessionLemmas.{past_telling}
 use Rattle.rl_session.specs.Commands.{Takes, Asked, Telling, told_as, edits, tells, Came, edit_course, other_course, course_of, Does, Edited, asked, edit, other, answers, inserts, hands_out, is_done, lent, lent_plan, popped, popped_plan, readied}
@@ -82,28 +80,14 @@ removed : (line : Line) (r : Record) (e : Entry) (range : Option (Range ℕ)) (s
 removed line r e None side adds = Settles-nothing line false
 removed line r e (Some range) side adds = once line r e (Delete range.start (text_in line range) side) range.start true tt adds
 
--- an ASCII word is as long in any case
-recased-length : (action : WordAction) (word : List ℕ) → length (recased action word) ≡ length word
-recased-length Uppercase word = length-map word to_ascii_uppercase
-recased-length Lowercase word = length-map word to_ascii_lowercase
-recased-length Capitalize word =
-    let first = map to_ascii_uppercase (take 1 word) in
-    let others = map to_ascii_lowercase (drop 1 word) in
-    let both = length-append first others in
-    let one = length-map (take 1 word) to_ascii_uppercase in
-    let rest = length-map (drop 1 word) to_ascii_lowercase in
-    let parts = length-append (take 1 word) (drop 1 word) in
-    let whole = ap length (take-append-drop 1 word) in
-    omega (arith, both, one, rest, parts, whole)
-
--- the plan of an edit of an ASCII word
-respelled : (line : Line) (r : Record) (e : Entry) (action : WordAction) (range : Option (Range ℕ)) (made : List ℕ)
-    → ((word : Range ℕ) → range ≡ Some word → made ≡ recased action (text_in line word)) → AddsOne line r e (put_for line range made) → Settles line (put_for line range made)
-respelled line r e action None made is adds = Settles-nothing line false
-respelled line r e action (Some word) made is adds = from (length made == 0) refl
+-- the plan of an edit of a word: a word that is not empty gives way to a text that is not
+respelled-quietly : (line : Line) (r : Record) (e : Entry) (action : WordAction) (range : Option (Range ℕ)) → IfSome range (λ word. IsUtf8 (text_in line word))
+    → AddsOne line r e (respell line action range) → Settles line (respell line action range)
+respelled-quietly line r e action None u adds = Settles-nothing line false
+respelled-quietly line r e action (Some word) u adds = from (length made == 0) refl
   where
-    long : length made ≡ length (text_in line word)
-    long = ap length (is word refl) ∙ recased-length action (text_in line word)
+    made : List ℕ
+    made = respelled action (text_in line word)
 
     gone : Event
     gone = Delete word.start (text_in line word) Forward
@@ -111,15 +95,16 @@ respelled line r e action (Some word) made is adds = from (length made == 0) ref
     come : Event
     come = InsertStr word.start made
 
-    from : (b : Bool) → (length made == 0) ≡ b → Settles line (put_for line (Some word) made)
+    from : (b : Bool) → (length made == 0) ≡ b → Settles line (respell line action (Some word))
     from true h =
         let empty = eqb-true (length made) 0 h in
+        let none = respelled-none action (text_in line word) u empty in
         let c = line.cursor in
         let after = word.start + length made in
         let mid = listener_after_step record_step c (gone, c) r in
         let first : mid.recorded ≡ r.recorded =
-        recorded-next c gone c [] r tt ∙ ap (λ f. entries_told f c c (entries_after gone r.recorded)) (fresh-Delete-nothing r.recorded word.start (text_in line word) Forward (omega (arith, empty, long)))
-        ∙ after-Delete-nothing r.recorded word.start (text_in line word) Forward (omega (arith, empty, long)) in
+        recorded-next c gone c [] r tt ∙ ap (λ f. entries_told f c c (entries_after gone r.recorded)) (fresh-Delete-nothing r.recorded word.start (text_in line word) Forward none)
+        ∙ after-Delete-nothing r.recorded word.start (text_in line word) Forward none in
         let second : (listener_after_step record_step c (come, after) mid).recorded ≡ mid.recorded =
         recorded-next c come after [] mid tt ∙ ap (λ f. entries_told f c after (entries_after come mid.recorded)) (fresh-InsertStr-nothing mid.recorded word.start made empty)
         ∙ after-InsertStr-nothing mid.recorded word.start made empty in
@@ -214,6 +199,7 @@ asks-quietly line r e (asks.DeleteWord place word n) u at = removed line r e (ki
 asks-quietly line r e (asks.DeleteTo cs n) u at = removed line r e (killed line (ViCharSearch n cs)) (side_of line (ViCharSearch n cs))
 asks-quietly line r e asks.TransposeChars u at = λ adds. Settles-transpose_chars line clusters-some u at
 asks-quietly line r e (asks.TransposeWords n) u at = λ adds. Settles-transpose_words line n places-before_end u at
+asks-quietly line r e (asks.EditWord action) u at = respelled-quietly line r e action (word_ahead line) (IsUtf8-word_ahead line u at)
 asks-quietly line r e (asks.Indent m amount dedent) u at = λ adds. Settles-indent line m amount dedent
 asks-quietly line r e _ u at = tt
 
@@ -237,10 +223,6 @@ popped-quietly line (Some p) within = Settles-yank_pop line p.0 p.1 within
 other-adds : (old : State) (command : Command) (reply : Reply) (new : State) (e : Entry) → IsUtf8 old.line.text → IsCharBoundary old.line.text old.line.cursor
     → IsEdit old.line command → Came (other_course old command reply) old new → ¬ (WasRefused reply) → new.pair.changes.recorded ≡ old.pair.changes.recorded ++ e ∷ []
     → Adds e old.line new.line new.pair.changes
-other-adds old (asks.EditWord action) (says.Answer a) new e u at i d w adds =
-    edited-adds (edit_word_plan old.line d.made) old new a e u
-    (respelled old.line old.pair.changes e action (word_ahead old.line) d.made (λ word found. d.ascii word found (i word found))) d.holds adds
-other-adds old (asks.EditWord action) (says.Refused f) new e u at i d w adds = absurd (w tt)
 other-adds old (asks.Kill m) (says.Answer a) new e u at i d w adds =
     kill-adds (is_by_characters m) (kill_plan old.line m) old new a e u (λ r. removed old.line r e (killed old.line m) (side_of old.line m)) d adds
 other-adds old (asks.Kill m) (says.Refused f) new e u at i d w adds = absurd (w tt)

@@ -32,7 +32,7 @@ use Rattle.rl_line.proofs.Plans.EditLemmas.{yank_plan-nothing, yank_plan-some}
 use Rattle.rl_line.proofs.Plans.SideLemmas.{LiesOn, BeginningOfLine-side, EndOfLine-side, FirstNonBlank-side, BackwardWord-side, ForwardWord-side, ViCharSearch-side, BeginningOfBuffer-side, EndOfBuffer-side}
 use Rattle.rl_session.specs.Pair.{pair_step, pair_refused}
 use Rattle.rl_session.specs.State.{State, Stands, with_ring}
-use Rattle.rl_session.specs.Commands.{Course, never, when, stays, goes, edits, stops, respells, lends, pops, tells, Came, Effect, by_steps, puts_begin, puts_ends, puts_end, shortens, takes_back, puts_again, Became, effect, Edited, Step, is_vain_yank, lent as lent_state, lent_plan, popped, readied, keeps}
+use Rattle.rl_session.specs.Commands.{Course, never, when, stays, goes, edits, stops, lends, pops, tells, Came, Effect, by_steps, puts_begin, puts_ends, puts_end, shortens, takes_back, puts_again, Became, effect, Edited, Step, is_vain_yank, lent as lent_state, lent_plan, popped, readied, keeps}
 use Rattle.rl_session.specs.KillRuns.{IsDirected, AllDirected, IsNoKill, AnyTook, NoneRefused, GivenBack, IsDirectedKill, AllKill}
 use Rattle.rl_session.specs.Run.{Row, Leads, Run, before_last, commands_of, replies_of}
 use Rattle.rl_session.specs.declared.pair.Pair.{Pair}
@@ -140,7 +140,6 @@ Came-size (goes place a) old new d = ap (λ (s : State). s.pair.ring.size) d.1
 Came-size (edits plan a) old new d = Done-size plan old.line new.line old.pair new.pair a d.done
 Came-size (stops unbegun takes plan) old new (inl e) = ap (λ (s : State). s.pair.ring.size) e.1
 Came-size (stops unbegun takes plan) old new (inr c) = Halted-size plan old.line new.line old.pair new.pair _ (Halted-own takes plan old.line new.line old.pair new.pair _ c.halted)
-Came-size (respells action course) old new d = Came-size (course d.made) old new d.holds
 Came-size (lends course) old new d = Came-size course (lent_state old) new d ∙ lent-size (yank old.pair.ring) old.pair.ring
 Came-size (pops course) old new d = Came-size course (popped old) new d ∙ popped-size (yank_size old.pair.ring) old.pair.ring
 Came-size (tells true course) old new d = Came-size course old new d

@@ -15,7 +15,7 @@ use Rattle.rl_session.specs.declared.session.Command.{Command}
 use Rattle.rl_session.specs.declared.session.Reply.{Reply}
 use Rattle.rl_session.specs.State.{State, Replays, origin}
 use Rattle.rl_base.specs.Event.{Start}
-use Rattle.rl_session.specs.Commands.{Course, never, when, stays, goes, edits, stops, respells, lends, pops, tells, Came, lent, popped, Effect, by_steps, puts_begin, puts_ends, puts_end, shortens, takes_back, puts_again, Became, effect, Step, readied, keeps}
+use Rattle.rl_session.specs.Commands.{Course, never, when, stays, goes, edits, stops, lends, pops, tells, Came, lent, popped, Effect, by_steps, puts_begin, puts_ends, puts_end, shortens, takes_back, puts_again, Became, effect, Step, readied, keeps}
 use Rattle.rl_session.specs.Forgetting.{within_bound}
 use Rattle.rl_session.specs.Options.{no_bound}
 use Rattle.rl_session.specs.Pair.{pair_step}
@@ -71,7 +71,6 @@ Came-options (goes place a) old new d = ap (λ (s : State). s.options) d.1
 Came-options (edits plan a) old new d = d.options
 Came-options (stops unbegun takes plan) old new (inl e) = ap (λ (s : State). s.options) e.1
 Came-options (stops unbegun takes plan) old new (inr c) = c.options
-Came-options (respells action course) old new d = Came-options (course d.made) old new d.holds
 Came-options (lends course) old new d = Came-options course (lent old) new d
 Came-options (pops course) old new d = Came-options course (popped old) new d
 Came-options (tells true course) old new d = Came-options course old new d

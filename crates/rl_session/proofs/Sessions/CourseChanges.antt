@@ -7,7 +7,7 @@ use Rattle.rl_line.specs.Line.{Line}
 use Rattle.rl_line.specs.Plan.{Plan}
 use Rattle.rl_line.specs.Ranges.{unless_empty}
 use Rattle.rl_line.proofs.Plans.HearingLemmas.{AreChanges}
-use Rattle.rl_session.specs.Commands.{Asked, edit, other, asked, Course, never, when, stays, goes, edits, stops, respells, lends, pops, tells, Effect, by_steps, puts_begin, puts_ends, puts_end, shortens, takes_back, puts_again, keeps, Takes, Telling, answers, inserts, hands_out, is_done, course_of, edit_course, effect, lent_plan, popped_plan, other_course, told_as}
+use Rattle.rl_session.specs.Commands.{Asked, edit, other, asked, Course, never, when, stays, goes, edits, stops, lends, pops, tells, Effect, by_steps, puts_begin, puts_ends, puts_end, shortens, takes_back, puts_again, keeps, Takes, Telling, answers, inserts, hands_out, is_done, course_of, edit_course, effect, lent_plan, popped_plan, other_course, told_as}
 use Rattle.rl_session.specs.State.{State}
 use Rattle.rl_session.specs.declared.session.Command.{Command}
 use Rattle.rl_session.specs.declared.session.Command.TheVariants as asks
@@ -21,7 +21,6 @@ abbrev pub Changes : Course → Type 0
 Changes (when condition course) = Changes course
 Changes (edits plan a) = AreChanges plan.steps
 Changes (stops unbegun takes plan) = AreChanges plan.steps
-Changes (respells action course) = (made : List ℕ) → Changes (course made)
 Changes (lends course) = Changes course
 Changes (pops course) = Changes course
 Changes (tells b course) = Changes course
@@ -53,6 +52,7 @@ asks-changes line (asks.DeleteWord at word n) = NoneStarts-kill line (ForwardWor
 asks-changes line (asks.DeleteTo cs n) = NoneStarts-kill line (ViCharSearch n cs)
 asks-changes line asks.TransposeChars = NoneStarts-transpose_chars line
 asks-changes line (asks.TransposeWords n) = NoneStarts-transpose_words line n
+asks-changes line (asks.EditWord action) = NoneStarts-edit_word line action
 asks-changes line (asks.Indent m amount dedent) = NoneStarts-indent line m amount dedent
 asks-changes line _ = tt
 
@@ -82,8 +82,6 @@ other-changes old (asks.SetPos q) (says.Refused BadPlace) = tt
 other-changes old (asks.Move m) (says.Answer a) = tt
 other-changes old (asks.Copy m) (says.Text t) = tt
 other-changes old (asks.Copy m) (says.Refused NoMemory) = tt
-other-changes old (asks.EditWord action) (says.Answer a) = λ made. NoneStarts-edit_word old.line made
-other-changes old (asks.EditWord action) (says.Refused NoMemory) = λ made. NoneStarts-edit_word old.line made
 other-changes old (asks.Kill m) (says.Answer a) = NoneStarts-kill old.line m
 other-changes old (asks.Kill m) (says.Refused NoMemory) = NoneStarts-kill old.line m
 other-changes old (asks.KillRange i j side) (says.Answer a) = NoneStarts-removal old.line (unless_empty i j) side

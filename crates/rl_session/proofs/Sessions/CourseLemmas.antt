@@ -6,7 +6,7 @@ use Rattle.rl_line.specs.Line.{Line}
 use Rattle.rl_line.specs.Motions.{Moved}
 use Rattle.rl_line.specs.Plan.{Step as PlanStep, Taken}
 use Rattle.rl_line.specs.Record.{Record, record_step}
-use Rattle.rl_session.specs.Commands.{Course, never, when, stays, goes, edits, stops, respells, lends, pops, tells, Came, lent, popped}
+use Rattle.rl_session.specs.Commands.{Course, never, when, stays, goes, edits, stops, lends, pops, tells, Came, lent, popped}
 use Rattle.rl_session.specs.Pair.{pair_step}
 use Rattle.rl_session.specs.Run.{steps_in}
 use Rattle.rl_session.specs.State.{State}
@@ -45,7 +45,6 @@ Heard-Came (stops unbegun takes plan) old new (inr c) =
     let t = Taken-changes h.first old.line new.line old.pair h.middle h.taken in
     let cause = cause-changes h.middle new.pair h.next.0 why.NoMemory (own takes h.middle new.pair h.next.0 why.NoMemory h.cause) in
     record { last = new.line; taken = record { line = t.line; listener = cause ∙ t.listener }; text_is = refl }
-Heard-Came (respells action course) old new d = Heard-Came (course d.made) old new d.holds
 Heard-Came (lends course) old new d = Heard-Came course (lent old) new d
 Heard-Came (pops course) old new d = Heard-Came course (popped old) new d
 Heard-Came (tells true course) old new d = Heard-Came course old new d

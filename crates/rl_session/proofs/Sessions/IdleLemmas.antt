@@ -15,7 +15,8 @@ use Rattle.rl_base.specs.declared.motion.Movement.{Movement}
 use Rattle.rl_line.specs.Edits.{insert_plan, too_long, yank_plan, yank_pop_plan}
 use Rattle.rl_line.specs.Indents.{indent_plan, line_plan, lines_plan, parts, pushed, put_spaces}
 use Rattle.rl_line.specs.Kills.{Told, kill_plan, removal, side_of}
-use Rattle.rl_line.specs.LetterCase.{edit_word_plan, put_for, word_ahead}
+use Rattle.rl_base.specs.declared.motion.WordAction.{WordAction}
+use Rattle.rl_line.specs.LetterCase.{edit_word_plan, respell, word_ahead}
 use Rattle.rl_line.specs.Line.{Line, stepped}
 use Rattle.rl_line.specs.Plan.{Step, Plan, listener_after, Done, Halted, or_no_memory}
 use Rattle.rl_line.specs.Ranges.{killed}
@@ -136,12 +137,12 @@ NoneStarts-transpose_chars line = NoneStarts-pulled_back line _
 pub NoneStarts-transpose_words : (line : Line) (n : ℕ) → NoneStarts (transpose_words_plan line n).steps
 NoneStarts-transpose_words line n = NoneStarts-either (are_two (first_word line n) (second_word line n)) _ _ (tt, (tt, (tt, (tt, tt)))) tt
 
-NoneStarts-put_for : (line : Line) (word : Option (Range ℕ)) (made : List ℕ) → NoneStarts (put_for line word made).steps
-NoneStarts-put_for line None made = tt
-NoneStarts-put_for line (Some word) made = (tt, (tt, tt))
+NoneStarts-respell : (line : Line) (action : WordAction) (word : Option (Range ℕ)) → NoneStarts (respell line action word).steps
+NoneStarts-respell line action None = tt
+NoneStarts-respell line action (Some word) = (tt, (tt, tt))
 
-pub NoneStarts-edit_word : (line : Line) (made : List ℕ) → NoneStarts (edit_word_plan line made).steps
-NoneStarts-edit_word line made = NoneStarts-put_for line (word_ahead line) made
+pub NoneStarts-edit_word : (line : Line) (action : WordAction) → NoneStarts (edit_word_plan line action).steps
+NoneStarts-edit_word line action = NoneStarts-respell line action (word_ahead line)
 
 NoneStarts-append : (ss ts : List Step) → NoneStarts ss → NoneStarts ts → NoneStarts (ss ++ ts)
 NoneStarts-append [] ts n m = m

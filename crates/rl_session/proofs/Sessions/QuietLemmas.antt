@@ -15,6 +15,7 @@ use Rattle.rl_base.specs.declared.motion.Movement.TheVariants.{ForwardChar}
 use Rattle.rl_line.proofs.Plans.EditLemmas.{length-repeat}
 use Rattle.rl_line.specs.Edits.{cut_to_limit, insert_event, insert_plan, insert_str_plan, replace_plan, too_long, update_plan, yank_plan, yank_pop_plan}
 use Rattle.rl_line.specs.Indents.{blanks, indent_plan, line_plan, lines_plan, parts, pulled, pushed, put_spaces, spaces}
+use Rattle.rl_line.specs.LetterCase.{word_ahead}
 use Rattle.rl_line.specs.Kills.{delete_plan, kill_plan, removal, side_of}
 use Rattle.rl_session.proofs.Runs.CursorLemmas.{IsLone, Quiet, ends_at}
 use Rattle.rl_line.specs.Line.{Line, between, stepped}
@@ -24,16 +25,16 @@ use Rattle.rl_line.specs.Record.{Insertion, Deletion, Changed, entries_of, untol
 use Rattle.std.proofs.lemmas.List.{length_push, reverse-append, reverse-reverse, length-take-le, length-drop}
 use Rattle.std.proofs.lemmas.List.Elements.{All-head, All-weaker}
 use Rattle.std.proofs.lemmas.Option.{same_Some}
-use Rattle.std.proofs.lemmas.Str.{IsUtf8-take, IsUtf8-drop, IsCharBoundary-end, IsCharBoundary-from_rest}
+use Rattle.std.proofs.lemmas.Str.{IsUtf8-nil, IsUtf8-take, IsUtf8-drop, IsCharBoundary-end, IsCharBoundary-from_rest}
 use Rattle.std.specs.Option.{IfSome, option_map, option_or}
 use Rattle.std.specs.Str.{IsCharBoundary, IsUtf8}
 use Rattle.rl_base.specs.Clusters.{clusters, bytes_in, next_pos, prev_pos}
-use Rattle.rl_base.specs.Words.{PlacedCluster, next_stop, nth, placed_clusters, stops}
+use Rattle.rl_base.specs.Words.{PlacedCluster, first_member, next_stop, nth, placed_clusters, stops}
 use Rattle.rl_base.specs.declared.motion.At.TheVariants as stop_at
 use Rattle.rl_base.specs.declared.motion.Word.TheVariants.{Emacs}
 use Rattle.rl_base.proofs.Texts.LineLemmas.{few-from_none, IsCharBoundary-nth, place-of_nth}
 use Rattle.rl_base.proofs.Clusters.ClusterLemmas.{bytes_in-append, bytes_in-clusters}
-use Rattle.rl_base.proofs.Clusters.WordLemmas.{All-reverse, All-stops, IsCharBoundary-stop, nth-is_or, prev_word-some, start_before}
+use Rattle.rl_base.proofs.Clusters.WordLemmas.{All-reverse, All-stops, IsCharBoundary-member, IsCharBoundary-stop, nth-is_or, prev_word-some, start_before}
 use Rattle.rl_line.proofs.Records.RecordLemmas.{through}
 use Rattle.rl_line.specs.Transpositions.{are_two, clusters_around, first_word, meeting_place, only_move, pulled_back, second_word, swap_plan, transpose_chars_plan, transpose_words_plan, word_end, word_start}
 
@@ -371,6 +372,29 @@ end-after text pos n = from (pos == length text) (next_stop stop_at.AfterEnd Ema
     from true o = omega arith
     from false None = omega arith
     from false (Some stop) = omega arith
+
+-- from a place to the end of its word is text, and so is the word ahead
+IsUtf8-to_word_end : (text : List ℕ) (pos n : ℕ) → IsUtf8 text → IsCharBoundary text pos → IsUtf8 (slice_range text pos (word_end text pos n))
+IsUtf8-to_word_end text pos n u bound = from (pos == length text) (next_stop stop_at.AfterEnd Emacs n (drop pos text)) (next_stop-is (drop pos text) n (IsUtf8-drop text pos u bound))
+  where
+    past : (stop k : ℕ) → k ≡ stop - pos → IsUtf8 (take k (drop pos text)) → IsUtf8 (slice_range text pos stop)
+    past stop k e h = subst (λ m. IsUtf8 (take m (drop pos text))) e h
+
+    from : (b : Bool) (o : Option ℕ) → IfSome o (IsCharBoundary (drop pos text)) → IsUtf8 (slice_range text pos (unwrap_or (cond b None (option_map (λ stop. pos + stop) o)) pos))
+    from true o h = past pos 0 (omega arith) IsUtf8-nil
+    from false None h = past pos 0 (omega arith) IsUtf8-nil
+    from false (Some stop) h = past (pos + stop) stop (omega arith) (IsUtf8-take (drop pos text) stop (IsUtf8-drop text pos u bound) h)
+
+pub IsUtf8-word_ahead : (line : Line) → IsUtf8 line.text → IsCharBoundary line.text line.cursor → IfSome (word_ahead line) (λ word. IsUtf8 (text_in line word))
+IsUtf8-word_ahead line u at = from (first_member (placed_clusters rest)) (IsCharBoundary-member rest)
+  where
+    rest : List ℕ
+    rest = drop line.cursor line.text
+
+    from : (o : Option ℕ) → ((place : ℕ) → IsUtf8 rest → Some place ≡ o → IsCharBoundary rest place)
+        → IfSome (option_map (λ start. between start (word_end line.text start 1)) (option_map (λ i. line.cursor + i) o)) (λ word. IsUtf8 (text_in line word))
+    from None h = tt
+    from (Some i) h = IsUtf8-to_word_end line.text (line.cursor + i) 1 u (IsCharBoundary-from_rest line.text line.cursor i at.0 (h i (IsUtf8-drop line.text line.cursor u at) refl))
 
 -- two words: the second is not empty, and where the first is, its text is taken out at the cursor
 Settles-swap : (line : Line) (first second : Range ℕ) → first.start ≤ first.end → first.end ≤ second.start → second.start < second.end → second.end ≤ length line.text

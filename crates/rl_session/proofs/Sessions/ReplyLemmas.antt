@@ -3,27 +3,26 @@ use Rattle.std.proofs.Common.{Bool, true, false, inr, inl, ◌≡◌, ◌∙◌,
 use Rattle.std.specs.Prelude.{ℕ, Any, Bool, Option, IfOk, IfErr, OnOk, OnErr}
 use Rattle.std.specs.Option.{option_map}
 use Rattle.rl_base.specs.Event.{Start}
+use Rattle.rl_base.specs.KillRing.{yank}
 use Rattle.rl_base.specs.declared.listeners.Direction.{Direction}
 use Rattle.rl_base.specs.declared.listeners.Refusal.{Refusal}
 use Rattle.rl_base.specs.declared.listeners.Refusal.TheVariants as why
 use Rattle.rl_base.specs.declared.motion.Movement.{Movement}
-use Rattle.rl_base.specs.declared.motion.WordAction.{WordAction}
 use Rattle.rl_line.specs.Line.{Line, NeedsRoom}
 use Rattle.rl_line.specs.Plan.{Plan, Done, Halted}
 use Rattle.rl_line.specs.Kills.{Told, copied, is_by_characters, kill_plan, kill_range_plan}
 use Rattle.rl_line.specs.LineRanges.{IsRange}
-use Rattle.rl_line.specs.LetterCase.{edit_word_plan, Recased}
 use Rattle.rl_line.specs.Record.{Record}
 use Rattle.rl_line.specs.Undo.{Undone, Redone, steps_ahead, steps_back, texts_ahead, texts_back}
 use Rattle.rl_line.specs.Units.{last_of, redo_of}
 use Rattle.rl_base.specs.Text.{HasText}
 use Rattle.rl_base.specs.Watch.{Watched}
-use Rattle.rl_session.specs.Commands.{Takes, nothing_more, room_by_step, a_copy, refusal_of, unbegun, stops, Came, edit_course, Does, CutShort, KeepsRing, WatchHears, Telling, answers, inserts, hands_out, is_done}
+use Rattle.rl_session.specs.Commands.{Takes, nothing_more, room_by_step, a_copy, refusal_of, unbegun, stops, Came, edit_course, Does, Edited, lent, lent_plan, CutShort, KeepsRing, WatchHears, Telling, answers, inserts, hands_out, is_done}
 use Rattle.rl_session.specs.Pair.{pair_step, pair_refused}
 use Rattle.rl_session.specs.declared.pair.Pair.{Pair}
 use Rattle.rl_session.specs.Replies.{replied}
 use Rattle.rl_session.specs.State.{State}
-use Rattle.rl_session.specs.declared.session.Command.TheVariants.{Copy, EditWord, Kill, KillRange, Redo, Undo}
+use Rattle.rl_session.specs.declared.session.Command.TheVariants.{Copy, Kill, KillRange, Redo, Undo, Yank}
 use Rattle.rl_session.specs.declared.session.Reply.{Reply}
 use Rattle.rl_session.specs.declared.session.Reply.TheVariants as says
 use Rattle.rl_session.proofs.Sessions.PairLemmas.{Stopped, Halted-pair}
@@ -115,14 +114,14 @@ KillRange-replied i j side {inside} new (Err w) v range e options d h =
     carried (λ s r. Does s (KillRange i j side) r new) v e
     (subst (λ (s : State). IsRange s.line.text i j) (sym v) range, Told-each false _ _ inside.pair new.pair (λ before now k. inr (record { halted = Halted-pair nothing_more (kill_range_plan inside.line i j side) inside.line new.line before now w k; options = options })) h)
 
-pub EditWord-replied : (action : WordAction) {inside old : State} (new : State) (outcome : Result Bool Refusal) {reply : Reply} → inside ≡ old → reply ≡ replied says.Answer outcome → new.options ≡ inside.options
-    → IfOk outcome (λ a. Recased inside.line action (λ made. Done pair_step (edit_word_plan inside.line made) inside.line new.line inside.pair new.pair a))
-    → IfErr outcome (λ w. Recased inside.line action (λ made. Stopped a_copy (edit_word_plan inside.line made) inside.line new.line inside.pair new.pair w))
-    → Does old (EditWord action) reply new
-EditWord-replied action {inside} new (Ok a) v e options d h =
-    carried (λ s r. Does s (EditWord action) r new) v e (record { made = d.made; utf8 = d.utf8; ascii = d.ascii; holds = record { done = d.holds; options = options } })
-EditWord-replied action {inside} new (Err w) v e options d h =
-    carried (λ s r. Does s (EditWord action) r new) v e (record { made = h.made; utf8 = h.utf8; ascii = h.ascii; holds = Stopped-cut a_copy (edit_word_plan inside.line h.made) inside new w options h.holds })
+-- a yank whose text goes in as the one that was lent
+pub Yank-replied : (n : ℕ) (plan : Plan (Option Bool)) (inside old new : State) (outcome : Result (Option Bool) Refusal) {reply : Reply} → lent old ≡ inside → plan ≡ lent_plan old.line (yank old.pair.ring) n
+    → reply ≡ replied says.Inserted outcome → Outcome room_by_step inserts plan inside new outcome → Does old (Yank n) reply new
+Yank-replied n plan inside old new (Ok a) l p e o =
+    subst (λ r. Does old (Yank n) r new) (sym e) (subst (λ s. Edited (lent_plan old.line (yank old.pair.ring) n) s new a) (sym l) (subst (λ q. Edited q inside new a) p (record { done = o.done; options = o.options })))
+Yank-replied n plan inside old new (Err w) l p e o =
+    subst (λ r. Does old (Yank n) r new) (sym e)
+    (inr (subst (λ s. CutShort room_by_step (lent_plan old.line (yank old.pair.ring) n) s new) (sym l) (subst (λ q. CutShort room_by_step q inside new) p (CutShort-refused room_by_step plan inside new w o.options o.halted))))
 
 pub Copy-replied : (m : Movement) {inside s : State} (outcome : Result (Option (String Global)) Refusal) {reply : Reply} → inside ≡ s → reply ≡ replied says.Text outcome
     → IfOk outcome (λ t. option_map string_bytes t ≡ copied inside.line m) → IfErr outcome (λ w. (w ≡ why.NoMemory) × HasText (copied inside.line m)) → Does s (Copy m) reply s

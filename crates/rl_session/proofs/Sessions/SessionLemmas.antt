@@ -1,20 +1,20 @@
 -- What holds whatever a call answered.
-use Rattle.std.proofs.Common.{Bool, false, true, inr, List, [], Result, Ok, Err, ◌≡◌, ◌∙◌, ap, refl, subst, sym, append-nil, inl, ◌≤◌, ℕ, length, take_all}
+use Rattle.std.proofs.Common.{Bool, false, true, inr, List, [], ◌∷◌, ◌*◌, ◌+◌, ◌<◌, ◌==◌, ◌||◌, cond, Result, Ok, Err, ◌≡◌, ◌∙◌, ap, ap₂, arith, refl, subst, sym, append-nil, inl, ◌≤◌, ℕ, length, take_all}
+use Rattle.std.proofs.lemmas.Bool.Decides.{nat_tests}
 use Rattle.std.proofs.lemmas.Str.{IsCharBoundary-start, IsUtf8-nil}
 use Rattle.std.specs.Prelude.{ℕ, Bool, true, Option, None, false, max, length, IsSome, Some, IfOk, IfErr}
 use Rattle.std.specs.Str.{IsUtf8}
 use Rattle.rl_base.specs.Event.{Event, InsertStr, Start, apply, Stop}
+use Rattle.rl_base.specs.Text.{HasText}
 use Rattle.rl_base.proofs.Texts.EventLemmas.{apply-InsertStr}
 use Rattle.rl_base.specs.declared.listeners.Refusal.{Refusal}
 use Rattle.rl_base.specs.declared.listeners.Refusal.TheVariants as why
 use Rattle.rl_base.specs.declared.motion.Movement.{Movement}
-use Rattle.rl_base.specs.declared.motion.WordAction.{WordAction}
 use Rattle.rl_line.specs.Line.{Line, stepped}
 use Rattle.rl_line.specs.Motions.{Moved}
-use Rattle.rl_line.specs.Plan.{Plan, nothing, Done, Halted, or_no_memory}
-use Rattle.rl_line.specs.Edits.{insert_str_plan}
+use Rattle.rl_line.specs.Plan.{Plan, nothing, single, Done, Halted, or_no_memory}
+use Rattle.rl_line.specs.Edits.{insert_str_plan, too_long, yank_plan}
 use Rattle.rl_line.specs.Kills.{Told, is_by_characters, kill_plan}
-use Rattle.rl_line.specs.LetterCase.{edit_word_plan, Recased}
 use Rattle.rl_line.specs.Record.{Record, agree, replays_to, unwind}
 use Rattle.rl_line.proofs.Records.JoinLemmas.{record_step-Start, record_step-Stop}
 use Rattle.rl_line.specs.Undo.{Redone, Undone}
@@ -24,7 +24,7 @@ use Rattle.rl_line.proofs.Plans.PlanLemmas.{first_step}
 use Rattle.rl_session.specs.Commands.{Takes, nothing_more, room_by_step, a_copy, Edited, lent, lent_plan, popped, popped_plan}
 use Rattle.rl_session.specs.Pair.{pair_step, pair_refused}
 use Rattle.rl_session.specs.declared.pair.Pair.{Pair}
-use Rattle.rl_session.proofs.Sessions.IdleLemmas.{NoneStarts, NoneStarts-edit_word, NoneStarts-kill, idle-Done, idle-Halted, idle-Told}
+use Rattle.rl_session.proofs.Sessions.IdleLemmas.{NoneStarts, NoneStarts-kill, idle-Done, idle-Halted, idle-Told}
 use Rattle.rl_session.proofs.Sessions.PairLemmas.{Halted-own, Stopped, Done-changes, Halted-changes, keeps_changes}
 use Rattle.std.specs.Str.{IsCharBoundary}
 use Rattle.rl_line.specs.Walk.{Walks}
@@ -93,14 +93,6 @@ pub AtRest-edit : {A B : Type 0} (takes : Takes) (plan : Plan A) (shown : B → 
     → AtRest old p → AtRest new q
 AtRest-edit takes plan shown p q old new (Ok b) at none d h = AtRest-pair plan p q old new (shown b) at none d
 AtRest-edit takes plan shown p q old new (Err w) at none d h = AtRest-stopped takes plan p q old new w at none h
-
--- an edit of the letters of a word, whose text is not told
-pub AtRest-recased : (action : WordAction) (p q : Pair) (old new : Line) (result : Result Bool Refusal) → IsCharBoundary old.text old.cursor
-    → IfOk result (λ a. Recased old action (λ made. Done pair_step (edit_word_plan old made) old new p q a))
-    → IfErr result (λ w. Recased old action (λ made. Stopped a_copy (edit_word_plan old made) old new p q w))
-    → AtRest old p → AtRest new q
-AtRest-recased action p q old new (Ok a) at d h = AtRest-pair (edit_word_plan old d.made) p q old new a at (NoneStarts-edit_word old d.made) d.holds
-AtRest-recased action p q old new (Err w) at d h = AtRest-stopped a_copy (edit_word_plan old h.made) p q old new w at (NoneStarts-edit_word old h.made) h.holds
 
 -- the record hears nothing of the start and the end of a kill
 pub past_telling : (P : Record → Record → Type 0) (before last now : Pair) → now ≡ pair_step last Stop → P (pair_step before Start).changes last.changes → P before.changes now.changes
@@ -180,9 +172,23 @@ Edited-nothing a s = record {
   options = refl;
 }
 
--- nothing was lent, so nothing was done
-pub nothing_lent : (n : ℕ) (old : State) (slot : Option (List ℕ)) → slot ≡ None → (left : State) → left ≡ lent old → Edited (lent_plan old.line slot n) (lent old) left None
-nothing_lent n old slot e left l = subst (λ s. Edited (lent_plan old.line s n) (lent old) left None) (sym e) (subst (λ s. Edited (lent_plan old.line None n) (lent old) s None) (sym l) (Edited-nothing None (lent old)))
+-- no text was lent, so nothing was done
+pub nothing_lent : (n : ℕ) (old : State) (slot : Option (List ℕ)) → ¬ (HasText slot) → (left : State) → left ≡ lent old → Edited (lent_plan old.line slot n) (lent old) left None
+nothing_lent n old None h left l = subst (λ s. Edited (lent_plan old.line None n) (lent old) s None) (sym l) (Edited-nothing None (lent old))
+nothing_lent n old (Some []) h left l = subst (λ s. Edited (lent_plan old.line None n) (lent old) s None) (sym l) (Edited-nothing None (lent old))
+nothing_lent n old (Some (c ∷ cs)) h left l = absurd (h (omega arith))
+
+-- in no times any text that is not empty goes in as any other
+yanked-no_times : (line : Line) (s : List ℕ) → 0 < length s
+    → yank_plan line s 0 ≡ cond (too_long line (length line.text + 0)) (nothing line None) (single (InsertStr line.cursor []) (line.cursor + 0) (Some (line.cursor == length line.text)))
+yanked-no_times line s some =
+    let none : length s * 0 ≡ 0 = omega arith in
+    let full : (length s == 0) ≡ false = grind (arith, nat_tests) in
+    ap₂ (λ b more. cond (b || too_long line (length line.text + more)) (nothing line None) (single (InsertStr line.cursor []) (line.cursor + more) (Some (line.cursor == length line.text)))) full none
+
+pub lent-no_times : (line : Line) (s : List ℕ) (slot : Option (List ℕ)) → 0 < length s → HasText slot → yank_plan line s 0 ≡ lent_plan line slot 0
+lent-no_times line s None some h = absurd h
+lent-no_times line s (Some t) some h = yanked-no_times line s some ∙ sym (yanked-no_times line t h)
 
 pub nothing_popped : (old : State) (slot : Option (ℕ × List ℕ)) → slot ≡ None → (left : State) → left ≡ popped old → Edited (popped_plan old.line slot) (popped old) left None
 nothing_popped old slot e left l = subst (λ s. Edited (popped_plan old.line s) (popped old) left None) (sym e) (subst (λ s. Edited (popped_plan old.line None) (popped old) s None) (sym l) (Edited-nothing None (popped old)))

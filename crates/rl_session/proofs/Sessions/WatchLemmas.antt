@@ -18,7 +18,7 @@ use Rattle.rl_line.specs.Units.{last_of, redo_of}
 use Rattle.rl_line.proofs.Records.HeardLemmas.{after-steps_ahead, after-steps_back}
 use Rattle.rl_line.specs.Record.{inverse}
 use Rattle.rl_line.proofs.Plans.HearingLemmas.{AreChanges, Keeps-after}
-use Rattle.rl_session.specs.Commands.{Effect, by_steps, puts_begin, puts_ends, puts_end, shortens, takes_back, puts_again, Became, Step, effect, readied, Course, never, when, stays, goes, edits, stops, respells, lends, pops, tells, Came, WatchHears, lent, popped, keeps}
+use Rattle.rl_session.specs.Commands.{Effect, by_steps, puts_begin, puts_ends, puts_end, shortens, takes_back, puts_again, Became, Step, effect, readied, Course, never, when, stays, goes, edits, stops, lends, pops, tells, Came, WatchHears, lent, popped, keeps}
 use Rattle.rl_session.specs.Pair.{pair_step}
 use Rattle.rl_session.specs.State.{State, ChangedFrom, IsBounded, ReportedFrom, Stands, restarted, with_watch}
 use Rattle.rl_session.specs.Run.{Row, Leads, Run}
@@ -73,7 +73,6 @@ module _ (Keeps : Watched → List ℕ → Type 0)
       let h = cut.halted in
       let cause = cause-watch h.middle new.pair h.next.0 why.NoMemory (own takes h.middle new.pair h.next.0 why.NoMemory h.cause) in
       subst (λ w. Keeps w new.line.text) (sym cause) (Keeps-Taken h.first old.line new.line old.pair h.middle t.utf8 t.fits t.limit (NoneStarts-first h.first h.next h.others (subst AreChanges h.split c)).0 t.at h.taken k)
-  Kept-Came (respells action course) old new t c d k = Kept-Came (course d.made) old new t (c d.made) d.holds k
   Kept-Came (lends course) old new t c d k = Kept-Came course (lent old) new t c d k
   Kept-Came (pops course) old new t c d k = Kept-Came course (popped old) new t c d k
   Kept-Came (tells true course) old new t c d k = Kept-Came course old new t c d k

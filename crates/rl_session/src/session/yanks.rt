@@ -47,12 +47,26 @@ impl Session {
         ensures { Does self.old (Command.Yank n) result self.new }
     {
         self.stands();
+        if n == 0 {
+            return self.yank_no_times();
+        }
         let text = match yanked(self.alloc, &mut self.pair.ring) {
             Ok(Some(text)) => text,
             Ok(None) => return Reply::Inserted(None),
             Err(_) => return Reply::Refused(Fault::NoMemory),
         };
         inserted(self.line.yank(text.as_str(), n, &mut self.pair))
+    }
+
+    // Nothing goes in, whatever the text is, so it is not copied; an empty one is no yank.
+    fn yank_no_times(&mut self) -> Reply
+        ensures { Does self.old (Command.Yank 0) result self.new }
+    {
+        self.stands();
+        if !yanks_some(&mut self.pair.ring) {
+            return Reply::Inserted(None);
+        }
+        inserted(self.line.yank("-", 0, &mut self.pair))
     }
 
     // Whether the bytes that were yanked last can stand before the cursor.
@@ -119,6 +133,18 @@ fn is_vain_yank(command: &Command, reply: &Reply) -> bool
 {
     matches!(command, Command::Yank(_) | Command::YankPop)
         && !matches!(reply, Reply::Inserted(Some(_)))
+}
+
+// Yanks, and answers whether the text has a byte.
+fn yanks_some(ring: &mut KillRing) -> bool
+    ensures ring { ring.new ≡ yanked ring.old }
+    ensures some { result ≡ true → HasText (yank ring.old) }
+    ensures none { result ≡ false → ¬ (HasText (yank ring.old)) }
+{
+    match ring.yank() {
+        Some(text) => !text.as_str().is_empty(),
+        None => false,
+    }
 }
 
 // A copy of the text that the ring yanks.

@@ -10,5 +10,5 @@ invariant-loop-cluster l =
     record {
       rows : l.row + length (graphemes_left l.cluster-iterator) ≤ length l.text;
       column : l.column ≤ 65535;
-      laid : laid l.screen (l.row, l.column) (graphemes_left l.cluster-iterator) ≡ laid l.screen (0, l.prompt) (clusters l.text);
+      laid : laid l.screen l.left (l.row, l.column) (graphemes_left l.cluster-iterator) ≡ laid l.screen l.place (0, l.prompt) (clusters l.text);
     }

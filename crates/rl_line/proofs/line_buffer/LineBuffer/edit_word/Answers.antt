@@ -1,43 +1,28 @@
-use Rattle.std.proofs.Common.{arith, rules, ◌+◌, ◌<◌, length, sym, inr, [], ℕ, ◌≡◌, true, slice_range, refl, ap, subst, ◌∙◌}
-use Rattle.std.proofs.lemmas.Option.{same_Some}
-use Rattle.std.proofs.lemmas.Str.{IsUtf8-nil}
+use Rattle.std.proofs.Common.{arith, rules, ◌+◌, inr, true, slice_range, refl, ap, subst, ◌∙◌}
 use Rattle.std.specs.List.{replace_range}
-use Rattle.std.specs.Prelude.{IsAscii}
 use Rattle.std.specs.Str.{IsCharBoundary}
-use Rattle.std.specs.declared.ops.Range.{Range}
 use Rattle.std.proofs.lemmas.Result.{err_from_is_err_and}
 use Rattle.rl_base.proofs.Texts.TextLemmas.{IsCharBoundary-before_removal, IsCharBoundary-past_replacement}
 use Rattle.rl_line.specs.Edits.{exchange_plan}
-use Rattle.rl_line.specs.LetterCase.{edit_word_plan, mapped}
-use Rattle.rl_line.specs.Plan.{Plan, answering, bytes_of}
-use Rattle.rl_line.specs.Ranges.{text_in}
-use Rattle.rl_line.proofs.Plans.LetterCaseLemmas.{edit_word_plan-nothing, edit_word_plan-some, made_for, recased-ascii}
+use Rattle.rl_line.specs.LetterCase.{edit_word_plan}
+use Rattle.rl_line.specs.Plan.{Plan, answering}
+use Rattle.rl_line.proofs.Plans.LetterCaseLemmas.{edit_word_plan-nothing, edit_word_plan-some, edit_word_plan-tells}
 use Rattle.rl_line.proofs.Plans.PlanLemmas.{Done-as, Done-nothing, Done-steps, Stopped-as}
 use Rattle.rl_line.proofs.line_buffer.LineBuffer.edit_word.Goals as goal
 
 pub returns-in_default-clause-done : goal.returns-in_default-clause-done
-returns-in_default-clause-done g c =
-    record {
-      made = [];
-      utf8 = IsUtf8-nil;
-      ascii = λ word e a. absurd (cc (c.in_default.ensures.value, e));
-      holds = Done-nothing _ _ c.args.self.now _ _ (edit_word_plan-nothing c.args.self.now [] c.in_default.ensures.value);
-    }
+returns-in_default-clause-done g c = Done-nothing _ _ c.args.self.now _ _ (edit_word_plan-nothing c.args.self.now c.args.action c.in_default.ensures.value)
 
 pub returns-in_err-made-clause-halted : goal.returns-in_err-made-clause-halted
 returns-in_err-made-clause-halted g c =
     let p = err_from_is_err_and c.from_residual.result c.from_residual.ensures.1 in
-    let some = made_for c.args.action (text_in c.args.self.now c.in-Some.word) in
-    let made = some.made in
-    let is : c.range-text.result.now ≡ text_in c.args.self.now c.in-Some.word =
-    c.range-text.ensures.value ∙ ap (λ t. slice_range t c.in-Some.word.start c.in-Some.word.end) c.as_str.ensures in
-    let some_text : 0 < length (text_in c.args.self.now c.in-Some.word) = subst (λ t. 0 < length t) is c.in_err-made.ensures.some in
-    rw (p.1, p.2) record {
-      made = made;
-      utf8 = some.utf8;
-      ascii = recased-ascii c.args.self.now c.args.action c.in-Some.word _ made c.in-Some.ensures.value refl some.ascii;
-      holds = inr (refl, refl, refl, subst (λ (q : Plan _). 0 < bytes_of q.steps) (sym (edit_word_plan-some c.args.self.now c.in-Some.word made _ _ c.in-Some.ensures.value refl refl)) (omega (arith, some_text)));
-    }
+    rw (p.1, p.2) (inr (
+      refl,
+      refl,
+      refl,
+      edit_word_plan-tells c.args.self.now c.args.action c.in-Some.word _ c.in-Some.ensures.value
+          (c.range-text.ensures.value ∙ ap (λ t. slice_range t c.in-Some.word.start c.in-Some.word.end) c.as_str.ensures) c.in_err-made.ensures.some,
+    ))
 
 pub returns-in_err-exchange-clause-halted : goal.returns-in_err-exchange-clause-halted
 returns-in_err-exchange-clause-halted g c =
@@ -45,45 +30,19 @@ returns-in_err-exchange-clause-halted g c =
     let line = c.args.self.now in
     let made = c.as_str-2.result.now in
     let plan = exchange_plan line c.in-Some.word c.pos-at.result made (c.in-Some.word.start + c.len.result) in
-    rw (p.1, p.2) record {
-      made = made;
-      utf8 = c.as_str-2.utf8;
-      ascii = recased-ascii line c.args.action c.in-Some.word c.range-text.result.now made c.in-Some.ensures.value
-          (c.range-text.ensures.value ∙ ap (λ t. slice_range t c.in-Some.word.start c.in-Some.word.end) c.as_str.ensures) (λ a. c.as_str-2.ensures.value ∙ c.in_ok-made.ensures.ascii a);
-      holds = Stopped-as _ _ (edit_word_plan line made) plan _ _ _ _ _
-          (ap (λ (q : Plan _). q.steps) (edit_word_plan-some line c.in-Some.word made c.pos-at.result (c.in-Some.word.start + c.len.result) c.in-Some.ensures.value c.pos-at.ensures.place (ap (λ n. c.in-Some.word.start + n) (search rules))))
-          c.in_err-exchange.ensures.halted;
-    }
+    rw (p.1, p.2) (Stopped-as _ _ (edit_word_plan line c.args.action) plan _ _ _ _ _ (ap (λ (q : Plan _). q.steps) (edit_word_plan-some line c.args.action c.in-Some.word c.range-text.result.now made c.pos-at.result (c.in-Some.word.start + c.len.result) c.in-Some.ensures.value
+    (c.range-text.ensures.value ∙ ap (λ t. slice_range t c.in-Some.word.start c.in-Some.word.end) c.as_str.ensures)
+    (λ a. c.as_str-2.ensures.value ∙ c.in_ok-made.ensures.ascii a) (λ n. c.as_str-2.ensures.value ∙ c.in_ok-made.ensures.others n) c.pos-at.ensures.place (ap (λ n. c.in-Some.word.start + n) (search rules)))) c.in_err-exchange.ensures.halted)
 
 pub returns-clause-done : goal.returns-clause-done
 returns-clause-done g c =
     let line = c.args.self.now in
     let made = c.as_str-2.result.now in
     let plan = exchange_plan line c.in-Some.word c.pos-at.result made (c.in-Some.word.start + c.len.result) in
-    record {
-      made = made;
-      utf8 = c.as_str-2.utf8;
-      ascii = recased-ascii line c.args.action c.in-Some.word c.range-text.result.now made c.in-Some.ensures.value
-          (c.range-text.ensures.value ∙ ap (λ t. slice_range t c.in-Some.word.start c.in-Some.word.end) c.as_str.ensures) (λ a. c.as_str-2.ensures.value ∙ c.in_ok-made.ensures.ascii a);
-      holds = Done-as _ (edit_word_plan line made) (answering true plan) _ _ _ _ _ (Done-steps _ (answering true plan) _ _ _ _ _ c.in_ok-exchange.ensures.taken refl c.in_ok-exchange.ensures.cursor)
-          (edit_word_plan-some line c.in-Some.word made c.pos-at.result (c.in-Some.word.start + c.len.result) c.in-Some.ensures.value c.pos-at.ensures.place (ap (λ n. c.in-Some.word.start + n) (search rules)));
-    }
-
-pub returns-in_default-clause-mapped : goal.returns-in_default-clause-mapped
-returns-in_default-clause-mapped g c = λ word e n. absurd (cc (c.in_default.ensures.value, e))
-
--- the text that was made is the word mapped, where that is not ASCII
-pub returns-clause-mapped : goal.returns-clause-mapped
-returns-clause-mapped g c = λ word e n.
-    let line = c.args.self.now in
-    let same : c.in-Some.word ≡ word = same_Some _ _ (c.in-Some.ensures.value ∙ e) in
-    let text : c.range-text.result.now ≡ text_in line word =
-    c.range-text.ensures.value ∙ ap (λ t. slice_range t c.in-Some.word.start c.in-Some.word.end) c.as_str.ensures ∙ ap (text_in line) same in
-    let made : c.as_str-2.result.now ≡ mapped c.args.action (text_in line word) =
-    c.as_str-2.ensures.value ∙ c.in_ok-made.ensures.others (λ a. n (subst IsAscii text a)) ∙ ap (mapped c.args.action) text in
-    c.in_ok-exchange.ensures.text
-    ∙ ap (λ (w : Range ℕ). replace_range line.text w.start w.end c.as_str-2.result.now) same
-    ∙ ap (replace_range line.text word.start word.end) made
+    Done-as _ (edit_word_plan line c.args.action) (answering true plan) _ _ _ _ _ (Done-steps _ (answering true plan) _ _ _ _ _ c.in_ok-exchange.ensures.taken refl c.in_ok-exchange.ensures.cursor)
+    (edit_word_plan-some line c.args.action c.in-Some.word c.range-text.result.now made c.pos-at.result (c.in-Some.word.start + c.len.result) c.in-Some.ensures.value
+    (c.range-text.ensures.value ∙ ap (λ t. slice_range t c.in-Some.word.start c.in-Some.word.end) c.as_str.ensures)
+    (λ a. c.as_str-2.ensures.value ∙ c.in_ok-made.ensures.ascii a) (λ n. c.as_str-2.ensures.value ∙ c.in_ok-made.ensures.others n) c.pos-at.ensures.place (ap (λ n. c.in-Some.word.start + n) (search rules)))
 
 pub exchange-requires-clause-between : goal.exchange-requires-clause-between
 exchange-requires-clause-between g c =

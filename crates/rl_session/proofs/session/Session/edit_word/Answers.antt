@@ -1,11 +1,15 @@
 use Rattle.std.proofs.Common.{refl}
-use Rattle.rl_session.proofs.Sessions.ReplyLemmas.{EditWord-replied}
-use Rattle.rl_session.proofs.Sessions.SessionLemmas.{AtRest-recased}
+use Rattle.rl_line.specs.LetterCase.{edit_word_plan}
+use Rattle.rl_session.specs.Commands.{a_copy, answers}
+use Rattle.rl_session.proofs.Sessions.ReplyLemmas.{Edits-replied}
+use Rattle.rl_session.proofs.Sessions.IdleLemmas.{NoneStarts-edit_word}
+use Rattle.rl_session.proofs.Sessions.SessionLemmas.{AtRest-edit}
 use Rattle.rl_session.proofs.session.Session.edit_word.Goals as goal
 
 pub invariant_of-self : goal.invariant_of-self
 invariant_of-self c =
-    AtRest-recased _ c.self.inside.pair c.edit_word.new.listener c.self.inside.line c.edit_word.new.self c.edit_word.result (rw (← c.self.view_is) at c.stands.ensures.cursor) c.edit_word.ensures.done c.edit_word.ensures.halted c.self.invariant
+    AtRest-edit a_copy _ (λ a. a) c.self.inside.pair c.edit_word.new.listener c.self.inside.line c.edit_word.new.self c.edit_word.result (rw (← c.self.view_is) at c.stands.ensures.cursor) (NoneStarts-edit_word c.self.inside.line c.args.action) c.edit_word.ensures.done c.edit_word.ensures.halted c.self.invariant
 
 pub returns : goal.returns
-returns c = EditWord-replied c.args.action _ _ c.self.view_is c.answered.ensures refl c.edit_word.ensures.done c.edit_word.ensures.halted
+returns c =
+    Edits-replied a_copy answers (λ l. edit_word_plan l c.args.action) c.self.view_is tt c.answered.ensures (record { options = refl; done = c.edit_word.ensures.done; halted = c.edit_word.ensures.halted })
