@@ -44,5 +44,5 @@ returns-in-Err-undo c =
     let held = c.args.held.now in
     let e = c.in-Err-undo.ensures.err in
     let heard = c.keep.ensures ∙ ap (first_kept c.len-waiting.result) (from_ok c.join.result _ c.join.ensures.done (sym c.if-is_err-2.ensures.value))
-        ∙ first-joined c.foretell_undo.new.listener c.apart-told.new.self c.len-waiting.result c.len-waiting.ensures ∙ c.apart-told.ensures.kept in
+    ∙ first-joined c.foretell_undo.new.listener c.apart-told.new.self c.len-waiting.result c.len-waiting.ensures ∙ c.apart-told.ensures.kept in
     inr (inr (refl, room_back-change (last_of c.args.n c.args.changes.now.recorded) held.line.text e.3, (e.1, ap₂ (λ (l : Line) (x : Heard). record held { line = l; heard = x }) e.2 heard)))
