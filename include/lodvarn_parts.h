@@ -25,7 +25,8 @@
  *
  * NO_MEMORY of an edit of a line: where it has several steps it stops after the steps that it made, and these are
  * reported. Of every other call: line, record and ring are as they were. BAD_PLACE, BAD_YANK_SIZE, NOT_REPLAYING and
- * the errors from CLOSED on leave everything as it was.
+ * the errors from CLOSED on leave everything as it was. An edit with nothing to do, and an undo or a redo of no change,
+ * is never NO_MEMORY. But a kill that reports its start and its stop takes memory for these also where nothing goes.
  *
  * docs/RULES.md says exactly what each call does. */
 #ifndef LODVARN_PARTS_H
@@ -214,11 +215,13 @@ uint32_t lodvarn_record_replace(lodvarn_record **r, size_t at, const char *old_t
 uint32_t lodvarn_record_cursors(lodvarn_record **r, size_t before, size_t after);
 
 /* Undoes the last n changes and groups in a line, which reports each. Answers TRUE, or FALSE where there was no change.
- * Errors: NOT_REPLAYING where the changes that it takes can't be taken back from the line's text, NO_MEMORY. */
+ * Errors: NOT_REPLAYING where the changes that it takes can't be taken back from the line's text, or a cursor that was
+ * told of one would stand inside a character or past the end; NO_MEMORY only where there is a change. */
 uint32_t lodvarn_record_undo(lodvarn_record **r, lodvarn_line **l, uint16_t n);
 
 /* Redoes what was undone last, one change or group, in a line, which reports each change. Answers and errors as
- * lodvarn_record_undo; NOT_REPLAYING where the changes that it makes again can't be made in the line's text. */
+ * lodvarn_record_undo; NOT_REPLAYING where the changes that it makes again can't be made in the line's text, or a cursor
+ * that was told would not stand there. */
 uint32_t lodvarn_record_redo(lodvarn_record **r, lodvarn_line **l);
 
 /* Keeps the first entries entries, and forgets the others and what was undone. Answers DONE. */

@@ -1,6 +1,6 @@
 -- What the reports of a listener that keeps all lead to.
-use Rattle.std.proofs.Common.{◌≡◌, ℕ, ◌+◌, ◌-◌, ◌^◌, ◌<◌, Bool, true, false, nat_lt, List, [], ◌∷◌, ◌++◌, length, encode_utf8, slice_range, Some, if◌then◌else◌, append-nil, append_assoc, take_at, refl, sym, ap, subst, ◌∙◌}
-use Rattle.std.specs.Prelude.{OnOk, Result, Ok, Err, is_err}
+use Rattle.std.proofs.Common.{◌≡◌, ℕ, ◌+◌, ◌-◌, ◌^◌, ◌<◌, Bool, true, false, nat_lt, List, [], ◌∷◌, ◌++◌, length, encode_utf8, slice_range, Some, if◌then◌else◌, append-nil, append_assoc, take_at, refl, sym, ap, subst, arith, ◌∙◌}
+use Rattle.std.specs.Prelude.{IfErr, OnErr, OnOk, Result, Ok, Err, is_err}
 use Rattle.rl_base.specs.declared.listeners.Direction.TheVariants.{Forward, Backward}
 use Rattle.rl_base.specs.declared.reports.ReportKind.{ReportKind}
 use Rattle.rl_base.specs.declared.reports.ReportKind.TheVariants as kind
@@ -8,7 +8,7 @@ use Rattle.rl_base.specs.Event.{Event, InsertChar, InsertStr, Delete, Replace, S
 use Rattle.rl_base.specs.Reports.{IsLineText, LeadsBy, Noted, Tells, is_change, on_last, told_cursors}
 use Rattle.rl_base.proofs.Queue.LeadLemmas.{LeadsBy-push, LeadsBy-told, Tells-Swaps, Tells-mark, on_last-one}
 use Rattle.rl_base.proofs.Texts.SwapLemmas.{Swaps, Swaps-InsertChar, Swaps-InsertStr, Swaps-Delete, Swaps-Replace, apply-IsUtf8}
-use Rattle.rl_line.specs.Plan.{listener_after, listener_after_step}
+use Rattle.rl_line.specs.Plan.{Step, listener_after, listener_after_step}
 use Rattle.rl_line.specs.Record.{Entry, Begin, End, Changed, event_of}
 use Rattle.rl_line.specs.Undo.{cursor_after, steps_ahead}
 use Rattle.rl_ffi.specs.Heard.{Heard, first_kept, heard_step, joined, marking, note, nothing_heard}
@@ -80,7 +80,20 @@ apart es cursor h =
 pub first-joined : (x h : Heard) (count : ℕ) → count ≡ length h.waiting → first_kept count (joined x h) ≡ h
 first-joined x h count e = ap (λ w. record { waiting = w; marks = h.marks }) (take_at h.waiting x.waiting count (sym e))
 
--- what holds of a result that is no error
+-- reports wait of steps only where there are some
+pub waits-told : (ss : List Step) (cursor : ℕ) → 0 < length (listener_after heard_step cursor ss nothing_heard).waiting → 0 < length ss
+waits-told [] cursor some = absurd (omega (arith, some))
+waits-told (s ∷ ss) cursor some = omega arith
+
+-- what holds of an error, and of a result that is none
+pub from_err : {A E : Type 0} (result : Result A E) (P : E → Type 0) → IfErr result P → is_err result ≡ true → (e : E) × P e
+from_err (Ok a) P h some = cc
+from_err (Err e) P h some = (e, h)
+
+pub on_err : {A E : Type 0} (result : Result A E) (P : Type 0) → OnErr result P → is_err result ≡ true → P
+on_err (Ok a) P h some = cc
+on_err (Err e) P h some = h
+
 pub from_ok : {A E : Type 0} (result : Result A E) (P : Type 0) → OnOk result P → is_err result ≡ false → P
 from_ok (Ok a) P h none = h
 from_ok (Err e) P h none = cc

@@ -153,3 +153,8 @@ off all rs r spent text same le c =
           ∙ ap (λ n. take n (notes 1 rs front ++ notes 1 (r ∷ []) last.own)) count
           ∙ ap (take (length (notes 1 all (drop spent text)) - 1)) (sym more);
     }
+
+-- where texts wait, a report does
+pub Cuts-some : (rs : List Report) (bytes : List ℕ) → Cuts 1 rs bytes → 0 < length bytes → 0 < length rs
+Cuts-some [] bytes none some = absurd (omega (arith, ap length none, some))
+Cuts-some (r ∷ rs) bytes cuts some = omega arith

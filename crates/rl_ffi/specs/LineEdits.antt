@@ -48,12 +48,12 @@ before_kill false h = readied h
 abbrev pub ToldOf : Bool → (Heard → Heard → Type 0) → HeldLine → HeldLine → Type 0
 ToldOf by_characters Heard_of old new = Told heard_step by_characters Heard_of (before_kill by_characters old.heard) new.heard
 
--- a kill by a plan; or memory is out, and nothing goes
+-- a kill by a plan; or memory is out, for the report of what goes, or before it for those of the start and the stop, and nothing goes
 abbrev pub kills : Bool → (Line → Plan Bool) → Effect
 kills by_characters plan old n new =
     ((answer : Bool) × ToldOf by_characters (λ before now. Done heard_step (plan old.line) old.line new.line before now answer) old new × (n ≡ truth_number answer))
     ⊎ (((why : Refusal) × ToldOf by_characters (λ before now. Halted heard_step heard_refused (plan old.line) old.line new.line before now why) old new) × (n ≡ no_memory))
-    ⊎ leaves no_memory old n new
+    ⊎ ((by_characters ≡ false) × leaves no_memory old n new)
 
 -- the movements by which a line has a call that deletes and tells no kill
 abbrev pub deleting : Movement → Option Movement

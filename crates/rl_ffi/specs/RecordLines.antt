@@ -1,9 +1,9 @@
 -- What the calls do on a record and a line, each by itself.
-use Rattle.std.specs.Prelude.{◌≡◌, ◌⊎◌, ℕ, Bool, List, Option, Some, None, IsSome, is_some}
+use Rattle.std.specs.Prelude.{◌≡◌, ◌⊎◌, ℕ, Bool, true, List, Option, Some, None, IsSome, is_some}
 use Rattle.rl_line.specs.Plan.{Step, listener_after}
 use Rattle.rl_line.specs.Record.{Record, replays_to}
 use Rattle.rl_line.specs.Undo.{CopiesAhead, CopiesBack, Redone, Undone, line_ahead, line_back, steps_ahead, steps_back}
-use Rattle.rl_line.specs.Units.{last_of, redo_of}
+use Rattle.rl_line.specs.Units.{has_change, last_of, redo_of}
 use Rattle.rl_ffi.specs.Heard.{heard_step}
 use Rattle.rl_ffi.specs.Numbers.{closed, no_memory, not_replaying, truth_number}
 use Rattle.rl_ffi.specs.declared.held_line.HeldLine.{HeldLine}
@@ -38,19 +38,19 @@ HearsOf steps old new = new.heard ≡ listener_after heard_step old.line.cursor 
 abbrev pub Stays : Record → HeldLine → Record → HeldLine → Type 0
 Stays r held left now = (left ≡ r) × (now ≡ held)
 
--- k units are undone in the line, and its listener hears of it; or they can't be taken back from it, or memory is out
+-- k units are undone in the line, and its listener hears of it; or they can't be taken back from it, or they hold a change, and memory is out
 abbrev pub Undoes : ℕ → Record → HeldLine → ℕ → Record → HeldLine → Type 0
 Undoes k r held n left now =
     ((answer : Bool) × Undone k r left held.line now.line answer × HearsOf (steps_back held.line.cursor (last_of k r.recorded)) held now × (n ≡ truth_number answer))
     ⊎ ((¬ (IsSome (line_back (last_of k r.recorded) held.line))) × (n ≡ not_replaying) × Stays r held left now)
-    ⊎ ((n ≡ no_memory) × Stays r held left now)
+    ⊎ ((n ≡ no_memory) × (has_change (last_of k r.recorded) ≡ true) × Stays r held left now)
 
 -- the same of what a redo takes
 abbrev pub RedoesIn : Record → HeldLine → ℕ → Record → HeldLine → Type 0
 RedoesIn r held n left now =
     ((answer : Bool) × Redone r left held.line now.line answer × HearsOf (steps_ahead held.line.cursor (redo_of r.pending)) held now × (n ≡ truth_number answer))
     ⊎ ((¬ (IsSome (line_ahead (redo_of r.pending) held.line))) × (n ≡ not_replaying) × Stays r held left now)
-    ⊎ ((n ≡ no_memory) × Stays r held left now)
+    ⊎ ((n ≡ no_memory) × (has_change (redo_of r.pending) ≡ true) × Stays r held left now)
 
 -- a call through both handles that may change both
 abbrev pub ThroughBoth : (Record → HeldLine → ℕ → Record → HeldLine → Type 0) → Option Record → Option HeldLine → ℕ → Option Record → Option HeldLine → Type 0

@@ -11,7 +11,6 @@ use std::mem::replace;
 
 /// What C holds of a session. It is null where there is none.
 #[repr(C)]
-#[derive(Drop)]
 pub struct Handle {
     at: *mut u8,
     alloc: Global,
@@ -20,6 +19,16 @@ pub struct Handle {
 
 impl Model for Handle {
     ghost also_owns = { λ h. kept h.alloc h.at h.value };
+}
+
+// One that holds something may not be let go or overwritten: what it holds would never be freed.
+impl Drop for Handle {
+    #[inline(always)]
+    fn drop(self)
+        requires closed { self.value ≡ None }
+    {
+        let Handle { at: _, alloc: _ } = self;
+    }
 }
 
 impl Handle {

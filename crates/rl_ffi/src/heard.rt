@@ -73,10 +73,11 @@ impl Heard {
         new
     }
 
-    /// Finds room for the start and the stop of one kill. Refused where memory is out, and then all is as it was.
+    /// Finds room for the start and the stop of one kill. Refused where memory is out for room that is not there yet, and then all
+    /// is as it was.
     pub fn ready(&mut self) -> Result<(), Refusal>
         ensures done { OnOk result (self.new ≡ readied self.old) }
-        ensures err { IfErr result (λ r. (r ≡ NoMemory) × (self.new ≡ self.old)) }
+        ensures err { IfErr result (λ r. (r ≡ NoMemory) × (self.new ≡ self.old) × (self.old.marks < 2)) }
     {
         self.waiting.reserve(2)?;
         self.marks = 2;
@@ -146,10 +147,11 @@ impl Heard {
         self.spent = 0;
     }
 
-    /// Puts the reports that another kept after those that wait. Refused where memory is out, and then all is as it was.
+    /// Puts the reports that another kept after those that wait. Refused where memory is out for them, and then all is as it was:
+    /// where it kept none, never.
     pub fn join(&mut self, later: Heard) -> Result<(), Refusal>
         ensures done { OnOk result (self.new ≡ joined later self.old) }
-        ensures err { IfErr result (λ r. (r ≡ NoMemory) × (self.new ≡ self.old)) }
+        ensures err { IfErr result (λ r. (r ≡ NoMemory) × (self.new ≡ self.old) × (0 < length later.waiting)) }
     {
         if self.waiting.is_empty() && self.marks == later.marks {
             *self = later;

@@ -11,7 +11,6 @@ use std::mem::replace;
 
 /// What C holds of a kill ring. It is null where there is none.
 #[repr(C)]
-#[derive(Drop)]
 pub struct RingHandle {
     at: *mut u8,
     alloc: Global,
@@ -20,6 +19,16 @@ pub struct RingHandle {
 
 impl Model for RingHandle {
     ghost also_owns = { λ h. kept_killring h.alloc h.at h.value };
+}
+
+// One that holds something may not be let go or overwritten: what it holds would never be freed.
+impl Drop for RingHandle {
+    #[inline(always)]
+    fn drop(self)
+        requires closed { self.value ≡ None }
+    {
+        let RingHandle { at: _, alloc: _ } = self;
+    }
 }
 
 impl RingHandle {

@@ -109,7 +109,7 @@ fn is_by_characters(movement: &Movement) -> bool
 // Finds room for the reports of the start and the stop of a kill, where these are told.
 fn ready(heard: &mut Heard, by_characters: bool) -> Result<(), Refusal>
     ensures done { OnOk result (heard.new ≡ before_kill by_characters heard.old) }
-    ensures err { OnErr result (heard.new ≡ heard.old) }
+    ensures err { OnErr result ((by_characters ≡ false) × (heard.new ≡ heard.old)) }
 {
     if by_characters {
         return Ok(());
@@ -139,8 +139,8 @@ fn kill_named(held: &mut HeldLine, movement: Option<Movement>) -> u32
 }
 
 /// Kills by a movement: TRUE or FALSE, whether there was something. The reports tell the start of the kill, the deletion, and
-/// the stop; of a kill by characters the deletion alone. NO_SUCH_NUMBER and CLOSED change nothing; nor does NO_MEMORY, though
-/// the start and the stop may be told.
+/// the stop; of a kill by characters the deletion alone. NO_SUCH_NUMBER and CLOSED change nothing; nor does NO_MEMORY (of the
+/// reports, also where there is nothing but the start and the stop to tell), though these two may be told.
 #[unsafe(no_mangle)]
 pub extern "C" fn lodvarn_line_kill(
     alloc: Global,
@@ -180,7 +180,8 @@ fn kill_range_named(held: &mut HeldLine, from: usize, to: usize, dir: Option<Dir
 }
 
 /// Kills what stands between two byte places, as a kill in the direction: TRUE or FALSE, whether there was something.
-/// BAD_PLACE, NO_SUCH_NUMBER and CLOSED change nothing; nor does NO_MEMORY, though the start and the stop may be told.
+/// BAD_PLACE, NO_SUCH_NUMBER and CLOSED change nothing; nor does NO_MEMORY (of the reports, also where there is nothing but the
+/// start and the stop to tell), though these two may be told.
 #[unsafe(no_mangle)]
 pub extern "C" fn lodvarn_line_kill_range(
     alloc: Global,

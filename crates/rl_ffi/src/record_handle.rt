@@ -11,7 +11,6 @@ use std::mem::replace;
 
 /// What C holds of a record. It is null where there is none.
 #[repr(C)]
-#[derive(Drop)]
 pub struct RecordHandle {
     at: *mut u8,
     alloc: Global,
@@ -20,6 +19,16 @@ pub struct RecordHandle {
 
 impl Model for RecordHandle {
     ghost also_owns = { λ h. kept_record h.alloc h.at h.value };
+}
+
+// One that holds something may not be let go or overwritten: what it holds would never be freed.
+impl Drop for RecordHandle {
+    #[inline(always)]
+    fn drop(self)
+        requires closed { self.value ≡ None }
+    {
+        let RecordHandle { at: _, alloc: _ } = self;
+    }
 }
 
 impl RecordHandle {

@@ -37,8 +37,8 @@ fn undo(changes: &mut Changeset, held: &mut HeldLine, n: u16) -> u32
 }
 
 /// Undoes the last n units in the line, or one where n is 0: TRUE where there was a change, or FALSE. Each change of the
-/// line is a report that waits. NOT_REPLAYING, where the units can't be taken back from the line's text, NO_MEMORY and
-/// CLOSED change nothing.
+/// line is a report that waits. NOT_REPLAYING, where the units can't be taken back from the line's text or a cursor that was
+/// told would stand between no two characters of it, NO_MEMORY, only where there is a change, and CLOSED change nothing.
 #[unsafe(no_mangle)]
 pub extern "C" fn lodvarn_record_undo(
     alloc: Global,
@@ -77,7 +77,8 @@ fn redo(changes: &mut Changeset, held: &mut HeldLine) -> u32
 }
 
 /// Redoes in the line what was undone last: TRUE where there was a change, or FALSE. Each change of the line is a report
-/// that waits. NOT_REPLAYING, where it can't be made again in the line's text, NO_MEMORY and CLOSED change nothing.
+/// that waits. NOT_REPLAYING, where it can't be made again in the line's text or a cursor that was told would stand between
+/// no two characters of it, NO_MEMORY, only where there is a change, and CLOSED change nothing.
 #[unsafe(no_mangle)]
 pub extern "C" fn lodvarn_record_redo(
     alloc: Global,
