@@ -20,7 +20,7 @@ use Rattle.rl_session.specs.declared.session.Reply.{Reply}
 use Rattle.rl_session.specs.declared.session.Reply.TheVariants as says
 use Rattle.rl_session.proofs.Runs.RowLemmas.{Leads-split}
 use Rattle.rl_session.proofs.Sessions.CourseLemmas.{Heard-Came}
-use Rattle.rl_session.proofs.Runs.HistoryLemmas.{Holds-Leads, Holds-row, does_as, undo-row}
+use Rattle.rl_session.proofs.Runs.HistoryLemmas.{Holds-Leads, Holds-row, does_as, row_at, undo-row}
 use Rattle.rl_session.proofs.Runs.PlaceLemmas.{kept-leads}
 use Rattle.rl_base.specs.Event.{Cursors}
 
