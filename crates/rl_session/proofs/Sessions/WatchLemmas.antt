@@ -1,10 +1,9 @@
 -- What a watch keeps of a text at each event, it keeps over a command.
-use Rattle.std.proofs.Common.{◌≡◌, ◌∙◌, ℕ, ◌^◌, ◌<◌, arith, true, false, List, [], ◌∷◌, length, Option, Some, None, MatchOption, option_map, ◌≤◌, inl, inr, refl, sym, ap, subst}
+use Rattle.std.proofs.Common.{◌≡◌, ◌∙◌, ℕ, ◌^◌, ◌<◌, arith, true, false, List, [], ◌∷◌, length, Option, Some, None, option_map, ◌≤◌, inl, inr, sym, ap, subst}
 use Rattle.std.specs.Prelude.{map, option_and_then, reverse, unwrap_or}
 use Rattle.std.proofs.lemmas.Str.{IsCharBoundary-end}
 use Rattle.std.specs.Str.{IsCharBoundary, IsUtf8}
-use Rattle.rl_base.specs.Event.{Event, InsertChar, InsertStr, Delete, Replace, Start, Stop, Cursors, apply}
-use Rattle.rl_base.specs.declared.listeners.Direction.TheVariants.{Forward, Backward}
+use Rattle.rl_base.specs.Event.{Event, Replace, Start, Stop, Cursors, apply}
 use Rattle.rl_base.specs.Reports.{HasTexts, IsChange, IsLineText, LacksTexts, Noted, Queue, Stand, TellsByTexts, after_numbers, after_texts, forgotten, oldest, queue_step}
 use Rattle.rl_base.specs.Splice.{Covers, spliced}
 use Rattle.rl_base.specs.Watch.{Watched, ReportsLead, next_note, past_next, text_room, watch_step}
