@@ -551,7 +551,7 @@ uint32_t lodvarn_last_cluster(const char *text, size_t len, size_t *out_len);
 
 /* Finds where a place of a text is on a screen with that many columns. The text begins at column prompt of row 0. A
  * newline, "\n" or "\r\n", leads to the next row. A cluster that does not fit in the rest of its row goes whole to the
- * next row. A place at the right edge is column 0 of the next row, and one inside of a cluster is where the cluster
+ * next row. A place at the right edge is column 0 of the next row, and one inside a cluster is where the cluster
  * starts. A tab goes to the next column of its row that is a multiple of tab, or to the right edge where that is nearer;
  * where tab is 0, it is as wide as lodvarn_width tells. The mode is an enum lodvarn_mode. Answers DONE with the cell in
  * *row and *column. Errors: NOT_UTF8, BAD_PLACE, NO_SUCH_NUMBER also where columns is 0. */

@@ -77,7 +77,7 @@ impl Gathered {
     /// the blanks before the text is never refused.
     pub fn push_front(&mut self, part: &str) -> Result<(), Refusal>
         ensures ok { OnOk result (self.new.text ≡ part.now ++ self.old.text) }
-        ensures err { IfErr result (λ r. (r ≡ NoMemory) × (self.new.text ≡ self.old.text) × (self.old.blanks < length part.now)) }
+        ensures err { IfErr result (λ r. (r ≡ NoMemory) × (self.new ≡ self.old) × (self.old.blanks < length part.now)) }
     {
         let blanks = find_blanks(&mut self.buf, self.blanks, part.len())?;
         self.blanks = put_over_blanks(&mut self.buf, blanks, part);

@@ -66,7 +66,7 @@ fn wrapped(columns: u16, row: usize, column: usize) -> (usize, usize)
     }
 }
 
-// The row and column of a byte place of a text that begins at a column of row 0. A place inside of a cluster is where
+// The row and column of a byte place of a text that begins at a column of row 0. A place inside a cluster is where
 // the cluster starts.
 pub(crate) fn cell(screen: &Screen, prompt: u16, text: &str, place: usize) -> (usize, usize)
     ensures { result ≡ cell screen.now prompt text.now place }

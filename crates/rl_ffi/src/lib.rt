@@ -31,4 +31,5 @@ mod settings;
 mod texts;
 
 pub use cells::cells_are_found;
+pub use commands::calls_are_rows;
 pub use heard::no_event_is_lost;

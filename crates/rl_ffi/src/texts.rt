@@ -120,9 +120,9 @@ fn cell_in(
 }
 
 /// The row and the column, from 0, of a byte place of a text on a screen with `columns` columns, whose tab stops are
-/// `tab` columns apart; where that is 0, a tab is as wide as the mode says. The text begins at column `prompt` of row
-/// 0, and a place inside of a cluster is where the cluster starts: DONE, with both written. NO_SUCH_NUMBER (also where `columns` is 0), NOT_UTF8, and BAD_PLACE where the place is no
-/// boundary of a character, leave them as they were.
+/// `tab` columns apart; where that is 0, a tab is as wide as the mode says. The text begins at column `prompt` of row 0,
+/// and a place inside a cluster is where the cluster starts: DONE, with both written. NO_SUCH_NUMBER (also where
+/// `columns` is 0), NOT_UTF8, and BAD_PLACE where the place is no boundary of a character, leave them as they were.
 #[unsafe(no_mangle)]
 pub extern "C" fn lodvarn_cell(
     text: &[u8],
