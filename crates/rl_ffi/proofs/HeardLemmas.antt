@@ -1,11 +1,11 @@
 -- What the reports of a listener that keeps all lead to.
-use Rattle.std.proofs.Common.{◌≡◌, ℕ, ◌+◌, ◌-◌, ◌^◌, ◌<◌, Bool, true, false, nat_lt, List, [], ◌∷◌, ◌++◌, length, encode_utf8, slice_range, Some, if◌then◌else◌, append-nil, append_assoc, take_at, refl, sym, ap, subst, arith, ◌∙◌}
+use Rattle.std.proofs.Common.{◌≡◌, ℕ, ◌-◌, ◌^◌, ◌<◌, Bool, true, false, nat_lt, List, [], ◌∷◌, ◌++◌, length, encode_utf8, Some, if◌then◌else◌, append-nil, append_assoc, take_at, refl, sym, ap, subst, arith, ◌∙◌}
 use Rattle.std.specs.Prelude.{IfErr, OnErr, OnOk, Result, Ok, Err, is_err}
 use Rattle.rl_base.specs.declared.listeners.Direction.TheVariants.{Forward, Backward}
 use Rattle.rl_base.specs.declared.reports.ReportKind.{ReportKind}
 use Rattle.rl_base.specs.declared.reports.ReportKind.TheVariants as kind
 use Rattle.rl_base.specs.Event.{Event, InsertChar, InsertStr, Delete, Replace, Start, Stop, Cursors, apply}
-use Rattle.rl_base.specs.Reports.{IsLineText, LeadsBy, Noted, Tells, is_change, on_last, told_cursors}
+use Rattle.rl_base.specs.Reports.{IsLineText, LeadsBy, Noted, Tells, is_change, told_cursors}
 use Rattle.rl_base.proofs.Queue.LeadLemmas.{LeadsBy-push, LeadsBy-told, Tells-Swaps, Tells-mark, on_last-one}
 use Rattle.rl_base.proofs.Texts.SwapLemmas.{Swaps, Swaps-InsertChar, Swaps-InsertStr, Swaps-Delete, Swaps-Replace, apply-IsUtf8}
 use Rattle.rl_line.specs.Plan.{Step, listener_after, listener_after_step}

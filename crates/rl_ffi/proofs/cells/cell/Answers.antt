@@ -1,4 +1,4 @@
-use Rattle.std.proofs.Common.{rules, arith, ◌≡◌, ◌-◌, ℕ, length, sym, ap, ◌∙◌}
+use Rattle.std.proofs.Common.{rules, arith, ◌-◌, ℕ, length, sym, ap, ◌∙◌}
 use Rattle.unicode_segmentation.specs.Iter.{graphemes_left}
 use Rattle.rl_ffi.specs.Cells.{laid, wrapped}
 use Rattle.rl_ffi.proofs.CellLemmas.{laid-goes, laid-stops}
