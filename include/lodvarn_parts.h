@@ -25,7 +25,7 @@
  *
  * NO_MEMORY of an edit of a line: where it has several steps it stops after the steps that it made, and these are
  * reported. Of every other call: line, record and ring are as they were. BAD_PLACE, BAD_YANK_SIZE, NOT_REPLAYING and
- * the errors from CLOSED on leave everything as it was. An edit with nothing to do, and an undo or a redo of no change,
+ * the errors from CLOSED on leave everything as it was. An edit that reports nothing, and an undo or a redo of no change,
  * is never NO_MEMORY. But a kill that reports its start and its stop takes memory for these also where nothing goes.
  *
  * docs/RULES.md says exactly what each call does. */
