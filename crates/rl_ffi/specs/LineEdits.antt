@@ -1,13 +1,9 @@
 -- What the edits of a line that C holds do: each carries out a plan, of which its listener hears.
 use Rattle.std.specs.Prelude.{◌≡◌, ◌⊎◌, ℕ, Bool, true, false, Option, Some, None}
-use Rattle.rl_base.specs.Event.{Event}
 use Rattle.rl_base.specs.declared.listeners.Refusal.{Refusal}
-use Rattle.rl_base.specs.declared.motion.Movement.{Movement}
-use Rattle.rl_base.specs.declared.motion.Movement.TheVariants.{BackwardWord, BeginningOfBuffer, BeginningOfLine, EndOfBuffer, EndOfLine, ForwardWord, ViCharSearch}
 use Rattle.rl_line.specs.Kills.{Told}
 use Rattle.rl_line.specs.Line.{Line}
-use Rattle.rl_line.specs.Plan.{Done, Halted, Plan, or_no_memory}
-use Rattle.rl_session.specs.Commands.{Takes, a_copy, nothing_more, room_by_step, unbegun}
+use Rattle.rl_line.specs.Plan.{Done, Halted, Plan, Takes, refusal_of, unbegun}
 use Rattle.rl_ffi.specs.Heard.{Heard, heard_refused, heard_step, readied}
 use Rattle.rl_ffi.specs.HeldLine.{Effect, leaves}
 use Rattle.rl_ffi.specs.Numbers.{done, no_memory, none, truth_number}
@@ -22,16 +18,10 @@ inserted_number (Some at_end) = truth_number at_end
 abbrev pub done_number : Unit {0} → ℕ
 done_number _ = done
 
--- how a step of an edit is refused, by what memory the edit takes
-abbrev pub refusal_by : Takes → Heard → Event → Refusal → Heard → Type 0
-refusal_by nothing_more = heard_refused
-refusal_by room_by_step = or_no_memory heard_refused
-refusal_by a_copy = heard_refused
-
 -- memory was out: the plan was halted after its first steps, or not begun
 abbrev pub CutShort : {A : Type 0} → Takes → Plan A → HeldLine → HeldLine → Type 0
 CutShort takes plan old new =
-    ((why : Refusal) × Halted heard_step (refusal_by takes) plan old.line new.line old.heard new.heard why) ⊎ (unbegun takes plan × (new ≡ old))
+    ((why : Refusal) × Halted heard_step (refusal_of heard_refused takes) plan old.line new.line old.heard new.heard why) ⊎ (unbegun takes plan × (new ≡ old))
 
 -- a plan is carried out, and the number of its answer is answered; or memory is out
 abbrev pub edits : {A : Type 0} → Takes → (Line → Plan A) → (A → ℕ) → Effect
@@ -54,14 +44,3 @@ kills by_characters plan old n new =
     ((answer : Bool) × ToldOf by_characters (λ before now. Done heard_step (plan old.line) old.line new.line before now answer) old new × (n ≡ truth_number answer))
     ⊎ (((why : Refusal) × ToldOf by_characters (λ before now. Halted heard_step heard_refused (plan old.line) old.line new.line before now why) old new) × (n ≡ no_memory))
     ⊎ ((by_characters ≡ false) × leaves no_memory old n new)
-
--- the movements by which a line has a call that deletes and tells no kill
-abbrev pub deleting : Movement → Option Movement
-deleting BeginningOfLine = Some BeginningOfLine
-deleting EndOfLine = Some EndOfLine
-deleting (BackwardWord n word) = Some (BackwardWord n word)
-deleting (ForwardWord n at word) = Some (ForwardWord n at word)
-deleting (ViCharSearch n cs) = Some (ViCharSearch n cs)
-deleting BeginningOfBuffer = Some BeginningOfBuffer
-deleting EndOfBuffer = Some EndOfBuffer
-deleting _ = None

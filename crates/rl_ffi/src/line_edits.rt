@@ -1,12 +1,11 @@
 //! The calls that edit a line by itself. What each did is told by its reports.
-ghost use Rattle.std.specs.Prelude.{◌≡◌, Some, true, false};
+ghost use Rattle.std.specs.Prelude.{◌≡◌};
 ghost use Rattle.std.specs.Str.{IsCharBoundary};
-ghost use Rattle.rl_line.specs.Edits.{delete_range_plan, insert_plan, insert_str_plan, replace_plan, update_plan, yank_plan, yank_pop_plan};
+ghost use Rattle.rl_line.specs.Edits.{CanInsertStr, CanYankPop, delete_range_plan, insert_plan, insert_str_plan, replace_plan, update_plan, yank_plan, yank_pop_plan};
 ghost use Rattle.rl_line.specs.LineRanges.{IsRange};
-ghost use Rattle.rl_session.specs.Commands.{CanGoIn, nothing_more, room_by_step};
+ghost use Rattle.rl_line.specs.Plan.{nothing_more, room_by_step};
 ghost use Rattle.rl_ffi.specs.HeldLine.{leaves, of_named, only_where};
 ghost use Rattle.rl_ffi.specs.PartCalls.{OfText, Through};
-ghost use Rattle.rl_session.specs.Commands.{StandsYanked};
 ghost use Rattle.rl_ffi.specs.LineEdits.{done_number, edits, inserted_number};
 ghost use Rattle.rl_ffi.specs.Numbers.{bad_place, bad_yank_size, char_of, truth_number};
 
@@ -18,7 +17,6 @@ use crate::numbers::{
     truth_number,
 };
 use rl_base::RepeatCount;
-use rl_line::LineBuffer;
 use std::alloc::Global;
 
 fn inserted_number(answer: Option<bool>) -> u32
@@ -72,22 +70,13 @@ pub extern "C" fn lodvarn_line_yank(alloc: Global, l: &mut LineHandle, text: &[u
     of_part!(LineHandle, l, alloc, held => yank(&mut held, text, n), CLOSED)
 }
 
-// Whether so many bytes can stand before the cursor.
-fn stands_before(line: &LineBuffer, size: usize) -> bool
-    ensures yes { result ≡ true → StandsYanked (Some size) line.now }
-    ensures no { result ≡ false → ¬ (StandsYanked (Some size) line.now) }
-{
-    let end = line.pos();
-    size <= end && line.as_str().is_char_boundary(end - size)
-}
-
 fn yank_pop(held: &mut HeldLine, size: usize, text: &[u8]) -> u32
-    ensures { OfText text.now (only_where (StandsYanked (Some size)) bad_yank_size (edits room_by_step (λ line. yank_pop_plan line size text.now) inserted_number)) held.old result held.new }
+    ensures { OfText text.now (only_where (λ line. CanYankPop line size) bad_yank_size (edits room_by_step (λ line. yank_pop_plan line size text.now) inserted_number)) held.old result held.new }
 {
     let Ok(text) = std::str::from_utf8(text) else {
         return NOT_UTF8;
     };
-    if !stands_before(&held.line, size) {
+    if !held.line.can_yank_pop(size) {
         return BAD_YANK_SIZE;
     }
     match held.line.yank_pop(size, text, &mut held.heard) {
@@ -106,7 +95,7 @@ pub extern "C" fn lodvarn_line_yank_pop(
     size: usize,
     text: &[u8],
 ) -> u32
-    ensures { Through (OfText text.now (only_where (StandsYanked (Some size)) bad_yank_size (edits room_by_step (λ line. yank_pop_plan line size text.now) inserted_number)))
+    ensures { Through (OfText text.now (only_where (λ line. CanYankPop line size) bad_yank_size (edits room_by_step (λ line. yank_pop_plan line size text.now) inserted_number)))
         l.old.value result l.new.value }
 {
     of_part!(LineHandle, l, alloc, held => yank_pop(&mut held, size, text), CLOSED)
@@ -142,34 +131,13 @@ pub extern "C" fn lodvarn_line_update(
     of_part!(LineHandle, l, alloc, held => update(&mut held, text, pos), CLOSED)
 }
 
-// Whether a text can be inserted at a place, and the cursor stays where it is: on either side of the text, or between two
-// of its characters.
-fn can_go_in(line: &LineBuffer, idx: usize, text: &str) -> bool
-    ensures yes { result ≡ true → CanGoIn line.now idx text.now }
-    ensures no { result ≡ false → ¬ (CanGoIn line.now idx text.now) }
-{
-    let old = line.as_str();
-    let pos = line.pos();
-    if !old.is_char_boundary(idx) {
-        return false;
-    }
-    if pos <= idx {
-        return true;
-    }
-    if pos - idx <= text.len() {
-        text.is_char_boundary(pos - idx)
-    } else {
-        old.is_char_boundary(pos - text.len())
-    }
-}
-
 fn insert_str(held: &mut HeldLine, at: usize, text: &[u8]) -> u32
-    ensures { OfText text.now (only_where (λ line. CanGoIn line at text.now) bad_place (edits room_by_step (λ line. insert_str_plan line at text.now) truth_number)) held.old result held.new }
+    ensures { OfText text.now (only_where (λ line. CanInsertStr line at text.now) bad_place (edits room_by_step (λ line. insert_str_plan line at text.now) truth_number)) held.old result held.new }
 {
     let Ok(text) = std::str::from_utf8(text) else {
         return NOT_UTF8;
     };
-    if !can_go_in(&held.line, at, text) {
+    if !held.line.can_insert_str(at, text) {
         return BAD_PLACE;
     }
     match held.line.insert_str(at, text, &mut held.heard) {
@@ -188,19 +156,10 @@ pub extern "C" fn lodvarn_line_insert_str(
     at: usize,
     text: &[u8],
 ) -> u32
-    ensures { Through (OfText text.now (only_where (λ line. CanGoIn line at text.now) bad_place (edits room_by_step (λ line. insert_str_plan line at text.now) truth_number)))
+    ensures { Through (OfText text.now (only_where (λ line. CanInsertStr line at text.now) bad_place (edits room_by_step (λ line. insert_str_plan line at text.now) truth_number)))
         l.old.value result l.new.value }
 {
     of_part!(LineHandle, l, alloc, held => insert_str(&mut held, at, text), CLOSED)
-}
-
-// Whether these are the ends of a range of the text.
-pub(crate) fn is_range(line: &LineBuffer, from: usize, to: usize) -> bool
-    ensures yes { result ≡ true → IsRange line.now.text from to }
-    ensures no { result ≡ false → ¬ (IsRange line.now.text from to) }
-{
-    let text = line.as_str();
-    from <= to && text.is_char_boundary(from) && text.is_char_boundary(to)
 }
 
 fn replace(held: &mut HeldLine, from: usize, to: usize, text: &[u8]) -> u32
@@ -209,7 +168,7 @@ fn replace(held: &mut HeldLine, from: usize, to: usize, text: &[u8]) -> u32
     let Ok(text) = std::str::from_utf8(text) else {
         return NOT_UTF8;
     };
-    if !is_range(&held.line, from, to) {
+    if !held.line.is_range(from, to) {
         return BAD_PLACE;
     }
     match held.line.replace(from..to, text, &mut held.heard) {
@@ -237,7 +196,7 @@ pub extern "C" fn lodvarn_line_replace(
 fn delete_range(held: &mut HeldLine, from: usize, to: usize) -> u32
     ensures { only_where (λ line. IsRange line.text from to) bad_place (edits nothing_more (λ line. delete_range_plan line from to) done_number) held.old result held.new }
 {
-    if !is_range(&held.line, from, to) {
+    if !held.line.is_range(from, to) {
         return BAD_PLACE;
     }
     match held.line.delete_range(from..to, &mut held.heard) {

@@ -1,23 +1,23 @@
 //! The calls that delete from a line by itself, and kill in it.
 ghost use Rattle.std.specs.Prelude.{◌≡◌, false, OnOk, OnErr};
 ghost use Rattle.rl_base.specs.declared.motion.Movement.{Movement};
-ghost use Rattle.rl_line.specs.Kills.{is_by_characters, kill_plan, kill_range_plan};
+ghost use Rattle.rl_line.specs.Kills.{CanDeleteBy, is_by_characters, kill_plan, kill_range_plan};
 ghost use Rattle.rl_line.specs.LineRanges.{IsRange};
-ghost use Rattle.rl_session.specs.Commands.{nothing_more};
+ghost use Rattle.rl_line.specs.Plan.{nothing_more};
 ghost use Rattle.rl_ffi.specs.HeldLine.{of_named, only_where};
 ghost use Rattle.rl_ffi.specs.PartCalls.{Through};
-ghost use Rattle.rl_ffi.specs.LineEdits.{before_kill, deleting, edits, kills};
-ghost use Rattle.rl_ffi.specs.Numbers.{bad_place, direction_of, movement_of, truth_number};
+ghost use Rattle.rl_ffi.specs.LineEdits.{before_kill, edits, kills};
+ghost use Rattle.rl_ffi.specs.Numbers.{bad_place, direction_of, movement_of, no_such_number, truth_number};
 
 use crate::handle::of_part;
 use crate::heard::Heard;
 use crate::held_line::HeldLine;
-use crate::line_edits::is_range;
 use crate::line_handle::LineHandle;
 use crate::numbers::{
     BAD_PLACE, CLOSED, NO_MEMORY, NO_SUCH_NUMBER, direction_of, movement_of, truth_number,
 };
 use rl_base::{Direction, Movement, Refusal, RepeatCount};
+use rl_line::can_delete_by;
 use std::alloc::Global;
 
 fn delete(held: &mut HeldLine, n: RepeatCount) -> u32
@@ -56,23 +56,16 @@ pub extern "C" fn lodvarn_line_backspace(alloc: Global, l: &mut LineHandle, n: u
     of_part!(LineHandle, l, alloc, held => backspace(&mut held, n), CLOSED)
 }
 
-// What deletes by a movement, for those for which the line has a call that does and tells no kill.
-fn delete_by(held: &mut HeldLine, movement: &Movement) -> u32
-    ensures { of_named (deleting movement.now) (λ by. edits nothing_more (λ line. kill_plan line by) truth_number) held.old result held.new }
+fn delete_by(held: &mut HeldLine, movement: Option<Movement>) -> u32
+    ensures { of_named movement (λ m. only_where (λ _. CanDeleteBy m) no_such_number (edits nothing_more (λ line. kill_plan line m) truth_number)) held.old result held.new }
 {
-    let outcome = match movement {
-        Movement::BeginningOfLine => held.line.discard_line(&mut held.heard),
-        Movement::EndOfLine => held.line.kill_line(&mut held.heard),
-        Movement::BackwardWord(n, word) => held.line.delete_prev_word(*word, *n, &mut held.heard),
-        Movement::ForwardWord(n, at, word) => held
-            .line
-            .delete_word(*at, *word, *n, &mut held.heard),
-        Movement::ViCharSearch(n, cs) => held.line.delete_to(*cs, *n, &mut held.heard),
-        Movement::BeginningOfBuffer => held.line.discard_buffer(&mut held.heard),
-        Movement::EndOfBuffer => held.line.kill_buffer(&mut held.heard),
-        _ => return NO_SUCH_NUMBER,
+    let Some(movement) = movement else {
+        return NO_SUCH_NUMBER;
     };
-    match outcome {
+    if !can_delete_by(&movement) {
+        return NO_SUCH_NUMBER;
+    }
+    match held.line.delete_by(&movement, &mut held.heard) {
         Ok(answer) => truth_number(answer),
         Err(_) => NO_MEMORY,
     }
@@ -89,12 +82,10 @@ pub extern "C" fn lodvarn_line_delete_by(
     n: u16,
     c: u32,
 ) -> u32
-    ensures { Through (of_named (movement_of movement n c) (λ m. of_named (deleting m) (λ by. edits nothing_more (λ line. kill_plan line by) truth_number))) l.old.value result l.new.value }
+    ensures { Through (of_named (movement_of movement n c) (λ m. only_where (λ _. CanDeleteBy m) no_such_number (edits nothing_more (λ line. kill_plan line m) truth_number))) l.old.value result l.new.value }
 {
-    of_part!(LineHandle, l, alloc, held => match movement_of(movement, n, c) {
-        Some(movement) => delete_by(&mut held, &movement),
-        None => NO_SUCH_NUMBER,
-    }, CLOSED)
+    let by = movement_of(movement, n, c);
+    of_part!(LineHandle, l, alloc, held => delete_by(&mut held, by), CLOSED)
 }
 
 fn is_by_characters(movement: &Movement) -> bool
@@ -158,7 +149,7 @@ pub extern "C" fn lodvarn_line_kill(
 fn kill_range(held: &mut HeldLine, from: usize, to: usize, dir: Direction) -> u32
     ensures { only_where (λ line. IsRange line.text from to) bad_place (kills false (λ line. kill_range_plan line from to dir)) held.old result held.new }
 {
-    if !is_range(&held.line, from, to) {
+    if !held.line.is_range(from, to) {
         return BAD_PLACE;
     }
     if ready(&mut held.heard, false).is_err() {

@@ -3,7 +3,7 @@ ghost use Rattle.std.specs.Prelude.{◌≡◌};
 ghost use Rattle.rl_line.specs.Indents.{indent_plan};
 ghost use Rattle.rl_line.specs.LetterCase.{edit_word_plan};
 ghost use Rattle.rl_line.specs.Transpositions.{transpose_chars_plan, transpose_words_plan};
-ghost use Rattle.rl_session.specs.Commands.{a_copy, room_by_step};
+ghost use Rattle.rl_line.specs.Plan.{a_copy, room_by_step};
 ghost use Rattle.rl_ffi.specs.HeldLine.{of_named};
 ghost use Rattle.rl_ffi.specs.PartCalls.{Through};
 ghost use Rattle.rl_ffi.specs.LineEdits.{edits};

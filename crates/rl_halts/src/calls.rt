@@ -1,8 +1,4 @@
 //! How an edit of a table is made.
-ghost use Rattle.std.specs.Prelude.{◌≡◌, ◌≤◌, true};
-ghost use Rattle.std.specs.Str.{IsCharBoundary};
-ghost use Rattle.std.specs.List.{insert_slice};
-
 use crate::cases::{Case, Deletion, Edit};
 use rl_base::testing::RefuseAt;
 use rl_base::{Direction, Refusal, RepeatCount};
@@ -15,36 +11,6 @@ pub(crate) enum Answer {
     Flag(bool),
     Inserted(Option<bool>),
     Text(Option<String>),
-}
-
-/// Whether a text can be inserted at a place of the line, so that the cursor stays at a boundary.
-pub(crate) fn can_go_in(line: &LineBuffer, idx: usize, text: &str) -> bool
-    ensures place { result ≡ true → IsCharBoundary line.now.text idx }
-    ensures stays { result ≡ true → IsCharBoundary (insert_slice line.now.text idx text.now) line.now.cursor }
-{
-    let old = line.as_str();
-    let pos = line.pos();
-    if !old.is_char_boundary(idx) {
-        return false;
-    }
-    if pos <= idx {
-        return true;
-    }
-    if pos - idx <= text.len() {
-        text.is_char_boundary(pos - idx)
-    } else {
-        old.is_char_boundary(pos - text.len())
-    }
-}
-
-/// Whether the two places are one of the line's ranges.
-fn is_range(line: &LineBuffer, from: usize, to: usize) -> bool
-    ensures start { result ≡ true → IsCharBoundary line.now.text from }
-    ensures end { result ≡ true → IsCharBoundary line.now.text to }
-    ensures order { result ≡ true → from ≤ to }
-{
-    let text = line.as_str();
-    from <= to && text.is_char_boundary(from) && text.is_char_boundary(to)
 }
 
 // Makes the deletion.
@@ -74,7 +40,7 @@ fn insert_str(
     text: &str,
     heard: &mut RefuseAt,
 ) -> Result<Option<Answer>, Refusal> {
-    if !can_go_in(line, idx, text) {
+    if !line.can_insert_str(idx, text) {
         return Ok(None);
     }
     let at_end = line.insert_str(idx, text, heard)?;
@@ -88,8 +54,7 @@ fn yank_pop(
     text: &str,
     heard: &mut RefuseAt,
 ) -> Result<Option<Answer>, Refusal> {
-    let at = line.pos();
-    if size > at || !line.as_str().is_char_boundary(at - size) {
+    if !line.can_yank_pop(size) {
         return Ok(None);
     }
     let inserted = line.yank_pop(size, text, heard)?;
@@ -118,7 +83,7 @@ fn replace(
     text: Option<&str>,
     heard: &mut RefuseAt,
 ) -> Result<Option<Answer>, Refusal> {
-    if !is_range(line, from, to) {
+    if !line.is_range(from, to) {
         return Ok(None);
     }
     match text {
@@ -136,7 +101,7 @@ fn kill_range(
     dir: Direction,
     heard: &mut RefuseAt,
 ) -> Result<Option<Answer>, Refusal> {
-    if !is_range(line, from, to) {
+    if !line.is_range(from, to) {
         return Ok(None);
     }
     Ok(Some(Answer::Flag(line.kill_range(from..to, dir, heard)?)))

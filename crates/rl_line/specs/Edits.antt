@@ -1,6 +1,7 @@
 -- The plans of the edits that put a text in, or take a given range out.
-use Rattle.std.specs.Prelude.{ℕ, ◌+◌, ◌-◌, ◌*◌, Bool, not, ◌==◌, ◌&&◌, ◌||◌, nat_lt, List, length, take, slice_range, min, encode_utf8, Option, Some, None, if◌then◌else◌}
-use Rattle.std.specs.List.{repeat, remove_range}
+use Rattle.std.specs.Prelude.{ℕ, ◌+◌, ◌-◌, ◌*◌, ◌≤◌, Bool, not, ◌==◌, ◌&&◌, ◌||◌, nat_lt, List, length, take, slice_range, min, encode_utf8, Option, Some, None, if◌then◌else◌}
+use Rattle.std.specs.List.{repeat, insert_slice, remove_range}
+use Rattle.std.specs.Str.{IsCharBoundary}
 use Rattle.std.specs.declared.ops.Range.{Range}
 use Rattle.rl_base.specs.Event.{Event, InsertChar, InsertStr, Delete, Replace}
 use Rattle.rl_base.specs.Text.{greatest_boundary}
@@ -25,6 +26,10 @@ insert_plan line c n =
     then nothing line None
     else single (insert_event line.cursor c n) (line.cursor + more) (Some (line.cursor == length line.text))
 
+-- s can go in at i, and the cursor stays at its place: both stand between two characters, the cursor also once s is in
+abbrev pub CanInsertStr : Line → ℕ → List ℕ → Type 0
+CanInsertStr line i s = IsCharBoundary line.text i × IsCharBoundary (insert_slice line.text i s) line.cursor
+
 -- s goes in at i, and the cursor stays at its place. The answer: was i the end?
 abbrev pub insert_str_plan : Line → ℕ → List ℕ → Plan Bool
 insert_str_plan line i s = single (InsertStr i s) line.cursor (i == length line.text)
@@ -40,6 +45,10 @@ yank_plan line s n =
     if (length s == 0) || too_long line (length line.text + more)
     then nothing line None
     else single (InsertStr line.cursor (repeat n s)) (line.cursor + more) (Some (line.cursor == length line.text))
+
+-- z bytes can have been yanked last: as many stand before the cursor, and they begin between two characters
+abbrev pub CanYankPop : Line → ℕ → Type 0
+CanYankPop line z = (z ≤ line.cursor) × IsCharBoundary line.text (line.cursor - z)
 
 -- the z bytes before the cursor go, and then s is yanked
 abbrev pub yank_pop_plan : Line → ℕ → List ℕ → Plan (Option Bool)

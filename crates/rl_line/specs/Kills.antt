@@ -8,7 +8,7 @@ use Rattle.rl_base.specs.declared.listeners.Direction.TheVariants.{Forward, Back
 use Rattle.rl_base.specs.declared.motion.CharSearch.{CharSearch}
 use Rattle.rl_base.specs.declared.motion.CharSearch.TheVariants as to
 use Rattle.rl_base.specs.declared.motion.Movement.{Movement}
-use Rattle.rl_base.specs.declared.motion.Movement.TheVariants.{WholeLine, BeginningOfLine, EndOfLine, BackwardWord, ViCharSearch, ViFirstPrint, FirstNonBlank, BackwardChar, ForwardChar, BeginningOfBuffer}
+use Rattle.rl_base.specs.declared.motion.Movement.TheVariants.{WholeLine, BeginningOfLine, EndOfLine, BackwardWord, ForwardWord, ViCharSearch, ViFirstPrint, FirstNonBlank, BackwardChar, ForwardChar, BeginningOfBuffer, EndOfBuffer}
 use Rattle.rl_line.specs.Line.{Line}
 use Rattle.rl_line.specs.LineMotions.{first_nonblank}
 use Rattle.rl_line.specs.Plan.{Plan, nothing, single, answering}
@@ -53,6 +53,17 @@ removal line (Some r) side = single (Delete r.start (text_in line r) side) r.sta
 -- what a movement kills goes
 abbrev pub kill_plan : Line → Movement → Plan Bool
 kill_plan line mvt = removal line (killed line mvt) (side_of line mvt)
+
+-- the movements to one side of the cursor by which an editor deletes and tells no kill
+abbrev pub CanDeleteBy : Movement → Type 0
+CanDeleteBy BeginningOfLine = Unit {0}
+CanDeleteBy EndOfLine = Unit {0}
+CanDeleteBy (BackwardWord _ _) = Unit {0}
+CanDeleteBy (ForwardWord _ _ _) = Unit {0}
+CanDeleteBy (ViCharSearch _ _) = Unit {0}
+CanDeleteBy BeginningOfBuffer = Unit {0}
+CanDeleteBy EndOfBuffer = Unit {0}
+CanDeleteBy _ = ⊥
 
 -- what stands between two places goes
 abbrev pub kill_range_plan : Line → ℕ → ℕ → Direction → Plan Bool

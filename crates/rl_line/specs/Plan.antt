@@ -54,6 +54,19 @@ Grows _ = ⊥
 abbrev pub or_no_memory : {L : Type 0} → (L → Event → Refusal → L → Type 0) → L → Event → Refusal → L → Type 0
 or_no_memory refused before event r now = ((r ≡ NoMemory) × (now ≡ before) × Grows event) ⊎ refused before event r now
 
+-- what memory an edit takes besides its listener: none; at each step the room that the step needs; or, before its first step,
+-- the room for a copy of what it moves or hands out
+pub data Takes : Type 0 where
+  nothing_more : Takes
+  room_by_step : Takes
+  a_copy : Takes
+
+-- how the steps of an edit may be refused, with the refusals of its listener
+abbrev pub refusal_of : {L : Type 0} → (L → Event → Refusal → L → Type 0) → Takes → L → Event → Refusal → L → Type 0
+refusal_of refused nothing_more = refused
+refusal_of refused room_by_step = or_no_memory refused
+refusal_of refused a_copy = refused
+
 -- a listener that refuses nothing
 abbrev pub NeverRefuses : {L : Type 0} → (L → Event → Refusal → L → Type 0) → Type 0
 NeverRefuses {L} refused = (before : L) (event : Event) (r : Refusal) (now : L) → refused before event r now → ⊥
@@ -70,6 +83,11 @@ bytes_told _ = 0
 abbrev pub bytes_of : List Step → ℕ
 bytes_of [] = 0
 bytes_of (s ∷ ss) = bytes_told s.0 + bytes_of ss
+
+-- where an edit may not have begun: there is something of which it makes a copy
+abbrev pub unbegun : {A : Type 0} → Takes → Plan A → Type 0
+unbegun a_copy plan = 0 < bytes_of plan.steps
+unbegun _ plan = ⊥
 
 -- the plan was not begun, since memory was out for copying what its steps move, or for their room; they tell at least a byte
 abbrev pub Uncopied : {L A : Type 0} → Plan A → Line → Line → L → L → Refusal → Type 0

@@ -1,6 +1,5 @@
 -- What each command does.
-use Rattle.std.specs.Prelude.{◌≡◌, ℕ, ◌-◌, ◌<◌, ◌≤◌, min, Bool, true, false, not, length, List, [], Any, Option, Some, None, ◌⊎◌, if◌then◌else◌}
-use Rattle.std.specs.List.{insert_slice}
+use Rattle.std.specs.Prelude.{◌≡◌, ℕ, ◌<◌, min, Bool, true, false, not, length, List, [], Any, Option, Some, None, ◌⊎◌, if◌then◌else◌}
 use Rattle.std.specs.Option.{option_map}
 use Rattle.std.specs.String.{string_bytes}
 use Rattle.std.specs.Str.{IsCharBoundary}
@@ -8,18 +7,16 @@ use Rattle.rl_base.specs.declared.kill_ring.Mode.TheVariants.{Append}
 use Rattle.rl_base.specs.declared.listeners.Refusal.TheVariants as why
 use Rattle.rl_base.specs.KillRing.{reset, yank, yanked, yank_size, yank_pop, yank_popped, Enlarges, killed}
 use Rattle.rl_base.specs.Lines.{line_number}
-use Rattle.rl_base.specs.Event.{Event}
 use Rattle.rl_base.specs.Text.{HasText}
 use Rattle.rl_base.specs.Watch.{watch_step}
-use Rattle.rl_base.specs.declared.listeners.Refusal.{Refusal}
 use Rattle.rl_base.specs.declared.motion.Movement.{Movement}
 use Rattle.rl_base.specs.declared.motion.Movement.TheVariants.{BeginningOfLine, EndOfLine, BackwardWord, ForwardWord, ViCharSearch, BackwardChar, BeginningOfBuffer, EndOfBuffer}
 use Rattle.rl_line.specs.LineRanges.{IsRange}
 use Rattle.rl_line.specs.Line.{Line, NeedsRoom}
 use Rattle.rl_line.specs.LineMotions.{columns_before}
 use Rattle.rl_line.specs.Motions.{Moved, destination as destination_in}
-use Rattle.rl_line.specs.Plan.{Step as PlanStep, Plan, nothing, Done, Halted, or_no_memory, bytes_of, listener_after}
-use Rattle.rl_line.specs.Edits.{insert_plan, insert_str_plan, yank_plan, yank_pop_plan, update_plan, replace_plan, delete_range_plan}
+use Rattle.rl_line.specs.Plan.{Step as PlanStep, Plan, nothing, Done, Halted, Takes, nothing_more, room_by_step, a_copy, refusal_of, unbegun, listener_after}
+use Rattle.rl_line.specs.Edits.{CanInsertStr, CanYankPop, insert_plan, insert_str_plan, yank_plan, yank_pop_plan, update_plan, replace_plan, delete_range_plan}
 use Rattle.rl_line.specs.Indents.{indent_plan}
 use Rattle.rl_line.specs.Kills.{copied, delete_plan, kill_plan, kill_range_plan, is_by_characters, Told}
 use Rattle.rl_line.specs.LetterCase.{edit_word_plan}
@@ -29,7 +26,6 @@ use Rattle.rl_line.specs.Undo.{CopiesBack, Undone, Redone, steps_ahead, steps_ba
 use Rattle.rl_line.specs.Units.{adds_end, begun, ended, last_of, level, redo_of, truncated, ended_one}
 use Rattle.rl_session.specs.Options.{layout_of}
 use Rattle.rl_session.specs.Pair.{pair_step, pair_refused}
-use Rattle.rl_session.specs.declared.pair.Pair.{Pair}
 use Rattle.rl_session.specs.declared.session.Command.{Command}
 use Rattle.rl_session.specs.declared.session.Command.TheVariants.{SetPos, Move, Insert, Paste, Yank, YankPop, Update, InsertStr, Replace, DeleteRange, Delete, Backspace, KillLine, KillBuffer, DiscardLine, DiscardBuffer, DeletePrevWord, DeleteWord, DeleteTo, TransposeChars, TransposeWords, EditWord, Kill, Copy, Indent, Begin, End, EndOne, Undo, Redo, Truncate, LinePlace, KillRange, Keep}
 use Rattle.rl_session.specs.declared.session.Fault.TheVariants.{NoMemory, BadPlace, BadYankSize, NotReplaying}
@@ -50,28 +46,10 @@ pub record Edited {A : Type 0} (plan : Plan A) (old new : State) (answer : A) : 
   pub done : Done pair_step plan old.line new.line old.pair new.pair answer
   pub options : new.options ≡ old.options
 
--- what memory an edit takes besides its listener: none; at each step the room that the step needs; or, before its first step,
--- the room for a copy of what it moves or hands out
-pub data Takes : Type 0 where
-  nothing_more : Takes
-  room_by_step : Takes
-  a_copy : Takes
-
--- how the steps of an edit may be refused
-abbrev pub refusal_of : Takes → Pair → Event → Refusal → Pair → Type 0
-refusal_of nothing_more = pair_refused
-refusal_of room_by_step = or_no_memory pair_refused
-refusal_of a_copy = pair_refused
-
 -- an edit was refused, since memory is out, after its first steps
 pub record CutShort {A : Type 0} (takes : Takes) (plan : Plan A) (old new : State) : Type 0 where
-  pub halted : Halted pair_step (refusal_of takes) plan old.line new.line old.pair new.pair why.NoMemory
+  pub halted : Halted pair_step (refusal_of pair_refused takes) plan old.line new.line old.pair new.pair why.NoMemory
   pub options : new.options ≡ old.options
-
--- where it may not have begun: there is something of which it makes a copy
-abbrev pub unbegun : {A : Type 0} → Takes → Plan A → Type 0
-unbegun a_copy plan = 0 < bytes_of plan.steps
-unbegun _ plan = ⊥
 
 -- a text that the ring lent is inserted n times, if it lent one
 abbrev pub lent_plan : Line → Option (List ℕ) → ℕ → Plan (Option Bool)
@@ -83,10 +61,10 @@ abbrev pub popped_plan : Line → Option (ℕ × List ℕ) → Plan (Option Bool
 popped_plan line None = nothing line None
 popped_plan line (Some p) = yank_pop_plan line p.0 p.1
 
--- the given number of bytes, if one is given, stands before the cursor, and begins at a boundary
+-- the given number of bytes, if one is given, can have been yanked last
 abbrev pub StandsYanked : Option ℕ → Line → Type 0
 StandsYanked None line = Unit {0}
-StandsYanked (Some size) line = (size ≤ line.cursor) × IsCharBoundary line.text (line.cursor - size)
+StandsYanked (Some size) line = CanYankPop line size
 
 -- the ring lent a text: that text is now current, and its length is kept
 abbrev pub lent : State → State
@@ -95,10 +73,6 @@ lent s = with_ring (yanked s.pair.ring) s
 -- the same with the text before it in the ring
 abbrev pub popped : State → State
 popped s = with_ring (yank_popped s.pair.ring) s
-
--- a text can be inserted at a place, and the cursor stays where it is
-abbrev pub CanGoIn : Line → ℕ → List ℕ → Type 0
-CanGoIn line i s = IsCharBoundary line.text i × IsCharBoundary (insert_slice line.text i s) line.cursor
 
 -- nothing but the line, the record and the watch changed
 abbrev pub KeepsRing : State → State → Type 0
@@ -193,7 +167,7 @@ abbrev pub asked : Line → Command → Asked
 asked line (Insert c n) = edit room_by_step (Unit {0}) (insert_plan line c n) inserts
 asked line (Paste s n) = edit room_by_step (Unit {0}) (yank_plan line (string_bytes s) n) inserts
 asked line (Update s q) = edit room_by_step (IsCharBoundary (string_bytes s) q) (update_plan line (string_bytes s) q) is_done
-asked line (InsertStr i s) = edit room_by_step (CanGoIn line i (string_bytes s)) (insert_str_plan line i (string_bytes s)) answers
+asked line (InsertStr i s) = edit room_by_step (CanInsertStr line i (string_bytes s)) (insert_str_plan line i (string_bytes s)) answers
 asked line (Replace i j s) = edit room_by_step (IsRange line.text i j) (replace_plan line i j (string_bytes s)) is_done
 asked line (DeleteRange i j) = edit nothing_more (IsRange line.text i j) (delete_range_plan line i j) is_done
 asked line (Delete n) = edit a_copy (Unit {0}) (delete_plan line n) hands_out

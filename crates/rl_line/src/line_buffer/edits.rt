@@ -1,10 +1,10 @@
 //! The edits that put a text in, or take a given range out, each generic over the listener that it tells.
-ghost use Rattle.std.specs.Prelude.{◌≡◌, ◌+◌, ◌*◌, ◌-◌, ◌<◌, ◌≤◌, ◌∷◌, [], length, encode_utf8, IfOk, IfErr, OnOk, OnErr};
+ghost use Rattle.std.specs.Prelude.{◌≡◌, ◌+◌, ◌*◌, ◌-◌, ◌<◌, ◌≤◌, ◌∷◌, [], length, encode_utf8, true, false, IfOk, IfErr, OnOk, OnErr};
 ghost use Rattle.std.specs.Str.{IsCharBoundary};
 ghost use Rattle.std.specs.List.{insert_slice, remove_range, replace_range, repeat};
 ghost use Rattle.rl_base.specs.Event.{InsertStr};
 ghost use Rattle.rl_line.specs.Plan.{Taken, Done, Halted, Stopped, or_no_memory};
-ghost use Rattle.rl_line.specs.Edits.{too_long, insert_event, insert_plan, insert_str_plan, yank_plan, yank_pop_plan, exchange_plan, cut_to_limit, update_plan, replace_plan, delete_range_plan};
+ghost use Rattle.rl_line.specs.Edits.{CanInsertStr, CanYankPop, too_long, insert_event, insert_plan, insert_str_plan, yank_plan, yank_pop_plan, exchange_plan, cut_to_limit, update_plan, replace_plan, delete_range_plan};
 ghost use Rattle.rl_line.specs.LineRanges.{IsRange};
 
 use crate::line_buffer::LineBuffer;
@@ -162,6 +162,16 @@ impl LineBuffer {
         Ok(Some(at_end))
     }
 
+    /// Whether `size` bytes can have been yanked last: as many stand before the cursor, and they begin between two
+    /// characters, or at the text's start. `yank_pop` asks for it.
+    pub fn can_yank_pop(&self, size: usize) -> bool
+        ensures yes { result ≡ true → CanYankPop self.now size }
+        ensures no { result ≡ false → ¬ (CanYankPop self.now size) }
+    {
+        let end = self.pos();
+        size <= end && self.as_str().is_char_boundary(end - size)
+    }
+
     /// Takes out the `yank_size` bytes before the cursor, which were yanked last, and inserts another text
     /// there (GNU readline: yank-pop). Answers whether the cursor was at the end then, or None where there is
     /// nothing to insert or the text would get too long. Refused, it leaves the line as it was, or with the
@@ -252,6 +262,16 @@ impl LineBuffer {
         &text[..text.floor_char_boundary(self.limit)]
     }
 
+    /// Whether two byte places are in order, and each stands between two characters or at an end of the text. What takes
+    /// a range asks for it.
+    pub fn is_range(&self, from: usize, to: usize) -> bool
+        ensures yes { result ≡ true → IsRange self.now.text from to }
+        ensures no { result ≡ false → ¬ (IsRange self.now.text from to) }
+    {
+        let text = self.as_str();
+        from <= to && text.is_char_boundary(from) && text.is_char_boundary(to)
+    }
+
     /// Replaces a range by a text, and moves the cursor past it. Refused, it leaves the line as it was.
     pub fn replace<L: ChangeListener>(
         &mut self,
@@ -266,6 +286,27 @@ impl LineBuffer {
         ensures halted { IfErr result (λ r. Halted L.step (or_no_memory L.refused) (replace_plan self.old range.start range.end text.now) self.old self.new listener.old listener.new r) }
     {
         self.put_instead(range, text, listener)
+    }
+
+    /// Whether a text can be inserted at a byte place, and the cursor stays where it is: on either side of the text, or
+    /// between two of its characters. `insert_str` asks for it.
+    pub fn can_insert_str(&self, idx: usize, text: &str) -> bool
+        ensures yes { result ≡ true → CanInsertStr self.now idx text.now }
+        ensures no { result ≡ false → ¬ (CanInsertStr self.now idx text.now) }
+    {
+        let old = self.as_str();
+        let pos = self.pos();
+        if !old.is_char_boundary(idx) {
+            return false;
+        }
+        if pos <= idx {
+            return true;
+        }
+        if pos - idx <= text.len() {
+            text.is_char_boundary(pos - idx)
+        } else {
+            old.is_char_boundary(pos - text.len())
+        }
     }
 
     /// Inserts a text at a byte place, and leaves the cursor at its own. Answers whether the place was the

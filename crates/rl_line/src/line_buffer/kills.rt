@@ -9,7 +9,7 @@ ghost use Rattle.rl_base.specs.declared.motion.Movement.{Movement};
 ghost use Rattle.rl_base.specs.declared.motion.Movement.TheVariants.{BeginningOfLine, EndOfLine, BackwardWord, ForwardWord, ViCharSearch, BackwardChar, BeginningOfBuffer, EndOfBuffer};
 ghost use Rattle.rl_line.specs.Line.{Line};
 ghost use Rattle.rl_line.specs.Plan.{Done, Halted, Stopped};
-ghost use Rattle.rl_line.specs.Kills.{Told, copied, delete_plan, is_by_characters, is_exact, kill_plan, kill_range_plan, removal, side_of, side_of_place};
+ghost use Rattle.rl_line.specs.Kills.{CanDeleteBy, Told, copied, delete_plan, is_by_characters, is_exact, kill_plan, kill_range_plan, removal, side_of, side_of_place};
 ghost use Rattle.rl_line.specs.Ranges.{text_in};
 ghost use Rattle.rl_line.specs.LineRanges.{IsRange};
 
@@ -133,8 +133,9 @@ impl LineBuffer {
         answer
     }
 
-    // Deletes what a movement kills, if anything. Answers whether there was something.
-    fn delete_by<L: DeleteListener>(
+    /// Deletes what a kill by the movement would take, and tells no kill. Answers whether there was something. It takes no
+    /// memory; where its listener refuses, the line stays as it was.
+    pub fn delete_by<L: DeleteListener>(
         &mut self,
         mvt: &Movement,
         listener: &mut L,
@@ -282,6 +283,23 @@ impl LineBuffer {
     {
         self.delete_by(&Movement::ViCharSearch(n, cs), listener)
     }
+}
+
+/// Whether the movement is one to one side of the cursor by which an editor deletes and tells no kill.
+pub fn can_delete_by(mvt: &Movement) -> bool
+    ensures yes { result ≡ true → CanDeleteBy mvt.now }
+    ensures no { result ≡ false → ¬ (CanDeleteBy mvt.now) }
+{
+    matches!(
+        mvt,
+        Movement::BeginningOfLine
+            | Movement::EndOfLine
+            | Movement::BackwardWord(_, _)
+            | Movement::ForwardWord(_, _, _)
+            | Movement::ViCharSearch(_, _)
+            | Movement::BeginningOfBuffer
+            | Movement::EndOfBuffer
+    )
 }
 
 fn is_by_characters(mvt: &Movement) -> bool

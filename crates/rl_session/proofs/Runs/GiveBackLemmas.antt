@@ -16,7 +16,7 @@ use Rattle.rl_base.specs.declared.motion.WordAction.{WordAction}
 use Rattle.rl_line.specs.Kills.{is_by_characters, kill_plan, kill_range_plan, removal, side_of}
 use Rattle.rl_line.specs.LetterCase.{respell, respelled, word_ahead}
 use Rattle.rl_line.specs.Line.{Line}
-use Rattle.rl_line.specs.Plan.{Step as PlanStep, Plan, single, listener_after, listener_after_step, Done}
+use Rattle.rl_line.specs.Plan.{Step as PlanStep, Plan, single, listener_after, listener_after_step, Done, Takes}
 use Rattle.rl_line.specs.Ranges.{killed, text_in, unless_empty}
 use Rattle.rl_line.specs.Record.{Entry, Begin, End, Changed, Record, cursors_of, entries_after, entries_of, entries_told, event_of, inverse, record_step}
 use Rattle.rl_line.specs.Undo.{cursor_after, cursor_told, line_after, line_ahead, line_back, place_after, Redone, Undone}
@@ -34,7 +34,7 @@ use Rattle.rl_base.proofs.Clusters.PieceLemmas.{clusters-some, places-before_end
 use Rattle.rl_session.proofs.Sessions.QuietLemmas.{IsUtf8-word_ahead, Settles, Settles-delete, Settles-indent, Settles-insert, Settles-insert_str, Settles-nothing, Settles-replace, Settles-transpose_chars, Settles-transpose_words, Settles-update, Settles-yank, Settles-yank_pop, empty-deleted, empty-inserted, never-char, never-replaced}
 use Rattle.rl_session.proofs.Runs.RowLemmas.{Leads-split}
 use Rattle.rl_session.proofs.Sessions.SessionLemmas.{past_telling}
-use Rattle.rl_session.specs.Commands.{Takes, Asked, Telling, told_as, edits, tells, Came, edit_course, other_course, course_of, Does, Edited, asked, edit, other, answers, inserts, hands_out, is_done, lent, lent_plan, popped, popped_plan, readied}
+use Rattle.rl_session.specs.Commands.{Asked, Telling, told_as, edits, tells, Came, edit_course, other_course, course_of, Does, Edited, asked, edit, other, answers, inserts, hands_out, is_done, lent, lent_plan, popped, popped_plan, readied}
 use Rattle.rl_session.specs.declared.session.Command.{Command}
 use Rattle.rl_session.specs.declared.session.Command.TheVariants as asks
 use Rattle.rl_session.specs.declared.session.Reply.{Reply}

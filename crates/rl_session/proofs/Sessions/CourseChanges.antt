@@ -4,10 +4,10 @@ use Rattle.std.specs.String.{string_bytes}
 use Rattle.rl_base.specs.declared.motion.Movement.TheVariants.{BackwardChar, EndOfLine, EndOfBuffer, BeginningOfLine, BeginningOfBuffer, BackwardWord, ForwardWord, ForwardChar, ViCharSearch}
 use Rattle.rl_base.specs.KillRing.{yank, yank_pop}
 use Rattle.rl_line.specs.Line.{Line}
-use Rattle.rl_line.specs.Plan.{Plan}
+use Rattle.rl_line.specs.Plan.{Plan, Takes}
 use Rattle.rl_line.specs.Ranges.{unless_empty}
 use Rattle.rl_line.proofs.Plans.HearingLemmas.{AreChanges}
-use Rattle.rl_session.specs.Commands.{Asked, edit, other, asked, Course, when, edits, stops, lends, pops, tells, Effect, by_steps, Takes, Telling, answers, inserts, hands_out, is_done, course_of, edit_course, effect, lent_plan, popped_plan, other_course, told_as}
+use Rattle.rl_session.specs.Commands.{Asked, edit, other, asked, Course, when, edits, stops, lends, pops, tells, Effect, by_steps, Telling, answers, inserts, hands_out, is_done, course_of, edit_course, effect, lent_plan, popped_plan, other_course, told_as}
 use Rattle.rl_session.specs.State.{State}
 use Rattle.rl_session.specs.declared.session.Command.{Command}
 use Rattle.rl_session.specs.declared.session.Command.TheVariants as asks

@@ -6,10 +6,9 @@ use Rattle.rl_base.specs.Watch.{watch_step}
 use Rattle.rl_base.specs.declared.listeners.Refusal.{Refusal}
 use Rattle.rl_base.specs.declared.listeners.Refusal.TheVariants as why
 use Rattle.rl_line.specs.Line.{Line}
-use Rattle.rl_line.specs.Plan.{Step, Plan, listener_after, listener_after_step, Taken, Done, Halted, or_no_memory, Uncopied}
+use Rattle.rl_line.specs.Plan.{Step, Plan, listener_after, listener_after_step, Taken, Done, Halted, or_no_memory, Uncopied, Takes, nothing_more, room_by_step, a_copy, refusal_of}
 use Rattle.rl_line.specs.Record.{Record, record_step}
 use Rattle.rl_line.proofs.Plans.PlanLemmas.{Halted-caused}
-use Rattle.rl_session.specs.Commands.{Takes, nothing_more, room_by_step, a_copy, refusal_of}
 use Rattle.rl_session.specs.Pair.{pair_step, pair_refused}
 use Rattle.rl_session.specs.declared.pair.Pair.{Pair}
 
@@ -45,15 +44,15 @@ pub cause-watch : (p q : Pair) (e : Event) (w : Refusal) → or_no_memory pair_r
 cause-watch p q e w h = elim h [ inl c ↦ ap (λ (k : Pair). k.watch) c.1 | inr c ↦ c.2 ]
 
 -- however the steps of an edit may be refused, it is since memory is out, or by the pair
-pub own : (takes : Takes) (p q : Pair) (e : Event) (w : Refusal) → refusal_of takes p e w q → or_no_memory pair_refused p e w q
+pub own : (takes : Takes) (p q : Pair) (e : Event) (w : Refusal) → refusal_of pair_refused takes p e w q → or_no_memory pair_refused p e w q
 own nothing_more p q e w h = inr h
 own room_by_step p q e w h = h
 own a_copy p q e w h = inr h
 
-pub Halted-own : {A : Type 0} (takes : Takes) (plan : Plan A) (old new : Line) (p q : Pair) (w : Refusal) → Halted pair_step (refusal_of takes) plan old new p q w
+pub Halted-own : {A : Type 0} (takes : Takes) (plan : Plan A) (old new : Line) (p q : Pair) (w : Refusal) → Halted pair_step (refusal_of pair_refused takes) plan old new p q w
     → Halted pair_step (or_no_memory pair_refused) plan old new p q w
 Halted-own takes plan old new p q w h =
-    Halted-caused pair_step (refusal_of takes) (or_no_memory pair_refused) plan old new p q w w h (own takes h.middle q h.next.0 w h.cause)
+    Halted-caused pair_step (refusal_of pair_refused takes) (or_no_memory pair_refused) plan old new p q w w h (own takes h.middle q h.next.0 w h.cause)
 
 pub Halted-changes : {A : Type 0} (plan : Plan A) (old new : Line) (p q : Pair) (w : Refusal) → Halted pair_step (or_no_memory pair_refused) plan old new p q w
     → Halted record_step keeps_changes plan old new p.changes q.changes w
@@ -71,18 +70,18 @@ Halted-changes plan old new p q w h = record {
 pair_memory : (p q : Pair) (e : Event) (w : Refusal) → pair_refused p e w q → pair_refused p e why.NoMemory q
 pair_memory p q e w h = (refl, h.1, h.2, h.3)
 
-cause-memory : (takes : Takes) (p q : Pair) (e : Event) (w : Refusal) → refusal_of takes p e w q → refusal_of takes p e why.NoMemory q
+cause-memory : (takes : Takes) (p q : Pair) (e : Event) (w : Refusal) → refusal_of pair_refused takes p e w q → refusal_of pair_refused takes p e why.NoMemory q
 cause-memory nothing_more p q e w h = pair_memory p q e w h
 cause-memory room_by_step p q e w h = elim h [ inl c ↦ inl (refl, c.1, c.2) | inr c ↦ inr (pair_memory p q e w c) ]
 cause-memory a_copy p q e w h = pair_memory p q e w h
 
-pub Halted-pair : {A : Type 0} (takes : Takes) (plan : Plan A) (old new : Line) (p q : Pair) (w : Refusal) → Halted pair_step (refusal_of takes) plan old new p q w
-    → Halted pair_step (refusal_of takes) plan old new p q why.NoMemory
+pub Halted-pair : {A : Type 0} (takes : Takes) (plan : Plan A) (old new : Line) (p q : Pair) (w : Refusal) → Halted pair_step (refusal_of pair_refused takes) plan old new p q w
+    → Halted pair_step (refusal_of pair_refused takes) plan old new p q why.NoMemory
 Halted-pair takes plan old new p q w h =
-    Halted-caused pair_step (refusal_of takes) (refusal_of takes) plan old new p q w why.NoMemory h (cause-memory takes h.middle q h.next.0 w h.cause)
+    Halted-caused pair_step (refusal_of pair_refused takes) (refusal_of pair_refused takes) plan old new p q w why.NoMemory h (cause-memory takes h.middle q h.next.0 w h.cause)
 
 -- an edit was halted, or, where it copies what it moves, not begun
 abbrev pub Stopped : {A : Type 0} → Takes → Plan A → Line → Line → Pair → Pair → Refusal → Type 0
-Stopped nothing_more plan old new p q w = Halted pair_step (refusal_of nothing_more) plan old new p q w
-Stopped room_by_step plan old new p q w = Halted pair_step (refusal_of room_by_step) plan old new p q w
-Stopped a_copy plan old new p q w = Halted pair_step (refusal_of a_copy) plan old new p q w ⊎ Uncopied plan old new p q w
+Stopped nothing_more plan old new p q w = Halted pair_step (refusal_of pair_refused nothing_more) plan old new p q w
+Stopped room_by_step plan old new p q w = Halted pair_step (refusal_of pair_refused room_by_step) plan old new p q w
+Stopped a_copy plan old new p q w = Halted pair_step (refusal_of pair_refused a_copy) plan old new p q w ⊎ Uncopied plan old new p q w

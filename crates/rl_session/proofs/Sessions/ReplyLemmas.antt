@@ -9,7 +9,7 @@ use Rattle.rl_base.specs.declared.listeners.Refusal.{Refusal}
 use Rattle.rl_base.specs.declared.listeners.Refusal.TheVariants as why
 use Rattle.rl_base.specs.declared.motion.Movement.{Movement}
 use Rattle.rl_line.specs.Line.{Line, NeedsRoom}
-use Rattle.rl_line.specs.Plan.{Plan, Done, Halted}
+use Rattle.rl_line.specs.Plan.{Plan, Done, Halted, Takes, nothing_more, room_by_step, a_copy, refusal_of, unbegun}
 use Rattle.rl_line.specs.Kills.{Told, copied, is_by_characters, kill_plan, kill_range_plan}
 use Rattle.rl_line.specs.LineRanges.{IsRange}
 use Rattle.rl_line.specs.Record.{Record}
@@ -17,7 +17,7 @@ use Rattle.rl_line.specs.Undo.{Undone, Redone, steps_ahead, steps_back, texts_ah
 use Rattle.rl_line.specs.Units.{last_of, redo_of}
 use Rattle.rl_base.specs.Text.{HasText}
 use Rattle.rl_base.specs.Watch.{Watched}
-use Rattle.rl_session.specs.Commands.{Takes, nothing_more, room_by_step, a_copy, refusal_of, unbegun, stops, Came, edit_course, Does, Edited, lent, lent_plan, CutShort, KeepsRing, WatchHears, Telling, answers, inserts, hands_out, is_done}
+use Rattle.rl_session.specs.Commands.{stops, Came, edit_course, Does, Edited, lent, lent_plan, CutShort, KeepsRing, WatchHears, Telling, answers, inserts, hands_out, is_done}
 use Rattle.rl_session.specs.Pair.{pair_step, pair_refused}
 use Rattle.rl_session.specs.declared.pair.Pair.{Pair}
 use Rattle.rl_session.specs.Replies.{replied}
@@ -28,7 +28,7 @@ use Rattle.rl_session.specs.declared.session.Reply.TheVariants as says
 use Rattle.rl_session.proofs.Sessions.PairLemmas.{Stopped, Halted-pair}
 
 CutShort-refused : {A : Type 0} (takes : Takes) (plan : Plan A) (old new : State) (w : Refusal) → new.options ≡ old.options
-    → Halted pair_step (refusal_of takes) plan old.line new.line old.pair new.pair w → CutShort takes plan old new
+    → Halted pair_step (refusal_of pair_refused takes) plan old.line new.line old.pair new.pair w → CutShort takes plan old new
 CutShort-refused takes plan old new w m h = record { halted = Halted-pair takes plan old.line new.line old.pair new.pair w h; options = m }
 
 -- a state whose parts stayed

@@ -12,7 +12,7 @@ use Rattle.rl_base.specs.declared.listeners.Refusal.TheVariants as why
 use Rattle.rl_base.specs.declared.motion.Movement.{Movement}
 use Rattle.rl_line.specs.Line.{Line, stepped}
 use Rattle.rl_line.specs.Motions.{Moved}
-use Rattle.rl_line.specs.Plan.{Plan, nothing, single, Done, Halted, or_no_memory}
+use Rattle.rl_line.specs.Plan.{Plan, nothing, single, Done, Halted, or_no_memory, Takes, nothing_more, room_by_step, a_copy}
 use Rattle.rl_line.specs.Edits.{insert_str_plan, too_long, yank_plan}
 use Rattle.rl_line.specs.Kills.{Told, is_by_characters, kill_plan}
 use Rattle.rl_line.specs.Record.{Record, agree, replays_to, unwind}
@@ -21,7 +21,7 @@ use Rattle.rl_line.specs.Undo.{Redone, Undone}
 use Rattle.rl_line.specs.Units.{adds_end, begun, with_closed}
 use Rattle.rl_session.specs.State.{State, AtRest, Follows}
 use Rattle.rl_line.proofs.Plans.PlanLemmas.{first_step}
-use Rattle.rl_session.specs.Commands.{Takes, nothing_more, room_by_step, a_copy, Edited, lent, lent_plan, popped, popped_plan}
+use Rattle.rl_session.specs.Commands.{Edited, lent, lent_plan, popped, popped_plan}
 use Rattle.rl_session.specs.Pair.{pair_step, pair_refused}
 use Rattle.rl_session.specs.declared.pair.Pair.{Pair}
 use Rattle.rl_session.proofs.Sessions.IdleLemmas.{NoneStarts, NoneStarts-kill, idle-Done, idle-Halted, idle-Told}

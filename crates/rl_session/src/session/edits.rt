@@ -1,6 +1,5 @@
 //! Insertions, replacements, and edits of words and lines.
-ghost use Rattle.std.specs.Prelude.{◌≡◌, true, false};
-ghost use Rattle.rl_session.specs.Commands.{Does, CanGoIn};
+ghost use Rattle.rl_session.specs.Commands.{Does};
 ghost use Rattle.rl_session.specs.declared.session.Command.{Command};
 
 use crate::session::replies::{answered, done, inserted};
@@ -32,32 +31,11 @@ impl Session {
         done(self.line.update(text.as_str(), pos, &mut self.pair))
     }
 
-    // Whether a text can be inserted at a place, and the cursor stays where it is: on either side of the text, or
-    // between two of its characters.
-    fn can_go_in(&self, idx: usize, text: &str) -> bool
-        ensures yes { result ≡ true → CanGoIn self.now.line idx text.now }
-        ensures no { result ≡ false → ¬ (CanGoIn self.now.line idx text.now) }
-    {
-        let old = self.line.as_str();
-        let pos = self.line.pos();
-        if !old.is_char_boundary(idx) {
-            return false;
-        }
-        if pos <= idx {
-            return true;
-        }
-        if pos - idx <= text.len() {
-            text.is_char_boundary(pos - idx)
-        } else {
-            old.is_char_boundary(pos - text.len())
-        }
-    }
-
     pub(super) fn insert_str(&mut self, idx: usize, text: &String) -> Reply
         ensures { Does self.old (Command.InsertStr idx text.now) result self.new }
     {
         self.stands();
-        if !self.can_go_in(idx, text.as_str()) {
+        if !self.line.can_insert_str(idx, text.as_str()) {
             return Reply::Refused(Fault::BadPlace);
         }
         answered(self.line.insert_str(idx, text.as_str(), &mut self.pair))
@@ -67,7 +45,7 @@ impl Session {
         ensures { Does self.old (Command.Replace from to text.now) result self.new }
     {
         self.stands();
-        if !self.is_range(from, to) {
+        if !self.line.is_range(from, to) {
             return Reply::Refused(Fault::BadPlace);
         }
         done(self.line.replace(from..to, text.as_str(), &mut self.pair))

@@ -24,7 +24,7 @@ impl Session {
         ensures { Does self.old (Command.KillRange from to dir) result self.new }
     {
         self.stands();
-        if !self.is_range(from, to) {
+        if !self.line.is_range(from, to) {
             return Reply::Refused(Fault::BadPlace);
         }
         answered(self.line.kill_range(from..to, dir, &mut self.pair))
@@ -74,9 +74,8 @@ impl Session {
         ensures yes { result ≡ true → StandsYanked (yank_size self.now.pair.ring) self.now.line }
         ensures no { result ≡ false → ¬ (StandsYanked (yank_size self.now.pair.ring) self.now.line) }
     {
-        let end = self.line.pos();
         match self.pair.ring.yank_size() {
-            Some(size) => size <= end && self.line.as_str().is_char_boundary(end - size),
+            Some(size) => self.line.can_yank_pop(size),
             None => true,
         }
     }

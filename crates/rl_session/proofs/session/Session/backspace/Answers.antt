@@ -1,11 +1,12 @@
 use Rattle.std.proofs.Common.{refl}
 use Rattle.rl_base.specs.declared.motion.Movement.TheVariants.{BackwardChar}
 use Rattle.rl_line.specs.Kills.{kill_plan}
-use Rattle.rl_session.specs.Commands.{nothing_more, answers}
+use Rattle.rl_session.specs.Commands.{answers}
 use Rattle.rl_session.proofs.Sessions.ReplyLemmas.{Edits-replied}
 use Rattle.rl_session.proofs.Sessions.IdleLemmas.{NoneStarts-kill}
 use Rattle.rl_session.proofs.Sessions.SessionLemmas.{AtRest-edit}
 use Rattle.rl_session.proofs.session.Session.backspace.Goals as goal
+use Rattle.rl_line.specs.Plan.{nothing_more}
 
 pub invariant_of-self : goal.invariant_of-self
 invariant_of-self c =

@@ -3,11 +3,12 @@ use Rattle.std.specs.String.{string_bytes}
 use Rattle.std.proofs.Common.{refl}
 use Rattle.rl_base.specs.declared.motion.Movement.TheVariants.{ForwardChar}
 use Rattle.rl_line.specs.Kills.{delete_plan}
-use Rattle.rl_session.specs.Commands.{a_copy, hands_out}
+use Rattle.rl_session.specs.Commands.{hands_out}
 use Rattle.rl_session.proofs.Sessions.ReplyLemmas.{Edits-replied}
 use Rattle.rl_session.proofs.Sessions.IdleLemmas.{NoneStarts-kill}
 use Rattle.rl_session.proofs.Sessions.SessionLemmas.{AtRest-edit}
 use Rattle.rl_session.proofs.session.Session.delete.Goals as goal
+use Rattle.rl_line.specs.Plan.{a_copy}
 
 pub invariant_of-self : goal.invariant_of-self
 invariant_of-self c =

@@ -1,9 +1,10 @@
-use Rattle.std.proofs.Common.{refl}
+use Rattle.std.proofs.Common.{refl, rules}
 use Rattle.rl_line.specs.Edits.{delete_range_plan}
-use Rattle.rl_session.specs.Commands.{nothing_more, is_done}
+use Rattle.rl_session.specs.Commands.{is_done}
 use Rattle.rl_session.proofs.Sessions.ReplyLemmas.{Edits-replied}
 use Rattle.rl_session.proofs.Sessions.SessionLemmas.{AtRest-edit}
 use Rattle.rl_session.proofs.session.Session.delete_range.Goals as goal
+use Rattle.rl_line.specs.Plan.{nothing_more}
 
 pub invariant_of-self : goal.invariant_of-self
 invariant_of-self c =
@@ -11,4 +12,4 @@ invariant_of-self c =
 
 pub returns : goal.returns
 returns c =
-    Edits-replied nothing_more is_done (λ l. delete_range_plan l c.args.from c.args.to) c.self.view_is (c.is_range.ensures.yes c.if-not-is_range.false) c.done.ensures (record { options = refl; done = c.delete_range.ensures.done; halted = c.delete_range.ensures.halted })
+    Edits-replied nothing_more is_done (λ l. delete_range_plan l c.args.from c.args.to) c.self.view_is (search rules) c.done.ensures (record { options = refl; done = c.delete_range.ensures.done; halted = c.delete_range.ensures.halted })

@@ -1,10 +1,11 @@
 use Rattle.std.proofs.Common.{refl}
 use Rattle.rl_line.specs.LetterCase.{edit_word_plan}
-use Rattle.rl_session.specs.Commands.{a_copy, answers}
+use Rattle.rl_session.specs.Commands.{answers}
 use Rattle.rl_session.proofs.Sessions.ReplyLemmas.{Edits-replied}
 use Rattle.rl_session.proofs.Sessions.IdleLemmas.{NoneStarts-edit_word}
 use Rattle.rl_session.proofs.Sessions.SessionLemmas.{AtRest-edit}
 use Rattle.rl_session.proofs.session.Session.edit_word.Goals as goal
+use Rattle.rl_line.specs.Plan.{a_copy}
 
 pub invariant_of-self : goal.invariant_of-self
 invariant_of-self c =

@@ -1,10 +1,11 @@
 use Rattle.std.proofs.Common.{refl}
 use Rattle.rl_line.specs.Edits.{insert_plan}
-use Rattle.rl_session.specs.Commands.{room_by_step, inserts}
+use Rattle.rl_session.specs.Commands.{inserts}
 use Rattle.rl_session.proofs.Sessions.ReplyLemmas.{Edits-replied}
 use Rattle.rl_session.proofs.Sessions.IdleLemmas.{NoneStarts-insert}
 use Rattle.rl_session.proofs.Sessions.SessionLemmas.{AtRest-edit}
 use Rattle.rl_session.proofs.session.Session.insert.Goals as goal
+use Rattle.rl_line.specs.Plan.{room_by_step}
 
 pub invariant_of-self : goal.invariant_of-self
 invariant_of-self c =

@@ -1,4 +1,4 @@
-use Rattle.std.proofs.Common.{false, refl}
+use Rattle.std.proofs.Common.{false, refl, rules}
 use Rattle.rl_line.specs.Kills.{kill_range_plan}
 use Rattle.rl_line.specs.Ranges.{unless_empty}
 use Rattle.rl_session.proofs.Sessions.IdleLemmas.{NoneStarts-removal}
@@ -13,4 +13,4 @@ invariant_of-self c =
 
 pub returns : goal.returns
 returns c =
-    KillRange-replied c.args.from c.args.to c.args.dir _ _ c.self.view_is (c.is_range.ensures.yes c.if-not-is_range.false) c.answered.ensures refl c.kill_range.ensures.done c.kill_range.ensures.halted
+    KillRange-replied c.args.from c.args.to c.args.dir _ _ c.self.view_is (search rules) c.answered.ensures refl c.kill_range.ensures.done c.kill_range.ensures.halted

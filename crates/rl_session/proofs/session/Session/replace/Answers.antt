@@ -1,9 +1,10 @@
-use Rattle.std.proofs.Common.{refl}
+use Rattle.std.proofs.Common.{refl, rules}
 use Rattle.rl_line.specs.Edits.{replace_plan}
-use Rattle.rl_session.specs.Commands.{room_by_step, is_done}
+use Rattle.rl_session.specs.Commands.{is_done}
 use Rattle.rl_session.proofs.Sessions.ReplyLemmas.{Edits-replied}
 use Rattle.rl_session.proofs.Sessions.SessionLemmas.{AtRest-edit}
 use Rattle.rl_session.proofs.session.Session.replace.Goals as goal
+use Rattle.rl_line.specs.Plan.{room_by_step}
 
 pub invariant_of-self : goal.invariant_of-self
 invariant_of-self c =
@@ -11,4 +12,4 @@ invariant_of-self c =
 
 pub returns : goal.returns
 returns c =
-    rw (← c.as_str.ensures.value) (Edits-replied room_by_step is_done (λ l. replace_plan l c.args.from c.args.to c.as_str.result.now) c.self.view_is (c.is_range.ensures.yes c.if-not-is_range.false) c.done.ensures (record { options = refl; done = c.replace.ensures.done; halted = c.replace.ensures.halted }))
+    rw (← c.as_str.ensures.value) (Edits-replied room_by_step is_done (λ l. replace_plan l c.args.from c.args.to c.as_str.result.now) c.self.view_is (search rules) c.done.ensures (record { options = refl; done = c.replace.ensures.done; halted = c.replace.ensures.halted }))

@@ -1,10 +1,11 @@
 use Rattle.std.proofs.Common.{refl}
 use Rattle.rl_line.specs.Transpositions.{transpose_words_plan}
-use Rattle.rl_session.specs.Commands.{a_copy, answers}
+use Rattle.rl_session.specs.Commands.{answers}
 use Rattle.rl_session.proofs.Sessions.ReplyLemmas.{Edits-replied}
 use Rattle.rl_session.proofs.Sessions.IdleLemmas.{NoneStarts-transpose_words}
 use Rattle.rl_session.proofs.Sessions.SessionLemmas.{AtRest-edit}
 use Rattle.rl_session.proofs.session.Session.transpose_words.Goals as goal
+use Rattle.rl_line.specs.Plan.{a_copy}
 
 pub invariant_of-self : goal.invariant_of-self
 invariant_of-self c =

@@ -1,9 +1,10 @@
 use Rattle.std.proofs.Common.{refl, rules}
 use Rattle.rl_line.specs.Edits.{update_plan}
-use Rattle.rl_session.specs.Commands.{room_by_step, is_done}
+use Rattle.rl_session.specs.Commands.{is_done}
 use Rattle.rl_session.proofs.Sessions.ReplyLemmas.{Edits-replied}
 use Rattle.rl_session.proofs.Sessions.SessionLemmas.{AtRest-edit}
 use Rattle.rl_session.proofs.session.Session.update.Goals as goal
+use Rattle.rl_line.specs.Plan.{room_by_step}
 
 pub invariant_of-self : goal.invariant_of-self
 invariant_of-self c =
