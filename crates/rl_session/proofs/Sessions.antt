@@ -8,3 +8,4 @@ pub mod CourseChanges
 pub mod RestartLemmas
 pub mod WatchLemmas
 pub mod QuietLemmas
+pub mod StepLemmas

@@ -1,8 +1,9 @@
 -- What each command does.
-use Rattle.std.specs.Prelude.{◌≡◌, ℕ, ◌<◌, min, Bool, true, false, not, length, List, [], Any, Option, Some, None, ◌⊎◌, if◌then◌else◌}
+use Rattle.std.specs.Prelude.{◌≡◌, ℕ, ◌<◌, min, Bool, true, false, not, length, List, [], Any, Option, Some, None, ◌⊎◌, if◌then◌else◌, String}
 use Rattle.std.specs.Option.{option_map}
 use Rattle.std.specs.String.{string_bytes}
 use Rattle.std.specs.Str.{IsCharBoundary}
+use Rattle.std.specs.declared.alloc.Global.{Global}
 use Rattle.rl_base.specs.declared.kill_ring.Mode.TheVariants.{Append}
 use Rattle.rl_base.specs.declared.listeners.Refusal.TheVariants as why
 use Rattle.rl_base.specs.KillRing.{reset, yank, yanked, yank_size, yank_pop, yank_popped, Enlarges, killed}
@@ -275,10 +276,6 @@ is_vain_yank _ _ = false
 abbrev pub settled : Command → Reply → State → State
 settled command reply s = with_ring (if is_vain_yank command reply then reset s.pair.ring else s.pair.ring) s
 
--- from old, the command may have this reply and lead to new, with the ring's resets before it and after it
-abbrev pub CarriesOut : State → Command → Reply → State → Type 0
-CarriesOut old command reply new = (left : State) × Does (readied command old) command reply left × (new ≡ settled command reply left)
-
 -- from old, the command may have this reply and lead to new
 pub record Step (old : State) (command : Command) (reply : Reply) (new : State) : Type 0 where
   pub left : State
@@ -287,3 +284,20 @@ pub record Step (old : State) (command : Command) (reply : Reply) (new : State) 
   pub stands : Stands new
   pub bounded : IsBounded new
   pub follows : Follows new.line new.pair.changes
+
+-- the same of a command with a text, whichever value of these bytes the text is
+abbrev pub DoesWith : List ℕ → (String Global → Command) → State → Reply → State → Type 0
+DoesWith bytes make old reply new = (text : String Global) → string_bytes text ≡ bytes → Does old (make text) reply new
+
+abbrev pub StepWith : List ℕ → (String Global → Command) → State → Reply → State → Type 0
+StepWith bytes make old reply new = (text : String Global) → string_bytes text ≡ bytes → Step old (make text) reply new
+
+-- the command that deletes by a movement to one side of the cursor; other movements have none
+abbrev pub deletion_of : Movement → Command
+deletion_of BeginningOfLine = DiscardLine
+deletion_of (BackwardWord n word) = DeletePrevWord word n
+deletion_of (ForwardWord n at word) = DeleteWord at word n
+deletion_of (ViCharSearch n cs) = DeleteTo cs n
+deletion_of BeginningOfBuffer = DiscardBuffer
+deletion_of EndOfBuffer = KillBuffer
+deletion_of _ = KillLine

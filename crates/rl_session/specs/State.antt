@@ -46,6 +46,12 @@ pub record Stands (s : State) : Type 0 where
 abbrev pub IsBounded : State → Type 0
 IsBounded s = s.line.limit < 2 ^ 64
 
+-- what holds after every command
+pub record Ends (s : State) : Type 0 where
+  pub stands : Stands s
+  pub bounded : IsBounded s
+  pub follows : Follows s.line s.pair.changes
+
 -- the same with another watch
 abbrev pub with_watch : Watched → State → State
 with_watch watch s = record s { pair = record s.pair { watch = watch } }
@@ -61,6 +67,10 @@ limited limit s = record s { line = record s.line { limit = max limit (length s.
 -- the same with a prompt that ends at another column
 abbrev pub prompted : ℕ → State → State
 prompted column s = record s { options = record s.options { prompt = column } }
+
+-- the same with another way to count columns
+abbrev pub with_mode : GraphemeClusterMode → State → State
+with_mode mode s = record s { options = record s.options { mode = mode } }
 
 -- nothing is recorded, and nothing was undone
 abbrev pub no_changes : Record

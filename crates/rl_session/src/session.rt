@@ -4,15 +4,17 @@ ghost use Rattle.rl_base.specs.Event.{replay};
 ghost use Rattle.rl_line.specs.Line.{Line};
 ghost use Rattle.rl_line.specs.Record.{Record, replay_entries, unwind};
 ghost use Rattle.std.specs.Option.{option_map};
+ghost use Rattle.rl_base.specs.KillRing.{reset};
 ghost use Rattle.rl_base.specs.Reports.{HasTexts, LacksTexts, Noted, Stand, TellsByTexts, after_numbers, after_texts, new_queue, texts_of};
 ghost use Rattle.rl_base.specs.Splice.{Splices, told, untouched};
 ghost use Rattle.rl_base.specs.Watch.{RefusesQueue, next_note, past_next, text_room};
-ghost use Rattle.rl_session.specs.State.{State, ChangedFrom, Follows, IsBounded, ReportedFrom, Stands, with_watch, Replays, origin};
-ghost use Rattle.rl_session.specs.Commands.{CarriesOut, Does, Step};
+ghost use Rattle.rl_session.specs.State.{State, ChangedFrom, Follows, IsBounded, ReportedFrom, Ends, Stands, with_ring, with_watch, Replays, origin};
+ghost use Rattle.rl_session.specs.Commands.{Step};
 ghost use Rattle.rl_session.specs.Run.{Row, Run, AfterEach, commands_of, held_of, replies_of, reports, reports_of};
 ghost use Rattle.rl_session.specs.declared.session.Command.{Command};
 ghost use Rattle.rl_session.specs.declared.session.Reply.{Reply};
 
+mod commands;
 mod deletions;
 mod edits;
 pub mod forgetting;
@@ -291,21 +293,39 @@ impl Session {
         let _ = self.line.pos();
     }
 
-    // Does what a command asks for, the ring's resets aside.
+    // Resets the ring, as before each command that does not go on from what it did last.
+    #[inline(always)]
+    fn part(&mut self)
+        ensures { self.new ≡ with_ring (reset self.old.pair.ring) self.old }
+    {
+        self.pair.ring.reset();
+    }
+
+    // States what holds after every command.
+    #[inline(always)]
+    fn ends(&self)
+        ensures { Ends self.now }
+    {
+        self.stands();
+        self.bounded();
+        self.follows();
+    }
+
+    // Does a command by the call of its name.
     #[inline(never)]
     fn obey(&mut self, command: &Command) -> Reply
-        ensures { Does self.old command.now result self.new }
+        ensures { Step self.old command.now result self.new }
     {
         match command {
             Command::SetPos(pos) => self.set_pos(*pos),
             Command::Move(movement) => self.move_by(movement),
             Command::Insert(c, n) => self.insert(*c, *n),
-            Command::Paste(text, n) => self.paste(text, *n),
+            Command::Paste(text, n) => self.paste(text.as_str(), *n),
             Command::Yank(n) => self.yank(*n),
             Command::YankPop => self.yank_pop(),
-            Command::Update(text, pos) => self.update(text, *pos),
-            Command::InsertStr(idx, text) => self.insert_str(*idx, text),
-            Command::Replace(from, to, text) => self.replace(*from, *to, text),
+            Command::Update(text, pos) => self.update(text.as_str(), *pos),
+            Command::InsertStr(idx, text) => self.insert_str(*idx, text.as_str()),
+            Command::Replace(from, to, text) => self.replace(*from, *to, text.as_str()),
             Command::DeleteRange(from, to) => self.delete_range(*from, *to),
             Command::Delete(n) => self.delete(*n),
             Command::Backspace(n) => self.backspace(*n),
@@ -323,7 +343,7 @@ impl Session {
             Command::EditWord(action) => self.edit_word(*action),
             Command::Kill(movement) => self.kill(movement),
             Command::KillRange(from, to, dir) => self.kill_range(*from, *to, *dir),
-            Command::Keep(text) => self.keep(text),
+            Command::Keep(text) => self.keep(text.as_str()),
             Command::Copy(movement) => self.copy(movement),
             Command::Indent(movement, amount, dedent) => self.indent(movement, *amount, *dedent),
             Command::Begin => self.begin(),
@@ -336,35 +356,15 @@ impl Session {
         }
     }
 
-    // Does a command, with what the ring needs before it and after it. Mostly that is a reset before it, and a typed letter
-    // does not pay for the choice of what to do. Inlined, as `apply` is.
+    // The same, where a typed letter does not pay for the choice of what to do. Inlined, as `apply` is.
     #[inline(always)]
     fn carry_out(&mut self, command: &Command) -> Reply
-        ensures { CarriesOut self.old command.now result self.new }
+        ensures { Step self.old command.now result self.new }
     {
         if let Command::Insert(c, n) = command {
-            self.pair.ring.reset();
             return self.insert(*c, *n);
         }
-        match command {
-            Command::Kill(_) | Command::KillRange(_, _, _) | Command::Yank(_) | Command::YankPop =>
-                self.go_on(command),
-            _ => {
-                self.pair.ring.reset();
-                self.obey(command)
-            }
-        }
-    }
-
-    // The same for a command that may go on from what the ring did last.
-    #[inline(never)]
-    fn go_on(&mut self, command: &Command) -> Reply
-        ensures { CarriesOut self.old command.now result self.new }
-    {
-        self.ready(command);
-        let reply = self.obey(command);
-        self.settle(command, &reply);
-        reply
+        self.obey(command)
     }
 
     /// Does one command. The ring is reset first, unless the command is a yank, a kill of a range, or a kill by a
@@ -379,11 +379,7 @@ impl Session {
     {
         self.stands();
         self.follows();
-        let reply = self.carry_out(command);
-        self.stands();
-        self.bounded();
-        self.follows();
-        reply
+        self.carry_out(command)
     }
 
     /// Does the commands in order, and answers one reply for each. It allocates room for the replies first. Where

@@ -1,5 +1,5 @@
 //! Insertions, replacements, and edits of words and lines.
-ghost use Rattle.rl_session.specs.Commands.{Does};
+ghost use Rattle.rl_session.specs.Commands.{Does, DoesWith};
 ghost use Rattle.rl_session.specs.declared.session.Command.{Command};
 
 use crate::session::replies::{answered, done, inserted};
@@ -7,72 +7,72 @@ use crate::session::{Fault, Reply, Session};
 use rl_base::{Movement, RepeatCount, WordAction};
 
 impl Session {
-    pub(super) fn insert(&mut self, c: char, n: RepeatCount) -> Reply
+    pub(super) fn do_insert(&mut self, c: char, n: RepeatCount) -> Reply
         ensures { Does self.old (Command.Insert c n) result self.new }
     {
         self.stands();
         inserted(self.line.insert(c, n, &mut self.pair))
     }
 
-    pub(super) fn paste(&mut self, text: &String, n: RepeatCount) -> Reply
-        ensures { Does self.old (Command.Paste text.now n) result self.new }
+    pub(super) fn do_paste(&mut self, text: &str, n: RepeatCount) -> Reply
+        ensures { DoesWith text.now (λ t. Command.Paste t n) self.old result self.new }
     {
         self.stands();
-        inserted(self.line.yank(text.as_str(), n, &mut self.pair))
+        inserted(self.line.yank(text, n, &mut self.pair))
     }
 
-    pub(super) fn update(&mut self, text: &String, pos: usize) -> Reply
-        ensures { Does self.old (Command.Update text.now pos) result self.new }
+    pub(super) fn do_update(&mut self, text: &str, pos: usize) -> Reply
+        ensures { DoesWith text.now (λ t. Command.Update t pos) self.old result self.new }
     {
         self.stands();
-        if !text.as_str().is_char_boundary(pos) {
+        if !text.is_char_boundary(pos) {
             return Reply::Refused(Fault::BadPlace);
         }
-        done(self.line.update(text.as_str(), pos, &mut self.pair))
+        done(self.line.update(text, pos, &mut self.pair))
     }
 
-    pub(super) fn insert_str(&mut self, idx: usize, text: &String) -> Reply
-        ensures { Does self.old (Command.InsertStr idx text.now) result self.new }
+    pub(super) fn do_insert_str(&mut self, idx: usize, text: &str) -> Reply
+        ensures { DoesWith text.now (λ t. Command.InsertStr idx t) self.old result self.new }
     {
         self.stands();
-        if !self.line.can_insert_str(idx, text.as_str()) {
+        if !self.line.can_insert_str(idx, text) {
             return Reply::Refused(Fault::BadPlace);
         }
-        answered(self.line.insert_str(idx, text.as_str(), &mut self.pair))
+        answered(self.line.insert_str(idx, text, &mut self.pair))
     }
 
-    pub(super) fn replace(&mut self, from: usize, to: usize, text: &String) -> Reply
-        ensures { Does self.old (Command.Replace from to text.now) result self.new }
+    pub(super) fn do_replace(&mut self, from: usize, to: usize, text: &str) -> Reply
+        ensures { DoesWith text.now (λ t. Command.Replace from to t) self.old result self.new }
     {
         self.stands();
         if !self.line.is_range(from, to) {
             return Reply::Refused(Fault::BadPlace);
         }
-        done(self.line.replace(from..to, text.as_str(), &mut self.pair))
+        done(self.line.replace(from..to, text, &mut self.pair))
     }
 
-    pub(super) fn transpose_chars(&mut self) -> Reply
+    pub(super) fn do_transpose_chars(&mut self) -> Reply
         ensures { Does self.old Command.TransposeChars result self.new }
     {
         self.stands();
         answered(self.line.transpose_chars(&mut self.pair))
     }
 
-    pub(super) fn transpose_words(&mut self, n: RepeatCount) -> Reply
+    pub(super) fn do_transpose_words(&mut self, n: RepeatCount) -> Reply
         ensures { Does self.old (Command.TransposeWords n) result self.new }
     {
         self.stands();
         answered(self.line.transpose_words(n, &mut self.pair))
     }
 
-    pub(super) fn edit_word(&mut self, action: WordAction) -> Reply
+    pub(super) fn do_edit_word(&mut self, action: WordAction) -> Reply
         ensures { Does self.old (Command.EditWord action) result self.new }
     {
         self.stands();
         answered(self.line.edit_word(action, &mut self.pair))
     }
 
-    pub(super) fn indent(&mut self, movement: &Movement, amount: u8, dedent: bool) -> Reply
+    pub(super) fn do_indent(&mut self, movement: &Movement, amount: u8, dedent: bool) -> Reply
         ensures { Does self.old (Command.Indent movement.now amount dedent) result self.new }
     {
         self.stands();

@@ -31,7 +31,7 @@ impl Session {
         self.pair.changes.level()
     }
 
-    pub(super) fn begin(&mut self) -> Reply
+    pub(super) fn do_begin(&mut self) -> Reply
         ensures { Does self.old Command.Begin result self.new }
     {
         match self.pair.changes.begin() {
@@ -40,19 +40,19 @@ impl Session {
         }
     }
 
-    pub(super) fn end(&mut self) -> Reply
+    pub(super) fn do_end(&mut self) -> Reply
         ensures { Does self.old Command.End result self.new }
     {
         answered(self.pair.changes.end())
     }
 
-    pub(super) fn end_one(&mut self) -> Reply
+    pub(super) fn do_end_one(&mut self) -> Reply
         ensures { Does self.old Command.EndOne result self.new }
     {
         answered(self.pair.changes.end_one())
     }
 
-    pub(super) fn undo(&mut self, n: RepeatCount) -> Reply
+    pub(super) fn do_undo(&mut self, n: RepeatCount) -> Reply
         ensures { Does self.old (Command.Undo n) result self.new }
     {
         self.stands();
@@ -60,7 +60,7 @@ impl Session {
         answered(self.pair.changes.undo_telling(&mut self.line, n, watch))
     }
 
-    pub(super) fn redo(&mut self) -> Reply
+    pub(super) fn do_redo(&mut self) -> Reply
         ensures { Does self.old Command.Redo result self.new }
     {
         self.stands();
@@ -68,7 +68,7 @@ impl Session {
         answered(self.pair.changes.redo_telling(&mut self.line, watch))
     }
 
-    pub(super) fn truncate(&mut self, len: usize) -> Reply
+    pub(super) fn do_truncate(&mut self, len: usize) -> Reply
         ensures { Does self.old (Command.Truncate len) result self.new }
     {
         self.stands();

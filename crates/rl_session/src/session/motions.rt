@@ -11,7 +11,7 @@ use rl_base::{Movement, Unit};
 use std::ops::Range;
 
 impl Session {
-    pub(super) fn set_pos(&mut self, pos: usize) -> Reply
+    pub(super) fn do_set_pos(&mut self, pos: usize) -> Reply
         ensures { Does self.old (Command.SetPos pos) result self.new }
     {
         if self.line.as_str().is_char_boundary(pos) {
@@ -41,20 +41,20 @@ impl Session {
         self.line.destination(movement, &self.options.layout())
     }
 
-    pub(super) fn move_by(&mut self, movement: &Movement) -> Reply
+    pub(super) fn do_move_by(&mut self, movement: &Movement) -> Reply
         ensures { Does self.old (Command.Move movement.now) result self.new }
     {
         let layout = self.options.layout();
         Reply::Answer(self.line.move_by(movement, &layout))
     }
 
-    pub(super) fn copy(&self, movement: &Movement) -> Reply
+    pub(super) fn do_copy(&self, movement: &Movement) -> Reply
         ensures { Does self.now (Command.Copy movement.now) result self.now }
     {
         handed_out(self.line.copy(movement))
     }
 
-    pub(super) fn line_place(&self) -> Reply
+    pub(super) fn do_line_place(&self) -> Reply
         ensures { Does self.now Command.LinePlace result self.now }
     {
         let (k, columns) = self.line_column();

@@ -4,7 +4,7 @@ ghost use Rattle.std.specs.Str.{IsCharBoundary};
 ghost use Rattle.rl_base.specs.Event.{Cursors, Replace};
 ghost use Rattle.rl_base.specs.Watch.{watch_step};
 ghost use Rattle.rl_line.specs.Line.{NeedsRoom};
-ghost use Rattle.rl_session.specs.State.{Begins, ChangedFrom, Opens, RefusesRestart, Replays, ReportedFrom, fresh, limited, prompted, restarted};
+ghost use Rattle.rl_session.specs.State.{Begins, ChangedFrom, Opens, RefusesRestart, Replays, ReportedFrom, fresh, limited, prompted, restarted, with_mode};
 
 use crate::options::Options;
 use crate::pair::Pair;
@@ -178,5 +178,14 @@ impl Session {
         ensures reported { (read : List ℕ) → ReportedFrom read self.old → ReportedFrom read self.new }
     {
         self.options.prompt = column;
+    }
+
+    /// Sets how columns are counted.
+    pub fn set_mode(&mut self, mode: GraphemeClusterMode)
+        ensures set { self.new ≡ with_mode mode self.old }
+        ensures changed { (asked : List ℕ) → ChangedFrom asked self.old → ChangedFrom asked self.new }
+        ensures reported { (read : List ℕ) → ReportedFrom read self.old → ReportedFrom read self.new }
+    {
+        self.options.mode = mode;
     }
 }

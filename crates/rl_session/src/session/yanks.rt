@@ -1,26 +1,26 @@
 //! Kills and yanks, and when the ring is reset.
-ghost use Rattle.std.specs.Prelude.{◌≡◌, ◌<◌, true, false, length, IfOk, OnErr};
+ghost use Rattle.std.specs.Prelude.{◌≡◌, ◌<◌, ℕ, true, false, length, IfOk, OnErr};
 ghost use Rattle.std.specs.Option.{option_map};
 ghost use Rattle.std.specs.String.{string_bytes};
 ghost use Rattle.rl_base.specs.Text.{HasText};
 ghost use Rattle.rl_base.specs.KillRing.{yank, yanked, yank_pop, yank_popped, yank_size};
-ghost use Rattle.rl_session.specs.Commands.{Does, StandsYanked, continues, is_vain_yank, readied, settled};
+ghost use Rattle.rl_session.specs.Commands.{Does, DoesWith, StandsYanked, readied, settled};
 ghost use Rattle.rl_session.specs.declared.session.Command.{Command};
 
 use crate::session::replies::{answered, inserted};
-use crate::session::{Command, Fault, Reply, Session};
+use crate::session::{Fault, Reply, Session};
 use rl_base::{Direction, KillRing, Mode, Movement, RepeatCount};
 use std::alloc::{AllocError, Global};
 
 impl Session {
-    pub(super) fn kill(&mut self, movement: &Movement) -> Reply
+    pub(super) fn do_kill(&mut self, movement: &Movement) -> Reply
         ensures { Does self.old (Command.Kill movement.now) result self.new }
     {
         self.stands();
         answered(self.line.kill(movement, &mut self.pair))
     }
 
-    pub(super) fn kill_range(&mut self, from: usize, to: usize, dir: Direction) -> Reply
+    pub(super) fn do_kill_range(&mut self, from: usize, to: usize, dir: Direction) -> Reply
         ensures { Does self.old (Command.KillRange from to dir) result self.new }
     {
         self.stands();
@@ -31,10 +31,10 @@ impl Session {
     }
 
     // The ring was reset, so it begins a text; it is reset again, so that a kill begins another.
-    pub(super) fn keep(&mut self, text: &String) -> Reply
-        ensures { Does self.old (Command.Keep text.now) result self.new }
+    pub(super) fn do_keep(&mut self, text: &str) -> Reply
+        ensures { DoesWith text.now Command.Keep self.old result self.new }
     {
-        match self.pair.ring.kill(text.as_str(), Mode::Append) {
+        match self.pair.ring.kill(text, Mode::Append) {
             Ok(()) => {
                 self.pair.ring.reset();
                 Reply::Done
@@ -43,7 +43,7 @@ impl Session {
         }
     }
 
-    pub(super) fn yank(&mut self, n: RepeatCount) -> Reply
+    pub(super) fn do_yank(&mut self, n: RepeatCount) -> Reply
         ensures { Does self.old (Command.Yank n) result self.new }
     {
         self.stands();
@@ -80,7 +80,7 @@ impl Session {
         }
     }
 
-    pub(super) fn yank_pop(&mut self) -> Reply
+    pub(super) fn do_yank_pop(&mut self) -> Reply
         ensures { Does self.old Command.YankPop result self.new }
     {
         if !self.stands_yanked() {
@@ -95,43 +95,27 @@ impl Session {
         inserted(self.line.yank_pop(size, text.as_str(), &mut self.pair))
     }
 
-    // Resets the ring before a command that does not go on from what it did last.
-    pub(super) fn ready(&mut self, command: &Command)
-        ensures { self.new ≡ readied command.now self.old }
+    // Resets the ring before a kill by a movement that does not go on from the kill before it.
+    pub(super) fn ready(&mut self, movement: &Movement)
+        ensures { self.new ≡ readied (Command.Kill movement.now) self.old }
     {
-        if !continues(command) {
+        if matches!(
+            movement,
+            Movement::BackwardChar(_) | Movement::ForwardChar(_)
+        ) {
             self.pair.ring.reset();
         }
     }
 
-    // Resets the ring after a vain yank.
-    pub(super) fn settle(&mut self, command: &Command, reply: &Reply)
-        ensures { self.new ≡ settled command.now reply.now self.old }
+    // Resets the ring after a vain yank, whose reply this is.
+    pub(super) fn settle(&mut self, reply: &Reply)
+        ensures yank { (n : ℕ) → self.new ≡ settled (Command.Yank n) reply.now self.old }
+        ensures pop { self.new ≡ settled Command.YankPop reply.now self.old }
     {
-        if is_vain_yank(command, reply) {
+        if !matches!(reply, Reply::Inserted(Some(_))) {
             self.pair.ring.reset();
         }
     }
-}
-
-// Whether the command goes on from what the ring did last, so that the ring is not reset.
-fn continues(command: &Command) -> bool
-    ensures { result ≡ continues command.now }
-{
-    match command {
-        Command::Kill(Movement::BackwardChar(_) | Movement::ForwardChar(_)) => false,
-        Command::Kill(_) | Command::KillRange(_, _, _) | Command::Yank(_) | Command::YankPop =>
-            true,
-        _ => false,
-    }
-}
-
-// Whether it is a yank whose reply is not `Inserted(Some(..))`.
-fn is_vain_yank(command: &Command, reply: &Reply) -> bool
-    ensures { result ≡ is_vain_yank command.now reply.now }
-{
-    matches!(command, Command::Yank(_) | Command::YankPop)
-        && !matches!(reply, Reply::Inserted(Some(_)))
 }
 
 // Yanks, and answers whether the text has a byte.

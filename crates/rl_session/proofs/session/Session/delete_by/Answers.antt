@@ -1,16 +1,5 @@
-use Rattle.std.proofs.Common.{refl}
-use Rattle.rl_line.specs.Kills.{kill_plan}
-use Rattle.rl_session.specs.Commands.{answers}
-use Rattle.rl_session.proofs.Sessions.ReplyLemmas.{Edits-replied}
-use Rattle.rl_session.proofs.Sessions.IdleLemmas.{NoneStarts-kill}
-use Rattle.rl_session.proofs.Sessions.SessionLemmas.{AtRest-edit}
+use Rattle.rl_session.proofs.Sessions.StepLemmas.{step_deletion}
 use Rattle.rl_session.proofs.session.Session.delete_by.Goals as goal
-use Rattle.rl_line.specs.Plan.{nothing_more}
-
-pub invariant_of-self : goal.invariant_of-self
-invariant_of-self c =
-    AtRest-edit nothing_more _ (λ a. a) c.self.inside.pair c.delete_by.new.listener c.self.inside.line c.delete_by.new.self c.delete_by.result (rw (← c.self.view_is) at c.stands.ensures.cursor) (NoneStarts-kill c.self.inside.line c.args.movement.now) c.delete_by.ensures.done c.delete_by.ensures.halted c.self.invariant
 
 pub returns : goal.returns
-returns c =
-    Edits-replied nothing_more answers (λ l. kill_plan l c.args.movement.now) c.self.view_is tt c.answered.ensures (record { options = refl; done = c.delete_by.ensures.done; halted = c.delete_by.ensures.halted })
+returns c = step_deletion c.args.movement.now c.requires c.part.ensures c.do_delete_by-reply.ensures c.ends.ensures

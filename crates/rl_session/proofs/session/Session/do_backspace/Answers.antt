@@ -1,0 +1,17 @@
+use Rattle.std.proofs.Common.{refl}
+use Rattle.rl_base.specs.declared.motion.Movement.TheVariants.{BackwardChar}
+use Rattle.rl_line.specs.Kills.{kill_plan}
+use Rattle.rl_session.specs.Commands.{answers}
+use Rattle.rl_session.proofs.Sessions.ReplyLemmas.{Edits-replied}
+use Rattle.rl_session.proofs.Sessions.IdleLemmas.{NoneStarts-kill}
+use Rattle.rl_session.proofs.Sessions.SessionLemmas.{AtRest-edit}
+use Rattle.rl_session.proofs.session.Session.do_backspace.Goals as goal
+use Rattle.rl_line.specs.Plan.{nothing_more}
+
+pub invariant_of-self : goal.invariant_of-self
+invariant_of-self c =
+    AtRest-edit nothing_more _ (λ a. a) c.self.inside.pair c.backspace.new.listener c.self.inside.line c.backspace.new.self c.backspace.result (rw (← c.self.view_is) at c.stands.ensures.cursor) (NoneStarts-kill c.self.inside.line (BackwardChar c.args.n)) c.backspace.ensures.done c.backspace.ensures.halted c.self.invariant
+
+pub returns : goal.returns
+returns c =
+    Edits-replied nothing_more answers (λ l. kill_plan l (BackwardChar c.args.n)) c.self.view_is tt c.answered.ensures (record { options = refl; done = c.backspace.ensures.done; halted = c.backspace.ensures.halted })

@@ -1,0 +1,16 @@
+use Rattle.std.proofs.Common.{false, refl, rules}
+use Rattle.rl_line.specs.Kills.{kill_range_plan}
+use Rattle.rl_line.specs.Ranges.{unless_empty}
+use Rattle.rl_session.proofs.Sessions.IdleLemmas.{NoneStarts-removal}
+use Rattle.rl_session.proofs.Sessions.ReplyLemmas.{KillRange-replied}
+use Rattle.rl_session.proofs.Sessions.SessionLemmas.{AtRest-told}
+use Rattle.rl_session.proofs.session.Session.do_kill_range.Goals as goal
+
+pub invariant_of-self : goal.invariant_of-self
+invariant_of-self c =
+    AtRest-told false (kill_range_plan c.self.inside.line c.args.from c.args.to c.args.dir) c.self.inside.pair c.kill_range.new.listener c.self.inside.line c.kill_range.new.self c.kill_range.result
+    (rw (← c.self.view_is) at c.stands.ensures.cursor) (NoneStarts-removal c.self.inside.line (unless_empty c.args.from c.args.to) c.args.dir) c.kill_range.ensures.done c.kill_range.ensures.halted c.self.invariant
+
+pub returns : goal.returns
+returns c =
+    KillRange-replied c.args.from c.args.to c.args.dir _ _ c.self.view_is (search rules) c.answered.ensures refl c.kill_range.ensures.done c.kill_range.ensures.halted

@@ -1,0 +1,6 @@
+use Rattle.std.proofs.Common.{refl}
+use Rattle.rl_session.proofs.Sessions.StepLemmas.{step_done}
+use Rattle.rl_session.proofs.session.Session.keep.Goals as goal
+
+pub returns : goal.returns
+returns c = λ text e. step_done _ _ c.part.ensures (c.do_keep-reply.ensures text e) refl c.ends.ensures

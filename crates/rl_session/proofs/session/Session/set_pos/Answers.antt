@@ -1,5 +1,0 @@
-use Rattle.std.proofs.Common.{rules}
-use Rattle.rl_session.proofs.session.Session.set_pos.Goals as goal
-
-pub returns-else-is_char_boundary : goal.returns-else-is_char_boundary
-returns-else-is_char_boundary c = search rules
