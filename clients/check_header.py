@@ -1,163 +1,212 @@
 #!/usr/bin/env python3
-"""Compares the calls of the headers of include with the exports of crates/rl_ffi, and with what the client for Rust
-declares: names, arguments in their order, results. The crate lodvarn must make each call that lodvarn-sys declares. The
-client for Python declares the calls of lodvarn.h, and none of lodvarn_parts.h.
+"""Compares what the headers of include declare with crates/rl_ffi and clients/handles.c, and with the names that the
+clients for Python and Rust give to the numbers. These read the headers themselves, and declare nothing.
 
     python3 clients/check_header.py
 
-What only one side has fails, whichever it is. Macros and the functions that a header defines are no calls: a program
-compiles them, and the library has none of them. But each call of lodvarn.h that writes a number must have a function
-NAME_or_null_ with the same arguments, which makes that call, and a macro that puts it in the place of the call. Its
-last line is 'N passed, M failed', where each call counts one for each place that has it, and one for that function.
+- Calls: each is an export of the crate or a function of handles.c, with the same arguments in the same order, and the
+  same result. The calls that handles.c declares for itself are exports too. There are no others.
+- Structs: each has the same fields in the same order as that of the crate.
+- Numbers: each is that of the crate. Those of the enums that calls take all differ. A client uses each, and the name
+  that it gives it is the header's.
+
+What only one side has fails, whichever it is. The last line is 'N passed, M failed', where each name counts one for each
+place that has it.
 """
 
-import ast
 import re
 import sys
 from pathlib import Path
 
 TOP = Path(__file__).resolve().parent.parent
-# What a type of an export, or of the client for Rust, takes in C: nothing, one argument, or a pointer and a length.
-IN_C = {
-    "Global": [],
-    "&mut Handle": ["lodvarn **"],
-    "&mut LineHandle": ["lodvarn_line **"],
-    "&mut RecordHandle": ["lodvarn_record **"],
-    "&mut RingHandle": ["lodvarn_killring **"],
-    "&[u8]": ["const char *", "size_t"],
-    "&mut [u8]": ["char *", "size_t"],
-    "&mut usize": ["size_t *"],
-    "&mut u32": ["uint32_t *"],
-    "&mut u16": ["uint16_t *"],
-    "*mut Handle": ["lodvarn **"],
-    "*mut LineHandle": ["lodvarn_line **"],
-    "*mut RecordHandle": ["lodvarn_record **"],
-    "*mut KillRingHandle": ["lodvarn_killring **"],
-    "*const u8": ["const char *"],
-    "*mut u8": ["char *"],
-    "*mut usize": ["size_t *"],
-    "*mut u32": ["uint32_t *"],
-    "*mut u16": ["uint16_t *"],
-    "usize": ["size_t"],
-    "u32": ["uint32_t"],
-    "u16": ["uint16_t"],
-    "u8": ["uint8_t"],
-    "": ["void"],
+# What the exports have for a type of C. A text is a slice: a pointer and a length.
+KINDS = {
+    "void": "",
+    "int": "i32",
+    "size_t": "usize",
+    "uint32_t": "u32",
+    "uint16_t": "u16",
+    "uint8_t": "u8",
+    "char": "u8",
+    "lodvarn": "Handle",
+    "lodvarn_line": "Handle",
+    "lodvarn_record": "Handle",
+    "lodvarn_killring": "Handle",
 }
-# The same of the client for Python.
-PYTHON_IN_C = {
-    "_HANDLE": "lodvarn **",
-    "_TEXT": "const char *",
-    "_OUT": "char *",
-    "_TO_SIZE": "size_t *",
-    "_TO_U32": "uint32_t *",
-    "_TO_U16": "uint16_t *",
-    "_SIZE": "size_t",
-    "_U32": "uint32_t",
-    "_U16": "uint16_t",
-    "_U8": "uint8_t",
+# The names of the header for what the crate names otherwise.
+OTHERWISE = {
+    "At::Start": "AT_START",
+    "CharSearch::Forward": "TO",
+    "CharSearch::ForwardBefore": "TO_BEFORE",
+    "CharSearch::Backward": "BACK_TO",
+    "CharSearch::BackwardAfter": "BACK_TO_AFTER",
+    "Movement::WholeLine": "WHOLE_LINE_",
+    "Movement::BeginningOfLine": "TO_LINE_START_",
+    "Movement::EndOfLine": "TO_LINE_END_",
+    "Movement::ViFirstPrint": "FROM_FIRST_WORD_",
+    "Movement::BackwardChar": "CHARS_BACK_",
+    "Movement::ForwardChar": "CHARS_FORWARD_",
+    "Movement::LineUp": "LINES_UP_",
+    "Movement::LineDown": "LINES_DOWN_",
+    "Movement::WholeBuffer": "WHOLE_TEXT_",
+    "Movement::BeginningOfBuffer": "TO_TEXT_START_",
+    "Movement::EndOfBuffer": "TO_TEXT_END_",
+    "Movement::FirstNonBlank": "TO_FIRST_NONBLANK_",
+    "Ok(false)": "INDENT",
+    "Ok(true)": "DEDENT",
 }
 EXPORT = re.compile(r"#\[unsafe\(no_mangle\)\]\s*pub extern \"C\" fn (\w+)\s*\(([^)]*)\)\s*(?:->\s*(\w+))?")
-FOREIGN = re.compile(r"\bpub fn (lodvarn_\w+)\(([^)]*)\)(?:\s*-> (\w+))?;")
-MADE = re.compile(r"\bffi::(lodvarn_\w+)\(")
-DECLARATION = re.compile(r"^([a-z]\w+)\s+(\w+)\(([^)]*)\);", re.M)
-DEFINITION = re.compile(r"^static inline [^;]*?\{\n.*?^\}\n", re.M | re.S)
-OR_NULL = re.compile(r"^static inline (\w+) (\w+)_or_null_\(([^)]*)\) \{\n(.*?)^\}\n", re.M | re.S)
-NUMBERS = {"size_t *", "uint32_t *", "uint16_t *"}
-ARGUMENT = re.compile(r"(.*?[ *])(\w+)$", re.S)
+CALL = re.compile(r"^(\w[\w ]*[ *])(\w+)\(([^)]*)\)(;| \{)", re.M)
+STRUCT = re.compile(r"^typedef struct \w+ \{(.*?)\} (\w+);", re.M | re.S)
+CRATE_STRUCT = re.compile(r"#\[repr\(C\)\][^{};]*?struct (\w+) \{(.*?)^\}", re.M | re.S)
+ENUM = re.compile(r"^enum lodvarn_(\w+) \{(.*?)\};", re.M | re.S)
 
 
-def in_c(kind):
-    """What C passes for a type of an export."""
-    kind = " ".join(re.sub(r"&\s*'\w+\s*", "&", kind).split()).replace("& ", "&")
-    kind = re.sub(r"\bcrate::(\w+::)*", "", kind)
-    return IN_C.get(kind, [f"({kind}, which C does not pass)"])
+def read(*patterns):
+    """The files that the patterns name, as one text."""
+    return "\n".join(path.read_text() for pattern in patterns for path in sorted(TOP.glob(pattern)))
 
 
-def calls_of(source, call, mark):
-    """The calls of a source that a mark is at, each by its name: its result and its arguments as C has them."""
-    source = re.sub(r"//[^\n]*", "", source)
+def without_comments(source):
+    return re.sub(r"/\*.*?\*/|//[^\n]*", "", source, flags=re.S)
+
+
+def in_crate(kind):
+    """What the crate has for a type of C."""
+    kind = kind.strip()
+    if kind.endswith("*"):
+        const, base = re.fullmatch(r"(const )?(.*?) ?\*", kind).groups()
+        name = "Handle" if base == "void" else in_crate(base)
+        return ("*const u8" if const else "*mut u8") if name == "u8" else f"&{'' if const else 'mut '}{name}"
+    if kind.startswith("enum "):
+        return "u32"
+    name = kind.removeprefix("lodvarn_")
+    return KINDS.get(kind, name.capitalize() if name != kind else name)
+
+
+def declared(source, end):
+    """What a source of C declares before each such end, each by its name: as the crate has it."""
+    words = [it.strip() for it in source.split(end) if it.strip() not in ("", "void")]
+    return [(name, in_crate(kind)) for kind, name in (re.fullmatch(r"(.*?)(\w+)", it, re.S).groups() for it in words)]
+
+
+def calls_of(source, end):
+    """The calls that a source of C declares, or defines, as the end says: arguments and result, as the crate has them."""
     found = {}
-    for name, given, result in call.findall(source):
-        kinds = [one.split(":", 1)[1] for one in given.split(",") if one.strip()]
-        found[name] = (in_c(result)[0], [argument for kind in kinds for argument in in_c(kind)])
-    if source.count(mark) != len(found):
-        raise ValueError(f"{source.count(mark)} calls are marked, and {len(found)} can be read")
+    for result, name, given, ends in CALL.findall(source):
+        if ends == end and not result.startswith("static"):
+            kinds = ", ".join(kind for _, kind in declared(given, ","))
+            kinds = kinds.replace("*const u8, usize", "&[u8]").replace("*mut u8, usize", "&mut [u8]")
+            kinds = re.sub(r"(?<!mut )\bView\b", "&[u8]", kinds)
+            found[name] = f"({kinds}) -> {in_crate(result)}"
     return found
 
 
-def calls_of_python(source):
-    """The calls of the client for Python, in the same form: those of its tables, and two that it has beside them."""
-    tables = {"_CALLS": "uint32_t", "_SIZES": "size_t"}
-    found = {"lodvarn_close": ("void", ["lodvarn **"]), "lodvarn_version": ("uint32_t", [])}
-    for it in ast.parse(source).body:
-        name = it.target.id if isinstance(it, ast.AnnAssign) and isinstance(it.target, ast.Name) else None
-        if name in tables:
-            for call, kinds in zip(it.value.keys, it.value.values):
-                found[f"lodvarn_{call.value}"] = (tables[name], [PYTHON_IN_C[kind.id] for kind in kinds.elts])
-    return found
+def kind_of(kind):
+    """A type of the crate, without its path and its lifetime; a struct that C gets, without the C before its name."""
+    return re.sub(r"&\s*('\w+\s*)?", "&", re.sub(r"\b\w+::|\bC(?=[A-Z][a-z])", "", " ".join(kind.split())))
 
 
-def kinds_of(given):
-    """The types of the arguments that a function of C takes."""
-    given = [one.strip() for one in given.split(",") if one.strip() not in ("", "void")]
-    return [ARGUMENT.match(one).group(1).strip() for one in given]
-
-
-def without_comments(header):
-    return re.sub(r"/\*.*?\*/", "", header, flags=re.S)
-
-
-def declarations_of(header):
-    """The calls of the header, in the same form."""
-    header = DEFINITION.sub("", without_comments(header))
-    found = {name: (result, kinds_of(given)) for result, name, given in DECLARATION.findall(header)}
-    named = len(re.findall(r"\blodvarn_\w+\s*\(", header))
-    if named != len(found):
-        raise ValueError(f"the header names {named} calls, and {len(found)} can be read")
-    return found
-
-
-def or_null_of(header):
-    """The calls for which the header has a function that takes NULL, in the same form, as that function has them."""
+def exports_of(source):
+    """The exports of the crate, in the same form."""
     found = {}
-    for result, name, given, body in OR_NULL.findall(without_comments(header)):
-        is_made = f"return {name}(" in body and f"#define {name} {name}_or_null_\n" in header
-        found[name] = (result if is_made else "(not made)", kinds_of(given))
+    for name, given, result in EXPORT.findall(source):
+        kinds = [kind_of(one.split(":", 1)[1]) for one in given.split(",") if one.strip()]
+        found[name] = f"({', '.join(kind for kind in kinds if kind != 'Global')}) -> {result}"
+    if source.count("no_mangle") != len(found):
+        raise ValueError(f"{source.count('no_mangle')} exports are marked, and {len(found)} can be read")
     return found
 
 
-def written(call):
-    """A call as one line."""
-    return f"{call[0]} ({', '.join(call[1])})" if call else "nothing"
+def structs_of_crate(source):
+    """The structs of the crate that have the layout of C, but what a handle points to: their fields."""
+    found = {}
+    for name, body in CRATE_STRUCT.findall(source):
+        fields = re.findall(r"^\s*(?:pub(?:\(crate\))? )?(\w+): ([^\n]+),$", body, re.M)
+        if name != "Handle":
+            found[kind_of(name)] = [(field, kind_of(kind)) for field, kind in fields]
+    return found
 
 
-def see(where, declared, found):
-    """Compares the calls of one place with those of the header. How many are the same, and how many are not."""
-    names = sorted(declared.keys() | found.keys())
-    failed = [name for name in names if declared.get(name) != found.get(name)]
+def snake(name):
+    """A name as the header writes it: BeforeEnd is BEFORE_END."""
+    return re.sub(r"(?<!^)(?=[A-Z])", "_", name).upper()
+
+
+def numbers_of(header):
+    """The numbers of the header, each by its name; and those of the enums that calls take."""
+    enums = {enum: re.findall(r"LODVARN_(\w+) = (-?\d+)", body) for enum, body in ENUM.findall(header)}
+    taken = [number for enum, body in enums.items() if enum not in ("answer", "report_kind") for _, number in body]
+    return {name: int(number) for body in enums.values() for name, number in body}, taken
+
+
+def kinds_of(numbers):
+    """The numbers of all movements, and of what else the crate has one for, each by its name or by what it is."""
+    kinds = dict(numbers)
+    words, stops = ("BIG", "EMACS", "VI"), ("AT_START", "BEFORE_END", "AFTER_END")
+    searches = ("TO", "TO_BEFORE", "BACK_TO", "BACK_TO_AFTER")
+    back, forward, search = (kinds.pop(name) for name in ("WORDS_BACK_", "WORDS_FORWARD_", "SEARCH_"))
+    for name in words + stops + searches:
+        kinds.pop(name)
+    for i, word in enumerate(words):
+        kinds[f"BACKWARD_WORD {word}"] = back + i
+        kinds |= {f"FORWARD_WORD {stop} {word}": forward + 3 * i + k for k, stop in enumerate(stops)}
+    return kinds | {f"VI_CHAR_SEARCH {name}": search + i for i, name in enumerate(searches)}
+
+
+def numbers_of_crate(source):
+    """The numbers of the crate, in the same form."""
+    found = {snake(name): int(number) for name, number in re.findall(r"^ +(\w+) = (-?\d+),$", source, re.M)}
+    rows = re.findall(r"^ +(\d+) => (.+),$", source, re.M)
+    rows += [(number, value) for value, number in re.findall(r"^ +(\w+::\w+) => (\d+),$", source, re.M)]
+    for number, value in rows:
+        names = re.findall(r"\w+::\w+|Ok\((?:true|false)\)", value)
+        found[" ".join(OTHERWISE.get(it, snake(it.partition("::")[2])) for it in names)] = int(number)
+    return found
+
+
+def named_by(client, given):
+    """The numbers of the header that a client uses, each by the name that it gives it, or by the header's."""
+    found = {name: name for name in re.findall(given + r"([A-Z][A-Z0-9_]*)\b", client)}
+    own = re.findall(rf"^ +(\w+) = {given}([A-Z0-9_]+),?$", client, re.M)
+    own += [(name, number) for number, name in re.findall(rf"^ +{given}([A-Z0-9_]+) => \w+::(\w+),$", client, re.M)]
+    for name, number in own:
+        name = name if name.isupper() else snake(name)
+        if not number.endswith(name):
+            found[number] = name
+    return found
+
+
+def see(where, wanted, found):
+    """Compares what one place has with what is wanted there. How many are the same, and how many are not."""
+    names = wanted.keys() | found.keys()
+    failed = sorted((name for name in names if wanted.get(name) != found.get(name)), key=str)
     for name in failed:
-        print(f"{name}: the header has {written(declared.get(name))}, {where} {written(found.get(name))}")
+        print(f"{where}: {name} is {found.get(name, 'not there')}, and should be {wanted.get(name, 'not there')}")
     return len(names) - len(failed), len(failed)
 
 
 def main():
-    header = (TOP / "include/lodvarn.h").read_text()
-    of_session = declarations_of(header)
-    declared = of_session | declarations_of((TOP / "include/lodvarn_parts.h").read_text())
-    writing = {name: call for name, call in of_session.items() if NUMBERS & set(call[1])}
-    sources = "".join(source.read_text() for source in sorted((TOP / "crates/rl_ffi/src").glob("**/*.rt")))
-    rust, python = "clients/rust/lodvarn-sys/src", "clients/python/lodvarn/__init__.py"
-    foreign = "".join(source.read_text() for source in sorted((TOP / rust).glob("*.rs")))
-    wrapper = "clients/rust/lodvarn/src"
-    made = MADE.findall("".join(source.read_text() for source in sorted((TOP / wrapper).glob("*.rs"))))
+    headers = without_comments(read("include/*.h"))
+    handles = without_comments(read("clients/handles.c"))
+    crate = without_comments(read("crates/rl_ffi/src/**/*.rt"))
+    declares, defines = calls_of(headers, ";"), calls_of(handles, " {")
+    structs = {in_crate(name): declared(body, ";") for body, name in STRUCT.findall(headers)}
+    numbers, taken = numbers_of(headers)
+    clients = {
+        "Python": named_by(read("clients/python/lodvarn/*.py"), r"numbers\."),
+        "Rust": named_by(read("clients/rust/lodvarn/src/**/*.rs"), "ffi::"),
+    }
+    # No client needs to tell these apart.
+    named = {name: name for name in numbers if name not in ("NOTHING", "DONE", "DONE_AT_END", "TOO_SMALL")}
     sums = [
-        see("the crate", declared, calls_of(sources, EXPORT, "no_mangle")),
-        see(rust, declared, calls_of(foreign, FOREIGN, "pub fn")),
-        see(wrapper, declared, {name: declared.get(name) for name in made}),
-        see(python, of_session, calls_of_python((TOP / python).read_text())),
-        see("its function for NULL", writing, or_null_of(header)),
+        see("clients/handles.c", {name: declares.get(name) for name in defines}, defines),
+        see("the crate", {k: v for k, v in declares.items() if k not in defines} | calls_of(handles, ";"), exports_of(crate)),
+        see("a struct of the crate", structs, structs_of_crate(crate)),
+        see("a number of the crate", kinds_of(numbers), numbers_of_crate(read("crates/rl_ffi/src/numbers.rt", "crates/rl_ffi/src/answers.rt"))),
+        see("the enums that calls take", {"values": len(taken)}, {"values": len(set(taken))}),
     ]
+    sums += [see(client, named, {k: v for k, v in used.items() if k in named}) for client, used in clients.items()]
     passed, failed = (sum(counts) for counts in zip(*sums))
     print(f"{passed} passed, {failed} failed")
     return 1 if failed or not passed else 0

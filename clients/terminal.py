@@ -377,7 +377,7 @@ SCROLLED = [
     ),
     (
         "wide characters in a narrower one",
-        [MANY, "日" * 89, keys("Left " * 46), (31, ROWS)],
+        [MANY, "日" * 89, keys("Left " * 46), PAUSED, (31, ROWS)],
         [*OTHERS, "> " + "日" * 14, *["日" * 15] * 5],
         (15, 28),
     ),

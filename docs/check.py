@@ -8,7 +8,7 @@
 - Each path in backquotes that begins with a folder of the top: a file or a folder, or a pattern that matches one.
 - Each call and constant of C (lodvarn_.., LODVARN_..): in the headers of include, or a header, or a variable of the
   environment.
-- Each crate (rl_..): in crates.txt.
+- Each crate (rl_..): in crates.txt, or a call that clients/handles.c makes.
 - Each word of a script (specs/Grammar.antt): one row in docs/RULES.md, and no other rows.
 - Each function, clause and definition in the column of contracts of docs/PROMISES.md: in the crates, as it is spelled.
 
@@ -301,6 +301,7 @@ def main():
     names = {name for header in headers for name in (header.stem, *CALL.findall(header.read_text()))}
     header = VARIABLES | names
     crates = set(re.findall(r"^(\w+)", (TOP / "crates.txt").read_text(), re.M))
+    crates |= set(CRATE.findall((TOP / "clients/handles.c").read_text()))
     for page in PAGES:
         see_page(count, page, header, crates)
     print(f"{count.passed} passed, {count.failed} failed")

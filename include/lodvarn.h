@@ -1,74 +1,60 @@
 /* Lodvarn for C: a line of text with its cursor, its undo record and its kill ring.
  *
- * A session is a pointer that starts as NULL. Each call takes the address of that pointer:
- *
- *     lodvarn *s = NULL;
- *     lodvarn_open(&s, "ab", 2, 2, 4096, 60, LODVARN_UNICODE);
- *     lodvarn_insert(&s, 'c', 1);
+ *     lodvarn *s;
+ *     if (lodvarn_open(&s, NULL, "ab", 2) < 0) return 1;
+ *     lodvarn_insert(s, 'c', 1);
  *     lodvarn_close(&s);
  *
  * The library is built for Linux on x86-64, and for a processor with x86-64-v2 (SSE4.2). It does not check that. Its
  * shared file is liblodvarn.so.0, and all calls bear the version LODVARN_0: docs/GUIDE.md says what that promises.
  *
  * Pointers
- * - The argument s is never NULL, which no call checks. What it points to is NULL at first, and only these calls write
- *   it. Never copy it: a copy dangles once the session is closed.
- * - A session whose pointer is NULL is closed. lodvarn_open opens it. Every other call does nothing on it, and answers
- *   LODVARN_CLOSED, or 0 where it answers a size_t.
- * - A text is a pointer to bytes and their number (text and len, script and len). A buffer is a pointer to bytes that
- *   may be written, and their number (out and cap). Either pointer may be NULL where its number is 0, and only there.
- * - A pointer to a number (out_len, mark, line, column, columns, row, start, end, from, to, pos, place, old_end,
- *   new_end, kind, at, old_len, new_len, pos_before, pos_after) may be NULL: that number is not wanted. This header
- *   sees to it, at its end. The calls of the library, as another language finds them, take no NULL there.
- * - What a call writes to overlaps nothing else that is passed to it.
- * - One thread at a time is in a call on a session. No call is made from a signal handler, nor in the forked child of
- *   a process with threads.
+ * - No pointer is NULL, unless a comment allows it: a session in lodvarn_close, the options in lodvarn_open, and a text
+ *   or a buffer whose length is 0. No call checks the others.
+ * - What a call writes to overlaps nothing else that is passed to it, and no text that is passed to a call is one that
+ *   the same session lends.
+ * - One thread at a time is in a call on a session. No call is made from a signal handler, nor in the forked child of a
+ *   process with threads. No signal handler leaves a call by siglongjmp, and no thread is cancelled in one: the session
+ *   is lost then, and every call on it but lodvarn_close returns LODVARN_CLOSED, false or 0.
  *
- * Texts are UTF-8. No NUL ends them, neither those that are passed nor those that are written.
+ * Texts
+ * - Texts are UTF-8. No NUL ends them, neither those that are passed nor those that are lent or written.
+ * - A lent text is a lodvarn_view. It is good until the next call on the session that may change something: any but the
+ *   reads. Copy what must live longer.
  *
  * Numbers
- * - Lengths, sizes of buffers, limits and places are in bytes.
- * - A place is a number of bytes from the start of the text. It must be a boundary: an end of the text, or between two
- *   characters.
+ * - Lengths, limits and places are in bytes. A place is a number of bytes from the start of the text. It must be a
+ *   boundary: an end of the text, or between two characters.
  * - A character c is a Unicode scalar value: up to 0x10FFFF, and no surrogate.
- * - A count n is of grapheme clusters, words, lines or repetitions, as the call says.
- * - Columns are those of a terminal, where a wide character takes two.
- * - Lines, rows and columns are numbered from 0.
+ * - A count n is of grapheme clusters, words, lines or repetitions, up to 65535.
+ * - Columns are those of a terminal, where a wide character takes two. Lines and columns are numbered from 0.
  * - The record has entries: changes, and the marks where groups begin and end.
- * - lodvarn_insert, lodvarn_paste, lodvarn_yank, lodvarn_yank_pop and lodvarn_update keep to the limit. Where another
- *   call makes the text longer than the limit, the limit rises to the text's length. LODVARN_NO_LIMIT is no limit.
  *
  * Answers
- * A call that answers a uint32_t answers one of enum lodvarn_answer. The comment of each call names its answers and its
- * errors, without LODVARN_. CLOSED is an error of each call with an s that answers a uint32_t, except lodvarn_open.
- * The errors are the numbers from LODVARN_NO_MEMORY on, as LODVARN_IS_ERROR tells. What an error leaves:
+ * A call that returns an int returns one of enum lodvarn_answer: below 0 an error, 0 if there was nothing to do, and
+ * from 1 on if it is done. So if (lodvarn_undo(s, 1) > 0) asks whether something was undone. The comment of each call
+ * names its errors, without LODVARN_. NO_SUCH_NUMBER is one of every call that takes a count, a character, a movement or
+ * an enum: a count above 65535, no character, or a number that is not in the enum. NOT_UTF8 is one of every call that
+ * takes a text. What an error leaves:
  * - NO_MEMORY: an edit of several steps stops after the steps that it made, and the record has these. Every other call
  *   leaves text, cursor, record and limit as they were. The ring may have kept a text that a kill did not delete.
- * - BAD_PLACE, BAD_YANK_SIZE and NOT_REPLAYING: text, cursor, record and limit as they were. The call still counts as
- *   a command, unless it is a read or lodvarn_kill_range: a kill after it begins a new text of the ring, and
- *   lodvarn_yank_pop after it answers NONE.
- * - CLOSED and the errors after it: the whole session as it was.
- *
- * A call writes through out and through a pointer to a number only with the answer that its comment names for that.
- * But TOO_SMALL writes the length that is needed, and lodvarn_text and lodvarn_script write in any case.
+ * - BAD_PLACE, BAD_YANK_SIZE, NOT_REPLAYING and NO_ROOM: text, cursor, record and limit as they were. The call still
+ *   counts as a command, unless it is a read, lodvarn_kill_range, or lodvarn_yank_pop that is out of room: a kill after
+ *   it begins a new text of the ring, and lodvarn_yank_pop after it finds nothing.
+ * - Every other error: the whole session as it was.
+ * A call writes to an argument only if it returns 1 or more, or TOO_SMALL. lodvarn_script writes in any case.
  *
  * Memory
- * It comes from malloc and realloc, and lodvarn_close frees all that a session has. A call asks for some only where its
- * comment names NO_MEMORY. lodvarn_open finds room for the text that it is given, whatever the limit, and lodvarn_watch
- * for its whole queue. All else is found by the call that needs it: a longer text, a newline, an entry of the record, a
- * text of the ring, and copies that it frees again. The record grows until lodvarn_truncate or lodvarn_restart, or up
- * to the bound of lodvarn_set_bound.
- *
- * What changed
- * A session tells what changes its text, whatever changed it: also an undo, a redo, and a command that was refused
- * halfway. Whoever applies the reports in order to the text that he had, has the text of the session. lodvarn_changed
- * tells all that changed since it was asked last, as one change; it is always there, and takes no memory. lodvarn_watch
- * asks for a queue, from which lodvarn_next_report hands out each change.
+ * It comes from malloc and realloc, and lodvarn_close frees all that a session has. A call asks for some only if its
+ * comment names NO_MEMORY. lodvarn_watch finds room for its whole queue. All else is found by the call that needs it: a
+ * longer text, a newline, an entry of the record, a text of the ring, and copies that it frees again. The record grows
+ * until lodvarn_truncate or lodvarn_restart, or up to the bound in the options.
  *
  * docs/RULES.md says exactly what each call does. */
 #ifndef LODVARN_H
 #define LODVARN_H
 
+#include <stdbool.h>
 #include <stddef.h>
 #include <stdint.h>
 
@@ -76,11 +62,12 @@
 extern "C" {
 #endif
 
-/* The version that this header is of, in numbers, and as a text such as "1.2.3". A program has it from when it was
- * compiled; that of the library that it runs with is lodvarn_version(). */
+/* The version of this header: as numbers, as one number that grows with each version, and as a text such as "1.2.3".
+ * That of the library which the program runs with is lodvarn_version(). */
 #define LODVARN_VERSION_MAJOR 0
 #define LODVARN_VERSION_MINOR 1
 #define LODVARN_VERSION_PATCH 0
+#define LODVARN_VERSION_NUMBER ((LODVARN_VERSION_MAJOR << 16) | (LODVARN_VERSION_MINOR << 8) | LODVARN_VERSION_PATCH)
 #define LODVARN_VERSION LODVARN_VERSION_OF_(LODVARN_VERSION_MAJOR, LODVARN_VERSION_MINOR, LODVARN_VERSION_PATCH)
 /* Two steps, since a number that is made a text at once would be its name. */
 #define LODVARN_VERSION_OF_(major, minor, patch) LODVARN_DOTTED_(major, minor, patch)
@@ -93,615 +80,504 @@ extern "C" {
 /* A session. */
 typedef struct lodvarn lodvarn;
 
-/* What a call answers. */
+/* What a call returns. */
 enum lodvarn_answer {
-    LODVARN_DONE = 0,           /* done */
-    LODVARN_TRUE = 1,           /* yes: there was something to do. Of an insertion: the cursor was at the end */
-    LODVARN_FALSE = 2,          /* no: there was nothing to do. Of an insertion: the cursor was not at the end */
-    LODVARN_NONE = 3,           /* no text, no such line, or an insertion past the limit. The text is unchanged, but
-                                   lodvarn_yank_pop may have taken out what was yanked */
-    LODVARN_TEXT = 4,           /* a text is written to out */
-    LODVARN_MARK = 5,           /* a number of entries is written */
-    LODVARN_AT = 6,             /* a line and a column are written */
-    LODVARN_NO_MEMORY = 11,     /* out of memory */
-    LODVARN_BAD_PLACE = 12,     /* a place is past the end or inside a character, or two places are out of order */
-    LODVARN_BAD_YANK_SIZE = 13, /* what was yanked does not stand before the cursor */
-    LODVARN_NOT_REPLAYING = 14, /* the entries to keep do not lead to the present text */
-    LODVARN_CLOSED = 20,        /* the session is closed */
-    LODVARN_NOT_UTF8 = 21,      /* a text that was passed is not UTF-8 */
-    LODVARN_NO_SUCH_NUMBER = 22, /* a number is not in its enum, or is no character */
-    LODVARN_TOO_SMALL = 23      /* the text to write is longer than the buffer */
+    LODVARN_NOTHING = 0,         /* there was nothing to do, or nothing that was asked for */
+    LODVARN_DONE = 1,            /* done */
+    LODVARN_DONE_AT_END = 2,     /* done, and what was inserted went to the end of the text */
+    LODVARN_NO_MEMORY = -1,      /* out of memory */
+    LODVARN_BAD_PLACE = -2,      /* a place is past the end or inside a character, or two places are out of order */
+    LODVARN_BAD_YANK_SIZE = -3,  /* the text before the cursor was not just yanked */
+    LODVARN_NOT_REPLAYING = -4,  /* the entries do not lead to the present text */
+    LODVARN_NO_ROOM = -5,        /* the text would get longer than the limit */
+    LODVARN_NOT_UTF8 = -6,       /* a text that was passed is not UTF-8 */
+    LODVARN_NO_SUCH_NUMBER = -7, /* a number is not in its enum, is no character, or is a count above 65535 */
+    LODVARN_TOO_SMALL = -8,      /* the text to write is longer than the buffer */
+    LODVARN_IS_WATCHED = -9,     /* the session keeps reports already */
+    LODVARN_CLOSED = -10         /* the session was lost in a call that a signal handler left */
 };
 
-/* Whether an answer is an error. */
-#define LODVARN_IS_ERROR(answer) ((answer) >= LODVARN_NO_MEMORY)
-
-/* Names an answer: the text "LODVARN_CLOSED" of LODVARN_CLOSED, and "unknown" of a number that is no answer. The text
- * ends with a NUL, and stays. This is compiled into the program: the library has no such call. */
-static inline const char *lodvarn_answer_name(uint32_t answer) {
-    switch (answer) {
-    case LODVARN_DONE: return "LODVARN_DONE";
-    case LODVARN_TRUE: return "LODVARN_TRUE";
-    case LODVARN_FALSE: return "LODVARN_FALSE";
-    case LODVARN_NONE: return "LODVARN_NONE";
-    case LODVARN_TEXT: return "LODVARN_TEXT";
-    case LODVARN_MARK: return "LODVARN_MARK";
-    case LODVARN_AT: return "LODVARN_AT";
-    case LODVARN_NO_MEMORY: return "LODVARN_NO_MEMORY";
-    case LODVARN_BAD_PLACE: return "LODVARN_BAD_PLACE";
-    case LODVARN_BAD_YANK_SIZE: return "LODVARN_BAD_YANK_SIZE";
-    case LODVARN_NOT_REPLAYING: return "LODVARN_NOT_REPLAYING";
-    case LODVARN_CLOSED: return "LODVARN_CLOSED";
-    case LODVARN_NOT_UTF8: return "LODVARN_NOT_UTF8";
-    case LODVARN_NO_SUCH_NUMBER: return "LODVARN_NO_SUCH_NUMBER";
-    case LODVARN_TOO_SMALL: return "LODVARN_TOO_SMALL";
-    default: return "unknown";
-    }
-}
-
-/* How columns are counted. */
+/* How columns are counted. The values of all enums that calls take differ. */
 enum lodvarn_mode {
-    LODVARN_UNICODE = 0,  /* the width of the whole text, an emoji sequence as one emoji */
-    LODVARN_WC_WIDTH = 1, /* the sum of the widths of its characters */
-    LODVARN_NO_ZWJ = 2    /* the sum of the widths of the parts between zero-width joiners */
+    LODVARN_UNICODE = 10,  /* the width of the whole text, an emoji sequence as one emoji */
+    LODVARN_WC_WIDTH = 11, /* the sum of the widths of its characters */
+    LODVARN_NO_ZWJ = 12    /* the sum of the widths of the parts between zero-width joiners */
 };
 
 /* What belongs to a word. */
 enum lodvarn_word {
-    LODVARN_BIG = 0,   /* everything but blanks */
-    LODVARN_EMACS = 1, /* letters and digits */
-    LODVARN_VI = 2     /* letters, digits and _; a run of other characters except blanks is a word too */
+    LODVARN_BIG = 20,   /* everything but blanks */
+    LODVARN_EMACS = 21, /* letters and digits */
+    LODVARN_VI = 22     /* letters, digits and _; a run of other characters except blanks is a word too */
 };
 
-/* Where a motion forward by words stops. */
-enum lodvarn_at {
-    LODVARN_START = 0,      /* at the start of a word */
-    LODVARN_BEFORE_END = 1, /* at the last cluster of a word; after an Emacs word */
-    LODVARN_AFTER_END = 2   /* after a word */
+/* Where a movement forward by words stops. */
+enum lodvarn_stop {
+    LODVARN_AT_START = 30,   /* at the start of a word */
+    LODVARN_BEFORE_END = 31, /* at the last cluster of a word; after an Emacs word */
+    LODVARN_AFTER_END = 32   /* after a word */
 };
 
-/* Where a search for a character c goes. */
+/* Where a search for a character goes. */
 enum lodvarn_search {
-    LODVARN_FORWARD = 0,        /* forward, to c; a deletion takes c too */
-    LODVARN_FORWARD_BEFORE = 1, /* forward, to the character before c; a deletion leaves c */
-    LODVARN_BACKWARD = 2,       /* back, to c; a deletion takes c too */
-    LODVARN_BACKWARD_AFTER = 3  /* back, to the place after c; a deletion leaves c */
+    LODVARN_TO = 40,          /* forward, to the character; a deletion takes it too */
+    LODVARN_TO_BEFORE = 41,   /* forward, to the character before it; a deletion leaves it */
+    LODVARN_BACK_TO = 42,     /* back, to the character; a deletion takes it too */
+    LODVARN_BACK_TO_AFTER = 43 /* back, to the place after it; a deletion leaves it */
 };
 
-/* Where a motion goes, and what a kill, a copy or an indent covers. A movement by words, clusters or lines takes a
- * count n; a search takes a count n and a character c. The others ignore n and c. */
-enum lodvarn_movement {
-    LODVARN_WHOLE_LINE = 0,
-    LODVARN_BEGINNING_OF_LINE = 1,
-    LODVARN_END_OF_LINE = 2,
-    LODVARN_BACKWARD_BIG_WORD = 3, /* to the start of the n-th word back */
-    LODVARN_BACKWARD_EMACS_WORD = 4,
-    LODVARN_BACKWARD_VI_WORD = 5,
-    LODVARN_FORWARD_BIG_WORD_START = 6, /* to the n-th word forward, as enum lodvarn_at says */
-    LODVARN_FORWARD_BIG_WORD_BEFORE_END = 7,
-    LODVARN_FORWARD_BIG_WORD_AFTER_END = 8,
-    LODVARN_FORWARD_EMACS_WORD_START = 9,
-    LODVARN_FORWARD_EMACS_WORD_BEFORE_END = 10,
-    LODVARN_FORWARD_EMACS_WORD_AFTER_END = 11,
-    LODVARN_FORWARD_VI_WORD_START = 12,
-    LODVARN_FORWARD_VI_WORD_BEFORE_END = 13,
-    LODVARN_FORWARD_VI_WORD_AFTER_END = 14,
-    LODVARN_SEARCH_FORWARD = 15, /* to the n-th c, as enum lodvarn_search says */
-    LODVARN_SEARCH_FORWARD_BEFORE = 16,
-    LODVARN_SEARCH_BACKWARD = 17,
-    LODVARN_SEARCH_BACKWARD_AFTER = 18,
-    LODVARN_FIRST_PRINT = 19,   /* from the first start of a big word after the start of the text to the cursor */
-    LODVARN_BACKWARD_CHAR = 20, /* n clusters */
-    LODVARN_FORWARD_CHAR = 21,
-    LODVARN_LINE_UP = 22, /* n lines */
-    LODVARN_LINE_DOWN = 23,
-    LODVARN_WHOLE_BUFFER = 24,
-    LODVARN_BEGINNING_OF_BUFFER = 25,
-    LODVARN_END_OF_BUFFER = 26,
-    LODVARN_FIRST_NONBLANK = 27 /* to the first character of the line that is no blank, or to the line's end; covers
-                                   what stands between that place and the cursor, on either side of it */
-};
-
-/* On which side of the cursor a killed range counts, and so to which end of the ring's text it goes. */
+/* To which end of the ring's text a killed range goes, in a run of kills. */
 enum lodvarn_direction {
-    LODVARN_KILL_FORWARD = 0, /* after it: to the end */
-    LODVARN_KILL_BACKWARD = 1 /* before it: to the front */
+    LODVARN_FORWARD = 50, /* to the end, as what stood after the cursor */
+    LODVARN_BACKWARD = 51 /* to the front, as what stood before it */
 };
 
 /* The letter case that a word gets. */
-enum lodvarn_action {
-    LODVARN_CAPITALIZE = 0, /* the first character in upper case, the others in lower case */
-    LODVARN_LOWERCASE = 1,
-    LODVARN_UPPERCASE = 2
+enum lodvarn_case {
+    LODVARN_CAPITALIZE = 60, /* the first character in upper case, the others in lower case */
+    LODVARN_LOWERCASE = 61,
+    LODVARN_UPPERCASE = 62
 };
 
 /* What lodvarn_indent does. */
-enum lodvarn_indent_direction {
-    LODVARN_INDENT = 0, /* inserts spaces */
-    LODVARN_DEDENT = 1  /* deletes leading blanks */
+enum lodvarn_indentation {
+    LODVARN_INDENT = 70, /* inserts spaces */
+    LODVARN_DEDENT = 71  /* deletes leading blanks */
 };
 
-/* Opens a session on a text, with the cursor at the place pos. A session that *s had is closed. The text may grow to
- * limit bytes, or to len where that is greater; no room is reserved for that. The kill ring keeps up to ring_size
- * texts, and takes no memory before it keeps one. The mode is an enum lodvarn_mode. Answers DONE. Errors: NOT_UTF8,
- * NO_SUCH_NUMBER, BAD_PLACE, NO_MEMORY; they leave the session that *s has. */
-uint32_t lodvarn_open(lodvarn **s, const char *text, size_t len, size_t pos, size_t limit, size_t ring_size,
-                      uint32_t mode);
+/* A text that is lent: len bytes from at on. If len is 0, at is no pointer to read from. */
+typedef struct lodvarn_view {
+    const char *at;
+    size_t len;
+} lodvarn_view;
 
-/* Begins anew with a text, with the cursor at the place pos, as an editor does with the next line. The record is empty
- * then. The kill ring keeps its texts; a kill begins a new one, and lodvarn_yank_pop answers NONE until a yank. The
- * limit rises where the text is longer, and the settings stay. What tells of changes tells that all the old text gave
- * way to the new one. Answers DONE. Errors: NOT_UTF8, BAD_PLACE, and NO_MEMORY only where the text needs more room;
- * they leave the whole session. */
-uint32_t lodvarn_restart(lodvarn **s, const char *text, size_t len, size_t pos);
+/* What stands between two places. */
+typedef struct lodvarn_range {
+    size_t from;
+    size_t to;
+} lodvarn_range;
 
-/* Closes the session, if *s has one, and frees its memory. *s is NULL afterwards. */
+/* A line and a column of it. On a screen a line is a row. */
+typedef struct lodvarn_position {
+    size_t line;
+    size_t column;
+} lodvarn_position;
+
+/* A grapheme cluster: the place where it ends, and how many columns it takes. */
+typedef struct lodvarn_cluster {
+    size_t end;
+    size_t columns;
+} lodvarn_cluster;
+
+/* A change: what stood from from to old_to gave way to what stands from from to new_to now. */
+typedef struct lodvarn_splice {
+    size_t from;
+    size_t old_to;
+    size_t new_to;
+} lodvarn_splice;
+
+/* Where a motion goes, and what a kill, a copy or an indent covers. The functions below make one. */
+typedef struct lodvarn_movement {
+    uint32_t kind;
+    uint32_t c;
+    size_t n;
+} lodvarn_movement;
+
+/* A screen: how many columns it has; the column where the text begins, after a prompt; and the distance of tab stops, 0
+ * if a tab is as wide as lodvarn_width tells. */
+typedef struct lodvarn_screen {
+    uint16_t columns;
+    uint16_t prompt;
+    uint16_t tab;
+    enum lodvarn_mode mode;
+} lodvarn_screen;
+
+/* What may be chosen of a session. size is sizeof(lodvarn_options), so that a later version may add members. Begin with
+ * lodvarn_options options = LODVARN_OPTIONS; and change what should differ. */
+typedef struct lodvarn_options {
+    size_t size;
+    enum lodvarn_mode mode;
+    uint16_t prompt;    /* the column where the text begins, after a prompt: for motions up and down */
+    size_t limit;       /* how many bytes the text may have; as many as it has if that is more */
+    size_t ring_size;   /* how many texts the kill ring keeps. It can't be changed once a session is open */
+    size_t max_entries; /* how many entries the record may have, */
+    size_t max_bytes;   /* and they how many bytes of text. See lodvarn_set_options */
+} lodvarn_options;
+
+#define LODVARN_OPTIONS                                                                                               \
+    { sizeof(lodvarn_options), LODVARN_UNICODE, 0, 4096, 60, LODVARN_NO_BOUND, LODVARN_NO_BOUND }
+
+/* The kinds of movements. No program needs them: it calls the functions below. */
+enum lodvarn_movement_kind {
+    LODVARN_WHOLE_LINE_ = 100,
+    LODVARN_TO_LINE_START_ = 101,
+    LODVARN_TO_LINE_END_ = 102,
+    LODVARN_WORDS_BACK_ = 103,    /* and the two after it: by enum lodvarn_word */
+    LODVARN_WORDS_FORWARD_ = 106, /* and the eight after it: by enum lodvarn_word, and then enum lodvarn_stop */
+    LODVARN_SEARCH_ = 115,        /* and the three after it: by enum lodvarn_search */
+    LODVARN_FROM_FIRST_WORD_ = 119,
+    LODVARN_CHARS_BACK_ = 120,
+    LODVARN_CHARS_FORWARD_ = 121,
+    LODVARN_LINES_UP_ = 122,
+    LODVARN_LINES_DOWN_ = 123,
+    LODVARN_WHOLE_TEXT_ = 124,
+    LODVARN_TO_TEXT_START_ = 125,
+    LODVARN_TO_TEXT_END_ = 126,
+    LODVARN_TO_FIRST_NONBLANK_ = 127
+};
+
+static inline lodvarn_movement lodvarn_movement_(uint32_t kind, uint32_t c, size_t n) {
+    lodvarn_movement movement;
+    movement.kind = kind;
+    movement.c = c;
+    movement.n = n;
+    return movement;
+}
+
+/* The place of a number in an enum; for a number outside of it one that leads to no kind. */
+static inline uint32_t lodvarn_index_(uint32_t number, uint32_t first, uint32_t count) {
+    return number - first < count ? number - first : 1000;
+}
+
+/* The cursor's whole line. */
+static inline lodvarn_movement lodvarn_whole_line(void) { return lodvarn_movement_(LODVARN_WHOLE_LINE_, 0, 0); }
+
+/* To the start, or the end, of the cursor's line. */
+static inline lodvarn_movement lodvarn_to_line_start(void) { return lodvarn_movement_(LODVARN_TO_LINE_START_, 0, 0); }
+static inline lodvarn_movement lodvarn_to_line_end(void) { return lodvarn_movement_(LODVARN_TO_LINE_END_, 0, 0); }
+
+/* To the first character of the cursor's line that is no blank, or to the line's end; covers what stands between that
+ * place and the cursor, on either side of it. */
+static inline lodvarn_movement lodvarn_to_first_nonblank(void) {
+    return lodvarn_movement_(LODVARN_TO_FIRST_NONBLANK_, 0, 0);
+}
+
+/* To the start of the n-th word back. */
+static inline lodvarn_movement lodvarn_words_back(enum lodvarn_word word, size_t n) {
+    return lodvarn_movement_(LODVARN_WORDS_BACK_ + lodvarn_index_((uint32_t)word, LODVARN_BIG, 3), 0, n);
+}
+
+/* To the n-th word forward, and there to the place that stop says. */
+static inline lodvarn_movement lodvarn_words_forward(enum lodvarn_word word, enum lodvarn_stop stop, size_t n) {
+    return lodvarn_movement_(LODVARN_WORDS_FORWARD_ + 3 * lodvarn_index_((uint32_t)word, LODVARN_BIG, 3) +
+                                 lodvarn_index_((uint32_t)stop, LODVARN_AT_START, 3),
+                             0, n);
+}
+
+/* To the n-th character c, or the farthest if there are fewer. */
+static inline lodvarn_movement lodvarn_search_for(enum lodvarn_search search, uint32_t c, size_t n) {
+    return lodvarn_movement_(LODVARN_SEARCH_ + lodvarn_index_((uint32_t)search, LODVARN_TO, 4), c, n);
+}
+
+/* From the first start of a big word after the start of the text to the cursor. No motion: lodvarn_move does nothing. */
+static inline lodvarn_movement lodvarn_from_first_word(void) {
+    return lodvarn_movement_(LODVARN_FROM_FIRST_WORD_, 0, 0);
+}
+
+/* n grapheme clusters back, or forward. */
+static inline lodvarn_movement lodvarn_chars_back(size_t n) { return lodvarn_movement_(LODVARN_CHARS_BACK_, 0, n); }
+static inline lodvarn_movement lodvarn_chars_forward(size_t n) {
+    return lodvarn_movement_(LODVARN_CHARS_FORWARD_, 0, n);
+}
+
+/* n lines up, or down, in the column of the cursor. */
+static inline lodvarn_movement lodvarn_lines_up(size_t n) { return lodvarn_movement_(LODVARN_LINES_UP_, 0, n); }
+static inline lodvarn_movement lodvarn_lines_down(size_t n) { return lodvarn_movement_(LODVARN_LINES_DOWN_, 0, n); }
+
+/* The whole text; to its start; to its end. */
+static inline lodvarn_movement lodvarn_whole_text(void) { return lodvarn_movement_(LODVARN_WHOLE_TEXT_, 0, 0); }
+static inline lodvarn_movement lodvarn_to_text_start(void) { return lodvarn_movement_(LODVARN_TO_TEXT_START_, 0, 0); }
+static inline lodvarn_movement lodvarn_to_text_end(void) { return lodvarn_movement_(LODVARN_TO_TEXT_END_, 0, 0); }
+
+/* Opens a session on a text, with the cursor at its end, and sets *out to it, which is not read. If options is NULL it
+ * has those of LODVARN_OPTIONS. No room is reserved for the limit, and the kill ring takes no memory before it keeps a
+ * text. Errors: NOT_UTF8, NO_SUCH_NUMBER also if size is none that this version knows, NO_MEMORY; they leave *out. */
+int lodvarn_open(lodvarn **out, const lodvarn_options *options, const char *text, size_t len);
+
+/* Closes the session, frees its memory, and sets *s to NULL. Does nothing if *s is NULL, or s. */
 void lodvarn_close(lodvarn **s);
 
-/* Moves the cursor to the place pos. Answers DONE. Errors: BAD_PLACE. */
-uint32_t lodvarn_set_pos(lodvarn **s, size_t pos);
+/* Begins anew with a text, with the cursor at its end, as an editor does with the next line. The record is empty then.
+ * The kill ring keeps its texts; a kill begins a new one, and lodvarn_yank_pop finds nothing until a yank. The limit
+ * rises if the text is longer, and the options stay. The reports tell that all the old text gave way to the new one.
+ * Errors: NOT_UTF8, and NO_MEMORY only if the text needs more room; they leave the whole session. */
+int lodvarn_restart(lodvarn *s, const char *text, size_t len);
 
-/* Moves the cursor by an enum lodvarn_movement. Answers TRUE, or FALSE where there is nowhere to go. WHOLE_LINE,
- * WHOLE_BUFFER and FIRST_PRINT answer FALSE. Errors: NO_SUCH_NUMBER. */
-uint32_t lodvarn_move(lodvarn **s, uint32_t movement, uint16_t n, uint32_t c);
+/* Sets what may be chosen. A kill after it still goes on from the kill before it. The limit becomes the text's length if
+ * that is greater. The bound of the record holds now and after each later command: as long as the record has more than
+ * max_entries entries, or they more than max_bytes bytes of text, of what went and of what came, it forgets the oldest
+ * change or closed group, which can't be undone then. A group that is open stays, with all after its begin, and so does
+ * what was undone. Numbers of entries that were told before count what is gone. Errors: NO_SUCH_NUMBER, also if size is
+ * none that this version knows, or ring_size is not the session's. */
+int lodvarn_set_options(lodvarn *s, const lodvarn_options *options);
 
-/* Inserts the character c n times at the cursor, which goes after them. Answers TRUE where the cursor was at the end,
- * FALSE where it was not, NONE where the text would get longer than the limit. Errors: NO_SUCH_NUMBER, NO_MEMORY. */
-uint32_t lodvarn_insert(lodvarn **s, uint32_t c, uint16_t n);
+/* Writes what is chosen to *options, whose size the caller has set. A read. Errors: NO_SUCH_NUMBER if size is none that this
+ * version knows. */
+int lodvarn_get_options(lodvarn *s, lodvarn_options *options);
 
-/* Inserts a text n times at the cursor, which goes after it. Answers TRUE where the cursor was at the end, FALSE
- * where it was not, NONE where the text is empty or the line would get longer than the limit. Errors: NOT_UTF8,
+/* The commands. */
+
+/* Moves the cursor to the place pos. Errors: BAD_PLACE. */
+int lodvarn_set_pos(lodvarn *s, size_t pos);
+
+/* Moves the cursor. Returns NOTHING if there is nowhere to go, as by a movement over the whole line or text. */
+int lodvarn_move(lodvarn *s, lodvarn_movement movement);
+
+/* Inserts the character c n times at the cursor, which goes after them. Errors: NO_ROOM, NO_MEMORY. */
+int lodvarn_insert(lodvarn *s, uint32_t c, size_t n);
+
+/* Inserts a text n times at the cursor, which goes after it. Returns NOTHING if the text is empty. Errors: NO_ROOM,
  * NO_MEMORY. */
-uint32_t lodvarn_paste(lodvarn **s, const char *text, size_t len, uint16_t n);
+int lodvarn_paste(lodvarn *s, const char *text, size_t len, size_t n);
 
-/* Inserts the ring's current text n times at the cursor, which goes after it. Answers as lodvarn_paste does, and NONE
- * also where the ring has no text. Errors: NO_MEMORY. */
-uint32_t lodvarn_yank(lodvarn **s, uint16_t n);
+/* Inserts the ring's current text n times at the cursor, which goes after it. Returns NOTHING if the ring has no text, or
+ * an empty one. Errors: NO_ROOM, NO_MEMORY. */
+int lodvarn_yank(lodvarn *s, size_t n);
 
 /* Replaces the text that the last call yanked by the one before it in the ring. These are two changes: call
- * lodvarn_begin before the yank, and lodvarn_end after the last call of this, if one undo should take back all. Answers
- * TRUE where the cursor was at the end, FALSE where it was not. Answers NONE where the last command was not a yank:
- * then the text is unchanged. Answers NONE also where the text before it is empty or too long for the limit: then what
- * was yanked is deleted, and the record has that. Errors: BAD_YANK_SIZE where no text of the yanked length ends at the
- * cursor, as may happen after a yank with n = 0; NO_MEMORY. */
-uint32_t lodvarn_yank_pop(lodvarn **s);
+ * lodvarn_begin_group before the yank, and lodvarn_end_group after the last call of this, if one undo should take back
+ * all. Returns NOTHING if the last command was not a yank. If the text before it is empty, what was yanked is deleted.
+ * Errors: NO_ROOM, which leaves the whole session; BAD_YANK_SIZE if no text of the yanked length ends at the cursor, as
+ * may happen after a yank with n = 0; NO_MEMORY. */
+int lodvarn_yank_pop(lodvarn *s);
 
 /* Replaces the whole text by another one, which is cut to the limit. The cursor goes to the place pos of the new text,
- * or to its end where it was cut before pos. Answers DONE. These are two changes, see lodvarn_transpose_chars. Errors:
- * NOT_UTF8, BAD_PLACE where pos is no boundary of the text that was passed, NO_MEMORY. */
-uint32_t lodvarn_update(lodvarn **s, const char *text, size_t len, size_t pos);
+ * or to its end if it was cut before pos. These are two changes, see lodvarn_transpose_chars. Errors: BAD_PLACE if pos
+ * is no boundary of the text that was passed, NO_MEMORY. */
+int lodvarn_set_text(lodvarn *s, size_t pos, const char *text, size_t len);
 
-/* Inserts a text at the place at, whatever the limit. The cursor's place keeps its number. Answers TRUE where at was
- * the end, FALSE where it was not. Errors: NOT_UTF8, BAD_PLACE also where the cursor would come to stand inside a
- * character, NO_MEMORY. */
-uint32_t lodvarn_insert_str(lodvarn **s, size_t at, const char *text, size_t len);
+/* Inserts a text at a place, whatever the limit, which rises if the text is longer then. The cursor's place keeps its
+ * number. Errors: BAD_PLACE also if the cursor would come to stand inside a character, NO_MEMORY. */
+int lodvarn_insert_at(lodvarn *s, size_t place, const char *text, size_t len);
 
-/* Replaces what stands between the places from and to by a text, whatever the limit. The cursor goes after the text.
- * Answers DONE. Errors: NOT_UTF8, BAD_PLACE also where from is after to, NO_MEMORY. */
-uint32_t lodvarn_replace(lodvarn **s, size_t from, size_t to, const char *text, size_t len);
+/* Replaces what stands in a range by a text, whatever the limit, which rises if the text is longer then. The cursor goes
+ * after the text. Errors: BAD_PLACE, NO_MEMORY. */
+int lodvarn_replace(lodvarn *s, lodvarn_range range, const char *text, size_t len);
 
-/* Deletes what stands between the places from and to. The cursor goes to from. Answers DONE. Errors: BAD_PLACE also
- * where from is after to, NO_MEMORY. */
-uint32_t lodvarn_delete_range(lodvarn **s, size_t from, size_t to);
+/* Deletes what stands in a range. The cursor goes to its start. Errors: BAD_PLACE, NO_MEMORY. */
+int lodvarn_delete_range(lodvarn *s, lodvarn_range range);
 
-/* Deletes n clusters after the cursor and writes them to out, a buffer of cap bytes. Where out is NULL, and cap 0, it
- * deletes them and writes them nowhere. Answers TEXT with their length in *out_len, NONE where there are none. Errors:
- * TOO_SMALL, where out is not NULL, with the length that is needed in *out_len; NO_MEMORY. */
-uint32_t lodvarn_delete(lodvarn **s, uint16_t n, char *out, size_t cap, size_t *out_len);
+/* Deletes n clusters after the cursor; lodvarn_backspace those before it. lodvarn_covers and lodvarn_slice tell what goes.
+ * Returns NOTHING if there are none. Errors: NO_MEMORY. */
+int lodvarn_delete(lodvarn *s, size_t n);
+int lodvarn_backspace(lodvarn *s, size_t n);
 
-/* Deletes n clusters before the cursor. Answers TRUE, or FALSE where there are none. Errors: NO_MEMORY. */
-uint32_t lodvarn_backspace(lodvarn **s, uint16_t n);
+/* Deletes what a movement to one side of the cursor covers: to the start or the end of the line or the text, by words,
+ * or by a search. At the end of a line lodvarn_to_line_end takes the newline, and at the start of one
+ * lodvarn_to_line_start the newline before it, CR LF as one. The ring does not keep it: of all deletions it keeps only
+ * those by lodvarn_kill and lodvarn_kill_range. Returns NOTHING if there is nothing. Errors: NO_SUCH_NUMBER also for the
+ * other movements, NO_MEMORY. */
+int lodvarn_delete_by(lodvarn *s, lodvarn_movement movement);
 
-/* Deletes from the cursor to the end of its line, or the newline where the cursor is at that end. The ring does not
- * keep it: of all deletions it keeps only those by lodvarn_kill and lodvarn_kill_range. Answers TRUE, or FALSE where
- * there is nothing. Errors: NO_MEMORY. */
-uint32_t lodvarn_delete_to_line_end(lodvarn **s);
-
-/* Deletes from the cursor to the end of the text. Answers TRUE, or FALSE where there is nothing. Errors: NO_MEMORY. */
-uint32_t lodvarn_delete_to_end(lodvarn **s);
-
-/* What these two were called before. They are no kills. */
-#define lodvarn_kill_line lodvarn_delete_to_line_end
-#define lodvarn_kill_buffer lodvarn_delete_to_end
-
-/* Deletes from the start of the cursor's line to the cursor, or the newline before it, CR LF as one, where the
- * cursor is at that start. Answers TRUE, or FALSE where there is nothing. Errors: NO_MEMORY. */
-uint32_t lodvarn_discard_line(lodvarn **s);
-
-/* Deletes from the start of the text to the cursor. Answers TRUE, or FALSE where there is nothing. Errors:
- * NO_MEMORY. */
-uint32_t lodvarn_discard_buffer(lodvarn **s);
-
-/* Deletes back to the start of the n-th word, by an enum lodvarn_word. Answers TRUE, or FALSE where there is nothing.
- * Errors: NO_SUCH_NUMBER, NO_MEMORY. */
-uint32_t lodvarn_delete_prev_word(lodvarn **s, uint32_t word, uint16_t n);
-
-/* Deletes forward to the n-th word, by an enum lodvarn_word, and there to the place at, an enum lodvarn_at. Answers
- * TRUE, or FALSE where there is nothing. Errors: NO_SUCH_NUMBER, NO_MEMORY. */
-uint32_t lodvarn_delete_word(lodvarn **s, uint32_t at, uint32_t word, uint16_t n);
-
-/* Deletes to the n-th character c, or to the farthest where there are fewer, by an enum lodvarn_search. Answers TRUE,
- * or FALSE where there is none. Errors: NO_SUCH_NUMBER, NO_MEMORY. */
-uint32_t lodvarn_delete_to(lodvarn **s, uint32_t search, uint32_t c, uint16_t n);
-
-/* Exchanges the clusters before and after the cursor; at the end of the text, the last two. The cursor goes after
- * both. Answers TRUE, or FALSE where there are not two. These are two changes: call it between lodvarn_begin and
- * lodvarn_end if one undo should take back both. Errors: NO_MEMORY. */
-uint32_t lodvarn_transpose_chars(lodvarn **s);
+/* Exchanges the clusters before and after the cursor; at the end of the text, the last two. The cursor goes after both.
+ * Returns NOTHING if there are not two. These are two changes: call it between lodvarn_begin_group and lodvarn_end_group
+ * if one undo should take back both. Errors: NO_MEMORY. */
+int lodvarn_transpose_chars(lodvarn *s);
 
 /* Exchanges the word that ends n-th after the cursor with the word n words before it. The cursor goes after both.
- * Answers TRUE, or FALSE where there are not two; the cursor may have moved then. These are four changes, see
+ * Returns NOTHING if there are not two; the cursor may have moved then. These are four changes, see
  * lodvarn_transpose_chars. Errors: NO_MEMORY. */
-uint32_t lodvarn_transpose_words(lodvarn **s, uint16_t n);
+int lodvarn_transpose_words(lodvarn *s, size_t n);
 
-/* Changes the letter case of the rest of the word at the cursor, or of the next word, by an enum lodvarn_action. The
- * cursor goes after the word. Answers TRUE, or FALSE where there is none. These are two changes, see
- * lodvarn_transpose_chars. Errors: NO_SUCH_NUMBER, NO_MEMORY. */
-uint32_t lodvarn_edit_word(lodvarn **s, uint32_t action);
+/* Changes the letter case of the rest of the word at the cursor, or of the next word. The cursor goes after the word.
+ * Returns NOTHING if there is none. These are two changes, see lodvarn_transpose_chars. Errors: NO_MEMORY. */
+int lodvarn_change_case(lodvarn *s, enum lodvarn_case to);
 
-/* Deletes what an enum lodvarn_movement covers. The ring keeps it, except by BACKWARD_CHAR and FORWARD_CHAR.
- * Consecutive kills become one text of the ring: what stood before the cursor goes to its front, what stood after the
- * cursor to its end. A kill that finds nothing parts no run. Each other call between two kills does, so that the second
- * begins a new text: also a motion, lodvarn_copy, lodvarn_keep, lodvarn_yank, lodvarn_undo, lodvarn_begin, lodvarn_end,
- * a kill by BACKWARD_CHAR or FORWARD_CHAR, and a call that had nothing to do. These alone part nothing:
- * lodvarn_kill_range, the settings and the reads below, lodvarn_changed, lodvarn_watch, lodvarn_next_report, the calls
- * without a session, and a call that answers an error from CLOSED on. Answers TRUE, or FALSE where there is nothing.
- * Errors: NO_SUCH_NUMBER, NO_MEMORY. */
-uint32_t lodvarn_kill(lodvarn **s, uint32_t movement, uint16_t n, uint32_t c);
+/* Deletes what a movement covers. The ring keeps it, except by lodvarn_chars_back and lodvarn_chars_forward. Consecutive
+ * kills become one text of the ring: what stood before the cursor goes to its front, what stood after the cursor to its
+ * end. A kill that removes nothing does not end such a run. Any other command does, so that the next kill begins a new
+ * text: also a motion, lodvarn_copy, lodvarn_keep, lodvarn_yank, lodvarn_undo, a begin or end of a group, a kill by
+ * clusters, and a command that had nothing to do. These do not: lodvarn_kill_range, lodvarn_set_options, the calls that
+ * tell what changed, the reads, and a call that returns NOT_UTF8, NO_SUCH_NUMBER or TOO_SMALL. Returns NOTHING if there
+ * is nothing. Errors: NO_MEMORY. */
+int lodvarn_kill(lodvarn *s, lodvarn_movement movement);
 
-/* Kills what stands between the places from and to, wherever the cursor is. The cursor goes to from. The ring keeps it,
- * in a run of kills as what stood before the cursor or after it, by an enum lodvarn_direction. Answers TRUE, or FALSE
- * where from is to, and the cursor stays then. Errors: NO_SUCH_NUMBER, BAD_PLACE also where from is after to,
- * NO_MEMORY. */
-uint32_t lodvarn_kill_range(lodvarn **s, size_t from, size_t to, uint32_t direction);
+/* Kills what stands in a range, wherever the cursor is. The cursor goes to its start. Returns NOTHING if it is empty, and
+ * the cursor stays then. Errors: BAD_PLACE, NO_MEMORY. */
+int lodvarn_kill_range(lodvarn *s, lodvarn_range range, enum lodvarn_direction direction);
+
+/* Ends a run of kills, as every other command does, and does nothing else: the next kill begins a new text of the ring, and
+ * lodvarn_yank_pop finds nothing. */
+int lodvarn_end_kills(lodvarn *s);
 
 /* Puts a text into the ring, as a kill of its own, whatever was done before: the next lodvarn_yank gives it, and a kill
- * after this begins another text. Text, cursor and record stay. So it keeps what lodvarn_delete or lodvarn_copy handed
- * out, or a text from elsewhere. A ring of size 0 keeps nothing. Answers DONE. Errors: NOT_UTF8, NO_MEMORY. */
-uint32_t lodvarn_keep(lodvarn **s, const char *text, size_t len);
+ * after this begins another text. Text, cursor and record stay. A ring of size 0 keeps nothing. Errors: NO_MEMORY. */
+int lodvarn_keep(lodvarn *s, const char *text, size_t len);
 
-/* Copies what an enum lodvarn_movement covers to out, a buffer of cap bytes. Answers TEXT with its length in
- * *out_len, NONE where there is nothing. Errors: NO_SUCH_NUMBER, TOO_SMALL with the length that is needed in
- * *out_len, NO_MEMORY. */
-uint32_t lodvarn_copy(lodvarn **s, uint32_t movement, uint16_t n, uint32_t c, char *out, size_t cap, size_t *out_len);
+/* Copies what a movement covers to out, a buffer of cap bytes, and sets *len to its length. A command: it ends a run of
+ * kills. Returns NOTHING if there is nothing. Errors: TOO_SMALL with the length that is needed in *len. */
+int lodvarn_copy(lodvarn *s, lodvarn_movement movement, char *out, size_t cap, size_t *len);
 
-/* Inserts amount spaces at the start of each line that an enum lodvarn_movement covers, or deletes up to amount bytes
- * of blanks there, by an enum lodvarn_indent_direction. Answers TRUE. Each line is a change or more, see
- * lodvarn_transpose_chars. Errors: NO_SUCH_NUMBER, NO_MEMORY. */
-uint32_t lodvarn_indent(lodvarn **s, uint32_t movement, uint16_t n, uint32_t c, uint8_t amount, uint32_t direction);
+/* Inserts amount spaces at the start of each line that a movement covers, or deletes up to amount bytes of blanks there.
+ * Each line is a change or more, see lodvarn_transpose_chars. Errors: NO_MEMORY. */
+int lodvarn_indent(lodvarn *s, lodvarn_movement movement, uint8_t amount, enum lodvarn_indentation indentation);
 
-/* Begins an undo group: once it is closed, one undo takes back all its changes. Groups may be nested. Answers MARK
- * with the number of entries before the group in *mark. Errors: NO_MEMORY. */
-uint32_t lodvarn_begin(lodvarn **s, size_t *mark);
+/* Begins an undo group: once it is closed, one undo takes back all its changes. Groups may be nested. Errors:
+ * NO_MEMORY. */
+int lodvarn_begin_group(lodvarn *s);
 
-/* Closes all open groups. Answers TRUE, or FALSE where they have no change, or none is open. Errors: NO_MEMORY. */
-uint32_t lodvarn_end(lodvarn **s);
+/* Closes the innermost group; lodvarn_end_all_groups all that are open. Returns NOTHING if it had no change, or none is
+ * open. Errors: NO_MEMORY. */
+int lodvarn_end_group(lodvarn *s);
+int lodvarn_end_all_groups(lodvarn *s);
 
-/* Closes the group that was opened last, and leaves those around it open. Answers TRUE, or FALSE where it has no
- * change, or none is open. Errors: NO_MEMORY. */
-uint32_t lodvarn_end_one(lodvarn **s);
-
-/* Undoes the last n changes and groups, one where n is 0, all where there are fewer. The cursor goes to where it was
- * before them. An edit is a change of its own, or several, as its comment says. But it joins the last change, and is
- * undone with it, where it is
+/* Undoes the last n changes and groups, one if n is 0, all if there are fewer. The cursor goes to where it was before
+ * them. An edit is a change of its own, or several, as its comment says. But it joins the last change, and is undone
+ * with it, if it is
  * - one letter or digit by lodvarn_insert with n = 1, and the last change an insertion that ends at its place;
  * - the deletion or kill of one letter or digit, and the last change a deletion at that place, to either side;
  * - a text by lodvarn_replace, and the last change one whose new text ends at its place.
- * Motions between them part nothing; nothing joins over where a group begins or ends. Answers TRUE, or FALSE where
- * there was no change. Errors: NO_MEMORY. */
-uint32_t lodvarn_undo(lodvarn **s, uint16_t n);
+ * Motions between them do not matter; nothing joins over where a group begins or ends. Returns NOTHING if there was no
+ * change. Errors: NO_MEMORY. */
+int lodvarn_undo(lodvarn *s, size_t n);
 
-/* Redoes what was undone last, one change or group. Answers TRUE, or FALSE where there is none. Errors:
- * NO_MEMORY. */
-uint32_t lodvarn_redo(lodvarn **s);
+/* Redoes what was undone last, one change or group. Returns NOTHING if there is none. Errors: NO_MEMORY. */
+int lodvarn_redo(lodvarn *s);
 
-/* Keeps the first entries of the record, as many as the argument says, and forgets the others and what was undone.
- * The kept ones must lead to the present text. Answers DONE. Errors: NOT_REPLAYING where they do not, NO_MEMORY. */
-uint32_t lodvarn_truncate(lodvarn **s, size_t entries);
+/* Keeps the first entries of the record, as many as the argument says, and forgets the others and what was undone. The
+ * kept ones must lead to the present text. Errors: NOT_REPLAYING if they do not, NO_MEMORY. */
+int lodvarn_truncate(lodvarn *s, size_t entries);
 
-/* Asks where the cursor is. Answers AT with the number of its line in *line, and in *column the width of the text
- * from the start of that line to the cursor, at most 65535. This is a command: a kill after it begins a new text of
- * the ring. lodvarn_line_column is the same as a read. */
-uint32_t lodvarn_line_place(lodvarn **s, size_t *line, uint16_t *column);
+/* What changed. The session tells all that changes its text: also an undo, a redo, and a command that was refused
+ * halfway. Apply what it tells in order to a copy of the text, and the copy equals the session's. A kill after one of
+ * these calls still goes on from the kill before it. */
 
-/* The settings. A kill after one still goes on from the kill before it. lodvarn_open begins with column 0, the limit
- * that it is given, and no bound. */
+/* Tells all that changed since this was asked last, or since the session was opened, as one change, in *splice. Always
+ * there, and takes no memory. Returns NOTHING if nothing changed. */
+int lodvarn_take_change(lodvarn *s, lodvarn_splice *splice);
 
-/* Says that the text begins at that column of the screen, after a prompt. LINE_UP and LINE_DOWN then count so many
- * columns more before the first line. Answers DONE. */
-uint32_t lodvarn_set_prompt(lodvarn **s, uint16_t column);
-
-/* Sets how many bytes the text may have, or as many as it has where that is more; LODVARN_NO_LIMIT for any number. No
- * room is reserved. Answers DONE. */
-uint32_t lodvarn_set_limit(lodvarn **s, size_t limit);
-
-/* Bounds the record, now and after each later command: as long as it has more than that many entries, or they more than
- * that many bytes of text, of what went and of what came, it forgets the oldest change or closed group, which can't be
- * undone then. A group that is open stays, with all after its begin, and so does what was undone. Numbers of entries
- * that were told before count what is gone. LODVARN_NO_BOUND for any number. Answers DONE. */
-uint32_t lodvarn_set_bound(lodvarn **s, size_t entries, size_t bytes);
-
-/* A report of a change: what its kind is of. Its place is at; old_len bytes went there, and new_len bytes came. */
-enum lodvarn_report {
-    LODVARN_CHAR_INSERTED = 1,    /* a character was put in */
-    LODVARN_TEXT_INSERTED = 2,    /* a text was put in */
+/* What kind of change a report is of. */
+enum lodvarn_report_kind {
+    LODVARN_CHAR_INSERTED = 1,
+    LODVARN_TEXT_INSERTED = 2,
     LODVARN_DELETED_FORWARD = 3,  /* a text was taken out, from the cursor on; or by its places alone */
     LODVARN_DELETED_BACKWARD = 4, /* a text was taken out, up to the cursor; or by the places of a kill backward */
     LODVARN_REPLACED = 5,         /* a text gave way to another; so does each change of an undo and of a redo */
     LODVARN_KILL_STARTED = 6,     /* the deletions up to the next report of the kind KILL_STOPPED are a kill */
     LODVARN_KILL_STOPPED = 7,     /* the kill has ended. Neither of these two is of a change: their numbers are 0 */
     LODVARN_FOLDED = 8            /* all that waited and all that came since, as one change, without its texts: what
-                                     came stands in the present text. Its lengths are 0 where only kills began and
-                                     ended */
+                                     came stands in the present text. Its lengths are 0 if only kills began and ended */
 };
 
-/* Tells all that changed in the text since this was asked last, or since the session was opened: what stood between
- * the places from and old_end in the text as it was then gave way to what stands between from and new_end now. Answers
- * DONE with the three places in *from, *old_end and *new_end, NONE where nothing changed. A kill after it still goes on
- * from the kill before it. */
-uint32_t lodvarn_changed(lodvarn **s, size_t *from, size_t *old_end, size_t *new_end);
+/* A report of a change: old_len bytes went from the place at, and new_len bytes came. The cursor stood at pos_before in
+ * the text before, and at pos_after in that after it; both are 0 if it was not told. old_text and new_text are what went
+ * and what came, and empty if no texts are kept or the report is folded. They are good until the next call on the
+ * session that may change something; lodvarn_forget_report is one. */
+typedef struct lodvarn_report {
+    enum lodvarn_report_kind kind;
+    size_t at;
+    size_t old_len;
+    size_t new_len;
+    size_t pos_before;
+    size_t pos_after;
+    lodvarn_view old_text;
+    lodvarn_view new_text;
+} lodvarn_report;
 
 /* Keeps a report of each change from now on, in a queue with room for that many reports and for text_bytes bytes of
- * their texts. All room is found here, so nothing else is ever refused because of it: where a report or its texts find
- * no room, all that waits and the new one become one report, of the kind FOLDED, which takes in each later change until
- * it is read. Where text_bytes is 0, reports have no texts, and at most one waits: a change that comes before it was
- * read is folded into it, so what came is always in the present text. A kill, which tells its start, its deletion and
- * its stop, is then one report of the kind FOLDED. Answers DONE, or FALSE where the session has a queue already.
- * Errors: NO_SUCH_NUMBER where reports is 0, NO_MEMORY. A kill after it still goes on from the kill before it. */
-uint32_t lodvarn_watch(lodvarn **s, size_t reports, size_t text_bytes);
+ * their texts. All room is found here, so no other call is ever refused because of it: if a report or its texts find no
+ * room, all that waits and the new one become one report, of the kind FOLDED, which takes in each later change until it
+ * is forgotten. If text_bytes is 0, reports have no texts, and at most one waits: a change that comes before it was
+ * forgotten is folded into it. Errors: IS_WATCHED, NO_SUCH_NUMBER if reports is 0, NO_MEMORY. */
+int lodvarn_watch(lodvarn *s, size_t reports, size_t text_bytes);
 
-/* Hands out the oldest report that waits, and forgets it. Answers DONE with its enum lodvarn_report in *kind, its place
- * in *at, the bytes that went and that came in *old_len and *new_len, the places of the cursor before and after in
- * *pos_before and *pos_after, and, where texts are kept, what went and right after it what came in out, a buffer of
- * cap bytes. A report that is FOLDED has no texts. The two places of the cursor stand between two characters, of the
- * text before and of the text after it. What puts in an empty text is reported too, with lengths of 0.
- * Answers NONE where no report waits. Errors: TOO_SMALL with all numbers where the old_len + new_len bytes of its texts
- * do not fit: the report is kept. A kill after it still goes on from the kill before it. */
-uint32_t lodvarn_next_report(lodvarn **s, uint32_t *kind, size_t *at, size_t *old_len, size_t *new_len,
-                             size_t *pos_before, size_t *pos_after, char *out, size_t cap);
+/* Keeps no reports any more, and forgets those that wait. */
+int lodvarn_unwatch(lodvarn *s);
+
+/* Tells the oldest report that waits in *report. It stays the oldest until lodvarn_forget_report. Returns NOTHING if none
+ * waits. A read. */
+int lodvarn_next_report(lodvarn *s, lodvarn_report *report);
+
+/* Forgets the oldest report, so that the next becomes the oldest. No command comes between lodvarn_next_report and this
+ * call: its change may be folded into the report, and be forgotten too. Returns NOTHING if none waits. */
+int lodvarn_forget_report(lodvarn *s);
 
 /* The reads. They change nothing, and a kill after one still goes on from the kill before it. */
 
-/* Copies the text to out, as much of it as fits in cap bytes, which may end inside a character. Answers the length of
- * the whole text, in bytes, also where that is more than cap. 0 where the session is closed. */
-size_t lodvarn_text(lodvarn **s, char *out, size_t cap);
+/* Lends the text; lodvarn_slice what stands in a range of it. Errors of the latter: BAD_PLACE. */
+int lodvarn_text(lodvarn *s, lodvarn_view *view);
+int lodvarn_slice(lodvarn *s, lodvarn_range range, lodvarn_view *view);
 
-/* Answers the place of the cursor, in bytes. 0 where the session is closed. */
-size_t lodvarn_pos(lodvarn **s);
+/* Returns the place of the cursor. */
+size_t lodvarn_pos(lodvarn *s);
 
-/* Answers the number of the cursor's line. 0 where the session is closed. */
-size_t lodvarn_line_number(lodvarn **s);
+/* Returns the number of the cursor's line; and the number of lines, at least 1. */
+size_t lodvarn_cursor_line(lodvarn *s);
+size_t lodvarn_count_lines(lodvarn *s);
 
-/* Answers the number of lines, at least 1. 0 where the session is closed. */
-size_t lodvarn_line_count(lodvarn **s);
+/* Tells where the cursor is: the number of its line, and the width of the text from the start of that line to the
+ * cursor, at most 65535. */
+int lodvarn_find_cursor(lodvarn *s, lodvarn_position *position);
 
-/* Tells where line number line begins and where it ends, before its newline. Answers DONE with the two places in
- * *start and *end, NONE where there is no such line. */
-uint32_t lodvarn_line_range(lodvarn **s, size_t line, size_t *start, size_t *end);
+/* Tells where a line begins, and where it ends before its newline. Returns NOTHING if there is no such line. */
+int lodvarn_find_line(lodvarn *s, size_t line, lodvarn_range *range);
 
-/* Tells where the cursor is, as lodvarn_line_place does. Answers AT with the number of its line in *line, and in
- * *column the width of the text from the start of that line to the cursor, at most 65535. */
-uint32_t lodvarn_line_column(lodvarn **s, size_t *line, uint16_t *column);
+/* Tells what lodvarn_copy by a movement would copy. Returns NOTHING if there is nothing. */
+int lodvarn_covers(lodvarn *s, lodvarn_movement movement, lodvarn_range *range);
 
-/* Tells what lodvarn_copy by an enum lodvarn_movement would copy. Answers DONE with the places where it begins and ends
- * in *from and *to, NONE where there is nothing. Errors: NO_SUCH_NUMBER. */
-uint32_t lodvarn_covers(lodvarn **s, uint32_t movement, uint16_t n, uint32_t c, size_t *from, size_t *to);
+/* Tells where lodvarn_move by a movement would go. Returns NOTHING if there is nowhere to go. */
+int lodvarn_destination(lodvarn *s, lodvarn_movement movement, size_t *place);
 
-/* Tells where lodvarn_move by an enum lodvarn_movement would go. Answers DONE with the place in *pos, NONE where there
- * is nowhere to go. Errors: NO_SUCH_NUMBER. */
-uint32_t lodvarn_destination(lodvarn **s, uint32_t movement, uint16_t n, uint32_t c, size_t *pos);
+/* Measures the first grapheme cluster of the text from a place on, and reads no more of the text than that. Returns
+ * NOTHING if the place is the end of the text. Errors: BAD_PLACE. */
+int lodvarn_cluster_at(lodvarn *s, size_t place, lodvarn_cluster *cluster);
 
-/* Measures the first grapheme cluster of the text from a place on, and reads no more of the text than that. Answers
- * DONE with the place where it ends in *end, and the number of its columns in *columns; NONE where the place is the end
- * of the text. Errors: BAD_PLACE. */
-uint32_t lodvarn_cluster(lodvarn **s, size_t place, size_t *end, uint16_t *columns);
+/* Returns the number of entries of the record, the marks of groups too; and how many groups are open. */
+size_t lodvarn_entries(lodvarn *s);
+size_t lodvarn_level(lodvarn *s);
 
-/* Answers how many bytes the text may have. 0 where the session is closed. */
-size_t lodvarn_limit(lodvarn **s);
+/* Returns whether lodvarn_undo with n = 1, or lodvarn_redo, would find a change. An undo would find none in an empty
+ * record, nor right after lodvarn_begin_group. */
+bool lodvarn_can_undo(lodvarn *s);
+bool lodvarn_can_redo(lodvarn *s);
 
-/* Answers the number of entries of the record, the marks of groups too. 0 where the session is closed. */
-size_t lodvarn_entries(lodvarn **s);
+/* Returns how many texts the kill ring has. */
+size_t lodvarn_ring_count(lodvarn *s);
 
-/* Answers how many groups are open. 0 where the session is closed. */
-size_t lodvarn_level(lodvarn **s);
+/* Lends a text of the ring: for back = 0 the current one, which lodvarn_yank would insert, for 1 the one that
+ * lodvarn_yank_pop would put in its place, and so on. Returns NOTHING if back is lodvarn_ring_count or more. */
+int lodvarn_ring_text(lodvarn *s, size_t back, lodvarn_view *view);
 
-/* Asks whether lodvarn_undo with n = 1 would find a change. It would find none in an empty record, nor right after
- * lodvarn_begin. Answers TRUE or FALSE. */
-uint32_t lodvarn_can_undo(lodvarn **s);
+/* Returns whether lodvarn_yank_pop would find a yanked text to replace: from a lodvarn_yank or lodvarn_yank_pop that put one
+ * in, also no times, up to the next command; but a kill that removes nothing leaves it so. */
+bool lodvarn_last_was_yank(lodvarn *s);
 
-/* Asks whether lodvarn_redo would find a change. Answers TRUE or FALSE. */
-uint32_t lodvarn_can_redo(lodvarn **s);
-
-/* Answers how many texts the kill ring has. 0 where the session is closed. */
-size_t lodvarn_ring_count(lodvarn **s);
-
-/* Copies a text of the ring to out, a buffer of cap bytes: for back = 0 the current one, which lodvarn_yank would
- * insert, for 1 the one that lodvarn_yank_pop would put in its place, and so on. Answers TEXT with its length in
- * *out_len, NONE where back is lodvarn_ring_count or more. Errors: TOO_SMALL with the length that is needed in
- * *out_len. */
-uint32_t lodvarn_ring_text(lodvarn **s, size_t back, char *out, size_t cap, size_t *out_len);
-
-/* Asks whether the last command was lodvarn_yank or lodvarn_yank_pop and answered TRUE or FALSE, as a yank with
- * n = 0 also does. If so, lodvarn_yank_pop expects the yanked text before the cursor; otherwise it answers NONE.
- * Answers TRUE or FALSE. */
-uint32_t lodvarn_last_was_yank(lodvarn **s);
+/* Returns how many reports wait; a folded one is one. */
+size_t lodvarn_count_reports(lodvarn *s);
 
 /* Calls without a session. */
 
-/* Answers the version of the library, as (MAJOR << 16) | (MINOR << 8) | PATCH. */
+/* Returns the version of the library, in the form of LODVARN_VERSION_NUMBER. */
 uint32_t lodvarn_version(void);
 
+/* Names an answer: returns the text "LODVARN_CLOSED" for LODVARN_CLOSED, with a NUL at its end, and "unknown" for a
+ * number that is no answer. */
+const char *lodvarn_answer_name(int answer);
+
 /* Runs a script in a session of its own and copies what it prints to out, as much of it as fits in cap bytes, which may
- * end inside a character. Answers DONE with the length of all that it printed in *out_len, which may be more than cap.
- * Errors: NO_MEMORY, with what was printed before in out and *out_len: what the first lines print, the last one perhaps
- * cut. docs/RULES.md describes scripts. */
-uint32_t lodvarn_script(const char *script, size_t len, char *out, size_t cap, size_t *out_len);
+ * end inside a character, and sets *printed to the length of all that it printed, which may be more than cap. Errors:
+ * NO_MEMORY, with what was printed before in out and *printed: what the first lines print, the last one perhaps cut. The
+ * script need not be UTF-8. docs/RULES.md describes scripts. */
+int lodvarn_script(const char *script, size_t len, char *out, size_t cap, size_t *printed);
 
-/* Measures a text by an enum lodvarn_mode. Answers DONE with the number of its columns in *columns, at most 65535.
- * Errors: NOT_UTF8, NO_SUCH_NUMBER. */
-uint32_t lodvarn_width(const char *text, size_t len, uint32_t mode, uint16_t *columns);
+/* Measures a text: sets *columns to how many it takes, at most 65535. */
+int lodvarn_width(enum lodvarn_mode mode, const char *text, size_t len, size_t *columns);
 
-/* Finds the first grapheme cluster of a text. Answers DONE with its length in bytes in *out_len, 0 where the text is
- * empty. Errors: NOT_UTF8. */
-uint32_t lodvarn_first_cluster(const char *text, size_t len, size_t *out_len);
+/* Sets *bytes to the length of the first grapheme cluster of a text; of the last one. Return NOTHING if it is empty. */
+int lodvarn_first_cluster(const char *text, size_t len, size_t *bytes);
+int lodvarn_last_cluster(const char *text, size_t len, size_t *bytes);
 
-/* Finds the last grapheme cluster of a text. Answers DONE with its length in bytes in *out_len, 0 where the text is
- * empty. Errors: NOT_UTF8. */
-uint32_t lodvarn_last_cluster(const char *text, size_t len, size_t *out_len);
-
-/* Finds where a place of a text is on a screen with that many columns. The text begins at column prompt of row 0. A
- * newline, "\n" or "\r\n", leads to the next row. A cluster that does not fit in the rest of its row goes whole to the
- * next row. A place at the right edge is column 0 of the next row, and one inside a cluster is where the cluster
- * starts. A tab goes to the next column of its row that is a multiple of tab, or to the right edge where that is nearer;
- * where tab is 0, it is as wide as lodvarn_width tells. The mode is an enum lodvarn_mode. Answers DONE with the cell in
- * *row and *column. Errors: NOT_UTF8, BAD_PLACE, NO_SUCH_NUMBER also where columns is 0. */
-uint32_t lodvarn_cell(const char *text, size_t len, size_t place, uint16_t prompt, uint16_t columns, uint16_t tab,
-                      uint32_t mode, size_t *row, size_t *column);
+/* Finds where a place of a text is on a screen: its row, in line, and its column. The text begins at column prompt of row
+ * 0. A newline, "\n" or "\r\n", leads to the next row. A cluster that does not fit in the rest of its row goes whole to
+ * the next row. A place at the right edge is column 0 of the next row, and one inside a cluster is where the cluster
+ * starts. A tab goes to the next column of its row that is a multiple of tab, or to the right edge if that is nearer.
+ * Errors: BAD_PLACE, NO_SUCH_NUMBER also if the screen has no columns. */
+int lodvarn_cell(const lodvarn_screen *screen, size_t place, const char *text, size_t len, lodvarn_position *cell);
 
 /* Finds which place of a text is at a cell of the screen, as where a mouse points: the last place between two clusters
- * whose cell, by lodvarn_cell, is that one or comes before it, by rows and then by columns. Answers DONE with the place
- * in *place, 0 where all come after that cell. Errors: NOT_UTF8, NO_SUCH_NUMBER also where columns is 0. */
-uint32_t lodvarn_place_at(const char *text, size_t len, size_t row, size_t column, uint16_t prompt, uint16_t columns,
-                          uint16_t tab, uint32_t mode, size_t *place);
-
-/* NULL where a number, or the text that lodvarn_delete takes out, is not wanted. These functions are compiled into the
- * program and make the calls of the same names; the macros below put them in the place of those. After an #undef of a
- * macro its name is the call of the library, which takes no NULL. */
-
-static inline uint32_t lodvarn_delete_or_null_(lodvarn **s, uint16_t n, char *out, size_t cap, size_t *out_len) {
-    size_t unasked, len;
-    uint32_t answer;
-    if (!out_len) out_len = &unasked;
-    if (out) return lodvarn_delete(s, n, out, cap, out_len);
-    /* A kill by this movement deletes the same, and the ring does not keep it. */
-    len = lodvarn_text(s, NULL, 0);
-    answer = lodvarn_kill(s, LODVARN_FORWARD_CHAR, n, 0);
-    if (answer == LODVARN_FALSE) return LODVARN_NONE;
-    if (answer != LODVARN_TRUE) return answer;
-    *out_len = len - lodvarn_text(s, NULL, 0);
-    return LODVARN_TEXT;
-}
-
-static inline uint32_t lodvarn_copy_or_null_(lodvarn **s, uint32_t movement, uint16_t n, uint32_t c, char *out,
-                                             size_t cap, size_t *out_len) {
-    size_t unasked;
-    return lodvarn_copy(s, movement, n, c, out, cap, out_len ? out_len : &unasked);
-}
-
-static inline uint32_t lodvarn_begin_or_null_(lodvarn **s, size_t *mark) {
-    size_t unasked;
-    return lodvarn_begin(s, mark ? mark : &unasked);
-}
-
-static inline uint32_t lodvarn_line_place_or_null_(lodvarn **s, size_t *line, uint16_t *column) {
-    size_t unasked;
-    uint16_t unasked16;
-    return lodvarn_line_place(s, line ? line : &unasked, column ? column : &unasked16);
-}
-
-static inline uint32_t lodvarn_changed_or_null_(lodvarn **s, size_t *from, size_t *old_end, size_t *new_end) {
-    size_t unasked[3];
-    return lodvarn_changed(s, from ? from : &unasked[0], old_end ? old_end : &unasked[1],
-                           new_end ? new_end : &unasked[2]);
-}
-
-static inline uint32_t lodvarn_next_report_or_null_(lodvarn **s, uint32_t *kind, size_t *at, size_t *old_len,
-                                                    size_t *new_len, size_t *pos_before, size_t *pos_after, char *out,
-                                                    size_t cap) {
-    uint32_t unasked32;
-    size_t unasked[5];
-    return lodvarn_next_report(s, kind ? kind : &unasked32, at ? at : &unasked[0], old_len ? old_len : &unasked[1],
-                               new_len ? new_len : &unasked[2], pos_before ? pos_before : &unasked[3],
-                               pos_after ? pos_after : &unasked[4], out, cap);
-}
-
-static inline uint32_t lodvarn_line_range_or_null_(lodvarn **s, size_t line, size_t *start, size_t *end) {
-    size_t unasked[2];
-    return lodvarn_line_range(s, line, start ? start : &unasked[0], end ? end : &unasked[1]);
-}
-
-static inline uint32_t lodvarn_line_column_or_null_(lodvarn **s, size_t *line, uint16_t *column) {
-    size_t unasked;
-    uint16_t unasked16;
-    return lodvarn_line_column(s, line ? line : &unasked, column ? column : &unasked16);
-}
-
-static inline uint32_t lodvarn_covers_or_null_(lodvarn **s, uint32_t movement, uint16_t n, uint32_t c, size_t *from,
-                                               size_t *to) {
-    size_t unasked[2];
-    return lodvarn_covers(s, movement, n, c, from ? from : &unasked[0], to ? to : &unasked[1]);
-}
-
-static inline uint32_t lodvarn_destination_or_null_(lodvarn **s, uint32_t movement, uint16_t n, uint32_t c,
-                                                    size_t *pos) {
-    size_t unasked;
-    return lodvarn_destination(s, movement, n, c, pos ? pos : &unasked);
-}
-
-static inline uint32_t lodvarn_cluster_or_null_(lodvarn **s, size_t place, size_t *end, uint16_t *columns) {
-    size_t unasked;
-    uint16_t unasked16;
-    return lodvarn_cluster(s, place, end ? end : &unasked, columns ? columns : &unasked16);
-}
-
-static inline uint32_t lodvarn_ring_text_or_null_(lodvarn **s, size_t back, char *out, size_t cap, size_t *out_len) {
-    size_t unasked;
-    return lodvarn_ring_text(s, back, out, cap, out_len ? out_len : &unasked);
-}
-
-static inline uint32_t lodvarn_script_or_null_(const char *script, size_t len, char *out, size_t cap, size_t *out_len) {
-    size_t unasked;
-    return lodvarn_script(script, len, out, cap, out_len ? out_len : &unasked);
-}
-
-static inline uint32_t lodvarn_width_or_null_(const char *text, size_t len, uint32_t mode, uint16_t *columns) {
-    uint16_t unasked;
-    return lodvarn_width(text, len, mode, columns ? columns : &unasked);
-}
-
-static inline uint32_t lodvarn_first_cluster_or_null_(const char *text, size_t len, size_t *out_len) {
-    size_t unasked;
-    return lodvarn_first_cluster(text, len, out_len ? out_len : &unasked);
-}
-
-static inline uint32_t lodvarn_last_cluster_or_null_(const char *text, size_t len, size_t *out_len) {
-    size_t unasked;
-    return lodvarn_last_cluster(text, len, out_len ? out_len : &unasked);
-}
-
-static inline uint32_t lodvarn_cell_or_null_(const char *text, size_t len, size_t place, uint16_t prompt,
-                                             uint16_t columns, uint16_t tab, uint32_t mode, size_t *row,
-                                             size_t *column) {
-    size_t unasked[2];
-    return lodvarn_cell(text, len, place, prompt, columns, tab, mode, row ? row : &unasked[0],
-                        column ? column : &unasked[1]);
-}
-
-static inline uint32_t lodvarn_place_at_or_null_(const char *text, size_t len, size_t row, size_t column,
-                                                 uint16_t prompt, uint16_t columns, uint16_t tab, uint32_t mode,
-                                                 size_t *place) {
-    size_t unasked;
-    return lodvarn_place_at(text, len, row, column, prompt, columns, tab, mode, place ? place : &unasked);
-}
-
-#define lodvarn_delete lodvarn_delete_or_null_
-#define lodvarn_copy lodvarn_copy_or_null_
-#define lodvarn_begin lodvarn_begin_or_null_
-#define lodvarn_line_place lodvarn_line_place_or_null_
-#define lodvarn_changed lodvarn_changed_or_null_
-#define lodvarn_next_report lodvarn_next_report_or_null_
-#define lodvarn_line_range lodvarn_line_range_or_null_
-#define lodvarn_line_column lodvarn_line_column_or_null_
-#define lodvarn_covers lodvarn_covers_or_null_
-#define lodvarn_destination lodvarn_destination_or_null_
-#define lodvarn_cluster lodvarn_cluster_or_null_
-#define lodvarn_ring_text lodvarn_ring_text_or_null_
-#define lodvarn_script lodvarn_script_or_null_
-#define lodvarn_width lodvarn_width_or_null_
-#define lodvarn_first_cluster lodvarn_first_cluster_or_null_
-#define lodvarn_last_cluster lodvarn_last_cluster_or_null_
-#define lodvarn_cell lodvarn_cell_or_null_
-#define lodvarn_place_at lodvarn_place_at_or_null_
+ * whose cell, by lodvarn_cell, is that one or comes before it, by rows and then by columns; 0 if all come after it.
+ * Errors: NO_SUCH_NUMBER also if the screen has no columns. */
+int lodvarn_place_at(const lodvarn_screen *screen, lodvarn_position cell, const char *text, size_t len, size_t *place);
 
 #ifdef __cplusplus
 }

@@ -14,13 +14,16 @@
 
 enum {
     LIMIT = 65536, /* bytes that a text may have */
-    RING = 60,     /* killed texts that are kept */
-    TAB = 0,       /* for lodvarn_cell: a tab is drawn as a blank */
     WAIT = 200     /* milliseconds to wait for the rest of a key */
 };
 
 static const char prompt[] = "> ";
 static const uint16_t prompt_columns = 2;
+
+/* A screen of that many columns, where a tab is drawn as a blank. */
+static lodvarn_screen screen_of(uint16_t columns) {
+    return (lodvarn_screen){columns, prompt_columns, 0, LODVARN_UNICODE};
+}
 
 /* The screen. Prompt and text make rows, as lodvarn_cell counts them, up to the row last. Those from top to bottom are
  * shown on a screen of that size. */
@@ -39,7 +42,7 @@ struct editor {
     int is_raw, is_over, rings;
     char *text; /* as it was drawn last */
     size_t len, size;
-    struct view shown;  /* of no height where nothing is shown */
+    struct view shown;  /* of no height if nothing is shown */
     struct spot cursor; /* the terminal's, in rows of the text */
     unsigned char input[4096];
     size_t input_len, input_at;
@@ -100,7 +103,7 @@ static void note(int number) {
     else if (number != SIGWINCH) ended_by = number;
 }
 
-/* Blocks the signals that the editor hears, which come only where it waits. */
+/* Blocks the signals that the editor hears, which come only while it waits. */
 static void hear_signals(struct editor *e) {
     static const int heard[] = {SIGWINCH, SIGCONT, SIGTERM, SIGINT, SIGHUP};
     sigset_t blocked;
@@ -114,38 +117,19 @@ static void hear_signals(struct editor *e) {
 
 /* The drawing. */
 
+/* Keeps the text, since what the session lends is gone after the next edit. */
 static void read_text(struct editor *e) {
-    e->len = lodvarn_text(&e->session, e->text, e->size);
-    if (e->len < e->size) return;
-    e->size = 2 * e->len + 64;
-    free(e->text);
-    e->text = malloc(e->size);
-    if (!e->text) end_without_memory(e);
-    lodvarn_text(&e->session, e->text, e->size);
+    lodvarn_view text;
+    lodvarn_text(e->session, &text);
+    if (text.len >= e->size) {
+        free(e->text);
+        e->text = malloc(e->size = 2 * text.len + 64);
+        if (!e->text) end_without_memory(e);
+    }
+    memcpy(e->text, text.at, e->len = text.len);
 }
 
-/* The length of the first cluster. An ASCII character before another one is a cluster. Otherwise the call gets a
- * short piece of the text, and a longer one where the cluster fills it, since it reads the whole piece. */
-static size_t cluster(const char *bytes, size_t len) {
-    size_t first = 1, piece = 16;
-    if (len < 2 || !((bytes[0] | bytes[1]) & 0x80)) return 1;
-    do {
-        piece = 2 * piece < len ? 2 * piece : len;
-        while (piece < len && (bytes[piece] & 0xc0) == 0x80) piece++;
-        lodvarn_first_cluster(bytes, piece, &first);
-    } while (first == piece && piece < len);
-    return first;
-}
-
-/* The columns of a cluster, and in ends_row whether it begins the next row: a newline, or one that does not fit. */
-static uint16_t measure(const char *bytes, size_t len, size_t column, uint16_t columns, int *ends_row) {
-    uint16_t width = 0;
-    if (*bytes != '\n') lodvarn_width(bytes, len, LODVARN_UNICODE, &width);
-    *ends_row = *bytes == '\n' || column + width > columns;
-    return width;
-}
-
-/* Begins the next row. Before that it erases what is left of the last one, where that is not full. */
+/* Begins the next row. Before that it erases what is left of the last one, if that is not full. */
 static void begin_row(struct editor *e, struct spot *at, const struct view *view) {
     int was_shown = view->top <= at->row && at->row <= view->bottom;
     if (was_shown && at->column < view->columns) fputs("\x1b[K", stdout);
@@ -160,16 +144,17 @@ static void begin_row(struct editor *e, struct spot *at, const struct view *view
 /* Draws a cluster, or begins the row after a newline. A tab is a blank. The terminal may measure a cluster of
  * several characters as the sum of their widths. So the cursor is placed after it, and at the right edge it is not
  * wrapped. */
-static void draw_cluster(struct editor *e, const char *bytes, size_t len, struct spot *at, const struct view *view) {
-    int ends_row;
-    uint16_t sum = 0, width = measure(bytes, len, at->column, view->columns, &ends_row);
-    if (ends_row) begin_row(e, at, view);
-    at->column += width;
-    if (*bytes == '\n' || at->row < view->top || view->bottom < at->row) return;
-    if (at->column >= view->columns) lodvarn_width(bytes, len, LODVARN_WC_WIDTH, &sum);
-    if (sum > width) fputs("\x1b[?7l", stdout);
+static void draw_cluster(struct editor *e, const char *bytes, lodvarn_cluster it, struct spot *at,
+                         const struct view *view) {
+    size_t sum = 0, len = it.end - at->place;
+    if (*bytes == '\n' || at->column + it.columns > view->columns) begin_row(e, at, view);
+    if (*bytes == '\n') return;
+    at->column += it.columns;
+    if (at->row < view->top || view->bottom < at->row) return;
+    if (at->column >= view->columns) lodvarn_width(LODVARN_WC_WIDTH, bytes, len, &sum);
+    if (sum > it.columns) fputs("\x1b[?7l", stdout);
     fwrite(*bytes == '\t' ? " " : bytes, 1, len, stdout);
-    if (sum > width) fputs("\x1b[?7h", stdout);
+    if (sum > it.columns) fputs("\x1b[?7h", stdout);
     if (len > 1 && at->column < view->columns) printf("\x1b[%zuG", at->column + 1);
 }
 
@@ -182,10 +167,8 @@ static void draw(struct editor *e, struct spot at, size_t end, const struct view
         if (view->top == 0) fputs(prompt, stdout);
         at.column = prompt_columns;
     }
-    for (size_t k; at.place < end; at.place += k) {
-        k = cluster(e->text + at.place, end - at.place);
-        draw_cluster(e, e->text + at.place, k, &at, view);
-    }
+    for (lodvarn_cluster it; at.place < end && lodvarn_cluster_at(e->session, at.place, &it) > 0; at.place = it.end)
+        draw_cluster(e, e->text + at.place, it, &at, view);
     if (end == e->len && at.column >= view->columns) begin_row(e, &at, view);
     if (at.row < view->top || view->bottom < at.row || at.column >= view->columns) return;
     /* What is erased from the screen's first cell on would go into the scrollback of some terminals. */
@@ -196,60 +179,61 @@ static void draw(struct editor *e, struct spot at, size_t end, const struct view
 /* Where to begin if the text has changed from a place on: a cluster before, since what comes may join that one, and not
  * at the left edge of a row that is wrapped, since what comes may fit in the row above. */
 static struct spot spot_before(const char *bytes, size_t place, uint16_t columns) {
-    size_t row = 0, column = 0;
+    lodvarn_screen screen = screen_of(columns);
+    lodvarn_position cell = {0, 0};
     do {
         size_t k = 0;
         lodvarn_last_cluster(bytes, place, &k);
         place -= k;
         if (place == 0) return (struct spot){0, 0, 0};
-        lodvarn_cell(bytes, place, place, prompt_columns, columns, TAB, LODVARN_UNICODE, &row, &column);
-    } while (column == 0 && bytes[place - 1] != '\n');
-    return (struct spot){place, row, column};
+        lodvarn_cell(&screen, place, bytes, place, &cell);
+    } while (cell.column == 0 && bytes[place - 1] != '\n');
+    return (struct spot){place, cell.line, cell.column};
 }
 
 /* What of the text should be shown on a screen of that size, and the spot of the cursor. */
 static struct view view_of(struct editor *e, struct winsize size, struct spot *cursor) {
-    size_t last = 0;
-    cursor->place = lodvarn_pos(&e->session);
-    lodvarn_cell(e->text, e->len, cursor->place, prompt_columns, size.ws_col, TAB, LODVARN_UNICODE, &cursor->row,
-                 &cursor->column);
-    lodvarn_cell(e->text, e->len, e->len, prompt_columns, size.ws_col, TAB, LODVARN_UNICODE, &last, NULL);
-    size_t top = cursor->row < size.ws_row ? 0 : cursor->row - size.ws_row + 1;
-    size_t bottom = last - top < size.ws_row ? last : top + size.ws_row - 1;
-    return (struct view){top, bottom, last, size.ws_col, size.ws_row};
+    lodvarn_screen screen = screen_of(size.ws_col);
+    lodvarn_position at = {0, 0}, last = {0, 0};
+    size_t pos = lodvarn_pos(e->session);
+    lodvarn_cell(&screen, pos, e->text, e->len, &at);
+    lodvarn_cell(&screen, e->len, e->text, e->len, &last);
+    *cursor = (struct spot){pos, at.line, at.column};
+    size_t top = at.line < size.ws_row ? 0 : at.line - size.ws_row + 1;
+    size_t bottom = last.line - top < size.ws_row ? last.line : top + size.ws_row - 1;
+    return (struct view){top, bottom, last.line, size.ws_col, size.ws_row};
 }
 
-/* How many rows lower the cursor is once the terminal has got narrower. Most terminals then wrap each row that no longer
- * fits. A wider one joins none, since each row was begun by a newline. */
+/* How many rows lower the cursor is once the terminal has got narrower. Most terminals then wrap each row that no
+ * longer fits. A wider one joins none, since each row was begun by a newline. */
 static size_t rows_wrapped(const struct editor *e, uint16_t columns) {
-    struct spot at = {0, 0, prompt_columns};
-    size_t wrapped = 0, column = prompt_columns;
-    for (size_t k; at.place < e->len && at.place <= e->cursor.place; at.place += k) {
-        int ends_row;
-        k = cluster(e->text + at.place, e->len - at.place);
-        uint16_t width = measure(e->text + at.place, k, at.column, e->shown.columns, &ends_row);
-        if (ends_row) {
-            if (at.row++ == e->cursor.row) break;
-            at.column = column = 0;
-        }
-        at.column += width;
-        column += width;
-        if (column <= columns) continue;
-        wrapped += e->shown.top <= at.row;
-        column = width;
+    lodvarn_screen before = screen_of(e->shown.columns), now = screen_of(columns);
+    size_t wrapped = 0;
+    for (size_t row = e->shown.top; row <= e->cursor.row; row++) {
+        lodvarn_position start = {row, 0}, end = {row + 1, 0};
+        size_t from = 0, to = 0, on = 0, pos = e->cursor.place;
+        lodvarn_place_at(&before, start, e->text, e->len, &from);
+        lodvarn_place_at(&before, end, e->text, e->len, &to);
+        /* The cursor stands on a cluster, with which it may be wrapped. */
+        lodvarn_first_cluster(e->text + pos, e->len - pos, &on);
+        if (row == e->cursor.row && pos + on < to) to = pos + on;
+        if (to > from && e->text[to - 1] == '\n') to--;
+        now.prompt = row ? 0 : prompt_columns;
+        lodvarn_cell(&now, to - from, e->text + from, to - from, &end);
+        wrapped += end.line - (end.line && !end.column);
     }
     return wrapped;
 }
 
-/* Draws all where other rows are shown than before. Else it draws from the first change on: to the end, or where there
+/* Draws all if other rows are shown than before. Else it draws from the first change on: to the end, or if there
  * are as many rows as before, to the end of the line in which the last change ends. */
 static void redraw(struct editor *e) {
-    size_t from, old_end, new_end;
+    lodvarn_splice change;
     struct winsize size;
-    struct spot cursor = {0, 0, 0};
+    struct spot cursor;
     if (ioctl(1, TIOCGWINSZ, &size) || !size.ws_col || !size.ws_row) size = (struct winsize){24, 80, 0, 0};
     if (size.ws_col < e->shown.columns) e->cursor.row += rows_wrapped(e, size.ws_col);
-    int has_changed = lodvarn_changed(&e->session, &from, &old_end, &new_end) == LODVARN_DONE;
+    int has_changed = lodvarn_take_change(e->session, &change) > 0;
     read_text(e);
     struct view view = view_of(e, size, &cursor);
     if (view.top != e->shown.top || view.columns != e->shown.columns || view.height != e->shown.height) {
@@ -260,8 +244,8 @@ static void redraw(struct editor *e) {
         draw(e, (struct spot){0, 0, 0}, e->len, &view);
     } else if (has_changed) {
         const char *newline = NULL;
-        if (view.last == e->shown.last) newline = memchr(e->text + new_end, '\n', e->len - new_end);
-        draw(e, spot_before(e->text, from, view.columns), newline ? (size_t)(newline - e->text) : e->len, &view);
+        if (view.last == e->shown.last) newline = memchr(e->text + change.new_to, '\n', e->len - change.new_to);
+        draw(e, spot_before(e->text, change.from, view.columns), newline ? (size_t)(newline - e->text) : e->len, &view);
     }
     go_to(e, cursor.row, cursor.column);
     e->cursor.place = cursor.place;
@@ -271,12 +255,12 @@ static void redraw(struct editor *e) {
     e->shown = view;
 }
 
-/* The input. All that waits is read at once and drawn once: the editor draws only where it has to wait for a byte. */
+/* The input. All that waits is read at once and drawn once: the editor draws only if it has to wait for a byte. */
 
 enum { END = -1, LATE = -2, FOR_EVER = -1 };
 
-/* Waits for input, that many milliseconds or for ever, and hears the signals that are not in the mask. Answers above 0
- * where there is input, or its end, 0 where none came, and below 0 where a signal did. */
+/* Waits for input, that many milliseconds or for ever, and hears the signals that are not in the mask. Returns above 0
+ * if there is input, or its end, 0 if none came, and below 0 if a signal did. */
 static int await_input(int milliseconds, const sigset_t *mask) {
     struct timespec time = {milliseconds / 1000, milliseconds % 1000 * 1000000L};
     fd_set terminal;
@@ -286,7 +270,7 @@ static int await_input(int milliseconds, const sigset_t *mask) {
     return ready < 0 && errno != EINTR ? 1 : ready;
 }
 
-/* The next byte, END at the end of input or of the editor, or LATE where none comes in time. */
+/* The next byte, END at the end of input or of the editor, or LATE if none comes in time. */
 static int next_byte(struct editor *e, int milliseconds) {
     if (e->input_at == e->input_len) {
         int ready = await_input(0, NULL);
@@ -314,7 +298,7 @@ struct character {
     char bytes[4];
 };
 
-/* Reads the rest of the character that begins with this byte. Answers 0 where the bytes are not UTF-8, or a control
+/* Reads the rest of the character that begins with this byte. Returns 0 if the bytes are not UTF-8, or a control
  * character. */
 static int read_character(struct editor *e, int byte, int milliseconds, struct character *c) {
     static const uint32_t least[] = {0, 0x20, 0xa0, 0x800, 0x10000};
@@ -332,44 +316,34 @@ static int read_character(struct editor *e, int byte, int milliseconds, struct c
     return len > 0 && c->number >= least[len] && c->number < 0x110000 && c->number >> 11 != 0xd800 >> 11;
 }
 
-/* What keys do. The number comes from the table of keys. */
+/* What keys do. The number comes from the table of keys. The bell rings if nothing went in, or a call was refused. */
 
-/* Rings the bell where nothing went in, or a call was refused. */
-static void hear(struct editor *e, uint32_t answer) {
-    if (answer == LODVARN_NONE || LODVARN_IS_ERROR(answer)) e->rings = 1;
-}
+static void insert(struct editor *e, uint32_t c) { e->rings |= lodvarn_insert(e->session, c, 1) <= 0; }
 
-static void move(struct editor *e, uint32_t movement) { hear(e, lodvarn_move(&e->session, movement, 1, 0)); }
-
-/* The ring keeps what is killed, but not what LODVARN_BACKWARD_CHAR and LODVARN_FORWARD_CHAR delete. */
-static void kill_to(struct editor *e, uint32_t movement) { hear(e, lodvarn_kill(&e->session, movement, 1, 0)); }
-
-static void insert(struct editor *e, uint32_t c) { hear(e, lodvarn_insert(&e->session, c, 1)); }
-
-static void delete_or_end(struct editor *e, uint32_t movement) {
-    if (lodvarn_text(&e->session, NULL, 0) == 0) e->is_over = 1;
-    else kill_to(e, movement);
+static void delete_or_end(struct editor *e, uint32_t n) {
+    lodvarn_view text;
+    lodvarn_text(e->session, &text);
+    if (text.len == 0) e->is_over = 1;
+    else e->rings |= lodvarn_delete(e->session, n) < 0;
 }
 
 static void yank(struct editor *e, uint32_t older) {
-    hear(e, older ? lodvarn_yank_pop(&e->session) : lodvarn_yank(&e->session, 1));
+    e->rings |= (older ? lodvarn_yank_pop(e->session) : lodvarn_yank(e->session, 1)) <= 0;
 }
 
-/* The next two make several changes each. The group lets one undo take them back. */
-static void change_case(struct editor *e, uint32_t action) {
-    hear(e, lodvarn_begin(&e->session, NULL));
-    hear(e, lodvarn_edit_word(&e->session, action));
-    hear(e, lodvarn_end(&e->session));
-}
+/* These make several changes each. The group lets one undo take them back. */
+enum { CHARS, WORDS };
 
-static void transpose(struct editor *e, uint32_t words) {
-    hear(e, lodvarn_begin(&e->session, NULL));
-    hear(e, words ? lodvarn_transpose_words(&e->session, 1) : lodvarn_transpose_chars(&e->session));
-    hear(e, lodvarn_end(&e->session));
+static void change(struct editor *e, uint32_t what) {
+    e->rings |= lodvarn_begin_group(e->session) < 0;
+    int answer = what == CHARS ? lodvarn_transpose_chars(e->session)
+        : what == WORDS ? lodvarn_transpose_words(e->session, 1) : lodvarn_change_case(e->session, what);
+    e->rings |= answer < 0;
+    e->rings |= lodvarn_end_group(e->session) < 0;
 }
 
 static void undo(struct editor *e, uint32_t again) {
-    hear(e, again ? lodvarn_redo(&e->session) : lodvarn_undo(&e->session, 1));
+    e->rings |= (again ? lodvarn_redo(e->session) : lodvarn_undo(e->session, 1)) < 0;
 }
 
 /* Adds bytes to what is pasted. Where they are more than a text may have, only their number is kept. */
@@ -396,7 +370,7 @@ static void paste(struct editor *e, uint32_t unused) {
         else if (byte == '\t') add_pasted(e, "\t", 1, &len);
         else if (read_character(e, byte, FOR_EVER, &c)) add_pasted(e, c.bytes, c.len, &len);
     }
-    if (!mark[marked]) hear(e, len > LIMIT ? LODVARN_NONE : lodvarn_paste(&e->session, e->pasted, len, 1));
+    if (!mark[marked]) e->rings |= len > LIMIT || lodvarn_paste(e->session, e->pasted, len, 1) <= 0;
 }
 
 static void clear_screen(struct editor *e, uint32_t unused) {
@@ -417,57 +391,68 @@ static void stop(struct editor *e, uint32_t stopping) {
     if (!ended_by) enter_raw(e);
 }
 
-/* Shows the text up to its end, prints it where it is accepted, and begins the next one, with the kill ring as it is. */
+/* Shows the text up to its end, prints it if it is accepted, and begins the next one, with the kill ring as it is. */
 static void end_text(struct editor *e, uint32_t is_accepted) {
-    move(e, LODVARN_END_OF_BUFFER);
+    lodvarn_move(e->session, lodvarn_to_text_end());
     redraw(e);
     if (is_accepted) printf("\n=> %.*s\n", (int)e->len, e->text);
     else fputs("^C\n", stdout);
-    if (lodvarn_restart(&e->session, "", 0, 0) != LODVARN_DONE) end_without_memory(e);
+    if (lodvarn_restart(e->session, "", 0) < 0) end_without_memory(e);
     forget_screen(e);
 }
 
-/* What keys send, readline's name for what they do, the function and its number. What readline has no name for is said
- * in several words. */
+static lodvarn_movement char_back(void) { return lodvarn_chars_back(1); }
+static lodvarn_movement char_forward(void) { return lodvarn_chars_forward(1); }
+static lodvarn_movement line_up(void) { return lodvarn_lines_up(1); }
+static lodvarn_movement line_down(void) { return lodvarn_lines_down(1); }
+static lodvarn_movement word_back(void) { return lodvarn_words_back(LODVARN_EMACS, 1); }
+static lodvarn_movement word_end(void) { return lodvarn_words_forward(LODVARN_EMACS, LODVARN_AFTER_END, 1); }
+static lodvarn_movement big_word_back(void) { return lodvarn_words_back(LODVARN_BIG, 1); }
+
+/* What keys send, readline's name for what they do, and a call with its movement, or a function with its number. What
+ * readline has no name for is said in several words. The ring keeps what is killed, but not what a kill by characters
+ * deletes. */
 static const struct key {
     const char *bytes[3], *name;
+    int (*call)(lodvarn *, lodvarn_movement);
+    lodvarn_movement (*by)(void);
     void (*does)(struct editor *, uint32_t);
     uint32_t number;
 } keys[] = {
-    {{"\x01", "\x1b[H", "\x1b[1~"}, "beginning-of-line", move, LODVARN_BEGINNING_OF_LINE},
-    {{"\x02", "\x1b[D"}, "backward-char", move, LODVARN_BACKWARD_CHAR},
-    {{"\x03"}, "drop the text", end_text, 0},
-    {{"\x04"}, "delete-char", delete_or_end, LODVARN_FORWARD_CHAR},
-    {{"\x1b[3~"}, "delete-char", kill_to, LODVARN_FORWARD_CHAR},
-    {{"\x05", "\x1b[F", "\x1b[4~"}, "end-of-line", move, LODVARN_END_OF_LINE},
-    {{"\x06", "\x1b[C"}, "forward-char", move, LODVARN_FORWARD_CHAR},
-    {{"\x08", "\x7f"}, "backward-delete-char", kill_to, LODVARN_BACKWARD_CHAR},
-    {{"\n", "\r"}, "accept-line", end_text, 1},
-    {{"\x0b"}, "kill-line", kill_to, LODVARN_END_OF_LINE},
-    {{"\x0c"}, "clear-screen", clear_screen, 0},
-    {{"\x0e", "\x1b[B"}, "to the line below", move, LODVARN_LINE_DOWN},
-    {{"\x10", "\x1b[A"}, "to the line above", move, LODVARN_LINE_UP},
-    {{"\x14"}, "transpose-chars", transpose, 0},
-    {{"\x15"}, "unix-line-discard", kill_to, LODVARN_BEGINNING_OF_LINE},
-    {{"\x17"}, "unix-word-rubout", kill_to, LODVARN_BACKWARD_BIG_WORD},
-    {{"\x19"}, "yank", yank, 0},
-    {{"\x1a"}, "stop the job", stop, SIGTSTP},
-    {{"\x1f", "\x18\x15"}, "undo", undo, 0},
-    {{"\x1b" "b", "\x1b[1;5D"}, "backward-word", move, LODVARN_BACKWARD_EMACS_WORD},
-    {{"\x1b" "f", "\x1b[1;5C"}, "forward-word", move, LODVARN_FORWARD_EMACS_WORD_AFTER_END},
-    {{"\x1b" "d"}, "kill-word", kill_to, LODVARN_FORWARD_EMACS_WORD_AFTER_END},
-    {{"\x1b\x7f"}, "backward-kill-word", kill_to, LODVARN_BACKWARD_EMACS_WORD},
-    {{"\x18\x7f"}, "backward-kill-line", kill_to, LODVARN_BEGINNING_OF_LINE},
-    {{"\x1b" "c"}, "capitalize-word", change_case, LODVARN_CAPITALIZE},
-    {{"\x1b" "l"}, "downcase-word", change_case, LODVARN_LOWERCASE},
-    {{"\x1b" "u"}, "upcase-word", change_case, LODVARN_UPPERCASE},
-    {{"\x1b" "t"}, "transpose-words", transpose, 1},
-    {{"\x1b" "y"}, "yank-pop", yank, 1},
-    {{"\x1b" "_"}, "redo a change", undo, 1},
-    {{"\x1b" "<"}, "to the start of the text", move, LODVARN_BEGINNING_OF_BUFFER},
-    {{"\x1b" ">"}, "to the end of the text", move, LODVARN_END_OF_BUFFER},
-    {{"\x1b\r"}, "insert a newline", insert, '\n'},
-    {{"\x1b[200~"}, "bracketed-paste-begin", paste, 0},
+    {{"\x01", "\x1b[H", "\x1b[1~"}, "beginning-of-line", .call = lodvarn_move, .by = lodvarn_to_line_start},
+    {{"\x02", "\x1b[D"}, "backward-char", .call = lodvarn_move, .by = char_back},
+    {{"\x03"}, "drop the text", .does = end_text},
+    {{"\x04"}, "delete-char", .does = delete_or_end, .number = 1},
+    {{"\x1b[3~"}, "delete-char", .call = lodvarn_kill, .by = char_forward},
+    {{"\x05", "\x1b[F", "\x1b[4~"}, "end-of-line", .call = lodvarn_move, .by = lodvarn_to_line_end},
+    {{"\x06", "\x1b[C"}, "forward-char", .call = lodvarn_move, .by = char_forward},
+    {{"\x08", "\x7f"}, "backward-delete-char", .call = lodvarn_kill, .by = char_back},
+    {{"\n", "\r"}, "accept-line", .does = end_text, .number = 1},
+    {{"\x0b"}, "kill-line", .call = lodvarn_kill, .by = lodvarn_to_line_end},
+    {{"\x0c"}, "clear-screen", .does = clear_screen},
+    {{"\x0e", "\x1b[B"}, "to the line below", .call = lodvarn_move, .by = line_down},
+    {{"\x10", "\x1b[A"}, "to the line above", .call = lodvarn_move, .by = line_up},
+    {{"\x14"}, "transpose-chars", .does = change, .number = CHARS},
+    {{"\x15"}, "unix-line-discard", .call = lodvarn_kill, .by = lodvarn_to_line_start},
+    {{"\x17"}, "unix-word-rubout", .call = lodvarn_kill, .by = big_word_back},
+    {{"\x19"}, "yank", .does = yank},
+    {{"\x1a"}, "stop the job", .does = stop, .number = SIGTSTP},
+    {{"\x1f", "\x18\x15"}, "undo", .does = undo},
+    {{"\x1b" "b", "\x1b[1;5D"}, "backward-word", .call = lodvarn_move, .by = word_back},
+    {{"\x1b" "f", "\x1b[1;5C"}, "forward-word", .call = lodvarn_move, .by = word_end},
+    {{"\x1b" "d"}, "kill-word", .call = lodvarn_kill, .by = word_end},
+    {{"\x1b\x7f"}, "backward-kill-word", .call = lodvarn_kill, .by = word_back},
+    {{"\x18\x7f"}, "backward-kill-line", .call = lodvarn_kill, .by = lodvarn_to_line_start},
+    {{"\x1b" "c"}, "capitalize-word", .does = change, .number = LODVARN_CAPITALIZE},
+    {{"\x1b" "l"}, "downcase-word", .does = change, .number = LODVARN_LOWERCASE},
+    {{"\x1b" "u"}, "upcase-word", .does = change, .number = LODVARN_UPPERCASE},
+    {{"\x1b" "t"}, "transpose-words", .does = change, .number = WORDS},
+    {{"\x1b" "y"}, "yank-pop", .does = yank, .number = 1},
+    {{"\x1b" "_"}, "redo a change", .does = undo, .number = 1},
+    {{"\x1b" "<"}, "to the start of the text", .call = lodvarn_move, .by = lodvarn_to_text_start},
+    {{"\x1b" ">"}, "to the end of the text", .call = lodvarn_move, .by = lodvarn_to_text_end},
+    {{"\x1b\r"}, "insert a newline", .does = insert, .number = '\n'},
+    {{"\x1b[200~"}, "bracketed-paste-begin", .does = paste},
 };
 
 /* The key of exactly these bytes, or one that begins with them. */
@@ -486,8 +471,8 @@ static void pass_over(struct editor *e, const char *bytes, size_t len) {
     for (; byte >= 0 && !(ends && 0x40 <= byte && byte <= 0x7e); ends = 1) byte = next_byte(e, WAIT);
 }
 
-/* Reads a character and inserts it, or a key, and does what it says. What is cut short or not UTF-8 is skipped. Answers
- * 0 when the editor should end. */
+/* Reads a character and inserts it, or a key, and does what it says. What is cut short or not UTF-8 is skipped. Returns
+ * 0 if the editor should end. */
 static int take_key(struct editor *e) {
     struct character c;
     char bytes[8];
@@ -500,7 +485,8 @@ static int take_key(struct editor *e) {
     while (byte >= 0) {
         bytes[len++] = (char)byte;
         const struct key *key = key_of(bytes, len, 1);
-        if (key) key->does(e, key->number);
+        if (key && key->call) e->rings |= key->call(e->session, key->by()) < 0;
+        else if (key) key->does(e, key->number);
         else if (len == sizeof bytes || !key_of(bytes, len, 0)) pass_over(e, bytes, len);
         else {
             byte = next_byte(e, bytes[0] == 0x1b ? WAIT : FOR_EVER);
@@ -514,8 +500,10 @@ static int take_key(struct editor *e) {
 int main(void) {
     static struct editor e;
     if (tcgetattr(0, &e.before)) return perror("edit"), 1;
-    if (lodvarn_open(&e.session, "", 0, 0, LIMIT, RING, LODVARN_UNICODE) != LODVARN_DONE) return 1;
-    lodvarn_set_prompt(&e.session, prompt_columns);
+    lodvarn_options options = LODVARN_OPTIONS;
+    options.limit = LIMIT;
+    options.prompt = prompt_columns;
+    if (lodvarn_open(&e.session, &options, "", 0) < 0) return 1;
     setvbuf(stdout, e.output, _IOFBF, sizeof e.output);
     hear_signals(&e);
     enter_raw(&e);

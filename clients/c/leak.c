@@ -4,8 +4,8 @@
 
 int main(void) {
     for (int i = 0; i < 100; i++) {
-        lodvarn *s = NULL;
-        if (lodvarn_open(&s, "ab\n", 3, 3, 64, 2, LODVARN_UNICODE) != LODVARN_DONE) return 0;
+        lodvarn *s;
+        if (lodvarn_open(&s, NULL, "ab\n", 3) != LODVARN_DONE) return 0;
     }
     return 0;
 }

@@ -9,91 +9,110 @@
 #include <termios.h>
 #include <unistd.h>
 
-enum { LIMIT = 4096, RING = 60, LINES = 32 }; /* bytes of a line, killed texts that are kept, and lines */
+enum { LIMIT = 4096, LINES = 32 };   /* bytes of a line, as LODVARN_OPTIONS has it, and lines that are kept */
 static lodvarn *s;
 static struct termios outside, raw;  /* the terminal's modes for commands, and those for keys */
-static struct winsize screen;
+static struct winsize size;
 static char lines[LINES][LIMIT + 1]; /* the one that is typed, and those before it, the newest first */
 static size_t shown;                 /* which of them the session has */
 
-/* Draws one row, which the terminal cuts at its edge, and which slides so that the cursor is eight columns from there. */
-static void draw(void) {
-    char text[LIMIT];
-    size_t len = lodvarn_text(&s, text, LIMIT), pos = lodvarn_pos(&s), end, from;
-    uint16_t width; /* measuring is never refused: the text is UTF-8, and it takes no memory */
-    if (ioctl(1, TIOCGWINSZ, &screen) || !screen.ws_col) screen.ws_col = 80;
-    lodvarn_cell(text, pos, pos, 8, UINT16_MAX, 0, LODVARN_UNICODE, NULL, &end);
-    lodvarn_place_at(text, pos, 0, end, screen.ws_col, UINT16_MAX, 0, LODVARN_UNICODE, &from);
-    lodvarn_width(text + from, pos - from, LODVARN_UNICODE, &width);
-    dprintf(1, "\r\x1b[?7l$ %.*s\x1b[K\x1b[?7h\r\x1b[%dC", (int)(len - from), text + from, 2 + width);
+static lodvarn_view text(void) {
+    lodvarn_view view = {"", 0};
+    lodvarn_text(s, &view);
+    return view;
 }
 
-static uint32_t move(uint32_t movement) { return lodvarn_move(&s, movement, 1, 0); }
-static uint32_t kill_to(uint32_t movement) { return lodvarn_kill(&s, movement, 1, 0); }
-static uint32_t yank(uint32_t older) { return older ? lodvarn_yank_pop(&s) : lodvarn_yank(&s, 1); }
-static uint32_t undo(uint32_t n) { return lodvarn_undo(&s, (uint16_t)n); }
+/* Draws one row, which the terminal cuts at its edge, and which slides so that the cursor is eight columns before it. */
+static void draw(void) {
+    lodvarn_position cursor = {0, 0};
+    lodvarn_view line = text();
+    size_t pos = lodvarn_pos(s), from = 0, width = 0;
+    if (ioctl(1, TIOCGWINSZ, &size) || !size.ws_col) size.ws_col = 80;
+    lodvarn_find_cursor(s, &cursor);
+    cursor.column += 8;
+    lodvarn_place_at(&(lodvarn_screen){UINT16_MAX, size.ws_col, 0, LODVARN_UNICODE}, cursor, line.at, pos, &from);
+    lodvarn_width(LODVARN_UNICODE, line.at + from, pos - from, &width);
+    dprintf(1, "\r\x1b[?7l$ %.*s\x1b[K\x1b[?7h\r\x1b[%dC", (int)(line.len - from), line.at + from, 2 + (int)width);
+}
+
 /* Ends at a hang-up, and leaves the terminal as it was. A handler may make these calls. */
 static void hang_up(int number) { tcsetattr(0, TCSANOW, &outside), _exit(128 + number); }
 
+/* Keeps what is typed. */
+static void keep(lodvarn_view line) { memcpy(lines[0], line.at, line.len), lines[0][line.len] = 0; }
+
 /* Shows an older line, or a newer one. The session begins anew with it, so that no undo leads out of it. */
-static uint32_t recall(uint32_t older) {
-    if (older ? shown == LINES - 1 || !*lines[shown + 1] : shown == 0) return LODVARN_NONE;
-    if (shown == 0) lines[0][lodvarn_text(&s, lines[0], LIMIT)] = 0;
+static int recall(int older) {
+    if (older ? shown == LINES - 1 || !*lines[shown + 1] : shown == 0) return LODVARN_NOTHING;
+    if (shown == 0) keep(text());
     const char *line = lines[older ? ++shown : --shown];
-    return lodvarn_restart(&s, line, strlen(line), strlen(line));
+    return lodvarn_restart(s, line, strlen(line));
 }
 
-/* Runs the line where it is accepted, and begins the next one, with the same kill ring. */
-static uint32_t end_line(uint32_t is_accepted) {
-    lines[0][is_accepted ? lodvarn_text(&s, lines[0], LIMIT) : 0] = 0;
+/* Runs the line if it is accepted, and begins the next one, with the same kill ring. */
+static int end_line(int is_accepted) {
+    keep(is_accepted ? text() : (lodvarn_view){"", 0});
     dprintf(1, "\n");
     if (*lines[0]) {
         tcsetattr(0, TCSADRAIN, &outside);
         if (system(lines[0]) < 0) perror("prompt");
         tcsetattr(0, TCSADRAIN, &raw);
-        dprintf(1, "%*s\r", screen.ws_col, ""); /* leads out of a row that was not ended */
+        dprintf(1, "%*s\r", size.ws_col, ""); /* leads out of a row that was not ended */
         memmove(lines + 1, lines, sizeof lines - sizeof *lines);
     }
     shown = 0;
-    return lodvarn_restart(&s, "", 0, 0);
+    return lodvarn_restart(s, "", 0);
 }
 
-static const struct key { const char *bytes; uint32_t (*does)(uint32_t), number; } keys[] = {
-    {"\x01", move, LODVARN_BEGINNING_OF_LINE}, {"\x05", move, LODVARN_END_OF_LINE},
-    {"\x02", move, LODVARN_BACKWARD_CHAR}, {"\x06", move, LODVARN_FORWARD_CHAR},
-    {"\x1b" "b", move, LODVARN_BACKWARD_EMACS_WORD}, {"\x1b" "f", move, LODVARN_FORWARD_EMACS_WORD_AFTER_END},
-    {"\x7f", kill_to, LODVARN_BACKWARD_CHAR}, {"\x04", kill_to, LODVARN_FORWARD_CHAR},
-    {"\x0b", kill_to, LODVARN_END_OF_LINE}, {"\x15", kill_to, LODVARN_BEGINNING_OF_LINE},
-    {"\x17", kill_to, LODVARN_BACKWARD_BIG_WORD}, {"\x1b" "d", kill_to, LODVARN_FORWARD_EMACS_WORD_AFTER_END},
-    {"\x19", yank, 0}, {"\x1b" "y", yank, 1}, {"\x1f", undo, 1}, {"\x10", recall, 1}, {"\x1b[A", recall, 1},
-    {"\x0e", recall, 0}, {"\x1b[B", recall, 0}, {"\x03", end_line, 0}, {"\n", end_line, 1}, {"\r", end_line, 1},
-};
+/* Does what a key says, or inserts the character that it is. */
+static int press(const char *key, uint32_t c) {
+#define IS(bytes) !strcmp(key, bytes)
+    if (IS("\x01")) return lodvarn_move(s, lodvarn_to_line_start());
+    if (IS("\x05")) return lodvarn_move(s, lodvarn_to_line_end());
+    if (IS("\x02")) return lodvarn_move(s, lodvarn_chars_back(1));
+    if (IS("\x06")) return lodvarn_move(s, lodvarn_chars_forward(1));
+    if (IS("\x1b" "b")) return lodvarn_move(s, lodvarn_words_back(LODVARN_EMACS, 1));
+    if (IS("\x1b" "f")) return lodvarn_move(s, lodvarn_words_forward(LODVARN_EMACS, LODVARN_AFTER_END, 1));
+    if (IS("\x7f")) return lodvarn_backspace(s, 1);
+    if (IS("\x04")) return lodvarn_delete(s, 1);
+    if (IS("\x0b")) return lodvarn_kill(s, lodvarn_to_line_end());
+    if (IS("\x15")) return lodvarn_kill(s, lodvarn_to_line_start());
+    if (IS("\x17")) return lodvarn_kill(s, lodvarn_words_back(LODVARN_BIG, 1));
+    if (IS("\x1b" "d")) return lodvarn_kill(s, lodvarn_words_forward(LODVARN_EMACS, LODVARN_AFTER_END, 1));
+    if (IS("\x19")) return lodvarn_yank(s, 1);
+    if (IS("\x1b" "y")) return lodvarn_yank_pop(s);
+    if (IS("\x1f")) return lodvarn_undo(s, 1);
+    if (IS("\x10") || IS("\x1b[A")) return recall(1);
+    if (IS("\x0e") || IS("\x1b[B")) return recall(0);
+    if (IS("\x03")) return end_line(0);
+    if (IS("\n") || IS("\r")) return end_line(1);
+    return *key == 0x1b || c < ' ' || (0x7f <= c && c < 0xa0) ? LODVARN_NOTHING : lodvarn_insert(s, c, 1);
+}
 
 /* Takes a byte. The last one of a key does what this says, and the last one of a character inserts it. */
-static uint32_t take(char byte) {
+static int take(char byte) {
     static char key[8];
     static size_t len;
+    size_t first;
     if (!len || byte == 0x1b || (*key != 0x1b && (byte & 0xc0) != 0x80)) memset(key, 0, sizeof key), len = 0;
     if (len < sizeof key - 1) key[len++] = byte;
     if (*key == 0x1b ? len == 1 || (strchr("[O", key[1]) && (len == 2 || byte < '@'))
-                     : lodvarn_first_cluster(key, len, NULL) == LODVARN_NOT_UTF8) return LODVARN_DONE;
+                     : lodvarn_first_cluster(key, len, &first) == LODVARN_NOT_UTF8) return LODVARN_DONE;
     uint32_t c = (unsigned char)*key & (len == 1 ? 0x7fu : 0x7fu >> len);
     for (size_t i = 1; i < len; i++) c = c << 6 | (key[i] & 0x3fu);
     len = 0;
-    for (size_t i = 0; i < sizeof keys / sizeof *keys; i++)
-        if (!strcmp(keys[i].bytes, key)) return keys[i].does(keys[i].number);
-    return *key == 0x1b || c < ' ' || (0x7f <= c && c < 0xa0) ? LODVARN_NONE : lodvarn_insert(&s, c, 1);
+    return press(key, c);
 }
 
 int main(void) {
-    if (tcgetattr(0, &outside) || lodvarn_open(&s, "", 0, 0, LIMIT, RING, LODVARN_UNICODE)) return perror("prompt"), 1;
+    if (tcgetattr(0, &outside) || lodvarn_open(&s, NULL, "", 0) < 0) return perror("prompt"), 1;
     raw = outside;
     raw.c_lflag &= ~(tcflag_t)(ECHO | ICANON | IEXTEN | ISIG);
     raw.c_cc[VMIN] = 1;
     signal(SIGHUP, hang_up), signal(SIGTERM, hang_up), signal(SIGINT, hang_up);
     tcsetattr(0, TCSADRAIN, &raw);
-    for (char byte; draw(), read(0, &byte, 1) == 1 && (byte != 4 || lodvarn_text(&s, NULL, 0));)
-        if (take(byte) >= LODVARN_NONE) dprintf(1, "\a"); /* nothing went in, or an error */
+    for (char byte; draw(), read(0, &byte, 1) == 1 && (byte != 4 || text().len);)
+        if (take(byte) <= 0) dprintf(1, "\a"); /* nothing was done */
     dprintf(1, "\n");
     tcsetattr(0, TCSADRAIN, &outside);
     return lodvarn_close(&s), 0;

@@ -1,5 +1,5 @@
 /* random SEED LINES SCRIPT ANSWERS: makes a script of random lines, runs each by the typed calls, and writes the
- * script, and what the calls answered in the form in which a script prints it. */
+ * script, and what the calls returned in the form in which a script prints it. */
 #include "chance.h"
 #include "typed.h"
 #include <stdarg.h>
@@ -21,8 +21,14 @@ static unsigned count(void) {
     return ONE_OF(counts);
 }
 
+static unsigned length(struct typed *t) {
+    lodvarn_view text;
+    lodvarn_text(t->s, &text);
+    return (unsigned)text.len;
+}
+
 /* Mostly a place of the text, now and then one past its end. */
-static unsigned place(struct typed *t) { return below((unsigned)lodvarn_text(&t->s, NULL, 0) + 2); }
+static unsigned place(struct typed *t) { return below(length(t) + 2); }
 
 static void add_char(void) {
     static const char *const chars[] = {
@@ -102,13 +108,21 @@ static void add_deletion(struct typed *t) {
     }
 }
 
+/* A yank-pop, if it surely has room: without room a script deletes what was yanked, and lodvarn_yank_pop changes nothing. */
+static void add_yank_pop(struct typed *t) {
+    lodvarn_view older = {NULL, 0};
+    lodvarn_options options = LODVARN_OPTIONS;
+    lodvarn_ring_text(t->s, lodvarn_ring_count(t->s) > 1, &older);
+    lodvarn_get_options(t->s, &options);
+    add(length(t) + older.len <= options.limit ? "yankpop" : "where");
+}
+
 /* Any other line. */
 static void add_other(struct typed *t) {
-    static const char *const plain[] = {
-        "tchars", "begin", "begin", "end", "endone", "endone", "redo", "redo", "where", "yankpop", "yankpop",
-    };
+    static const char *const plain[] = {"tchars", "begin", "begin", "end", "endone", "endone", "redo", "redo", "where"};
     static const char *const cases[] = {"cap", "low", "up"};
-    switch (below(14)) {
+    switch (below(15)) {
+    case 14: add_yank_pop(t); break;
     case 13: add("keep "); add_text(); break;
     case 0: add("pos %u", place(t)); break;
     case 1: add("move"); add_movement(); break;
@@ -117,7 +131,7 @@ static void add_other(struct typed *t) {
     case 4: add("twords %u", count()); break;
     case 5: add("yank %u", below(3)); break;
     case 6: add("undo %u", count() % 9); break;
-    case 7: add("trunc %u", below((unsigned)lodvarn_entries(&t->s) + 2)); break;
+    case 7: add("trunc %u", below((unsigned)lodvarn_entries(t->s) + 2)); break;
     default: add("%s", ONE_OF(plain));
     }
 }
@@ -125,9 +139,10 @@ static void add_other(struct typed *t) {
 /* A line for the session as it is: a text that grew long is replaced. */
 static void make_line(struct typed *t) {
     line[0] = 0;
-    if (lodvarn_text(&t->s, NULL, 0) > 400) { add("text "); add_text(); return; }
+    if (length(t) > 400) { add("text "); add_text(); return; }
     unsigned which = below(100);
-    if (which < 2) add_start();
+    if (lodvarn_last_was_yank(t->s) && which < 50) add_yank_pop(t);
+    else if (which < 2) add_start();
     else if (which < 38) add_insertion(t);
     else if (which < 62) add_deletion(t);
     else add_other(t);

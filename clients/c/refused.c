@@ -1,16 +1,25 @@
-/* Refuses each request of the library for memory in turn: the call says so, the session is sound, and undo leads back
- * to the text that it began with. A call whose comment names no NO_MEMORY makes none. Reports that were read take no
- * memory, and nothing takes more than it needs. To be compiled with -fsanitize=address, which tells how much is held,
+/* Refuses each request of the library for memory in turn: the call says so, the handles are sound, and undo leads back
+ * to the text that a session began with. A call whose comment names no NO_MEMORY makes none. Reports that were read take
+ * no memory, and nothing takes more than it needs. To be compiled with -fsanitize=address, which tells how much is held,
  * and linked with -Wl,--wrap=malloc,--wrap=realloc. Its last line is 'N passed, M failed', where each request, each
  * such call, each of two readers and each check of what is taken counts one. */
 #include "lodvarn_parts.h"
-#include <stdio.h>
-#include <stdlib.h>
-#include <string.h>
+#include "see.h"
+
+#define WORD_BACK lodvarn_words_back(LODVARN_EMACS, 1)
+/* The next of the calls that a function makes, one each time. Those of several steps may stop between two. */
+#define CALL(call) if (which-- == 0) return (call)
+#define STEPS(call) if (which-- == 0) return several = 1, (call)
+
+enum { NO_MORE = INT_MIN };
 
 static lodvarn *s;
+static lodvarn_line *l;
+static lodvarn_record *r;
+static lodvarn_killring *g;
 static size_t left = SIZE_MAX; /* requests before the one that is refused */
 static int was_refused;
+static int several;     /* whether the last call has several steps */
 static size_t greatest; /* the greatest request */
 static size_t requests; /* how many there were */
 static size_t peak;     /* the most bytes that were held, with what was asked for */
@@ -38,97 +47,205 @@ void *__wrap_realloc(void *at, size_t size) { return refuses(size) ? NULL : __re
 
 static const char start[] = "ab cd";
 
-/* The calls that may take memory, one after the other, until there are no more. */
-static uint32_t step(unsigned which) {
-    static char out[256];
-    size_t len;
-    uint16_t column;
-    switch (which) {
-    case 0: return lodvarn_open(&s, start, 5, 5, 64, 3, LODVARN_UNICODE);
-    case 1: return lodvarn_watch(&s, 3, 40);
-    case 2: return lodvarn_insert(&s, 'e', 3);
-    case 3: return lodvarn_backspace(&s, 1);
-    case 4: return lodvarn_begin(&s, &len);
-    case 5: return lodvarn_paste(&s, "x y", 3, 2);
-    case 6: return lodvarn_edit_word(&s, LODVARN_UPPERCASE);
-    case 7: return lodvarn_end(&s);
-    case 8: return lodvarn_kill(&s, LODVARN_BACKWARD_EMACS_WORD, 1, 0);
-    case 9: return lodvarn_kill(&s, LODVARN_BACKWARD_EMACS_WORD, 1, 0);
-    case 10: return lodvarn_yank(&s, 2);
-    case 11: return lodvarn_yank_pop(&s);
-    case 12: return lodvarn_copy(&s, LODVARN_WHOLE_BUFFER, 1, 0, out, sizeof out, &len);
-    case 13: return lodvarn_transpose_words(&s, 1);
-    case 14: return lodvarn_transpose_chars(&s);
-    case 15: return lodvarn_insert_str(&s, 0, "ab\n", 3);
-    case 16: return lodvarn_indent(&s, LODVARN_WHOLE_BUFFER, 1, 0, 40, LODVARN_INDENT);
-    case 17: return lodvarn_indent(&s, LODVARN_WHOLE_BUFFER, 1, 0, 3, LODVARN_DEDENT);
-    case 18: return lodvarn_replace(&s, 0, 4, "cd\ne", 4);
-    case 19: return lodvarn_line_place(&s, &len, &column);
-    case 20: return lodvarn_delete_range(&s, 0, 1);
-    case 21: return lodvarn_delete(&s, 1, out, sizeof out, &len);
-    case 22: return lodvarn_delete_prev_word(&s, LODVARN_VI, 1);
-    case 23: return lodvarn_undo(&s, 2);
-    case 24: return lodvarn_redo(&s);
-    case 25: return lodvarn_update(&s, "one two", 7, 3);
-    case 26: return lodvarn_delete_word(&s, LODVARN_AFTER_END, LODVARN_BIG, 1);
-    case 27: return lodvarn_delete_to(&s, LODVARN_BACKWARD, 'o', 1);
-    case 28: return lodvarn_delete_to_line_end(&s);
-    case 29: return lodvarn_discard_buffer(&s);
-    case 30: return lodvarn_paste(&s, "kept and killed", 15, 1);
-    case 31: return lodvarn_kill_range(&s, 2, 5, LODVARN_KILL_FORWARD);
-    case 32: return lodvarn_kill_range(&s, 0, 2, LODVARN_KILL_BACKWARD);
-    case 33: return lodvarn_keep(&s, "kept", 4);
-    case 34: return lodvarn_begin(&s, NULL);
-    case 35: return lodvarn_delete(&s, 1, NULL, 0, NULL);
-    case 36: return lodvarn_begin(&s, &len);
-    case 37: return lodvarn_kill(&s, LODVARN_FIRST_NONBLANK, 1, 0);
-    case 38: return lodvarn_insert(&s, 'x', 1);
-    case 39: return lodvarn_end_one(&s);
-    case 40: return lodvarn_end_one(&s);
-    default: return UINT32_MAX;
-    }
+static void close_all(void) {
+    lodvarn_close(&s);
+    lodvarn_line_close(&l);
+    lodvarn_record_close(&r);
+    lodvarn_killring_close(&g);
 }
 
-/* The text is UTF-8, the cursor is a place of it, and it keeps to the limit. */
+static void open_all(size_t ring_size) {
+    lodvarn_options options = LODVARN_OPTIONS;
+    options.limit = 64;
+    options.ring_size = ring_size;
+    must(lodvarn_open(&s, &options, start, 5) > 0 && lodvarn_line_open(&l, 64, true, start, 5) > 0);
+    must(lodvarn_record_open(&r) > 0 && lodvarn_killring_open(&g, ring_size) > 0);
+}
+
+/* What opens is closed again; an error leaves the pointer, which is not read. */
+#define OPENS(name, handle, open, close)                                             \
+    static int name(void) {                                                          \
+        handle *const none = (handle *)(uintptr_t)0x5a5a5a50, *opened = none;        \
+        int answer = open;                                                           \
+        if (answer < 0) return opened == none ? answer : NO_MORE;                    \
+        close(&opened);                                                              \
+        return answer;                                                               \
+    }
+OPENS(opens, lodvarn, lodvarn_open(&opened, NULL, start, 5), lodvarn_close)
+OPENS(opens_a_line, lodvarn_line, lodvarn_line_open(&opened, 64, false, start, 5), lodvarn_line_close)
+OPENS(opens_a_record, lodvarn_record, lodvarn_record_open(&opened), lodvarn_record_close)
+OPENS(opens_a_ring, lodvarn_killring, lodvarn_killring_open(&opened, 2), lodvarn_killring_close)
+
+/* The calls of a session that may take memory, one after the other. */
+static int step(unsigned which) {
+    CALL(opens());
+    CALL(lodvarn_watch(s, 3, 40));
+    CALL(lodvarn_insert(s, 'e', 3));
+    CALL(lodvarn_backspace(s, 1));
+    CALL(lodvarn_begin_group(s));
+    CALL(lodvarn_paste(s, "x y", 3, 2));
+    CALL(lodvarn_set_pos(s, 3));
+    STEPS(lodvarn_change_case(s, LODVARN_UPPERCASE));
+    CALL(lodvarn_end_all_groups(s));
+    CALL(lodvarn_kill(s, WORD_BACK));
+    CALL(lodvarn_kill(s, WORD_BACK));
+    CALL(lodvarn_yank(s, 2));
+    STEPS(lodvarn_yank_pop(s));
+    STEPS(lodvarn_transpose_words(s, 1));
+    STEPS(lodvarn_transpose_chars(s));
+    CALL(lodvarn_insert_at(s, 0, "ab\n", 3));
+    STEPS(lodvarn_indent(s, lodvarn_whole_text(), 40, LODVARN_INDENT));
+    STEPS(lodvarn_indent(s, lodvarn_whole_text(), 3, LODVARN_DEDENT));
+    CALL(lodvarn_replace(s, range(0, 4), "cd\ne", 4));
+    CALL(lodvarn_delete_range(s, range(0, 1)));
+    CALL(lodvarn_delete(s, 1));
+    CALL(lodvarn_set_pos(s, 4));
+    CALL(lodvarn_delete_by(s, lodvarn_words_back(LODVARN_VI, 1)));
+    CALL(lodvarn_undo(s, 2));
+    CALL(lodvarn_redo(s));
+    STEPS(lodvarn_set_text(s, 3, "one two", 7));
+    CALL(lodvarn_delete_by(s, lodvarn_words_forward(LODVARN_BIG, LODVARN_AFTER_END, 1)));
+    CALL(lodvarn_delete_by(s, lodvarn_search_for(LODVARN_BACK_TO, 'o', 1)));
+    STEPS(lodvarn_set_text(s, 3, "one two", 7));
+    CALL(lodvarn_delete_by(s, lodvarn_to_line_end()));
+    CALL(lodvarn_delete_by(s, lodvarn_to_text_start()));
+    CALL(lodvarn_paste(s, "kept and killed", 15, 1));
+    CALL(lodvarn_kill_range(s, range(2, 5), LODVARN_FORWARD));
+    CALL(lodvarn_kill_range(s, range(0, 2), LODVARN_BACKWARD));
+    CALL(lodvarn_keep(s, "kept", 4));
+    CALL(lodvarn_begin_group(s));
+    CALL(lodvarn_begin_group(s));
+    CALL(lodvarn_set_pos(s, 3));
+    CALL(lodvarn_kill(s, lodvarn_to_first_nonblank()));
+    CALL(lodvarn_insert(s, 'x', 1));
+    CALL(lodvarn_end_group(s));
+    CALL(lodvarn_end_group(s));
+    return NO_MORE;
+}
+
+/* Those of a line, a record and a ring. */
+static int step_of_parts(unsigned which) {
+    static char out[64];
+    size_t len;
+    CALL(opens_a_line());
+    CALL(opens_a_record());
+    CALL(opens_a_ring());
+    CALL(lodvarn_line_insert(l, 'e', 3));
+    CALL(lodvarn_line_paste(l, "x y", 3, 2));
+    STEPS(lodvarn_line_yank_pop(l, 3, "one two", 7));
+    STEPS(lodvarn_line_set_text(l, 3, "one two three", 13));
+    CALL(lodvarn_line_insert_at(l, 0, "ab\n", 3));
+    CALL(lodvarn_line_replace(l, range(0, 2), "cd\ne", 4));
+    CALL(lodvarn_line_delete_range(l, range(0, 1)));
+    CALL(lodvarn_line_delete(l, 1));
+    CALL(lodvarn_line_set_pos(l, 6));
+    CALL(lodvarn_line_backspace(l, 1));
+    CALL(lodvarn_line_delete_by(l, lodvarn_to_text_start()));
+    STEPS(lodvarn_line_kill(l, lodvarn_to_line_end()));
+    STEPS(lodvarn_line_set_text(l, 7, "one two", 7));
+    STEPS(lodvarn_line_transpose_chars(l));
+    STEPS(lodvarn_line_transpose_words(l, 1));
+    STEPS(lodvarn_line_kill_range(l, range(0, 1), LODVARN_FORWARD));
+    STEPS(lodvarn_line_change_case(l, LODVARN_UPPERCASE));
+    STEPS(lodvarn_line_indent(l, lodvarn_whole_text(), 40, LODVARN_INDENT));
+    STEPS(lodvarn_line_set_text(l, 3, "cda", 3));
+    CALL(lodvarn_record_begin_group(r));
+    CALL(lodvarn_record_insert_char(r, 0, 'a'));
+    CALL(lodvarn_record_insert(r, 0, "b", 1));
+    CALL(lodvarn_record_delete(r, 0, "b", 1));
+    CALL(lodvarn_record_end_group(r));
+    CALL(lodvarn_record_begin_group(r));
+    CALL(lodvarn_record_replace(r, 0, (lodvarn_view){"", 0}, (lodvarn_view){"cd", 2}));
+    CALL(lodvarn_record_end_all_groups(r));
+    CALL(lodvarn_record_last_insert(r, out, sizeof out, &len));
+    CALL(lodvarn_record_can_undo(r, l));
+    CALL(lodvarn_record_undo(r, l, 9));
+    CALL(lodvarn_record_can_redo(r, l));
+    CALL(lodvarn_record_redo(r, l));
+    CALL(lodvarn_record_replays_to(r, l, lodvarn_record_entries(r)));
+    CALL(lodvarn_killring_kill(g, "a", 1, LODVARN_FORWARD));
+    CALL(lodvarn_killring_kill(g, "a", 1, LODVARN_BACKWARD));
+    CALL(lodvarn_killring_start_killing(g));
+    CALL(lodvarn_killring_delete(g, "b", 1, LODVARN_BACKWARD));
+    CALL(lodvarn_killring_stop_killing(g));
+    CALL(lodvarn_restart(s, "one\ntwo\nthree\nfour\nfive\nsix\nseven\neight\nnine\nten", 48));
+    CALL(lodvarn_restart(s, start, 5));
+    return NO_MORE;
+}
+
+/* A text is UTF-8, and the cursor is a place of it. */
+static int is_sound(int answer, lodvarn_view text, size_t pos) {
+    static const lodvarn_screen screen = {80, 0, 8, LODVARN_UNICODE};
+    lodvarn_position cell;
+    return answer == LODVARN_DONE && lodvarn_cell(&screen, pos, text.at, text.len, &cell) == LODVARN_DONE;
+}
+
+/* Session and line are sound, and keep to their limits. */
 static int stands(void) {
-    static char text[1024];
-    size_t len = lodvarn_text(&s, text, sizeof text), row, column;
-    return len <= sizeof text && len <= lodvarn_limit(&s)
-        && lodvarn_cell(text, len, lodvarn_pos(&s), 0, 80, 8, LODVARN_UNICODE, &row, &column) == LODVARN_DONE;
+    lodvarn_options now = LODVARN_OPTIONS;
+    lodvarn_view own, of_line;
+    int answer = lodvarn_text(s, &own), line_answer = lodvarn_line_text(l, &of_line);
+    return is_sound(answer, own, lodvarn_pos(s)) && is_sound(line_answer, of_line, lodvarn_line_pos(l))
+        && lodvarn_get_options(s, &now) == LODVARN_DONE && own.len <= now.limit && of_line.len <= lodvarn_line_limit(l);
+}
+
+/* Session, line, record and ring as a text, but the session's ring, which may have kept a text. */
+static void print_state(char *to, size_t cap) {
+    lodvarn_options now = LODVARN_OPTIONS;
+    lodvarn_view own, of_line;
+    must(lodvarn_text(s, &own) > 0 && lodvarn_line_text(l, &of_line) > 0 && lodvarn_get_options(s, &now) > 0);
+    snprintf(to, cap, "%.*s %zu %zu %zu %zu %.*s %zu %zu %zu %zu %zu %zu", (int)own.len, own.at, lodvarn_pos(s),
+             now.limit, lodvarn_entries(s), lodvarn_level(s), (int)of_line.len, of_line.at, lodvarn_line_pos(l),
+             lodvarn_line_limit(l), lodvarn_line_count_reports(l), lodvarn_record_entries(r), lodvarn_record_level(r),
+             lodvarn_killring_count(g));
 }
 
 /* After everything is undone the text is the first one. */
 static int leads_back(void) {
-    char text[8];
-    while (lodvarn_entries(&s) > 0 && lodvarn_undo(&s, UINT16_MAX) != LODVARN_NO_MEMORY) {}
-    return lodvarn_text(&s, text, sizeof text) == 5 && !memcmp(text, start, 5);
+    lodvarn_view text;
+    while (lodvarn_entries(s) > 0 && lodvarn_undo(s, 65535) != LODVARN_NO_MEMORY) {}
+    return lodvarn_text(s, &text) == LODVARN_DONE && is(text, start);
 }
 
-/* How many calls said that memory is out, where the request of that number is refused. */
-static int refused_at(size_t request, int *holds) {
-    int refused = 0;
-    uint32_t answer;
-    if (lodvarn_open(&s, start, 5, 0, 64, 3, LODVARN_UNICODE) != LODVARN_DONE) exit(2);
+/* How many calls said that memory is out if the request of that number is refused. A call of one step leaves all as it
+ * was then. If there is no such request each call finds something to do. */
+static int refused_at(int (*calls)(unsigned), size_t request, int *holds) {
+    char before[1024], after[sizeof before];
+    int refused = 0, idle = 0, answer;
+    open_all(3);
     was_refused = 0;
     left = request;
-    for (unsigned i = 0; (answer = step(i)) != UINT32_MAX; i++) {
+    print_state(before, sizeof before);
+    for (unsigned i = 0; several = 0, (answer = calls(i)) != NO_MORE; i++) {
+        print_state(after, sizeof after);
         refused += answer == LODVARN_NO_MEMORY;
-        *holds = *holds && stands();
+        idle += answer <= 0;
+        *holds = *holds && stands() && (answer != LODVARN_NO_MEMORY || several || !strcmp(before, after));
+        strcpy(before, after);
     }
     left = SIZE_MAX;
-    *holds = *holds && leads_back();
-    lodvarn_close(&s);
+    *holds = *holds && leads_back() && (was_refused || !idle);
+    close_all();
     return refused;
 }
 
-/* A script that ends because that request is refused still tells how much it printed: whole lines, or none. */
+static void refuse_each(const char *what, int (*calls)(unsigned)) {
+    size_t request = 0;
+    do {
+        int holds = 1, refused = refused_at(calls, request, &holds);
+        if (!see(what, refused == was_refused && holds)) printf("  request %zu, said by %d calls\n", request, refused);
+        request++;
+    } while (was_refused);
+}
+
+/* A script that ends because a request is refused still tells how much it printed: whole lines, or none. */
 static int script_tells_its_length(size_t request) {
     static const char script[] = "text a\ntext b\n", whole[] = "ok 1 a\nok 1 b\n";
     char out[64];
     size_t len = sizeof out + 1;
     was_refused = 0;
     left = request;
-    uint32_t answer = lodvarn_script(script, sizeof script - 1, out, sizeof out, &len);
+    int answer = lodvarn_script(script, sizeof script - 1, out, sizeof out, &len);
     left = SIZE_MAX;
     if (len > sizeof out) return 0;
     if (answer == LODVARN_NO_MEMORY) return was_refused && len < sizeof whole - 1 && !memcmp(out, whole, len);
@@ -136,88 +253,112 @@ static int script_tells_its_length(size_t request) {
     return answer == LODVARN_DONE && same != was_refused;
 }
 
-/* The calls whose comments name no NO_MEMORY, one after the other, until there are no more. */
-static uint32_t frugal_step(unsigned which) {
+/* The calls whose comments name no NO_MEMORY, one after the other. */
+static int frugal_step(unsigned which) {
     static const char text[] = "e\u0301 \U0001F468\u200D\U0001F469\n日本";
+    static const lodvarn_screen screen = {2, 0, 8, LODVARN_UNICODE};
+    enum { LEN = sizeof text - 1 };
+    lodvarn_options options = LODVARN_OPTIONS;
+    lodvarn_view view;
+    lodvarn_range covered;
+    lodvarn_position position = {1, 1};
+    lodvarn_cluster cluster;
+    lodvarn_splice splice;
+    lodvarn_report report;
     char out[64];
-    size_t a, b, c, d, e;
-    uint32_t kind;
-    uint16_t columns;
-    switch (which) {
-    case 0: return lodvarn_set_pos(&s, 1);
-    case 1: return lodvarn_move(&s, LODVARN_FORWARD_VI_WORD_START, 1, 0);
-    case 2: return lodvarn_move(&s, LODVARN_SEARCH_BACKWARD, 1, 'a');
-    case 3: return lodvarn_move(&s, LODVARN_LINE_UP, 1, 0);
-    case 4: return lodvarn_line_place(&s, &a, &columns);
-    case 5: return lodvarn_changed(&s, &a, &b, &c);
-    case 6: return lodvarn_next_report(&s, &kind, &a, &b, &c, &d, &e, out, sizeof out);
-    case 7: return lodvarn_text(&s, out, sizeof out) != 8;
-    case 8: return lodvarn_pos(&s) + lodvarn_line_number(&s) + lodvarn_line_count(&s) == 0;
-    case 9: return lodvarn_limit(&s) + lodvarn_entries(&s) == 0;
-    case 10: return lodvarn_line_range(&s, 1, &a, &b);
-    case 11: return lodvarn_last_was_yank(&s);
-    case 12: return lodvarn_width(text, sizeof text - 1, LODVARN_UNICODE, &columns);
-    case 13: return lodvarn_width(text, sizeof text - 1, LODVARN_WC_WIDTH, &columns);
-    case 14: return lodvarn_width(text, sizeof text - 1, LODVARN_NO_ZWJ, &columns);
-    case 15: return lodvarn_first_cluster(text, sizeof text - 1, &a);
-    case 16: return lodvarn_last_cluster(text, sizeof text - 1, &a);
-    case 17: return lodvarn_cell(text, sizeof text - 1, sizeof text - 1, 0, 2, 8, LODVARN_UNICODE, &a, &b);
-    case 18: return lodvarn_place_at(text, sizeof text - 1, 1, 1, 0, 2, 8, LODVARN_UNICODE, &a);
-    case 19: return lodvarn_version() == 0;
-    case 20: return lodvarn_set_prompt(&s, 2);
-    case 21: return lodvarn_set_limit(&s, LODVARN_NO_LIMIT);
-    case 22: return lodvarn_set_bound(&s, 0, 0);
-    case 23: return lodvarn_line_column(&s, &a, &columns);
-    case 24: return lodvarn_cluster(&s, 1, &a, &columns);
-    case 25: return lodvarn_covers(&s, LODVARN_LINE_UP, 1, 0, &a, &b);
-    case 26: return lodvarn_destination(&s, LODVARN_FIRST_NONBLANK, 1, 0, &a);
-    case 27: return lodvarn_can_undo(&s) != LODVARN_TRUE || lodvarn_can_redo(&s) != LODVARN_FALSE;
-    case 28: return lodvarn_level(&s) + lodvarn_ring_count(&s) != 1;
-    case 29: return lodvarn_ring_text(&s, 0, out, sizeof out, &a);
-    default: return UINT32_MAX;
-    }
+    size_t n;
+    CALL(lodvarn_set_pos(s, 1));
+    CALL(lodvarn_move(s, lodvarn_words_forward(LODVARN_VI, LODVARN_AT_START, 1)));
+    CALL(lodvarn_move(s, lodvarn_search_for(LODVARN_BACK_TO, 'a', 1)));
+    CALL(lodvarn_move(s, lodvarn_lines_up(1)));
+    CALL(lodvarn_copy(s, lodvarn_whole_text(), out, sizeof out, &n));
+    CALL(lodvarn_end_kills(s));
+    CALL(lodvarn_take_change(s, &splice));
+    CALL(lodvarn_next_report(s, &report));
+    CALL(lodvarn_forget_report(s));
+    CALL(lodvarn_unwatch(s));
+    CALL(lodvarn_text(s, &view));
+    CALL(lodvarn_slice(s, range(1, 2), &view));
+    CALL(-!(lodvarn_pos(s) && lodvarn_cursor_line(s) && lodvarn_count_lines(s) && lodvarn_entries(s)));
+    CALL(-!(lodvarn_can_undo(s) && !lodvarn_can_redo(s) && !lodvarn_level(s) && !lodvarn_last_was_yank(s)));
+    CALL(-!(lodvarn_ring_count(s) && lodvarn_count_reports(s) && lodvarn_version() && lodvarn_answer_name(0)));
+    CALL(lodvarn_ring_text(s, 0, &view));
+    CALL(lodvarn_find_line(s, 1, &covered));
+    CALL(lodvarn_find_cursor(s, &position));
+    CALL(lodvarn_cluster_at(s, 1, &cluster));
+    CALL(lodvarn_covers(s, lodvarn_lines_up(1), &covered));
+    CALL(lodvarn_destination(s, lodvarn_to_first_nonblank(), &n));
+    CALL(lodvarn_get_options(s, &options));
+    options.ring_size = SIZE_MAX;
+    options.limit = LODVARN_NO_LIMIT;
+    options.max_entries = options.max_bytes = 0;
+    CALL(lodvarn_set_options(s, &options));
+    CALL(lodvarn_width(LODVARN_UNICODE, text, LEN, &n));
+    CALL(lodvarn_width(LODVARN_WC_WIDTH, text, LEN, &n));
+    CALL(lodvarn_width(LODVARN_NO_ZWJ, text, LEN, &n));
+    CALL(lodvarn_first_cluster(text, LEN, &n));
+    CALL(lodvarn_last_cluster(text, LEN, &n));
+    CALL(lodvarn_cell(&screen, LEN, text, LEN, &position));
+    CALL(lodvarn_place_at(&screen, position, text, LEN, &n));
+    CALL(lodvarn_line_text(l, &view));
+    CALL(lodvarn_line_slice(l, range(1, 2), &view));
+    CALL(-!(lodvarn_line_pos(l) && lodvarn_line_limit(l) && lodvarn_line_count_reports(l)));
+    CALL(lodvarn_line_set_pos(l, 1));
+    CALL(lodvarn_line_set_can_grow(l, true));
+    CALL(lodvarn_line_move(l, lodvarn_lines_up(1), LODVARN_UNICODE, 2));
+    CALL(lodvarn_line_destination(l, lodvarn_to_line_end(), LODVARN_UNICODE, 0, &n));
+    CALL(lodvarn_line_covers(l, lodvarn_whole_text(), &covered));
+    CALL(lodvarn_line_backspace(l, 0));
+    CALL(lodvarn_line_next_report(l, &report));
+    CALL(lodvarn_line_forget_report(l));
+    CALL(lodvarn_line_forget_reports(l));
+    CALL(lodvarn_record_cursors(r, 0, 0));
+    CALL(-!(lodvarn_record_entries(r) && !lodvarn_record_level(r)));
+    CALL(lodvarn_record_truncate(r, 0));
+    CALL(lodvarn_record_redo(r, l));
+    CALL(-!lodvarn_killring_count(g));
+    CALL(lodvarn_killring_text(g, 0, &view));
+    CALL(lodvarn_killring_yank(g, &view));
+    CALL(lodvarn_killring_yank_pop(g, &n, &view));
+    CALL(lodvarn_killring_reset(g));
+    CALL(lodvarn_killring_start_killing(g));
+    CALL(lodvarn_killring_stop_killing(g));
+    CALL(lodvarn_killring_delete(g, "a", 1, LODVARN_FORWARD));
+    return NO_MORE;
 }
 
-/* What the call of that number answers where every request is refused; -1 where it makes one. The session has a change
- * and a report to tell, and a ring of any size with one text. */
-static int64_t frugal_answer(unsigned which) {
-    if (lodvarn_open(&s, start, 5, 5, 64, SIZE_MAX, LODVARN_UNICODE) != LODVARN_DONE) exit(2);
-    if (lodvarn_keep(&s, "kept", 4) != LODVARN_DONE) exit(2);
-    if (lodvarn_watch(&s, 3, 40) != LODVARN_DONE || lodvarn_paste(&s, "\nab", 3, 1) != LODVARN_TRUE) exit(2);
+/* What the call of that number returns while every request is refused. There is a change and a report to tell, and a
+ * ring of any size with one text. */
+static int frugal_answer(unsigned which) {
+    open_all(SIZE_MAX);
+    must(lodvarn_keep(s, "kept", 4) > 0 && lodvarn_watch(s, 3, 40) > 0 && lodvarn_paste(s, "\nab", 3, 1) > 0);
+    must(lodvarn_line_paste(l, "\nab", 3, 1) > 0 && lodvarn_record_insert(r, 5, "\nab", 3) > 0);
+    must(lodvarn_killring_kill(g, "kept", 4, LODVARN_FORWARD) > 0);
     was_refused = 0;
     left = 0;
-    uint32_t answer = frugal_step(which);
+    int answer = frugal_step(which);
     left = SIZE_MAX;
-    lodvarn_close(&s);
-    return was_refused ? -1 : (int64_t)answer;
+    close_all();
+    return answer;
 }
 
-/* Counts the calls that make no request. */
-static void count_frugal(int *passed, int *failed) {
-    int64_t answer;
-    for (unsigned i = 0; (answer = frugal_answer(i)) != UINT32_MAX; i++) {
-        if (answer >= 0 && !LODVARN_IS_ERROR(answer)) ++*passed;
-        else {
-            ++*failed;
-            printf("FAILED: call %u of those without a request answers %ld\n", i, (long)answer);
-        }
-    }
+static void frugal_calls_take_nothing(void) {
+    int answer;
+    for (unsigned i = 0; (answer = frugal_answer(i)) != NO_MORE; i++)
+        if (!see("a call without a request", answer >= 0 && !was_refused)) printf("  call %u returns %d\n", i, answer);
 }
 
-/* Types and deletes a character over and over, and reads each report of the line but the last so many. Whether all is
+/* Types and deletes a character over and over, and forgets each report of the line but the last so many. Whether all is
  * told, and no request is great. */
 static int reader_takes_little(size_t late) {
-    lodvarn_line *l = NULL;
-    char out[1];
-    uint32_t kind;
-    size_t at, old_len, new_len, before, after;
-    int holds = lodvarn_line_open(&l, "", 0, 0, 64, 0) == LODVARN_DONE;
+    lodvarn_report report;
+    int holds = lodvarn_line_open(&l, 64, false, "", 0) == LODVARN_DONE;
     greatest = 0;
     for (int i = 0; holds && i < 100000; i++) {
-        holds = (i % 2 ? lodvarn_line_backspace(&l, 1) : lodvarn_line_insert(&l, 'a', 1)) == LODVARN_TRUE;
-        while (holds && lodvarn_line_reports(&l) > late) {
-            uint32_t answer = lodvarn_line_next_report(&l, &kind, &at, &old_len, &new_len, &before, &after, out, 1);
-            holds = answer == LODVARN_DONE && old_len + new_len == 1 && out[0] == 'a' && before + after == 1;
+        holds = (i % 2 ? lodvarn_line_backspace(l, 1) : lodvarn_line_insert(l, 'a', 1)) > 0;
+        while (holds && lodvarn_line_count_reports(l) > late) {
+            holds = lodvarn_line_next_report(l, &report) > 0 && report.pos_before + report.pos_after == 1
+                && (is(report.old_text, "a") || is(report.new_text, "a")) && lodvarn_line_forget_report(l) > 0;
         }
     }
     lodvarn_line_close(&l);
@@ -228,91 +369,50 @@ static int reader_takes_little(size_t late) {
 enum { GREAT = 1000000 };
 static char great[GREAT + 6], come[GREAT + 64];
 
-static int opens_all(lodvarn_line **l, lodvarn_killring **g) {
-    return lodvarn_open(&s, "", 0, 0, 2 * GREAT, GREAT, LODVARN_UNICODE) == LODVARN_DONE
-        && lodvarn_line_open(l, "", 0, 0, 2 * GREAT, 0) == LODVARN_DONE
-        && lodvarn_killring_open(g, GREAT) == LODVARN_DONE;
-}
-
 static int closes_a_group(void) {
-    return lodvarn_begin(&s, NULL) == LODVARN_MARK && lodvarn_insert(&s, 'a', 1) == LODVARN_TRUE
-        && lodvarn_end(&s) == LODVARN_TRUE;
+    return lodvarn_begin_group(s) > 0 && lodvarn_insert(s, 'a', 1) > 0 && lodvarn_end_group(s) > 0;
 }
 
-/* The texts of a report of a great insertion are given back once it is read. */
-static int gives_back(lodvarn_line **l) {
-    uint32_t kind;
-    size_t at, old_len, new_len, before, after;
-    if (lodvarn_line_insert_str(l, 0, great, GREAT) != LODVARN_TRUE) return 0;
+/* The texts of a report of a great insertion are given back once it is forgotten. */
+static int gives_back(void) {
+    if (lodvarn_line_insert_at(l, 0, great, GREAT) < 0) return 0;
     size_t held = __sanitizer_get_current_allocated_bytes();
-    uint32_t answer = lodvarn_line_next_report(l, &kind, &at, &old_len, &new_len, &before, &after, come, sizeof come);
-    return answer == LODVARN_DONE && __sanitizer_get_current_allocated_bytes() + GREAT <= held;
+    return lodvarn_line_forget_report(l) > 0 && __sanitizer_get_current_allocated_bytes() + GREAT <= held;
 }
 
-static int puts_in_all(void) { return lodvarn_insert_str(&s, 0, great, GREAT) == LODVARN_FALSE; }
-
-static int kills_all(void) { return lodvarn_kill(&s, LODVARN_WHOLE_BUFFER, 1, 0) == LODVARN_TRUE; }
-
-static void see(const char *what, int holds, int *passed, int *failed) {
-    ++*(holds ? passed : failed);
-    if (!holds) printf("FAILED: %s: %zu requests, the greatest %zu, %zu held\n", what, requests, greatest, peak);
+/* No call took memory before it is needed, more of it than is needed, or for longer. */
+static void see_taken(const char *what, int holds) {
+    if (!see(what, holds)) printf("  %zu requests, the greatest %zu, %zu held\n", requests, greatest, peak);
     greatest = requests = peak = 0;
 }
 
-/* Counts the checks that no call takes memory before it is needed, more of it than is needed, or for longer. */
-static void count_taken(int *passed, int *failed) {
-    lodvarn_line *l = NULL;
-    lodvarn_killring *g = NULL;
+static void little_is_taken(void) {
     size_t len;
     memset(great, 'a', sizeof great);
     memcpy(great, "text ", 5);
     great[sizeof great - 1] = '\n';
     greatest = requests = peak = 0;
-    see("nothing is taken for what may come", opens_all(&l, &g) && greatest < 4096, passed, failed);
-    see("the end of a group", closes_a_group() && greatest < 4096, passed, failed);
-    see("a queue", lodvarn_watch(&s, 3, 40) == LODVARN_DONE && requests == 2, passed, failed);
-    see("a great text", puts_in_all() && greatest < GREAT * 3 / 2, passed, failed);
-    see("a great kill", kills_all() && greatest < GREAT * 3 / 2, passed, failed);
-    see("a report that was read", gives_back(&l), passed, failed);
-    lodvarn_close(&s);
-    lodvarn_line_close(&l);
-    lodvarn_killring_close(&g);
+    open_all(GREAT);
+    see_taken("nothing is taken for what may come", greatest < 4096);
+    see_taken("the end of a group", closes_a_group() && greatest < 4096);
+    see_taken("a queue", lodvarn_watch(s, 3, 40) == LODVARN_DONE && requests == 2);
+    see_taken("a great text", lodvarn_insert_at(s, 0, great, GREAT) > 0 && greatest < GREAT * 3 / 2);
+    see_taken("a great kill", lodvarn_kill(s, lodvarn_whole_text()) > 0 && greatest < GREAT * 3 / 2);
+    see_taken("a report that was read", gives_back());
+    close_all();
     size_t held = __sanitizer_get_current_allocated_bytes();
-    uint32_t answer = lodvarn_script(great, sizeof great, come, sizeof come, &len);
-    see("a great line of a script", answer == LODVARN_DONE && peak < held + GREAT * 9 / 2, passed, failed);
+    int answer = lodvarn_script(great, sizeof great, come, sizeof come, &len);
+    see_taken("a great line of a script", answer == LODVARN_DONE && peak < held + GREAT * 9 / 2);
 }
 
 int main(void) {
-    int passed = 0, failed = 0;
     size_t request = 0;
-    count_frugal(&passed, &failed);
-    count_taken(&passed, &failed);
-    for (size_t late = 0; late < 2; late++) {
-        if (reader_takes_little(late)) passed++;
-        else {
-            failed++;
-            printf("FAILED: a reader that is %zu reports late\n", late);
-        }
-    }
-    do {
-        int holds = 1;
-        int refused = refused_at(request, &holds);
-        if (refused == was_refused && holds) passed++;
-        else {
-            failed++;
-            printf("FAILED: request %zu, said by %d calls\n", request, refused);
-        }
-        request++;
-    } while (was_refused);
-    request = 0;
-    do {
-        if (script_tells_its_length(request)) passed++;
-        else {
-            failed++;
-            printf("FAILED: request %zu of a script\n", request);
-        }
-        request++;
-    } while (was_refused);
-    printf("%d passed, %d failed\n", passed, failed);
-    return failed != 0;
+    frugal_calls_take_nothing();
+    little_is_taken();
+    for (size_t late = 0; late < 2; late++) see("a reader that is late", reader_takes_little(late));
+    refuse_each("a refused request of a session", step);
+    refuse_each("a refused request of a part", step_of_parts);
+    do see("a refused request of a script", script_tells_its_length(request++));
+    while (was_refused);
+    return sum();
 }

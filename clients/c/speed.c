@@ -17,16 +17,20 @@ static void say(const char *what, double since) {
 }
 
 int main(void) {
-    lodvarn *s = NULL;
-    uint32_t wrong = lodvarn_open(&s, "ab", 2, 0, CALLS + 2, 60, LODVARN_UNICODE);
+    lodvarn *s;
+    lodvarn_view text = {NULL, 0};
+    lodvarn_options options = LODVARN_OPTIONS;
+    options.limit = CALLS + 2;
+    if (lodvarn_open(&s, &options, "ab", 2) < 0) return 1;
+    int wrong = 0;
     double since = nanoseconds();
-    for (size_t i = 0; i < CALLS; i++) wrong |= lodvarn_set_pos(&s, i & 1);
+    for (size_t i = 0; i < CALLS; i++) wrong |= lodvarn_set_pos(s, i & 1) != LODVARN_DONE;
     say("lodvarn_set_pos", since);
-    wrong |= lodvarn_set_pos(&s, 2);
+    wrong |= lodvarn_set_pos(s, 2) != LODVARN_DONE;
     since = nanoseconds();
-    for (size_t i = 0; i < CALLS; i++) wrong |= lodvarn_insert(&s, 'a', 1) != LODVARN_TRUE;
+    for (size_t i = 0; i < CALLS; i++) wrong |= lodvarn_insert(s, 'a', 1) != LODVARN_DONE_AT_END;
     say("lodvarn_insert at the end", since);
-    wrong |= lodvarn_text(&s, NULL, 0) != CALLS + 2;
+    wrong |= lodvarn_text(s, &text) != LODVARN_DONE || text.len != CALLS + 2;
     lodvarn_close(&s);
-    return wrong != 0;
+    return wrong;
 }

@@ -5,17 +5,17 @@
 
 enum { ROOM = 1 << 16 };
 
-/* What a call wrote. */
+/* What a call handed out. */
 static char handed[ROOM];
-static size_t handed_len, mark, line_number;
-static uint16_t column;
+static size_t handed_len, mark;
+static lodvarn_position cursor;
 
-static void fail(const char *what, const char *where) {
-    fprintf(stderr, "%s: %s\n", what, where);
+static void fail(const char *what, const char *of) {
+    fprintf(stderr, "%s: %s\n", what, of);
     exit(2);
 }
 
-/* The next word, which a space ends; *rest is what comes after it, or NULL where there is none. */
+/* The next word, which a space ends; *rest is what comes after it, or NULL if there is none. */
 static char *word(char **rest) {
     char *start = *rest;
     if (!start) fail("a word is missing", "");
@@ -27,37 +27,18 @@ static char *word(char **rest) {
 
 static size_t number(char **rest) { return strtoull(word(rest), NULL, 10); }
 
-static uint16_t count(char **rest) { return (uint16_t)number(rest); }
-
-/* The index of a name in a list. */
-static uint32_t named(const char *name, const char *const *names) {
-    for (uint32_t i = 0; names[i]; i++)
+/* The place of the next word in a list. */
+static unsigned named(char **rest, const char *const *names) {
+    const char *name = word(rest);
+    for (unsigned i = 0; names[i]; i++)
         if (!strcmp(name, names[i])) return i;
     fail("no such name", name);
     return 0;
 }
 
-static uint32_t word_kind(char **rest) {
-    static const char *const names[] = {"big", "emacs", "vi", NULL};
-    return named(word(rest), names);
-}
+#define NAMED(rest, ...) named(rest, (const char *const[]){__VA_ARGS__, NULL})
 
-static uint32_t at(char **rest) {
-    static const char *const names[] = {"start", "before", "after", NULL};
-    return named(word(rest), names);
-}
-
-static uint32_t search(char **rest) {
-    static const char *const names[] = {"f", "t", "F", "T", NULL};
-    return named(word(rest), names);
-}
-
-static uint32_t direction(char **rest) {
-    static const char *const names[] = {"f", "b", NULL};
-    return named(word(rest), names);
-}
-
-/* Writes a character as UTF-8, and answers its bytes. */
+/* Writes a character as UTF-8, and returns how many bytes it has. */
 static size_t encode(uint32_t c, char *to) {
     int more = c < 0x80 ? 0 : c < 0x800 ? 1 : c < 0x10000 ? 2 : 3;
     static const unsigned char leads[] = {0, 0xc0, 0xe0, 0xf0};
@@ -97,42 +78,70 @@ static char *text(char *rest, size_t *len) {
     return rest;
 }
 
-static uint32_t character(char *rest) {
-    size_t len;
-    return decode(text(rest, &len));
-}
-
-/* A movement's three numbers. */
-struct movement {
-    uint32_t number, c;
-    uint16_t n;
+/* The arguments of a word. */
+struct given {
+    size_t n, len;
+    lodvarn_range range;
+    lodvarn_movement movement;
+    enum lodvarn_word sense;
+    enum lodvarn_stop stop;
+    enum lodvarn_search search;
+    enum lodvarn_direction direction;
+    enum lodvarn_case to;
+    uint32_t c;
+    uint8_t amount;
+    const char *text;
 };
 
-static struct movement movement(char *rest) {
-    static const char *const plain[] = {"line", "home", "eol", NULL};
-    static const char *const others[] = {
-        "first", "bchar", "fchar", "up", "down", "buf", "bob", "eob", "nonblank", NULL,
-    };
-    struct movement m = {0, 0, 0};
+/* The movements: their words, what they take, and what they are. */
+#define MOVEMENTS(ROW)                                                        \
+    ROW(line, "", lodvarn_whole_line())                                       \
+    ROW(home, "", lodvarn_to_line_start())                                    \
+    ROW(eol, "", lodvarn_to_line_end())                                       \
+    ROW(bword, "NS", lodvarn_words_back(g->sense, g->n))                      \
+    ROW(fword, "NPS", lodvarn_words_forward(g->sense, g->stop, g->n))         \
+    ROW(find, "NXC", lodvarn_search_for(g->search, g->c, g->n))               \
+    ROW(first, "", lodvarn_from_first_word())                                 \
+    ROW(bchar, "N", lodvarn_chars_back(g->n))                                 \
+    ROW(fchar, "N", lodvarn_chars_forward(g->n))                              \
+    ROW(up, "N", lodvarn_lines_up(g->n))                                      \
+    ROW(down, "N", lodvarn_lines_down(g->n))                                  \
+    ROW(buf, "", lodvarn_whole_text())                                        \
+    ROW(bob, "", lodvarn_to_text_start())                                     \
+    ROW(eob, "", lodvarn_to_text_end())                                       \
+    ROW(nonblank, "", lodvarn_to_first_nonblank())
+
+static void take_movement(char *rest, struct given *g);
+
+/* Takes the arguments that the letters say: those of the tables in docs/RULES.md, but R for two places. */
+static void take(const char *letters, char *rest, struct given *g) {
+    for (; *letters; letters++)
+        switch (*letters) {
+        case 'N': g->n = number(&rest); break;
+        case 'K': g->amount = (uint8_t)number(&rest); break;
+        case 'R': g->range.from = number(&rest), g->range.to = number(&rest); break;
+        case 'S': g->sense = LODVARN_BIG + NAMED(&rest, "big", "emacs", "vi"); break;
+        case 'P': g->stop = LODVARN_AT_START + NAMED(&rest, "start", "before", "after"); break;
+        case 'X': g->search = LODVARN_TO + NAMED(&rest, "f", "t", "F", "T"); break;
+        case 'D': g->direction = LODVARN_FORWARD + NAMED(&rest, "f", "b"); break;
+        case 'W': g->to = LODVARN_CAPITALIZE + NAMED(&rest, "cap", "low", "up"); break;
+        case 'C': g->c = decode(text(rest, &g->len)); break;
+        case 'T': g->text = text(rest, &g->len); break;
+        default: take_movement(rest, g);
+        }
+}
+
+static void take_movement(char *rest, struct given *g) {
     const char *name = word(&rest);
-    if (!strcmp(name, "bword")) {
-        m.n = count(&rest);
-        m.number = LODVARN_BACKWARD_BIG_WORD + word_kind(&rest);
-    } else if (!strcmp(name, "fword")) {
-        m.n = count(&rest);
-        uint32_t where = at(&rest);
-        m.number = LODVARN_FORWARD_BIG_WORD_START + 3 * word_kind(&rest) + where;
-    } else if (!strcmp(name, "find")) {
-        m.n = count(&rest);
-        m.number = LODVARN_SEARCH_FORWARD + search(&rest);
-        m.c = character(rest);
-    } else if (!strcmp(name, "line") || !strcmp(name, "home") || !strcmp(name, "eol")) {
-        m.number = LODVARN_WHOLE_LINE + named(name, plain);
-    } else {
-        m.number = LODVARN_FIRST_PRINT + named(name, others);
-        if (rest) m.n = count(&rest);
+#define ROW(name_, letters, movement_)       \
+    if (!strcmp(name, #name_)) {             \
+        take(letters, rest, g);              \
+        g->movement = movement_;             \
+        return;                              \
     }
-    return m;
+    MOVEMENTS(ROW)
+#undef ROW
+    fail("no such movement", name);
 }
 
 /* What was asked before a command must be what that does. */
@@ -140,211 +149,127 @@ static void see(const char *what, int holds) {
     if (!holds) fail("it did not do what it said", what);
 }
 
-static uint32_t move(lodvarn **s, char *rest) {
-    struct movement m = movement(rest);
+static int move(lodvarn *s, lodvarn_movement m) {
     size_t to = lodvarn_pos(s);
-    uint32_t asked = lodvarn_destination(s, m.number, m.n, m.c, &to), answer = lodvarn_move(s, m.number, m.n, m.c);
-    see("move", (asked == LODVARN_DONE) == (answer == LODVARN_TRUE) && lodvarn_pos(s) == to);
+    int asked = lodvarn_destination(s, m, &to), answer = lodvarn_move(s, m);
+    see("move", asked == answer && lodvarn_pos(s) == to);
     return answer;
 }
 
-static uint32_t kill(lodvarn **s, char *rest) {
-    struct movement m = movement(rest);
-    return lodvarn_kill(s, m.number, m.n, m.c);
-}
-
-static uint32_t copy(lodvarn **s, char *rest) {
-    static char whole[ROOM];
-    struct movement m = movement(rest);
-    size_t from = 0, to = 0;
-    uint32_t asked = lodvarn_covers(s, m.number, m.n, m.c, &from, &to);
-    uint32_t answer = lodvarn_copy(s, m.number, m.n, m.c, handed, ROOM, &handed_len);
-    lodvarn_text(s, whole, ROOM);
-    see("copy", (asked == LODVARN_DONE) == (answer == LODVARN_TEXT));
-    if (answer == LODVARN_TEXT) see("copy", to - from == handed_len && !memcmp(whole + from, handed, handed_len));
+/* Keeps what a movement covers, to be printed. */
+static int hand_out(lodvarn *s, lodvarn_movement m) {
+    lodvarn_range range;
+    lodvarn_view view;
+    int answer = lodvarn_covers(s, m, &range);
+    if (answer <= 0) return answer;
+    see("slice", lodvarn_slice(s, range, &view) == LODVARN_DONE && view.len == range.to - range.from);
+    memcpy(handed, view.at, handed_len = view.len);
     return answer;
 }
 
-static uint32_t indented(lodvarn **s, char *rest, uint32_t direction) {
-    uint8_t amount = (uint8_t)number(&rest);
-    struct movement m = movement(rest);
-    return lodvarn_indent(s, m.number, m.n, m.c, amount, direction);
-}
-
-static uint32_t indent(lodvarn **s, char *rest) { return indented(s, rest, LODVARN_INDENT); }
-
-static uint32_t dedent(lodvarn **s, char *rest) { return indented(s, rest, LODVARN_DEDENT); }
-
-static uint32_t insert(lodvarn **s, char *rest) {
-    uint16_t n = count(&rest);
-    return lodvarn_insert(s, character(rest), n);
-}
-
-static uint32_t paste(lodvarn **s, char *rest) {
-    uint16_t n = count(&rest);
+static int copy(lodvarn *s, lodvarn_movement m) {
+    static char copied[ROOM];
     size_t len;
-    const char *given = text(rest, &len);
-    return lodvarn_paste(s, given, len, n);
+    int asked = hand_out(s, m), answer = lodvarn_copy(s, m, copied, ROOM, &len);
+    see("copy", asked == answer && (answer <= 0 || (len == handed_len && !memcmp(copied, handed, len))));
+    return answer;
 }
 
-static uint32_t update(lodvarn **s, char *rest) {
-    size_t pos = number(&rest), len;
-    const char *given = text(rest, &len);
-    return lodvarn_update(s, given, len, pos);
+static int delete(lodvarn *s, size_t n) {
+    int asked = hand_out(s, lodvarn_chars_forward(n)), answer = lodvarn_delete(s, n);
+    see("del", asked == answer || answer == LODVARN_NO_MEMORY);
+    return answer;
 }
 
-static uint32_t insert_str(lodvarn **s, char *rest) {
-    size_t place = number(&rest), len;
-    const char *given = text(rest, &len);
-    return lodvarn_insert_str(s, place, given, len);
+/* A script says that nothing went in also if what was yanked was deleted, since the text before it is empty. */
+static int yank_pop(lodvarn *s) {
+    lodvarn_view older = {NULL, 0};
+    lodvarn_ring_text(s, lodvarn_ring_count(s) > 1, &older);
+    int answer = lodvarn_yank_pop(s);
+    return answer < 0 || older.len ? answer : LODVARN_NOTHING;
 }
 
-static uint32_t replace(lodvarn **s, char *rest) {
-    size_t from = number(&rest), to = number(&rest), len;
-    const char *given = text(rest, &len);
-    return lodvarn_replace(s, from, to, given, len);
-}
-
-static uint32_t delete_range(lodvarn **s, char *rest) {
-    size_t from = number(&rest);
-    return lodvarn_delete_range(s, from, number(&rest));
-}
-
-static uint32_t kill_range(lodvarn **s, char *rest) {
-    size_t from = number(&rest), to = number(&rest);
-    return lodvarn_kill_range(s, from, to, direction(&rest));
-}
-
-static uint32_t keep(lodvarn **s, char *rest) {
-    size_t len;
-    const char *given = text(rest, &len);
-    return lodvarn_keep(s, given, len);
-}
-
-static uint32_t deleted(lodvarn **s, char *rest) {
-    return lodvarn_delete(s, count(&rest), handed, ROOM, &handed_len);
-}
-
-static uint32_t delete_prev_word(lodvarn **s, char *rest) {
-    uint16_t n = count(&rest);
-    return lodvarn_delete_prev_word(s, word_kind(&rest), n);
-}
-
-static uint32_t delete_word(lodvarn **s, char *rest) {
-    uint16_t n = count(&rest);
-    uint32_t where = at(&rest);
-    return lodvarn_delete_word(s, where, word_kind(&rest), n);
-}
-
-static uint32_t delete_to(lodvarn **s, char *rest) {
-    uint16_t n = count(&rest);
-    uint32_t which = search(&rest);
-    return lodvarn_delete_to(s, which, character(rest), n);
-}
-
-static uint32_t edit_word(lodvarn **s, char *rest) {
-    static const char *const names[] = {"cap", "low", "up", NULL};
-    return lodvarn_edit_word(s, named(word(&rest), names));
-}
-
-static uint32_t begin(lodvarn **s, char *rest) {
+static int begin(lodvarn *s) {
     size_t level = lodvarn_level(s);
-    uint32_t answer = lodvarn_begin(s, &mark);
-    (void)rest;
-    see("begin", lodvarn_level(s) == level + 1);
+    mark = lodvarn_entries(s);
+    int answer = lodvarn_begin_group(s);
+    see("begin", lodvarn_level(s) == level + (answer > 0) && lodvarn_entries(s) == mark + (answer > 0));
     return answer;
 }
 
-static uint32_t end(lodvarn **s) {
-    uint32_t answer = lodvarn_end(s);
-    see("end", !lodvarn_level(s));
+static int end(lodvarn *s) {
+    int answer = lodvarn_end_all_groups(s);
+    see("end", answer < 0 || !lodvarn_level(s));
     return answer;
 }
 
-static uint32_t end_one(lodvarn **s) {
+static int end_one(lodvarn *s) {
     size_t level = lodvarn_level(s);
-    uint32_t answer = lodvarn_end_one(s);
-    see("endone", lodvarn_level(s) == (level ? level - 1 : 0));
+    int answer = lodvarn_end_group(s);
+    see("endone", answer < 0 || lodvarn_level(s) == (level ? level - 1 : 0));
     return answer;
 }
 
-/* An undo of one finds a change where that is said; one of more finds it too. */
-static uint32_t undo(lodvarn **s, uint16_t n) {
-    uint32_t asked = lodvarn_can_undo(s), answer = lodvarn_undo(s, n);
-    see("undo", answer == asked || (n > 1 && asked == LODVARN_FALSE && answer == LODVARN_TRUE));
+/* An undo of one finds a change if that is said; one of more finds it too. */
+static int undo(lodvarn *s, size_t n) {
+    int asked = lodvarn_can_undo(s), answer = lodvarn_undo(s, n);
+    see("undo", answer < 0 || answer == asked || (n > 1 && answer == LODVARN_DONE));
     return answer;
 }
 
-static uint32_t redo(lodvarn **s) {
-    uint32_t asked = lodvarn_can_redo(s), answer = lodvarn_redo(s);
-    see("redo", answer == asked);
+static int redo(lodvarn *s) {
+    int asked = lodvarn_can_redo(s), answer = lodvarn_redo(s);
+    see("redo", answer < 0 || answer == asked);
     return answer;
 }
 
-static uint32_t line_place(lodvarn **s, char *rest) {
-    (void)rest;
-    return lodvarn_line_place(s, &line_number, &column);
+static int where(lodvarn *s) {
+    int answer = lodvarn_end_kills(s);
+    see("where", lodvarn_find_cursor(s, &cursor) == LODVARN_DONE);
+    return answer;
 }
 
-/* A word of a script and its call, in one of four forms. */
-struct command {
-    const char *name;
-    uint32_t (*call)(lodvarn **, char *);
-    uint32_t (*plain)(lodvarn **);
-    uint32_t (*counted)(lodvarn **, uint16_t);
-    uint32_t (*sized)(lodvarn **, size_t);
-};
+/* What a script prints if a command is done: ok; true, or false if there was nothing to do; true or false for an
+ * insertion at the end of the text or before it; the text that is handed out; the number of entries; the cursor. */
+enum reply { OK, TRUTH, AT_END, TEXT, MARK, AT };
 
-static const struct command commands[] = {
-    {"move", move, NULL, NULL, NULL},
-    {"kill", kill, NULL, NULL, NULL},
-    {"copy", copy, NULL, NULL, NULL},
-    {"indent", indent, NULL, NULL, NULL},
-    {"dedent", dedent, NULL, NULL, NULL},
-    {"ins", insert, NULL, NULL, NULL},
-    {"paste", paste, NULL, NULL, NULL},
-    {"update", update, NULL, NULL, NULL},
-    {"str", insert_str, NULL, NULL, NULL},
-    {"rep", replace, NULL, NULL, NULL},
-    {"range", delete_range, NULL, NULL, NULL},
-    {"killrange", kill_range, NULL, NULL, NULL},
-    {"keep", keep, NULL, NULL, NULL},
-    {"del", deleted, NULL, NULL, NULL},
-    {"prevword", delete_prev_word, NULL, NULL, NULL},
-    {"nextword", delete_word, NULL, NULL, NULL},
-    {"to", delete_to, NULL, NULL, NULL},
-    {"case", edit_word, NULL, NULL, NULL},
-    {"begin", begin, NULL, NULL, NULL},
-    {"where", line_place, NULL, NULL, NULL},
-    {"yankpop", NULL, lodvarn_yank_pop, NULL, NULL},
-    {"killline", NULL, lodvarn_delete_to_line_end, NULL, NULL},
-    {"killbuf", NULL, lodvarn_delete_to_end, NULL, NULL},
-    {"discline", NULL, lodvarn_discard_line, NULL, NULL},
-    {"discbuf", NULL, lodvarn_discard_buffer, NULL, NULL},
-    {"tchars", NULL, lodvarn_transpose_chars, NULL, NULL},
-    {"end", NULL, end, NULL, NULL},
-    {"endone", NULL, end_one, NULL, NULL},
-    {"redo", NULL, redo, NULL, NULL},
-    {"yank", NULL, NULL, lodvarn_yank, NULL},
-    {"back", NULL, NULL, lodvarn_backspace, NULL},
-    {"twords", NULL, NULL, lodvarn_transpose_words, NULL},
-    {"undo", NULL, NULL, undo, NULL},
-    {"pos", NULL, NULL, NULL, lodvarn_set_pos},
-    {"trunc", NULL, NULL, NULL, lodvarn_truncate},
-};
-
-static uint32_t command(lodvarn **s, const char *name, char *rest) {
-    for (size_t i = 0; i < sizeof commands / sizeof *commands; i++) {
-        const struct command *c = &commands[i];
-        if (strcmp(name, c->name)) continue;
-        if (c->call) return c->call(s, rest);
-        if (c->plain) return c->plain(s);
-        if (c->counted) return c->counted(s, count(&rest));
-        return c->sized(s, number(&rest));
-    }
-    fail("no such word", name);
-    return 0;
-}
+/* The words: their replies, what they take, and their calls. */
+#define WORDS(ROW)                                                                                     \
+    ROW(move, TRUTH, "M", move(s, g->movement))                                                        \
+    ROW(kill, TRUTH, "M", lodvarn_kill(s, g->movement))                                                \
+    ROW(copy, TEXT, "M", copy(s, g->movement))                                                         \
+    ROW(indent, TRUTH, "KM", lodvarn_indent(s, g->movement, g->amount, LODVARN_INDENT))                \
+    ROW(dedent, TRUTH, "KM", lodvarn_indent(s, g->movement, g->amount, LODVARN_DEDENT))                \
+    ROW(ins, AT_END, "NC", lodvarn_insert(s, g->c, g->n))                                              \
+    ROW(paste, AT_END, "NT", lodvarn_paste(s, g->text, g->len, g->n))                                  \
+    ROW(update, OK, "NT", lodvarn_set_text(s, g->n, g->text, g->len))                                  \
+    ROW(str, AT_END, "NT", lodvarn_insert_at(s, g->n, g->text, g->len))                                \
+    ROW(rep, OK, "RT", lodvarn_replace(s, g->range, g->text, g->len))                                  \
+    ROW(range, OK, "R", lodvarn_delete_range(s, g->range))                                             \
+    ROW(killrange, TRUTH, "RD", lodvarn_kill_range(s, g->range, g->direction))                         \
+    ROW(keep, OK, "T", lodvarn_keep(s, g->text, g->len))                                               \
+    ROW(del, TEXT, "N", delete(s, g->n))                                                               \
+    ROW(back, TRUTH, "N", lodvarn_backspace(s, g->n))                                                  \
+    ROW(killline, TRUTH, "", lodvarn_delete_by(s, lodvarn_to_line_end()))                              \
+    ROW(killbuf, TRUTH, "", lodvarn_delete_by(s, lodvarn_to_text_end()))                               \
+    ROW(discline, TRUTH, "", lodvarn_delete_by(s, lodvarn_to_line_start()))                            \
+    ROW(discbuf, TRUTH, "", lodvarn_delete_by(s, lodvarn_to_text_start()))                             \
+    ROW(prevword, TRUTH, "NS", lodvarn_delete_by(s, lodvarn_words_back(g->sense, g->n)))               \
+    ROW(nextword, TRUTH, "NPS", lodvarn_delete_by(s, lodvarn_words_forward(g->sense, g->stop, g->n)))  \
+    ROW(to, TRUTH, "NXC", lodvarn_delete_by(s, lodvarn_search_for(g->search, g->c, g->n)))             \
+    ROW(case, TRUTH, "W", lodvarn_change_case(s, g->to))                                               \
+    ROW(tchars, TRUTH, "", lodvarn_transpose_chars(s))                                                 \
+    ROW(twords, TRUTH, "N", lodvarn_transpose_words(s, g->n))                                          \
+    ROW(yank, AT_END, "N", lodvarn_yank(s, g->n))                                                      \
+    ROW(yankpop, AT_END, "", yank_pop(s))                                                              \
+    ROW(begin, MARK, "", begin(s))                                                                     \
+    ROW(end, TRUTH, "", end(s))                                                                        \
+    ROW(endone, TRUTH, "", end_one(s))                                                                 \
+    ROW(undo, TRUTH, "N", undo(s, g->n))                                                               \
+    ROW(redo, TRUTH, "", redo(s))                                                                      \
+    ROW(trunc, OK, "N", lodvarn_truncate(s, g->n))                                                     \
+    ROW(pos, OK, "N", lodvarn_set_pos(s, g->n))                                                        \
+    ROW(where, AT, "", where(s))
 
 /* Whether there is memory for the limit, for which a script asks and lodvarn_open does not. */
 static int has_room(size_t limit) {
@@ -354,21 +279,40 @@ static int has_room(size_t limit) {
     return has;
 }
 
-/* Runs a line that sets something or opens a session, or else a command. */
-static uint32_t run(struct typed *t, const char *name, char *rest) {
-    static const char *const modes[] = {"unicode", "wcwidth", "nozwj", NULL};
-    if (!strcmp(name, "text")) {
-        size_t len;
-        const char *given = text(rest, &len);
-        if (!has_room(t->limit)) return LODVARN_NO_MEMORY;
-        uint32_t answer = lodvarn_open(&t->s, given, len, len, t->limit, t->ring, t->mode);
-        if (answer == LODVARN_DONE) t->own_mode = t->mode;
-        return answer;
+static int begin_text(struct typed *t, char *rest) {
+    lodvarn_options options = LODVARN_OPTIONS;
+    lodvarn *s;
+    size_t len;
+    const char *given = text(rest, &len);
+    options.mode = t->mode;
+    options.limit = t->limit;
+    options.ring_size = t->ring;
+    int answer = has_room(t->limit) ? lodvarn_open(&s, &options, given, len) : LODVARN_NO_MEMORY;
+    if (answer < 0) return answer;
+    lodvarn_close(&t->s);
+    t->s = s;
+    t->own_mode = t->mode;
+    return answer;
+}
+
+/* Runs a line that sets something or begins a text, or else a command. */
+static int run(struct typed *t, const char *name, char *rest, enum reply *reply) {
+    struct given given, *g = &given;
+    lodvarn *s = t->s;
+    *reply = OK;
+    if (!strcmp(name, "text")) return begin_text(t, rest);
+#define ROW(word_, reply_, letters, call)    \
+    if (!strcmp(name, #word_)) {             \
+        *reply = reply_;                     \
+        take(letters, rest, g);              \
+        return call;                         \
     }
+    WORDS(ROW)
+#undef ROW
     if (!strcmp(name, "limit")) t->limit = number(&rest);
     else if (!strcmp(name, "ring")) t->ring = number(&rest);
-    else if (!strcmp(name, "mode")) t->mode = named(word(&rest), modes);
-    else return command(&t->s, name, rest);
+    else if (!strcmp(name, "mode")) t->mode = LODVARN_UNICODE + NAMED(&rest, "unicode", "wcwidth", "nozwj");
+    else fail("no such word", name);
     return LODVARN_DONE;
 }
 
@@ -385,37 +329,41 @@ static void print_escaped(const char *bytes, size_t len, int spaces, FILE *out) 
     }
 }
 
-static void print_answer(uint32_t answer, FILE *out) {
-    static const char *const words[] = {"ok", "true", "false", "none"};
-    if (answer <= LODVARN_NONE) fputs(words[answer], out);
-    else if (answer == LODVARN_TEXT) {
+/* An answer that the call can't give is printed as its number, which no script prints. */
+static void print_answer(int answer, enum reply reply, FILE *out) {
+    int done = answer == LODVARN_DONE, nothing = answer == LODVARN_NOTHING;
+    if (LODVARN_NOT_REPLAYING <= answer && answer < 0) fprintf(out, "refused:%d", -answer);
+    else if (reply == OK && done) fputs("ok", out);
+    else if (reply == TRUTH && (done || nothing)) fputs(done ? "true" : "false", out);
+    else if (reply == AT_END && answer > 0) fputs(done ? "false" : "true", out);
+    else if (reply == AT_END && (nothing || answer == LODVARN_NO_ROOM)) fputs("none", out);
+    else if (reply == TEXT && nothing) fputs("none", out);
+    else if (reply == TEXT && done) {
         fputs("text:", out);
         print_escaped(handed, handed_len, 1, out);
-    } else if (answer == LODVARN_MARK) fprintf(out, "mark:%zu", mark);
-    else if (answer == LODVARN_AT) fprintf(out, "at:%zu:%u", line_number, (unsigned)column);
-    else if (answer <= LODVARN_NOT_REPLAYING) fprintf(out, "refused:%u", (unsigned)(answer - 10));
-    else fprintf(out, "answer %u", (unsigned)answer);
+    } else if (reply == MARK && done) fprintf(out, "mark:%zu", mark);
+    else if (reply == AT && done) fprintf(out, "at:%zu:%zu", cursor.line, cursor.column);
+    else fprintf(out, "answer %d", answer);
 }
 
 void typed_begin(struct typed *t) {
     *t = (struct typed){NULL, 4096, 60, LODVARN_UNICODE, LODVARN_UNICODE};
-    if (lodvarn_open(&t->s, "", 0, 0, t->limit, t->ring, t->mode)) fail("no session", "");
+    if (lodvarn_open(&t->s, NULL, "", 0) != LODVARN_DONE) fail("no session", "");
 }
 
 void typed_line(struct typed *t, const char *line, FILE *out) {
     char *own = strdup(line), *rest = own;
+    lodvarn_view whole;
+    enum reply reply;
     if (!own) fail("no memory", line);
     const char *name = word(&rest);
-    print_answer(run(t, name, rest), out);
+    int answer = run(t, name, rest, &reply);
+    print_answer(answer, reply, out);
     free(own);
-    fprintf(out, " %zu ", lodvarn_pos(&t->s));
-    size_t len = lodvarn_text(&t->s, NULL, 0);
-    char *whole = malloc(len + 1);
-    if (!whole) fail("no memory", line);
-    lodvarn_text(&t->s, whole, len);
-    print_escaped(whole, len, 0, out);
+    fprintf(out, " %zu ", lodvarn_pos(t->s));
+    lodvarn_text(t->s, &whole);
+    print_escaped(whole.at, whole.len, 0, out);
     putc('\n', out);
-    free(whole);
 }
 
 void typed_script(struct typed *t, const char *script, FILE *out) {
@@ -429,55 +377,63 @@ void typed_script(struct typed *t, const char *script, FILE *out) {
     }
 }
 
-static struct cell { size_t row, column; } cell_of(struct typed *t, const char *whole, size_t len, size_t place) {
-    struct cell at;
-    if (lodvarn_cell(whole, len, place, 2, 20, 8, t->own_mode, &at.row, &at.column)) fail("no cell", whole);
-    return at;
+static lodvarn_position cell_of(const lodvarn_screen *screen, lodvarn_view text, size_t place) {
+    lodvarn_position cell;
+    if (lodvarn_cell(screen, place, text.at, text.len, &cell) != LODVARN_DONE) fail("no cell", text.at);
+    return cell;
 }
 
-static int is_after(struct cell a, struct cell b) { return a.row > b.row || (a.row == b.row && a.column > b.column); }
+static int is_after(lodvarn_position a, lodvarn_position b) {
+    return a.line > b.line || (a.line == b.line && a.column > b.column);
+}
 
 /* Whether the place that is found at the cell of another one is the last whose cell is not after that. */
-static int place_agrees(struct typed *t, const char *whole, size_t len, size_t pos) {
-    struct cell at = cell_of(t, whole, len, pos);
-    size_t place, k;
-    if (lodvarn_place_at(whole, len, at.row, at.column, 2, 20, 8, t->own_mode, &place) || place > len) return 0;
-    if (lodvarn_first_cluster(whole + place, len - place, &k) || is_after(cell_of(t, whole, len, place), at)) return 0;
-    return k == 0 || is_after(cell_of(t, whole, len, place + k), at);
+static int place_agrees(struct typed *t, lodvarn_view text, size_t pos) {
+    lodvarn_screen screen = {20, 2, 8, t->own_mode};
+    lodvarn_position at = cell_of(&screen, text, pos);
+    size_t place, k = 0;
+    if (lodvarn_place_at(&screen, at, text.at, text.len, &place) != LODVARN_DONE || place > text.len) return 0;
+    int more = lodvarn_first_cluster(text.at + place, text.len - place, &k);
+    return more == (place < text.len) && !is_after(cell_of(&screen, text, place), at)
+        && (!more || is_after(cell_of(&screen, text, place + k), at));
 }
 
 /* Whether line, column and cluster of the cursor are those that the calls tell that get the text. */
-static int cursor_agrees(struct typed *t, const char *whole, size_t len, size_t own, size_t first) {
-    size_t pos = lodvarn_pos(&t->s), line, end = pos, k;
-    uint16_t columns = 0, width;
-    if (lodvarn_line_column(&t->s, &line, &columns) != LODVARN_AT || line != own) return 0;
-    if (lodvarn_width(whole + first, pos - first, t->own_mode, &width) || columns != width) return 0;
-    columns = 0;
-    if (lodvarn_cluster(&t->s, pos, &end, &columns) != (pos < len ? LODVARN_DONE : LODVARN_NONE)) return 0;
-    return !lodvarn_first_cluster(whole + pos, len - pos, &k) && end == pos + k
-        && !lodvarn_width(whole + pos, k, t->own_mode, &width) && columns == width;
+static int cursor_agrees(struct typed *t, lodvarn_view text, size_t own, size_t first) {
+    size_t pos = lodvarn_pos(t->s), k = 0, width = 0;
+    lodvarn_cluster found = {pos, 0};
+    lodvarn_position at;
+    if (lodvarn_find_cursor(t->s, &at) != LODVARN_DONE || at.line != own) return 0;
+    if (lodvarn_width(t->own_mode, text.at + first, pos - first, &width) <= 0 || at.column != width) return 0;
+    int more = lodvarn_cluster_at(t->s, pos, &found);
+    return more == (pos < text.len) && lodvarn_first_cluster(text.at + pos, text.len - pos, &k) == more
+        && lodvarn_width(t->own_mode, text.at + pos, k, &width) == LODVARN_DONE && found.end == pos + k
+        && found.columns == width;
 }
 
 /* Whether the ring has as many texts as it says. */
 static int ring_agrees(struct typed *t) {
-    size_t count = lodvarn_ring_count(&t->s), len;
-    if (lodvarn_ring_text(&t->s, count, handed, ROOM, &len) != LODVARN_NONE) return 0;
-    return !count || lodvarn_ring_text(&t->s, count - 1, handed, ROOM, &len) == LODVARN_TEXT;
+    size_t count = lodvarn_ring_count(t->s);
+    lodvarn_view view;
+    return lodvarn_ring_text(t->s, count, &view) == LODVARN_NOTHING
+        && (!count || lodvarn_ring_text(t->s, count - 1, &view) == LODVARN_DONE);
 }
 
 int typed_reads_agree(struct typed *t) {
-    static char whole[ROOM];
-    size_t len = lodvarn_text(&t->s, whole, ROOM), pos = lodvarn_pos(&t->s);
-    size_t lines = 1, own = 0, first = 0, end = 0, start, stop;
-    if (len > ROOM || pos > len || len > lodvarn_limit(&t->s)) return 0;
-    for (size_t i = 0; i < len; i++) {
-        if (whole[i] != '\n') continue;
+    lodvarn_options options = LODVARN_OPTIONS;
+    lodvarn_range line, none = {1, 0};
+    lodvarn_view text;
+    size_t lines = 1, own = 0, first = 0, end, pos = lodvarn_pos(t->s);
+    if (lodvarn_text(t->s, &text) != LODVARN_DONE || lodvarn_get_options(t->s, &options) != LODVARN_DONE) return 0;
+    if (pos > text.len || text.len > options.limit || options.mode != t->own_mode) return 0;
+    for (size_t i = 0; i < text.len; i++) {
+        if (text.at[i] != '\n') continue;
         lines++;
         if (i < pos) { own++; first = i + 1; }
     }
-    for (end = pos; end < len && whole[end] != '\n'; end++) {}
-    return lodvarn_line_number(&t->s) == own && lodvarn_line_count(&t->s) == lines
-        && lodvarn_line_range(&t->s, own, &start, &stop) == LODVARN_DONE && start == first && stop == end
-        && lodvarn_line_range(&t->s, lines, &start, &stop) == LODVARN_NONE && start == first && stop == end
-        && cursor_agrees(t, whole, len, own, first) && place_agrees(t, whole, len, pos) && ring_agrees(t);
+    for (end = pos; end < text.len && text.at[end] != '\n'; end++) {}
+    return lodvarn_cursor_line(t->s) == own && lodvarn_count_lines(t->s) == lines
+        && lodvarn_find_line(t->s, own, &line) == LODVARN_DONE && line.from == first && line.to == end
+        && lodvarn_find_line(t->s, lines, &none) == LODVARN_NOTHING && none.from == 1 && none.to == 0
+        && cursor_agrees(t, text, own, first) && place_agrees(t, text, pos) && ring_agrees(t);
 }

@@ -9,7 +9,7 @@
 struct typed {
     lodvarn *s;
     size_t limit, ring;
-    uint32_t mode, own_mode;
+    enum lodvarn_mode mode, own_mode;
 };
 
 /* Opens the session that a script begins with. */
@@ -21,7 +21,7 @@ void typed_line(struct typed *t, const char *line, FILE *out);
 /* Runs all lines. */
 void typed_script(struct typed *t, const char *script, FILE *out);
 
-/* Whether what the reads answer about lines agrees with the newlines of the text. */
+/* Whether what the reads tell agrees with the newlines of the text. */
 int typed_reads_agree(struct typed *t);
 
 #endif

@@ -1,4 +1,4 @@
-"""The build backend of pyproject.toml: makes a wheel of the package and the library that clients/build made.
+"""The build backend of pyproject.toml: makes a wheel of the package, and the library and the header in clients/out.
 
     pip wheel --no-deps clients/python
 
@@ -16,7 +16,7 @@ from typing import NoReturn, Optional
 from zipfile import ZIP_DEFLATED, ZipFile, ZipInfo
 
 HERE = Path(__file__).resolve().parent
-LIBRARY = HERE.parent / "out/lib/liblodvarn.so.0"
+LIBRARY, HEADER = HERE.parent / "out/lib/liblodvarn.so.0", HERE.parent / "out/include/lodvarn.h"
 LICENSE = HERE.parent.parent / "LICENSE"
 TAG = "py3-none-linux_x86_64"
 WHEEL = f"Wheel-Version: 1.0\nGenerator: lodvarn\nRoot-Is-Purelib: false\nTag: {TAG}\n"
@@ -58,10 +58,10 @@ def record(files: dict[str, bytes], name: str) -> bytes:
 
 
 def files() -> dict[str, bytes]:
-    """The files of the wheel. Raises FileNotFoundError where the library is not built."""
+    """The files of the wheel. Raises FileNotFoundError if the library is not built."""
     if not LIBRARY.is_file():
         raise FileNotFoundError(f"{LIBRARY} is not there: run clients/build, and then make the wheel")
-    sources = [*sorted((HERE / "lodvarn").glob("*.py")), HERE / "lodvarn/py.typed", LIBRARY]
+    sources = [*sorted((HERE / "lodvarn").glob("*.py")), HERE / "lodvarn/py.typed", LIBRARY, HEADER]
     found = {f"lodvarn/{source.name}": source.read_bytes() for source in sources}
     info = f"lodvarn-{version()}.dist-info"
     found[f"{info}/LICENSE"] = LICENSE.read_bytes()

@@ -17,23 +17,20 @@ _refuse_memory.argtypes, _refuse_memory.restype = [ctypes.c_void_p, ctypes.c_uin
 
 
 def refuse(one_of):
-    """Refuses one of so many requests of the library from now on, or none where it is 0."""
-    _refuse_memory(ctypes.cast(lodvarn._library.lodvarn_open, ctypes.c_void_p), one_of, SEED)
+    """Refuses one of so many requests of the library from now on, or none if it is 0."""
+    _refuse_memory(ctypes.cast(lodvarn._calls.open, ctypes.c_void_p), one_of, SEED)
 
 
 class Session(lodvarn.Session):
-    """A session that counts the commands that found no memory, and those of them that had changed the text.
-
-    What hands a text out is not counted: where it is refused it has changed nothing.
-    """
+    """A session that counts the commands that found no memory, and those of them that had changed the text."""
 
     refused = halfway = 0
 
-    def _do(self, name, *given, **written):
-        """Does a command, and counts it where it is refused so."""
+    def _do(self, call, *given):
+        """Makes a command, and counts it if it is refused so."""
         text = self.text
         try:
-            return super()._do(name, *given, **written)
+            return super()._do(call, *given)
         except lodvarn.NoMemory:
             self.refused += 1
             self.halfway += self.text != text
@@ -51,7 +48,7 @@ class Refused(test_lodvarn.Mirrors):
             pass
 
     def leads_to_the_text(self, session, patience, kinds):
-        """The copies hold also where memory is refused, by which many commands are refused, some of them halfway."""
+        """The copies hold also if memory is refused, by which many commands are refused, some of them halfway."""
         self.addCleanup(refuse, 0)
         refuse(12)
         super().leads_to_the_text(session, patience, kinds)

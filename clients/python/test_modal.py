@@ -110,7 +110,7 @@ def send(terminal, given):
 
 
 def run(what, text, given, rows, cell, mode="", rings=False):
-    """Whether the keys lead to these rows and that cell of the cursor, and to the bell where it rings."""
+    """Whether the keys lead to these rows and that cell of the cursor, and to the bell if it rings."""
     wanted = [*rows, *[""] * (ROWS - 1 - len(rows)), mode] if mode else rows, cell
     with editing(text) as terminal:
         send(terminal, given)

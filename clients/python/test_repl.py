@@ -21,7 +21,7 @@ UNKNOWN = "error: only numbers, + - * / // % ** and parentheses are known"
 LINES = b"1+2\n \n2**100\n1 # \xff\nTrue\n" + b"1+" * 500 + b"1\n"
 ANSWERS = f"3\n\n1267650600228229401496703205376\n1\n{UNKNOWN}\nerror: more than 1000 characters\n"
 # What is sent, each part by itself, and the rows and the cursor's column that this leads to. A number is one of
-# columns. Then, where it is not C-c and C-d, what ends the prompt, and its status. None hangs up.
+# columns. Then, if it is not C-c and C-d, what ends the prompt, and its status. None hangs up.
 CASES = [
     (["2*(3+4)**2-7//2<RET><C-_>"], ["> 2*(3+4)**2-7//2", "95", ">"], 2),
     (["1/0<RET>9**9**9<RET>"], ["> 1/0", "error: division by zero", "> 9**9**9", "error: math range error", ">"], 2),
@@ -46,6 +46,7 @@ CASES = [
     ([DIGITS + "<C-a>"], ["> 123456789012345678"], 2),
     (["日" * 12], [">  " + "日" * 7], 17),
     ([DIGITS, 40], ["> " + DIGITS], 32),
+    (["1" * 1000 + "2"], ["> " + "1" * 10], 12),
     (["1"], ["> 1"], 3, signal.SIGTERM, 143),
     (["1"], ["> 1"], 3, None, 1),
 ]
@@ -115,7 +116,7 @@ def run(parts, rows, column, end="<C-c><C-d>", status=0):
         written = read(terminal, written, lambda it: screen_of(it) == (rows, column))
         send(process, terminal, end)
         ended = process.wait(PATIENCE), end is None or termios.tcgetattr(inside) == modes
-        # It draws not for each key but for each part, and where a line ends.
+        # It draws not for each key but for each part, and when a line ends.
         outcome = screen_of(written) == (rows, column) and ended == (status, True) and written.count(DRAWN) < 7
         if not outcome:
             print(f"FAILED: {parts}, {written}, wanted {rows} {column}, saw {screen_of(written)}, ended {ended}")

@@ -16,16 +16,16 @@ import lodvarn
 import test_lodvarn
 
 HERE = Path(__file__).resolve().parent
-BUILT = HERE.parent / "out/lib/liblodvarn.so"
+BUILT, HEADER = HERE.parent / "out/lib/liblodvarn.so", HERE.parent / "out/include/lodvarn.h"
 INFO = f"lodvarn-{lodvarn.__version__}.dist-info/"
 TAG = "py3-none-linux_x86_64"
-NAMES = [f"lodvarn/{it}" for it in ("__init__.py", "py.typed", "liblodvarn.so.0")]
+NAMES = [f"lodvarn/{it}" for it in ("__init__.py", "_library.py", "py.typed", "liblodvarn.so.0", "lodvarn.h")]
 NAMES += [f"{INFO}{it}" for it in ("LICENSE", "METADATA", "WHEEL", "RECORD")]
 # Edits a line, and says which library did it.
 EDIT = """
 import lodvarn
 with lodvarn.Session("one two") as session:
-    session.kill(lodvarn.Movement.BACKWARD_EMACS_WORD)
+    session.kill(lodvarn.Movement.words_back(lodvarn.Word.EMACS))
     session.yank(2)
     print(session.text, session.index)
 print({it.split()[-1] for it in open("/proc/self/maps") if "liblodvarn" in it})
@@ -75,7 +75,7 @@ class Wheel(unittest.TestCase):
         with ZipFile(self.wheel) as wheel:
             self.assertEqual(wheel.namelist(), NAMES)
             self.assertIn(f"\nTag: {TAG}\n", wheel.read(f"{INFO}WHEEL").decode())
-            self.assertEqual(wheel.read(NAMES[2]), BUILT.read_bytes())
+            self.assertEqual([wheel.read(it) for it in NAMES[3:5]], [BUILT.read_bytes(), HEADER.read_bytes()])
             content = {name: wheel.read(name) for name in NAMES}
         rows = {}
         for name, it in content.items():
@@ -85,7 +85,7 @@ class Wheel(unittest.TestCase):
         self.assertEqual({it[0]: it[1:] for it in csv.reader(content[f"{INFO}RECORD"].decode().splitlines())}, rows)
 
     def test_each_place_of_the_library_is_found(self):
-        (beside,) = self.room.glob(f"own/lib/*/site-packages/{NAMES[2]}")
+        (beside,) = self.room.glob(f"own/lib/*/site-packages/{NAMES[3]}")
         for python, given, library in [
             (self.python, {}, beside),
             (self.python, {"LODVARN_LIBRARY": str(BUILT)}, BUILT),

@@ -240,7 +240,7 @@ impl LineBuffer {
     }
 }
 
-/// Motions. Each answers whether the cursor moved.
+/// Motions. Each returns whether the cursor moved.
 impl LineBuffer {
     /// `n` grapheme clusters back.
     pub fn move_backward(&mut self, n: RepeatCount) -> bool {
@@ -332,9 +332,9 @@ impl LineBuffer {
     }
 }
 
-/// Deletions and kills. Each answers whether something went, or what went.
+/// Deletions and kills. Each returns whether something went, or what went.
 impl LineBuffer {
-    /// Deletes `n` grapheme clusters to the right of the cursor. Answers them.
+    /// Deletes `n` grapheme clusters to the right of the cursor. Returns them.
     pub fn delete(&mut self, n: RepeatCount) -> Option<String> {
         self.inner.delete(count(n), &mut self.both)
     }
@@ -393,7 +393,7 @@ impl LineBuffer {
     }
 }
 
-/// Edits of what stands around the cursor. Each answers whether there was something to edit.
+/// Edits of what stands around the cursor. Each returns whether there was something to edit.
 impl LineBuffer {
     /// Exchanges the grapheme clusters around the cursor.
     pub fn transpose_chars(&mut self) -> bool {

@@ -135,7 +135,7 @@ mod original {
 /// no look is left out as unused.
 type Left = (String, usize, usize);
 
-/// Types lines, with an undo after each so many characters. Answers the nanoseconds that a key took, and what is left.
+/// Types lines, with an undo after each so many characters. Returns the nanoseconds that a key took, and what is left.
 fn round<E: Keys>(undo_after: usize) -> (f64, Left) {
     let begin = Instant::now();
     let mut keys = 0;

@@ -11,7 +11,7 @@ impl Changeset {
         Self(lodvarn::undo::Changeset::new())
     }
 
-    /// Opens a group, which one undo takes back. Answers its mark, for `truncate`.
+    /// Opens a group, which one undo takes back. Returns its mark, for `truncate`.
     pub fn begin(&mut self) -> usize {
         self.0.begin()
     }

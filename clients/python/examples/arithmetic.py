@@ -21,7 +21,7 @@ SIGNS: Dict[type, Callable[..., Any]] = {
 
 
 def value_of(node: ast.AST) -> Any:
-    """The value of an expression of numbers. Raises ValueError where there is anything else in it."""
+    """The value of an expression of numbers. Raises ValueError if there is anything else in it."""
     if isinstance(node, ast.Constant) and type(node.value) in (int, float):
         return node.value
     sign = SIGNS.get(type(getattr(node, "op", None)))

@@ -9,92 +9,92 @@ import re
 import sys
 from typing import Callable, Dict, Iterator, Tuple
 
-from lodvarn import Movement, Session, cell, place_at
+from lodvarn import Movement, Screen, Session, Stop, Word, cell, place_at
 from raw_terminal import RawTerminal
 
 ESC, TAB, VISUAL, CONTROL = "\x1b", 8, "-- VISUAL --", re.compile("[\0-\x08\x0b-\x1f\x7f-\x9f\ud800-\udfff]")
 MOTIONS = {
-    "h": Movement.BACKWARD_CHAR, "l": Movement.FORWARD_CHAR, "j": Movement.LINE_DOWN, "k": Movement.LINE_UP,
-    "0": Movement.BEGINNING_OF_LINE, "^": Movement.FIRST_NONBLANK, "$": Movement.END_OF_LINE,
-    "w": Movement.FORWARD_VI_WORD_START, "b": Movement.BACKWARD_VI_WORD,
+    "h": Movement.chars_back(), "l": Movement.chars_forward(), "j": Movement.lines_down(), "k": Movement.lines_up(),
+    "0": Movement.to_line_start(), "^": Movement.to_first_nonblank(), "$": Movement.to_line_end(),
+    "w": Movement.words_forward(Word.VI, Stop.AT_START), "b": Movement.words_back(Word.VI),
 }
-ENDS = {"h": Movement.BEGINNING_OF_LINE, "l": Movement.END_OF_LINE}  # Past which these two do not go.
+ENDS = {"h": MOTIONS["0"], "l": MOTIONS["$"]}  # Past which these two do not go.
 
 
 class Vi(Session):
     """A session on a text that ends with a newline, as those of vi do, and what its keys do."""
-    mode, anchor = "", 0  # What the last row shows, and where the selection began.
+    state, anchor = "", 0  # What the last row shows, and where the selection began.
 
     def draw(self) -> None:
         """Draws the rows that fit, the cursor's among them, with the selection, and then the mode."""
         (columns, height), text, (start, end) = os.get_terminal_size(1), self.text, self.selected()
-        row, column = cell(text, self.pos, 0, columns := columns or 80, tab=TAB)
-        first, data, rows = max(row - height + 2, 0), text.encode(), ""
-        places = [place_at(text, first + it, 0, 0, columns, tab=TAB) for it in range(height)]
+        row, column = cell(screen := Screen(columns or 80, tab=TAB), self.pos, text)
+        first, rows = max(row - height + 2, 0), ""
+        places = [place_at(screen, (first + it, 0), text) for it in range(height)]
         for number, (a, b) in enumerate(zip(places, places[1:]), 1):
             x, y = (min(max(it, a), b) for it in (start, end))
-            shown = b"%b\x1b[7m%b\x1b[m%b" % (data[a:x], data[x:y], data[y:b])
-            rows += f"\x1b[{number}H\x1b[K" + shown.decode().replace("\n", "")
-        print(f"{rows}\x1b[{height}H\x1b[K{self.mode}\x1b[{row - first + 1};{column + 1}H", end="", flush=True)
+            shown = f"{self.slice(a, x)}\x1b[7m{self.slice(x, y)}\x1b[m{self.slice(y, b)}"
+            rows += f"\x1b[{number}H\x1b[K" + shown.replace("\n", "")
+        print(f"{rows}\x1b[{height}H\x1b[K{self.state}\x1b[{row - first + 1};{column + 1}H", end="", flush=True)
 
     def selected(self) -> Tuple[int, int]:
         """Where the selection begins and ends. The characters at both of its ends are in it, but no last newline."""
         start, last = sorted((self.anchor, self.pos))
-        end, _ = self.cluster(last) or (last, 0)
-        return (start, end if self.cluster(end) else last) if self.mode == VISUAL else (0, 0)
+        end, _ = self.cluster_at(last) or (last, 0)
+        return (start, end if self.cluster_at(end) else last) if self.state == VISUAL else (0, 0)
 
     def go(self, key: str) -> bool:
         """Moves by a motion, by h and l in the line, and by none past the last newline."""
         place = self.destination(MOTIONS[key])
-        if place is None or not self.cluster(place) or key in ENDS and self.destination(ENDS[key]) is None:
+        if place is None or not self.cluster_at(place) or key in ENDS and self.destination(ENDS[key]) is None:
             return False
         self.pos = place
         return True
 
     def take(self, key: str) -> bool:
         """Kills what a motion covers in the line."""
-        covered, line = self.covers(MOTIONS[key]) if key in MOTIONS else None, self.line_range(self.line_number)
+        covered, line = self.covers(MOTIONS[key]) if key in MOTIONS else None, self.find_line(self.cursor_line)
         if not covered or not line or key in "jk":
             return False
         return self.kill_range(max(covered[0], line[0]), min(covered[1], line[1]))
 
     def type(self, keys: Iterator[str]) -> bool:
         """Inserts what is typed up to ESC. One undo takes back all of it."""
-        self.mode = "-- INSERT --"
+        self.state = "-- INSERT --"
         with self.group():
             while (key := next(keys, ESC)) != ESC:
                 if key == "\x7f":
                     self.backspace()
                 elif key == "\r" or not CONTROL.match(key):
                     self.insert("\n" if key == "\r" else key)
-        self.mode = ""
+        self.state = ""
         return self.go("h") or True
 
     def select(self, keys: Iterator[str]) -> bool:
         """Selects by motions, up to a key that takes what is selected, or another."""
-        self.mode, self.anchor = VISUAL, self.pos
+        self.state, self.anchor = VISUAL, self.pos
         while (key := next(keys, ESC)) in MOTIONS:
             self.go(key)
-        (start, end), self.mode, self.anchor = self.selected(), "", 0
+        (start, end), self.state, self.anchor = self.selected(), "", 0
         if key == "y":
-            self.keep(self.text.encode()[start:end].decode())
+            self.keep(self.slice(start, end))
         return self.kill_range(start, end) if key in ("d", "x") else key in ("y", ESC)
 
 
 KEYS: Dict[str, Callable[[Vi, Iterator[str]], object]] = {
     "i": Vi.type, "v": Vi.select, ESC: lambda *_: True, "u": lambda it, _: it.undo(), "\x12": lambda it, _: it.redo(),
     "a": lambda it, keys: (it.go("l"), it.type(keys)), "d": lambda it, keys: it.take(next(keys, ESC)),
-    "p": lambda it, _: it.ring_count and (it.go("l"), it.yank(), it.move(Movement.BACKWARD_CHAR)),
+    "p": lambda it, _: it.ring_count and (it.go("l"), it.yank(), it.move(MOTIONS["h"])),
     "x": lambda it, _: it.take("l"),
 }
 
 if __name__ == "__main__":
-    vi = Vi(CONTROL.sub("", " ".join(sys.argv[1:])).rstrip("\n") + "\n", 0, limit=None)
+    (vi := Vi(CONTROL.sub("", " ".join(sys.argv[1:])).rstrip("\n") + "\n", limit=None)).set_pos(0)
     with RawTerminal(has_screen=True) as terminal:
         keys = terminal.keys(vi.draw)
         while (key := next(keys, "\x03")) not in ("\r", "\x03"):
-            vi.set_pos(vi.pos)  # A motion, so that what two keys kill is two texts of the ring.
+            vi.end_kills()  # What two keys kill is two texts of the ring.
             print("" if (vi.go(key) if key in MOTIONS else key in KEYS and KEYS[key](vi, keys)) else "\a", end="")
-            if vi.destination(Movement.END_OF_LINE) is None:
+            if vi.destination(MOTIONS["$"]) is None:
                 vi.go("h")  # It stands on a character.
     print(vi.text if key == "\r" else "", end="")

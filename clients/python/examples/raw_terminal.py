@@ -15,7 +15,7 @@ KEY = re.compile(r"\x1b[\[O][ -?]*[@-~]|.", re.S)
 
 
 class RawTerminal:
-    """A terminal in raw mode, with a screen of its own where that is wanted. A `with` leaves it as it was."""
+    """A terminal in raw mode, with a screen of its own if that is wanted. A `with` leaves it as it was."""
 
     def __init__(self, has_screen: bool = False) -> None:
         self.screen, self.screen_before = ("\x1b[?1049h", "\x1b[?1049l") if has_screen else ("", "")
@@ -35,7 +35,7 @@ class RawTerminal:
         print(self.screen_before, end="", flush=True)
 
     def read(self, seconds: Optional[float] = None) -> Optional[str]:
-        """What is typed. An empty text where a signal or so many seconds end the wait, None at the end of input."""
+        """What is typed. An empty text if a signal or so many seconds end the wait, None at the end of input."""
         ready = select.select([0, self.woken], [], [], seconds)[0]
         came = os.read(ready[0], 4096) if ready else b""
         if 0 in ready:
@@ -43,7 +43,7 @@ class RawTerminal:
         return ""
 
     def keys(self, draw: Callable[[], None]) -> Iterator[str]:
-        """The keys up to the end of input. It draws where it has to wait, once for all that came together."""
+        """The keys up to the end of input. It draws when it has to wait, once for all that came together."""
         came: Optional[str] = ""
         while came is not None:
             yield from KEY.findall(came)

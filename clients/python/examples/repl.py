@@ -5,11 +5,11 @@ import re
 from typing import Callable, Dict, Iterator
 
 from arithmetic import LIMIT, evaluate
-from lodvarn import Movement, Session, cell, first_cluster, width
+from lodvarn import Movement, NoRoom, Screen, Session, Stop, Word, cell, first_cluster, width
 from raw_terminal import RawTerminal
 
 PROMPT, SECONDS = "> ", 0.2  # The seconds are those to wait for the rest of a key.
-# A key is a character, or an escape with what belongs to it, which may be cut short. None is found where it may go on.
+# A key is a character, or an escape with what belongs to it, which may be cut short. None is found if it may go on.
 KEY = re.compile(r"\x1b\[[ -?]*[@-~]|\x1bO[ -~]|\x1b[^\[O\0-\x1f]|\x1b(\[[ -?]*|O)?(?=[^ -~])|[^\x1b]")
 SAME = {f"M-[{end}": f"C-{c}" for end, c in zip("A B C D H 1~ F 4~".split(), "pnfbaaee")}  # Arrows, Home, End.
 
@@ -19,21 +19,21 @@ def transpose(session: Session) -> bool:
         return session.transpose_chars()
 
 
+START, END, BACK = Movement.to_line_start(), Movement.to_line_end(), Movement.words_back(Word.EMACS)
+LEFT, RIGHT, AHEAD = Movement.chars_back(), Movement.chars_forward(), Movement.words_forward(Word.EMACS, Stop.AFTER_END)
 KEYS: Dict[str, Callable[[Session], object]] = {
-    "C-a": lambda it: it.move(Movement.BEGINNING_OF_LINE), "C-e": lambda it: it.move(Movement.END_OF_LINE),
-    "C-b": lambda it: it.move(Movement.BACKWARD_CHAR), "C-f": lambda it: it.move(Movement.FORWARD_CHAR),
-    "M-b": lambda it: it.move(Movement.BACKWARD_EMACS_WORD), "C-k": lambda it: it.kill(Movement.END_OF_LINE),
-    "M-f": lambda it: it.move(Movement.FORWARD_EMACS_WORD_AFTER_END), "C-d": Session.delete, "\x7f": Session.backspace,
-    "M-d": lambda it: it.kill(Movement.FORWARD_EMACS_WORD_AFTER_END), "C-y": Session.yank, "M-y": Session.yank_pop,
-    "C-u": lambda it: it.kill(Movement.BEGINNING_OF_LINE), "C-w": lambda it: it.kill(Movement.BACKWARD_BIG_WORD),
-    "C-_": Session.undo, "M-_": Session.redo, "C-t": transpose,
+    "C-a": lambda it: it.move(START), "C-e": lambda it: it.move(END), "C-b": lambda it: it.move(LEFT),
+    "C-f": lambda it: it.move(RIGHT), "M-b": lambda it: it.move(BACK), "M-f": lambda it: it.move(AHEAD),
+    "C-k": lambda it: it.kill(END), "C-u": lambda it: it.kill(START), "M-d": lambda it: it.kill(AHEAD),
+    "C-w": lambda it: it.kill(Movement.words_back(Word.BIG)), "C-y": Session.yank, "M-y": Session.yank_pop,
+    "C-d": Session.delete, "\x7f": Session.backspace, "C-_": Session.undo, "M-_": Session.redo, "C-t": transpose,
 }
 
 
 def draw(session: Session) -> None:
     """Draws the row. Of a text that is too wide it shows a window, which slides by half of its columns."""
     half = max(((os.get_terminal_size(1).columns or 80) - len(PROMPT)) // 2, 1)
-    text, column, (_, cursor) = session.text, 0, cell(session.text, session.pos, 0, 65535)
+    text, column, (_, cursor) = session.text, 0, cell(Screen(65535), session.pos, session.text)
     row, first = f"\r\x1b[K{PROMPT}", max(cursor // half - 1, 0) * half
     while (cluster := first_cluster(text)) and column + width(cluster) <= first + 2 * half:
         row += cluster if column >= first else ""
@@ -44,7 +44,7 @@ def draw(session: Session) -> None:
 
 
 def read_keys(session: Session, terminal: RawTerminal) -> Iterator[str]:
-    """The names of the keys, up to the end of input. It draws where it has to wait, once for all that came together."""
+    """The names of the keys, up to the end of input. It draws when it has to wait, once for all that came together."""
     keys = ""
     while True:
         draw(session)
@@ -74,9 +74,13 @@ def edit(session: Session, terminal: RawTerminal) -> None:
             session.restart()
         elif step and 0 <= at + step < len(lines):
             lines[at], at = text, at + step
-            session.restart(lines[at])  # After an update C-_ would put the other line in the place of this one.
-        elif (KEYS[key](session) if key in KEYS else session.insert(key) if len(key) == 1 else None) is None:
-            print("\a", end="")
+            session.restart(lines[at])  # After a set_text C-_ would put the other line in the place of this one.
+        else:
+            try:
+                done = KEYS[key](session) if key in KEYS else len(key) == 1 and session.insert(key)
+            except NoRoom:
+                done = False
+            print("" if done else "\a", end="")
 
 
 def main() -> None:

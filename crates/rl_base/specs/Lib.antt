@@ -15,5 +15,6 @@ pub mod RingLends
 pub mod RefuseAt
 pub mod Splice
 pub mod Reports
+pub mod Notes
 pub mod Watch
 pub mod Sameness

@@ -91,6 +91,11 @@ abbrev pub as_one : Waiting → Joined
 as_one (Whole ns) = joined (reports_of ns)
 as_one (AsOne all) = all
 
+-- how many reports wait
+abbrev pub count_of : Waiting → ℕ
+count_of (Whole ns) = length ns
+count_of (AsOne all) = 1
+
 -- there is room for one more report, with so many bytes of texts: never while all is one
 abbrev pub has_room_in : ℕ → ℕ → ℕ → Waiting → Bool
 has_room_in room text_room bytes (Whole ns) = nat_lt (length ns) room && nat_le (text_bytes ns + bytes) text_room
@@ -106,6 +111,10 @@ with_note room text_room n (AsOne all) = AsOne (taken_in all n.report)
 abbrev pub told_cursors : ℕ → ℕ → Report → Report
 told_cursors before after r = if is_change r.kind then record r { cursors = Some (before, after) } else r
 
+-- the same of a note
+abbrev pub told_note : ℕ → ℕ → Noted → Noted
+told_note before after n = record { report = told_cursors before after n.report; texts = n.texts }
+
 -- a list with its last element changed
 abbrev pub on_last : {A : Type 0} → (A → A) → List A → List A
 on_last f [] = []
@@ -114,8 +123,7 @@ on_last f (x ∷ (y ∷ ys)) = x ∷ on_last f (y ∷ ys)
 
 -- what waits, once cursors were told
 abbrev pub with_cursors : ℕ → ℕ → Waiting → Waiting
-with_cursors before after (Whole ns) =
-    Whole (on_last (λ n. record { report = told_cursors before after n.report; texts = n.texts }) ns)
+with_cursors before after (Whole ns) = Whole (on_last (told_note before after) ns)
 with_cursors before after (AsOne all) =
     AsOne (record { splice = all.splice; cursors = joined_cursors all.cursors (Some (before, after)) })
 
@@ -158,8 +166,7 @@ oldest (AsOne all) = Some (record { report = told_whole all; texts = [] })
 
 -- what waits without its oldest
 abbrev pub without_oldest : Waiting → Waiting
-without_oldest (Whole []) = Whole []
-without_oldest (Whole (n ∷ ns)) = Whole ns
+without_oldest (Whole ns) = Whole (drop 1 ns)
 without_oldest (AsOne all) = Whole []
 
 -- the queue without its oldest
@@ -260,30 +267,15 @@ pub record ReadsWhole (placed : Bool) (q : Queue) (n : Noted) (old new : List �
   pub cursors : OnTrue placed (Stand n.report.cursors old new)
   pub rest : Leads placed (forgotten q) new new
 
--- how many bytes of texts are kept of a report
-abbrev pub bytes_kept : ℕ → Report → ℕ
-bytes_kept text_room r = if text_room == 0 then 0 else r.old_len + r.new_len
-
--- reports, with their texts cut from one text
-abbrev pub notes : ℕ → List Report → List ℕ → List Noted
-notes text_room [] bytes = []
-notes text_room (r ∷ rs) bytes =
-    record { report = r; texts = take (bytes_kept text_room r) bytes } ∷ notes text_room rs (drop (bytes_kept text_room r) bytes)
-
--- a text is made of the texts of reports, each of them UTF-8
-abbrev pub Cuts : ℕ → List Report → List ℕ → Type 0
-Cuts text_room [] bytes = bytes ≡ []
-Cuts text_room (r ∷ rs) bytes =
-    (bytes_kept text_room r ≤ length bytes) × IsUtf8 (take (bytes_kept text_room r) bytes) × Cuts text_room rs (drop (bytes_kept text_room r) bytes)
-
 -- all as one where it was folded, and else the notes
 abbrev pub waiting_of : Option Joined → List Noted → Waiting
 waiting_of None ns = Whole ns
 waiting_of (Some all) ns = AsOne all
 
--- what waits has room, and is either reports or all as one
-pub record IsQueue (room text_room : ℕ) (rs : List Report) (bytes : List ℕ) (whole : Option Joined) : Type 0 where
-  pub within : length rs ≤ room
-  pub text_within : length bytes ≤ text_room
-  pub cuts : Cuts text_room rs bytes
-  pub either : OnSome whole (rs ≡ [])
+-- what waits has room, for which there is memory, twice for its texts, and is either reports or all as one
+pub record IsQueue (room text_room memory text_memory : ℕ) (ns : List Noted) (whole : Option Joined) : Type 0 where
+  pub within : length ns ≤ room
+  pub text_within : text_bytes ns ≤ text_room
+  pub places : room ≤ memory
+  pub bytes : text_room + text_room ≤ text_memory
+  pub either : OnSome whole (ns ≡ [])

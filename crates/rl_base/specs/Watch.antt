@@ -5,7 +5,7 @@ use Rattle.rl_base.specs.declared.splice.Splice.{Splice}
 use Rattle.rl_base.specs.declared.watch.WatchFault.{WatchFault}
 use Rattle.rl_base.specs.declared.watch.WatchFault.TheVariants.{NoMemory, NoRoom, IsWatched}
 use Rattle.rl_base.specs.Event.{Event}
-use Rattle.rl_base.specs.Reports.{Leads, Noted, Queue, forgotten, oldest, queue_step}
+use Rattle.rl_base.specs.Reports.{Leads, Noted, Queue, count_of, forgotten, oldest, queue_step}
 use Rattle.rl_base.specs.Splice.{spliced, untouched}
 
 -- all that changed, as one splice, and a queue of reports, where one is kept
@@ -26,6 +26,10 @@ abbrev pub RefusesQueue : WatchFault → ℕ → Watched → Type 0
 RefusesQueue NoRoom room w = room ≡ 0
 RefusesQueue IsWatched room w = (0 < room) × IsSome w.reports
 RefusesQueue NoMemory room w = (0 < room) × (w.reports ≡ None)
+
+-- how many reports wait; none where none are kept
+abbrev pub waiting_count : Watched → ℕ
+waiting_count w = unwrap_or (option_map (λ (q : Queue). count_of q.waiting) w.reports) 0
 
 -- the report that is read next, with its texts
 abbrev pub next_note : Watched → Option Noted

@@ -129,6 +129,13 @@ impl KillRing {
         Some((size, slot))
     }
 
+    /// How many texts it keeps at most.
+    pub fn size(&self) -> usize
+        ensures { result ≡ self.now.size }
+    {
+        self.size
+    }
+
     /// How many texts it holds.
     pub fn len(&self) -> usize
         ensures { result ≡ length self.now.slots }

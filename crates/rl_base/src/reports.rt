@@ -1,13 +1,13 @@
 //! A queue of reports of changes, for who reads late.
-ghost use Rattle.std.specs.Prelude.{◌≡◌, ℕ, ◌+◌, ◌^◌, ◌<◌, ◌≤◌, ◌⊎◌, ◌++◌, [], Bool, List, None, Some, encode_utf8, false, true, length, option_map, vec_capacity, IfErr, IfOk};
+ghost use Rattle.std.specs.Prelude.{◌≡◌, ℕ, ◌+◌, ◌^◌, ◌<◌, ◌≤◌, ◌⊎◌, [], Bool, List, None, Some, encode_utf8, false, fold, true, length, option_map, IfErr, IfOk};
 ghost use Rattle.std.specs.Str.{IsCharBoundary};
-ghost use Rattle.std.specs.String.{string_bytes, string_capacity};
 ghost use Rattle.rl_base.specs.declared.listeners.Refusal.TheVariants.{NoMemory};
 ghost use Rattle.rl_base.specs.declared.reports.ReportKind.TheVariants.{CharInserted};
 ghost use Rattle.rl_base.specs.Event.{Event, Cursors, Start, Stop, apply};
-ghost use Rattle.rl_base.specs.Reports.{AsOne, HasTexts, IsChange, IsLineText, LacksTexts, Leads, Noted, Queue, ReadsTexts, ReadsWhole, as_one, bytes_kept, forgotten, has_room_in, is_change, joined, joined_cursors, kept, new_queue, noting, oldest, on_last, queue_step, taken_in, texts_of, told_cursors, told_whole, with_note};
+ghost use Rattle.rl_base.specs.Reports.{AsOne, HasTexts, IsChange, IsLineText, LacksTexts, Leads, Noted, Queue, ReadsTexts, ReadsWhole, as_one, count_of, forgotten, has_room_in, is_change, joined_cursors, new_queue, noting, oldest, queue_step, taken_in, texts_of, told_whole, with_note};
 
 use crate::listeners::{ChangeListener, DeleteListener, Direction, Refusal};
+use crate::notes::{Notes, bytes_kept, report_of};
 use crate::splice::{Splice, UNTOUCHED};
 use std::alloc::Global;
 use std::marker::Model;
@@ -52,7 +52,7 @@ const _: () = prove!(ReportKind::Folded as u8 == 8);
 
 impl ReportKind {
     // Whether the text changed. A kill's start and stop are marks.
-    fn is_change(self) -> bool
+    pub(crate) fn is_change(self) -> bool
         ensures { result ≡ is_change self }
     {
         match self {
@@ -84,20 +84,35 @@ pub struct Report {
 
 // Changes as one.
 #[derive(Clone, Copy)]
-struct Joined {
+pub(crate) struct Joined {
     splice: Splice,
     // The first cursor before, and the last one after.
     cursors: Option<(usize, usize)>,
 }
 
+// Nothing as one.
+pub(crate) const NOTHING_JOINED: Joined = Joined {
+    splice: UNTOUCHED,
+    cursors: None,
+};
+
 impl Joined {
     // Takes one more report in.
-    fn take_in(&mut self, report: Report)
+    pub(crate) fn take_in(&mut self, report: Report)
         ensures { self.new ≡ taken_in self.old report }
     {
         self.cursors = join_cursors(self.cursors, report.cursors);
         if report.kind.is_change() {
             self.splice.fold(report.at, report.old_len, report.new_len);
+        }
+    }
+
+    // Takes more reports in.
+    pub(crate) fn take_all(&mut self, reports: &[Report])
+        ensures { self.new ≡ fold taken_in self.old reports.now }
+    {
+        for report in reports {
+            self.take_in(*report);
         }
     }
 
@@ -141,20 +156,6 @@ fn join_cursors(
     Some((before, after))
 }
 
-// Reports as one.
-fn join_all(reports: &[Report]) -> Joined
-    ensures { result ≡ joined reports.now }
-{
-    let mut all = Joined {
-        splice: UNTOUCHED,
-        cursors: None,
-    };
-    for report in reports {
-        all.take_in(*report);
-    }
-    all
-}
-
 /// A queue of reports of changes, for who reads late: what it hears as a listener becomes a report, which waits until it
 /// is forgotten. It refuses nothing, and takes no memory once it is made. Where there is no room for one more report,
 /// or for its texts, all that waits and the new one become one report of the kind `Folded`, which takes in each later
@@ -163,24 +164,19 @@ fn join_all(reports: &[Report]) -> Joined
 #[derive(Drop)]
 pub struct Reports {
     room: usize,
-    text_room: usize,
-    waiting: Vec<Report>,
-    // What went and what came, for each report that waits; nothing where no texts are kept.
-    texts: String,
+    notes: Notes,
     // All as one. While it is there, no reports wait.
     folded: Option<Joined>,
 }
 
 impl Model for Reports {
-    ghost use Rattle.std.specs.Prelude.{◌≤◌, vec_capacity};
-    ghost use Rattle.std.specs.String.{string_bytes, string_capacity};
-    ghost use Rattle.rl_base.specs.Reports.{IsQueue, Queue, notes, waiting_of};
+    ghost use Rattle.rl_base.specs.Reports.{IsQueue, Queue, waiting_of};
 
     ghost Value = { Queue };
 
-    ghost view = { λ r. record { room = r.room; text_room = r.text_room; waiting = waiting_of r.folded (notes r.text_room r.waiting.items (string_bytes r.texts)) } };
+    ghost view = { λ r. record { room = r.room; text_room = r.notes.text_room; waiting = waiting_of r.folded r.notes.waiting } };
 
-    ghost invariant = { λ r. IsQueue r.room r.text_room r.waiting.items (string_bytes r.texts) r.folded × (r.room ≤ vec_capacity r.waiting) × (r.text_room ≤ string_capacity r.texts) };
+    ghost invariant = { λ r. IsQueue r.room r.notes.text_room r.notes.places r.notes.bytes r.notes.waiting r.folded };
 }
 
 impl Reports {
@@ -192,15 +188,22 @@ impl Reports {
         ensures err { IfErr result (λ r. (r ≡ NoMemory) × ((0 < room) ⊎ (0 < text_room))) }
     {
         let room = if text_room == 0 { room.min(1) } else { room };
-        let waiting = Vec::with_capacity(alloc, room)?;
-        let texts = String::with_capacity(alloc, text_room)?;
+        let notes = Notes::with_room(alloc, room, text_room)?;
         Ok(Reports {
             room,
-            text_room,
-            waiting,
-            texts,
+            notes,
             folded: None,
         })
+    }
+
+    /// How many reports wait; a folded one counts as one.
+    pub fn waiting(&self) -> usize
+        ensures { result ≡ count_of self.now.waiting }
+    {
+        if self.folded.is_some() {
+            return 1;
+        }
+        self.notes.len()
     }
 
     /// The oldest report that waits, None where nothing does.
@@ -210,7 +213,7 @@ impl Reports {
         if let Some(all) = self.folded {
             return Some(all.report());
         }
-        self.waiting.first().copied()
+        self.notes.oldest()
     }
 
     /// The texts of the oldest report: what went, and right after it what came. Empty where no texts are kept, where
@@ -218,10 +221,7 @@ impl Reports {
     pub fn oldest_texts(&self) -> &str
         ensures { result.now ≡ texts_of (oldest self.now.waiting) }
     {
-        let Some(oldest) = self.waiting.first() else {
-            return "";
-        };
-        &self.texts.as_str()[..bytes_kept(self.text_room, oldest)]
+        self.notes.oldest_texts()
     }
 
     /// Forgets the oldest report, so that the next becomes the oldest. Where a change was heard since the oldest was read, it
@@ -233,19 +233,7 @@ impl Reports {
             self.folded = None;
             return;
         }
-        let Some(oldest) = self.waiting.first() else {
-            return;
-        };
-        let bytes = bytes_kept(self.text_room, oldest);
-        if bytes > 0 && self.texts.replace_range(..bytes, "").is_err() {
-            unreachable!();
-        }
-        // Mostly it is the only one.
-        if self.waiting.len() == 1 {
-            self.waiting.clear();
-        } else {
-            self.waiting.remove(0);
-        }
+        self.notes.forget();
     }
 
     // Whether one more report would find room, with so many bytes of texts.
@@ -255,7 +243,7 @@ impl Reports {
         if self.folded.is_some() {
             return false;
         }
-        self.waiting.len() < self.room && bytes <= self.text_room - self.texts.len()
+        self.notes.len() < self.room && bytes <= self.notes.text_room() - self.notes.text_len()
     }
 
     // All that waits, as one.
@@ -265,7 +253,7 @@ impl Reports {
         if let Some(all) = self.folded {
             return all;
         }
-        join_all(&self.waiting)
+        self.notes.as_one()
     }
 
     // Makes one of all that waits and one more report. Cold, since mostly there is room.
@@ -276,8 +264,7 @@ impl Reports {
     {
         let mut all = self.as_one();
         all.take_in(report);
-        self.waiting.clear();
-        self.texts.clear();
+        self.notes.clear();
         self.folded = Some(all);
     }
 
@@ -285,19 +272,14 @@ impl Reports {
     fn note(&mut self, kind: ReportKind, at: usize, gone: &str, come: &str)
         ensures { self.new ≡ noting kind at gone.now come.now self.old }
     {
-        let report = Report {
-            kind,
-            at,
-            old_len: gone.len(),
-            new_len: come.len(),
-            cursors: None,
-        };
-        if !self.has_room(bytes_kept(self.text_room, &report)) {
+        let report = report_of(kind, at, gone.len(), come.len());
+        if !self.has_room(bytes_kept(self.notes.text_room(), &report)) {
             self.fold_in(report);
             return;
         }
-        keep_texts(&mut self.texts, self.text_room, gone, come);
-        self.waiting.push_reserved(report);
+        if self.notes.push(kind, at, gone, come).is_err() {
+            unreachable!();
+        }
     }
 
     // Notes a report where no texts are kept. Inlined, so that a letter that is reported costs no call.
@@ -310,55 +292,23 @@ impl Reports {
             self.fold_in(report);
             return;
         }
-        self.waiting.push_reserved(report);
+        self.notes.push_numbers(report);
     }
 
     // Notes that a character was put in, where texts are kept.
     #[inline(never)]
     fn note_char(&mut self, at: usize, c: char)
+        requires { 0 < self.old.text_room }
         ensures { self.new ≡ noting CharInserted at [] (encode_utf8 c) self.old }
     {
-        let mut bytes = [0; 4];
-        let come = c.encode_utf8(&mut bytes);
-        self.note(ReportKind::CharInserted, at, "", come);
-    }
-}
-
-// Puts what went and what came after the texts that are there, where texts are kept. There is room for both.
-fn keep_texts(texts: &mut String, text_room: usize, gone: &str, come: &str)
-    requires { length (string_bytes texts.old) + length (kept text_room (gone.now ++ come.now)) ≤ string_capacity texts.old }
-    ensures bytes { string_bytes texts.new ≡ string_bytes texts.old ++ kept text_room (gone.now ++ come.now) }
-    ensures capacity { string_capacity texts.old ≤ string_capacity texts.new }
-{
-    if text_room == 0 {
-        return;
-    }
-    if texts.push_str(gone).is_err() || texts.push_str(come).is_err() {
-        unreachable!();
-    }
-}
-
-// How many bytes of texts are kept of a report.
-fn bytes_kept(text_room: usize, report: &Report) -> usize
-    requires { bytes_kept text_room report.now < 2 ^ 64 }
-    ensures { result ≡ bytes_kept text_room report.now }
-{
-    if text_room == 0 {
-        return 0;
-    }
-    report.old_len + report.new_len
-}
-
-// Tells the last report where the cursor was before it and after it, where that is a change.
-fn tell_last(reports: &mut Vec<Report>, before: usize, after: usize)
-    ensures items { reports.new.items ≡ on_last (told_cursors before after) reports.old.items }
-    ensures capacity { vec_capacity reports.new ≡ vec_capacity reports.old }
-{
-    let Some(last) = reports.last_mut() else {
-        return;
-    };
-    if last.kind.is_change() {
-        last.cursors = Some((before, after));
+        let len = c.len_utf8();
+        if !self.has_room(len) {
+            self.fold_in(report_of(ReportKind::CharInserted, at, 0, len));
+            return;
+        }
+        if self.notes.push_char(at, c).is_err() {
+            unreachable!();
+        }
     }
 }
 
@@ -393,7 +343,7 @@ impl DeleteListener for Reports {
     fn cursors(&mut self, before: usize, after: usize) {
         match &mut self.folded {
             Some(all) => all.tell(before, after),
-            None => tell_last(&mut self.waiting, before, after),
+            None => self.notes.tell_last(before, after),
         }
     }
 }
@@ -401,17 +351,11 @@ impl DeleteListener for Reports {
 impl ChangeListener for Reports {
     #[inline(always)]
     fn insert_char(&mut self, idx: usize, c: char) -> Result<(), Refusal> {
-        if self.text_room > 0 {
+        if self.notes.text_room() > 0 {
             self.note_char(idx, c);
             return Ok(());
         }
-        self.note_numbers(Report {
-            kind: ReportKind::CharInserted,
-            at: idx,
-            old_len: 0,
-            new_len: c.len_utf8(),
-            cursors: None,
-        });
+        self.note_numbers(report_of(ReportKind::CharInserted, idx, 0, c.len_utf8()));
         Ok(())
     }
 

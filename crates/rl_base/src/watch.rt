@@ -3,7 +3,7 @@ ghost use Rattle.std.specs.Prelude.{◌≡◌, ◌<◌, None, Some, IfErr, OnOk}
 ghost use Rattle.std.specs.Option.{option_map};
 ghost use Rattle.rl_base.specs.Reports.{new_queue, texts_of};
 ghost use Rattle.rl_base.specs.Splice.{told, untouched};
-ghost use Rattle.rl_base.specs.Watch.{RefusesQueue, new_watch, next_note, past_next};
+ghost use Rattle.rl_base.specs.Watch.{RefusesQueue, new_watch, next_note, past_next, waiting_count};
 
 use crate::listeners::{ChangeListener, DeleteListener, Direction, Refusal};
 use crate::reports::{Report, Reports};
@@ -96,6 +96,23 @@ impl Watch {
                 Ok(())
             }
             Err(_) => Err(WatchFault::NoMemory),
+        }
+    }
+
+    /// Keeps no reports any more. Those that wait are dropped, and their memory is freed.
+    pub fn stop_reports(&mut self)
+        ensures { self.new ≡ record self.old { reports = None } }
+    {
+        self.reports = None;
+    }
+
+    /// How many reports wait; a folded one counts as one. 0 where none are kept.
+    pub fn waiting_reports(&self) -> usize
+        ensures { result ≡ waiting_count self.now }
+    {
+        match &self.reports {
+            Some(reports) => reports.waiting(),
+            None => 0,
         }
     }
 

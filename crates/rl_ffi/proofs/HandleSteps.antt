@@ -1,20 +1,20 @@
--- What a handle of any value owns, for the walks that make one and take it apart.
-use Rattle.std.proofs.Common.{◌≡◌, ℕ, List, [], ◌∷◌, refl}
+-- What a handle owns, for the walks that make one and take it apart: of any value, and at its machine value.
+use Rattle.std.proofs.Common.{◌≡◌, ℕ, List, [], ◌∷◌, refl, ◌++◌, subst}
 use seplogic.Ra.Ura.{Ura}
 use mir.Raw.{raw as bare}
 use mir.Syntax.{impl, tnil, dnil}
-use mir.Val.{Val, vstruct, vcons, vnil}
+use mir.Val.{Val, vstruct, vcons, vnil, of_list}
 use base.Logic.{ent, guard, via, snd∗, guard_i}
 use base.Fml.{Fml}
 use types.Logic.{Logic, sem}
-use types.Kit.{Item, Goal, Seq, ‵, given, learn, ◌$◌, use1, fsplit, fpick, feq_l}
+use types.Kit.{Item, Goal, Seq, ‵, given, learn, ◌$◌, use1, fsplit, fpick, feq_l, Step, step, move, drop, fjoin, fpack, feq_i}
 use contract.Monad.{fact_use}
-use denote.RattleType.{RattleType}
+use denote.RattleType.{RattleType, Valss}
 use denote.Memory.{lone}
-use denote.RawPtr.{Ptr, block_ptr, null_ptr, lies_at, Testable}
+use denote.RawPtr.{Ptr, block_ptr, null_ptr, lies_at, Testable, RawPtr, ptr_val}
 use base.Fraction.{full_share}
 use denote.Param.Laws.{Laws}
-use Rattle.std.proofs.alloc.Calls.{Al}
+use Rattle.std.proofs.alloc.Calls.{Al, handle_tells, Fits}
 use Rattle.std.proofs.GlobalToken.{dealloc_token-Testable}
 use Rattle.std.proofs.BoxSteps.Form.{Bx}
 use Rattle.std.specs.Box.Ownership.{box_owns}
@@ -24,7 +24,13 @@ use Rattle.std.proofs.alloc.Global.TheLaws as heap_laws
 use Rattle.std.specs.contracts.impls.GlobalAllocator.TheImpl.{ghosts}
 use Rattle.std.specs.declared.option.Option.{Option}
 use Rattle.std.specs.declared.option.Option.TheVariants.{None, Some}
-use Rattle.rl_ffi.specs.Handle.{holds}
+use Rattle.rl_ffi.specs.Handle.{holds, kept}
+use denote.Steps.{nothing}
+use denote.Struct.Struct.{within}
+use denote.Struct.Owning.{shape, to}
+use Rattle.rl_ffi.specs.contracts.held.Held as held
+use Rattle.rl_ffi.proofs.held.Held.TheLaws as held_laws
+use Rattle.rl_ffi.specs.contracts.handle.Handle as handle
 
 abbrev pub Z : RattleType
 Z = heap.the_row
@@ -59,3 +65,26 @@ module _ (S : RattleType) {M : Type 1} {𝓤 : Ura M} {𝓛 : Logic 𝓤} {K : T
   by_null t a null_ptr v at_null at_block = feq_l t (λ e. at_null refl e)
   by_null t a (block_ptr b o) v at_null at_block =
       fpick t (λ x. fsplit t $ feq_l t (λ e. use1 𝓛 (given (Testable (block_ptr b o)) (‵ (owned S a (block_ptr b o) x))) (tested 𝓛 S a (block_ptr b o) x) $ learn t (λ ok. at_block b o x refl e ok)))
+
+abbrev pub S : RattleType
+S = held.the_row
+
+abbrev pub E : Bx
+E = boxes S held_laws.the_row_laws
+
+abbrev pub H : RattleType
+H = handle.the_row
+
+module _ {M : Type 1} {𝓤 : Ura M} {𝓛 : Logic 𝓤} {K : Type 0} {Γ : List (Item 𝓤)} {G : Goal 𝓤 𝓛.H} where
+  pub handle_in : K → (p : Ptr) (hv : Val) (a : Global) (v : Option S.Denot)
+      → Step K 𝓛 (‵ (H.own_val (record { at = p; alloc = a; value = v }) (both (ptr_val p) hv ∷ [])) ∷ Γ) G (‵ (kept a p v) ∷ ‵ (Z.own_val a (hv ∷ [])) ∷ Γ) G
+  handle_in t p hv a v = step (λ s. let w : Val = both (ptr_val p) hv in
+      nothing t $ move t (2 ∷ 0 ∷ []) $ fjoin t $ feq_i t (List Val) (ptr_val p ∷ []) (ptr_val p ∷ []) refl $ fjoin t $ feq_i t (List Val) (w ∷ []) (w ∷ []) refl $ fjoin t $
+      fpack t (Valss (RawPtr ∷ Z ∷ [])) (within (shape handle.the_type) (to handle.the_type (record { at = p; alloc = a; value = v })) (w ∷ [])) (ptr_val p ∷ [], (hv ∷ [], tt)) $ fjoin t $ s)
+
+  pub handle_out : K → (d : H.Denot) (vs : List Val)
+      → ((hv : Val) → vs ≡ both (ptr_val d.at) hv ∷ [] → Fits al hv → Seq K 𝓛 (‵ (kept d.alloc d.at d.value) ∷ ‵ (Z.own_val d.alloc (hv ∷ [])) ∷ Γ) G)
+      → Seq K 𝓛 (‵ (H.own_val d vs) ∷ Γ) G
+  handle_out t d vs k =
+      fsplit t $ fpick t (λ vss. fsplit t $ feq_l t (λ ev. fsplit t $ feq_l t (λ ep. fsplit t $ handle_tells al t d.alloc vss.1.0 (λ hv ea fits. move t (1 ∷ []) $ drop t $ move t (1 ∷ []) $ k hv
+      (subst (λ (ws : List Val). vs ≡ vstruct (of_list (ptr_val d.at ∷ (ws ++ []))) ∷ []) ea (subst (λ (ps : List Val). vs ≡ vstruct (of_list (ps ++ (vss.1.0 ++ []))) ∷ []) ep ev)) fits))))

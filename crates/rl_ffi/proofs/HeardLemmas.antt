@@ -5,7 +5,7 @@ use Rattle.rl_base.specs.declared.listeners.Direction.TheVariants.{Forward, Back
 use Rattle.rl_base.specs.declared.reports.ReportKind.{ReportKind}
 use Rattle.rl_base.specs.declared.reports.ReportKind.TheVariants as kind
 use Rattle.rl_base.specs.Event.{Event, InsertChar, InsertStr, Delete, Replace, Start, Stop, Cursors, apply}
-use Rattle.rl_base.specs.Reports.{IsLineText, LeadsBy, Noted, Tells, is_change, told_cursors}
+use Rattle.rl_base.specs.Reports.{IsLineText, LeadsBy, Noted, Tells, is_change, told_note}
 use Rattle.rl_base.proofs.Queue.LeadLemmas.{LeadsBy-push, LeadsBy-told, Tells-Swaps, Tells-mark, on_last-one}
 use Rattle.rl_base.proofs.Texts.SwapLemmas.{Swaps, Swaps-InsertChar, Swaps-InsertStr, Swaps-Delete, Swaps-Replace, apply-IsUtf8}
 use Rattle.rl_line.specs.Plan.{Step, listener_after, listener_after_step}
@@ -47,13 +47,10 @@ leads h event old text new l v fits made = from event made
     from (Cursors b a) m = let same : text ≡ new = cc in LeadsBy-told 1 b a h.waiting old new (subst (LeadsBy false 1 h.waiting old) same l)
 
 -- ---- what a listener hears apart
-abbrev with_told : ℕ → ℕ → Noted → Noted
-with_told before after n = record { report = told_cursors before after n.report; texts = n.texts }
-
 apart-one : (h x : Heard) (before after i : ℕ) (s t : List ℕ)
     → listener_after_step heard_step before (Replace i s t, after) (joined x h) ≡ joined (listener_after_step heard_step before (Replace i s t, after) x) h
 apart-one h x before after i s t =
-    let f = with_told before after in
+    let f = told_note before after in
     let n = note kind.Replaced i s t in
     ap (λ w. record { waiting = w; marks = h.marks })
     (on_last-one f (h.waiting ++ x.waiting) n ∙ append_assoc h.waiting x.waiting (f n ∷ []) ∙ ap (λ l. h.waiting ++ l) (sym (on_last-one f x.waiting n)))

@@ -1,9 +1,4 @@
 mod CellLemmas
 mod HandleSteps
 mod HeardLemmas
-mod HeardTexts
-mod KillringHandle
-mod LineHandle
 mod PartsSteps
-mod RecordHandle
-mod SessionHandle

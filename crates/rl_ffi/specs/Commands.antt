@@ -1,54 +1,106 @@
 -- What a call that asks for a command does.
-use Rattle.std.specs.Prelude.{◌≡◌, ◌⊎◌, ℕ, ◌<◌, length, List, Option, Some, None, Result, Ok, Err, String}
-use Rattle.std.specs.Str.{IsUtf8}
-use Rattle.std.specs.String.{string_bytes}
+use Rattle.std.specs.Prelude.{◌≡◌, ◌⊎◌, ℕ, ◌+◌, ◌-◌, ◌<◌, ◌≤◌, ◌^◌, ◌==◌, false, length, List, Option, Some, None, Result, Ok, Err, String, is_some, option_map, if◌then◌else◌}
 use Rattle.std.specs.declared.alloc.Global.{Global}
-use Rattle.rl_session.specs.Commands.{Step}
+use Rattle.rl_base.specs.KillRing.{Ring, yank, yank_pop, yank_size}
+use Rattle.rl_base.specs.declared.motion.Movement.{Movement}
+use Rattle.rl_line.specs.Edits.{CanYankPop, too_long}
+use Rattle.rl_line.specs.Kills.{CanDeleteBy, copied}
+use Rattle.rl_line.specs.Line.{Line}
+use Rattle.rl_session.specs.Commands.{Step, StepWith, deletion_of}
 use Rattle.rl_session.specs.Forgetting.{within_bound}
 use Rattle.rl_session.specs.State.{State}
 use Rattle.rl_session.specs.declared.session.Command.{Command}
+use Rattle.rl_session.specs.declared.session.Command.TheVariants.{Indent, Insert, InsertStr, Paste, SetPos, Yank, YankPop}
 use Rattle.rl_session.specs.declared.session.Reply.{Reply}
-use Rattle.rl_ffi.specs.Numbers.{closed, no_memory, no_such_number, not_utf8, reply_number}
+use Rattle.rl_ffi.specs.Answers.{told, told_place, truth}
+use Rattle.rl_ffi.specs.Buffers.{put}
+use Rattle.rl_ffi.specs.Calls.{Effect, EffectOut, leaves, of_named, of_text, only_where}
+use Rattle.rl_ffi.specs.Numbers.{char_of, count_of, dedents_of, movement_of}
+use Rattle.rl_ffi.specs.declared.answers.Answer.{Answer}
+use Rattle.rl_ffi.specs.declared.answers.Answer.TheVariants.{Done, NoRoom, NoSuchNumber, Nothing, TooSmall}
+use Rattle.rl_ffi.specs.declared.shapes.CMovement.{CMovement}
 
 -- a command was done, and then the record forgot what was beyond its bound
 abbrev pub Obeys : State → Command → Reply → State → Type 0
 Obeys s command reply new = (left : State) × Step s command reply left × (new ≡ within_bound left)
 
--- a command is given, or the number says what is wrong with the arguments. A closed session answers that it is closed. Wrong
--- arguments change nothing; otherwise the command is done.
-abbrev pub Replies : Result Command ℕ → Option State → Result Reply ℕ → Option State → Type 0
-Replies asked None answer new = (answer ≡ Err closed) × (new ≡ None)
-Replies (Err why) (Some s) answer new = (answer ≡ Err why) × (new ≡ Some s)
-Replies (Ok command) (Some s) (Ok reply) new = (t : State) × Obeys s command reply t × (new ≡ Some t)
-Replies (Ok command) (Some s) (Err why) new = ⊥
+-- the same, with what the reply tells; the first argument where nothing was inserted
+abbrev pub does : Answer → Command → Effect State
+does none command s n new = (reply : Reply) × Obeys s command reply new × (n ≡ told none reply)
 
-abbrev pub number_of : Result Reply ℕ → ℕ
-number_of (Ok reply) = reply_number reply
-number_of (Err why) = why
+abbrev pub asks : Command → Effect State
+asks = does NoRoom
 
--- the same, where the answer's number says everything
-abbrev pub Called : Result Command ℕ → Option State → ℕ → Option State → Type 0
-Called asked old n new = (answer : Result Reply ℕ) × Replies asked old answer new × (n ≡ number_of answer)
+abbrev pub inserts : ℕ → ℕ → Effect State
+inserts c n = of_named (char_of c) (λ x. of_named (count_of n) (λ k. asks (Insert x k)))
 
--- a command of what a number names, if it names something
-abbrev pub named : {A : Type 0} → (A → Command) → Option A → Result Command ℕ
-named make None = Err no_such_number
-named make (Some x) = Ok (make x)
+abbrev pub indents : CMovement → ℕ → ℕ → Effect State
+indents movement amount indentation =
+    of_named (movement_of movement) (λ m. of_named (dedents_of indentation) (λ dedent. asks (Indent m amount dedent)))
 
--- the same for what two numbers name
-abbrev pub both_named : {A B : Type 0} → (A → B → Command) → Option A → Option B → Result Command ℕ
-both_named make None b = Err no_such_number
-both_named make (Some x) b = named (make x) b
+-- the same of a command with a text
+abbrev pub does_with : Answer → List ℕ → (String Global → Command) → Effect State
+does_with none bytes make s n new = (reply : Reply) × (left : State) × StepWith bytes make s reply left × (new ≡ within_bound left) × (n ≡ told none reply)
 
--- bytes of C as a text of a command, or what is wrong with them; a copy of one byte or more may find no memory
-abbrev pub IsTextOf : List ℕ → Result (String Global) ℕ → Type 0
-IsTextOf bytes (Ok text) = IsUtf8 bytes × (string_bytes text ≡ bytes)
-IsTextOf bytes (Err n) = ((¬ (IsUtf8 bytes)) × (n ≡ not_utf8)) ⊎ (IsUtf8 bytes × (0 < length bytes) × (n ≡ no_memory))
+abbrev pub asks_with : List ℕ → (String Global → Command) → Effect State
+asks_with bytes make = of_text bytes (does_with NoRoom bytes make)
 
-abbrev pub with_text : (String Global → Command) → Result (String Global) ℕ → Result Command ℕ
-with_text make (Ok text) = Ok (make text)
-with_text make (Err n) = Err n
+-- what is answered where an insertion of a text inserted nothing: it is empty, or there is no room for it
+abbrev pub room_for : List ℕ → Answer
+room_for text = if length text == 0 then Nothing else NoRoom
 
--- a command with a text
-abbrev pub CalledWith : List ℕ → (String Global → Command) → Option State → ℕ → Option State → Type 0
-CalledWith bytes make old n new = (text : Result (String Global) ℕ) × IsTextOf bytes text × Called (with_text make text) old n new
+abbrev pub pastes : List ℕ → ℕ → Effect State
+pastes text n = of_named (count_of n) (λ k. of_text text (does_with (room_for text) text (λ t. Paste t k)))
+
+abbrev pub puts_in : ℕ → List ℕ → Effect State
+puts_in place text = of_text text (λ s n new.
+    (reply : Reply) × (left : State) × StepWith text (λ t. InsertStr place t) s reply left × (new ≡ within_bound left) × (n ≡ told_place reply))
+
+-- the ring's current text is yanked, if it has one
+abbrev pub lent_room : Option (List ℕ) → Answer
+lent_room None = Nothing
+lent_room (Some text) = room_for text
+
+abbrev pub yanks : ℕ → Effect State
+yanks n s = does (lent_room (yank s.pair.ring)) (Yank n) s
+
+-- so many bytes find room in the place of as many before the cursor; none always do
+abbrev pub HasRoomFor : Line → ℕ → ℕ → Type 0
+HasRoomFor line size bytes =
+    let whole = length line.text - size + bytes in
+    (bytes ≡ 0) ⊎ ((whole < 2 ^ 64) × (too_long line whole ≡ false))
+
+-- the text that a yank-pop puts in does, unless what was yanked does not stand there
+abbrev pub PopHasRoom : Option ℕ → Option ℕ → Line → Type 0
+PopHasRoom (Some size) (Some bytes) line = (¬ (CanYankPop line size)) ⊎ HasRoomFor line size bytes
+PopHasRoom _ _ line = Unit {0}
+
+-- how many bytes the text has that a yank-pop puts in
+abbrev pub popped_length : Ring → Option ℕ
+popped_length r = option_map (λ (found : ℕ × List ℕ). length found.1) (yank_pop r)
+
+-- a yank-pop: without room nothing changes; if it puts in nothing, it took the yanked text out, if there was one
+abbrev pub pops : Effect State
+pops s =
+    only_where (λ s. PopHasRoom (yank_size s.pair.ring) (popped_length s.pair.ring) s.line) NoRoom (does (truth (is_some (yank_size s.pair.ring))) YankPop) s
+
+abbrev pub deletes_by : CMovement → Effect State
+deletes_by movement = of_named (movement_of movement) (λ m. only_where (λ _. CanDeleteBy m) NoSuchNumber (asks (deletion_of m)))
+
+-- a run of kills ends, as by a motion to where the cursor is, and nothing else changes
+abbrev pub ends_kills : State → State → Type 0
+ends_kills s new = (reply : Reply) × Obeys s (SetPos s.line.cursor) reply new
+
+-- a text is handed out, if there is one, and a run of kills ends; of one that does not fit only the length is told
+abbrev pub hands_out : Option (List ℕ) → EffectOut State (List ℕ × ℕ)
+hands_out None s n new outs outs' = (n ≡ Nothing) × ends_kills s new × (outs' ≡ outs)
+hands_out (Some text) s n new outs outs' =
+    ((length text ≤ length outs.0) × (n ≡ Done) × ends_kills s new × (outs' ≡ (put text outs.0, length text)))
+    ⊎ ((length outs.0 < length text) × (n ≡ TooSmall) × (new ≡ s) × (outs' ≡ (outs.0, length text)))
+
+abbrev pub copies_by : Result Movement Answer → EffectOut State (List ℕ × ℕ)
+copies_by (Err why) s n new outs outs' = leaves why s n new × (outs' ≡ outs)
+copies_by (Ok m) s n new outs outs' = hands_out (copied s.line m) s n new outs outs'
+
+abbrev pub copies : CMovement → EffectOut State (List ℕ × ℕ)
+copies movement = copies_by (movement_of movement)

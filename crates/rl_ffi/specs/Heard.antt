@@ -1,7 +1,7 @@
 -- All that was heard of a line, for who reads it later.
-use Rattle.std.specs.Prelude.{◌≡◌, ℕ, ◌-◌, nat_lt, List, [], ◌∷◌, ◌++◌, drop, take, encode_utf8, Option, Some, None, if◌then◌else◌}
+use Rattle.std.specs.Prelude.{◌≡◌, ℕ, ◌-◌, nat_lt, List, [], ◌∷◌, ◌++◌, drop, take, encode_utf8, Option, if◌then◌else◌}
 use Rattle.rl_base.specs.Event.{Event, InsertChar, InsertStr, Delete, Replace, Start, Stop, Cursors}
-use Rattle.rl_base.specs.Reports.{Noted, noted, on_last, told_cursors}
+use Rattle.rl_base.specs.Reports.{Noted, Whole, noted, oldest, on_last, told_note}
 use Rattle.rl_base.specs.declared.listeners.Direction.TheVariants.{Forward, Backward}
 use Rattle.rl_base.specs.declared.listeners.Refusal.{Refusal}
 use Rattle.rl_base.specs.declared.listeners.Refusal.TheVariants.{NoMemory}
@@ -43,7 +43,7 @@ heard_step h (Replace i s t) = hearing kind.Replaced i s t h
 heard_step h Start = marking kind.KillStarted h
 heard_step h Stop = marking kind.KillStopped h
 heard_step h (Cursors before after) =
-    record h { waiting = on_last (λ n. record { report = told_cursors before after n.report; texts = n.texts }) h.waiting }
+    record h { waiting = on_last (told_note before after) h.waiting }
 
 -- an event is refused where memory is out, and all is as it was
 abbrev pub heard_refused : Heard → Event → Refusal → Heard → Type 0
@@ -51,8 +51,7 @@ heard_refused h event why now = (why ≡ NoMemory) × (now ≡ h)
 
 -- the oldest report that waits
 abbrev pub next_of : List Noted → Option Noted
-next_of [] = None
-next_of (n ∷ ns) = Some n
+next_of ns = oldest (Whole ns)
 
 -- the oldest report waits no more
 abbrev pub past_oldest : Heard → Heard

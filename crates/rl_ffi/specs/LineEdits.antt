@@ -1,33 +1,88 @@
--- What the edits of a line that C holds do: each carries out a plan, of which its listener hears.
-use Rattle.std.specs.Prelude.{◌≡◌, ◌⊎◌, ℕ, Bool, true, false, Option, Some, None}
+-- What the calls do that change a line that C holds. An edit carries out a plan, of which the line's listener hears.
+use Rattle.std.specs.Prelude.{◌≡◌, ◌⊎◌, ℕ, Bool, true, false, List, length}
+use Rattle.std.specs.Str.{IsCharBoundary}
+use Rattle.rl_base.specs.declared.layout.GraphemeClusterMode.{GraphemeClusterMode}
 use Rattle.rl_base.specs.declared.listeners.Refusal.{Refusal}
-use Rattle.rl_line.specs.Kills.{Told}
+use Rattle.rl_line.specs.Edits.{CanInsertStr, CanYankPop, delete_range_plan, insert_plan, insert_str_plan, replace_plan, update_plan, yank_plan, yank_pop_plan}
+use Rattle.rl_line.specs.Indents.{indent_plan}
+use Rattle.rl_line.specs.Kills.{CanDeleteBy, Told, is_by_characters, kill_plan, kill_range_plan}
 use Rattle.rl_line.specs.Line.{Line}
-use Rattle.rl_line.specs.Plan.{Done, Halted, Plan, Takes, refusal_of, unbegun}
+use Rattle.rl_line.specs.LineRanges.{IsRange}
+use Rattle.rl_line.specs.Motions.{Moved, destination}
+use Rattle.rl_line.specs.Plan.{Done as Does, Halted, Plan, Takes, nothing_more, refusal_of, room_by_step, unbegun}
+use Rattle.rl_ffi.specs.Answers.{inserted, placed, truth}
+use Rattle.rl_ffi.specs.Calls.{Effect, becomes, leaves, of_named, of_text, only_where}
+use Rattle.rl_ffi.specs.Commands.{HasRoomFor, room_for}
 use Rattle.rl_ffi.specs.Heard.{Heard, heard_refused, heard_step, readied}
-use Rattle.rl_ffi.specs.HeldLine.{Effect, leaves}
-use Rattle.rl_ffi.specs.Numbers.{done, no_memory, none, truth_number}
-use Rattle.rl_ffi.specs.declared.held_line.HeldLine.{HeldLine}
+use Rattle.rl_ffi.specs.LineReads.{prompted_at}
+use Rattle.rl_ffi.specs.Numbers.{char_of, count_of, dedents_of, direction_of, mode_of, movement_of}
+use Rattle.rl_ffi.specs.declared.answers.Answer.{Answer}
+use Rattle.rl_ffi.specs.declared.answers.Answer.TheVariants.{BadPlace, BadYankSize, Done, NoMemory, NoRoom, NoSuchNumber}
+use Rattle.rl_ffi.specs.declared.held.HeldLine.{HeldLine}
+use Rattle.rl_ffi.specs.declared.shapes.CMovement.{CMovement}
+use Rattle.rl_ffi.specs.declared.shapes.CRange.{CRange}
 
--- the number of the answer of an insertion: was the cursor at the end, if there was room?
-abbrev pub inserted_number : Option Bool → ℕ
-inserted_number None = none
-inserted_number (Some at_end) = truth_number at_end
+-- the line is changed without a step, of which no report tells
+abbrev pub sets : (Line → Line) → Effect HeldLine
+sets change = becomes (λ held. record held { line = change held.line })
 
--- the number of an edit that answers nothing
-abbrev pub done_number : Unit {0} → ℕ
-done_number _ = done
+abbrev pub sets_pos : ℕ → Effect HeldLine
+sets_pos pos held n new =
+    (IsCharBoundary held.line.text pos × sets (λ line. record line { cursor = pos }) held n new) ⊎ ((¬ (IsCharBoundary held.line.text pos)) × leaves BadPlace held n new)
+
+abbrev pub may_grow : Bool → Effect HeldLine
+may_grow can_grow = sets (λ line. record line { grow = can_grow })
+
+-- the cursor goes to where a movement leads, if anywhere
+abbrev pub moves : CMovement → ℕ → ℕ → Effect HeldLine
+moves movement mode prompt = of_named (movement_of movement) (λ m. of_named (mode_of mode) (λ (columns : GraphemeClusterMode) old n new.
+    (answer : Bool) × Moved (destination (prompted_at columns prompt) old.line m) old.line new.line answer × (new.heard ≡ old.heard) × (n ≡ truth answer)))
 
 -- memory was out: the plan was halted after its first steps, or not begun
 abbrev pub CutShort : {A : Type 0} → Takes → Plan A → HeldLine → HeldLine → Type 0
 CutShort takes plan old new =
     ((why : Refusal) × Halted heard_step (refusal_of heard_refused takes) plan old.line new.line old.heard new.heard why) ⊎ (unbegun takes plan × (new ≡ old))
 
--- a plan is carried out, and the number of its answer is answered; or memory is out
-abbrev pub edits : {A : Type 0} → Takes → (Line → Plan A) → (A → ℕ) → Effect
-edits {A} takes plan number old n new =
-    ((answer : A) × Done heard_step (plan old.line) old.line new.line old.heard new.heard answer × (n ≡ number answer))
-    ⊎ (CutShort takes (plan old.line) old new × (n ≡ no_memory))
+-- a plan is carried out, and what it answers is told; or memory is out
+abbrev pub edits : {A : Type 0} → Takes → (Line → Plan A) → (A → Answer) → Effect HeldLine
+edits {A} takes plan tells old n new =
+    ((answer : A) × Does heard_step (plan old.line) old.line new.line old.heard new.heard answer × (n ≡ tells answer))
+    ⊎ (CutShort takes (plan old.line) old new × (n ≡ NoMemory))
+
+abbrev pub is_done : Unit {0} → Answer
+is_done _ = Done
+
+abbrev pub inserts : ℕ → ℕ → Effect HeldLine
+inserts c n = of_named (char_of c) (λ x. of_named (count_of n) (λ k. edits room_by_step (λ line. insert_plan line x k) (inserted NoRoom)))
+
+abbrev pub pastes : List ℕ → ℕ → Effect HeldLine
+pastes text n = of_named (count_of n) (λ k. of_text text (edits room_by_step (λ line. yank_plan line text k) (inserted (room_for text))))
+
+-- a text takes the place of the yanked bytes before the cursor; an empty one only takes them out
+abbrev pub pops : ℕ → List ℕ → Effect HeldLine
+pops size text = of_text text (only_where (λ held. CanYankPop held.line size) BadYankSize
+    (only_where (λ held. HasRoomFor held.line size (length text)) NoRoom (edits room_by_step (λ line. yank_pop_plan line size text) (inserted Done))))
+
+unfoldable pub sets_text : ℕ → List ℕ → Effect HeldLine
+sets_text pos text = of_text text (only_where (λ _. IsCharBoundary text pos) BadPlace (edits room_by_step (λ line. update_plan line text pos) is_done))
+
+unfoldable pub puts_in : ℕ → List ℕ → Effect HeldLine
+puts_in place text =
+    of_text text (only_where (λ held. CanInsertStr held.line place text) BadPlace (edits room_by_step (λ line. insert_str_plan line place text) placed))
+
+-- where the range is one of the text
+abbrev pub in_range : CRange → Effect HeldLine → Effect HeldLine
+in_range r = only_where (λ held. IsRange held.line.text r.from r.to) BadPlace
+
+unfoldable pub replaces : CRange → List ℕ → Effect HeldLine
+replaces r text = of_text text (in_range r (edits room_by_step (λ line. replace_plan line r.from r.to text) is_done))
+
+abbrev pub deletes : CRange → Effect HeldLine
+deletes r = in_range r (edits nothing_more (λ line. delete_range_plan line r.from r.to) is_done)
+
+abbrev pub deletes_by : CMovement → Effect HeldLine
+deletes_by movement =
+    of_named (movement_of movement) (λ m. only_where (λ _. CanDeleteBy m) NoSuchNumber (edits nothing_more (λ line. kill_plan line m) truth))
 
 -- a kill, with room for the reports of its start and its stop; by characters it is told as a deletion, which needs none
 abbrev pub before_kill : Bool → Heard → Heard
@@ -39,8 +94,18 @@ abbrev pub ToldOf : Bool → (Heard → Heard → Type 0) → HeldLine → HeldL
 ToldOf by_characters Heard_of old new = Told heard_step by_characters Heard_of (before_kill by_characters old.heard) new.heard
 
 -- a kill by a plan; or memory is out, for the report of what goes, or before it for those of the start and the stop, and nothing goes
-abbrev pub kills : Bool → (Line → Plan Bool) → Effect
+abbrev pub kills : Bool → (Line → Plan Bool) → Effect HeldLine
 kills by_characters plan old n new =
-    ((answer : Bool) × ToldOf by_characters (λ before now. Done heard_step (plan old.line) old.line new.line before now answer) old new × (n ≡ truth_number answer))
-    ⊎ (((why : Refusal) × ToldOf by_characters (λ before now. Halted heard_step heard_refused (plan old.line) old.line new.line before now why) old new) × (n ≡ no_memory))
-    ⊎ ((by_characters ≡ false) × leaves no_memory old n new)
+    ((answer : Bool) × ToldOf by_characters (λ before now. Does heard_step (plan old.line) old.line new.line before now answer) old new × (n ≡ truth answer))
+    ⊎ (((why : Refusal) × ToldOf by_characters (λ before now. Halted heard_step heard_refused (plan old.line) old.line new.line before now why) old new) × (n ≡ NoMemory))
+    ⊎ ((by_characters ≡ false) × leaves NoMemory old n new)
+
+abbrev pub kills_by : CMovement → Effect HeldLine
+kills_by movement = of_named (movement_of movement) (λ m. kills (is_by_characters m) (λ line. kill_plan line m))
+
+abbrev pub kills_range : CRange → ℕ → Effect HeldLine
+kills_range r direction = of_named (direction_of direction) (λ side. in_range r (kills false (λ line. kill_range_plan line r.from r.to side)))
+
+abbrev pub indents : CMovement → ℕ → ℕ → Effect HeldLine
+indents movement amount indentation =
+    of_named (movement_of movement) (λ m. of_named (dedents_of indentation) (λ dedent. edits room_by_step (λ line. indent_plan line m amount dedent) truth))

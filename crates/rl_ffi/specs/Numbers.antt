@@ -1,89 +1,23 @@
 -- What the numbers of the calls stand for.
-use Rattle.std.specs.Prelude.{ℕ, ◌==◌, ◌||◌, nat_lt, Bool, true, false, Option, Some, None, if◌then◌else◌}
+use Rattle.std.specs.Prelude.{ℕ, ◌==◌, ◌||◌, nat_le, nat_lt, Bool, true, false, Option, Some, None, Result, Ok, Err, if◌then◌else◌}
 use Rattle.std.specs.Int.{is_in_range}
 use Rattle.std.specs.Option.{option_map}
 use Rattle.rl_base.specs.declared.layout.GraphemeClusterMode.{GraphemeClusterMode}
 use Rattle.rl_base.specs.declared.layout.GraphemeClusterMode.TheVariants.{Unicode, WcWidth, NoZwj}
 use Rattle.rl_base.specs.declared.listeners.Direction.{Direction}
 use Rattle.rl_base.specs.declared.listeners.Direction.TheVariants as told
-use Rattle.rl_base.specs.declared.motion.At.{At}
 use Rattle.rl_base.specs.declared.motion.At.TheVariants.{Start, BeforeEnd, AfterEnd}
-use Rattle.rl_base.specs.declared.motion.CharSearch.{CharSearch}
 use Rattle.rl_base.specs.declared.motion.CharSearch.TheVariants.{Forward, ForwardBefore, Backward, BackwardAfter}
 use Rattle.rl_base.specs.declared.motion.Movement.{Movement}
 use Rattle.rl_base.specs.declared.motion.Movement.TheVariants.{WholeLine, BeginningOfLine, EndOfLine, BackwardWord, ForwardWord, ViCharSearch, ViFirstPrint, FirstNonBlank, BackwardChar, ForwardChar, LineUp, LineDown, WholeBuffer, BeginningOfBuffer, EndOfBuffer}
-use Rattle.rl_base.specs.declared.motion.Word.{Word}
 use Rattle.rl_base.specs.declared.motion.Word.TheVariants.{Big, Emacs, Vi}
 use Rattle.rl_base.specs.declared.motion.WordAction.{WordAction}
 use Rattle.rl_base.specs.declared.motion.WordAction.TheVariants.{Capitalize, Lowercase, Uppercase}
 use Rattle.rl_base.specs.declared.reports.ReportKind.{ReportKind}
 use Rattle.rl_base.specs.declared.reports.ReportKind.TheVariants as kind
-use Rattle.rl_base.specs.declared.watch.WatchFault.{WatchFault}
-use Rattle.rl_base.specs.declared.watch.WatchFault.TheVariants as unwatched
-use Rattle.rl_session.specs.declared.session.Fault.{Fault}
-use Rattle.rl_session.specs.declared.session.Fault.TheVariants.{NoMemory, BadPlace, BadYankSize, NotReplaying}
-use Rattle.rl_session.specs.declared.session.Reply.{Reply}
-use Rattle.rl_session.specs.declared.session.Reply.TheVariants.{Done, Answer, Inserted, Text, Mark, At as Stands, Refused}
-
-abbrev pub done : ℕ
-done = 0
-
-abbrev pub yes : ℕ
-yes = 1
-
-abbrev pub no : ℕ
-no = 2
-
-abbrev pub none : ℕ
-none = 3
-
-abbrev pub text_number : ℕ
-text_number = 4
-
-abbrev pub mark_number : ℕ
-mark_number = 5
-
-abbrev pub at_number : ℕ
-at_number = 6
-
-abbrev pub no_memory : ℕ
-no_memory = 11
-
-abbrev pub bad_place : ℕ
-bad_place = 12
-
-abbrev pub bad_yank_size : ℕ
-bad_yank_size = 13
-
-abbrev pub not_replaying : ℕ
-not_replaying = 14
-
-abbrev pub closed : ℕ
-closed = 20
-
-abbrev pub not_utf8 : ℕ
-not_utf8 = 21
-
-abbrev pub no_such_number : ℕ
-no_such_number = 22
-
-abbrev pub too_small : ℕ
-too_small = 23
-
-abbrev pub truth_number : Bool → ℕ
-truth_number true = yes
-truth_number false = no
-
-abbrev pub fault_number : Fault → ℕ
-fault_number NoMemory = no_memory
-fault_number BadPlace = bad_place
-fault_number BadYankSize = bad_yank_size
-fault_number NotReplaying = not_replaying
-
-abbrev pub watch_fault_number : WatchFault → ℕ
-watch_fault_number unwatched.NoMemory = no_memory
-watch_fault_number unwatched.NoRoom = no_such_number
-watch_fault_number unwatched.IsWatched = no
+use Rattle.rl_ffi.specs.declared.answers.Answer.{Answer}
+use Rattle.rl_ffi.specs.declared.answers.Answer.TheVariants.{NoSuchNumber}
+use Rattle.rl_ffi.specs.declared.shapes.CMovement.{CMovement}
 
 abbrev pub kind_number : ReportKind → ℕ
 kind_number kind.CharInserted = 1
@@ -95,79 +29,77 @@ kind_number kind.KillStarted = 6
 kind_number kind.KillStopped = 7
 kind_number kind.Folded = 8
 
-abbrev pub reply_number : Reply → ℕ
-reply_number Done = done
-reply_number (Answer a) = truth_number a
-reply_number (Inserted (Some a)) = truth_number a
-reply_number (Inserted None) = none
-reply_number (Text (Some t)) = text_number
-reply_number (Text None) = none
-reply_number (Mark n) = mark_number
-reply_number (Stands line column) = at_number
-reply_number (Refused fault) = fault_number fault
+-- what a number names, if it names something
+abbrev pub named : {A : Type 0} → Option A → Result A Answer
+named None = Err NoSuchNumber
+named (Some x) = Ok x
+
+-- a count, which has 16 bits
+abbrev pub is_count : ℕ → Bool
+is_count n = nat_le n 65535
+
+abbrev pub count_of : ℕ → Result ℕ Answer
+count_of n = if is_count n then Ok n else Err NoSuchNumber
 
 -- a character's number: a Unicode scalar value
-abbrev pub char_of : ℕ → Option ℕ
-char_of c = if nat_lt c 0xD800 || is_in_range 0xE000 0x10_FFFF c then Some c else None
+abbrev pub scalar : ℕ → Option ℕ
+scalar c = if nat_lt c 0xD800 || is_in_range 0xE000 0x10_FFFF c then Some c else None
 
-abbrev pub word_of : ℕ → Option Word
-word_of k = if k == 0 then Some Big else if k == 1 then Some Emacs else if k == 2 then Some Vi else None
+abbrev pub char_of : ℕ → Result ℕ Answer
+char_of c = named (scalar c)
 
-abbrev pub at_of : ℕ → Option At
-at_of k = if k == 0 then Some Start else if k == 1 then Some BeforeEnd else if k == 2 then Some AfterEnd else None
+abbrev pub case_of : ℕ → Result WordAction Answer
+case_of k = if k == 60 then Ok Capitalize else if k == 61 then Ok Lowercase else if k == 62 then Ok Uppercase else Err NoSuchNumber
 
-abbrev pub action_of : ℕ → Option WordAction
-action_of k = if k == 0 then Some Capitalize else if k == 1 then Some Lowercase else if k == 2 then Some Uppercase else None
+abbrev pub mode_number : GraphemeClusterMode → ℕ
+mode_number Unicode = 10
+mode_number WcWidth = 11
+mode_number NoZwj = 12
 
-abbrev pub mode_of : ℕ → Option GraphemeClusterMode
-mode_of k = if k == 0 then Some Unicode else if k == 1 then Some WcWidth else if k == 2 then Some NoZwj else None
+abbrev pub mode_of : ℕ → Result GraphemeClusterMode Answer
+mode_of k = if k == 10 then Ok Unicode else if k == 11 then Ok WcWidth else if k == 12 then Ok NoZwj else Err NoSuchNumber
 
 -- whether the direction of an indent means dedent
-abbrev pub dedents_of : ℕ → Option Bool
-dedents_of k = if k == 0 then Some false else if k == 1 then Some true else None
+abbrev pub dedents_of : ℕ → Result Bool Answer
+dedents_of k = if k == 70 then Ok false else if k == 71 then Ok true else Err NoSuchNumber
 
 -- the direction of a kill
-abbrev pub direction_of : ℕ → Option Direction
-direction_of k = if k == 0 then Some told.Forward else if k == 1 then Some told.Backward else None
+abbrev pub direction_of : ℕ → Result Direction Answer
+direction_of k = if k == 50 then Ok told.Forward else if k == 51 then Ok told.Backward else Err NoSuchNumber
 
--- a search, by its number and the number of its character
-abbrev pub search_of : ℕ → ℕ → Option CharSearch
-search_of k c =
-    if k == 0 then option_map Forward (char_of c) else
-    if k == 1 then option_map ForwardBefore (char_of c) else
-    if k == 2 then option_map Backward (char_of c) else
-    if k == 3 then option_map BackwardAfter (char_of c) else
+-- a movement, by the number of its kind, how often it is repeated, and the number of a search's character
+abbrev pub movement_by : ℕ → ℕ → ℕ → Option Movement
+movement_by k n c =
+    if k == 100 then Some WholeLine else
+    if k == 101 then Some BeginningOfLine else
+    if k == 102 then Some EndOfLine else
+    if k == 103 then Some (BackwardWord n Big) else
+    if k == 104 then Some (BackwardWord n Emacs) else
+    if k == 105 then Some (BackwardWord n Vi) else
+    if k == 106 then Some (ForwardWord n Start Big) else
+    if k == 107 then Some (ForwardWord n BeforeEnd Big) else
+    if k == 108 then Some (ForwardWord n AfterEnd Big) else
+    if k == 109 then Some (ForwardWord n Start Emacs) else
+    if k == 110 then Some (ForwardWord n BeforeEnd Emacs) else
+    if k == 111 then Some (ForwardWord n AfterEnd Emacs) else
+    if k == 112 then Some (ForwardWord n Start Vi) else
+    if k == 113 then Some (ForwardWord n BeforeEnd Vi) else
+    if k == 114 then Some (ForwardWord n AfterEnd Vi) else
+    if k == 115 then option_map (λ x. ViCharSearch n (Forward x)) (scalar c) else
+    if k == 116 then option_map (λ x. ViCharSearch n (ForwardBefore x)) (scalar c) else
+    if k == 117 then option_map (λ x. ViCharSearch n (Backward x)) (scalar c) else
+    if k == 118 then option_map (λ x. ViCharSearch n (BackwardAfter x)) (scalar c) else
+    if k == 119 then Some ViFirstPrint else
+    if k == 120 then Some (BackwardChar n) else
+    if k == 121 then Some (ForwardChar n) else
+    if k == 122 then Some (LineUp n) else
+    if k == 123 then Some (LineDown n) else
+    if k == 124 then Some WholeBuffer else
+    if k == 125 then Some BeginningOfBuffer else
+    if k == 126 then Some EndOfBuffer else
+    if k == 127 then Some FirstNonBlank else
     None
 
--- a movement, by its number, how often it is repeated, and the number of a search's character
-abbrev pub movement_of : ℕ → ℕ → ℕ → Option Movement
-movement_of k n c =
-    if k == 0 then Some WholeLine else
-    if k == 1 then Some BeginningOfLine else
-    if k == 2 then Some EndOfLine else
-    if k == 3 then Some (BackwardWord n Big) else
-    if k == 4 then Some (BackwardWord n Emacs) else
-    if k == 5 then Some (BackwardWord n Vi) else
-    if k == 6 then Some (ForwardWord n Start Big) else
-    if k == 7 then Some (ForwardWord n BeforeEnd Big) else
-    if k == 8 then Some (ForwardWord n AfterEnd Big) else
-    if k == 9 then Some (ForwardWord n Start Emacs) else
-    if k == 10 then Some (ForwardWord n BeforeEnd Emacs) else
-    if k == 11 then Some (ForwardWord n AfterEnd Emacs) else
-    if k == 12 then Some (ForwardWord n Start Vi) else
-    if k == 13 then Some (ForwardWord n BeforeEnd Vi) else
-    if k == 14 then Some (ForwardWord n AfterEnd Vi) else
-    if k == 15 then option_map (ViCharSearch n) (search_of 0 c) else
-    if k == 16 then option_map (ViCharSearch n) (search_of 1 c) else
-    if k == 17 then option_map (ViCharSearch n) (search_of 2 c) else
-    if k == 18 then option_map (ViCharSearch n) (search_of 3 c) else
-    if k == 19 then Some ViFirstPrint else
-    if k == 20 then Some (BackwardChar n) else
-    if k == 21 then Some (ForwardChar n) else
-    if k == 22 then Some (LineUp n) else
-    if k == 23 then Some (LineDown n) else
-    if k == 24 then Some WholeBuffer else
-    if k == 25 then Some BeginningOfBuffer else
-    if k == 26 then Some EndOfBuffer else
-    if k == 27 then Some FirstNonBlank else
-    None
+-- a movement of C
+abbrev pub movement_of : CMovement → Result Movement Answer
+movement_of m = if is_count m.n then named (movement_by m.kind m.n m.c) else Err NoSuchNumber

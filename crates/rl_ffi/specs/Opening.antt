@@ -1,29 +1,58 @@
--- What opening a session does, and beginning anew in it.
-use Rattle.std.specs.Prelude.{◌≡◌, ◌⊎◌, ℕ, List, Option, Some, None}
-use Rattle.std.specs.Str.{IsCharBoundary, IsUtf8}
+-- What opening a session, a line, a record and a ring does, choosing a session's options, and beginning anew in it.
+use Rattle.std.specs.Prelude.{◌≡◌, ◌⊎◌, ℕ, Bool, List, length, max, Option, Some}
 use Rattle.rl_base.specs.declared.layout.GraphemeClusterMode.{GraphemeClusterMode}
-use Rattle.rl_session.specs.State.{RefusesRestart, State, fresh, restarted}
-use Rattle.rl_session.specs.declared.session.Fault.{Fault}
-use Rattle.rl_ffi.specs.Numbers.{bad_place, closed, done, fault_number, no_memory, no_such_number, not_utf8}
+use Rattle.rl_line.specs.Line.{NeedsRoom}
+use Rattle.rl_session.specs.Forgetting.{bounded_by, within_bound}
+use Rattle.rl_session.specs.State.{State, fresh, limited, prompted, restarted, with_mode}
+use Rattle.rl_ffi.specs.Calls.{Effect, leaves, of_named, of_text, only_where}
+use Rattle.rl_ffi.specs.Heard.{nothing_heard}
+use Rattle.rl_ffi.specs.Numbers.{mode_number, mode_of}
+use Rattle.rl_ffi.specs.declared.answers.Answer.TheVariants.{Done, NoMemory, NoSuchNumber}
+use Rattle.rl_ffi.specs.declared.held.Held.{Held}
+use Rattle.rl_ffi.specs.declared.held.Held.TheVariants as holds
+use Rattle.rl_ffi.specs.declared.held.HeldLine.{HeldLine}
+use Rattle.rl_ffi.specs.declared.shapes.COptions.{COptions}
 
--- why no session was opened
-abbrev pub CannotOpen : List ℕ → ℕ → ℕ → Type 0
-CannotOpen text pos n =
-    ((¬ (IsUtf8 text)) × (n ≡ not_utf8)) ⊎ (IsUtf8 text × (¬ (IsCharBoundary text pos)) × (n ≡ bad_place)) ⊎ (IsUtf8 text × IsCharBoundary text pos × (n ≡ no_memory))
+-- what is opened takes the place of what the handle held, or memory is out
+abbrev pub Opens : Held → Effect (Option Held)
+Opens fresh old n new = ((n ≡ Done) × (new ≡ Some fresh)) ⊎ ((n ≡ NoMemory) × (new ≡ old))
 
--- how opening a session may end: there is a fresh one, or the old one is left
-abbrev pub OpensAs : Option GraphemeClusterMode → List ℕ → ℕ → ℕ → ℕ → Option State → ℕ → Option State → Type 0
-OpensAs None text pos limit ring_size old n new = (n ≡ no_such_number) × (new ≡ old)
-OpensAs (Some mode) text pos limit ring_size old n new =
-    (IsUtf8 text × IsCharBoundary text pos × (n ≡ done) × (new ≡ Some (fresh text pos limit ring_size mode))) ⊎ (CannotOpen text pos n × (new ≡ old))
+-- a session with other options; its ring keeps its size
+abbrev pub chosen : GraphemeClusterMode → COptions → State → State
+chosen mode o s = within_bound (bounded_by (record { entries = o.max_entries; bytes = o.max_bytes }) (limited o.limit (prompted o.prompt (with_mode mode s))))
 
--- a session begins anew, or the number says why it does not
-abbrev pub Restarts : List ℕ → ℕ → State → ℕ → State → Type 0
-Restarts text pos s n t =
-    (IsUtf8 text × IsCharBoundary text pos × (n ≡ done) × (t ≡ restarted text pos s))
-    ⊎ ((¬ (IsUtf8 text)) × (n ≡ not_utf8) × (t ≡ s))
-    ⊎ (IsUtf8 text × (fault : Fault) × RefusesRestart fault text pos s × (n ≡ fault_number fault) × (t ≡ s))
+-- a session on a text, with the cursor at its end, and its options
+abbrev pub OpensSession : COptions → List ℕ → Effect (Option Held)
+OpensSession o text =
+    of_named (mode_of o.mode) (λ mode. of_text text (Opens (holds.Session (chosen mode o (fresh text (length text) o.limit o.ring_size mode)))))
 
-abbrev pub RestartCalled : List ℕ → ℕ → Option State → ℕ → Option State → Type 0
-RestartCalled text pos None n new = (n ≡ closed) × (new ≡ None)
-RestartCalled text pos (Some s) n new = (t : State) × Restarts text pos s n t × (new ≡ Some t)
+-- a line of a text, with the cursor at its end, of which nothing was heard
+abbrev pub fresh_line : List ℕ → ℕ → Bool → HeldLine
+fresh_line text limit can_grow =
+    record { line = record { text = text; cursor = length text; limit = max limit (length text); grow = can_grow }; heard = nothing_heard }
+
+abbrev pub OpensLine : ℕ → Bool → List ℕ → Effect (Option Held)
+OpensLine limit can_grow text = of_text text (Opens (holds.Line (fresh_line text limit can_grow)))
+
+-- the options are chosen; the size of the ring is none of them
+abbrev pub sets_options : COptions → Effect State
+sets_options o =
+    of_named (mode_of o.mode) (λ mode. only_where (λ s. o.ring_size ≡ s.pair.ring.size) NoSuchNumber (λ s n new. (n ≡ Done) × (new ≡ chosen mode o s)))
+
+-- the options of a session as C gets them
+abbrev pub options_shape : ℕ → State → COptions
+options_shape size s =
+    record {
+      size = size;
+      mode = mode_number s.options.mode;
+      prompt = s.options.prompt;
+      limit = s.line.limit;
+      ring_size = s.pair.ring.size;
+      max_entries = s.options.bound.entries;
+      max_bytes = s.options.bound.bytes;
+    }
+
+-- a session begins anew, or memory is out, which only a text needs that needs more room
+abbrev pub restarts : List ℕ → Effect State
+restarts text = of_text text (λ s n new.
+    ((n ≡ Done) × (new ≡ restarted text (length text) s)) ⊎ (NeedsRoom s.line.text text × leaves NoMemory s n new))

@@ -1,125 +1,133 @@
 //! The calls that tell what changed in a session's text.
 ghost use Rattle.std.specs.Prelude.{◌≡◌};
-ghost use Rattle.std.specs.Option.{option_map};
-ghost use Rattle.rl_base.specs.Reports.{Noted};
-ghost use Rattle.rl_base.specs.Splice.{told};
-ghost use Rattle.rl_base.specs.Watch.{next_note};
-ghost use Rattle.rl_ffi.specs.Changes.{ChangedCalled, NextCalled, SpliceIn, TakesNext, WatchCalled, Watches};
+ghost use Rattle.std.specs.Option.{option_map_or};
+ghost use Rattle.rl_base.specs.Watch.{next_note, waiting_count};
+ghost use Rattle.rl_session.specs.State.{State};
+ghost use Rattle.rl_ffi.specs.Answers.{merged};
+ghost use Rattle.rl_ffi.specs.Calls.{Tells, Through, ThroughOut, becomes};
+ghost use Rattle.rl_ffi.specs.Changes.{Forgets, TakesChange, TellsNote, TellsReport, Watches, unwatched};
+ghost use Rattle.rl_ffi.specs.Held.{a_session, session_of};
 
-use crate::buffers::put;
-use crate::handle::{Handle, of_session};
-use crate::numbers::{CLOSED, DONE, NONE, TOO_SMALL, kind_number, watch_fault_number};
-use rl_base::{Report, Splice};
+use crate::answers::{Answer, Outcome, merged, of_watch_fault, truth};
+use crate::handle::{Handle, of};
+use crate::held::Held;
+use crate::numbers::kind_number;
+use crate::shapes::{CReport, CSplice};
+use crate::view::View;
+use rl_base::Report;
 use rl_session::Session;
 use std::alloc::Global;
 
-// Writes a splice, if there is one.
-fn splice_in(
-    splice: Option<Splice>,
-    from: &mut usize,
-    old_end: &mut usize,
-    new_end: &mut usize,
-) -> u32
-    ensures { SpliceIn splice result (from.old, old_end.old, new_end.old) (from.new, old_end.new, new_end.new) }
+fn take_change(session: &mut Session, splice: &mut CSplice) -> Outcome
+    ensures { TakesChange session.old (merged result) session.new splice.old splice.new }
 {
-    match splice {
-        Some(splice) => {
-            *from = splice.from;
-            *old_end = splice.old_end;
-            *new_end = splice.new_end;
-            DONE
+    match session.changed() {
+        Some(found) => {
+            *splice = CSplice {
+                from: found.from,
+                old_to: found.old_end,
+                new_to: found.new_end,
+            };
+            Ok(Answer::Done)
         }
-        None => NONE,
+        None => Ok(Answer::Nothing),
     }
 }
 
-/// What changed in the text since this was asked last, or since the session was opened: DONE, with three byte places
-/// written. What stood from `from` to `old_end` in the text as it was then gave way to what stands from `from` to
-/// `new_end` now. NONE, where nothing changed, and CLOSED leave the three as they were.
+/// `lodvarn_take_change`.
 #[unsafe(no_mangle)]
-pub extern "C" fn lodvarn_changed(
-    alloc: Global,
-    s: &mut Handle,
-    from: &mut usize,
-    old_end: &mut usize,
-    new_end: &mut usize,
-) -> u32
-    ensures { ChangedCalled s.old.value result s.new.value (from.old, old_end.old, new_end.old) (from.new, old_end.new, new_end.new) }
+pub extern "C" fn lodvarn_take_change(alloc: Global, s: &mut Handle, splice: &mut CSplice) -> i32
+    ensures { ThroughOut a_session TakesChange s.old.value result s.new.value splice.old splice.new }
 {
-    of_session!(s, alloc, session => splice_in(session.changed(), from, old_end, new_end), CLOSED)
+    of!(s, alloc, Held::Session(session) => take_change(session, splice))
 }
 
-fn watch(session: &mut Session, reports: usize, text_bytes: usize) -> u32
-    ensures { Watches reports text_bytes session.old result session.new }
+fn watch(session: &mut Session, reports: usize, text_bytes: usize) -> Outcome
+    ensures { Watches reports text_bytes session.old (merged result) session.new }
 {
     match session.watch(reports, text_bytes) {
-        Ok(()) => DONE,
-        Err(fault) => watch_fault_number(fault),
+        Ok(()) => Ok(Answer::Done),
+        Err(fault) => Err(of_watch_fault(fault)),
     }
 }
 
-/// Keeps a report of each change from now on, in a queue with room for `reports` of them and `text_bytes` bytes of their
-/// texts, all found here: DONE. Without texts at most one report waits: a change that comes before it was read is folded
-/// into it. FALSE where there is a queue already, NO_SUCH_NUMBER for one of no reports, NO_MEMORY and CLOSED change
-/// nothing.
+/// `lodvarn_watch`.
 #[unsafe(no_mangle)]
 pub extern "C" fn lodvarn_watch(
     alloc: Global,
     s: &mut Handle,
     reports: usize,
     text_bytes: usize,
-) -> u32
-    ensures { WatchCalled reports text_bytes s.old.value result s.new.value }
+) -> i32
+    ensures { Through a_session (Watches reports text_bytes) s.old.value result s.new.value }
 {
-    of_session!(s, alloc, session => watch(&mut session, reports, text_bytes), CLOSED)
+    of!(s, alloc, Held::Session(session) => watch(session, reports, text_bytes))
 }
 
-// Hands out the next report, and writes its texts out where they fit. One whose texts do not fit stays the next.
-fn take_next(session: &mut Session, out: &mut [u8]) -> (u32, Option<Report>)
-    ensures taken { TakesNext (next_note session.old.pair.watch) session.old result.0 session.new out.old out.new }
-    ensures report { result.1 ≡ option_map (λ (note : Noted). note.report) (next_note session.old.pair.watch) }
-{
-    let Some(report) = session.next_report() else {
-        return (NONE, None);
-    };
-    let texts = session.next_texts();
-    if texts.len() > out.len() {
-        return (TOO_SMALL, Some(report));
-    }
-    put(texts.as_bytes(), out);
-    session.forget_report();
-    (DONE, Some(report))
-}
-
-/// The oldest report that waits, which is forgotten then: DONE, with its kind, its byte place, how many bytes went and
-/// how many came, and the cursor's byte places before and after (0 where it has none) written, and its texts in `out`:
-/// what went, and right after it what came. TOO_SMALL writes the numbers and keeps the report. NONE, where none waits,
-/// and CLOSED write nothing.
+/// `lodvarn_unwatch`.
 #[unsafe(no_mangle)]
-pub extern "C" fn lodvarn_next_report(
-    alloc: Global,
-    s: &mut Handle,
-    kind: &mut u32,
-    at: &mut usize,
-    old_len: &mut usize,
-    new_len: &mut usize,
-    pos_before: &mut usize,
-    pos_after: &mut usize,
-    out: &mut [u8],
-) -> u32
-    ensures { NextCalled s.old.value result s.new.value ((kind.old, at.old, old_len.old, new_len.old, pos_before.old, pos_after.old), out.old)
-        ((kind.new, at.new, old_len.new, new_len.new, pos_before.new, pos_after.new), out.new) }
+pub extern "C" fn lodvarn_unwatch(alloc: Global, s: &mut Handle) -> i32
+    ensures { Through a_session (becomes unwatched) s.old.value result s.new.value }
 {
-    let (answer, next) =
-        of_session!(s, alloc, session => take_next(&mut session, out), (CLOSED, None));
-    if let Some(report) = next {
-        let (before, after) = report.cursors.unwrap_or((0, 0));
-        *kind = kind_number(report.kind);
-        *at = report.at;
-        *old_len = report.old_len;
-        *new_len = report.new_len;
-        *pos_before = before;
-        *pos_after = after;
-    }
-    answer
+    of!(s, alloc, Held::Session(session) => {
+        session.unwatch();
+        Ok(Answer::Done)
+    })
+}
+
+/// `lodvarn_count_reports`.
+#[unsafe(no_mangle)]
+pub extern "C" fn lodvarn_count_reports(alloc: Global, s: &mut Handle) -> usize
+    ensures value { result ≡ option_map_or (λ (s : State). waiting_count s.pair.watch) (session_of s.old.value) 0 }
+    ensures kept { s.new.value ≡ s.old.value }
+{
+    of!(s, alloc, Held::Session(session) => session.waiting_reports(), 0)
+}
+
+// Writes a report with its texts, which stand one after the other.
+pub(crate) fn write_report(found: Option<Report>, texts: &str, report: &mut CReport) -> Outcome
+    ensures { TellsReport found texts.now (merged result) report.old report.new }
+{
+    let Some(found) = found else {
+        return Ok(Answer::Nothing);
+    };
+    let (pos_before, pos_after) = found.cursors.unwrap_or((0, 0));
+    let bytes = texts.as_bytes();
+    let went = found.old_len.min(bytes.len());
+    *report = CReport {
+        kind: kind_number(found.kind),
+        at: found.at,
+        old_len: found.old_len,
+        new_len: found.new_len,
+        pos_before,
+        pos_after,
+        old_text: View::of(&bytes[..went]),
+        new_text: View::of(&bytes[went..]),
+    };
+    Ok(Answer::Done)
+}
+
+/// `lodvarn_next_report`.
+#[unsafe(no_mangle)]
+pub extern "C" fn lodvarn_next_report(alloc: Global, s: &mut Handle, report: &mut CReport) -> i32
+    ensures value { Tells a_session (λ (s : State). TellsNote (next_note s.pair.watch)) s.old.value result report.old report.new }
+    ensures kept { s.new.value ≡ s.old.value }
+{
+    of!(s, alloc, Held::Session(session) => write_report(session.next_report(), session.next_texts(), report))
+}
+
+fn forget(session: &mut Session) -> Outcome
+    ensures { Forgets session.old (merged result) session.new }
+{
+    let waits = session.next_report().is_some();
+    session.forget_report();
+    Ok(truth(waits))
+}
+
+/// `lodvarn_forget_report`.
+#[unsafe(no_mangle)]
+pub extern "C" fn lodvarn_forget_report(alloc: Global, s: &mut Handle) -> i32
+    ensures { Through a_session Forgets s.old.value result s.new.value }
+{
+    of!(s, alloc, Held::Session(session) => forget(session))
 }

@@ -1,18 +1,28 @@
-//! The calls that ask a session for a command, and answer the number of its reply.
-ghost use Rattle.std.specs.Prelude.{◌≡◌, Ok};
+//! The calls that ask a session for a command.
+ghost use Rattle.std.specs.Prelude.{◌≡◌, true, false};
+ghost use Rattle.rl_base.specs.KillRing.{yank, yank_size};
+ghost use Rattle.rl_line.specs.Kills.{copied};
 ghost use Rattle.rl_session.specs.Commands.{Step};
 ghost use Rattle.rl_session.specs.Options.{no_bound};
 ghost use Rattle.rl_session.specs.State.{State};
 ghost use Rattle.rl_session.specs.declared.session.Command.{Command};
 ghost use Rattle.rl_session.specs.declared.session.Reply.{Reply};
-ghost use Rattle.rl_ffi.specs.Numbers.{action_of, at_of, char_of, dedents_of, direction_of, movement_of, search_of, word_of};
-ghost use Rattle.rl_ffi.specs.Commands.{Called, CalledWith, IsTextOf, Replies, both_named, named, number_of, Obeys};
+ghost use Rattle.rl_ffi.specs.Answers.{merged};
+ghost use Rattle.rl_ffi.specs.Calls.{Through, ThroughOut, of_named};
+ghost use Rattle.rl_ffi.specs.Commands.{HasRoomFor, Obeys, PopHasRoom, asks, asks_with, copies, deletes_by, ends_kills, hands_out, indents, inserts, lent_room, pastes, popped_length, pops, puts_in, room_for, yanks};
+ghost use Rattle.rl_ffi.specs.Held.{a_session};
+ghost use Rattle.rl_ffi.specs.declared.answers.Answer.TheVariants.{Done};
+ghost use Rattle.rl_ffi.specs.Numbers.{case_of, count_of, direction_of, movement_of};
 
-use crate::handle::{Handle, of_session};
-use crate::numbers::{
-    CLOSED, NO_MEMORY, NO_SUCH_NUMBER, NOT_UTF8, action_of, at_of, char_of, dedents_of,
-    direction_of, movement_of, reply_number, search_of, word_of,
-};
+use crate::answers::{Answer, Outcome, inserted, merged, told, told_place, truth};
+use crate::buffers::put;
+use crate::handle::{Handle, of};
+use crate::held::Held;
+use crate::numbers::{case_of, char_of, count_of, dedents_of, direction_of, movement_of};
+use crate::shapes::{CMovement, CRange};
+use crate::texts::text_of;
+use rl_base::{KillRing, Movement};
+use rl_line::{LineBuffer, can_delete_by};
 use rl_session::{Command, Reply, Session};
 use std::alloc::Global;
 
@@ -33,398 +43,496 @@ pub fn calls_are_rows()
     ensures { (old new : State) (command : Command) (reply : Reply) → old.options.bound ≡ no_bound → Obeys old command reply new → Step old command reply new }
 {}
 
-// Asks the session for the command, unless a number says why there is none.
 #[inline(always)]
-pub(crate) fn ask(
-    alloc: Global,
-    s: &mut Handle,
-    command: Result<Command, u32>,
-) -> Result<Reply, u32>
-    ensures { Replies command s.old.value result s.new.value }
+fn ask(session: &mut Session, command: &Command) -> Outcome
+    ensures { asks command.now session.old (merged result) session.new }
 {
-    of_session!(s, alloc, session => match command {
-        Ok(command) => Ok(obey(&mut session, &command)),
-        Err(number) => Err(number),
-    }, Err(CLOSED))
+    Ok(told(Answer::NoRoom, &obey(session, command)))
+}
+
+/// `lodvarn_set_pos`.
+#[unsafe(no_mangle)]
+pub extern "C" fn lodvarn_set_pos(alloc: Global, s: &mut Handle, pos: usize) -> i32
+    ensures { Through a_session (asks (Command.SetPos pos)) s.old.value result s.new.value }
+{
+    of!(s, alloc, Held::Session(session) => ask(session, &Command::SetPos(pos)))
+}
+
+fn move_by(session: &mut Session, movement: CMovement) -> Outcome
+    ensures { of_named (movement_of movement) (λ m. asks (Command.Move m)) session.old (merged result) session.new }
+{
+    ask(session, &Command::Move(movement_of(movement)?))
+}
+
+/// `lodvarn_move`.
+#[unsafe(no_mangle)]
+pub extern "C" fn lodvarn_move(alloc: Global, s: &mut Handle, movement: CMovement) -> i32
+    ensures { Through a_session (of_named (movement_of movement) (λ m. asks (Command.Move m))) s.old.value result s.new.value }
+{
+    of!(s, alloc, Held::Session(session) => move_by(session, movement))
 }
 
 #[inline(always)]
-pub(crate) fn number_of(answer: &Result<Reply, u32>) -> u32
-    ensures { result ≡ number_of answer.now }
+fn insert(session: &mut Session, c: u32, n: usize) -> Outcome
+    ensures { inserts c n session.old (merged result) session.new }
 {
-    match answer {
-        Ok(reply) => reply_number(reply),
-        Err(number) => *number,
+    let c = char_of(c)?;
+    let n = count_of(n)?;
+    let reply = session.insert(c, n);
+    session.forget();
+    match reply {
+        Reply::Inserted(at_end) => Ok(inserted(Answer::NoRoom, at_end)),
+        reply => Ok(told(Answer::NoRoom, &reply)),
     }
 }
 
-// The same, where the answer's number says everything.
-#[inline(always)]
-fn call(alloc: Global, s: &mut Handle, command: Result<Command, u32>) -> u32
-    ensures { Called command s.old.value result s.new.value }
+/// `lodvarn_insert`.
+#[unsafe(no_mangle)]
+pub extern "C" fn lodvarn_insert(alloc: Global, s: &mut Handle, c: u32, n: usize) -> i32
+    ensures { Through a_session (inserts c n) s.old.value result s.new.value }
 {
-    let answer = ask(alloc, s, command);
-    number_of(&answer)
+    of!(s, alloc, Held::Session(session) => insert(session, c, n))
 }
 
-// The bytes of C as the text of a command.
-fn text_of(alloc: Global, bytes: &[u8]) -> Result<String, u32>
-    ensures { IsTextOf bytes.now result }
+fn yank(session: &mut Session, n: usize) -> Outcome
+    ensures { of_named (count_of n) yanks session.old (merged result) session.new }
 {
-    let Ok(text) = std::str::from_utf8(bytes) else {
-        return Err(NOT_UTF8);
-    };
-    // No clause of `from_str` says that a copy of nothing takes no memory.
-    if text.is_empty() {
-        return Ok(String::new(alloc));
+    let n = count_of(n)?;
+    let none = yank_room(session.ring());
+    Ok(told(none, &obey(session, &Command::Yank(n))))
+}
+
+/// `lodvarn_yank`.
+#[unsafe(no_mangle)]
+pub extern "C" fn lodvarn_yank(alloc: Global, s: &mut Handle, n: usize) -> i32
+    ensures { Through a_session (of_named (count_of n) yanks) s.old.value result s.new.value }
+{
+    of!(s, alloc, Held::Session(session) => yank(session, n))
+}
+
+/// `lodvarn_delete_range`.
+#[unsafe(no_mangle)]
+pub extern "C" fn lodvarn_delete_range(alloc: Global, s: &mut Handle, range: CRange) -> i32
+    ensures { Through a_session (asks (Command.DeleteRange range.from range.to)) s.old.value result s.new.value }
+{
+    of!(s, alloc, Held::Session(session) => ask(session, &Command::DeleteRange(range.from, range.to)))
+}
+
+fn delete(session: &mut Session, n: usize) -> Outcome
+    ensures { of_named (count_of n) (λ k. asks (Command.Delete k)) session.old (merged result) session.new }
+{
+    ask(session, &Command::Delete(count_of(n)?))
+}
+
+/// `lodvarn_delete`.
+#[unsafe(no_mangle)]
+pub extern "C" fn lodvarn_delete(alloc: Global, s: &mut Handle, n: usize) -> i32
+    ensures { Through a_session (of_named (count_of n) (λ k. asks (Command.Delete k))) s.old.value result s.new.value }
+{
+    of!(s, alloc, Held::Session(session) => delete(session, n))
+}
+
+fn backspace(session: &mut Session, n: usize) -> Outcome
+    ensures { of_named (count_of n) (λ k. asks (Command.Backspace k)) session.old (merged result) session.new }
+{
+    ask(session, &Command::Backspace(count_of(n)?))
+}
+
+/// `lodvarn_backspace`.
+#[unsafe(no_mangle)]
+pub extern "C" fn lodvarn_backspace(alloc: Global, s: &mut Handle, n: usize) -> i32
+    ensures { Through a_session (of_named (count_of n) (λ k. asks (Command.Backspace k))) s.old.value result s.new.value }
+{
+    of!(s, alloc, Held::Session(session) => backspace(session, n))
+}
+
+#[tactic(auto, unfolding(crate::specs::Calls::only_where))]
+fn delete_by(session: &mut Session, movement: CMovement) -> Outcome
+    ensures { deletes_by movement session.old (merged result) session.new }
+{
+    let movement = movement_of(movement)?;
+    if !can_delete_by(&movement) {
+        return Err(Answer::NoSuchNumber);
     }
-    match String::from_str(alloc, text) {
-        Ok(text) => Ok(text),
-        Err(_) => Err(NO_MEMORY),
-    }
+    let reply = session.delete_by(&movement);
+    session.forget();
+    Ok(told(Answer::NoRoom, &reply))
 }
 
-/// Moves the cursor to a byte place: DONE. BAD_PLACE and CLOSED change nothing.
+/// `lodvarn_delete_by`.
 #[unsafe(no_mangle)]
-pub extern "C" fn lodvarn_set_pos(alloc: Global, s: &mut Handle, pos: usize) -> u32
-    ensures { Called (Ok (Command.SetPos pos)) s.old.value result s.new.value }
+pub extern "C" fn lodvarn_delete_by(alloc: Global, s: &mut Handle, movement: CMovement) -> i32
+    ensures { Through a_session (deletes_by movement) s.old.value result s.new.value }
 {
-    call(alloc, s, Ok(Command::SetPos(pos)))
+    of!(s, alloc, Held::Session(session) => delete_by(session, movement))
 }
 
-/// Moves the cursor by a movement: TRUE or FALSE, whether there was a place to go to. CLOSED and NO_SUCH_NUMBER change
-/// nothing.
+/// `lodvarn_transpose_chars`.
 #[unsafe(no_mangle)]
-pub extern "C" fn lodvarn_move(alloc: Global, s: &mut Handle, movement: u32, n: u16, c: u32) -> u32
-    ensures { Called (named Command.Move (movement_of movement n c)) s.old.value result s.new.value }
+pub extern "C" fn lodvarn_transpose_chars(alloc: Global, s: &mut Handle) -> i32
+    ensures { Through a_session (asks Command.TransposeChars) s.old.value result s.new.value }
 {
-    match movement_of(movement, n, c) {
-        Some(movement) => call(alloc, s, Ok(Command::Move(movement))),
-        None => call(alloc, s, Err(NO_SUCH_NUMBER)),
-    }
+    of!(s, alloc, Held::Session(session) => ask(session, &Command::TransposeChars))
 }
 
-/// Inserts a character n times at the cursor: TRUE or FALSE, whether the cursor was at the end, or NONE where the text
-/// would get longer than the limit. CLOSED, NO_SUCH_NUMBER (of the character) and NO_MEMORY change no text.
+fn transpose_words(session: &mut Session, n: usize) -> Outcome
+    ensures { of_named (count_of n) (λ k. asks (Command.TransposeWords k)) session.old (merged result) session.new }
+{
+    ask(session, &Command::TransposeWords(count_of(n)?))
+}
+
+/// `lodvarn_transpose_words`.
 #[unsafe(no_mangle)]
-pub extern "C" fn lodvarn_insert(alloc: Global, s: &mut Handle, c: u32, n: u16) -> u32
-    ensures { Called (named (λ x. Command.Insert x n) (char_of c)) s.old.value result s.new.value }
+pub extern "C" fn lodvarn_transpose_words(alloc: Global, s: &mut Handle, n: usize) -> i32
+    ensures { Through a_session (of_named (count_of n) (λ k. asks (Command.TransposeWords k))) s.old.value result s.new.value }
 {
-    match char_of(c) {
-        Some(c) => call(alloc, s, Ok(Command::Insert(c, n))),
-        None => call(alloc, s, Err(NO_SUCH_NUMBER)),
-    }
+    of!(s, alloc, Held::Session(session) => transpose_words(session, n))
 }
 
-/// Inserts a text n times at the cursor. Answers as `lodvarn_insert` does, and NONE also for an empty text. CLOSED,
-/// NOT_UTF8 and NO_MEMORY change no text.
+fn change_case(session: &mut Session, to: u32) -> Outcome
+    ensures { of_named (case_of to) (λ action. asks (Command.EditWord action)) session.old (merged result) session.new }
+{
+    ask(session, &Command::EditWord(case_of(to)?))
+}
+
+/// `lodvarn_change_case`.
 #[unsafe(no_mangle)]
-pub extern "C" fn lodvarn_paste(alloc: Global, s: &mut Handle, text: &[u8], n: u16) -> u32
-    ensures { CalledWith text.now (λ t. Command.Paste t n) s.old.value result s.new.value }
+pub extern "C" fn lodvarn_change_case(alloc: Global, s: &mut Handle, to: u32) -> i32
+    ensures { Through a_session (of_named (case_of to) (λ action. asks (Command.EditWord action))) s.old.value result s.new.value }
 {
-    match text_of(alloc, text) {
-        Ok(text) => call(alloc, s, Ok(Command::Paste(text, n))),
-        Err(number) => call(alloc, s, Err(number)),
-    }
+    of!(s, alloc, Held::Session(session) => change_case(session, to))
 }
 
-/// Inserts the ring's current text n times at the cursor. Answers as `lodvarn_insert` does, and NONE also where the
-/// ring has no text. CLOSED and NO_MEMORY change no text.
+fn kill(session: &mut Session, movement: CMovement) -> Outcome
+    ensures { of_named (movement_of movement) (λ m. asks (Command.Kill m)) session.old (merged result) session.new }
+{
+    ask(session, &Command::Kill(movement_of(movement)?))
+}
+
+/// `lodvarn_kill`.
 #[unsafe(no_mangle)]
-pub extern "C" fn lodvarn_yank(alloc: Global, s: &mut Handle, n: u16) -> u32
-    ensures { Called (Ok (Command.Yank n)) s.old.value result s.new.value }
+pub extern "C" fn lodvarn_kill(alloc: Global, s: &mut Handle, movement: CMovement) -> i32
+    ensures { Through a_session (of_named (movement_of movement) (λ m. asks (Command.Kill m))) s.old.value result s.new.value }
 {
-    call(alloc, s, Ok(Command::Yank(n)))
+    of!(s, alloc, Held::Session(session) => kill(session, movement))
 }
 
-/// Replaces the text that was just yanked by the one before it in the ring (GNU readline: yank-pop). Answers as
-/// `lodvarn_insert` does, and NONE where the last command was not a yank: then no text changes. NONE also where the
-/// text before it is empty, or longer than the limit allows: then the yanked text is deleted. BAD_YANK_SIZE and CLOSED
-/// change nothing; NO_MEMORY stops it after the steps that it made.
-#[unsafe(no_mangle)]
-pub extern "C" fn lodvarn_yank_pop(alloc: Global, s: &mut Handle) -> u32
-    ensures { Called (Ok Command.YankPop) s.old.value result s.new.value }
+fn kill_range(session: &mut Session, range: CRange, direction: u32) -> Outcome
+    ensures { of_named (direction_of direction) (λ side. asks (Command.KillRange range.from range.to side)) session.old (merged result) session.new }
 {
-    call(alloc, s, Ok(Command::YankPop))
+    let side = direction_of(direction)?;
+    ask(session, &Command::KillRange(range.from, range.to, side))
 }
 
-/// Replaces the whole text, and puts the cursor at a byte place of the new one: DONE. BAD_PLACE, NOT_UTF8 and CLOSED
-/// change nothing; NO_MEMORY stops it after the steps that it made.
-#[unsafe(no_mangle)]
-pub extern "C" fn lodvarn_update(alloc: Global, s: &mut Handle, text: &[u8], pos: usize) -> u32
-    ensures { CalledWith text.now (λ t. Command.Update t pos) s.old.value result s.new.value }
-{
-    match text_of(alloc, text) {
-        Ok(text) => call(alloc, s, Ok(Command::Update(text, pos))),
-        Err(number) => call(alloc, s, Err(number)),
-    }
-}
-
-/// Inserts a text at a byte place, and does not move the cursor: TRUE or FALSE, whether the place was the end.
-/// BAD_PLACE, NOT_UTF8, NO_MEMORY and CLOSED change no text.
-#[unsafe(no_mangle)]
-pub extern "C" fn lodvarn_insert_str(alloc: Global, s: &mut Handle, at: usize, text: &[u8]) -> u32
-    ensures { CalledWith text.now (λ t. Command.InsertStr at t) s.old.value result s.new.value }
-{
-    match text_of(alloc, text) {
-        Ok(text) => call(alloc, s, Ok(Command::InsertStr(at, text))),
-        Err(number) => call(alloc, s, Err(number)),
-    }
-}
-
-/// Replaces what stands between two byte places by a text: DONE. BAD_PLACE, NOT_UTF8, NO_MEMORY and CLOSED
-/// change no text.
-#[unsafe(no_mangle)]
-pub extern "C" fn lodvarn_replace(
-    alloc: Global,
-    s: &mut Handle,
-    from: usize,
-    to: usize,
-    text: &[u8],
-) -> u32
-    ensures { CalledWith text.now (λ t. Command.Replace from to t) s.old.value result s.new.value }
-{
-    match text_of(alloc, text) {
-        Ok(text) => call(alloc, s, Ok(Command::Replace(from, to, text))),
-        Err(number) => call(alloc, s, Err(number)),
-    }
-}
-
-/// Deletes what stands between two byte places: DONE. BAD_PLACE, NO_MEMORY and CLOSED change no text.
-#[unsafe(no_mangle)]
-pub extern "C" fn lodvarn_delete_range(alloc: Global, s: &mut Handle, from: usize, to: usize) -> u32
-    ensures { Called (Ok (Command.DeleteRange from to)) s.old.value result s.new.value }
-{
-    call(alloc, s, Ok(Command::DeleteRange(from, to)))
-}
-
-/// Deletes n grapheme clusters before the cursor: TRUE or FALSE, whether there was one. NO_MEMORY and CLOSED change no
-/// text.
-#[unsafe(no_mangle)]
-pub extern "C" fn lodvarn_backspace(alloc: Global, s: &mut Handle, n: u16) -> u32
-    ensures { Called (Ok (Command.Backspace n)) s.old.value result s.new.value }
-{
-    call(alloc, s, Ok(Command::Backspace(n)))
-}
-
-/// Deletes from the cursor to the end of its line, or the newline there: TRUE or FALSE, whether there was anything.
-/// NO_MEMORY and CLOSED change no text.
-#[unsafe(no_mangle)]
-pub extern "C" fn lodvarn_delete_to_line_end(alloc: Global, s: &mut Handle) -> u32
-    ensures { Called (Ok Command.KillLine) s.old.value result s.new.value }
-{
-    call(alloc, s, Ok(Command::KillLine))
-}
-
-/// Deletes from the cursor to the end of the text: TRUE or FALSE, whether there was anything. NO_MEMORY and CLOSED
-/// change no text.
-#[unsafe(no_mangle)]
-pub extern "C" fn lodvarn_delete_to_end(alloc: Global, s: &mut Handle) -> u32
-    ensures { Called (Ok Command.KillBuffer) s.old.value result s.new.value }
-{
-    call(alloc, s, Ok(Command::KillBuffer))
-}
-
-/// Deletes from the start of the cursor's line to the cursor, or the cluster before it: TRUE or FALSE, whether there
-/// was anything. NO_MEMORY and CLOSED change no text.
-#[unsafe(no_mangle)]
-pub extern "C" fn lodvarn_discard_line(alloc: Global, s: &mut Handle) -> u32
-    ensures { Called (Ok Command.DiscardLine) s.old.value result s.new.value }
-{
-    call(alloc, s, Ok(Command::DiscardLine))
-}
-
-/// Deletes from the start of the text to the cursor: TRUE or FALSE, whether there was anything. NO_MEMORY and CLOSED
-/// change no text.
-#[unsafe(no_mangle)]
-pub extern "C" fn lodvarn_discard_buffer(alloc: Global, s: &mut Handle) -> u32
-    ensures { Called (Ok Command.DiscardBuffer) s.old.value result s.new.value }
-{
-    call(alloc, s, Ok(Command::DiscardBuffer))
-}
-
-/// Deletes back to the start of the n-th word before the cursor: TRUE or FALSE, whether there was anything. NO_MEMORY,
-/// NO_SUCH_NUMBER and CLOSED change no text.
-#[unsafe(no_mangle)]
-pub extern "C" fn lodvarn_delete_prev_word(alloc: Global, s: &mut Handle, word: u32, n: u16) -> u32
-    ensures { Called (named (λ w. Command.DeletePrevWord w n) (word_of word)) s.old.value result s.new.value }
-{
-    match word_of(word) {
-        Some(word) => call(alloc, s, Ok(Command::DeletePrevWord(word, n))),
-        None => call(alloc, s, Err(NO_SUCH_NUMBER)),
-    }
-}
-
-/// Deletes up to the start or the end of the n-th word ahead: TRUE or FALSE, whether there was anything. NO_MEMORY,
-/// NO_SUCH_NUMBER and CLOSED change no text.
-#[unsafe(no_mangle)]
-pub extern "C" fn lodvarn_delete_word(
-    alloc: Global,
-    s: &mut Handle,
-    at: u32,
-    word: u32,
-    n: u16,
-) -> u32
-    ensures { Called (both_named (λ a w. Command.DeleteWord a w n) (at_of at) (word_of word)) s.old.value result s.new.value }
-{
-    match (at_of(at), word_of(word)) {
-        (Some(at), Some(word)) => call(alloc, s, Ok(Command::DeleteWord(at, word, n))),
-        _ => call(alloc, s, Err(NO_SUCH_NUMBER)),
-    }
-}
-
-/// Deletes to the n-th hit of a search for a character, or to the farthest: TRUE or FALSE, whether there was one.
-/// NO_MEMORY, NO_SUCH_NUMBER and CLOSED change no text.
-#[unsafe(no_mangle)]
-pub extern "C" fn lodvarn_delete_to(
-    alloc: Global,
-    s: &mut Handle,
-    search: u32,
-    c: u32,
-    n: u16,
-) -> u32
-    ensures { Called (named (λ x. Command.DeleteTo x n) (search_of search c)) s.old.value result s.new.value }
-{
-    match search_of(search, c) {
-        Some(search) => call(alloc, s, Ok(Command::DeleteTo(search, n))),
-        None => call(alloc, s, Err(NO_SUCH_NUMBER)),
-    }
-}
-
-/// Exchanges the clusters at the cursor: TRUE or FALSE, whether there were two. CLOSED changes nothing; NO_MEMORY
-/// stops it after the steps that it made.
-#[unsafe(no_mangle)]
-pub extern "C" fn lodvarn_transpose_chars(alloc: Global, s: &mut Handle) -> u32
-    ensures { Called (Ok Command.TransposeChars) s.old.value result s.new.value }
-{
-    call(alloc, s, Ok(Command::TransposeChars))
-}
-
-/// Exchanges the word that ends n-th after the cursor with the word n words before it: TRUE or FALSE, whether there
-/// were two. CLOSED changes nothing; NO_MEMORY stops it after the steps that it made.
-#[unsafe(no_mangle)]
-pub extern "C" fn lodvarn_transpose_words(alloc: Global, s: &mut Handle, n: u16) -> u32
-    ensures { Called (Ok (Command.TransposeWords n)) s.old.value result s.new.value }
-{
-    call(alloc, s, Ok(Command::TransposeWords(n)))
-}
-
-/// Changes the letter case of the word at the cursor or ahead: TRUE or FALSE, whether there was one. NO_SUCH_NUMBER and
-/// CLOSED change nothing; NO_MEMORY stops it after the steps that it made.
-#[unsafe(no_mangle)]
-pub extern "C" fn lodvarn_edit_word(alloc: Global, s: &mut Handle, action: u32) -> u32
-    ensures { Called (named Command.EditWord (action_of action)) s.old.value result s.new.value }
-{
-    match action_of(action) {
-        Some(action) => call(alloc, s, Ok(Command::EditWord(action))),
-        None => call(alloc, s, Err(NO_SUCH_NUMBER)),
-    }
-}
-
-/// Kills by a movement: TRUE or FALSE, whether there was anything. NO_MEMORY, NO_SUCH_NUMBER and CLOSED change no text.
-#[unsafe(no_mangle)]
-pub extern "C" fn lodvarn_kill(alloc: Global, s: &mut Handle, movement: u32, n: u16, c: u32) -> u32
-    ensures { Called (named Command.Kill (movement_of movement n c)) s.old.value result s.new.value }
-{
-    match movement_of(movement, n, c) {
-        Some(movement) => call(alloc, s, Ok(Command::Kill(movement))),
-        None => call(alloc, s, Err(NO_SUCH_NUMBER)),
-    }
-}
-
-/// Kills what stands between two byte places, in a direction: TRUE, or FALSE where nothing does. Right after another kill,
-/// FORWARD joins the text at the end of what was killed, and BACKWARD at its front. NO_SUCH_NUMBER, BAD_PLACE, NO_MEMORY
-/// and CLOSED change no text.
+/// `lodvarn_kill_range`.
 #[unsafe(no_mangle)]
 pub extern "C" fn lodvarn_kill_range(
     alloc: Global,
     s: &mut Handle,
-    from: usize,
-    to: usize,
+    range: CRange,
     direction: u32,
-) -> u32
-    ensures { Called (named (λ d. Command.KillRange from to d) (direction_of direction)) s.old.value result s.new.value }
+) -> i32
+    ensures { Through a_session (of_named (direction_of direction) (λ side. asks (Command.KillRange range.from range.to side))) s.old.value result s.new.value }
 {
-    match direction_of(direction) {
-        Some(dir) => call(alloc, s, Ok(Command::KillRange(from, to, dir))),
-        None => call(alloc, s, Err(NO_SUCH_NUMBER)),
-    }
+    of!(s, alloc, Held::Session(session) => kill_range(session, range, direction))
 }
 
-/// Puts a text into the ring as a kill of its own, which no kill joins: DONE. NOT_UTF8 and CLOSED change nothing.
-/// NO_MEMORY leaves the ring its texts.
+/// `lodvarn_end_kills`.
 #[unsafe(no_mangle)]
-pub extern "C" fn lodvarn_keep(alloc: Global, s: &mut Handle, text: &[u8]) -> u32
-    ensures { CalledWith text.now Command.Keep s.old.value result s.new.value }
+pub extern "C" fn lodvarn_end_kills(alloc: Global, s: &mut Handle) -> i32
+    ensures { Through a_session (λ old n new. (n ≡ Done) × ends_kills old new) s.old.value result s.new.value }
 {
-    match text_of(alloc, text) {
-        Ok(text) => call(alloc, s, Ok(Command::Keep(text))),
-        Err(number) => call(alloc, s, Err(number)),
-    }
+    of!(s, alloc, Held::Session(session) => {
+        end_kills(session);
+        Ok(Answer::Done)
+    })
 }
 
-/// Indents the lines of a movement by `amount` spaces, or dedents them by up to `amount` bytes of blanks: TRUE, also
-/// where nothing changed. NO_SUCH_NUMBER and CLOSED change nothing; NO_MEMORY stops it after the steps that it made.
+fn indent(session: &mut Session, movement: CMovement, amount: u8, indentation: u32) -> Outcome
+    ensures { indents movement amount indentation session.old (merged result) session.new }
+{
+    let movement = movement_of(movement)?;
+    let dedent = dedents_of(indentation)?;
+    ask(session, &Command::Indent(movement, amount, dedent))
+}
+
+/// `lodvarn_indent`.
 #[unsafe(no_mangle)]
 pub extern "C" fn lodvarn_indent(
     alloc: Global,
     s: &mut Handle,
-    movement: u32,
-    n: u16,
-    c: u32,
+    movement: CMovement,
     amount: u8,
-    direction: u32,
-) -> u32
-    ensures { Called (both_named (λ m d. Command.Indent m amount d) (movement_of movement n c) (dedents_of direction)) s.old.value result s.new.value }
+    indentation: u32,
+) -> i32
+    ensures { Through a_session (indents movement amount indentation) s.old.value result s.new.value }
 {
-    match (movement_of(movement, n, c), dedents_of(direction)) {
-        (Some(movement), Some(dedent)) => call(
-            alloc,
-            s,
-            Ok(Command::Indent(movement, amount, dedent)),
-        ),
-        _ => call(alloc, s, Err(NO_SUCH_NUMBER)),
+    of!(s, alloc, Held::Session(session) => indent(session, movement, amount, indentation))
+}
+
+/// `lodvarn_begin_group`.
+#[unsafe(no_mangle)]
+pub extern "C" fn lodvarn_begin_group(alloc: Global, s: &mut Handle) -> i32
+    ensures { Through a_session (asks Command.Begin) s.old.value result s.new.value }
+{
+    of!(s, alloc, Held::Session(session) => ask(session, &Command::Begin))
+}
+
+/// `lodvarn_end_group`.
+#[unsafe(no_mangle)]
+pub extern "C" fn lodvarn_end_group(alloc: Global, s: &mut Handle) -> i32
+    ensures { Through a_session (asks Command.EndOne) s.old.value result s.new.value }
+{
+    of!(s, alloc, Held::Session(session) => ask(session, &Command::EndOne))
+}
+
+/// `lodvarn_end_all_groups`.
+#[unsafe(no_mangle)]
+pub extern "C" fn lodvarn_end_all_groups(alloc: Global, s: &mut Handle) -> i32
+    ensures { Through a_session (asks Command.End) s.old.value result s.new.value }
+{
+    of!(s, alloc, Held::Session(session) => ask(session, &Command::End))
+}
+
+fn undo(session: &mut Session, n: usize) -> Outcome
+    ensures { of_named (count_of n) (λ k. asks (Command.Undo k)) session.old (merged result) session.new }
+{
+    let n = count_of(n)?;
+    let reply = session.undo(n);
+    session.forget();
+    Ok(told(Answer::NoRoom, &reply))
+}
+
+/// `lodvarn_undo`.
+#[unsafe(no_mangle)]
+pub extern "C" fn lodvarn_undo(alloc: Global, s: &mut Handle, n: usize) -> i32
+    ensures { Through a_session (of_named (count_of n) (λ k. asks (Command.Undo k))) s.old.value result s.new.value }
+{
+    of!(s, alloc, Held::Session(session) => undo(session, n))
+}
+
+/// `lodvarn_redo`.
+#[unsafe(no_mangle)]
+pub extern "C" fn lodvarn_redo(alloc: Global, s: &mut Handle) -> i32
+    ensures { Through a_session (asks Command.Redo) s.old.value result s.new.value }
+{
+    of!(s, alloc, Held::Session(session) => ask(session, &Command::Redo))
+}
+
+/// `lodvarn_truncate`.
+#[unsafe(no_mangle)]
+pub extern "C" fn lodvarn_truncate(alloc: Global, s: &mut Handle, entries: usize) -> i32
+    ensures { Through a_session (asks (Command.Truncate entries)) s.old.value result s.new.value }
+{
+    of!(s, alloc, Held::Session(session) => ask(session, &Command::Truncate(entries)))
+}
+
+// What is answered where a yank inserted nothing: the ring has no text, or there was no room for it.
+fn yank_room(ring: &KillRing) -> Answer
+    ensures { result ≡ lent_room (yank ring.now) }
+{
+    // So the proof knows that the index is that of a slot.
+    let _ = ring.yank_size();
+    match ring.text_back(0) {
+        Some(text) if !text.is_empty() => Answer::NoRoom,
+        _ => Answer::Nothing,
     }
 }
 
-/// Closes all open groups of changes: TRUE or FALSE, whether one held a change. NO_MEMORY and CLOSED change nothing.
-#[unsafe(no_mangle)]
-pub extern "C" fn lodvarn_end(alloc: Global, s: &mut Handle) -> u32
-    ensures { Called (Ok Command.End) s.old.value result s.new.value }
+// What is answered where an insertion of a text inserted nothing: it is empty, or there is no room for it.
+pub(crate) fn room_for(text: &str) -> Answer
+    ensures { result ≡ room_for text.now }
 {
-    call(alloc, s, Ok(Command::End))
+    if text.is_empty() {
+        Answer::Nothing
+    } else {
+        Answer::NoRoom
+    }
 }
 
-/// Closes the group of changes that was opened last, and leaves the others open: TRUE or FALSE, whether it held a change.
-/// NO_MEMORY and CLOSED change nothing.
-#[unsafe(no_mangle)]
-pub extern "C" fn lodvarn_end_one(alloc: Global, s: &mut Handle) -> u32
-    ensures { Called (Ok Command.EndOne) s.old.value result s.new.value }
+// Whether so many bytes find room in the place of as many before the cursor; none always do.
+pub(crate) fn has_room_for(line: &LineBuffer, size: usize, bytes: usize) -> bool
+    ensures yes { result ≡ true → HasRoomFor line.now size bytes }
+    ensures no { result ≡ false → ¬ (HasRoomFor line.now size bytes) }
 {
-    call(alloc, s, Ok(Command::EndOne))
+    match line.len().saturating_sub(size).checked_add(bytes) {
+        Some(whole) => bytes == 0 || line.has_room(whole),
+        None => false,
+    }
 }
 
-/// Undoes n units, one for 0, and all where there are fewer: TRUE or FALSE, whether a change was undone. NO_MEMORY and
-/// CLOSED change no text.
-#[unsafe(no_mangle)]
-pub extern "C" fn lodvarn_undo(alloc: Global, s: &mut Handle, n: u16) -> u32
-    ensures { Called (Ok (Command.Undo n)) s.old.value result s.new.value }
+// How long the text is that a yank-pop puts in: the one before the current one, or that where it stands alone.
+fn popped_len(ring: &KillRing) -> Option<usize>
+    ensures { result ≡ popped_length ring.now }
 {
-    call(alloc, s, Ok(Command::Undo(n)))
+    ring.yank_size()?;
+    match ring.text_back(usize::from(ring.len() > 1)) {
+        Some(text) => Some(text.len()),
+        None => None,
+    }
 }
 
-/// Redoes what was undone last: TRUE or FALSE, whether there was a change. NO_MEMORY and CLOSED change no text.
-#[unsafe(no_mangle)]
-pub extern "C" fn lodvarn_redo(alloc: Global, s: &mut Handle) -> u32
-    ensures { Called (Ok Command.Redo) s.old.value result s.new.value }
+// Whether the text that a yank-pop would put in finds room in the place of the yanked one.
+fn pop_has_room(session: &Session) -> bool
+    ensures yes { result ≡ true → PopHasRoom (yank_size session.now.pair.ring) (popped_length session.now.pair.ring) session.now.line }
+    ensures no { result ≡ false → ¬ (PopHasRoom (yank_size session.now.pair.ring) (popped_length session.now.pair.ring) session.now.line) }
 {
-    call(alloc, s, Ok(Command::Redo))
+    let ring = session.ring();
+    let line = session.line();
+    match (ring.yank_size(), popped_len(ring)) {
+        (Some(size), Some(bytes)) => !line.can_yank_pop(size) || has_room_for(line, size, bytes),
+        _ => true,
+    }
 }
 
-/// Keeps only the first `entries` entries of the record: DONE. NOT_REPLAYING, NO_MEMORY and CLOSED leave the record.
-#[unsafe(no_mangle)]
-pub extern "C" fn lodvarn_truncate(alloc: Global, s: &mut Handle, entries: usize) -> u32
-    ensures { Called (Ok (Command.Truncate entries)) s.old.value result s.new.value }
+#[tactic(auto, unfolding(crate::specs::Calls::only_where))]
+fn yank_pop(session: &mut Session) -> Outcome
+    ensures { pops session.old (merged result) session.new }
 {
-    call(alloc, s, Ok(Command::Truncate(entries)))
+    if !pop_has_room(session) {
+        return Err(Answer::NoRoom);
+    }
+    let none = truth(session.ring().yank_size().is_some());
+    Ok(told(none, &obey(session, &Command::YankPop)))
+}
+
+/// `lodvarn_yank_pop`.
+#[unsafe(no_mangle)]
+pub extern "C" fn lodvarn_yank_pop(alloc: Global, s: &mut Handle) -> i32
+    ensures { Through a_session (pops) s.old.value result s.new.value }
+{
+    of!(s, alloc, Held::Session(session) => yank_pop(session))
+}
+
+fn paste(session: &mut Session, text: &[u8], n: usize) -> Outcome
+    ensures { pastes text.now n session.old (merged result) session.new }
+{
+    let n = count_of(n)?;
+    let text = text_of(text)?;
+    let reply = session.paste(text, n);
+    session.forget();
+    Ok(told(room_for(text), &reply))
+}
+
+/// `lodvarn_paste`.
+#[unsafe(no_mangle)]
+pub extern "C" fn lodvarn_paste(alloc: Global, s: &mut Handle, text: &[u8], n: usize) -> i32
+    ensures { Through a_session (pastes text.now n) s.old.value result s.new.value }
+{
+    of!(s, alloc, Held::Session(session) => paste(session, text, n))
+}
+
+fn set_text(session: &mut Session, pos: usize, text: &[u8]) -> Outcome
+    ensures { asks_with text.now (λ t. Command.Update t pos) session.old (merged result) session.new }
+{
+    let text = text_of(text)?;
+    let reply = session.update(text, pos);
+    session.forget();
+    Ok(told(Answer::NoRoom, &reply))
+}
+
+/// `lodvarn_set_text`.
+#[unsafe(no_mangle)]
+pub extern "C" fn lodvarn_set_text(alloc: Global, s: &mut Handle, pos: usize, text: &[u8]) -> i32
+    ensures { Through a_session (asks_with text.now (λ t. Command.Update t pos)) s.old.value result s.new.value }
+{
+    of!(s, alloc, Held::Session(session) => set_text(session, pos, text))
+}
+
+fn insert_at(session: &mut Session, place: usize, text: &[u8]) -> Outcome
+    ensures { puts_in place text.now session.old (merged result) session.new }
+{
+    let text = text_of(text)?;
+    let reply = session.insert_str(place, text);
+    session.forget();
+    Ok(told_place(&reply))
+}
+
+/// `lodvarn_insert_at`.
+#[unsafe(no_mangle)]
+pub extern "C" fn lodvarn_insert_at(alloc: Global, s: &mut Handle, place: usize, text: &[u8]) -> i32
+    ensures { Through a_session (puts_in place text.now) s.old.value result s.new.value }
+{
+    of!(s, alloc, Held::Session(session) => insert_at(session, place, text))
+}
+
+fn replace(session: &mut Session, range: CRange, text: &[u8]) -> Outcome
+    ensures { asks_with text.now (λ t. Command.Replace range.from range.to t) session.old (merged result) session.new }
+{
+    let text = text_of(text)?;
+    let reply = session.replace(range.from, range.to, text);
+    session.forget();
+    Ok(told(Answer::NoRoom, &reply))
+}
+
+/// `lodvarn_replace`.
+#[unsafe(no_mangle)]
+pub extern "C" fn lodvarn_replace(alloc: Global, s: &mut Handle, range: CRange, text: &[u8]) -> i32
+    ensures { Through a_session (asks_with text.now (λ t. Command.Replace range.from range.to t)) s.old.value result s.new.value }
+{
+    of!(s, alloc, Held::Session(session) => replace(session, range, text))
+}
+
+fn keep(session: &mut Session, text: &[u8]) -> Outcome
+    ensures { asks_with text.now Command.Keep session.old (merged result) session.new }
+{
+    let text = text_of(text)?;
+    let reply = session.keep(text);
+    session.forget();
+    Ok(told(Answer::NoRoom, &reply))
+}
+
+/// `lodvarn_keep`.
+#[unsafe(no_mangle)]
+pub extern "C" fn lodvarn_keep(alloc: Global, s: &mut Handle, text: &[u8]) -> i32
+    ensures { Through a_session (asks_with text.now Command.Keep) s.old.value result s.new.value }
+{
+    of!(s, alloc, Held::Session(session) => keep(session, text))
+}
+
+// Ends a run of kills, as a motion to where the cursor is does.
+fn end_kills(session: &mut Session)
+    ensures { ends_kills session.old session.new }
+{
+    let pos = session.line().pos();
+    let _ = obey(session, &Command::SetPos(pos));
+}
+
+// Copies what a movement covers, and ends a run of kills.
+fn copy_by(session: &mut Session, movement: &Movement, out: &mut [u8], len: &mut usize) -> Outcome
+    ensures { hands_out (copied session.old.line movement.now) session.old (merged result) session.new (out.old, len.old) (out.new, len.new) }
+{
+    let line = session.line();
+    let Some(range) = line.covered(movement) else {
+        end_kills(session);
+        return Ok(Answer::Nothing);
+    };
+    let text = &line.as_str().as_bytes()[range.start..range.end];
+    *len = text.len();
+    if text.len() > out.len() {
+        return Err(Answer::TooSmall);
+    }
+    put(text, out);
+    end_kills(session);
+    Ok(Answer::Done)
+}
+
+fn copy(session: &mut Session, movement: CMovement, out: &mut [u8], len: &mut usize) -> Outcome
+    ensures { copies movement session.old (merged result) session.new (out.old, len.old) (out.new, len.new) }
+{
+    copy_by(session, &movement_of(movement)?, out, len)
+}
+
+/// `lodvarn_copy`.
+#[unsafe(no_mangle)]
+pub extern "C" fn lodvarn_copy(
+    alloc: Global,
+    s: &mut Handle,
+    movement: CMovement,
+    out: &mut [u8],
+    len: &mut usize,
+) -> i32
+    ensures { ThroughOut a_session (copies movement) s.old.value result s.new.value (out.old, len.old) (out.new, len.new) }
+{
+    of!(s, alloc, Held::Session(session) => copy(session, movement, out, len))
 }

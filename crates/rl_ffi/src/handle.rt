@@ -1,20 +1,20 @@
-//! What C holds: null, or a session on the heap.
+//! What C holds: null, or a session, a line, a record or a kill ring on the heap.
 ghost use Rattle.std.specs.Prelude.{◌≡◌, Option, None, Some, option_map};
-ghost use Rattle.rl_session.specs.State.{State};
+ghost use Rattle.rl_ffi.specs.declared.held.Held.{Held};
 ghost use Rattle.rl_ffi.specs.Handle.{kept, value_coded};
 
+use crate::held::Held;
 use crate::parts::Parts;
-use rl_session::Session;
 use std::alloc::Global;
 use std::marker::Model;
 use std::mem::replace;
 
-/// What C holds of a session. It is null where there is none.
+/// What C holds. It is null where that is nothing.
 #[repr(C)]
 pub struct Handle {
     at: *mut u8,
     alloc: Global,
-    pub ghost value: { Option State } by { value_coded },
+    pub ghost value: { Option Held } by { value_coded },
 }
 
 impl Model for Handle {
@@ -32,7 +32,7 @@ impl Drop for Handle {
 }
 
 impl Handle {
-    /// Holds no session.
+    /// Holds nothing.
     #[inline(always)]
     pub fn closed(alloc: Global) -> Handle
         ensures { result.value ≡ None }
@@ -44,7 +44,7 @@ impl Handle {
     }
 
     #[inline(always)]
-    fn of_parts(parts: Parts<Session, Global>) -> Handle
+    fn of_parts(parts: Parts<Held, Global>) -> Handle
         ensures { result.value ≡ Some parts.value }
     {
         let Parts { at, alloc } = parts;
@@ -55,7 +55,7 @@ impl Handle {
     }
 
     #[inline(always)]
-    fn into_parts(self) -> Option<Parts<Session, Global>>
+    fn into_parts(self) -> Option<Parts<Held, Global>>
         ensures { option_map (λ p. p.value) result ≡ self.value }
     {
         let Handle { at, alloc } = self;
@@ -63,24 +63,24 @@ impl Handle {
             None
         } else {
             Some(Parts {
-                at: at as *mut Session,
+                at: at as *mut Held,
                 alloc,
             })
         }
     }
 
-    /// Holds the session.
+    /// Holds it.
     #[inline(always)]
-    pub fn of(session: Box<Session>) -> Handle
-        ensures { result.value ≡ Some session.value }
+    pub fn of(held: Box<Held>) -> Handle
+        ensures { result.value ≡ Some held.value }
     {
-        Handle::of_parts(Parts::of(session))
+        Handle::of_parts(Parts::of(held))
     }
 
-    /// Gives the session out, if there is one, and holds none.
+    /// Gives out what it holds, if anything, and holds nothing.
     #[inline(always)]
-    pub fn take(&mut self, alloc: Global) -> Option<Box<Session>>
-        ensures session { option_map (λ b. b.value) result ≡ self.old.value }
+    pub fn take(&mut self, alloc: Global) -> Option<Box<Held>>
+        ensures held { option_map (λ b. b.value) result ≡ self.old.value }
         ensures left { self.new.value ≡ None }
     {
         match replace(self, Handle::closed(alloc)).into_parts() {
@@ -90,14 +90,21 @@ impl Handle {
     }
 }
 
-// What an expression answers of the handle's session, which is out of the handle meanwhile; the last expression where there is
-// none. A macro, so that each call is inlined, and proved as it stands.
-macro_rules! of_session {
-    ($handle:ident, $alloc:ident, $session:ident => $answer:expr, $closed:expr) => {
+// What an expression answers of what the handle holds, if that is of the kind; it is out of the handle meanwhile. The outcome of a
+// call is answered by its number, as is that there is no such thing; or the last expression stands for the latter. A macro, so
+// that each call is inlined, and proved as it stands.
+macro_rules! of {
+    ($handle:ident, $alloc:ident, Held::$Kind:ident($part:ident) => $outcome:expr) => {
+        of!($handle, $alloc, Held::$Kind($part) => merged($outcome).number(), Answer::Closed.number())
+    };
+    ($handle:ident, $alloc:ident, Held::$Kind:ident($part:ident) => $answer:expr, $closed:expr) => {
         match $handle.take($alloc) {
-            Some(mut $session) => {
-                let answer = $answer;
-                *$handle = Handle::of($session);
+            Some(mut boxed) => {
+                let answer = match &mut *boxed {
+                    Held::$Kind($part) => $answer,
+                    _ => $closed,
+                };
+                *$handle = Handle::of(boxed);
                 answer
             }
             None => $closed,
@@ -105,19 +112,4 @@ macro_rules! of_session {
     };
 }
 
-// The same of a part that stands by itself, whose handle's type comes first.
-macro_rules! of_part {
-    ($Type:ident, $handle:ident, $alloc:ident, $part:ident => $answer:expr, $closed:expr) => {
-        match $handle.take($alloc) {
-            Some(mut $part) => {
-                let answer = $answer;
-                *$handle = $Type::of($part);
-                answer
-            }
-            None => $closed,
-        }
-    };
-}
-
-pub(crate) use of_part;
-pub(crate) use of_session;
+pub(crate) use of;

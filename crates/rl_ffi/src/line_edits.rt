@@ -1,220 +1,449 @@
-//! The calls that edit a line by itself. What each did is told by its reports.
-ghost use Rattle.std.specs.Prelude.{◌≡◌};
-ghost use Rattle.std.specs.Str.{IsCharBoundary};
-ghost use Rattle.rl_line.specs.Edits.{CanInsertStr, CanYankPop, delete_range_plan, insert_plan, insert_str_plan, replace_plan, update_plan, yank_plan, yank_pop_plan};
-ghost use Rattle.rl_line.specs.LineRanges.{IsRange};
-ghost use Rattle.rl_line.specs.Plan.{nothing_more, room_by_step};
-ghost use Rattle.rl_ffi.specs.HeldLine.{leaves, of_named, only_where};
-ghost use Rattle.rl_ffi.specs.PartCalls.{OfText, Through};
-ghost use Rattle.rl_ffi.specs.LineEdits.{done_number, edits, inserted_number};
-ghost use Rattle.rl_ffi.specs.Numbers.{bad_place, bad_yank_size, char_of, truth_number};
+//! The calls that change a line by itself. What each edit did is told by its reports.
+ghost use Rattle.std.specs.Prelude.{◌≡◌, true, false, IfErr, OnOk};
+ghost use Rattle.rl_base.specs.declared.motion.Movement.{Movement};
+ghost use Rattle.rl_line.specs.Kills.{is_by_characters, kill_plan};
+ghost use Rattle.rl_line.specs.LetterCase.{edit_word_plan};
+ghost use Rattle.rl_line.specs.Plan.{a_copy, nothing_more};
+ghost use Rattle.rl_line.specs.Transpositions.{transpose_chars_plan, transpose_words_plan};
+ghost use Rattle.rl_ffi.specs.Answers.{merged, truth};
+ghost use Rattle.rl_ffi.specs.Calls.{Through, of_named};
+ghost use Rattle.rl_ffi.specs.Commands.{room_for};
+ghost use Rattle.rl_ffi.specs.Held.{a_line};
+ghost use Rattle.rl_ffi.specs.LineEdits.{before_kill, deletes, deletes_by, edits, indents, inserts, kills_by, kills_range, may_grow, moves, pastes, pops, puts_in, replaces, sets_pos, sets_text};
+ghost use Rattle.rl_ffi.specs.LineReads.{prompted_at};
+ghost use Rattle.rl_ffi.specs.Numbers.{case_of, count_of};
+ghost use Rattle.rl_ffi.specs.declared.answers.Answer.TheVariants.{NoMemory};
 
-use crate::handle::of_part;
-use crate::held_line::HeldLine;
-use crate::line_handle::LineHandle;
-use crate::numbers::{
-    BAD_PLACE, BAD_YANK_SIZE, CLOSED, DONE, NO_MEMORY, NO_SUCH_NUMBER, NONE, NOT_UTF8, char_of,
-    truth_number,
-};
-use rl_base::RepeatCount;
+use crate::answers::{Answer, Outcome, inserted, merged, placed, tried, truth};
+use crate::commands::{has_room_for, room_for};
+use crate::handle::{Handle, of};
+use crate::heard::Heard;
+use crate::held::{Held, HeldLine};
+use crate::line_reads::prompted_at;
+use crate::numbers::{case_of, char_of, count_of, dedents_of, direction_of, mode_of, movement_of};
+use crate::shapes::{CMovement, CRange};
+use crate::texts::text_of;
+use rl_base::Movement;
+use rl_line::{LineBuffer, can_delete_by};
 use std::alloc::Global;
+use std::mem::replace as put_in_place;
 
-fn inserted_number(answer: Option<bool>) -> u32
-    ensures { result ≡ inserted_number answer }
+fn is_by_characters(movement: &Movement) -> bool
+    ensures { result ≡ is_by_characters movement.now }
 {
-    match answer {
-        Some(at_end) => truth_number(at_end),
-        None => NONE,
+    matches!(
+        movement,
+        Movement::BackwardChar(_) | Movement::ForwardChar(_)
+    )
+}
+
+// Finds room for the reports of the start and the stop of a kill, where these are told.
+fn ready(heard: &mut Heard, by_characters: bool) -> Result<(), Answer>
+    ensures done { OnOk result (heard.new ≡ before_kill by_characters heard.old) }
+    ensures err { IfErr result (λ answer. (answer ≡ NoMemory) × (by_characters ≡ false) × (heard.new ≡ heard.old)) }
+{
+    if by_characters {
+        return Ok(());
+    }
+    match heard.ready() {
+        Ok(()) => Ok(()),
+        Err(_) => Err(Answer::NoMemory),
     }
 }
 
-fn insert(held: &mut HeldLine, c: char, n: RepeatCount) -> u32
-    ensures { edits room_by_step (λ line. insert_plan line c n) inserted_number held.old result held.new }
+fn set_can_grow(alloc: Global, held: &mut HeldLine, can_grow: bool) -> Outcome
+    ensures { may_grow can_grow held.old (merged result) held.new }
 {
-    match held.line.insert(c, n, &mut held.heard) {
-        Ok(answer) => inserted_number(answer),
-        Err(_) => NO_MEMORY,
-    }
+    let line = put_in_place(&mut held.line, LineBuffer::with_limit(alloc, 0));
+    held.line = line.can_growth(can_grow);
+    Ok(Answer::Done)
 }
 
-/// Inserts a character n times at the cursor: TRUE or FALSE, whether the cursor was at the end, or NONE where the text
-/// would get longer than the limit. CLOSED, NO_SUCH_NUMBER (of the character) and NO_MEMORY change nothing.
+/// `lodvarn_line_set_can_grow`.
 #[unsafe(no_mangle)]
-pub extern "C" fn lodvarn_line_insert(alloc: Global, l: &mut LineHandle, c: u32, n: u16) -> u32
-    ensures { Through (of_named (char_of c) (λ x. edits room_by_step (λ line. insert_plan line x n) inserted_number)) l.old.value result l.new.value }
+pub extern "C" fn lodvarn_line_set_can_grow(alloc: Global, l: &mut Handle, can_grow: bool) -> i32
+    ensures { Through a_line (may_grow can_grow) l.old.value result l.new.value }
 {
-    of_part!(LineHandle, l, alloc, held => match char_of(c) {
-        Some(c) => insert(&mut held, c, n),
-        None => NO_SUCH_NUMBER,
-    }, CLOSED)
+    of!(l, alloc, Held::Line(held) => set_can_grow(alloc, held, can_grow))
 }
 
-fn yank(held: &mut HeldLine, text: &[u8], n: RepeatCount) -> u32
-    ensures { OfText text.now (edits room_by_step (λ line. yank_plan line text.now n) inserted_number) held.old result held.new }
+fn set_pos(held: &mut HeldLine, pos: usize) -> Outcome
+    ensures { sets_pos pos held.old (merged result) held.new }
 {
-    let Ok(text) = std::str::from_utf8(text) else {
-        return NOT_UTF8;
-    };
-    match held.line.yank(text, n, &mut held.heard) {
-        Ok(answer) => inserted_number(answer),
-        Err(_) => NO_MEMORY,
+    if !held.line.as_str().is_char_boundary(pos) {
+        return Err(Answer::BadPlace);
     }
+    held.line.set_pos(pos);
+    Ok(Answer::Done)
 }
 
-/// Inserts a text n times at the cursor. Answers as `lodvarn_line_insert` does, and NONE also for an empty text. CLOSED,
-/// NOT_UTF8 and NO_MEMORY change nothing.
+/// `lodvarn_line_set_pos`.
 #[unsafe(no_mangle)]
-pub extern "C" fn lodvarn_line_yank(alloc: Global, l: &mut LineHandle, text: &[u8], n: u16) -> u32
-    ensures { Through (OfText text.now (edits room_by_step (λ line. yank_plan line text.now n) inserted_number)) l.old.value result l.new.value }
+pub extern "C" fn lodvarn_line_set_pos(alloc: Global, l: &mut Handle, pos: usize) -> i32
+    ensures { Through a_line (sets_pos pos) l.old.value result l.new.value }
 {
-    of_part!(LineHandle, l, alloc, held => yank(&mut held, text, n), CLOSED)
+    of!(l, alloc, Held::Line(held) => set_pos(held, pos))
 }
 
-fn yank_pop(held: &mut HeldLine, size: usize, text: &[u8]) -> u32
-    ensures { OfText text.now (only_where (λ line. CanYankPop line size) bad_yank_size (edits room_by_step (λ line. yank_pop_plan line size text.now) inserted_number)) held.old result held.new }
+fn move_by(held: &mut HeldLine, movement: CMovement, mode: u32, prompt: u16) -> Outcome
+    ensures { moves movement mode prompt held.old (merged result) held.new }
 {
-    let Ok(text) = std::str::from_utf8(text) else {
-        return NOT_UTF8;
-    };
+    let movement = movement_of(movement)?;
+    let layout = prompted_at(mode_of(mode)?, prompt);
+    Ok(truth(held.line.move_by(&movement, &layout)))
+}
+
+/// `lodvarn_line_move`.
+#[unsafe(no_mangle)]
+pub extern "C" fn lodvarn_line_move(
+    alloc: Global,
+    l: &mut Handle,
+    movement: CMovement,
+    mode: u32,
+    prompt: u16,
+) -> i32
+    ensures { Through a_line (moves movement mode prompt) l.old.value result l.new.value }
+{
+    of!(l, alloc, Held::Line(held) => move_by(held, movement, mode, prompt))
+}
+
+fn insert(held: &mut HeldLine, c: u32, n: usize) -> Outcome
+    ensures { inserts c n held.old (merged result) held.new }
+{
+    let c = char_of(c)?;
+    let n = count_of(n)?;
+    let answer = tried(held.line.insert(c, n, &mut held.heard))?;
+    Ok(inserted(Answer::NoRoom, answer))
+}
+
+/// `lodvarn_line_insert`.
+#[unsafe(no_mangle)]
+pub extern "C" fn lodvarn_line_insert(alloc: Global, l: &mut Handle, c: u32, n: usize) -> i32
+    ensures { Through a_line (inserts c n) l.old.value result l.new.value }
+{
+    of!(l, alloc, Held::Line(held) => insert(held, c, n))
+}
+
+fn paste(held: &mut HeldLine, text: &[u8], n: usize) -> Outcome
+    ensures { pastes text.now n held.old (merged result) held.new }
+{
+    let n = count_of(n)?;
+    let text = text_of(text)?;
+    let answer = tried(held.line.yank(text, n, &mut held.heard))?;
+    Ok(inserted(room_for(text), answer))
+}
+
+/// `lodvarn_line_paste`.
+#[unsafe(no_mangle)]
+pub extern "C" fn lodvarn_line_paste(alloc: Global, l: &mut Handle, text: &[u8], n: usize) -> i32
+    ensures { Through a_line (pastes text.now n) l.old.value result l.new.value }
+{
+    of!(l, alloc, Held::Line(held) => paste(held, text, n))
+}
+
+#[tactic(auto, unfolding(crate::specs::Calls::only_where))]
+fn yank_pop(held: &mut HeldLine, size: usize, text: &[u8]) -> Outcome
+    ensures { pops size text.now held.old (merged result) held.new }
+{
+    let text = text_of(text)?;
     if !held.line.can_yank_pop(size) {
-        return BAD_YANK_SIZE;
+        return Err(Answer::BadYankSize);
     }
-    match held.line.yank_pop(size, text, &mut held.heard) {
-        Ok(answer) => inserted_number(answer),
-        Err(_) => NO_MEMORY,
+    if !has_room_for(&held.line, size, text.len()) {
+        return Err(Answer::NoRoom);
     }
+    let answer = tried(held.line.yank_pop(size, text, &mut held.heard))?;
+    Ok(inserted(Answer::Done, answer))
 }
 
-/// Replaces the `size` bytes before the cursor, which were yanked last, by a text. Answers as `lodvarn_line_yank` does, and
-/// where that is NONE the bytes are deleted. BAD_YANK_SIZE, where no text of that size can stand there, NOT_UTF8 and CLOSED
-/// change nothing; NO_MEMORY stops it after the steps that it made.
+/// `lodvarn_line_yank_pop`.
 #[unsafe(no_mangle)]
 pub extern "C" fn lodvarn_line_yank_pop(
     alloc: Global,
-    l: &mut LineHandle,
+    l: &mut Handle,
     size: usize,
     text: &[u8],
-) -> u32
-    ensures { Through (OfText text.now (only_where (λ line. CanYankPop line size) bad_yank_size (edits room_by_step (λ line. yank_pop_plan line size text.now) inserted_number)))
-        l.old.value result l.new.value }
+) -> i32
+    ensures { Through a_line (pops size text.now) l.old.value result l.new.value }
 {
-    of_part!(LineHandle, l, alloc, held => yank_pop(&mut held, size, text), CLOSED)
+    of!(l, alloc, Held::Line(held) => yank_pop(held, size, text))
 }
 
-fn update(held: &mut HeldLine, text: &[u8], pos: usize) -> u32
-    ensures { OfText text.now (only_where (λ _. IsCharBoundary text.now pos) bad_place (edits room_by_step (λ line. update_plan line text.now pos) done_number)) held.old result held.new }
+#[tactic(auto, unfolding(crate::specs::Calls::only_where, crate::specs::LineEdits::sets_text))]
+fn set_text(held: &mut HeldLine, pos: usize, text: &[u8]) -> Outcome
+    ensures { sets_text pos text.now held.old (merged result) held.new }
 {
-    let Ok(text) = std::str::from_utf8(text) else {
-        return NOT_UTF8;
-    };
+    let text = text_of(text)?;
     if !text.is_char_boundary(pos) {
-        return BAD_PLACE;
+        return Err(Answer::BadPlace);
     }
-    match held.line.update(text, pos, &mut held.heard) {
-        Ok(()) => DONE,
-        Err(_) => NO_MEMORY,
-    }
+    tried(held.line.update(text, pos, &mut held.heard))?;
+    Ok(Answer::Done)
 }
 
-/// Replaces the whole text, with the cursor at the byte place `pos`, and cuts off what is past the limit: DONE. BAD_PLACE,
-/// NOT_UTF8 and CLOSED change nothing; NO_MEMORY stops it after the steps that it made.
+/// `lodvarn_line_set_text`.
 #[unsafe(no_mangle)]
-pub extern "C" fn lodvarn_line_update(
+pub extern "C" fn lodvarn_line_set_text(
     alloc: Global,
-    l: &mut LineHandle,
-    text: &[u8],
+    l: &mut Handle,
     pos: usize,
-) -> u32
-    ensures { Through (OfText text.now (only_where (λ _. IsCharBoundary text.now pos) bad_place (edits room_by_step (λ line. update_plan line text.now pos) done_number)))
-        l.old.value result l.new.value }
-{
-    of_part!(LineHandle, l, alloc, held => update(&mut held, text, pos), CLOSED)
-}
-
-fn insert_str(held: &mut HeldLine, at: usize, text: &[u8]) -> u32
-    ensures { OfText text.now (only_where (λ line. CanInsertStr line at text.now) bad_place (edits room_by_step (λ line. insert_str_plan line at text.now) truth_number)) held.old result held.new }
-{
-    let Ok(text) = std::str::from_utf8(text) else {
-        return NOT_UTF8;
-    };
-    if !held.line.can_insert_str(at, text) {
-        return BAD_PLACE;
-    }
-    match held.line.insert_str(at, text, &mut held.heard) {
-        Ok(answer) => truth_number(answer),
-        Err(_) => NO_MEMORY,
-    }
-}
-
-/// Inserts a text at the byte place `at`, and leaves the cursor at its place: TRUE or FALSE, whether `at` was the text's end.
-/// BAD_PLACE, also where the cursor would not stand between two characters then, NOT_UTF8, NO_MEMORY and CLOSED change
-/// nothing.
-#[unsafe(no_mangle)]
-pub extern "C" fn lodvarn_line_insert_str(
-    alloc: Global,
-    l: &mut LineHandle,
-    at: usize,
     text: &[u8],
-) -> u32
-    ensures { Through (OfText text.now (only_where (λ line. CanInsertStr line at text.now) bad_place (edits room_by_step (λ line. insert_str_plan line at text.now) truth_number)))
-        l.old.value result l.new.value }
+) -> i32
+    ensures { Through a_line (sets_text pos text.now) l.old.value result l.new.value }
 {
-    of_part!(LineHandle, l, alloc, held => insert_str(&mut held, at, text), CLOSED)
+    of!(l, alloc, Held::Line(held) => set_text(held, pos, text))
 }
 
-fn replace(held: &mut HeldLine, from: usize, to: usize, text: &[u8]) -> u32
-    ensures { OfText text.now (only_where (λ line. IsRange line.text from to) bad_place (edits room_by_step (λ line. replace_plan line from to text.now) done_number)) held.old result held.new }
+#[tactic(auto, unfolding(crate::specs::Calls::only_where, crate::specs::LineEdits::puts_in))]
+fn insert_at(held: &mut HeldLine, place: usize, text: &[u8]) -> Outcome
+    ensures { puts_in place text.now held.old (merged result) held.new }
 {
-    let Ok(text) = std::str::from_utf8(text) else {
-        return NOT_UTF8;
-    };
-    if !held.line.is_range(from, to) {
-        return BAD_PLACE;
+    let text = text_of(text)?;
+    if !held.line.can_insert_str(place, text) {
+        return Err(Answer::BadPlace);
     }
-    match held.line.replace(from..to, text, &mut held.heard) {
-        Ok(()) => DONE,
-        Err(_) => NO_MEMORY,
+    let answer = tried(held.line.insert_str(place, text, &mut held.heard))?;
+    Ok(placed(answer))
+}
+
+/// `lodvarn_line_insert_at`.
+#[unsafe(no_mangle)]
+pub extern "C" fn lodvarn_line_insert_at(
+    alloc: Global,
+    l: &mut Handle,
+    place: usize,
+    text: &[u8],
+) -> i32
+    ensures { Through a_line (puts_in place text.now) l.old.value result l.new.value }
+{
+    of!(l, alloc, Held::Line(held) => insert_at(held, place, text))
+}
+
+#[tactic(auto, unfolding(crate::specs::Calls::only_where, crate::specs::LineEdits::replaces))]
+fn replace(held: &mut HeldLine, range: CRange, text: &[u8]) -> Outcome
+    ensures { replaces range text.now held.old (merged result) held.new }
+{
+    let text = text_of(text)?;
+    if !held.line.is_range(range.from, range.to) {
+        return Err(Answer::BadPlace);
+    }
+    match held
+        .line
+        .replace(range.from..range.to, text, &mut held.heard)
+    {
+        Ok(()) => Ok(Answer::Done),
+        Err(_) => Err(Answer::NoMemory),
     }
 }
 
-/// Replaces what stands between two byte places by a text, with the cursor after it: DONE. BAD_PLACE, NOT_UTF8, NO_MEMORY and
-/// CLOSED change nothing.
+/// `lodvarn_line_replace`.
 #[unsafe(no_mangle)]
 pub extern "C" fn lodvarn_line_replace(
     alloc: Global,
-    l: &mut LineHandle,
-    from: usize,
-    to: usize,
+    l: &mut Handle,
+    range: CRange,
     text: &[u8],
-) -> u32
-    ensures { Through (OfText text.now (only_where (λ line. IsRange line.text from to) bad_place (edits room_by_step (λ line. replace_plan line from to text.now) done_number)))
-        l.old.value result l.new.value }
+) -> i32
+    ensures { Through a_line (replaces range text.now) l.old.value result l.new.value }
 {
-    of_part!(LineHandle, l, alloc, held => replace(&mut held, from, to, text), CLOSED)
+    of!(l, alloc, Held::Line(held) => replace(held, range, text))
 }
 
-fn delete_range(held: &mut HeldLine, from: usize, to: usize) -> u32
-    ensures { only_where (λ line. IsRange line.text from to) bad_place (edits nothing_more (λ line. delete_range_plan line from to) done_number) held.old result held.new }
+#[tactic(auto, unfolding(crate::specs::Calls::only_where))]
+fn delete_range(held: &mut HeldLine, range: CRange) -> Outcome
+    ensures { deletes range held.old (merged result) held.new }
 {
-    if !held.line.is_range(from, to) {
-        return BAD_PLACE;
+    if !held.line.is_range(range.from, range.to) {
+        return Err(Answer::BadPlace);
     }
-    match held.line.delete_range(from..to, &mut held.heard) {
-        Ok(()) => DONE,
-        Err(_) => NO_MEMORY,
+    match held
+        .line
+        .delete_range(range.from..range.to, &mut held.heard)
+    {
+        Ok(()) => Ok(Answer::Done),
+        Err(_) => Err(Answer::NoMemory),
     }
 }
 
-/// Deletes what stands between two byte places, with the cursor at the first: DONE. BAD_PLACE, NO_MEMORY (of the report) and
-/// CLOSED change nothing.
+/// `lodvarn_line_delete_range`.
 #[unsafe(no_mangle)]
-pub extern "C" fn lodvarn_line_delete_range(
-    alloc: Global,
-    l: &mut LineHandle,
-    from: usize,
-    to: usize,
-) -> u32
-    ensures { Through (only_where (λ line. IsRange line.text from to) bad_place (edits nothing_more (λ line. delete_range_plan line from to) done_number)) l.old.value result l.new.value }
+pub extern "C" fn lodvarn_line_delete_range(alloc: Global, l: &mut Handle, range: CRange) -> i32
+    ensures { Through a_line (deletes range) l.old.value result l.new.value }
 {
-    of_part!(LineHandle, l, alloc, held => delete_range(&mut held, from, to), CLOSED)
+    of!(l, alloc, Held::Line(held) => delete_range(held, range))
+}
+
+fn delete(held: &mut HeldLine, n: usize) -> Outcome
+    ensures { of_named (count_of n) (λ k. edits nothing_more (λ line. kill_plan line (Movement.ForwardChar k)) truth) held.old (merged result) held.new }
+{
+    let n = count_of(n)?;
+    match held
+        .line
+        .delete_by(&Movement::ForwardChar(n), &mut held.heard)
+    {
+        Ok(answer) => Ok(truth(answer)),
+        Err(_) => Err(Answer::NoMemory),
+    }
+}
+
+/// `lodvarn_line_delete`.
+#[unsafe(no_mangle)]
+pub extern "C" fn lodvarn_line_delete(alloc: Global, l: &mut Handle, n: usize) -> i32
+    ensures { Through a_line (of_named (count_of n) (λ k. edits nothing_more (λ line. kill_plan line (Movement.ForwardChar k)) truth)) l.old.value result l.new.value }
+{
+    of!(l, alloc, Held::Line(held) => delete(held, n))
+}
+
+fn backspace(held: &mut HeldLine, n: usize) -> Outcome
+    ensures { of_named (count_of n) (λ k. edits nothing_more (λ line. kill_plan line (Movement.BackwardChar k)) truth) held.old (merged result) held.new }
+{
+    let n = count_of(n)?;
+    let answer = tried(held.line.backspace(n, &mut held.heard))?;
+    Ok(truth(answer))
+}
+
+/// `lodvarn_line_backspace`.
+#[unsafe(no_mangle)]
+pub extern "C" fn lodvarn_line_backspace(alloc: Global, l: &mut Handle, n: usize) -> i32
+    ensures { Through a_line (of_named (count_of n) (λ k. edits nothing_more (λ line. kill_plan line (Movement.BackwardChar k)) truth)) l.old.value result l.new.value }
+{
+    of!(l, alloc, Held::Line(held) => backspace(held, n))
+}
+
+#[tactic(auto, unfolding(crate::specs::Calls::only_where))]
+fn delete_by(held: &mut HeldLine, movement: CMovement) -> Outcome
+    ensures { deletes_by movement held.old (merged result) held.new }
+{
+    let movement = movement_of(movement)?;
+    if !can_delete_by(&movement) {
+        return Err(Answer::NoSuchNumber);
+    }
+    let answer = tried(held.line.delete_by(&movement, &mut held.heard))?;
+    Ok(truth(answer))
+}
+
+/// `lodvarn_line_delete_by`.
+#[unsafe(no_mangle)]
+pub extern "C" fn lodvarn_line_delete_by(alloc: Global, l: &mut Handle, movement: CMovement) -> i32
+    ensures { Through a_line (deletes_by movement) l.old.value result l.new.value }
+{
+    of!(l, alloc, Held::Line(held) => delete_by(held, movement))
+}
+
+fn kill(held: &mut HeldLine, movement: CMovement) -> Outcome
+    ensures { kills_by movement held.old (merged result) held.new }
+{
+    let movement = movement_of(movement)?;
+    ready(&mut held.heard, is_by_characters(&movement))?;
+    let answer = tried(held.line.kill(&movement, &mut held.heard))?;
+    Ok(truth(answer))
+}
+
+/// `lodvarn_line_kill`.
+#[unsafe(no_mangle)]
+pub extern "C" fn lodvarn_line_kill(alloc: Global, l: &mut Handle, movement: CMovement) -> i32
+    ensures { Through a_line (kills_by movement) l.old.value result l.new.value }
+{
+    of!(l, alloc, Held::Line(held) => kill(held, movement))
+}
+
+#[tactic(auto, unfolding(crate::specs::Calls::only_where))]
+fn kill_range(held: &mut HeldLine, range: CRange, direction: u32) -> Outcome
+    ensures { kills_range range direction held.old (merged result) held.new }
+{
+    let side = direction_of(direction)?;
+    if !held.line.is_range(range.from, range.to) {
+        return Err(Answer::BadPlace);
+    }
+    ready(&mut held.heard, false)?;
+    match held
+        .line
+        .kill_range(range.from..range.to, side, &mut held.heard)
+    {
+        Ok(answer) => Ok(truth(answer)),
+        Err(_) => Err(Answer::NoMemory),
+    }
+}
+
+/// `lodvarn_line_kill_range`.
+#[unsafe(no_mangle)]
+pub extern "C" fn lodvarn_line_kill_range(
+    alloc: Global,
+    l: &mut Handle,
+    range: CRange,
+    direction: u32,
+) -> i32
+    ensures { Through a_line (kills_range range direction) l.old.value result l.new.value }
+{
+    of!(l, alloc, Held::Line(held) => kill_range(held, range, direction))
+}
+
+fn transpose_chars(held: &mut HeldLine) -> Outcome
+    ensures { edits a_copy transpose_chars_plan truth held.old (merged result) held.new }
+{
+    let answer = tried(held.line.transpose_chars(&mut held.heard))?;
+    Ok(truth(answer))
+}
+
+/// `lodvarn_line_transpose_chars`.
+#[unsafe(no_mangle)]
+pub extern "C" fn lodvarn_line_transpose_chars(alloc: Global, l: &mut Handle) -> i32
+    ensures { Through a_line (edits a_copy transpose_chars_plan truth) l.old.value result l.new.value }
+{
+    of!(l, alloc, Held::Line(held) => transpose_chars(held))
+}
+
+fn transpose_words(held: &mut HeldLine, n: usize) -> Outcome
+    ensures { of_named (count_of n) (λ k. edits a_copy (λ line. transpose_words_plan line k) truth) held.old (merged result) held.new }
+{
+    let n = count_of(n)?;
+    let answer = tried(held.line.transpose_words(n, &mut held.heard))?;
+    Ok(truth(answer))
+}
+
+/// `lodvarn_line_transpose_words`.
+#[unsafe(no_mangle)]
+pub extern "C" fn lodvarn_line_transpose_words(alloc: Global, l: &mut Handle, n: usize) -> i32
+    ensures { Through a_line (of_named (count_of n) (λ k. edits a_copy (λ line. transpose_words_plan line k) truth)) l.old.value result l.new.value }
+{
+    of!(l, alloc, Held::Line(held) => transpose_words(held, n))
+}
+
+fn change_case(held: &mut HeldLine, to: u32) -> Outcome
+    ensures { of_named (case_of to) (λ action. edits a_copy (λ line. edit_word_plan line action) truth) held.old (merged result) held.new }
+{
+    let action = case_of(to)?;
+    let answer = tried(held.line.edit_word(action, &mut held.heard))?;
+    Ok(truth(answer))
+}
+
+/// `lodvarn_line_change_case`.
+#[unsafe(no_mangle)]
+pub extern "C" fn lodvarn_line_change_case(alloc: Global, l: &mut Handle, to: u32) -> i32
+    ensures { Through a_line (of_named (case_of to) (λ action. edits a_copy (λ line. edit_word_plan line action) truth)) l.old.value result l.new.value }
+{
+    of!(l, alloc, Held::Line(held) => change_case(held, to))
+}
+
+fn indent(held: &mut HeldLine, movement: CMovement, amount: u8, indentation: u32) -> Outcome
+    ensures { indents movement amount indentation held.old (merged result) held.new }
+{
+    let movement = movement_of(movement)?;
+    let dedent = dedents_of(indentation)?;
+    let answer = tried(held.line.indent(&movement, amount, dedent, &mut held.heard))?;
+    Ok(truth(answer))
+}
+
+/// `lodvarn_line_indent`.
+#[unsafe(no_mangle)]
+pub extern "C" fn lodvarn_line_indent(
+    alloc: Global,
+    l: &mut Handle,
+    movement: CMovement,
+    amount: u8,
+    indentation: u32,
+) -> i32
+    ensures { Through a_line (indents movement amount indentation) l.old.value result l.new.value }
+{
+    of!(l, alloc, Held::Line(held) => indent(held, movement, amount, indentation))
 }

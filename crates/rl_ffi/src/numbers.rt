@@ -1,71 +1,13 @@
-//! The numbers of the calls, and what they stand for.
+//! What the numbers of the calls stand for. Each function answers `NoSuchNumber` for a number that stands for nothing.
 ghost use Rattle.std.specs.Prelude.{◌≡◌};
-ghost use Rattle.std.specs.Option.{option_map};
-ghost use Rattle.rl_base.specs.declared.motion.Movement.{Movement};
-ghost use Rattle.rl_ffi.specs.Numbers.{truth_number, fault_number, kind_number, watch_fault_number, reply_number, char_of, word_of, at_of, action_of, mode_of, dedents_of, direction_of, search_of, movement_of};
+ghost use Rattle.rl_ffi.specs.Numbers.{case_of, char_of, count_of, dedents_of, direction_of, kind_number, mode_number, mode_of, movement_by, movement_of, named};
 
+use crate::answers::Answer;
+use crate::shapes::CMovement;
 use rl_base::{
-    At, CharSearch, Direction, GraphemeClusterMode, Movement, RepeatCount, ReportKind, WatchFault,
-    Word, WordAction,
+    At, CharSearch, Direction, GraphemeClusterMode, Movement, RepeatCount, ReportKind, Word,
+    WordAction,
 };
-use rl_session::{Fault, Reply};
-
-pub(crate) const DONE: u32 = 0;
-
-const TRUE: u32 = 1;
-
-const FALSE: u32 = 2;
-
-pub(crate) const NONE: u32 = 3;
-
-pub(crate) const TEXT: u32 = 4;
-
-pub(crate) const MARK: u32 = 5;
-
-pub(crate) const AT: u32 = 6;
-
-pub(crate) const NO_MEMORY: u32 = 11;
-
-pub(crate) const BAD_PLACE: u32 = 12;
-
-pub(crate) const BAD_YANK_SIZE: u32 = 13;
-
-pub(crate) const NOT_REPLAYING: u32 = 14;
-
-pub(crate) const CLOSED: u32 = 20;
-
-pub(crate) const NOT_UTF8: u32 = 21;
-
-pub(crate) const NO_SUCH_NUMBER: u32 = 22;
-
-pub(crate) const TOO_SMALL: u32 = 23;
-
-pub(crate) fn truth_number(answer: bool) -> u32
-    ensures { result ≡ truth_number answer }
-{
-    if answer { TRUE } else { FALSE }
-}
-
-pub(crate) fn fault_number(fault: Fault) -> u32
-    ensures { result ≡ fault_number fault }
-{
-    match fault {
-        Fault::NoMemory => NO_MEMORY,
-        Fault::BadPlace => BAD_PLACE,
-        Fault::BadYankSize => BAD_YANK_SIZE,
-        Fault::NotReplaying => NOT_REPLAYING,
-    }
-}
-
-pub(crate) fn watch_fault_number(fault: WatchFault) -> u32
-    ensures { result ≡ watch_fault_number fault }
-{
-    match fault {
-        WatchFault::NoMemory => NO_MEMORY,
-        WatchFault::NoRoom => NO_SUCH_NUMBER,
-        WatchFault::IsWatched => FALSE,
-    }
-}
 
 pub(crate) fn kind_number(kind: ReportKind) -> u32
     ensures { result ≡ kind_number kind }
@@ -82,146 +24,114 @@ pub(crate) fn kind_number(kind: ReportKind) -> u32
     }
 }
 
-pub(crate) fn reply_number(reply: &Reply) -> u32
-    ensures { result ≡ reply_number reply.now }
-{
-    match reply {
-        Reply::Done => DONE,
-        Reply::Answer(answer) => truth_number(*answer),
-        Reply::Inserted(Some(at_end)) => truth_number(*at_end),
-        Reply::Inserted(None) => NONE,
-        Reply::Text(Some(_)) => TEXT,
-        Reply::Text(None) => NONE,
-        Reply::Mark(_) => MARK,
-        Reply::At(_, _) => AT,
-        Reply::Refused(fault) => fault_number(*fault),
-    }
-}
-
-pub(crate) fn char_of(number: u32) -> Option<char>
+pub(crate) fn char_of(number: u32) -> Result<char, Answer>
     ensures { result ≡ char_of number }
 {
-    char::from_u32(number)
-}
-
-pub(crate) fn word_of(number: u32) -> Option<Word>
-    ensures { result ≡ word_of number }
-{
-    match number {
-        0 => Some(Word::Big),
-        1 => Some(Word::Emacs),
-        2 => Some(Word::Vi),
-        _ => None,
+    match char::from_u32(number) {
+        Some(c) => Ok(c),
+        None => Err(Answer::NoSuchNumber),
     }
 }
 
-pub(crate) fn at_of(number: u32) -> Option<At>
-    ensures { result ≡ at_of number }
+pub(crate) fn count_of(number: usize) -> Result<RepeatCount, Answer>
+    ensures { result ≡ count_of number }
 {
-    match number {
-        0 => Some(At::Start),
-        1 => Some(At::BeforeEnd),
-        2 => Some(At::AfterEnd),
-        _ => None,
+    if number > 65535 {
+        return Err(Answer::NoSuchNumber);
     }
+    Ok(number as u16)
 }
 
-pub(crate) fn action_of(number: u32) -> Option<WordAction>
-    ensures { result ≡ action_of number }
-{
-    match number {
-        0 => Some(WordAction::Capitalize),
-        1 => Some(WordAction::Lowercase),
-        2 => Some(WordAction::Uppercase),
-        _ => None,
-    }
-}
-
-pub(crate) fn mode_of(number: u32) -> Option<GraphemeClusterMode>
+pub(crate) fn mode_of(number: u32) -> Result<GraphemeClusterMode, Answer>
     ensures { result ≡ mode_of number }
 {
     match number {
-        0 => Some(GraphemeClusterMode::Unicode),
-        1 => Some(GraphemeClusterMode::WcWidth),
-        2 => Some(GraphemeClusterMode::NoZwj),
-        _ => None,
+        10 => Ok(GraphemeClusterMode::Unicode),
+        11 => Ok(GraphemeClusterMode::WcWidth),
+        12 => Ok(GraphemeClusterMode::NoZwj),
+        _ => Err(Answer::NoSuchNumber),
     }
 }
 
-pub(crate) fn dedents_of(number: u32) -> Option<bool>
-    ensures { result ≡ dedents_of number }
+pub(crate) fn mode_number(mode: GraphemeClusterMode) -> u32
+    ensures { result ≡ mode_number mode }
 {
-    match number {
-        0 => Some(false),
-        1 => Some(true),
-        _ => None,
+    match mode {
+        GraphemeClusterMode::Unicode => 10,
+        GraphemeClusterMode::WcWidth => 11,
+        GraphemeClusterMode::NoZwj => 12,
     }
 }
 
-pub(crate) fn direction_of(number: u32) -> Option<Direction>
+pub(crate) fn direction_of(number: u32) -> Result<Direction, Answer>
     ensures { result ≡ direction_of number }
 {
     match number {
-        0 => Some(Direction::Forward),
-        1 => Some(Direction::Backward),
-        _ => None,
+        50 => Ok(Direction::Forward),
+        51 => Ok(Direction::Backward),
+        _ => Err(Answer::NoSuchNumber),
     }
 }
 
-pub(crate) fn search_of(number: u32, c: u32) -> Option<CharSearch>
-    ensures { result ≡ search_of number c }
-{
-    let c = char_of(c)?;
-    match number {
-        0 => Some(CharSearch::Forward(c)),
-        1 => Some(CharSearch::ForwardBefore(c)),
-        2 => Some(CharSearch::Backward(c)),
-        3 => Some(CharSearch::BackwardAfter(c)),
-        _ => None,
-    }
-}
-
-fn by_search(n: RepeatCount, search: Option<CharSearch>) -> Option<Movement>
-    ensures { result ≡ option_map (Movement.ViCharSearch n) search }
-{
-    match search {
-        Some(search) => Some(Movement::ViCharSearch(n, search)),
-        None => None,
-    }
-}
-
-pub(crate) fn movement_of(number: u32, n: RepeatCount, c: u32) -> Option<Movement>
-    ensures { result ≡ movement_of number n c }
+pub(crate) fn case_of(number: u32) -> Result<WordAction, Answer>
+    ensures { result ≡ case_of number }
 {
     match number {
-        0 => Some(Movement::WholeLine),
-        1 => Some(Movement::BeginningOfLine),
-        2 => Some(Movement::EndOfLine),
-        3 => Some(Movement::BackwardWord(n, Word::Big)),
-        4 => Some(Movement::BackwardWord(n, Word::Emacs)),
-        5 => Some(Movement::BackwardWord(n, Word::Vi)),
-        6 => Some(Movement::ForwardWord(n, At::Start, Word::Big)),
-        7 => Some(Movement::ForwardWord(n, At::BeforeEnd, Word::Big)),
-        8 => Some(Movement::ForwardWord(n, At::AfterEnd, Word::Big)),
-        9 => Some(Movement::ForwardWord(n, At::Start, Word::Emacs)),
-        10 => Some(Movement::ForwardWord(n, At::BeforeEnd, Word::Emacs)),
-        11 => Some(Movement::ForwardWord(n, At::AfterEnd, Word::Emacs)),
-        12 => Some(Movement::ForwardWord(n, At::Start, Word::Vi)),
-        13 => Some(Movement::ForwardWord(n, At::BeforeEnd, Word::Vi)),
-        14 => Some(Movement::ForwardWord(n, At::AfterEnd, Word::Vi)),
-        15 => by_search(n, search_of(0, c)),
-        16 => by_search(n, search_of(1, c)),
-        17 => by_search(n, search_of(2, c)),
-        18 => by_search(n, search_of(3, c)),
-        19 => Some(Movement::ViFirstPrint),
-        20 => Some(Movement::BackwardChar(n)),
-        21 => Some(Movement::ForwardChar(n)),
-        22 => Some(Movement::LineUp(n)),
-        23 => Some(Movement::LineDown(n)),
-        24 => Some(Movement::WholeBuffer),
-        25 => Some(Movement::BeginningOfBuffer),
-        26 => Some(Movement::EndOfBuffer),
-        27 => Some(Movement::FirstNonBlank),
-        _ => None,
+        60 => Ok(WordAction::Capitalize),
+        61 => Ok(WordAction::Lowercase),
+        62 => Ok(WordAction::Uppercase),
+        _ => Err(Answer::NoSuchNumber),
     }
+}
+
+pub(crate) fn dedents_of(number: u32) -> Result<bool, Answer>
+    ensures { result ≡ dedents_of number }
+{
+    match number {
+        70 => Ok(false),
+        71 => Ok(true),
+        _ => Err(Answer::NoSuchNumber),
+    }
+}
+
+fn movement_by(kind: u32, n: RepeatCount, c: u32) -> Result<Movement, Answer>
+    ensures { result ≡ named (movement_by kind n c) }
+{
+    Ok(match kind {
+        100 => Movement::WholeLine,
+        101 => Movement::BeginningOfLine,
+        102 => Movement::EndOfLine,
+        103 => Movement::BackwardWord(n, Word::Big),
+        104 => Movement::BackwardWord(n, Word::Emacs),
+        105 => Movement::BackwardWord(n, Word::Vi),
+        106 => Movement::ForwardWord(n, At::Start, Word::Big),
+        107 => Movement::ForwardWord(n, At::BeforeEnd, Word::Big),
+        108 => Movement::ForwardWord(n, At::AfterEnd, Word::Big),
+        109 => Movement::ForwardWord(n, At::Start, Word::Emacs),
+        110 => Movement::ForwardWord(n, At::BeforeEnd, Word::Emacs),
+        111 => Movement::ForwardWord(n, At::AfterEnd, Word::Emacs),
+        112 => Movement::ForwardWord(n, At::Start, Word::Vi),
+        113 => Movement::ForwardWord(n, At::BeforeEnd, Word::Vi),
+        114 => Movement::ForwardWord(n, At::AfterEnd, Word::Vi),
+        115 => Movement::ViCharSearch(n, CharSearch::Forward(char_of(c)?)),
+        116 => Movement::ViCharSearch(n, CharSearch::ForwardBefore(char_of(c)?)),
+        117 => Movement::ViCharSearch(n, CharSearch::Backward(char_of(c)?)),
+        118 => Movement::ViCharSearch(n, CharSearch::BackwardAfter(char_of(c)?)),
+        119 => Movement::ViFirstPrint,
+        120 => Movement::BackwardChar(n),
+        121 => Movement::ForwardChar(n),
+        122 => Movement::LineUp(n),
+        123 => Movement::LineDown(n),
+        124 => Movement::WholeBuffer,
+        125 => Movement::BeginningOfBuffer,
+        126 => Movement::EndOfBuffer,
+        127 => Movement::FirstNonBlank,
+        _ => return Err(Answer::NoSuchNumber),
+    })
+}
+
+pub(crate) fn movement_of(movement: CMovement) -> Result<Movement, Answer>
+    ensures { result ≡ movement_of movement }
+{
+    movement_by(movement.kind, count_of(movement.n)?, movement.c)
 }

@@ -1,161 +1,143 @@
 //! The calls on a record and a line, each by itself.
 ghost use Rattle.std.specs.Prelude.{◌≡◌};
-ghost use Rattle.rl_ffi.specs.RecordLines.{AsksAhead, AsksBack, AsksBoth, AsksFirst, RedoesIn, ThroughBoth, Undoes};
+ghost use Rattle.rl_ffi.specs.Answers.{merged};
+ghost use Rattle.rl_ffi.specs.RecordLines.{AsksAhead, AsksBack, AsksBoth, AsksFirst, Redoes, ThroughBoth, Undoes, UndoesCounted};
 
-use crate::handle::of_part;
-use crate::held_line::HeldLine;
-use crate::line_handle::LineHandle;
-use crate::numbers::{CLOSED, NO_MEMORY, NOT_REPLAYING, truth_number};
-use crate::record_handle::RecordHandle;
+use crate::answers::{Answer, Outcome, merged, tried, truth};
+use crate::handle::{Handle, of};
+use crate::held::{Held, HeldLine};
+use crate::numbers::count_of;
+use rl_base::RepeatCount;
 use rl_line::Changeset;
 use std::alloc::Global;
 
-fn undo(changes: &mut Changeset, held: &mut HeldLine, n: u16) -> u32
-    ensures { Undoes n changes.old held.old result changes.new held.new }
+fn undo(changes: &mut Changeset, held: &mut HeldLine, n: RepeatCount) -> Outcome
+    ensures { Undoes n changes.old held.old (merged result) changes.new held.new }
 {
     match changes.can_undo_last(&held.line, n) {
         Ok(true) => {}
-        Ok(false) => return NOT_REPLAYING,
-        Err(_) => return NO_MEMORY,
+        Ok(false) => return Err(Answer::NotReplaying),
+        Err(_) => return Err(Answer::NoMemory),
     }
     // The listener may refuse, so it hears of all before anything changes.
     let mut told = held.heard.apart();
     if changes.foretell_undo(&held.line, n, &mut told).is_err() {
-        return NO_MEMORY;
+        return Err(Answer::NoMemory);
     }
     let waiting = held.heard.len();
     if held.heard.join(told).is_err() {
-        return NO_MEMORY;
+        return Err(Answer::NoMemory);
     }
     match changes.undo(&mut held.line, n) {
-        Ok(answer) => truth_number(answer),
+        Ok(answer) => Ok(truth(answer)),
         Err(_) => {
             held.heard.keep(waiting);
-            NO_MEMORY
+            Err(Answer::NoMemory)
         }
     }
 }
 
-/// Undoes the last n units in the line, or one where n is 0: TRUE where there was a change, or FALSE. Each change of the
-/// line is a report that waits. NOT_REPLAYING, where the units can't be taken back from the line's text or a cursor that was
-/// told would stand between no two characters of it, NO_MEMORY, only where there is a change, and CLOSED change nothing.
+fn undo_counted(changes: &mut Changeset, held: &mut HeldLine, n: usize) -> Outcome
+    ensures { UndoesCounted n changes.old held.old (merged result) changes.new held.new }
+{
+    undo(changes, held, count_of(n)?)
+}
+
+/// `lodvarn_record_undo`.
 #[unsafe(no_mangle)]
 pub extern "C" fn lodvarn_record_undo(
     alloc: Global,
-    r: &mut RecordHandle,
-    l: &mut LineHandle,
-    n: u16,
-) -> u32
-    ensures { ThroughBoth (Undoes n) r.old.value l.old.value result r.new.value l.new.value }
+    r: &mut Handle,
+    l: &mut Handle,
+    n: usize,
+) -> i32
+    ensures { ThroughBoth (UndoesCounted n) r.old.value l.old.value result r.new.value l.new.value }
 {
-    of_part!(RecordHandle, r, alloc, changes => of_part!(LineHandle, l, alloc, held => undo(&mut changes, &mut held, n), CLOSED), CLOSED)
+    of!(r, alloc, Held::Record(changes) => of!(l, alloc, Held::Line(held) => undo_counted(changes, held, n)), Answer::Closed.number())
 }
 
-fn redo(changes: &mut Changeset, held: &mut HeldLine) -> u32
-    ensures { RedoesIn changes.old held.old result changes.new held.new }
+fn redo(changes: &mut Changeset, held: &mut HeldLine) -> Outcome
+    ensures { Redoes changes.old held.old (merged result) changes.new held.new }
 {
     match changes.can_redo_next(&held.line) {
         Ok(true) => {}
-        Ok(false) => return NOT_REPLAYING,
-        Err(_) => return NO_MEMORY,
+        Ok(false) => return Err(Answer::NotReplaying),
+        Err(_) => return Err(Answer::NoMemory),
     }
     let mut told = held.heard.apart();
     if changes.foretell_redo(&held.line, &mut told).is_err() {
-        return NO_MEMORY;
+        return Err(Answer::NoMemory);
     }
     let waiting = held.heard.len();
     if held.heard.join(told).is_err() {
-        return NO_MEMORY;
+        return Err(Answer::NoMemory);
     }
     match changes.redo(&mut held.line) {
-        Ok(answer) => truth_number(answer),
+        Ok(answer) => Ok(truth(answer)),
         Err(_) => {
             held.heard.keep(waiting);
-            NO_MEMORY
+            Err(Answer::NoMemory)
         }
     }
 }
 
-/// Redoes in the line what was undone last: TRUE where there was a change, or FALSE. Each change of the line is a report
-/// that waits. NOT_REPLAYING, where it can't be made again in the line's text or a cursor that was told would stand between
-/// no two characters of it, NO_MEMORY, only where there is a change, and CLOSED change nothing.
+/// `lodvarn_record_redo`.
 #[unsafe(no_mangle)]
-pub extern "C" fn lodvarn_record_redo(
-    alloc: Global,
-    r: &mut RecordHandle,
-    l: &mut LineHandle,
-) -> u32
-    ensures { ThroughBoth RedoesIn r.old.value l.old.value result r.new.value l.new.value }
+pub extern "C" fn lodvarn_record_redo(alloc: Global, r: &mut Handle, l: &mut Handle) -> i32
+    ensures { ThroughBoth Redoes r.old.value l.old.value result r.new.value l.new.value }
 {
-    of_part!(RecordHandle, r, alloc, changes => of_part!(LineHandle, l, alloc, held => redo(&mut changes, &mut held), CLOSED), CLOSED)
+    of!(r, alloc, Held::Record(changes) => of!(l, alloc, Held::Line(held) => redo(changes, held)), Answer::Closed.number())
 }
 
-fn can_undo(changes: &Changeset, held: &HeldLine) -> u32
-    ensures { AsksBack changes.now held.now result }
+fn can_undo(changes: &Changeset, held: &HeldLine) -> Outcome
+    ensures { AsksBack changes.now held.now (merged result) }
 {
-    match changes.can_undo(&held.line) {
-        Ok(answer) => truth_number(answer),
-        Err(_) => NO_MEMORY,
-    }
+    let answer = tried(changes.can_undo(&held.line))?;
+    Ok(truth(answer))
 }
 
-/// Whether the line can go back over all that is recorded: TRUE or FALSE. NO_MEMORY for the copy on which that is tried, and
-/// CLOSED where one of the two is.
+/// `lodvarn_record_can_undo`.
 #[unsafe(no_mangle)]
-pub extern "C" fn lodvarn_record_can_undo(
-    alloc: Global,
-    r: &mut RecordHandle,
-    l: &mut LineHandle,
-) -> u32
+pub extern "C" fn lodvarn_record_can_undo(alloc: Global, r: &mut Handle, l: &mut Handle) -> i32
     ensures value { AsksBoth AsksBack r.old.value l.old.value result }
     ensures kept { (r.new.value ≡ r.old.value) × (l.new.value ≡ l.old.value) }
 {
-    of_part!(RecordHandle, r, alloc, changes => of_part!(LineHandle, l, alloc, held => can_undo(&changes, &held), CLOSED), CLOSED)
+    of!(r, alloc, Held::Record(changes) => of!(l, alloc, Held::Line(held) => can_undo(changes, held)), Answer::Closed.number())
 }
 
-fn can_redo(changes: &Changeset, held: &HeldLine) -> u32
-    ensures { AsksAhead changes.now held.now result }
+fn can_redo(changes: &Changeset, held: &HeldLine) -> Outcome
+    ensures { AsksAhead changes.now held.now (merged result) }
 {
-    match changes.can_redo(&held.line) {
-        Ok(answer) => truth_number(answer),
-        Err(_) => NO_MEMORY,
-    }
+    let answer = tried(changes.can_redo(&held.line))?;
+    Ok(truth(answer))
 }
 
-/// Whether the line can go ahead over all that was undone: TRUE or FALSE. NO_MEMORY for the copy on which that is tried, and
-/// CLOSED where one of the two is.
+/// `lodvarn_record_can_redo`.
 #[unsafe(no_mangle)]
-pub extern "C" fn lodvarn_record_can_redo(
-    alloc: Global,
-    r: &mut RecordHandle,
-    l: &mut LineHandle,
-) -> u32
+pub extern "C" fn lodvarn_record_can_redo(alloc: Global, r: &mut Handle, l: &mut Handle) -> i32
     ensures value { AsksBoth AsksAhead r.old.value l.old.value result }
     ensures kept { (r.new.value ≡ r.old.value) × (l.new.value ≡ l.old.value) }
 {
-    of_part!(RecordHandle, r, alloc, changes => of_part!(LineHandle, l, alloc, held => can_redo(&changes, &held), CLOSED), CLOSED)
+    of!(r, alloc, Held::Record(changes) => of!(l, alloc, Held::Line(held) => can_redo(changes, held)), Answer::Closed.number())
 }
 
-fn replays_to(changes: &Changeset, entries: usize, held: &HeldLine) -> u32
-    ensures { AsksFirst entries changes.now held.now result }
+fn replays_to(changes: &Changeset, held: &HeldLine, entries: usize) -> Outcome
+    ensures { AsksFirst entries changes.now held.now (merged result) }
 {
-    match changes.replays_to(entries, &held.line) {
-        Ok(answer) => truth_number(answer),
-        Err(_) => NO_MEMORY,
-    }
+    let answer = tried(changes.replays_to(entries, &held.line))?;
+    Ok(truth(answer))
 }
 
-/// Whether so many entries lead to the line's text by themselves, so that the record may be truncated to them: TRUE or
-/// FALSE. NO_MEMORY for the copy on which that is tried, and CLOSED where one of the two is.
+/// `lodvarn_record_replays_to`.
 #[unsafe(no_mangle)]
 pub extern "C" fn lodvarn_record_replays_to(
     alloc: Global,
-    r: &mut RecordHandle,
+    r: &mut Handle,
+    l: &mut Handle,
     entries: usize,
-    l: &mut LineHandle,
-) -> u32
+) -> i32
     ensures value { AsksBoth (AsksFirst entries) r.old.value l.old.value result }
     ensures kept { (r.new.value ≡ r.old.value) × (l.new.value ≡ l.old.value) }
 {
-    of_part!(RecordHandle, r, alloc, changes => of_part!(LineHandle, l, alloc, held => replays_to(&changes, entries, &held), CLOSED), CLOSED)
+    of!(r, alloc, Held::Record(changes) => of!(l, alloc, Held::Line(held) => replays_to(changes, held, entries)), Answer::Closed.number())
 }

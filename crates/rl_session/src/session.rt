@@ -7,7 +7,7 @@ ghost use Rattle.std.specs.Option.{option_map};
 ghost use Rattle.rl_base.specs.KillRing.{reset};
 ghost use Rattle.rl_base.specs.Reports.{HasTexts, LacksTexts, Noted, Stand, TellsByTexts, after_numbers, after_texts, new_queue, texts_of};
 ghost use Rattle.rl_base.specs.Splice.{Splices, told, untouched};
-ghost use Rattle.rl_base.specs.Watch.{RefusesQueue, next_note, past_next, text_room};
+ghost use Rattle.rl_base.specs.Watch.{RefusesQueue, next_note, past_next, text_room, waiting_count};
 ghost use Rattle.rl_session.specs.State.{State, ChangedFrom, Follows, IsBounded, ReportedFrom, Ends, Stands, with_ring, with_watch, Replays, origin};
 ghost use Rattle.rl_session.specs.Commands.{Step};
 ghost use Rattle.rl_session.specs.Run.{Row, Run, AfterEach, commands_of, held_of, replies_of, reports, reports_of};
@@ -237,6 +237,21 @@ impl Session {
         self.pair
             .watch
             .keep_reports(self.alloc, reports, text_bytes)
+    }
+
+    /// Keeps no reports any more. Those that wait are dropped, and their memory is freed; `watch` may be called again.
+    pub fn unwatch(&mut self)
+        ensures stopped { self.new ≡ with_watch (record self.old.pair.watch { reports = None }) self.old }
+        ensures changed { (asked : List ℕ) → ChangedFrom asked self.old → ChangedFrom asked self.new }
+    {
+        self.pair.watch.stop_reports();
+    }
+
+    /// How many reports wait; one of all that waited as one change counts as one. 0 where none are kept.
+    pub fn waiting_reports(&self) -> usize
+        ensures { result ≡ waiting_count self.now.pair.watch }
+    {
+        self.pair.watch.waiting_reports()
     }
 
     /// The oldest report that waits; None where none does, or none are kept.

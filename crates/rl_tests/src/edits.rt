@@ -25,8 +25,7 @@ pub(crate) fn yank_pop<L: ChangeListener>(
     text: &str,
     listener: &mut L,
 ) -> Result<Option<bool>, Refusal> {
-    let at = line.pos();
-    assert!(rt; size <= at && line.as_str().is_char_boundary(at - size));
+    assert!(rt; line.can_yank_pop(size));
     line.yank_pop(size, text, listener)
 }
 
@@ -39,9 +38,7 @@ pub(crate) fn replace<L: ChangeListener>(
     text: &str,
     listener: &mut L,
 ) -> Result<(), Refusal> {
-    let held = line.as_str();
-    let places = held.is_char_boundary(from) && held.is_char_boundary(to);
-    assert!(rt; from <= to && places, "from {from} to {to}");
+    assert!(rt; line.is_range(from, to), "from {from} to {to}");
     line.replace(from..to, text, listener)
 }
 

@@ -33,8 +33,7 @@ fn kill_range(
     dir: Direction,
     heard: &mut RefuseAt,
 ) -> Result<bool, Refusal> {
-    let text = line.as_str();
-    if from <= to && text.is_char_boundary(from) && text.is_char_boundary(to) {
+    if line.is_range(from, to) {
         return line.kill_range(from..to, dir, heard);
     }
     Ok(false)

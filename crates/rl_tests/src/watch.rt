@@ -158,6 +158,30 @@ fn keeps(rt: &impl Abort, alloc: Global, room: usize, text_room: usize) -> Resul
 }
 
 #[test]
+fn many_reports_are_read(rt: HostRuntime) -> Result<(), Fail> {
+    const TEXT: &str = "a report of some fifty bytes, which is put in again";
+    const COUNT: usize = 20_000;
+    let mut queue = Reports::new(rt.alloc(), COUNT, 2_000_000)?;
+    for at in 0..COUNT {
+        queue.insert_str(at, TEXT)?;
+    }
+    is_so(&rt, queue.waiting() == COUNT, "all wait");
+    for at in 0..COUNT {
+        let numbers = (at, 0, TEXT.len());
+        tells(
+            &rt,
+            &mut queue,
+            ReportKind::TextInserted,
+            numbers,
+            None,
+            TEXT,
+        );
+    }
+    is_so(&rt, queue.waiting() == 0, "none waits");
+    Ok(())
+}
+
+#[test]
 fn a_session_keeps_reports(rt: HostRuntime) -> Result<(), Fail> {
     let mode = GraphemeClusterMode::Unicode;
     let mut session = Session::new(rt.alloc(), "ab", 2, 64, 60, mode)?;
@@ -177,6 +201,11 @@ fn a_session_keeps_reports(rt: HostRuntime) -> Result<(), Fail> {
     reads(&rt, s, 2, "é");
     let _ = s.apply(&Command::Insert('c', 1));
     reads(&rt, s, 4, "c");
+    let _ = s.apply(&Command::Insert('d', 1));
+    is_so(&rt, s.waiting_reports() == 1, "one waits");
+    s.unwatch();
+    is_so(&rt, s.waiting_reports() == 0, "none waits");
+    is_so(&rt, s.watch(1, 0).is_ok(), "a queue again");
     // numbers alone, one byte of texts, and much of both
     const ROOMS: &[(usize, usize)] = &[(1, 0), (1500, 0), (1, 1), (1, 2), (1500, 100_000)];
     for (room, text_room) in ROOMS {

@@ -1,13 +1,14 @@
 //! A form field without a terminal: ten columns, at most sixteen characters, undo and redo. It scrolls sideways, so
 //! that the cursor is always seen. Each line of standard input is a key, as `type abc`, `left` or `kill-word`, and is
 //! answered by what the field shows then, and by the column of the cursor there. In a text `\n` stands for a newline.
-use lodvarn::{first_cluster, last_cluster, width, At, Fault, Mode, Movement, Session, Word};
+use lodvarn::{first_cluster, last_cluster, width, At, Fault, Inserted, Mode, Movement};
+use lodvarn::{Session, Word};
 use std::error::Error;
 use std::io::{self, BufRead, Write};
 use std::iter::successors;
 
 /// The columns of the field. A cursor at the end of the text takes one of them.
-const WIDTH: u16 = 10;
+const WIDTH: usize = 10;
 const MAX_CHARS: usize = 16;
 
 struct Field {
@@ -28,7 +29,7 @@ impl Field {
         allowed
     }
 
-    /// Does what a key says, where there is something to do. False where there is no such key.
+    /// Does what a key says, if there is something to do. False if there is no such key.
     fn press(&mut self, line: &str) -> Result<bool, Fault> {
         let (key, text) = line.split_once(' ').unwrap_or((line, ""));
         let text = self.allowed(&text.replace("\\n", "\n"));
@@ -40,7 +41,7 @@ impl Field {
                 }
                 true
             }
-            "paste" => session.paste(&text, 1)?.is_some(),
+            "paste" => session.paste(&text, 1)? != Inserted::Nothing,
             "left" => session.move_by(Movement::BackwardChar(1)),
             "right" => session.move_by(Movement::ForwardChar(1)),
             "word-left" => session.move_by(Movement::BackwardWord(1, word)),
@@ -48,8 +49,8 @@ impl Field {
             "home" => session.move_by(Movement::BeginningOfLine),
             "end" => session.move_by(Movement::EndOfLine),
             "backspace" => session.backspace(1)?,
-            "delete" => session.delete(1)?.is_some(),
-            "kill-word" => session.delete_prev_word(word, 1)?,
+            "delete" => session.delete(1)?,
+            "kill-word" => session.delete_by(Movement::BackwardWord(1, word))?,
             "undo" => session.undo(1)?,
             "redo" => session.redo()?,
             _ => return Ok(false),
@@ -57,11 +58,11 @@ impl Field {
         Ok(true)
     }
 
-    /// The field, and the column of the cursor. It scrolls no further than the cursor needs, and back where the rest of
+    /// The field, and the column of the cursor. It scrolls no further than the cursor needs, and back if the rest of
     /// the text leaves room.
     fn show(&mut self) -> String {
         let (text, pos) = (self.session.text(), self.session.pos());
-        let columns = |from: usize, to: usize| width(&text[from..to], Mode::Unicode);
+        let columns = |from: usize, to: usize| width(Mode::Unicode, &text[from..to]);
         let after = |at: usize| Some(at + first_cluster(&text[at..]).len()).filter(|&it| it > at);
         let places = |from: usize| successors(Some(from), |&at| after(at));
         let cursor = after(pos).map_or(1, |it| columns(pos, it).max(1));
@@ -71,7 +72,7 @@ impl Field {
         let first = found.map_or(pos, |it| it.min(pos));
         let seen = places(first).take_while(|&it| columns(first, it) <= WIDTH);
         let last = seen.last().unwrap_or(first);
-        let rest = " ".repeat((WIDTH - columns(first, last)).into());
+        let rest = " ".repeat(WIDTH - columns(first, last));
         self.first = first;
         format!("[{}{rest}] {}", &text[first..last], columns(first, pos))
     }

@@ -1,46 +1,27 @@
 //! How a session is opened.
 use crate::calls::Handle;
-use crate::words::{Bound, Fault, Mode};
+use crate::words::{Fault, Mode, Options};
 use crate::{Session, NO_LIMIT};
 
 /// What a session is opened with, from [`Session::builder`]. What is not said stays as it is there: no text, the cursor
-/// at the end of the text, a limit of 4096 bytes, a kill ring of 60 texts, [`Mode::Unicode`], a prompt that ends at
-/// column 0, and [`Bound::NONE`].
+/// at the end of the text, and [`Options::default`].
 ///
 /// ```
 /// # use lodvarn::{Fault, Session};
 /// # fn main() -> Result<(), Fault> {
 /// let session = Session::builder().text("one two").pos(3).limit(80).open()?;
-/// assert_eq!((session.text().as_str(), session.pos()), ("one two", 3));
-/// assert_eq!(session.limit(), 80);
+/// assert_eq!((session.text(), session.pos()), ("one two", 3));
+/// assert_eq!(session.options().limit, 80);
 /// # Ok(())
 /// # }
 /// ```
-#[derive(Clone, Debug)]
+#[derive(Clone, Debug, Default)]
 #[must_use = "`open` opens the session"]
 pub struct SessionBuilder<'t> {
     text: &'t str,
     // None stands for the end of the text.
     pos: Option<usize>,
-    limit: usize,
-    ring_size: usize,
-    mode: Mode,
-    prompt: u16,
-    bound: Bound,
-}
-
-impl Default for SessionBuilder<'_> {
-    fn default() -> Self {
-        SessionBuilder {
-            text: "",
-            pos: None,
-            limit: 4096,
-            ring_size: 60,
-            mode: Mode::Unicode,
-            prompt: 0,
-            bound: Bound::NONE,
-        }
-    }
+    options: Options,
 }
 
 impl<'t> SessionBuilder<'t> {
@@ -55,10 +36,15 @@ impl<'t> SessionBuilder<'t> {
         SessionBuilder { pos, ..self }
     }
 
-    /// Lets the text grow to so many bytes. Where the text is longer already, its length is the limit. Room is found
-    /// for the text that is there, and for more once it is needed.
-    pub fn limit(self, limit: usize) -> Self {
-        SessionBuilder { limit, ..self }
+    /// Takes all options at once.
+    pub fn options(self, options: Options) -> Self {
+        SessionBuilder { options, ..self }
+    }
+
+    /// Lets the text grow to so many bytes, as [`Options::limit`] says.
+    pub fn limit(mut self, limit: usize) -> Self {
+        self.options.limit = limit;
+        self
     }
 
     /// Lets the text grow to any length.
@@ -67,43 +53,48 @@ impl<'t> SessionBuilder<'t> {
     }
 
     /// Lets the kill ring keep up to so many texts. With 0 it keeps none, and a kill only deletes.
-    pub fn ring_size(self, ring_size: usize) -> Self {
-        SessionBuilder { ring_size, ..self }
+    pub fn ring_size(mut self, ring_size: usize) -> Self {
+        self.options.ring_size = ring_size;
+        self
     }
 
     /// Counts columns so.
-    pub fn mode(self, mode: Mode) -> Self {
-        SessionBuilder { mode, ..self }
+    pub fn mode(mut self, mode: Mode) -> Self {
+        self.options.mode = mode;
+        self
     }
 
-    /// Says at which column the prompt ends, as [`Session::set_prompt`] does.
-    pub fn prompt(self, prompt: u16) -> Self {
-        SessionBuilder { prompt, ..self }
+    /// Says at which column the text begins, as [`Options::prompt`] does.
+    pub fn prompt(mut self, prompt: u16) -> Self {
+        self.options.prompt = prompt;
+        self
     }
 
-    /// Bounds the record, as [`Session::set_bound`] does.
-    pub fn bound(self, bound: Bound) -> Self {
-        SessionBuilder { bound, ..self }
+    /// Lets the record have so many entries, as [`Session::set_options`] does.
+    pub fn max_entries(mut self, max_entries: usize) -> Self {
+        self.options.max_entries = max_entries;
+        self
     }
 
-    /// Opens the session.
-    ///
-    /// # Panics
-    ///
-    /// Where the library that is linked is of another version than this crate.
+    /// Lets the record have so many bytes of text.
+    pub fn max_bytes(mut self, max_bytes: usize) -> Self {
+        self.options.max_bytes = max_bytes;
+        self
+    }
+
+    /// Opens the session. No room is found for the limit before it is needed.
     ///
     /// # Errors
     ///
-    /// [`Fault::BadPlace`] where the cursor's place is past the text or inside a character; [`Fault::NoMemory`].
+    /// [`Fault::BadPlace`] if the cursor's place is past the text or inside a character; [`Fault::NoMemory`].
     pub fn open(&self) -> Result<Session, Fault> {
-        let pos = self.pos.unwrap_or(self.text.len());
-        let handle = Handle::open(self.text, pos, self.limit, self.ring_size, self.mode)?;
         let mut session = Session {
-            handle,
+            handle: Handle::open(&self.options, self.text)?,
             keeps_texts: false,
         };
-        session.set_prompt(self.prompt);
-        session.set_bound(self.bound);
-        Ok(session)
+        match self.pos {
+            Some(pos) => session.set_pos(pos).map(|()| session),
+            None => Ok(session),
+        }
     }
 }

@@ -1,27 +1,25 @@
 //! What changed in the text of a session: as one splice, as reports, or told to a listener.
-use crate::calls::Written;
 use crate::words::{Direction, Fault, ReportKind};
-use crate::{ffi, string, Session};
+use crate::{done, ffi, told, Session};
 use std::error::Error;
 use std::fmt;
-use std::iter::FusedIterator;
 
-/// A change of a text: what stood between the places `from` and `old_end` of the old text gave way to what stands
-/// between `from` and `new_end` of the new one. The places are in bytes, and boundaries of their texts.
+/// A change of a text: what stood between the places `from` and `old_to` of the old text gave way to what stands between
+/// `from` and `new_to` of the new one. The places are in bytes, and boundaries of their texts.
 #[derive(Clone, Copy, Debug, PartialEq, Eq, Hash)]
 pub struct Splice {
     /// Where it begins, in both texts.
     pub from: usize,
     /// Where it ends in the old text.
-    pub old_end: usize,
+    pub old_to: usize,
     /// Where it ends in the new text.
-    pub new_end: usize,
+    pub new_to: usize,
 }
 
-/// A report of a change. Its place is one of the text that the reports before it have led to. Places and lengths are
-/// in bytes.
-#[derive(Clone, Debug, PartialEq, Eq, Hash)]
-pub struct Report {
+/// A report of a change. Its place is one of the text that the reports before it have led to. Places and lengths are in
+/// bytes.
+#[derive(Clone, Copy, Debug, PartialEq, Eq, Hash)]
+pub struct Report<'s> {
     /// What it is of. `KillStarted` and `KillStopped` are of no change, and all their numbers are 0.
     pub kind: ReportKind,
     /// The place of the change.
@@ -34,64 +32,35 @@ pub struct Report {
     pub pos_before: usize,
     /// The place of the cursor after the change.
     pub pos_after: usize,
-    /// What went, and what came. `None` of a report of the kind `Folded`, and where the queue keeps no texts.
-    pub texts: Option<(String, String)>,
+    /// What went. It is empty if the kind is `Folded`, or if no texts are kept, and so is `new_text`.
+    pub old_text: &'s str,
+    /// What came.
+    pub new_text: &'s str,
 }
 
-impl Report {
-    /// The report that the library wrote. Where the queue keeps texts, `out` has what went, and after that what came.
-    fn of(written: Written, mut out: Vec<u8>, keeps_texts: bool) -> Report {
-        let kind = ReportKind::of(written.kind);
-        let has_texts = keeps_texts && kind != ReportKind::Folded;
-        let texts = has_texts.then(|| {
-            let new = out.split_off(written.old_len);
-            (string(out), string(new))
-        });
-        Report {
-            kind,
-            at: written.at,
-            old_len: written.old_len,
-            new_len: written.new_len,
-            pos_before: written.pos_before,
-            pos_after: written.pos_after,
-            texts,
-        }
-    }
-
+impl Report<'_> {
     /// The change as a splice of the text that the reports before it have led to.
     pub fn splice(&self) -> Splice {
         Splice {
             from: self.at,
-            old_end: self.at + self.old_len,
-            new_end: self.at + self.new_len,
+            old_to: self.at + self.old_len,
+            new_to: self.at + self.new_len,
         }
     }
 
-    /// Hands it to a listener. The splice of what it can't hand over, since the texts are not there.
-    fn tell<L: ChangeListener + ?Sized>(&self, listener: &mut L) -> Result<(), Splice> {
-        let (old, new) = self.texts.as_ref().ok_or_else(|| self.splice())?;
-        tell(listener, self.kind, self.at, old, new);
-        Ok(())
-    }
-}
-
-/// Tells a listener of a change, by the method of its kind. One that is folded is told by none.
-pub(crate) fn tell<L: ChangeListener + ?Sized>(
-    listener: &mut L,
-    kind: ReportKind,
-    at: usize,
-    old: &str,
-    new: &str,
-) {
-    match kind {
-        ReportKind::CharInserted => new.chars().for_each(|it| listener.insert_char(at, it)),
-        ReportKind::TextInserted => listener.insert_str(at, new),
-        ReportKind::DeletedForward => listener.delete(at, old, Direction::Forward),
-        ReportKind::DeletedBackward => listener.delete(at, old, Direction::Backward),
-        ReportKind::Replaced => listener.replace(at, old, new),
-        ReportKind::KillStarted => listener.start_killing(),
-        ReportKind::KillStopped => listener.stop_killing(),
-        ReportKind::Folded => {}
+    /// Tells a listener of it, by the method of its kind. One that is folded is told by none.
+    pub(crate) fn tell<L: ChangeListener + ?Sized>(&self, listener: &mut L) {
+        let (at, old, new) = (self.at, self.old_text, self.new_text);
+        match self.kind {
+            ReportKind::CharInserted => new.chars().for_each(|it| listener.insert_char(at, it)),
+            ReportKind::TextInserted => listener.insert_str(at, new),
+            ReportKind::DeletedForward => listener.delete(at, old, Direction::Forward),
+            ReportKind::DeletedBackward => listener.delete(at, old, Direction::Backward),
+            ReportKind::Replaced => listener.replace(at, old, new),
+            ReportKind::KillStarted => listener.start_killing(),
+            ReportKind::KillStopped => listener.stop_killing(),
+            ReportKind::Folded => {}
+        }
     }
 }
 
@@ -127,9 +96,9 @@ pub trait ChangeListener: DeleteListener {
 #[derive(Clone, Copy, Debug, PartialEq, Eq, Hash)]
 #[non_exhaustive]
 pub enum Untold {
-    /// The queue had no room for all that changed, and has made one change of it, whose texts are not kept. It is read
-    /// now: what stood between `from` and `old_end` gave way to what stands between `from` and `new_end` of the present
-    /// text. So apply that to the text that the listener knew, or take the whole text anew; later changes are told
+    /// The queue had no room for all that changed, and has made one change of it, whose texts are not kept. It is
+    /// forgotten now: what stood between `from` and `old_to` gave way to what stands between `from` and `new_to` of the
+    /// present text. So apply that to the text that the listener knew, or take the whole text anew; later changes are told
     /// again.
     Folded(Splice),
     /// The session has no queue of reports, or one that keeps no texts. Reports that wait go on waiting.
@@ -147,123 +116,109 @@ impl fmt::Display for Untold {
 
 impl Error for Untold {}
 
-/// The reports that wait, the oldest first, from [`Session::changes`]. Each is forgotten once it is handed out.
-#[derive(Debug)]
-pub struct Changes<'s> {
-    session: &'s mut Session,
-}
-
-impl Iterator for Changes<'_> {
-    type Item = Report;
-
-    fn next(&mut self) -> Option<Report> {
-        let (mut written, mut out) = (Written::default(), Vec::new());
-        let handle = &mut self.session.handle;
-        let mut answer = handle.next_report(&mut written, &mut out);
-        if answer == ffi::TOO_SMALL {
-            // Nothing comes between, so now its texts fit.
-            out = vec![0; written.old_len + written.new_len];
-            answer = handle.next_report(&mut written, &mut out);
-        }
-        (answer == ffi::DONE).then(|| Report::of(written, out, self.session.keeps_texts))
-    }
-}
-
-impl FusedIterator for Changes<'_> {}
-
 impl Session {
     /// All that changed in the text since this was asked last, or since the session was opened, as one splice of the
-    /// text as it was then; its places are in bytes. `None` where nothing changed. What came stands in the present
-    /// text. It is so whatever changed the text, also an undo, a redo, and a command that was refused halfway. A kill
-    /// after it still goes on from the kill before it.
+    /// text as it was then; its places are in bytes. `None` if nothing changed. What came stands in the present text. It
+    /// is so whatever changed the text, also an undo, a redo, and a command that was refused halfway. A kill after it
+    /// still goes on from the kill before it.
     ///
     /// ```
     /// # use lodvarn::{Fault, Session, Splice};
     /// # fn main() -> Result<(), Fault> {
     /// let mut session = Session::builder().text("one two").pos(3).open()?;
-    /// let mut copy = session.text();
+    /// let mut copy = session.text().to_string();
     /// session.paste(", 2", 1)?;
     /// session.undo(1)?;
     /// session.replace(0..3, "1,")?;
-    /// if let Some(Splice { from, old_end, new_end }) = session.changed() {
-    ///     copy.replace_range(from..old_end, &session.text()[from..new_end]);
+    /// if let Some(Splice { from, old_to, new_to }) = session.take_change() {
+    ///     copy.replace_range(from..old_to, session.slice(from..new_to)?);
     /// }
     /// assert_eq!(copy, "1, two");
-    /// assert_eq!(session.changed(), None);
+    /// assert_eq!(session.take_change(), None);
     /// # Ok(())
     /// # }
     /// ```
-    pub fn changed(&mut self) -> Option<Splice> {
-        let (mut from, mut old_end, mut new_end) = (0, 0, 0);
-        let answer = self.handle.changed(&mut from, &mut old_end, &mut new_end);
-        (answer == ffi::DONE).then_some(Splice {
-            from,
-            old_end,
-            new_end,
+    pub fn take_change(&mut self) -> Option<Splice> {
+        told(self.handle.take_change()).map(|it| Splice {
+            from: it.from,
+            old_to: it.old_to,
+            new_to: it.new_to,
         })
     }
 
     /// Keeps a report of each change of the text from now on, and none of a motion, in a queue with room for so many
-    /// reports and for `text_bytes` bytes of their texts, what went and what came. Where `text_bytes` is 0, reports
-    /// have no texts, and at most one waits: a change that comes before it was read is folded into it, so what came is
-    /// always in the present text. [`changes`] hands them out, and [`tell`] tells a listener of them. False where the
-    /// session has a queue already, which stays as it is.
+    /// reports and for `text_bytes` bytes of their texts, what went and what came. If `text_bytes` is 0, reports have no
+    /// texts, and at most one waits: a change that comes before it was forgotten is folded into it, so what came is
+    /// always in the present text. [`next_report`] lends them, and [`tell`] tells a listener of them.
     ///
-    /// All room is found here, and nothing else is ever refused because of the queue: where a report or its texts find
-    /// no room, all that waits and the new one become one report, of the kind `Folded`. It takes in each later change
-    /// until it is read.
+    /// All room is found here, and nothing else is ever refused because of the queue: if a report or its texts find no
+    /// room, all that waits and the new one become one report, of the kind `Folded`. It takes in each later change
+    /// until it is forgotten.
     ///
     /// # Errors
     ///
-    /// `NoRoom` where `reports` is 0, `NoMemory`. They leave the session without a queue, or with the one that it has.
+    /// [`Fault::IsWatched`] if the session has a queue, which stays as it is; [`Fault::NoSuchNumber`] if `reports` is 0;
+    /// [`Fault::NoMemory`].
     ///
-    /// [`changes`]: Session::changes
+    /// [`next_report`]: Session::next_report
     /// [`tell`]: Session::tell
-    pub fn watch(&mut self, reports: usize, text_bytes: usize) -> Result<bool, Fault> {
-        match self.handle.watch(reports, text_bytes) {
-            ffi::DONE => {
-                self.keeps_texts = text_bytes > 0;
-                Ok(true)
-            }
-            ffi::FALSE => Ok(false),
-            ffi::NO_SUCH_NUMBER => Err(Fault::NoRoom),
-            answer => Err(Fault::of(answer)),
-        }
+    pub fn watch(&mut self, reports: usize, text_bytes: usize) -> Result<(), Fault> {
+        done(self.handle.watch(reports, text_bytes))?;
+        self.keeps_texts = text_bytes > 0;
+        Ok(())
     }
 
-    /// The reports that wait, the oldest first. Each is forgotten once it is handed out; those that are not taken go on
-    /// waiting. There are none before `watch`. A kill after it still goes on from the kill before it.
+    /// Keeps no reports any more, and forgets those that wait.
+    pub fn unwatch(&mut self) {
+        self.keeps_texts = false;
+        self.handle.unwatch();
+    }
+
+    /// How many reports wait; a folded one is one.
+    pub fn count_reports(&self) -> usize {
+        self.handle.count_reports()
+    }
+
+    /// The oldest report that waits. It stays the oldest until [`forget_report`](Session::forget_report).
     ///
-    /// Whoever applies them in order to the text that he had, has the text of the session. What came by one that has no
-    /// texts is in the present text: apply it before the next command.
+    /// Whoever applies all in order to the text that he had, has the text of the session. What came by one that has no
+    /// texts is in the present text: apply it, and forget it, before the next command.
     ///
     /// ```
-    /// # use lodvarn::{Fault, ReportKind, Session};
+    /// # use lodvarn::{Fault, Session};
     /// # fn main() -> Result<(), Fault> {
-    /// let mut session = Session::builder().open()?;
+    /// let mut session = Session::builder().text("one").open()?;
     /// session.watch(100, 4096)?;
+    /// let mut copy = session.text().to_string();
     /// session.insert('é', 1)?;
-    /// session.undo(1)?;
-    /// let reports: Vec<_> = session.changes().collect();
-    /// assert_eq!(reports[0].kind, ReportKind::CharInserted);
-    /// assert_eq!(reports[1].kind, ReportKind::Replaced);
-    /// assert_eq!(reports[1].texts, Some(("é".to_string(), String::new())));
-    /// assert_eq!(session.changes().count(), 0);
+    /// session.replace(0..3, "caf")?;
+    /// while let Some(report) = session.next_report() {
+    ///     copy.replace_range(report.at..report.at + report.old_len, report.new_text);
+    ///     session.forget_report();
+    /// }
+    /// assert_eq!((copy.as_str(), session.count_reports()), ("café", 0));
     /// # Ok(())
     /// # }
     /// ```
-    pub fn changes(&mut self) -> Changes<'_> {
-        Changes { session: self }
+    pub fn next_report(&self) -> Option<Report<'_>> {
+        told(self.handle.next_report())
     }
 
-    /// Tells a listener of all reports that wait, the oldest first, each by the method of its kind, and forgets them.
+    /// Forgets the oldest report. False if none waits. A command between [`next_report`](Session::next_report) and this
+    /// may have folded its change into the report. A kill after it still goes on from the kill before it.
+    pub fn forget_report(&mut self) -> bool {
+        self.handle.forget_report() > ffi::NOTHING
+    }
+
+    /// Tells a listener of all reports that wait, the oldest first, each by the method of its kind. Each is forgotten
+    /// after it was told, so one at which the listener panics waits on.
     /// The places that it hears are in bytes, and of the text that the changes before have led to; the session already
     /// has the present text. A kill after it still goes on from the kill before it.
     ///
     /// # Errors
     ///
-    /// The listener has heard nothing then. `Folded` where all that waited is one change without its texts, which is
-    /// read then and answered: the listener is told of later changes only. `NoTexts` where no queue was asked for, or
+    /// The listener has heard nothing then. `Folded` if all that waited is one change without its texts, which is
+    /// forgotten then and returned: the listener is told of later changes only. `NoTexts` if no queue was asked for, or
     /// one without texts.
     ///
     /// ```
@@ -295,12 +250,12 @@ impl Session {
     /// # fn main() -> Result<(), Box<dyn std::error::Error>> {
     /// let mut session = Session::builder().text("one two").open()?;
     /// session.watch(100, 4096)?;
-    /// let mut copy = Copy(session.text());
+    /// let mut copy = Copy(session.text().to_string());
     /// session.backspace(3)?;
     /// session.insert('2', 1)?;
     /// match session.tell(&mut copy) {
     ///     Ok(()) => {}
-    ///     Err(Untold::Folded(_)) => copy.0 = session.text(),
+    ///     Err(Untold::Folded(_)) => copy.0 = session.text().to_string(),
     ///     Err(fault) => return Err(fault.into()),
     /// }
     /// assert_eq!(copy.0, "one 2");
@@ -311,8 +266,14 @@ impl Session {
         if !self.keeps_texts {
             return Err(Untold::NoTexts);
         }
-        self.changes()
-            .try_for_each(|report| report.tell(listener))
-            .map_err(Untold::Folded)
+        while let Some(report) = self.next_report() {
+            report.tell(listener);
+            let folded = (report.kind == ReportKind::Folded).then(|| report.splice());
+            self.forget_report();
+            if let Some(splice) = folded {
+                return Err(Untold::Folded(splice));
+            }
+        }
+        Ok(())
     }
 }

@@ -14,8 +14,8 @@
 //! What differs from rustyline: the size is a number of its own, and takes no memory before a text is kept. Out of
 //! memory, a call panics with these words. A ring may be sent to another thread, but not shared between threads.
 use crate::calls::Ring;
-use crate::done;
 use crate::line_buffer::{answered, DeleteListener, Direction};
+use crate::{done, told};
 use std::fmt;
 
 /// On which side a kill joins the text of the kill before it. It is another type than [`lodvarn::Mode`](crate::Mode).
@@ -37,6 +37,13 @@ pub struct KillRing {
     is_reset: bool,
 }
 
+/// Keeps a text in the place of the one that was lent last, as rustyline lends a `String`.
+fn keep<'l>(lent: &'l mut String, text: &str) -> &'l String {
+    lent.clear();
+    lent.push_str(text);
+    lent
+}
+
 impl fmt::Debug for KillRing {
     fn fmt(&self, f: &mut fmt::Formatter<'_>) -> fmt::Result {
         let texts = (0..self.len()).map_while(|back| self.text_back(back));
@@ -46,10 +53,6 @@ impl fmt::Debug for KillRing {
 
 impl KillRing {
     /// An empty ring of up to `size` texts. One of size 0 keeps nothing.
-    ///
-    /// # Panics
-    ///
-    /// Where the library that is linked is of another version than this crate.
     #[must_use]
     pub fn new(size: usize) -> Self {
         KillRing {
@@ -71,22 +74,27 @@ impl KillRing {
     /// Keeps a text. Right after another kill it joins that one's text.
     pub fn kill(&mut self, text: &str, dir: Mode) {
         self.is_reset = false;
-        answered(done(self.ring.kill(text, dir == Mode::Prepend)));
+        let direction = match dir {
+            Mode::Append => Direction::Forward,
+            Mode::Prepend => Direction::Backward,
+        };
+        answered(done(self.ring.kill(text, direction)));
     }
 
-    /// The current text, to be yanked. `None` where the ring is empty. Where the line does not take it,
+    /// The current text, to be yanked. `None` if the ring is empty. If the line does not take it,
     /// [`reset`](KillRing::reset) the ring: else `yank_pop` counts it as yanked.
     pub fn yank(&mut self) -> Option<&String> {
         self.is_reset = false;
-        let KillRing { ring, lent, .. } = self;
-        ring.yank(lent).then_some(&*lent)
+        let text = told(self.ring.yank())?;
+        Some(keep(&mut self.lent, text))
     }
 
     /// The text before the current one, which is the current one now, to be put in the place of the one that was
-    /// yanked; and how many bytes that one has. `None` where no yank was done last.
+    /// yanked; and how many bytes that one has. `None` if no yank was done last.
     pub fn yank_pop(&mut self) -> Option<(usize, &String)> {
-        let (KillRing { ring, lent, .. }, mut yanked) = (self, 0);
-        ring.yank_pop(lent, &mut yanked).then_some((yanked, &*lent))
+        let mut size = 0;
+        let text = told(self.ring.yank_pop(&mut size))?;
+        Some((size, keep(&mut self.lent, text)))
     }
 
     /// How many texts there are.
@@ -101,11 +109,10 @@ impl KillRing {
         self.len() == 0
     }
 
-    /// The text that is `back` texts before the current one, round the ring. `None` where there are not so many.
+    /// The text that is `back` texts before the current one, round the ring. `None` if there are not so many.
     #[must_use]
     pub fn text_back(&self, back: usize) -> Option<String> {
-        let mut text = String::new();
-        self.ring.text(back, &mut text).then_some(text)
+        told(self.ring.text(back)).map(str::to_owned)
     }
 }
 

@@ -9,7 +9,7 @@ pub use crate::words::Mode as GraphemeClusterMode;
 pub type Unit = u16;
 
 impl GraphemeClusterMode {
-    /// The mode that suits the terminal, as its variables in the environment tell: `TERM_PROGRAM`, and where that is
+    /// The mode that suits the terminal, as its variables in the environment tell: `TERM_PROGRAM`, and if that is
     /// not set, `TERM`. It is [`WcWidth`](GraphemeClusterMode::WcWidth) for a terminal that is not known.
     #[must_use]
     pub fn from_env() -> Self {
@@ -27,11 +27,11 @@ impl GraphemeClusterMode {
     /// The number of columns that a text takes, at most 65535.
     #[must_use]
     pub fn width(&self, s: &str) -> Unit {
-        crate::width(s, *self)
+        Unit::try_from(crate::width(*self, s)).unwrap_or(Unit::MAX)
     }
 }
 
-/// The number of columns that a character takes by itself, 0 where it has no width. In the mode
+/// The number of columns that a character takes by itself, 0 if it has no width. In the mode
 /// [`WcWidth`](GraphemeClusterMode::WcWidth) a text takes the sum of these.
 #[must_use]
 pub fn cwidh(c: char) -> Unit {

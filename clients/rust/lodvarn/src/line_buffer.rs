@@ -18,15 +18,15 @@
 //! Calls, arguments and answers are rustyline's. What is private to its crate is public here. What differs:
 //!
 //! - A pair of listeners is a listener: of `(&mut a, &mut b)` the first hears all, and the second of deletions alone.
-//!   Where two must hear all, a listener of your own tells both.
+//!   If two must hear all, a listener of your own tells both.
 //! - The text's room is no limit. The limit is the number that [`with_capacity`](LineBuffer::with_capacity) takes, and
-//!   no memory is found for it beforehand.
+//!   no memory is found for it beforehand. A [`yank_pop`](LineBuffer::yank_pop) that is out of room does nothing.
 //! - A listener is told after a step has been made, and of each step in order. One that panics leaves a line that has
 //!   made all steps.
-//! - Out of memory, a call panics with these words. The `try_` calls answer [`Fault::NoMemory`] instead; the listener
-//!   has heard of the steps that were made then. A listener panics by itself where it is refused memory.
+//! - Out of memory, a call panics with these words. The `try_` calls return [`Fault::NoMemory`] instead; the listener
+//!   has heard of the steps that were made then. A listener panics by itself if it is refused memory.
 //! - A place must be one between two characters, also that of [`set_pos`](LineBuffer::set_pos), and the cursor never
-//!   stands inside a character. Where a call is given another place it panics, or answers [`Fault::BadPlace`].
+//!   stands inside a character. If a call is given another place it panics, or returns [`Fault::BadPlace`].
 //! - Words, movements and indents follow Lodvarn's rules where rustyline's drop a cluster, panic or miss a line:
 //!   `docs/DIFFERENCES.md` names each case. A width is at most 65535.
 //! - A line may be sent to another thread, but not shared between threads.
@@ -34,14 +34,14 @@ mod edits;
 mod kills;
 
 pub use crate::changes::{ChangeListener, DeleteListener};
-pub use crate::words::{Action as WordAction, Direction};
+pub use crate::words::{Case as WordAction, Direction};
 
-use crate::calls::{Line, Room, Told};
-use crate::changes::tell;
+use crate::calls::Line;
+use crate::changes::Report;
 use crate::keymap::{At, CharSearch, Movement, RepeatCount, Word};
 use crate::layout::{GraphemeClusterMode, Layout};
-use crate::words::Fault;
-use crate::{done, ffi};
+use crate::words::{Fault, Inserted};
+use crate::{done, ffi, sure, told};
 use std::fmt;
 use std::ops::Deref;
 
@@ -124,7 +124,7 @@ impl<D: DeleteListener + ?Sized> ChangeListener for Deletions<'_, D> {
     fn replace(&mut self, _idx: usize, _old: &str, _new: &str) {}
 }
 
-/// What was answered, or a panic that says why nothing was.
+/// What was returned, or a panic that says why nothing was.
 #[track_caller]
 pub(crate) fn answered<T>(answer: Result<T, Fault>) -> T {
     match answer {
@@ -159,51 +159,62 @@ impl Deref for LineBuffer {
     }
 }
 
-/// The reports of an edit that are not heard yet. Where a listener panics, the copy of the text still takes them in.
+/// The reports of an edit that wait. If a listener panics, the copy of the text still takes them in.
 struct Waiting<'l> {
     of: &'l mut LineBuffer,
     reports: usize,
 }
 
 impl Waiting<'_> {
-    /// Takes the next report into the copy of the text.
-    fn next<'r>(&mut self, room: &'r mut Room) -> Option<Told<'r>> {
-        self.reports = self.reports.checked_sub(1)?;
-        let told = self.of.line.next_report(room)?;
-        let (old_end, text) = (told.at + told.old.len(), &mut self.of.text);
-        if told.old.is_empty() {
-            text.insert_str(told.at, told.new);
-        } else if told.new.is_empty() {
-            text.drain(told.at..old_end);
-        } else {
-            text.replace_range(told.at..old_end, told.new);
+    /// Tells each report, takes it into the copy of the text, and forgets it.
+    fn take(&mut self, mut tell: impl FnMut(&Report<'_>)) {
+        let LineBuffer { line, text, .. } = &mut *self.of;
+        while self.reports > 0 {
+            let report = sure(line.next_report());
+            tell(&report);
+            let (at, old_to) = (report.at, report.at + report.old_len);
+            if report.old_len == 0 {
+                text.insert_str(at, report.new_text);
+            } else if report.new_len == 0 {
+                text.drain(at..old_to);
+            } else {
+                text.replace_range(at..old_to, report.new_text);
+            }
+            let answer = line.forget_report();
+            debug_assert_eq!(answer, ffi::DONE);
+            self.reports -= 1;
         }
-        Some(told)
     }
 }
 
 impl Drop for Waiting<'_> {
     fn drop(&mut self) {
-        if self.reports > 0 {
-            if let Ok(mut room) = Room::of(0) {
-                while self.next(&mut room).is_some() {}
-            }
-        }
-        self.of.pos = self.of.line.pos();
-        debug_assert!(self.of.line.has_text(&self.of.text));
+        self.take(|_| {});
+        let LineBuffer {
+            line, text, pos, ..
+        } = &mut *self.of;
+        *pos = line.pos();
+        debug_assert_eq!(told(line.text()), Some(text.as_str()));
+    }
+}
+
+/// What rustyline says of an insertion: `None` also if there is no room.
+#[inline]
+fn put_in(answer: i32) -> Result<Option<bool>, Fault> {
+    match Inserted::of(answer) {
+        Ok(Inserted::AtEnd) => Ok(Some(true)),
+        Ok(Inserted::Within) => Ok(Some(false)),
+        Ok(Inserted::Nothing) | Err(Fault::NoRoom) => Ok(None),
+        Err(fault) => Err(fault),
     }
 }
 
 impl LineBuffer {
     /// An empty text that may grow to so many bytes. No room is found for them yet.
-    ///
-    /// # Panics
-    ///
-    /// Where the library that is linked is of another version than this crate.
     #[must_use]
     pub fn with_capacity(capacity: usize) -> Self {
         LineBuffer {
-            line: answered(Line::open("", 0, capacity)),
+            line: answered(Line::open(capacity)),
             text: String::new(),
             pos: 0,
             can_grow: false,
@@ -219,7 +230,7 @@ impl LineBuffer {
         self
     }
 
-    /// How many bytes the text may have. It rises where a call that asks for no limit makes the text longer.
+    /// How many bytes the text may have. It rises if a call that asks for no limit makes the text longer.
     #[must_use]
     pub fn limit(&self) -> usize {
         self.line.limit()
@@ -271,7 +282,7 @@ impl LineBuffer {
     ///
     /// # Panics
     ///
-    /// Where the place is past the end or inside a character, as `is_char_boundary` tells before.
+    /// If the place is past the end or inside a character, as `is_char_boundary` tells before.
     pub fn set_pos(&mut self, pos: usize) {
         assert!(pos <= self.text.len());
         answered(done(self.line.set_pos(pos)));
@@ -284,19 +295,16 @@ impl LineBuffer {
         self.next_pos(1).map(|end| &self.text[self.pos..end])
     }
 
-    /// The place n grapheme clusters after the cursor, or the end where there are fewer. `None` at the end, and for
+    /// The place n grapheme clusters after the cursor, or the end if there are fewer. `None` at the end, and for
     /// n = 0.
     #[must_use]
     pub fn next_pos(&self, n: RepeatCount) -> Option<usize> {
-        let (movement, mut pos) = (Movement::ForwardChar(n), 0);
-        let answer = self
-            .line
-            .destination(movement, GraphemeClusterMode::Unicode, 0, &mut pos);
-        (answer == ffi::DONE).then_some(pos)
+        let (movement, mode) = (Movement::ForwardChar(n), GraphemeClusterMode::Unicode);
+        told(self.line.destination(movement, mode, 0))
     }
 
     fn move_with(&mut self, movement: Movement, mode: GraphemeClusterMode, prompt: u16) -> bool {
-        let goes = self.line.move_by(movement, mode, prompt) == ffi::TRUE;
+        let goes = self.line.move_by(movement, mode, prompt) > ffi::NOTHING;
         if goes {
             self.pos = self.line.pos();
         }
@@ -317,22 +325,22 @@ impl LineBuffer {
         self.move_by(Movement::ForwardChar(n))
     }
 
-    /// Moves the cursor to the start of the text. False where it is there.
+    /// Moves the cursor to the start of the text. False if it is there.
     pub fn move_buffer_start(&mut self) -> bool {
         self.move_by(Movement::BeginningOfBuffer)
     }
 
-    /// Moves the cursor to the end of the text. False where it is there.
+    /// Moves the cursor to the end of the text. False if it is there.
     pub fn move_buffer_end(&mut self) -> bool {
         self.move_by(Movement::EndOfBuffer)
     }
 
-    /// Moves the cursor to the start of its line. False where it is there.
+    /// Moves the cursor to the start of its line. False if it is there.
     pub fn move_home(&mut self) -> bool {
         self.move_by(Movement::BeginningOfLine)
     }
 
-    /// Moves the cursor to the end of its line. False where it is there.
+    /// Moves the cursor to the end of its line. False if it is there.
     pub fn move_end(&mut self) -> bool {
         self.move_by(Movement::EndOfLine)
     }
@@ -361,18 +369,17 @@ impl LineBuffer {
         self.move_with(Movement::LineDown(n), mode, prompt)
     }
 
-    /// Moves the cursor to the n-th hit of a search, or to the farthest where there are fewer. False where there is
+    /// Moves the cursor to the n-th hit of a search, or to the farthest if there are fewer. False if there is
     /// none.
     pub fn move_to(&mut self, cs: CharSearch, n: RepeatCount) -> bool {
         self.move_by(Movement::ViCharSearch(n, cs))
     }
 
-    /// The text that a movement covers. `None` where it covers nothing.
+    /// The text that a movement covers. `None` if it covers nothing.
     #[must_use]
     pub fn copy(&self, mvt: &Movement) -> Option<String> {
-        let mut range = 0..0;
-        let answer = self.line.covers(*mvt, &mut range);
-        (answer == ffi::DONE).then(|| self.text[range].to_owned())
+        let range = told(self.line.covers(*mvt))?;
+        Some(sure(self.line.slice(range.from..range.to)).to_owned())
     }
 
     // Finds room for so many more bytes of the copy.
@@ -384,29 +391,24 @@ impl LineBuffer {
         self.text.try_reserve(growth).map_err(|_| Fault::NoMemory)
     }
 
-    /// Makes an edit. Tells a listener of its steps, and answers what the call of the line does. Room for `growth`
-    /// bytes of text and for a report of `told` bytes is found before, and where that is refused nothing is done. What
-    /// is more than that is found as the standard library does.
+    /// Makes an edit. Tells a listener of its steps, and returns what the call of the line does. Room for `growth` bytes
+    /// of text is found before, and if that is refused nothing is done. What is more than that is found as the standard
+    /// library does.
     pub(crate) fn edit<C: ChangeListener + ?Sized>(
         &mut self,
         growth: usize,
-        told: usize,
         cl: &mut C,
-        call: impl FnOnce(&mut Line) -> u32,
-    ) -> Result<u32, Fault> {
+        call: impl FnOnce(&mut Line) -> i32,
+    ) -> Result<i32, Fault> {
         self.find_room(growth)?;
-        let mut room = Room::of(told)?;
         let answer = call(&mut self.line);
-        let reports = self.line.reports();
-        let mut waiting = Waiting { of: self, reports };
-        while let Some(step) = waiting.next(&mut room) {
-            tell(cl, step.kind, step.at, step.old, step.new);
-        }
+        let reports = self.line.count_reports();
+        Waiting { of: self, reports }.take(|report| report.tell(cl));
         Ok(answer)
     }
 
-    /// What the library answers to a question about the line.
-    pub(crate) fn asked(&self, question: impl FnOnce(&Line) -> u32) -> u32 {
+    /// What the library returns to a question about the line.
+    pub(crate) fn asked(&self, question: impl FnOnce(&Line) -> i32) -> i32 {
         question(&self.line)
     }
 }

@@ -1,14 +1,21 @@
 //! What is read of a session. A read changes nothing, and a kill after it still goes on from the kill before it.
-use crate::words::{Fault, Movement};
-use crate::{ffi, string, Session};
+use crate::words::{Fault, Movement, Options};
+use crate::{sure, told, Session};
 use std::ops::Range;
 
 impl Session {
     /// The text.
-    pub fn text(&self) -> String {
-        let mut out = vec![0; self.handle.text(&mut [])];
-        self.handle.text(&mut out);
-        string(out)
+    pub fn text(&self) -> &str {
+        told(self.handle.text()).unwrap_or_default()
+    }
+
+    /// What stands in a range of the text.
+    ///
+    /// # Errors
+    ///
+    /// [`Fault::BadPlace`], also if the range ends before it begins.
+    pub fn slice(&self, range: Range<usize>) -> Result<&str, Fault> {
+        Ok(self.handle.slice(range)?.unwrap_or_default())
     }
 
     /// The place of the cursor, in bytes.
@@ -16,32 +23,33 @@ impl Session {
         self.handle.pos()
     }
 
+    /// What is chosen of the session.
+    pub fn options(&self) -> Options {
+        self.handle.options()
+    }
+
     /// The number of the cursor's line, from 0.
-    pub fn line_number(&self) -> usize {
-        self.handle.line_number()
+    pub fn cursor_line(&self) -> usize {
+        self.handle.cursor_line()
     }
 
     /// How many lines the text has.
-    pub fn line_count(&self) -> usize {
-        self.handle.line_count()
-    }
-
-    /// The range of a line, without its newline, or `None` where there is no such line.
-    pub fn line_range(&self, line: usize) -> Option<Range<usize>> {
-        let mut range = 0..0;
-        let answer = self.handle.line_range(line, &mut range);
-        (answer == ffi::DONE).then_some(range)
+    pub fn count_lines(&self) -> usize {
+        self.handle.count_lines()
     }
 
     /// The number of the cursor's line, and the width of that line before the cursor, at most 65535.
-    pub fn line_column(&self) -> (usize, u16) {
-        let (mut line, mut column) = (0, 0);
-        let answer = self.handle.line_column(&mut line, &mut column);
-        debug_assert_eq!(answer, ffi::AT);
-        (line, column)
+    pub fn find_cursor(&self) -> (usize, usize) {
+        let cursor = sure(self.handle.find_cursor());
+        (cursor.line, cursor.column)
     }
 
-    /// The range that a [`copy`](Session::copy) by a movement would copy, or `None` where the movement covers nothing.
+    /// The range of a line, without its newline, or `None` if there is no such line.
+    pub fn find_line(&self, line: usize) -> Option<Range<usize>> {
+        told(self.handle.find_line(line)).map(|it| it.from..it.to)
+    }
+
+    /// The range that a [`copy`](Session::copy) by a movement would copy, or `None` if the movement covers nothing.
     ///
     /// ```
     /// # use lodvarn::{Fault, Movement, Session, Word};
@@ -54,16 +62,12 @@ impl Session {
     /// # }
     /// ```
     pub fn covers(&self, movement: Movement) -> Option<Range<usize>> {
-        let mut range = 0..0;
-        let answer = self.handle.covers(movement, &mut range);
-        (answer == ffi::DONE).then_some(range)
+        told(self.handle.covers(movement)).map(|it| it.from..it.to)
     }
 
-    /// The place where [`move_by`](Session::move_by) would bring the cursor, or `None` where there is nowhere to go.
+    /// The place where [`move_by`](Session::move_by) would bring the cursor, or `None` if there is nowhere to go.
     pub fn destination(&self, movement: Movement) -> Option<usize> {
-        let mut pos = 0;
-        let answer = self.handle.destination(movement, &mut pos);
-        (answer == ffi::DONE).then_some(pos)
+        told(self.handle.destination(movement))
     }
 
     /// The end of the first grapheme cluster from a place on, and how many columns that cluster takes. `None` at the
@@ -74,7 +78,7 @@ impl Session {
     /// # fn main() -> Result<(), Fault> {
     /// let session = Session::builder().text("e\u{301}漢").open()?;
     /// let (mut place, mut columns) = (0, vec![]);
-    /// while let Some((end, taken)) = session.cluster(place)? {
+    /// while let Some((end, taken)) = session.cluster_at(place)? {
     ///     columns.push((place..end, taken));
     ///     place = end;
     /// }
@@ -86,18 +90,8 @@ impl Session {
     /// # Errors
     ///
     /// [`Fault::BadPlace`].
-    pub fn cluster(&self, place: usize) -> Result<Option<(usize, u16)>, Fault> {
-        let (mut end, mut columns) = (0, 0);
-        match self.handle.cluster(place, &mut end, &mut columns) {
-            ffi::DONE => Ok(Some((end, columns))),
-            ffi::NONE => Ok(None),
-            answer => Err(Fault::of(answer)),
-        }
-    }
-
-    /// How many bytes the text may have, [`NO_LIMIT`](crate::NO_LIMIT) where it has no limit. It rises where a call
-    /// that asks for no limit makes the text longer, as [`replace`](Session::replace) or [`undo`](Session::undo).
-    pub fn limit(&self) -> usize {
-        self.handle.limit()
+    pub fn cluster_at(&self, place: usize) -> Result<Option<(usize, usize)>, Fault> {
+        let cluster = self.handle.cluster_at(place)?;
+        Ok(cluster.map(|it| (it.end, it.columns)))
     }
 }

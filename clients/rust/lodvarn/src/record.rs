@@ -1,13 +1,13 @@
 //! Undo, redo, and groups of changes.
-use crate::words::{Bound, Fault};
-use crate::{done, ffi, yes, Session};
+use crate::words::{Fault, Options};
+use crate::{done, found, Session};
 use std::ops::{Deref, DerefMut};
 
-/// An open undo group, from [`Session::group`]. It is the session meanwhile, and closes the group where it is dropped.
-/// Groups that were begun in it and are still open are closed with it. Where the group is not open any more, as after
-/// an [`end`](Session::end) or an undo of its begin, nothing is closed.
+/// An open undo group, from [`Session::group`]. It is the session meanwhile, and closes the group when it is dropped.
+/// Groups that were begun in it and are still open are closed with it. If the group is not open any more, as after an
+/// [`end_all_groups`](Session::end_all_groups) or an undo of its begin, nothing is closed.
 #[derive(Debug)]
-#[must_use = "the group is closed where this is dropped"]
+#[must_use = "the group is closed when this is dropped"]
 pub struct Group<'s> {
     session: &'s mut Session,
     // How many groups are open around it.
@@ -19,7 +19,7 @@ impl Group<'_> {
     ///
     /// # Errors
     ///
-    /// [`Fault::NoMemory`]; the group may stay open, where a drop would leave it so without a word.
+    /// [`Fault::NoMemory`]; the group may stay open, and a drop would leave it so without a word.
     pub fn close(mut self) -> Result<bool, Fault> {
         self.close_open()
     }
@@ -27,7 +27,7 @@ impl Group<'_> {
     fn close_open(&mut self) -> Result<bool, Fault> {
         let mut has_change = false;
         for _ in self.around..self.level() {
-            has_change = self.end_one()?;
+            has_change = self.end_group()?;
         }
         Ok(has_change)
     }
@@ -55,7 +55,7 @@ impl Drop for Group<'_> {
 }
 
 impl Session {
-    /// Begins an undo group, which is closed where the guard is dropped: then one undo takes back all its changes. The
+    /// Begins an undo group, which is closed when the guard is dropped: then one undo takes back all its changes. The
     /// guard takes all calls of the session, also this one, for a group in the group.
     ///
     /// ```
@@ -79,41 +79,37 @@ impl Session {
     /// [`Fault::NoMemory`]; no group is begun.
     pub fn group(&mut self) -> Result<Group<'_>, Fault> {
         let around = self.level();
-        self.begin()?;
+        self.begin_group()?;
         let session = self;
         Ok(Group { session, around })
     }
 
     /// Begins an undo group: once it is closed, one undo takes back all its changes. It may stay open from one key to
-    /// the next, where the guard of [`group`](Session::group) can't be held. The number of entries before it.
+    /// the next, where the guard of [`group`](Session::group) can't be held.
     ///
     /// # Errors
     ///
     /// [`Fault::NoMemory`].
-    pub fn begin(&mut self) -> Result<usize, Fault> {
-        let mut mark = 0;
-        match self.handle.begin(&mut mark) {
-            ffi::MARK => Ok(mark),
-            answer => Err(Fault::of(answer)),
-        }
+    pub fn begin_group(&mut self) -> Result<(), Fault> {
+        done(self.handle.begin_group())
     }
 
-    /// Closes all open groups. False where they have no change, or none is open.
-    ///
-    /// # Errors
-    ///
-    /// [`Fault::NoMemory`].
-    pub fn end(&mut self) -> Result<bool, Fault> {
-        yes(self.handle.end())
-    }
-
-    /// Closes the innermost group. False where it has no change, or none is open.
+    /// Closes the innermost group. False if it has no change, or none is open.
     ///
     /// # Errors
     ///
     /// [`Fault::NoMemory`]; the group stays open.
-    pub fn end_one(&mut self) -> Result<bool, Fault> {
-        yes(self.handle.end_one())
+    pub fn end_group(&mut self) -> Result<bool, Fault> {
+        found(self.handle.end_group())
+    }
+
+    /// Closes all open groups. False if they have no change, or none is open.
+    ///
+    /// # Errors
+    ///
+    /// [`Fault::NoMemory`].
+    pub fn end_all_groups(&mut self) -> Result<bool, Fault> {
+        found(self.handle.end_all_groups())
     }
 
     /// How many groups are open.
@@ -121,33 +117,32 @@ impl Session {
         self.handle.level()
     }
 
-    /// Undoes the last n changes and groups, one where n is 0, all where there are fewer. False where there was no
-    /// change.
+    /// Undoes the last n changes and groups, one if n is 0, all if there are fewer. False if there was no change.
     ///
     /// # Errors
     ///
     /// [`Fault::NoMemory`].
     pub fn undo(&mut self, n: u16) -> Result<bool, Fault> {
-        yes(self.handle.undo(n))
+        found(self.handle.undo(n))
     }
 
-    /// Redoes what was undone last, one change or group. False where there is none.
+    /// Redoes what was undone last, one change or group. False if there is none.
     ///
     /// # Errors
     ///
     /// [`Fault::NoMemory`].
     pub fn redo(&mut self) -> Result<bool, Fault> {
-        yes(self.handle.redo())
+        found(self.handle.redo())
     }
 
     /// Whether an undo would find a change.
     pub fn can_undo(&self) -> bool {
-        self.handle.can_undo() == ffi::TRUE
+        self.handle.can_undo()
     }
 
     /// Whether a redo would find a change.
     pub fn can_redo(&self) -> bool {
-        self.handle.can_redo() == ffi::TRUE
+        self.handle.can_redo()
     }
 
     /// How many entries the record has: changes, and the marks where groups begin and end.
@@ -159,31 +154,37 @@ impl Session {
     ///
     /// # Errors
     ///
-    /// [`Fault::NotReplaying`] where they do not lead to the present text; [`Fault::NoMemory`].
+    /// [`Fault::NotReplaying`] if they do not lead to the present text; [`Fault::NoMemory`].
     pub fn truncate(&mut self, entries: usize) -> Result<(), Fault> {
         done(self.handle.truncate(entries))
     }
 
-    /// Bounds the record. The oldest changes and groups beyond the bound are forgotten at once, and after each later
-    /// call, so that a session that goes on for long takes no more and more memory. An undo does not go back over them.
-    /// A group that is open stays, with all that comes after its begin, and so does what was undone. Numbers of entries
+    /// Sets what may be chosen. If the record has more than [`max_entries`](Options::max_entries) or
+    /// [`max_bytes`](Options::max_bytes), the oldest changes and groups are forgotten at once, and by each later call,
+    /// so that a session that goes on for long takes no more and more memory. An undo does not go back over them. A
+    /// group that is open stays, with all that comes after its begin, and so does what was undone. Numbers of entries
     /// that were told before count what is gone.
     ///
     /// ```
-    /// # use lodvarn::{Bound, Fault, Session};
+    /// # use lodvarn::{Fault, Session};
     /// # fn main() -> Result<(), Fault> {
     /// let mut session = Session::builder().open()?;
-    /// session.set_bound(Bound { entries: 2, ..Bound::NONE });
+    /// let mut options = session.options();
+    /// options.max_entries = 2;
+    /// session.set_options(&options)?;
     /// for text in ["one", " two", " three"] {
     ///     session.paste(text, 1)?;
     /// }
     /// session.undo(3)?;
-    /// assert_eq!((session.text().as_str(), session.can_undo()), ("one", false));
+    /// assert_eq!((session.text(), session.can_undo()), ("one", false));
     /// # Ok(())
     /// # }
     /// ```
-    pub fn set_bound(&mut self, bound: Bound) {
-        let answer = self.handle.set_bound(bound);
-        debug_assert_eq!(answer, ffi::DONE);
+    ///
+    /// # Errors
+    ///
+    /// [`Fault::NoSuchNumber`] if [`ring_size`](Options::ring_size) is not the session's; nothing is set.
+    pub fn set_options(&mut self, options: &Options) -> Result<(), Fault> {
+        done(self.handle.set_options(options))
     }
 }

@@ -1,7 +1,6 @@
 //! The calls without a session.
-use crate::words::{Fault, Mode};
-use crate::{calls, done, ffi};
-use std::num::NonZeroU16;
+use crate::words::{Fault, Mode, Screen};
+use crate::{calls, done, sure, told};
 
 /// What a script prints, run in a session of its own.
 ///
@@ -21,80 +20,53 @@ pub fn run_script(script: &[u8]) -> Result<Vec<u8>, Fault> {
 }
 
 /// The number of columns that a text takes, at most 65535.
-pub fn width(text: &str, mode: Mode) -> u16 {
-    let mut columns = 0;
-    calls::width(text, mode, &mut columns);
-    columns
+pub fn width(mode: Mode, text: &str) -> usize {
+    sure(calls::width(mode, text))
 }
 
-/// The first grapheme cluster of a text, empty where the text is empty.
+/// The first grapheme cluster of a text, empty if the text is empty.
 pub fn first_cluster(text: &str) -> &str {
-    let mut len = 0;
-    calls::first_cluster(text, &mut len);
-    &text[..len]
+    &text[..told(calls::first_cluster(text)).unwrap_or(0)]
 }
 
-/// The last grapheme cluster of a text, empty where the text is empty.
+/// The last grapheme cluster of a text, empty if the text is empty.
 pub fn last_cluster(text: &str) -> &str {
-    let mut len = 0;
-    calls::last_cluster(text, &mut len);
-    &text[text.len() - len..]
+    &text[text.len() - told(calls::last_cluster(text)).unwrap_or(0)..]
 }
 
-/// The row and column of a place of a text on a screen with `columns` columns, where the text begins at the column
-/// `prompt` of row 0. A place inside of a cluster is where the cluster starts. A tab leads to the next column of its row
-/// that is a multiple of `tab`, or to the right edge where that is nearer; where `tab` is 0 it is as wide as [`width`]
-/// tells.
-///
-/// # Errors
-///
-/// [`Fault::BadPlace`].
-pub fn cell(
-    text: &str,
-    place: usize,
-    prompt: u16,
-    columns: NonZeroU16,
-    tab: u16,
-    mode: Mode,
-) -> Result<(usize, usize), Fault> {
-    let mut cell = (0, 0);
-    let answer = calls::cell(text, place, prompt, columns, tab, mode, &mut cell);
-    done(answer).map(|()| cell)
+impl Screen {
+    /// The row and the column of a place of a text. A place inside a cluster is where the cluster starts. A tab leads to
+    /// the next column of its row that is a multiple of [`tab`](Screen::tab), or to the right edge if that is nearer.
+    ///
+    /// # Errors
+    ///
+    /// [`Fault::BadPlace`].
+    pub fn cell(&self, place: usize, text: &str) -> Result<(usize, usize), Fault> {
+        calls::cell(self, place, text).map(|cell| cell.map_or((0, 0), |it| (it.line, it.column)))
+    }
+
+    /// The place of a text that is shown at a row and a column, as of a click of the mouse: the last place between two
+    /// clusters whose [`cell`](Screen::cell) is not after that one, by rows and then by columns. 0 if there is none.
+    ///
+    /// ```
+    /// # use lodvarn::{Fault, Mode, Screen};
+    /// # fn main() -> Result<(), Fault> {
+    /// let columns = 80u16.try_into().expect("80 is not 0");
+    /// let screen = Screen { columns, prompt: 2, tab: 8, mode: Mode::Unicode };
+    /// assert_eq!(screen.cell(6, "one\ntwo")?, (1, 2));
+    /// assert_eq!(screen.place_at((1, 2), "one\ntwo"), 6);
+    /// assert_eq!(screen.place_at((0, 70), "one\ntwo"), 3);
+    /// # Ok(())
+    /// # }
+    /// ```
+    pub fn place_at(&self, cell: (usize, usize), text: &str) -> usize {
+        sure(calls::place_at(self, cell, text))
+    }
 }
 
-/// The place of a text that is shown at a row and a column of a screen, as of a click of the mouse: the last place
-/// between two clusters whose [`cell`] is not after that one, by rows and then by columns. 0 where there is none.
-/// `prompt`, `columns`, `tab` and `mode` are those of [`cell`].
-///
-/// ```
-/// # use lodvarn::{cell, place_at, Fault, Mode};
-/// # use std::num::NonZeroU16;
-/// # fn main() -> Result<(), Fault> {
-/// let columns = NonZeroU16::new(80).expect("80 is not 0");
-/// assert_eq!(cell("one\ntwo", 6, 2, columns, 8, Mode::Unicode)?, (1, 2));
-/// assert_eq!(place_at("one\ntwo", 1, 2, 2, columns, 8, Mode::Unicode), 6);
-/// assert_eq!(place_at("one\ntwo", 0, 70, 2, columns, 8, Mode::Unicode), 3);
-/// # Ok(())
-/// # }
-/// ```
-pub fn place_at(
-    text: &str,
-    row: usize,
-    column: usize,
-    prompt: u16,
-    columns: NonZeroU16,
-    tab: u16,
-    mode: Mode,
-) -> usize {
-    let (cell, mut place) = ((row, column), 0);
-    let answer = calls::place_at(text, cell, prompt, columns, tab, mode, &mut place);
-    debug_assert_eq!(answer, ffi::DONE);
-    place
-}
-
-/// The version of the library that is linked, as [`VERSION`](crate::VERSION) has that of this crate: where they are not
-/// the same, opening a session panics, and so does making a line, a record or a ring.
+/// The version of the library that is linked. It is [`VERSION`](crate::VERSION), since with another one the crate is not
+/// built.
 pub fn version() -> String {
-    let number = calls::version_number();
+    let number = calls::version();
     format!("{}.{}.{}", number >> 16, number >> 8 & 255, number & 255)
 }

@@ -19,12 +19,12 @@
 //!
 //! - Changes that can't be taken back from the line's text, or made again in it, as those of another line, are refused:
 //!   [`undo`](Changeset::undo) and [`redo`](Changeset::redo) panic, and [`try_undo`](Changeset::try_undo) and
-//!   [`try_redo`](Changeset::try_redo) answer [`Fault::NotReplaying`]. Record and line are as they were then. Only
+//!   [`try_redo`](Changeset::try_redo) return [`Fault::NotReplaying`]. Record and line are as they were then. Only
 //!   texts are compared: a record of another line that has the same text there is not refused.
 //! - `redo` and [`end_one`](Changeset::end_one) are public, and a record tells how long it is and what fits a line.
 //! - [`truncate`](Changeset::truncate) forgets what was undone.
-//! - Out of memory, a call panics with these words. `try_undo` and `try_redo` answer [`Fault::NoMemory`]; only the room
-//!   for a text that they bring back is found as a `String` finds it, which ends the process where it is refused.
+//! - Out of memory, a call panics with these words. `try_undo` and `try_redo` return [`Fault::NoMemory`]; only the room
+//!   for a text that they bring back is found as a `String` finds it, which ends the process if it is refused.
 //! - A record may be sent to another thread, but not shared between threads.
 use crate::calls::Record;
 use crate::keymap::RepeatCount;
@@ -32,7 +32,7 @@ use crate::line_buffer::{
     answered, ChangeListener, DeleteListener, Direction, LineBuffer, NoListener,
 };
 use crate::words::Fault;
-use crate::{done, ffi, yes};
+use crate::{done, ffi, found};
 use std::fmt;
 
 /// A record of changes. It is a listener, and undoes what it has heard.
@@ -56,10 +56,6 @@ impl fmt::Debug for Changeset {
 
 impl Changeset {
     /// An empty record.
-    ///
-    /// # Panics
-    ///
-    /// Where the library that is linked is of another version than this crate.
     #[must_use]
     pub fn new() -> Self {
         Changeset(answered(Record::open()))
@@ -67,21 +63,19 @@ impl Changeset {
 
     /// Begins a group: once it is closed, one undo takes back all its changes. The number of entries before it.
     pub fn begin(&mut self) -> usize {
-        let mut mark = 0;
-        match self.0.begin(&mut mark) {
-            ffi::MARK => mark,
-            answer => answered(Err(Fault::of(answer))),
-        }
+        let mark = self.len();
+        answered(done(self.0.begin_group()));
+        mark
     }
 
-    /// Closes all open groups. False where they have no change, or none is open.
+    /// Closes all open groups. False if they have no change, or none is open.
     pub fn end(&mut self) -> bool {
-        answered(yes(self.0.end()))
+        answered(found(self.0.end_all_groups()))
     }
 
-    /// Closes the innermost group. False where it has no change, or none is open.
+    /// Closes the innermost group. False if it has no change, or none is open.
     pub fn end_one(&mut self) -> bool {
-        answered(yes(self.0.end_one()))
+        answered(found(self.0.end_group()))
     }
 
     /// Records that a character was inserted. A letter or digit joins the insertion before it.
@@ -92,7 +86,7 @@ impl Changeset {
 
     /// Records that a text was inserted.
     pub fn insert_str<S: AsRef<str>>(&mut self, idx: usize, string: S) {
-        answered(done(self.0.insert_str(idx, string.as_ref())));
+        answered(done(self.0.insert(idx, string.as_ref())));
     }
 
     /// Records that a text was deleted. A letter or digit joins the deletion before it.
@@ -111,12 +105,12 @@ impl Changeset {
         answered(done(self.0.cursors(before, after)));
     }
 
-    /// Undoes the last n changes and groups in a line, one where n is 0, all where there are fewer. False where there
+    /// Undoes the last n changes and groups in a line, one if n is 0, all if there are fewer. False if there
     /// was no change. No listener hears of it.
     ///
     /// # Panics
     ///
-    /// Where the changes that it takes can't be taken back from the line's text.
+    /// If the changes that it takes can't be taken back from the line's text.
     pub fn undo(&mut self, line: &mut LineBuffer, n: RepeatCount) -> bool {
         answered(self.try_undo(line, n))
     }
@@ -127,15 +121,15 @@ impl Changeset {
     ///
     /// [`Fault::NotReplaying`], [`Fault::NoMemory`]; nothing is undone.
     pub fn try_undo(&mut self, line: &mut LineBuffer, n: RepeatCount) -> Result<bool, Fault> {
-        line.edit(0, 0, &mut NoListener, |line| self.0.undo(line, n))
-            .and_then(yes)
+        line.edit(0, &mut NoListener, |line| self.0.undo(line, n))
+            .and_then(found)
     }
 
-    /// Redoes in a line what was undone last, one change or group. False where there is none. No listener hears of it.
+    /// Redoes in a line what was undone last, one change or group. False if there is none. No listener hears of it.
     ///
     /// # Panics
     ///
-    /// Where the changes that it makes again can't be made in the line's text.
+    /// If the changes that it makes again can't be made in the line's text.
     pub fn redo(&mut self, line: &mut LineBuffer) -> bool {
         answered(self.try_redo(line))
     }
@@ -146,8 +140,8 @@ impl Changeset {
     ///
     /// [`Fault::NotReplaying`], [`Fault::NoMemory`]; nothing is redone.
     pub fn try_redo(&mut self, line: &mut LineBuffer) -> Result<bool, Fault> {
-        line.edit(0, 0, &mut NoListener, |line| self.0.redo(line))
-            .and_then(yes)
+        line.edit(0, &mut NoListener, |line| self.0.redo(line))
+            .and_then(found)
     }
 
     /// Keeps the first `len` entries, and forgets the others and what was undone.
@@ -155,16 +149,23 @@ impl Changeset {
         answered(done(self.0.truncate(len)));
     }
 
-    /// The text that the last change put in. `None` where it put in none.
+    /// The text that the last change put in. `None` if it put in none.
     #[must_use]
     pub fn last_insert(&self) -> Option<String> {
-        self.0.last_insert()
+        let (mut out, mut len) = (Vec::new(), 0);
+        let mut answer = self.0.last_insert(&mut out, &mut len);
+        if answer == ffi::TOO_SMALL {
+            out.resize(len, 0);
+            answer = self.0.last_insert(&mut out, &mut len);
+        }
+        let is_found = answered(found(answer));
+        is_found.then(|| String::from_utf8(out).expect("the library's texts are UTF-8"))
     }
 
     /// How many entries there are: changes, and the marks where groups begin and end.
     #[must_use]
     pub fn len(&self) -> usize {
-        self.0.len()
+        self.0.entries()
     }
 
     /// Whether there is no entry.
@@ -182,20 +183,20 @@ impl Changeset {
     /// Whether all changes can be taken back from the line's text, so that no undo is refused.
     #[must_use]
     pub fn can_undo(&self, line: &LineBuffer) -> bool {
-        answered(yes(line.asked(|line| self.0.can_undo(line))))
+        answered(found(line.asked(|line| self.0.can_undo(line))))
     }
 
     /// Whether all that was undone can be made again in the line's text, so that no redo is refused.
     #[must_use]
     pub fn can_redo(&self, line: &LineBuffer) -> bool {
-        answered(yes(line.asked(|line| self.0.can_redo(line))))
+        answered(found(line.asked(|line| self.0.can_redo(line))))
     }
 
     /// Whether the first `len` entries lead to the line's text by themselves, as after a
     /// [`truncate`](Changeset::truncate).
     #[must_use]
     pub fn replays_to(&self, len: usize, line: &LineBuffer) -> bool {
-        answered(yes(line.asked(|line| self.0.replays_to(len, line))))
+        answered(found(line.asked(|line| self.0.replays_to(line, len))))
     }
 }
 

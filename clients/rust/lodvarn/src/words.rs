@@ -1,7 +1,8 @@
 //! What the calls take, as types, and the numbers of these, by their names in the header.
-use crate::ffi;
+use crate::{calls, ffi};
 use std::error::Error;
 use std::fmt;
+use std::num::NonZeroU16;
 
 /// How columns are counted.
 #[derive(Clone, Copy, Debug, Default, PartialEq, Eq, Hash)]
@@ -33,7 +34,7 @@ pub enum Word {
 #[repr(u32)]
 pub enum At {
     /// At the start of a word.
-    Start = ffi::START,
+    Start = ffi::AT_START,
     /// At the last cluster of a word; after an Emacs word.
     BeforeEnd = ffi::BEFORE_END,
     /// After a word.
@@ -43,7 +44,7 @@ pub enum At {
 /// The letter case that a word gets.
 #[derive(Clone, Copy, Debug, PartialEq, Eq, Hash)]
 #[repr(u32)]
-pub enum Action {
+pub enum Case {
     /// The first character in upper case, the others in lower case.
     Capitalize = ffi::CAPITALIZE,
     /// All in lower case.
@@ -65,18 +66,6 @@ pub enum CharSearch {
     BackwardAfter(char),
 }
 
-impl CharSearch {
-    /// Its number, and the number of its character.
-    pub(crate) fn numbers(self) -> (u32, u32) {
-        match self {
-            CharSearch::Forward(c) => (ffi::FORWARD, c.into()),
-            CharSearch::ForwardBefore(c) => (ffi::FORWARD_BEFORE, c.into()),
-            CharSearch::Backward(c) => (ffi::BACKWARD, c.into()),
-            CharSearch::BackwardAfter(c) => (ffi::BACKWARD_AFTER, c.into()),
-        }
-    }
-}
-
 /// Where a motion goes, and what a kill, a copy or an indent covers.
 #[derive(Clone, Copy, Debug, PartialEq, Eq, Hash)]
 #[non_exhaustive]
@@ -91,7 +80,7 @@ pub enum Movement {
     BackwardWord(u16, Word),
     /// Forward to the n-th word, as `At` says.
     ForwardWord(u16, At, Word),
-    /// To the n-th hit of a search for a character, or to the farthest where there are fewer.
+    /// To the n-th hit of a search for a character, or to the farthest if there are fewer.
     ViCharSearch(u16, CharSearch),
     /// From the first start of a big word after the start of the text to the cursor. No motion, and a kill takes
     /// nothing.
@@ -110,80 +99,43 @@ pub enum Movement {
     BeginningOfBuffer,
     /// To the end of the text.
     EndOfBuffer,
-    /// To the first character of the cursor's line that is no blank, or to the end of the line where there is none: on
+    /// To the first character of the cursor's line that is no blank, or to the end of the line if there is none: on
     /// either side of the cursor. A kill takes what stands between.
     FirstNonBlank,
 }
 
-/// What [`CharSearch`] was called before.
-#[deprecated(since = "0.1.0", note = "its name is `CharSearch` now")]
-pub type Search = CharSearch;
-
 impl Movement {
-    /// What `ViFirstPrint` was called before.
-    #[allow(non_upper_case_globals)]
-    #[deprecated(since = "0.1.0", note = "its name is `ViFirstPrint` now")]
-    pub const FirstPrint: Movement = Movement::ViFirstPrint;
-
-    /// What `ViCharSearch` was called before.
-    #[allow(non_snake_case)]
-    #[deprecated(since = "0.1.0", note = "its name is `ViCharSearch` now")]
-    pub fn Search(n: u16, search: CharSearch) -> Movement {
-        Movement::ViCharSearch(n, search)
-    }
-
-    fn number(self) -> u32 {
-        match self {
-            Movement::WholeLine => ffi::WHOLE_LINE,
-            Movement::BeginningOfLine => ffi::BEGINNING_OF_LINE,
-            Movement::EndOfLine => ffi::END_OF_LINE,
-            Movement::BackwardWord(_, Word::Big) => ffi::BACKWARD_BIG_WORD,
-            Movement::BackwardWord(_, Word::Emacs) => ffi::BACKWARD_EMACS_WORD,
-            Movement::BackwardWord(_, Word::Vi) => ffi::BACKWARD_VI_WORD,
-            Movement::ForwardWord(_, At::Start, Word::Big) => ffi::FORWARD_BIG_WORD_START,
-            Movement::ForwardWord(_, At::BeforeEnd, Word::Big) => ffi::FORWARD_BIG_WORD_BEFORE_END,
-            Movement::ForwardWord(_, At::AfterEnd, Word::Big) => ffi::FORWARD_BIG_WORD_AFTER_END,
-            Movement::ForwardWord(_, At::Start, Word::Emacs) => ffi::FORWARD_EMACS_WORD_START,
-            Movement::ForwardWord(_, At::BeforeEnd, Word::Emacs) => {
-                ffi::FORWARD_EMACS_WORD_BEFORE_END
+    /// As the library has it.
+    pub(crate) fn passed(self) -> ffi::lodvarn_movement {
+        let plain = |kind| (kind, 0, 0);
+        let search = |search, c: char, n| (ffi::SEARCH_ + search - ffi::TO, c.into(), n);
+        let (kind, c, n) = match self {
+            Movement::WholeLine => plain(ffi::WHOLE_LINE_),
+            Movement::BeginningOfLine => plain(ffi::TO_LINE_START_),
+            Movement::EndOfLine => plain(ffi::TO_LINE_END_),
+            Movement::BackwardWord(n, word) => (ffi::WORDS_BACK_ + word as u32 - ffi::BIG, 0, n),
+            Movement::ForwardWord(n, at, word) => {
+                let kind = ffi::WORDS_FORWARD_ + 3 * (word as u32 - ffi::BIG);
+                (kind + at as u32 - ffi::AT_START, 0, n)
             }
-            Movement::ForwardWord(_, At::AfterEnd, Word::Emacs) => {
-                ffi::FORWARD_EMACS_WORD_AFTER_END
+            Movement::ViCharSearch(n, CharSearch::Forward(c)) => search(ffi::TO, c, n),
+            Movement::ViCharSearch(n, CharSearch::ForwardBefore(c)) => search(ffi::TO_BEFORE, c, n),
+            Movement::ViCharSearch(n, CharSearch::Backward(c)) => search(ffi::BACK_TO, c, n),
+            Movement::ViCharSearch(n, CharSearch::BackwardAfter(c)) => {
+                search(ffi::BACK_TO_AFTER, c, n)
             }
-            Movement::ForwardWord(_, At::Start, Word::Vi) => ffi::FORWARD_VI_WORD_START,
-            Movement::ForwardWord(_, At::BeforeEnd, Word::Vi) => ffi::FORWARD_VI_WORD_BEFORE_END,
-            Movement::ForwardWord(_, At::AfterEnd, Word::Vi) => ffi::FORWARD_VI_WORD_AFTER_END,
-            Movement::ViCharSearch(_, CharSearch::Forward(_)) => ffi::SEARCH_FORWARD,
-            Movement::ViCharSearch(_, CharSearch::ForwardBefore(_)) => ffi::SEARCH_FORWARD_BEFORE,
-            Movement::ViCharSearch(_, CharSearch::Backward(_)) => ffi::SEARCH_BACKWARD,
-            Movement::ViCharSearch(_, CharSearch::BackwardAfter(_)) => ffi::SEARCH_BACKWARD_AFTER,
-            Movement::ViFirstPrint => ffi::FIRST_PRINT,
-            Movement::BackwardChar(_) => ffi::BACKWARD_CHAR,
-            Movement::ForwardChar(_) => ffi::FORWARD_CHAR,
-            Movement::LineUp(_) => ffi::LINE_UP,
-            Movement::LineDown(_) => ffi::LINE_DOWN,
-            Movement::WholeBuffer => ffi::WHOLE_BUFFER,
-            Movement::BeginningOfBuffer => ffi::BEGINNING_OF_BUFFER,
-            Movement::EndOfBuffer => ffi::END_OF_BUFFER,
-            Movement::FirstNonBlank => ffi::FIRST_NONBLANK,
-        }
-    }
-
-    /// Its count, and the number of its character.
-    fn count(self) -> (u16, u32) {
-        match self {
-            Movement::ViCharSearch(n, search) => (n, search.numbers().1),
-            Movement::BackwardWord(n, _) | Movement::ForwardWord(n, _, _) => (n, 0),
-            Movement::BackwardChar(n) | Movement::ForwardChar(n) => (n, 0),
-            Movement::LineUp(n) | Movement::LineDown(n) => (n, 0),
-            _ => (0, 0),
-        }
-    }
-
-    /// Its number, its count, and the number of its character.
-    pub(crate) fn numbers(self) -> (u32, u16, u32) {
-        let (n, c) = self.count();
-        (self.number(), n, c)
+            Movement::ViFirstPrint => plain(ffi::FROM_FIRST_WORD_),
+            Movement::BackwardChar(n) => (ffi::CHARS_BACK_, 0, n),
+            Movement::ForwardChar(n) => (ffi::CHARS_FORWARD_, 0, n),
+            Movement::LineUp(n) => (ffi::LINES_UP_, 0, n),
+            Movement::LineDown(n) => (ffi::LINES_DOWN_, 0, n),
+            Movement::WholeBuffer => plain(ffi::WHOLE_TEXT_),
+            Movement::BeginningOfBuffer => plain(ffi::TO_TEXT_START_),
+            Movement::EndOfBuffer => plain(ffi::TO_TEXT_END_),
+            Movement::FirstNonBlank => plain(ffi::TO_FIRST_NONBLANK_),
+        };
+        let n = n.into();
+        ffi::lodvarn_movement { kind, c, n }
     }
 }
 
@@ -196,7 +148,7 @@ pub enum ReportKind {
     CharInserted = ffi::CHAR_INSERTED,
     /// A text was put in.
     TextInserted = ffi::TEXT_INSERTED,
-    /// A text was taken out, from the cursor on; also wherever the cursor was, as by `update`, `yank_pop`,
+    /// A text was taken out, from the cursor on; also wherever the cursor was, as by `set_text`, `yank_pop`,
     /// `delete_range` and `kill_range`.
     DeletedForward = ffi::DELETED_FORWARD,
     /// A text was taken out, up to the cursor; by `kill_range` also wherever the cursor was.
@@ -232,46 +184,122 @@ impl ReportKind {
 #[derive(Clone, Copy, Debug, Default, PartialEq, Eq, Hash)]
 #[repr(u32)]
 pub enum Direction {
-    /// From the cursor on, or on no side of it, as by `update`. The ring puts it after what the kill before it took.
+    /// From the cursor on, or on no side of it, as by `set_text`. The ring puts it after what the kill before it took.
     #[default]
-    Forward = ffi::KILL_FORWARD,
+    Forward = ffi::FORWARD,
     /// Up to the cursor. The ring puts it before what the kill before it took.
-    Backward = ffi::KILL_BACKWARD,
+    Backward = ffi::BACKWARD,
 }
 
-/// How much of the past a record may have, as [`Session::set_bound`](crate::Session::set_bound) says. A number that is
-/// [`NONE`](Bound::NONE)'s bounds nothing.
-///
-/// ```
-/// # use lodvarn::Bound;
-/// let bound = Bound { entries: 1000, ..Bound::NONE };
-/// # assert_eq!(bound.bytes, usize::MAX);
-/// ```
+/// What may be chosen of a session. Begin with those of a session, or with [`Options::default`], and change what should
+/// differ.
 #[derive(Clone, Copy, Debug, PartialEq, Eq, Hash)]
-pub struct Bound {
-    /// How many entries: changes, and the marks where groups begin and end.
-    pub entries: usize,
-    /// How many bytes of texts, of what went and of what came.
-    pub bytes: usize,
+#[non_exhaustive]
+pub struct Options {
+    /// How columns are counted. At first [`Mode::Unicode`].
+    pub mode: Mode,
+    /// The column where the text begins, after a prompt: [`Movement::LineUp`] and [`Movement::LineDown`] keep to the
+    /// column of the screen if they come to the first line or leave it. At first 0.
+    pub prompt: u16,
+    /// How many bytes the text may have, [`NO_LIMIT`](crate::NO_LIMIT) for any number; as many as it has if that is
+    /// more. At first 4096. It rises if a call that asks for no limit makes the text longer, as
+    /// [`replace`](crate::Session::replace) and [`undo`](crate::Session::undo).
+    pub limit: usize,
+    /// How many texts the kill ring keeps. It can't be changed once a session is open. At first 60.
+    pub ring_size: usize,
+    /// How many entries the record may have: changes, and the marks where groups begin and end. At first
+    /// [`NO_BOUND`](crate::NO_BOUND), as [`max_bytes`](Options::max_bytes).
+    pub max_entries: usize,
+    /// How many bytes of text these may have, of what went and of what came.
+    pub max_bytes: usize,
 }
 
-impl Bound {
-    /// No bound: nothing is forgotten.
-    pub const NONE: Bound = Bound {
-        entries: ffi::NO_BOUND,
-        bytes: ffi::NO_BOUND,
-    };
-}
+impl Options {
+    /// As the library has them.
+    pub(crate) fn passed(&self) -> ffi::lodvarn_options {
+        ffi::lodvarn_options {
+            mode: self.mode as u32,
+            prompt: self.prompt,
+            limit: self.limit,
+            ring_size: self.ring_size,
+            max_entries: self.max_entries,
+            max_bytes: self.max_bytes,
+            ..ffi::OPTIONS
+        }
+    }
 
-impl Default for Bound {
-    /// [`NONE`](Bound::NONE).
-    fn default() -> Self {
-        Bound::NONE
+    /// Those that the library has.
+    pub(crate) fn of(options: &ffi::lodvarn_options) -> Options {
+        let modes = [Mode::Unicode, Mode::WcWidth, Mode::NoZwj];
+        let mode = modes.into_iter().find(|it| *it as u32 == options.mode);
+        Options {
+            mode: mode.expect("a mode was chosen"),
+            prompt: options.prompt,
+            limit: options.limit,
+            ring_size: options.ring_size,
+            max_entries: options.max_entries,
+            max_bytes: options.max_bytes,
+        }
     }
 }
 
-/// Why a call was refused. Text, cursor and record are as they were, except where an edit of several steps ran out of
-/// memory: it stands after the steps that it made.
+impl Default for Options {
+    fn default() -> Self {
+        Options::of(&ffi::OPTIONS)
+    }
+}
+
+/// A screen, on which a text begins in row 0. Its rows and columns are numbered from 0.
+#[derive(Clone, Copy, Debug, PartialEq, Eq, Hash)]
+pub struct Screen {
+    /// How many columns it has.
+    pub columns: NonZeroU16,
+    /// The column where the text begins, after a prompt.
+    pub prompt: u16,
+    /// The distance of tab stops, 0 if a tab is as wide as [`width`](crate::width) tells.
+    pub tab: u16,
+    /// How columns are counted.
+    pub mode: Mode,
+}
+
+impl Screen {
+    /// As the library has it.
+    pub(crate) fn passed(&self) -> ffi::lodvarn_screen {
+        ffi::lodvarn_screen {
+            columns: self.columns.into(),
+            prompt: self.prompt,
+            tab: self.tab,
+            mode: self.mode as u32,
+        }
+    }
+}
+
+/// What became of a text that was to be inserted.
+#[derive(Clone, Copy, Debug, PartialEq, Eq, Hash)]
+pub enum Inserted {
+    /// It went to the end of the text.
+    AtEnd,
+    /// It went to another place.
+    Within,
+    /// There was nothing to insert.
+    Nothing,
+}
+
+impl Inserted {
+    /// What became of it by an answer.
+    #[inline]
+    pub(crate) fn of(answer: i32) -> Result<Inserted, Fault> {
+        match answer {
+            ffi::DONE_AT_END => Ok(Inserted::AtEnd),
+            ffi::DONE => Ok(Inserted::Within),
+            ffi::NOTHING => Ok(Inserted::Nothing),
+            answer => Err(Fault::of(answer)),
+        }
+    }
+}
+
+/// Why a call was refused. Text, cursor, record and limit are as they were. But an edit of several steps that runs out of
+/// memory stops after the steps that it made.
 #[derive(Clone, Copy, Debug, PartialEq, Eq, Hash)]
 #[non_exhaustive]
 pub enum Fault {
@@ -284,22 +312,29 @@ pub enum Fault {
     /// The entries to keep do not lead to the present text, or the changes of a [`Changeset`](crate::undo::Changeset)
     /// do not fit the text of the line.
     NotReplaying,
-    /// A queue was asked for that has room for no report.
+    /// The text would get longer than the limit.
     NoRoom,
+    /// The call takes no such number, or no such movement.
+    NoSuchNumber,
+    /// The session keeps reports already.
+    IsWatched,
 }
 
 impl Fault {
     /// The fault of an answer that is one.
-    pub(crate) fn of(answer: u32) -> Fault {
+    pub(crate) fn of(answer: i32) -> Fault {
         match answer {
             ffi::NO_MEMORY => Fault::NoMemory,
             ffi::BAD_PLACE => Fault::BadPlace,
             ffi::BAD_YANK_SIZE => Fault::BadYankSize,
             ffi::NOT_REPLAYING => Fault::NotReplaying,
-            ffi::CLOSED | ffi::NOT_UTF8 | ffi::NO_SUCH_NUMBER => {
-                unreachable!("the types rule it out")
+            ffi::NO_ROOM => Fault::NoRoom,
+            ffi::NO_SUCH_NUMBER => Fault::NoSuchNumber,
+            ffi::IS_WATCHED => Fault::IsWatched,
+            ffi::CLOSED | ffi::NOT_UTF8 | ffi::TOO_SMALL => {
+                unreachable!("the types rule out {}", calls::answer_name(answer))
             }
-            _ => unreachable!("the library answered {answer}"),
+            _ => unreachable!("the library returned {answer}"),
         }
     }
 }
@@ -311,7 +346,9 @@ impl fmt::Display for Fault {
             Fault::BadPlace => "no such place in the text",
             Fault::BadYankSize => "no yanked text before the cursor",
             Fault::NotReplaying => "the entries do not lead to the text",
-            Fault::NoRoom => "no room for a report",
+            Fault::NoRoom => "no room for the text",
+            Fault::NoSuchNumber => "no number that the call takes",
+            Fault::IsWatched => "reports are kept already",
         })
     }
 }

@@ -134,6 +134,8 @@ fn a_limit_is_kept() {
     assert_eq!(line.insert('é', 1, no_one), None);
     assert_eq!(line.yank("de", 65535, no_one), None);
     assert_eq!(line.insert('d', 1, no_one), Some(true));
+    assert_eq!(line.yank_pop(1, "é", no_one), None);
+    assert_eq!(shown(&line), "abcd|");
     line.update("ééé", 6, no_one);
     assert_eq!(shown(&line), "éé|");
     let mut line = line.can_growth(true);

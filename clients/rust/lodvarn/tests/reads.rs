@@ -1,9 +1,8 @@
 //! Reads of sessions and of screens, with answers that were worked out by hand, and beside commands at random.
 use lodvarn::{
-    cell, first_cluster, place_at, width, At, CharSearch, Fault, Mode, Movement, Session, Word,
+    first_cluster, width, At, CharSearch, Fault, Inserted, Mode, Movement, Screen, Session, Word,
 };
 use random::{command, Random};
-use std::num::NonZeroU16;
 
 mod random;
 
@@ -14,15 +13,20 @@ fn opened(text: &str, pos: usize) -> Session {
     session.expect("a session opens")
 }
 
-fn some(columns: u16) -> NonZeroU16 {
-    NonZeroU16::new(columns).expect("some columns")
+fn screen(prompt: u16, columns: u16, tab: u16) -> Screen {
+    Screen {
+        columns: columns.try_into().expect("some columns"),
+        prompt,
+        tab,
+        mode: Mode::Unicode,
+    }
 }
 
 #[test]
 fn lines_are_read() {
     let session = opened("ab\n\ncd", 3);
-    assert_eq!((session.line_number(), session.line_count()), (1, 3));
-    let ranges: Vec<_> = (0..4).map(|it| session.line_range(it)).collect();
+    assert_eq!((session.cursor_line(), session.count_lines()), (1, 3));
+    let ranges: Vec<_> = (0..4).map(|it| session.find_line(it)).collect();
     assert_eq!(ranges, [Some(0..2), Some(3..3), Some(4..6), None]);
 }
 
@@ -35,7 +39,7 @@ fn the_cursor_has_a_line_and_a_column() {
         ("ab\n漢c", 6, (1, 2)),
         ("ab\n漢c", 7, (1, 3)),
     ] {
-        assert_eq!(opened(text, pos).line_column(), wanted, "{text:?} at {pos}");
+        assert_eq!(opened(text, pos).find_cursor(), wanted, "{text:?} at {pos}");
     }
 }
 
@@ -95,11 +99,7 @@ fn movements_cover() {
         let mut session = opened(text, pos);
         assert_eq!(session.covers(movement), wanted, "{movement:?} on {text:?}");
         let copied = wanted.map(|range| text[range].to_string());
-        assert_eq!(
-            session.copy(movement),
-            Ok(copied),
-            "{movement:?} on {text:?}"
-        );
+        assert_eq!(session.copy(movement), copied, "{movement:?} on {text:?}");
     }
 }
 
@@ -116,8 +116,8 @@ fn what_stands_before_a_line_is_killed() -> Result<(), Fault> {
         let mut session = opened("x\n  ab\ny", pos);
         let is_killed = session.kill(Movement::FirstNonBlank)?;
         assert_eq!(is_killed, killed.is_some(), "at {pos}");
-        assert_eq!((session.text().as_str(), session.pos()), (text, goes));
-        assert_eq!(session.ring_text(0).as_deref(), killed, "at {pos}");
+        assert_eq!((session.text(), session.pos()), (text, goes));
+        assert_eq!(session.ring_text(0), killed, "at {pos}");
     }
     Ok(())
 }
@@ -139,11 +139,11 @@ fn clusters_are_measured() -> Result<(), Fault> {
     ];
     let session = opened(&text, 0);
     for (place, wanted) in rows {
-        assert_eq!(session.cluster(place), wanted, "at {place}");
+        assert_eq!(session.cluster_at(place), wanted, "at {place}");
     }
     let session = Session::builder().text(FAMILY).mode(Mode::WcWidth).open()?;
-    assert_eq!(session.cluster(0), Ok(Some((FAMILY.len(), 6))));
-    assert_eq!(opened("", 0).cluster(0), Ok(None));
+    assert_eq!(session.cluster_at(0), Ok(Some((FAMILY.len(), 6))));
+    assert_eq!(opened("", 0).cluster_at(0), Ok(None));
     Ok(())
 }
 
@@ -164,12 +164,11 @@ fn cells_are_placed() {
         ("\t", 1, 9, 12, 8, (1, 0)),
         ("\t\t", 2, 9, 12, 8, (1, 8)),
     ] {
-        let placed = cell(text, place, prompt, some(columns), tab, Mode::Unicode);
+        let placed = screen(prompt, columns, tab).cell(place, text);
         assert_eq!(placed, Ok(wanted), "{text:?} at {place}");
     }
     for place in [1, 3, usize::MAX] {
-        let placed = cell("é", place, 0, some(1), 8, Mode::Unicode);
-        assert_eq!(placed, Err(Fault::BadPlace));
+        assert_eq!(screen(0, 1, 8).cell(place, "é"), Err(Fault::BadPlace));
     }
 }
 
@@ -195,12 +194,15 @@ fn cells_have_places() {
         ("a\tb", 0, 8, 0, 80, 8, 2),
         ("a\tb", 0, 8, 0, 80, 0, 3),
     ] {
-        let place = place_at(text, row, column, prompt, some(columns), tab, Mode::Unicode);
+        let place = screen(prompt, columns, tab).place_at((row, column), text);
         assert_eq!(place, wanted, "{text:?} at {row}, {column}");
     }
-    let columns = some(80);
     for (mode, wanted) in [(Mode::Unicode, FAMILY.len()), (Mode::WcWidth, 0)] {
-        assert_eq!(place_at(FAMILY, 0, 2, 0, columns, 0, mode), wanted);
+        let screen = Screen {
+            mode,
+            ..screen(0, 80, 0)
+        };
+        assert_eq!(screen.place_at((0, 2), FAMILY), wanted);
     }
 }
 
@@ -212,11 +214,11 @@ fn a_place_is_the_last_before_its_cell() {
         if random.below(2) == 0 {
             text = text.replace('-', "\t");
         }
-        let (prompt, tab, mode) = (random.count(), random.count(), Mode::Unicode);
-        let columns = some(1 + random.below(8) as u16);
+        let (prompt, tab) = (random.count(), random.count());
+        let screen = screen(prompt, 1 + random.below(8) as u16, tab);
         let (mut place, mut cells) = (0, vec![]);
         loop {
-            let placed = cell(&text, place, prompt, columns, tab, mode);
+            let placed = screen.cell(place, &text);
             cells.push((placed.expect("a cluster begins there"), place));
             match first_cluster(&text[place..]).len() {
                 0 => break,
@@ -226,37 +228,35 @@ fn a_place_is_the_last_before_its_cell() {
         let at = (random.below(5), random.below(9));
         let last = cells.iter().rev().find(|(it, _)| *it <= at);
         let wanted = last.map_or(0, |(_, place)| *place);
-        let found = place_at(&text, at.0, at.1, prompt, columns, tab, mode);
-        assert_eq!(found, wanted, "{text:?} at {at:?}");
+        assert_eq!(screen.place_at(at, &text), wanted, "{text:?} at {at:?}");
     }
 }
 
 /// A read of a session, and the command that does what it tells.
 fn see(s: &mut Session, random: &mut Random) -> Result<(), Fault> {
-    let (text, movement) = (s.text(), random.movement());
-    match random.below(7) {
+    let (text, movement) = (s.text().to_string(), random.movement());
+    match random.below(6) {
         0 => {
             let covered = s.covers(movement).map(|range| text[range].to_string());
-            assert_eq!(s.copy(movement)?, covered, "{movement:?}");
+            assert_eq!(s.copy(movement), covered, "{movement:?}");
         }
         1 => {
             let (pos, destination) = (s.pos(), s.destination(movement));
             assert_eq!(s.move_by(movement), destination.is_some(), "{movement:?}");
             assert_eq!(s.pos(), destination.unwrap_or(pos), "{movement:?}");
         }
-        2 => assert_eq!(s.line_column(), s.line_place()),
-        3 => assert_eq!(s.can_undo(), s.undo(1)?),
-        4 => assert_eq!(s.can_redo(), s.redo()?),
-        5 => {
-            let texts: Vec<_> = (0..99).map_while(|back| s.ring_text(back)).collect();
-            assert_eq!(texts.len(), s.ring_len());
-            if s.yank(1)?.is_some() {
-                assert!(s.text()[..s.pos()].ends_with(&texts[0]));
+        2 => assert_eq!(s.can_undo(), s.undo(1)?),
+        3 => assert_eq!(s.can_redo(), s.redo()?),
+        4 => {
+            let texts = (0..99).map_while(|back| s.ring_text(back).map(str::to_string));
+            let texts: Vec<_> = texts.collect();
+            assert_eq!(texts.len(), s.ring_count());
+            if s.yank(1)? != Inserted::Nothing {
+                assert!(s.slice(0..s.pos())?.ends_with(&texts[0]));
                 let next = &texts[1 % texts.len()];
-                if s.yank_pop()?.is_some() {
-                    assert!(s.text()[..s.pos()].ends_with(next));
-                    assert_eq!(s.ring_text(0).as_ref(), Some(next));
-                }
+                assert_ne!(s.yank_pop()?, Inserted::Nothing);
+                assert!(s.slice(0..s.pos())?.ends_with(next));
+                assert_eq!(s.ring_text(0), Some(next.as_str()));
             }
         }
         _ => {
@@ -264,9 +264,9 @@ fn see(s: &mut Session, random: &mut Random) -> Result<(), Fault> {
             let wanted = match text.get(place..).map(first_cluster) {
                 None => Err(Fault::BadPlace),
                 Some("") => Ok(None),
-                Some(first) => Ok(Some((place + first.len(), width(first, Mode::Unicode)))),
+                Some(first) => Ok(Some((place + first.len(), width(Mode::Unicode, first)))),
             };
-            assert_eq!(s.cluster(place), wanted, "{text:?} at {place}");
+            assert_eq!(s.cluster_at(place), wanted, "{text:?} at {place}");
         }
     }
     Ok(())
@@ -278,9 +278,12 @@ fn reads_tell_what_commands_do() -> Result<(), Fault> {
     let built = Session::builder().limit(256).ring_size(4);
     let mut session = built.open()?;
     for _ in 0..20_000 {
-        // at times it is refused
+        // at times these are refused
         let _ = command(&mut session, &mut random);
-        see(&mut session, &mut random)?;
+        match see(&mut session, &mut random) {
+            Err(Fault::NoRoom) => {}
+            seen => seen?,
+        }
     }
     Ok(())
 }

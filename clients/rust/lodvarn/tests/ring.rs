@@ -1,7 +1,7 @@
 //! Kills of ranges and texts of the ring, with answers that were worked out by hand.
 mod sessions;
 
-use lodvarn::{Bound, Direction, Fault, Movement, Session, Word};
+use lodvarn::{Direction, Fault, Inserted, Movement, Session, Word};
 use sessions::{opened, stands};
 
 const WORD_BACK: Movement = Movement::BackwardWord(1, Word::Emacs);
@@ -11,7 +11,7 @@ const WORD_BACK: Movement = Movement::BackwardWord(1, Word::Emacs);
 fn keeps(session: &Session, wanted: &[&str]) {
     let texts: Vec<_> = (0..99).map_while(|back| session.ring_text(back)).collect();
     assert_eq!(texts, wanted);
-    assert_eq!(session.ring_len(), wanted.len());
+    assert_eq!(session.ring_count(), wanted.len());
     assert_eq!(session.ring_text(usize::MAX), None);
 }
 
@@ -43,7 +43,7 @@ fn a_range_is_killed() -> Result<(), Fault> {
 fn a_range_that_is_none_is_not_killed() -> Result<(), Fault> {
     let mut session = opened("aé", 3);
     assert!(session.kill(Movement::BeginningOfLine)?);
-    session.update("é漢", 2)?;
+    session.set_text(2, "é漢")?;
     let entries = session.entries();
     #[allow(clippy::reversed_empty_ranges)]
     for range in [1..2, 0..1, 2..4, 0..6, 6..6, 2..0, 5..2] {
@@ -82,25 +82,28 @@ fn a_run_goes_on_over_ranges() -> Result<(), Fault> {
 }
 
 #[test]
-fn reads_and_settings_part_no_run() -> Result<(), Fault> {
+fn reads_and_options_part_no_run() -> Result<(), Fault> {
     let mut session = opened("one two three", 13);
     session.kill(WORD_BACK)?;
     session.ring_text(0);
-    session.ring_len();
+    session.ring_count();
     session.covers(WORD_BACK);
     session.destination(WORD_BACK);
-    session.line_column();
-    session.cluster(0)?;
-    assert_eq!(session.cluster(99), Err(Fault::BadPlace));
+    session.find_cursor();
+    session.cluster_at(0)?;
+    assert_eq!(session.cluster_at(99), Err(Fault::BadPlace));
     assert!(session.can_undo() && !session.can_redo());
     assert_eq!(session.level(), 0);
-    session.set_prompt(4);
-    session.set_limit(80);
-    session.set_bound(Bound::NONE);
+    let mut options = session.options();
+    options.prompt = 4;
+    assert_eq!(session.set_options(&options), Ok(()));
+    options.ring_size += 1;
+    assert_eq!(session.set_options(&options), Err(Fault::NoSuchNumber));
+    assert_eq!(session.options().ring_size + 1, options.ring_size);
     session.kill(WORD_BACK)?;
     keeps(&session, &["two three"]);
     // a command parts it
-    session.line_place();
+    session.end_kills();
     session.kill(WORD_BACK)?;
     keeps(&session, &["one ", "two three"]);
     Ok(())
@@ -119,12 +122,12 @@ fn a_text_is_kept() -> Result<(), Fault> {
     session.keep("x")?;
     session.keep("x")?;
     keeps(&session, &["x", "x", "one ", "漢\n", "two"]);
-    assert_eq!(session.yank(2), Ok(Some(true)));
+    assert_eq!(session.yank(2), Ok(Inserted::AtEnd));
     stands(&session, "xx", 2);
     // it is no yank of before
     session.keep("y")?;
     assert!(!session.last_was_yank());
-    assert_eq!(session.yank_pop(), Ok(None));
+    assert_eq!(session.yank_pop(), Ok(Inserted::Nothing));
     stands(&session, "xx", 2);
     Ok(())
 }

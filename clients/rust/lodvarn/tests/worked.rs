@@ -2,8 +2,8 @@
 mod sessions;
 
 use lodvarn::{
-    first_cluster, last_cluster, run_script, version, width, Action, At, CharSearch, Fault, Mode,
-    Movement, Session, Word, NO_LIMIT, VERSION,
+    first_cluster, last_cluster, run_script, version, width, At, Case, CharSearch, Fault, Inserted,
+    Mode, Movement, Options, Session, Word, NO_LIMIT, VERSION,
 };
 use sessions::{opened, stands};
 
@@ -25,8 +25,9 @@ fn a_session_is_as_it_was_built() -> Result<(), Fault> {
     ];
     for (built, pos, limit, column, yanked) in rows {
         let mut session = built.open()?;
-        assert_eq!((session.pos(), session.limit()), (pos, limit), "{built:?}");
-        assert_eq!(session.line_column(), (0, column), "{built:?}");
+        let options = session.options();
+        assert_eq!((session.pos(), options.limit), (pos, limit), "{built:?}");
+        assert_eq!(session.find_cursor(), (0, column), "{built:?}");
         session.kill(Movement::WholeLine)?;
         session.yank(1)?;
         assert_eq!(session.text(), yanked, "{built:?}");
@@ -38,29 +39,41 @@ fn a_session_is_as_it_was_built() -> Result<(), Fault> {
 fn a_session_begins_anew() -> Result<(), Fault> {
     let mut session = opened("one two", 7);
     session.kill(Movement::BackwardWord(1, Word::Emacs))?;
-    assert_eq!(session.restart("é", 1), Err(Fault::BadPlace));
-    stands(&session, "one ", 4);
-    session.restart("né", 1)?;
+    session.restart("né")?;
     assert_eq!((session.undo(1)?, session.entries()), (false, 0));
     session.yank(1)?;
-    stands(&session, "ntwoé", 4);
+    stands(&session, "nétwo", 6);
     Ok(())
 }
 
 #[test]
-#[allow(deprecated)]
-fn old_names_do_what_they_did() -> Result<(), Fault> {
-    let mut session = opened("ab\ncd", 1);
-    assert_eq!(session.kill_line(), Ok(true));
-    stands(&session, "a\ncd", 1);
-    assert_eq!(session.kill_buffer(), Ok(true));
-    stands(&session, "a", 1);
-    assert_eq!(
-        (session.kill_line(), session.kill_buffer()),
-        (Ok(false), Ok(false))
-    );
-    assert_eq!(session.ring_len(), 0);
+fn options_are_those_that_were_set() -> Result<(), Fault> {
+    let mut options = Options::default();
+    (options.mode, options.prompt) = (Mode::NoZwj, 3);
+    (options.limit, options.ring_size) = (20, 1);
+    (options.max_entries, options.max_bytes) = (5, 50);
+    let mut session = Session::builder().options(options).open()?;
+    assert_eq!(session.options(), options);
+    (options.mode, options.limit, options.max_bytes) = (Mode::WcWidth, 30, 60);
+    session.set_options(&options)?;
+    assert_eq!(session.options(), options);
     Ok(())
+}
+
+#[test]
+fn what_is_no_kill_is_not_kept() {
+    let mut session = opened("ab\ncd", 1);
+    let mut deletes = |movement| session.delete_by(movement);
+    assert_eq!(deletes(Movement::EndOfLine), Ok(true));
+    assert_eq!(deletes(Movement::EndOfBuffer), Ok(true));
+    assert_eq!(deletes(Movement::EndOfLine), Ok(false));
+    assert_eq!(deletes(Movement::EndOfBuffer), Ok(false));
+    // these are not to one side of the cursor
+    for movement in [Movement::WholeLine, Movement::WholeBuffer] {
+        assert_eq!(deletes(movement), Err(Fault::NoSuchNumber));
+    }
+    stands(&session, "a", 1);
+    assert_eq!(session.ring_count(), 0);
 }
 
 #[test]
@@ -71,7 +84,7 @@ fn the_library_is_of_the_version_of_the_crate() {
 #[test]
 fn an_insertion_is_undone() {
     let mut session = opened("ab", 1);
-    assert_eq!(session.insert('c', 1), Ok(Some(false)));
+    assert_eq!(session.insert('c', 1), Ok(Inserted::Within));
     stands(&session, "acb", 2);
     assert_eq!(session.undo(1), Ok(true));
     stands(&session, "ab", 1);
@@ -84,27 +97,32 @@ fn an_insertion_is_undone() {
 fn an_insertion_has_to_fit() {
     let session = Session::builder().text("ab").limit(3).open();
     let mut session = session.expect("a session opens");
-    assert_eq!(session.insert('é', 1), Ok(None));
-    assert_eq!(session.paste("cd", 1), Ok(None));
-    assert_eq!(session.paste("", 1), Ok(None));
-    assert_eq!(session.insert('c', 1), Ok(Some(true)));
+    assert_eq!(session.insert('é', 1), Err(Fault::NoRoom));
+    assert_eq!(session.paste("cd", 1), Err(Fault::NoRoom));
+    assert_eq!(session.paste("", 1), Ok(Inserted::Nothing));
+    assert_eq!(session.insert('c', 1), Ok(Inserted::AtEnd));
     stands(&session, "abc", 3);
-    assert_eq!(session.insert_str(0, "more"), Ok(false));
-    assert_eq!(session.limit(), 7);
+    assert_eq!(session.insert_at(0, "more"), Ok(Inserted::Within));
+    assert_eq!(session.options().limit, 7);
 }
 
 #[test]
 fn a_limit_may_change() -> Result<(), Fault> {
+    fn limit(session: &mut Session, limit: usize) -> usize {
+        let mut options = session.options();
+        options.limit = limit;
+        assert_eq!(session.set_options(&options), Ok(()));
+        session.options().limit
+    }
     let mut session = Session::builder().text("ab").limit(3).open()?;
-    assert_eq!(session.insert('é', 1), Ok(None));
-    session.set_limit(4);
-    assert_eq!(session.insert('é', 1), Ok(Some(true)));
+    assert_eq!(session.insert('é', 1), Err(Fault::NoRoom));
+    assert_eq!(limit(&mut session, 4), 4);
+    assert_eq!(session.insert('é', 1), Ok(Inserted::AtEnd));
     // the text is as long as it is
-    session.set_limit(1);
-    assert_eq!((session.limit(), session.insert('c', 1)), (4, Ok(None)));
-    session.set_limit(NO_LIMIT);
-    assert_eq!(session.limit(), usize::MAX);
-    assert_eq!(session.paste("é", u16::MAX), Ok(Some(true)));
+    assert_eq!(limit(&mut session, 1), 4);
+    assert_eq!(session.insert('c', 1), Err(Fault::NoRoom));
+    assert_eq!(limit(&mut session, NO_LIMIT), usize::MAX);
+    assert_eq!(session.paste("é", u16::MAX), Ok(Inserted::AtEnd));
     assert_eq!(session.pos(), 4 + 2 * 65535);
     assert_eq!(session.undo(9), Ok(true));
     stands(&session, "ab", 2);
@@ -125,7 +143,9 @@ fn lines_keep_to_the_column_after_a_prompt() -> Result<(), Fault> {
     for (prompt, pos, movement, goes) in rows {
         let built = Session::builder().text("ab\nabcd").pos(pos);
         let mut told = built.open()?;
-        told.set_prompt(prompt);
+        let mut options = told.options();
+        options.prompt = prompt;
+        told.set_options(&options)?;
         for mut session in [told, built.prompt(prompt).open()?] {
             assert_eq!(session.destination(movement), Some(goes), "{prompt}");
             assert!(session.move_by(movement));
@@ -138,47 +158,51 @@ fn lines_keep_to_the_column_after_a_prompt() -> Result<(), Fault> {
 #[test]
 fn every_command_does_something() -> Result<(), Fault> {
     let mut s = opened("ab cd", 5);
-    assert_eq!(s.insert('e', 1)?, Some(true));
+    assert_eq!(s.insert('e', 1)?, Inserted::AtEnd);
     assert!(s.backspace(1)?);
     s.truncate(0)?;
-    assert_eq!(s.begin()?, 0);
+    s.begin_group()?;
     s.set_pos(0)?;
-    assert_eq!(s.paste("x y", 1)?, Some(false));
-    assert!(s.end()?);
+    assert_eq!(s.paste("x y", 1)?, Inserted::Within);
+    assert!(s.end_group()?);
     assert!(s.undo(1)?);
     assert!(s.redo()?);
     stands(&s, "x yab cd", 3);
-    assert!(s.delete_prev_word(Word::Emacs, 1)?);
-    assert!(s.delete_word(At::AfterEnd, Word::Emacs, 1)?);
-    assert!(s.edit_word(Action::Uppercase)?);
-    assert!(s.delete_to(CharSearch::Backward('C'), 1)?);
+    assert!(s.delete_by(Movement::BackwardWord(1, Word::Emacs))?);
+    assert!(s.delete_by(Movement::ForwardWord(1, At::AfterEnd, Word::Emacs))?);
+    assert!(s.change_case(Case::Uppercase)?);
+    assert!(s.delete_by(Movement::ViCharSearch(1, CharSearch::Backward('C')))?);
     stands(&s, "x  ", 3);
     assert!(s.move_by(Movement::BeginningOfBuffer));
     assert!(s.kill(Movement::EndOfLine)?);
-    s.update("one two", 7)?;
+    s.set_text(7, "one two")?;
     assert!(s.transpose_words(1)?);
     assert!(s.transpose_chars()?);
     stands(&s, "two oen", 7);
     assert!(s.kill(Movement::BackwardWord(1, Word::Emacs))?);
-    assert_eq!(s.yank(1)?, Some(true));
+    assert_eq!(s.yank(1)?, Inserted::AtEnd);
     assert!(s.last_was_yank());
-    assert_eq!(s.yank_pop()?, Some(true));
+    assert_eq!(s.yank_pop()?, Inserted::AtEnd);
     stands(&s, "two x  ", 7);
-    let copied = s.copy(Movement::BackwardWord(1, Word::Emacs))?;
+    let copied = s.copy(Movement::BackwardWord(1, Word::Emacs));
     assert_eq!(copied.as_deref(), Some("x  "));
-    assert!(!s.insert_str(0, "ab\n")?);
-    assert!(s.indent(Movement::WholeBuffer, 2)?);
-    assert!(s.dedent(Movement::WholeLine, 1)?);
+    assert_eq!(s.insert_at(0, "ab\n")?, Inserted::Within);
+    s.indent(Movement::WholeBuffer, 2)?;
+    s.dedent(Movement::WholeLine, 1)?;
     stands(&s, "  ab\n two x  ", 10);
     s.replace(0..4, "cd\ne")?;
-    assert_eq!(s.line_place(), (1, 1));
+    assert_eq!(s.find_cursor(), (1, 1));
     s.delete_range(5..6)?;
-    assert_eq!(s.delete(1)?.as_deref(), Some("t"));
+    assert_eq!(s.slice(5..6), Ok("t"));
+    assert!(s.delete(1)?);
     s.set_pos(3)?;
-    assert!(s.delete_to_line_end()?);
-    assert!(s.delete_to_end()?);
-    assert!(s.discard_line()?);
-    assert!(s.discard_buffer()?);
+    for movement in [Movement::EndOfLine, Movement::EndOfBuffer] {
+        assert!(s.delete_by(movement)?);
+    }
+    stands(&s, "cd\n", 3);
+    for movement in [Movement::BeginningOfLine, Movement::BeginningOfBuffer] {
+        assert!(s.delete_by(movement)?);
+    }
     stands(&s, "", 0);
     Ok(())
 }
@@ -289,7 +313,7 @@ fn kills_come_back() {
         assert!(!session.last_was_yank());
     }
     stands(&session, "", 0);
-    assert_eq!(session.yank(1), Ok(Some(true)));
+    assert_eq!(session.yank(1), Ok(Inserted::AtEnd));
     stands(&session, "one two three", 13);
 }
 
@@ -297,18 +321,20 @@ fn kills_come_back() {
 fn long_texts_are_handed_out() {
     let text = "\0é漢".repeat(1000);
     let mut session = opened(&text, 0);
-    assert_eq!(session.copy(Movement::WholeLine), Ok(Some(text.clone())));
-    assert_eq!(session.delete(65535), Ok(Some(text)));
+    assert_eq!(session.text(), text);
+    assert_eq!(session.slice(6..text.len()), Ok(&text[6..]));
+    assert_eq!(session.copy(Movement::WholeLine), Some(text));
+    assert_eq!(session.delete(65535), Ok(true));
     stands(&session, "", 0);
-    assert_eq!(session.delete(1), Ok(None));
+    assert_eq!(session.delete(1), Ok(false));
 }
 
 #[test]
 fn a_limit_takes_no_memory() {
     let session = Session::builder().text("a").no_limit().open();
     let mut session = session.expect("a session opens");
-    assert_eq!(session.limit(), usize::MAX);
-    assert_eq!(session.insert('b', 2), Ok(Some(true)));
+    assert_eq!(session.options().limit, usize::MAX);
+    assert_eq!(session.insert('b', 2), Ok(Inserted::AtEnd));
     stands(&session, "abb", 3);
 }
 
@@ -322,12 +348,13 @@ fn what_is_refused_says_why_and_changes_nothing() {
     assert_eq!(session.set_pos(2), Err(Fault::BadPlace));
     assert_eq!(session.replace(0..4, "x"), Err(Fault::BadPlace));
     assert_eq!(session.delete_range(2..3), Err(Fault::BadPlace));
-    assert_eq!(session.update("é", 1), Err(Fault::BadPlace));
-    assert_eq!(session.insert_str(2, "x"), Err(Fault::BadPlace));
+    assert_eq!(session.set_text(1, "é"), Err(Fault::BadPlace));
+    assert_eq!(session.insert_at(2, "x"), Err(Fault::BadPlace));
+    assert_eq!(session.slice(1..2), Err(Fault::BadPlace));
     stands(&session, "aé", 3);
     assert_eq!(session.kill(Movement::BeginningOfLine), Ok(true));
     assert_eq!(session.truncate(0), Err(Fault::NotReplaying));
-    assert_eq!(session.yank(0), Ok(Some(true)));
+    assert_eq!(session.yank(0), Ok(Inserted::AtEnd));
     assert_eq!(session.yank_pop(), Err(Fault::BadYankSize));
     stands(&session, "", 0);
     assert_eq!(session.entries(), 1);
@@ -337,7 +364,7 @@ fn what_is_refused_says_why_and_changes_nothing() {
 fn a_session_goes_to_another_thread() {
     let mut session = opened("ab", 2);
     let there = std::thread::spawn(move || {
-        assert_eq!(session.insert('c', 1), Ok(Some(true)));
+        assert_eq!(session.insert('c', 1), Ok(Inserted::AtEnd));
         session
     });
     stands(&there.join().expect("the thread ends"), "abc", 3);
@@ -351,7 +378,7 @@ fn widths_and_clusters_are_found() {
         ("\u{1f469}\u{200d}\u{1f680}", 2, 4, 4),
     ] {
         let modes = [Mode::Unicode, Mode::WcWidth, Mode::NoZwj];
-        assert_eq!(modes.map(|it| width(text, it)), [unicode, wc_width, no_zwj]);
+        assert_eq!(modes.map(|it| width(it, text)), [unicode, wc_width, no_zwj]);
     }
     for (text, first, last) in [
         ("", "", ""),

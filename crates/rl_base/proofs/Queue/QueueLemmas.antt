@@ -1,14 +1,16 @@
--- Reports whose texts stand in one text, one after another.
-use Rattle.std.proofs.Common.{◌≡◌, ℕ, zero, suc, ◌+◌, ◌-◌, ◌<◌, ◌≤◌, Bool, true, false, List, [], ◌∷◌, ◌++◌, length, take, drop, slice_get, get_or, slice_set, ◌&&◌, ◌==◌, Option, Some, None, if◌then◌else◌, refl, sym, ap, subst, ◌∙◌, arith, append-nil, length-append}
-use Rattle.std.proofs.lemmas.List.{length-take-le, length-drop, take-append-le, drop-append-le, take_all, drop_all}
+-- Reports whose texts stand in one text, one after another, after those of reports that are forgotten.
+use Rattle.std.proofs.Common.{◌≡◌, ℕ, zero, suc, ◌+◌, ◌-◌, ◌<◌, ◌≤◌, Bool, true, false, List, [], ◌∷◌, ◌++◌, length, take, drop, get_or, slice_set, ◌==◌, Option, Some, None, if◌then◌else◌, refl, sym, ap, subst, ◌∙◌, arith, append_assoc, length-append}
+use Rattle.std.proofs.Math.Seq.{drop-append_seam, take-append_seam}
+use Rattle.std.proofs.lemmas.List.{length-take-le, length-drop, take-append-drop, take-append-le, drop-append-le, take_all, drop_all}
+use Rattle.std.proofs.lemmas.Str.{IsCharBoundary-at_seam, IsCharBoundary-from_drop, IsCharBoundary-from_take, IsUtf8-nil, IsUtf8-append}
 use Rattle.std.proofs.lemmas.Bool.Decides.{nat_tests}
-use Rattle.std.proofs.lemmas.Str.{IsCharBoundary-from_take, IsUtf8-nil, IsUtf8-append}
-use Rattle.std.specs.Prelude.{nat_lt, nat_le, is_some}
+use Rattle.std.specs.Prelude.{Err, Ok, OnOk, Result, is_err, nat_le, nat_lt}
 use Rattle.std.specs.Str.{IsCharBoundary, IsUtf8}
-use Rattle.rl_base.specs.declared.reports.Report.{Report}
 use Rattle.rl_base.specs.declared.reports.Joined.{Joined}
+use Rattle.rl_base.specs.declared.reports.Report.{Report}
 use Rattle.rl_base.specs.declared.reports.ReportKind.{ReportKind}
-use Rattle.rl_base.specs.Reports.{Cuts, IsQueue, Noted, Whole, as_one, bytes_kept, has_room_in, is_change, joined, kept, noted, notes, on_last, reports_of, text_bytes, told_cursors, waiting_of, with_note}
+use Rattle.rl_base.specs.Notes.{Cuts, KeepsRoom, Notes, bytes_kept, notes}
+use Rattle.rl_base.specs.Reports.{IsQueue, Noted, has_room_in, waiting_of, is_change, kept, noted, on_last, reports_of, text_bytes, told_cursors, told_note}
 use Rattle.rl_base.proofs.Texts.TextLemmas.{and_left, and_right}
 
 pub reports_of-notes : (k : ℕ) (rs : List Report) (bytes : List ℕ) → reports_of (notes k rs bytes) ≡ rs
@@ -24,39 +26,6 @@ text_bytes-notes k [] bytes c = sym (ap length c)
 text_bytes-notes k (r ∷ rs) bytes c =
     omega (arith, c.0, length-take-le (bytes_kept k r) bytes c.0, length-drop (bytes_kept k r) bytes, text_bytes-notes k rs (drop (bytes_kept k r) bytes) c.2)
 
-all_kept : (k : ℕ) (r : Report) (more : List ℕ) → length more ≡ bytes_kept k r → take (bytes_kept k r) more ≡ more
-all_kept k r more n = take_all (bytes_kept k r) more (omega (arith, n))
-
-none_left : (k : ℕ) (r : Report) (more : List ℕ) → length more ≡ bytes_kept k r → drop (bytes_kept k r) more ≡ []
-none_left k r more n = drop_all (bytes_kept k r) more (omega (arith, n))
-
--- one more report, whose texts are put at the end
-pub notes-push : (k : ℕ) (rs : List Report) (bytes : List ℕ) (r : Report) (more : List ℕ) → Cuts k rs bytes → length more ≡ bytes_kept k r
-    → notes k (rs ++ r ∷ []) (bytes ++ more) ≡ notes k rs bytes ++ record { report = r; texts = more } ∷ []
-notes-push k [] bytes r more c n =
-    ap (λ t. record { report = r; texts = t } ∷ []) (ap (λ t. take (bytes_kept k r) (t ++ more)) c ∙ all_kept k r more n)
-notes-push k (x ∷ xs) bytes r more c n =
-    let m = bytes_kept k x in
-    ap (λ t. record { report = x; texts = t } ∷ notes k (xs ++ r ∷ []) (drop m (bytes ++ more))) (take-append-le m bytes more c.0)
-    ∙ ap (λ t. record { report = x; texts = take m bytes } ∷ notes k (xs ++ r ∷ []) t) (drop-append-le m bytes more c.0)
-    ∙ ap (λ l. record { report = x; texts = take m bytes } ∷ l) (notes-push k xs (drop m bytes) r more c.2 n)
-
-pub Cuts-push : (k : ℕ) (rs : List Report) (bytes : List ℕ) (r : Report) (more : List ℕ) → Cuts k rs bytes → length more ≡ bytes_kept k r → IsUtf8 more
-    → Cuts k (rs ++ r ∷ []) (bytes ++ more)
-Cuts-push k [] bytes r more c n u =
-    let same : bytes ++ more ≡ more = ap (λ t. t ++ more) c in
-    let m = bytes_kept k r in (
-      omega (arith, n, ap length same),
-      subst IsUtf8 (sym (ap (take m) same ∙ all_kept k r more n)) u,
-      ap (drop m) same ∙ none_left k r more n,
-    )
-Cuts-push k (x ∷ xs) bytes r more c n u =
-    let m = bytes_kept k x in (
-      omega (arith, c.0, length-append bytes more),
-      subst IsUtf8 (sym (take-append-le m bytes more c.0)) c.1,
-      subst (λ t. Cuts k (xs ++ r ∷ []) t) (sym (drop-append-le m bytes more c.0)) (Cuts-push k xs (drop m bytes) r more c.2 n u),
-    )
-
 -- cursors leave the lengths
 bytes_kept-if : (b : Bool) (k before after : ℕ) (r : Report) → bytes_kept k (if b then record r { cursors = Some (before, after) } else r) ≡ bytes_kept k r
 bytes_kept-if true k before after r = refl
@@ -66,7 +35,7 @@ bytes_kept-told : (k before after : ℕ) (r : Report) → bytes_kept k (told_cur
 bytes_kept-told k before after r = bytes_kept-if (is_change r.kind) k before after r
 
 pub notes-told : (k before after : ℕ) (rs : List Report) (bytes : List ℕ) → notes k (on_last (told_cursors before after) rs) bytes
-    ≡ on_last (λ n. record { report = told_cursors before after n.report; texts = n.texts }) (notes k rs bytes)
+    ≡ on_last (told_note before after) (notes k rs bytes)
 notes-told k before after [] bytes = refl
 notes-told k before after (r ∷ []) bytes =
     ap (λ m. record { report = told_cursors before after r; texts = take m bytes } ∷ []) (bytes_kept-told k before after r)
@@ -91,55 +60,56 @@ on_last-set f (a ∷ []) (suc n) x e h = absurd (omega arith)
 on_last-set f (a ∷ (b ∷ bs)) zero x e h = absurd (omega arith)
 on_last-set f (a ∷ (b ∷ bs)) (suc n) x e h = ap (λ l. a ∷ l) (on_last-set f (b ∷ bs) n x (omega arith) h)
 
--- the oldest report's texts end between two characters
-pub first_cut : (k : ℕ) (rs : List Report) (bytes : List ℕ) (oldest : Report) → IsUtf8 bytes → Cuts k rs bytes → Some oldest ≡ slice_get rs 0
-    → IsCharBoundary bytes (bytes_kept k oldest)
-first_cut k [] bytes oldest u c h = absurd cc
-first_cut k (r ∷ rs) bytes oldest u c h =
-    let same : r ≡ oldest = cc in
-    subst (λ x. IsCharBoundary bytes (bytes_kept k x)) same (IsCharBoundary-from_take bytes (bytes_kept k r) u c.0 c.1)
+-- what is made of texts is one
+Cuts-IsUtf8 : (k : ℕ) (rs : List Report) (bytes : List ℕ) → Cuts k rs bytes → IsUtf8 bytes
+Cuts-IsUtf8 k [] bytes c = subst IsUtf8 (sym c) IsUtf8-nil
+Cuts-IsUtf8 k (r ∷ rs) bytes c =
+    let n = bytes_kept k r in
+    subst IsUtf8 (take-append-drop n bytes) (IsUtf8-append (take n bytes) (drop n bytes) c.1 (Cuts-IsUtf8 k rs (drop n bytes) c.2))
 
--- where reports wait, room is told by their count and by the length of their texts
-pub has_room-cut : (room k n : ℕ) (rs : List Report) (bytes : List ℕ) (whole : Option Joined) → is_some whole ≡ false → Cuts k rs bytes → length bytes ≤ k
-    → has_room_in room k n (waiting_of whole (notes k rs bytes)) ≡ nat_lt (length rs) room && nat_le n (k - length bytes)
-has_room-cut room k n rs bytes None h c le =
-    let e : nat_le (length bytes + n) k ≡ nat_le n (k - length bytes) = grind (arith, nat_tests) in
-    rw (length-notes k rs bytes, text_bytes-notes k rs bytes c, e) refl
-has_room-cut room k n rs bytes (Some all) h c le = absurd cc
+-- spent texts end between two characters
+pub at_spent : (k : ℕ) (n : ℕ) (text : List ℕ) (rs : List Report) → n ≤ length text → Cuts k rs (drop n text) → IsCharBoundary text n
+at_spent k n text rs le c = IsCharBoundary-from_drop text n le (Cuts-IsUtf8 k rs (drop n text) c)
 
-pub has_room-reached : (room k n len : ℕ) (rs : List Report) (bytes : List ℕ) (whole : Option Joined) → is_some whole ≡ false → IsQueue room k rs bytes whole → length rs < room
-    → len ≡ length bytes → nat_le n (k - len) ≡ has_room_in room k n (waiting_of whole (notes k rs bytes))
-has_room-reached room k n len rs bytes whole h q l m =
-    let e : nat_lt (length rs) room ≡ true = grind (arith, nat_tests) in
-    sym (has_room-cut room k n rs bytes whole h q.cuts q.text_within ∙ ap (λ b. b && nat_le n (k - length bytes)) e ∙ ap (λ j. nat_le n (k - j)) (sym m))
+-- the texts of the oldest report end between two characters
+pub ends : (k : ℕ) (rs : List Report) (bytes : List ℕ) (oldest : Report) → Cuts k rs bytes → 0 < length rs → oldest ≡ get_or rs 0 oldest → IsCharBoundary bytes (bytes_kept k oldest)
+ends k [] bytes oldest c some same = absurd (omega (arith, some))
+ends k (r ∷ rs) bytes oldest c some same =
+    let n = bytes_kept k r in
+    rw same (IsCharBoundary-from_take bytes n (Cuts-IsUtf8 k (r ∷ rs) bytes c) c.0 c.1)
 
-pub has_room-full : (room k n : ℕ) (rs : List Report) (bytes : List ℕ) (whole : Option Joined) → is_some whole ≡ false → IsQueue room k rs bytes whole → room ≤ length rs
-    → nat_lt (length rs) room ≡ has_room_in room k n (waiting_of whole (notes k rs bytes))
-has_room-full room k n rs bytes whole h q l =
-    let e : nat_lt (length rs) room ≡ false = grind (arith, nat_tests) in
-    e ∙ sym (has_room-cut room k n rs bytes whole h q.cuts q.text_within ∙ ap (λ b. b && nat_le n (k - length bytes)) e)
+-- reports after others
+notes-append : (k : ℕ) (rs ss : List Report) (a b : List ℕ) → Cuts k rs a → notes k (rs ++ ss) (a ++ b) ≡ notes k rs a ++ notes k ss b
+notes-append k [] ss a b c = ap (λ t. notes k ss (t ++ b)) c
+notes-append k (r ∷ rs) ss a b c =
+    let n = bytes_kept k r in
+    ap (λ t. record { report = r; texts = t } ∷ notes k (rs ++ ss) (drop n (a ++ b))) (take-append-le n a b c.0)
+    ∙ ap (λ t. record { report = r; texts = take n a } ∷ notes k (rs ++ ss) t) (drop-append-le n a b c.0)
+    ∙ ap (λ l. record { report = r; texts = take n a } ∷ l) (notes-append k rs ss (drop n a) b c.2)
 
--- what room means
-pub record Fits (room k n : ℕ) (rs : List Report) (bytes : List ℕ) (whole : Option Joined) : Type 0 where
-  pub apart : whole ≡ None
-  pub place : length rs < room
-  pub text_place : length bytes + n ≤ k
+Cuts-append : (k : ℕ) (rs ss : List Report) (a b : List ℕ) → Cuts k rs a → Cuts k ss b → Cuts k (rs ++ ss) (a ++ b)
+Cuts-append k [] ss a b c d = subst (λ t. Cuts k ss (t ++ b)) (sym c) d
+Cuts-append k (r ∷ rs) ss a b c d =
+    let n = bytes_kept k r in (
+      omega (arith, c.0, length-append a b),
+      subst IsUtf8 (sym (take-append-le n a b c.0)) c.1,
+      subst (λ t. Cuts k (rs ++ ss) t) (sym (drop-append-le n a b c.0)) (Cuts-append k rs ss (drop n a) b c.2 d),
+    )
 
-pub has_room-means : (room k n : ℕ) (rs : List Report) (bytes : List ℕ) (whole : Option Joined) → Cuts k rs bytes
-    → has_room_in room k n (waiting_of whole (notes k rs bytes)) ≡ true → Fits room k n rs bytes whole
-has_room-means room k n rs bytes None c h =
-    let e : nat_lt (length rs) room && nat_le (length bytes + n) k ≡ true =
-    ap (λ m. nat_lt m room && nat_le (length bytes + n) k) (sym (length-notes k rs bytes))
-    ∙ ap (λ m. nat_lt (length (notes k rs bytes)) room && nat_le (m + n) k) (sym (text_bytes-notes k rs bytes c)) ∙ h in
-    let left : nat_lt (length rs) room ≡ true = and_left (nat_lt (length rs) room) (nat_le (length bytes + n) k) e in
-    let right : nat_le (length bytes + n) k ≡ true = and_right (nat_lt (length rs) room) (nat_le (length bytes + n) k) e in
-    record { apart = refl; place = grind (arith, nat_tests); text_place = grind (arith, nat_tests) }
-has_room-means room k n rs bytes (Some all) c h = absurd cc
+-- one text with what is spent and what waits, and the texts of more reports after it
+pub record Joins (k : ℕ) (rs ss : List Report) (spent : ℕ) (text more : List ℕ) : Type 0 where
+  pub order : spent ≤ length (text ++ more)
+  pub cuts : Cuts k (rs ++ ss) (drop spent (text ++ more))
+  pub waits : notes k (rs ++ ss) (drop spent (text ++ more)) ≡ notes k rs (drop spent text) ++ notes k ss more
 
--- all as one, where reports wait
-pub as_one-notes : (k : ℕ) (rs : List Report) (bytes : List ℕ) (whole : Option Joined) → whole ≡ None → joined rs ≡ as_one (waiting_of whole (notes k rs bytes))
-as_one-notes k rs bytes None h = ap joined (sym (reports_of-notes k rs bytes))
-as_one-notes k rs bytes (Some all) h = absurd cc
+pub joins : (k : ℕ) (rs ss : List Report) (spent : ℕ) (text more : List ℕ) → spent ≤ length text → Cuts k rs (drop spent text) → Cuts k ss more → Joins k rs ss spent text more
+joins k rs ss spent text more le c d =
+    let seam = drop-append-le spent text more le in
+    record {
+      order = omega (arith, le, length-append text more);
+      cuts = subst (Cuts k (rs ++ ss)) (sym seam) (Cuts-append k rs ss (drop spent text) more c d);
+      waits = ap (notes k (rs ++ ss)) seam ∙ notes-append k rs ss (drop spent text) more c;
+    }
 
 -- texts that are kept
 length-kept-if : (b : Bool) (gone come : List ℕ) → length (if b then [] else (gone ++ come)) ≡ (if b then 0 else (length gone + length come))
@@ -156,29 +126,157 @@ IsUtf8-kept-if false gone come u v = IsUtf8-append gone come u v
 pub IsUtf8-kept : (k : ℕ) (gone come : List ℕ) → IsUtf8 gone → IsUtf8 come → IsUtf8 (kept k (gone ++ come))
 IsUtf8-kept k gone come u v = IsUtf8-kept-if (k == 0) gone come u v
 
--- one more note, put where there is room
-pub record Added (room k : ℕ) (n : Noted) (rs now : List Report) (bytes text : List ℕ) (whole : Option Joined) : Type 0 where
-  pub queue : IsQueue room k now text whole
-  pub waits : waiting_of whole (notes k now text) ≡ with_note room k n (waiting_of whole (notes k rs bytes))
+pub kept-all : (k : ℕ) (texts : List ℕ) → 0 < k → kept k texts ≡ texts
+kept-all k texts some =
+    let keeps : (k == 0) ≡ false = grind (arith, nat_tests, some) in
+    rw keeps refl
 
-pub added-note : (room k : ℕ) (n : Noted) (rs now : List Report) (bytes text : List ℕ) (whole : Option Joined) → IsQueue room k rs bytes whole
-    → length n.texts ≡ bytes_kept k n.report → IsUtf8 n.texts → has_room_in room k (length n.texts) (waiting_of whole (notes k rs bytes)) ≡ true
-    → now ≡ rs ++ n.report ∷ [] → text ≡ bytes ++ n.texts → Added room k n rs now bytes text whole
-added-note room k n rs now bytes text None q len u h e f =
-    let fits = has_room-means room k (length n.texts) rs bytes None q.cuts h in
+-- one more report, whose texts stand at the end
+pub record Longer (k : ℕ) (rs now : List Report) (n : Noted) (spent : ℕ) (text new : List ℕ) : Type 0 where
+  pub cuts : Cuts k now (drop spent new)
+  pub waits : notes k now (drop spent new) ≡ notes k rs (drop spent text) ++ n ∷ []
+
+pub longer : (k : ℕ) (rs now : List Report) (n : Noted) (spent : ℕ) (text new : List ℕ) → spent ≤ length text → Cuts k rs (drop spent text) → IsUtf8 n.texts → length n.texts ≡ bytes_kept k n.report
+    → now ≡ rs ++ n.report ∷ [] → new ≡ text ++ n.texts → Longer k rs now n spent text new
+longer k rs now n spent text new le c u len same more =
+    let m = bytes_kept k n.report in
+    let own : take m n.texts ≡ n.texts = take_all m n.texts (omega (arith, len)) in
+    let none : drop m n.texts ≡ [] = drop_all m n.texts (omega (arith, len)) in
+    let all = joins k rs (n.report ∷ []) spent text n.texts le c (omega (arith, len), subst IsUtf8 (sym own) u, none) in
     record {
-      queue = record {
-        within = rw e (omega (arith, length-append rs (n.report ∷ []), fits.place));
-        text_within = rw f (omega (arith, length-append bytes n.texts, fits.text_place));
-        cuts = rw (e, f) (Cuts-push k rs bytes n.report n.texts q.cuts len u);
-        either = tt;
-      };
-      waits = rw (e, f, h) (ap Whole (notes-push k rs bytes n.report n.texts q.cuts len));
+      cuts = rw (same, more) all.cuts;
+      waits = rw (same, more) (all.waits ∙ ap (λ t. notes k rs (drop spent text) ++ record { report = n.report; texts = t } ∷ []) own);
     }
-added-note room k n rs now bytes text (Some all) q len u h e f = absurd cc
 
--- one more report, where no texts are kept
-pub added-report : (room k : ℕ) (r : Report) (rs now : List Report) (bytes : List ℕ) (whole : Option Joined) → IsQueue room k rs bytes whole → k ≡ 0
-    → has_room_in room k 0 (waiting_of whole (notes k rs bytes)) ≡ true → now ≡ rs ++ r ∷ [] → Added room k (record { report = r; texts = [] }) rs now bytes bytes whole
-added-report room k r rs now bytes whole q none h e =
-    added-note room k (record { report = r; texts = [] }) rs now bytes bytes whole q (rw none refl) IsUtf8-nil h e (sym (append-nil bytes))
+-- the newest report, whose texts are the last
+record Newest (k : ℕ) (rs : List Report) (r : Report) (bytes : List ℕ) : Type 0 where
+  front : List ℕ
+  own : List ℕ
+  both : bytes ≡ front ++ own
+  len : length own ≡ bytes_kept k r
+  cuts : Cuts k rs front
+  utf8 : IsUtf8 own
+
+newest : (k : ℕ) (rs : List Report) (r : Report) (bytes : List ℕ) → Cuts k (rs ++ r ∷ []) bytes → Newest k rs r bytes
+newest k [] r bytes c = record {
+  front = [];
+  own = bytes;
+  both = refl;
+  len = omega (arith, c.0, length-drop (bytes_kept k r) bytes, ap length c.2);
+  cuts = refl;
+  utf8 = Cuts-IsUtf8 k (r ∷ []) bytes c;
+}
+newest k (x ∷ xs) r bytes c =
+    let n = bytes_kept k x in
+    let rest = newest k xs r (drop n bytes) c.2 in
+    let head = take n bytes in
+    let len : length head ≡ n = length-take-le n bytes c.0 in
+    let first : take n (head ++ rest.front) ≡ head = ap (λ m. take m (head ++ rest.front)) (sym len) ∙ take-append_seam head rest.front in
+    let last : drop n (head ++ rest.front) ≡ rest.front = ap (λ m. drop m (head ++ rest.front)) (sym len) ∙ drop-append_seam head rest.front in
+    record {
+      front = head ++ rest.front;
+      own = rest.own;
+      both = sym (take-append-drop n bytes) ∙ ap (λ t. head ++ t) rest.both ∙ sym (append_assoc head rest.front rest.own);
+      len = rest.len;
+      cuts = (omega (arith, len, length-append head rest.front), subst IsUtf8 (sym first) c.1, subst (Cuts k xs) (sym last) rest.cuts);
+      utf8 = rest.utf8;
+    }
+
+-- the newest report and its texts are taken off
+pub record Off (k : ℕ) (all rs : List Report) (r : Report) (spent : ℕ) (text : List ℕ) : Type 0 where
+  pub fits : bytes_kept k r ≤ length text
+  pub at : IsCharBoundary text (length text - bytes_kept k r)
+  pub order : spent ≤ length (take (length text - bytes_kept k r) text)
+  pub cuts : Cuts k rs (drop spent (take (length text - bytes_kept k r) text))
+  pub fewer : length all ≡ length rs + 1
+  pub waits : notes k rs (drop spent (take (length text - bytes_kept k r) text)) ≡ take (length (notes k all (drop spent text)) - 1) (notes k all (drop spent text))
+
+pub off : (k : ℕ) (all rs : List Report) (r : Report) (spent : ℕ) (text : List ℕ) → all ≡ rs ++ r ∷ [] → spent ≤ length text → Cuts k all (drop spent text) → Off k all rs r spent text
+off k all rs r spent text same le c =
+    let last = newest k rs r (drop spent text) (subst (λ l. Cuts k l (drop spent text)) same c) in
+    let front = last.front in
+    let head = take spent text in
+    let left = length text - bytes_kept k r in
+    let len : length head ≡ spent = length-take-le spent text le in
+    let whole : text ≡ (head ++ front) ++ last.own = sym (take-append-drop spent text) ∙ ap (λ t. head ++ t) last.both ∙ sym (append_assoc head front last.own) in
+    let total : length text ≡ length (head ++ front) + bytes_kept k r =
+    ap length whole ∙ length-append (head ++ front) last.own ∙ ap (λ n. length (head ++ front) + n) last.len in
+    let end : left ≡ length (head ++ front) = omega (arith, total) in
+    let kept : take left text ≡ head ++ front =
+    ap (λ n. take n text) end ∙ ap (take (length (head ++ front))) whole ∙ take-append_seam (head ++ front) last.own in
+    let rest : drop spent (take left text) ≡ front =
+    ap (drop spent) kept ∙ ap (λ n. drop n (head ++ front)) (sym len) ∙ drop-append_seam head front in
+    let fewer : length all ≡ length rs + 1 = ap length same ∙ length-append rs (r ∷ []) in
+    let count : length (notes k rs front) ≡ length (notes k all (drop spent text)) - 1 =
+    omega (arith, fewer, length-notes k rs front, length-notes k all (drop spent text)) in
+    let more : notes k all (drop spent text) ≡ notes k rs front ++ notes k (r ∷ []) last.own =
+    ap (λ l. notes k l (drop spent text)) same ∙ ap (notes k (rs ++ r ∷ [])) last.both ∙ notes-append k rs (r ∷ []) front last.own last.cuts in
+    record {
+      fits = omega (arith, total);
+      at = subst (IsCharBoundary text) (sym end) (IsCharBoundary-at_seam text (head ++ front) last.own whole last.utf8);
+      order = omega (arith, len, ap length kept, length-append head front);
+      cuts = subst (Cuts k rs) (sym rest) last.cuts;
+      fewer = fewer;
+      waits =
+          ap (notes k rs) rest
+          ∙ sym (take-append_seam (notes k rs front) (notes k (r ∷ []) last.own))
+          ∙ ap (λ n. take n (notes k rs front ++ notes k (r ∷ []) last.own)) count
+          ∙ ap (take (length (notes k all (drop spent text)) - 1)) (sym more);
+    }
+
+-- where texts wait, a report does
+pub Cuts-some : (k : ℕ) (rs : List Report) (bytes : List ℕ) → Cuts k rs bytes → 0 < length bytes → 0 < length rs
+Cuts-some k [] bytes none some = absurd (omega (arith, ap length none, some))
+Cuts-some k (r ∷ rs) bytes cuts some = omega arith
+
+-- ---- a queue with room
+pub record Fits (room k n : ℕ) (ns : List Noted) (whole : Option Joined) : Type 0 where
+  pub apart : whole ≡ None
+  pub place : length ns < room
+  pub text_place : text_bytes ns + n ≤ k
+
+-- what room means
+has_room-means : (room k n : ℕ) (ns : List Noted) (whole : Option Joined) → has_room_in room k n (waiting_of whole ns) ≡ true → Fits room k n ns whole
+has_room-means room k n ns None h =
+    let left : nat_lt (length ns) room ≡ true = and_left (nat_lt (length ns) room) (nat_le (text_bytes ns + n) k) h in
+    let right : nat_le (text_bytes ns + n) k ≡ true = and_right (nat_lt (length ns) room) (nat_le (text_bytes ns + n) k) h in
+    record { apart = refl; place = grind (arith, nat_tests); text_place = grind (arith, nat_tests) }
+has_room-means room k n ns (Some all) h = absurd cc
+
+text_bytes-push : (ns : List Noted) (n : Noted) → text_bytes (ns ++ n ∷ []) ≡ text_bytes ns + length n.texts
+text_bytes-push [] n = omega arith
+text_bytes-push (m ∷ ms) n = omega (arith, text_bytes-push ms n)
+
+text_bytes-told : (before after : ℕ) (ns : List Noted) → text_bytes (on_last (told_note before after) ns) ≡ text_bytes ns
+text_bytes-told before after [] = refl
+text_bytes-told before after (n ∷ []) = refl
+text_bytes-told before after (n ∷ (m ∷ ms)) = ap (λ k. length n.texts + k) (text_bytes-told before after (m ∷ ms))
+
+-- one more note, put where there is room
+pub IsQueue-push : (room : ℕ) (old new : Notes) (n : Noted) (whole : Option Joined) → IsQueue room old.text_room old.places old.bytes old.waiting whole → KeepsRoom old new
+    → new.waiting ≡ old.waiting ++ n ∷ [] → has_room_in room old.text_room (length n.texts) (waiting_of whole old.waiting) ≡ true
+    → IsQueue room new.text_room new.places new.bytes new.waiting whole
+IsQueue-push room old new n whole q more e h =
+    let fits = has_room-means room old.text_room (length n.texts) old.waiting whole h in
+    record {
+      within = rw e (omega (arith, length-append old.waiting (n ∷ []), fits.place));
+      text_within = rw e (omega (arith, text_bytes-push old.waiting n, fits.text_place, more.text_room));
+      places = omega (arith, q.places, more.places);
+      bytes = omega (arith, q.bytes, more.bytes, more.text_room);
+      either = rw fits.apart tt;
+    }
+
+-- cursors that are told leave the room
+pub IsQueue-told : (room k m t before after : ℕ) (ns : List Noted) → IsQueue room k m t ns None → IsQueue room k m t (on_last (told_note before after) ns) None
+IsQueue-told room k m t before after ns q = record {
+  within = omega (arith, q.within, length-on_last (told_note before after) ns);
+  text_within = omega (arith, q.text_within, text_bytes-told before after ns);
+  places = q.places;
+  bytes = q.bytes;
+  either = tt;
+}
+
+-- what holds of a result that is no error
+pub from_ok : {A E : Type 0} (result : Result A E) (P : Type 0) → OnOk result P → is_err result ≡ false → P
+from_ok (Ok a) P h none = h
+from_ok (Err e) P h none = cc

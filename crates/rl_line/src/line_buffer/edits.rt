@@ -1,5 +1,5 @@
 //! The edits that put a text in, or take a given range out, each generic over the listener that it tells.
-ghost use Rattle.std.specs.Prelude.{◌≡◌, ◌+◌, ◌*◌, ◌-◌, ◌<◌, ◌≤◌, ◌∷◌, [], length, encode_utf8, true, false, IfOk, IfErr, OnOk, OnErr};
+ghost use Rattle.std.specs.Prelude.{◌≡◌, ◌+◌, ◌*◌, ◌-◌, ◌<◌, ◌≤◌, ◌∷◌, [], length, encode_utf8, not, true, false, IfOk, IfErr, OnOk, OnErr};
 ghost use Rattle.std.specs.Str.{IsCharBoundary};
 ghost use Rattle.std.specs.List.{insert_slice, remove_range, replace_range, repeat};
 ghost use Rattle.rl_base.specs.Event.{InsertStr};
@@ -160,6 +160,13 @@ impl LineBuffer {
         let at_end = self.pos() == self.len();
         self.put_copies(text, n, listener)?;
         Ok(Some(at_end))
+    }
+
+    /// Whether the text may have so many bytes, by the limit.
+    pub fn has_room(&self, bytes: usize) -> bool
+        ensures { result ≡ not (too_long self.now bytes) }
+    {
+        self.can_growth || bytes <= self.limit
     }
 
     /// Whether `size` bytes can have been yanked last: as many stand before the cursor, and they begin between two

@@ -4,6 +4,7 @@ ghost use Rattle.rl_line.specs.Kills.{CanDeleteBy};
 ghost use Rattle.rl_session.specs.Commands.{Step, StepWith, deletion_of};
 ghost use Rattle.rl_session.specs.declared.session.Command.{Command};
 
+use crate::session::replies::{answered, inserted};
 use crate::session::{Reply, Session};
 use rl_base::{Direction, Movement, RepeatCount, WordAction};
 
@@ -38,7 +39,7 @@ impl Session {
     pub fn insert(&mut self, c: char, n: RepeatCount) -> Reply
         ensures { Step self.old (Command.Insert c n) result self.new }
     {
-        anew!(self, self.do_insert(c, n))
+        anew!(self, inserted(self.do_insert(c, n)))
     }
 
     /// Inserts a text at the cursor, n times. Says what `insert` does, and None also where the text is empty. `NoMemory` leaves
@@ -215,11 +216,12 @@ impl Session {
     }
 
     /// Undoes n units: one for 0, and all where there are fewer. Answers whether there was a change. `NoMemory` leaves text
-    /// and record as they were.
+    /// and record as they were. Inlined, as `insert` is.
+    #[inline(always)]
     pub fn undo(&mut self, n: RepeatCount) -> Reply
         ensures { Step self.old (Command.Undo n) result self.new }
     {
-        anew!(self, self.do_undo(n))
+        anew!(self, answered(self.do_undo(n)))
     }
 
     /// Redoes what was undone last. Answers whether there was a change. `NoMemory` leaves text and record as they were.

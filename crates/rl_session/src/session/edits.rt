@@ -1,17 +1,20 @@
 //! Insertions, replacements, and edits of words and lines.
 ghost use Rattle.rl_session.specs.Commands.{Does, DoesWith};
+ghost use Rattle.rl_session.specs.Replies.{replied};
 ghost use Rattle.rl_session.specs.declared.session.Command.{Command};
+ghost use Rattle.rl_session.specs.declared.session.Reply.{Reply};
 
 use crate::session::replies::{answered, done, inserted};
 use crate::session::{Fault, Reply, Session};
-use rl_base::{Movement, RepeatCount, WordAction};
+use rl_base::{Movement, Refusal, RepeatCount, WordAction};
 
 impl Session {
-    pub(super) fn do_insert(&mut self, c: char, n: RepeatCount) -> Reply
-        ensures { Does self.old (Command.Insert c n) result self.new }
+    // Its reply is made by the caller, so that a typed letter has its outcome in registers.
+    pub(super) fn do_insert(&mut self, c: char, n: RepeatCount) -> Result<Option<bool>, Refusal>
+        ensures { Does self.old (Command.Insert c n) (replied Reply.Inserted result) self.new }
     {
         self.stands();
-        inserted(self.line.insert(c, n, &mut self.pair))
+        self.line.insert(c, n, &mut self.pair)
     }
 
     pub(super) fn do_paste(&mut self, text: &str, n: RepeatCount) -> Reply

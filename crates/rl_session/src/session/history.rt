@@ -2,11 +2,13 @@
 ghost use Rattle.std.specs.Prelude.{◌≡◌};
 ghost use Rattle.rl_line.specs.Units.{has_change, last_of, level, redo_of};
 ghost use Rattle.rl_session.specs.Commands.{Does};
+ghost use Rattle.rl_session.specs.Replies.{replied};
 ghost use Rattle.rl_session.specs.declared.session.Command.{Command};
+ghost use Rattle.rl_session.specs.declared.session.Reply.{Reply};
 
 use crate::session::replies::answered;
 use crate::session::{Fault, Reply, Session};
-use rl_base::RepeatCount;
+use rl_base::{Refusal, RepeatCount};
 
 impl Session {
     /// Whether an undo of one unit would find a change (`Changeset::has_undo`), so that it would answer true. As a read it
@@ -52,12 +54,13 @@ impl Session {
         answered(self.pair.changes.end_one())
     }
 
-    pub(super) fn do_undo(&mut self, n: RepeatCount) -> Reply
-        ensures { Does self.old (Command.Undo n) result self.new }
+    // Its reply is made by the caller, so that the outcome stays in a register.
+    pub(super) fn do_undo(&mut self, n: RepeatCount) -> Result<bool, Refusal>
+        ensures { Does self.old (Command.Undo n) (replied Reply.Answer result) self.new }
     {
         self.stands();
         let watch = &mut self.pair.watch;
-        answered(self.pair.changes.undo_telling(&mut self.line, n, watch))
+        self.pair.changes.undo_telling(&mut self.line, n, watch)
     }
 
     pub(super) fn do_redo(&mut self) -> Reply

@@ -6,7 +6,8 @@ ghost use Rattle.rl_session.specs.declared.session.Reply.{Reply};
 use crate::session::{Fault, Reply};
 use rl_base::Refusal;
 
-// The reply to a call that answers yes or no.
+// The reply to a call that answers yes or no. Inlined, as that to an insertion is, where a reply need not be made at all.
+#[inline(always)]
 pub(super) fn answered(outcome: Result<bool, Refusal>) -> Reply
     ensures { result ≡ replied Reply.Answer outcome }
 {
@@ -17,6 +18,7 @@ pub(super) fn answered(outcome: Result<bool, Refusal>) -> Reply
 }
 
 // The reply to an insertion.
+#[inline(always)]
 pub(super) fn inserted(outcome: Result<Option<bool>, Refusal>) -> Reply
     ensures { result ≡ replied Reply.Inserted outcome }
 {

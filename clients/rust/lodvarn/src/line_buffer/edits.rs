@@ -1,17 +1,17 @@
 //! The edits that put text in, or change it.
-use super::{answered, ChangeListener, LineBuffer, WordAction};
+use super::{answered, put_in, ChangeListener, LineBuffer, WordAction};
 use crate::keymap::{Movement, RepeatCount};
 use crate::words::Fault;
-use crate::{done, ffi, inserted, yes};
+use crate::{done, ffi, found};
 use std::ops::Range;
 
 impl LineBuffer {
     /// Puts a text in the place of the whole, cut to the limit, in two steps. The cursor goes to the place `pos` of the
-    /// text that is given, or to the end where that is cut before it.
+    /// text that is given, or to the end if that is cut before it.
     ///
     /// # Panics
     ///
-    /// Where the place is past the end of the text that is given, or inside a character of it.
+    /// If the place is past the end of the text that is given, or inside a character of it.
     pub fn update<C: ChangeListener + ?Sized>(&mut self, buf: &str, pos: usize, cl: &mut C) {
         assert!(pos <= buf.len());
         answered(self.try_update(buf, pos, cl));
@@ -28,13 +28,12 @@ impl LineBuffer {
         pos: usize,
         cl: &mut C,
     ) -> Result<(), Fault> {
-        let (len, growth) = (self.len(), buf.len());
-        self.edit(growth, len.max(growth), cl, |line| line.update(buf, pos))
+        self.edit(buf.len(), cl, |line| line.set_text(pos, buf))
             .and_then(done)
     }
 
     /// Inserts a character n times at the cursor, which goes after them. Whether the cursor was at the end, or `None`
-    /// where the text would get longer than the limit.
+    /// if the text would get longer than the limit.
     pub fn insert<C: ChangeListener + ?Sized>(
         &mut self,
         ch: char,
@@ -59,8 +58,8 @@ impl LineBuffer {
             return self.insert_one(ch, cl);
         }
         let growth = self.growth(ch.len_utf8(), n);
-        self.edit(growth, growth, cl, |line| line.insert(ch, n))
-            .and_then(inserted)
+        self.edit(growth, cl, |line| line.insert(ch, n))
+            .and_then(put_in)
     }
 
     // A typed character. The one report of it is known without reading it.
@@ -70,7 +69,7 @@ impl LineBuffer {
         cl: &mut C,
     ) -> Result<Option<bool>, Fault> {
         self.find_room(ch.len_utf8())?;
-        let goes_in = inserted(self.line.insert(ch, 1))?;
+        let goes_in = put_in(self.line.insert(ch, 1))?;
         let at = self.pos;
         match goes_in {
             Some(true) => self.text.push(ch),
@@ -84,7 +83,7 @@ impl LineBuffer {
         Ok(goes_in)
     }
 
-    /// Inserts a text n times at the cursor, which goes after it. Whether the cursor was at the end, or `None` where
+    /// Inserts a text n times at the cursor, which goes after it. Whether the cursor was at the end, or `None` if
     /// the text is empty, or the line would get longer than the limit.
     pub fn yank<C: ChangeListener + ?Sized>(
         &mut self,
@@ -107,8 +106,8 @@ impl LineBuffer {
         cl: &mut C,
     ) -> Result<Option<bool>, Fault> {
         let growth = self.growth(text.len(), n);
-        self.edit(growth, growth, cl, |line| line.yank(text, n))
-            .and_then(inserted)
+        self.edit(growth, cl, |line| line.paste(text, n))
+            .and_then(put_in)
     }
 
     // How many bytes a text of so many puts in n times, if the limit lets it.
@@ -121,12 +120,13 @@ impl LineBuffer {
         }
     }
 
-    /// Puts a text in the place of the `yank_size` bytes before the cursor, which were yanked, in two steps. Answers as
-    /// [`yank`](LineBuffer::yank); where that is `None`, what was yanked is deleted all the same.
+    /// Puts a text in the place of the `yank_size` bytes before the cursor, which were yanked, in two steps. Whether the
+    /// cursor was at the end. `None` if the text is empty, and then what was yanked is deleted; also if the line would get
+    /// longer than the limit, and then nothing is done, while rustyline deletes what was yanked.
     ///
     /// # Panics
     ///
-    /// Where no text of that size ends at the cursor.
+    /// If no text of that size ends at the cursor.
     pub fn yank_pop<C: ChangeListener + ?Sized>(
         &mut self,
         yank_size: usize,
@@ -140,23 +140,22 @@ impl LineBuffer {
     ///
     /// # Errors
     ///
-    /// [`Fault::BadYankSize`]; [`Fault::NoMemory`], where what was yanked may be deleted.
+    /// [`Fault::BadYankSize`]; [`Fault::NoMemory`], by which what was yanked may be deleted.
     pub fn try_yank_pop<C: ChangeListener + ?Sized>(
         &mut self,
         yank_size: usize,
         text: &str,
         cl: &mut C,
     ) -> Result<Option<bool>, Fault> {
-        let told = self.len().max(text.len());
-        self.edit(text.len(), told, cl, |line| line.yank_pop(yank_size, text))
-            .and_then(inserted)
+        let answer = self.edit(text.len(), cl, |line| line.yank_pop(yank_size, text))?;
+        Ok(put_in(answer)?.filter(|_| !text.is_empty()))
     }
 
     /// Puts a text in the place of a range, whatever the limit. The cursor goes after it.
     ///
     /// # Panics
     ///
-    /// Where the range is none of the text, as a slice of it does.
+    /// If the range is none of the text, as a slice of it does.
     pub fn replace<C: ChangeListener + ?Sized>(
         &mut self,
         range: Range<usize>,
@@ -178,12 +177,11 @@ impl LineBuffer {
         text: &str,
         cl: &mut C,
     ) -> Result<(), Fault> {
-        let told = self.len().saturating_add(text.len());
-        self.edit(text.len(), told, cl, |line| line.replace(range, text))
+        self.edit(text.len(), cl, |line| line.replace(range, text))
             .and_then(done)
     }
 
-    // Panics where a range is none of the text.
+    // Panics if a range is none of the text.
     #[track_caller]
     pub(super) fn see_range(&self, range: &Range<usize>) {
         let _ = &self.text[range.clone()];
@@ -194,7 +192,7 @@ impl LineBuffer {
     ///
     /// # Panics
     ///
-    /// Where the place is past the end or inside a character, and where the cursor would stand inside one.
+    /// If the place is past the end or inside a character, and if the cursor would stand inside one.
     pub fn insert_str<C: ChangeListener + ?Sized>(
         &mut self,
         idx: usize,
@@ -216,33 +214,34 @@ impl LineBuffer {
         s: &str,
         cl: &mut C,
     ) -> Result<bool, Fault> {
-        self.edit(s.len(), s.len(), cl, |line| line.insert_str(idx, s))
-            .and_then(yes)
+        let is_at_end = idx == self.len();
+        let answer = self.edit(s.len(), cl, |line| line.insert_at(idx, s));
+        answer.and_then(done).map(|()| is_at_end)
     }
 
     /// Exchanges the clusters before and after the cursor, in two steps; at the end of the text, the last two. The
-    /// cursor goes after both. False where there are not two.
+    /// cursor goes after both. False if there are not two.
     pub fn transpose_chars<C: ChangeListener + ?Sized>(&mut self, cl: &mut C) -> bool {
-        let answer = self.edit(0, 0, cl, |line| line.transpose_chars());
-        answered(answer.and_then(yes))
+        let answer = self.edit(0, cl, |line| line.transpose_chars());
+        answered(answer.and_then(found))
     }
 
-    /// Exchanges a word with the n-th word before it, in four steps. False where there are not two; the cursor may have
+    /// Exchanges a word with the n-th word before it, in four steps. False if there are not two; the cursor may have
     /// moved then.
     pub fn transpose_words<C: ChangeListener + ?Sized>(
         &mut self,
         n: RepeatCount,
         cl: &mut C,
     ) -> bool {
-        let answer = self.edit(0, 0, cl, |line| line.transpose_words(n));
-        answered(answer.and_then(yes))
+        let answer = self.edit(0, cl, |line| line.transpose_words(n));
+        answered(answer.and_then(found))
     }
 
     /// Changes the letter case of the rest of the word at the cursor, or of the next word, in two steps. The cursor
-    /// goes after it. False where there is none.
+    /// goes after it. False if there is none.
     pub fn edit_word<C: ChangeListener + ?Sized>(&mut self, a: WordAction, cl: &mut C) -> bool {
-        let answer = self.edit(0, 0, cl, |line| line.edit_word(a));
-        answered(answer.and_then(yes))
+        let answer = self.edit(0, cl, |line| line.change_case(a));
+        answered(answer.and_then(found))
     }
 
     /// Inserts `amount` spaces at the start of each line that a movement covers, or with `dedent` deletes up to so many
@@ -254,7 +253,8 @@ impl LineBuffer {
         dedent: bool,
         cl: &mut C,
     ) -> bool {
-        let answer = self.edit(0, 0, cl, |line| line.indent(*mvt, amount, dedent));
-        answered(answer.and_then(yes))
+        let indentation = if dedent { ffi::DEDENT } else { ffi::INDENT };
+        let answer = self.edit(0, cl, |line| line.indent(*mvt, amount, indentation));
+        answered(answer.and_then(found))
     }
 }

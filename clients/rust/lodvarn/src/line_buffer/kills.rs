@@ -3,7 +3,7 @@ use super::{answered, DeleteListener, Deletions, Direction, LineBuffer};
 use crate::calls::Line;
 use crate::keymap::{At, CharSearch, Movement, RepeatCount, Word};
 use crate::words::Fault;
-use crate::{done, yes};
+use crate::{done, found};
 use std::ops::Range;
 
 impl LineBuffer {
@@ -11,17 +11,16 @@ impl LineBuffer {
     fn take<D: DeleteListener + ?Sized>(
         &mut self,
         dl: &mut D,
-        call: impl FnOnce(&mut Line) -> u32,
-    ) -> Result<u32, Fault> {
-        self.edit(0, self.len(), &mut Deletions(dl), call)
+        call: impl FnOnce(&mut Line) -> i32,
+    ) -> Result<i32, Fault> {
+        self.edit(0, &mut Deletions(dl), call)
     }
 
     fn take_by<D: DeleteListener + ?Sized>(&mut self, mvt: Movement, dl: &mut D) -> bool {
-        let answer = self.edit(0, 0, &mut Deletions(dl), |line| line.delete_by(mvt));
-        answered(answer.and_then(yes))
+        answered(self.take(dl, |line| line.delete_by(mvt)).and_then(found))
     }
 
-    /// Deletes n grapheme clusters after the cursor, and answers them. `None` where there are none.
+    /// Deletes n grapheme clusters after the cursor, and returns them. `None` if there are none.
     pub fn delete<D: DeleteListener + ?Sized>(
         &mut self,
         n: RepeatCount,
@@ -45,11 +44,11 @@ impl LineBuffer {
         gone.try_reserve_exact(goes.len())
             .map_err(|_| Fault::NoMemory)?;
         gone.push_str(&self.text[goes]);
-        let is_gone = self.take(dl, |line| line.delete(n)).and_then(yes)?;
+        let is_gone = self.take(dl, |line| line.delete(n)).and_then(found)?;
         Ok(is_gone.then_some(gone))
     }
 
-    /// Deletes n grapheme clusters before the cursor. False where there are none.
+    /// Deletes n grapheme clusters before the cursor. False if there are none.
     pub fn backspace<D: DeleteListener + ?Sized>(&mut self, n: RepeatCount, dl: &mut D) -> bool {
         answered(self.try_backspace(n, dl))
     }
@@ -64,7 +63,7 @@ impl LineBuffer {
         n: RepeatCount,
         dl: &mut D,
     ) -> Result<bool, Fault> {
-        self.take(dl, |line| line.backspace(n)).and_then(yes)
+        self.take(dl, |line| line.backspace(n)).and_then(found)
     }
 
     /// Deletes to the end of the cursor's line, or the newline there. False at the end of the text. It is no kill, and
@@ -74,7 +73,7 @@ impl LineBuffer {
         self.take_by(Movement::EndOfLine, dl)
     }
 
-    /// Deletes to the end of the text. False where nothing is there.
+    /// Deletes to the end of the text. False if nothing is there.
     pub fn kill_buffer<D: DeleteListener + ?Sized>(&mut self, dl: &mut D) -> bool {
         self.take_by(Movement::EndOfBuffer, dl)
     }
@@ -84,7 +83,7 @@ impl LineBuffer {
         self.take_by(Movement::BeginningOfLine, dl)
     }
 
-    /// Deletes back to the start of the text. False where nothing is there.
+    /// Deletes back to the start of the text. False if nothing is there.
     pub fn discard_buffer<D: DeleteListener + ?Sized>(&mut self, dl: &mut D) -> bool {
         self.take_by(Movement::BeginningOfBuffer, dl)
     }
@@ -99,7 +98,7 @@ impl LineBuffer {
         self.take_by(Movement::BackwardWord(n, word_def), dl)
     }
 
-    /// Deletes forward to the n-th word, as `at` says. False where nothing is there.
+    /// Deletes forward to the n-th word, as `at` says. False if nothing is there.
     pub fn delete_word<D: DeleteListener + ?Sized>(
         &mut self,
         at: At,
@@ -110,7 +109,7 @@ impl LineBuffer {
         self.take_by(Movement::ForwardWord(n, at, word_def), dl)
     }
 
-    /// Deletes to the n-th hit of a search, or to the farthest where there are fewer. False where there is none.
+    /// Deletes to the n-th hit of a search, or to the farthest if there are fewer. False if there is none.
     pub fn delete_to<D: DeleteListener + ?Sized>(
         &mut self,
         cs: CharSearch,
@@ -124,7 +123,7 @@ impl LineBuffer {
     ///
     /// # Panics
     ///
-    /// Where the range is none of the text, as a slice of it does.
+    /// If the range is none of the text, as a slice of it does.
     pub fn delete_range<D: DeleteListener + ?Sized>(&mut self, range: Range<usize>, dl: &mut D) {
         self.see_range(&range);
         answered(self.try_delete_range(range, dl));
@@ -144,8 +143,8 @@ impl LineBuffer {
             .and_then(done)
     }
 
-    /// Deletes what a movement covers, as a kill: the listener hears that it starts and stops, also where nothing goes.
-    /// By `BackwardChar` and `ForwardChar` it is no kill. False where nothing goes.
+    /// Deletes what a movement covers, as a kill: the listener hears that it starts and stops, also if nothing goes.
+    /// By `BackwardChar` and `ForwardChar` it is no kill. False if nothing goes.
     pub fn kill<D: DeleteListener + ?Sized>(&mut self, mvt: &Movement, dl: &mut D) -> bool {
         answered(self.try_kill(mvt, dl))
     }
@@ -160,10 +159,10 @@ impl LineBuffer {
         mvt: &Movement,
         dl: &mut D,
     ) -> Result<bool, Fault> {
-        self.take(dl, |line| line.kill(*mvt)).and_then(yes)
+        self.take(dl, |line| line.kill(*mvt)).and_then(found)
     }
 
-    /// Deletes a range as a kill does, on a side of the cursor. The cursor goes to its start. False where it is empty.
+    /// Deletes a range as a kill does, on a side of the cursor. The cursor goes to its start. False if it is empty.
     /// rustyline has no such call.
     ///
     /// # Errors
@@ -176,6 +175,6 @@ impl LineBuffer {
         dl: &mut D,
     ) -> Result<bool, Fault> {
         self.take(dl, |line| line.kill_range(range, dir))
-            .and_then(yes)
+            .and_then(found)
     }
 }

@@ -1,5 +1,5 @@
 //! Commands at random.
-use lodvarn::{Action, At, Bound, CharSearch, Direction, Fault, Movement, Session, Word};
+use lodvarn::{At, Case, CharSearch, Direction, Fault, Movement, Session, Word, NO_BOUND};
 use std::ops::Range;
 
 /// Numbers at random, by a linear congruential generator.
@@ -94,7 +94,7 @@ impl Random {
 
 /// Gives a session a command at random.
 pub fn command(s: &mut Session, random: &mut Random) -> Result<(), Fault> {
-    let (n, text) = (random.count(), s.text());
+    let (n, text) = (random.count(), s.text().to_string());
     match random.below(44) {
         0..=4 => s.insert(random.letter(), n).map(drop),
         5..=8 => s.paste(&random.text(), n).map(drop),
@@ -104,28 +104,25 @@ pub fn command(s: &mut Session, random: &mut Random) -> Result<(), Fault> {
         16..=18 => s.undo(n).map(drop),
         19..=20 => s.redo().map(drop),
         21 => s.replace(random.places(&text), &random.text()),
-        22 if random.below(4) == 0 => s.restart(&random.text(), 0),
-        22 => s.update(&random.text(), 0),
-        23 => s.insert_str(random.place(&text), &random.text()).map(drop),
+        22 if random.below(4) == 0 => s.restart(&random.text()),
+        22 => s.set_text(0, &random.text()),
+        23 => s.insert_at(random.place(&text), &random.text()).map(drop),
         24 => s.delete_range(random.places(&text)),
         25 => s.delete(n).map(drop),
         26 => s.backspace(n).map(drop),
-        27 => s.delete_prev_word(random.word(), n).map(drop),
-        28 => s.delete_word(random.at(), random.word(), n).map(drop),
-        29 => s.delete_to(random.search(), n).map(drop),
+        27..=29 => s.delete_by(random.movement()).map(drop),
         30 => s.transpose_chars().map(drop),
         31 => s.transpose_words(n).map(drop),
         32 => {
-            let actions = [Action::Capitalize, Action::Lowercase, Action::Uppercase];
-            s.edit_word(random.one(&actions)).map(drop)
+            let cases = [Case::Capitalize, Case::Lowercase, Case::Uppercase];
+            s.change_case(random.one(&cases)).map(drop)
         }
-        33 => s.indent(random.movement(), 2).map(drop),
-        34 => s.dedent(random.movement(), 2).map(drop),
-        35 => s.begin().map(drop),
-        36 => s.end().map(drop),
+        33 => s.indent(random.movement(), 2),
+        34 => s.dedent(random.movement(), 2),
+        35 => s.begin_group(),
+        36 => s.end_all_groups().map(drop),
         37 => s
-            .delete_to_line_end()
-            .and_then(|_| s.discard_line())
+            .delete_by(random.one(&[Movement::EndOfLine, Movement::BeginningOfLine]))
             .map(drop),
         38 => s.set_pos(random.place(&text)),
         39 => {
@@ -133,11 +130,8 @@ pub fn command(s: &mut Session, random: &mut Random) -> Result<(), Fault> {
             s.kill_range(random.places(&text), direction).map(drop)
         }
         40 => s.keep(&random.text()),
-        41 => s.end_one().map(drop),
-        42 => {
-            settings(s, random);
-            Ok(())
-        }
+        41 => s.end_group().map(drop),
+        42 => change_options(s, random),
         _ => {
             s.move_by(random.movement());
             Ok(())
@@ -145,12 +139,16 @@ pub fn command(s: &mut Session, random: &mut Random) -> Result<(), Fault> {
     }
 }
 
-/// Changes a setting of a session at random.
-fn settings(s: &mut Session, random: &mut Random) {
-    let bound = |entries, bytes| Bound { entries, bytes };
+/// Changes an option of a session at random.
+fn change_options(s: &mut Session, random: &mut Random) -> Result<(), Fault> {
+    let mut options = s.options();
     match random.below(3) {
-        0 => s.set_limit(random.below(257)),
-        1 => s.set_prompt(random.count()),
-        _ => s.set_bound(random.one(&[Bound::NONE, bound(40, 1000), bound(100, 200)])),
+        0 => options.limit = random.below(257),
+        1 => options.prompt = random.count(),
+        _ => {
+            let bounds = [(NO_BOUND, NO_BOUND), (40, 1000), (100, 200)];
+            (options.max_entries, options.max_bytes) = random.one(&bounds);
+        }
     }
+    s.set_options(&options)
 }

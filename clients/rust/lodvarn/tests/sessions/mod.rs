@@ -10,5 +10,5 @@ pub fn opened(text: &str, pos: usize) -> Session {
 /// The session has that text and that cursor.
 #[track_caller]
 pub fn stands(session: &Session, text: &str, pos: usize) {
-    assert_eq!((session.text().as_str(), session.pos()), (text, pos));
+    assert_eq!((session.text(), session.pos()), (text, pos));
 }

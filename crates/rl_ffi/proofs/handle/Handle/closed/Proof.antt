@@ -21,8 +21,7 @@ use Rattle.std.proofs.raw_atomic.Walks.{proved_at}
 use Rattle.std.specs.declared.option.Option.{Option}
 use Rattle.std.specs.declared.option.Option.TheVariants.{None}
 use Rattle.rl_ffi.specs.Handle.{kept}
-use Rattle.rl_ffi.proofs.HandleSteps.{Z, al, both}
-use Rattle.rl_ffi.proofs.SessionHandle.{S, handle_in}
+use Rattle.rl_ffi.proofs.HandleSteps.{Z, al, both, S, handle_in}
 use Rattle.rl_ffi.specs.contracts.handle.Handle.closed as f
 use Rattle.rl_ffi.specs.contracts.handle.Handle.closed.Key.{name as #self}
 use Rattle.rl_ffi.proofs.handle.Handle.closed.Statement.{statement}

@@ -22,8 +22,7 @@ use Rattle.std.proofs.option.Made.{Some-of, none_of}
 use Rattle.std.proofs.ResultValues.{and_tt}
 use Rattle.std.proofs.raw_atomic.Walks.{proved_at}
 use Rattle.std.specs.declared.option.Option.TheVariants.{None, Some}
-use Rattle.rl_ffi.proofs.HandleSteps.{both, by_null}
-use Rattle.rl_ffi.proofs.SessionHandle.{S, Held, E, handle_out}
+use Rattle.rl_ffi.proofs.HandleSteps.{both, by_null, S, H, E, handle_out}
 use Rattle.rl_ffi.proofs.PartsSteps.{Apart, apart, apart_in}
 use Rattle.rl_ffi.specs.contracts.handle.Handle.into_parts as f
 use Rattle.rl_ffi.specs.contracts.handle.Handle.into_parts.Key.{name as #self}
@@ -33,12 +32,12 @@ use Rattle.rl_ffi.proofs.handle.Handle.into_parts.Code as code
 pub into_parts_spec : {M : Type 1} → statement M
 into_parts_spec 𝓤 𝓛 𝓜 𝓡 wired =
     let c = f.clauses 𝓛 𝓜.mem 𝓡.returns in let fn = code.function in let 𝓣 = tables 𝓤 𝓛.H 𝓜 𝓡 𝓡.env in
-    let stayed : Stays f.ended.signature.params f.ended.kept = (stay_dropped (plain (λ _. Held)) yes, tt) in
+    let stayed : Stays f.ended.signature.params f.ended.kept = (stay_dropped (plain (λ _. H)) yes, tt) in
     let Out : RattleType = type_at f.signature.result tt in
-    proved_at 𝓛 f.ended stayed c 𝓜 𝓡 (Goes-dropped 𝓛 0 (plain (λ _. Held)) yes (λ κs x w. refl), tt) #self fn (code.unfolded 𝓤 𝓛.H 𝓜 𝓡 wired) (λ z are.
+    proved_at 𝓛 f.ended stayed c 𝓜 𝓡 (Goes-dropped 𝓛 0 (plain (λ _. H)) yes (λ κs x w. refl), tt) #self fn (code.unfolded 𝓤 𝓛.H 𝓜 𝓡 wired) (λ z are.
     let d = z.0.3.0 in let a = d.alloc in let Post = (walk_of 𝓛 f.ended stayed c).post z in
     let Run : List Val → SProp 𝓤 = λ ws. WpFn 𝓤 𝓛.H 𝓣.C 𝓣.Λ fn ws Post in
-    qed 𝓛 ((‵ ftrue ⊛ ‵ (fsep (Held.own_val d z.0.4.0) ftrue)) ∷ raw (emp 𝓤) ∷ []) ∵ split ! $ drop ! $ fsplit ! $
+    qed 𝓛 ((‵ ftrue ⊛ ‵ (fsep (H.own_val d z.0.4.0) ftrue)) ∷ raw (emp 𝓤) ∷ []) ∵ split ! $ drop ! $ fsplit ! $
     handle_out ! d z.0.4.0 (λ hv ws fits. by_null S ! a d.at d.value
     (λ is none. let w : Val = both vnull hv in
     let e : z.0.4.0 ≡ w ∷ [] = ws ∙ ap (λ (p : Ptr). both (ptr_val p) hv ∷ []) is in

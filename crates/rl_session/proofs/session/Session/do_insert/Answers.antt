@@ -13,4 +13,4 @@ invariant_of-self c =
 
 pub returns : goal.returns
 returns c =
-    Edits-replied room_by_step inserts (λ l. insert_plan l c.args.c c.args.n) c.self.view_is tt c.inserted.ensures (record { options = refl; done = c.insert.ensures.done; halted = c.insert.ensures.halted })
+    Edits-replied room_by_step inserts (λ l. insert_plan l c.args.c c.args.n) c.self.view_is tt refl (record { options = refl; done = c.insert.ensures.done; halted = c.insert.ensures.halted })

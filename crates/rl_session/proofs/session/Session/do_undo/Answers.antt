@@ -10,7 +10,7 @@ invariant_of-self c = record { walks = Walks-undo _ _ _ _ _ _ c.undo_telling.res
 
 pub returns : goal.returns
 returns c =
-    Undo-replied c.args.n _ _ c.self.view_is c.answered.ensures refl c.undo_telling.ensures.done c.undo_telling.ensures.told c.undo_telling.ensures.err c.undo_telling.ensures.kept
+    Undo-replied c.args.n _ _ c.self.view_is refl refl c.undo_telling.ensures.done c.undo_telling.ensures.told c.undo_telling.ensures.err c.undo_telling.ensures.kept
 
 pub undo_telling-requires-clause-follows : goal.undo_telling-requires-clause-follows
 undo_telling-requires-clause-follows c =

@@ -1,0 +1,95 @@
+/* What the exports of rl_ffi can't do, since they return no pointers: the block whose address a program holds. The
+ * crate keeps its value behind the one pointer of a block, which is NULL while the block holds nothing. */
+#include "lodvarn_parts.h"
+#include <stdlib.h>
+
+/* The calls of rl_ffi for this file. Those that open find at NULL, and leave it NULL if they return an error. */
+struct block { void *at; };
+int rl_open_session(void *block, const lodvarn_options *options, const char *text, size_t len);
+int rl_open_line(void *block, size_t limit, bool can_grow, const char *text, size_t len);
+int rl_open_record(void *block);
+int rl_open_killring(void *block, size_t size);
+void rl_close(void *block);
+int rl_set_options(void *block, const lodvarn_options *options);
+int rl_get_options(void *block, lodvarn_options *options);
+
+/* Makes a block, which open fills, and sets *out to it, or frees it after an error. */
+#define OPEN(out, open)                                  \
+    do {                                                 \
+        struct block *block = malloc(sizeof *block);     \
+        int answer;                                      \
+        if (!block) return LODVARN_NO_MEMORY;            \
+        block->at = NULL;                                \
+        answer = (open);                                 \
+        if (answer < 0) free(block);                     \
+        else *(out) = (void *)block;                     \
+        return answer;                                   \
+    } while (0)
+
+static void *closed(void *block) {
+    rl_close(block);
+    free(block);
+    return NULL;
+}
+
+/* This version knows one size. */
+static bool is_known(const lodvarn_options *options) { return options->size == sizeof *options; }
+
+int lodvarn_open(lodvarn **out, const lodvarn_options *options, const char *text, size_t len) {
+    static const lodvarn_options own = LODVARN_OPTIONS;
+    if (!options) options = &own;
+    if (!is_known(options)) return LODVARN_NO_SUCH_NUMBER;
+    OPEN(out, rl_open_session(block, options, text, len));
+}
+
+int lodvarn_line_open(lodvarn_line **out, size_t limit, bool can_grow, const char *text, size_t len) {
+    OPEN(out, rl_open_line(block, limit, can_grow, text, len));
+}
+
+int lodvarn_record_open(lodvarn_record **out) { OPEN(out, rl_open_record(block)); }
+int lodvarn_killring_open(lodvarn_killring **out, size_t size) { OPEN(out, rl_open_killring(block, size)); }
+
+void lodvarn_close(lodvarn **s) {
+    if (s && *s) *s = closed(*s);
+}
+
+void lodvarn_line_close(lodvarn_line **l) {
+    if (l && *l) *l = closed(*l);
+}
+
+void lodvarn_record_close(lodvarn_record **r) {
+    if (r && *r) *r = closed(*r);
+}
+
+void lodvarn_killring_close(lodvarn_killring **g) {
+    if (g && *g) *g = closed(*g);
+}
+
+int lodvarn_set_options(lodvarn *s, const lodvarn_options *options) {
+    return is_known(options) ? rl_set_options(s, options) : LODVARN_NO_SUCH_NUMBER;
+}
+
+int lodvarn_get_options(lodvarn *s, lodvarn_options *options) {
+    return is_known(options) ? rl_get_options(s, options) : LODVARN_NO_SUCH_NUMBER;
+}
+
+#define NAMED(answer) case answer: return #answer;
+
+const char *lodvarn_answer_name(int answer) {
+    switch ((enum lodvarn_answer)answer) {
+        NAMED(LODVARN_NOTHING)
+        NAMED(LODVARN_DONE)
+        NAMED(LODVARN_DONE_AT_END)
+        NAMED(LODVARN_NO_MEMORY)
+        NAMED(LODVARN_BAD_PLACE)
+        NAMED(LODVARN_BAD_YANK_SIZE)
+        NAMED(LODVARN_NOT_REPLAYING)
+        NAMED(LODVARN_NO_ROOM)
+        NAMED(LODVARN_NOT_UTF8)
+        NAMED(LODVARN_NO_SUCH_NUMBER)
+        NAMED(LODVARN_TOO_SMALL)
+        NAMED(LODVARN_IS_WATCHED)
+        NAMED(LODVARN_CLOSED)
+    }
+    return "unknown";
+}

@@ -1,0 +1,348 @@
+//! Reports in order, with their texts one after another in one text.
+ghost use Rattle.std.specs.Prelude.{◌≡◌, ℕ, ◌+◌, ◌-◌, ◌^◌, ◌<◌, ◌≤◌, ◌⊎◌, ◌++◌, ◌∷◌, [], None, IfErr, IfOk, OnOk, drop, encode_utf8, length, option_map, take};
+ghost use Rattle.std.specs.Str.{IsCharBoundary};
+ghost use Rattle.std.specs.String.{string_bytes, string_capacity};
+ghost use Rattle.std.specs.VecDeque.{deque_len, deque_capacity};
+ghost use Rattle.rl_base.specs.declared.listeners.Refusal.TheVariants.{NoMemory};
+ghost use Rattle.rl_base.specs.declared.reports.ReportKind.TheVariants.{CharInserted};
+ghost use Rattle.rl_base.specs.Notes.{KeepsRoom, Lacks, bytes_kept};
+ghost use Rattle.rl_base.specs.Reports.{Whole, joined, kept, noted, oldest, on_last, reports_of, text_bytes, texts_of, told_cursors, told_note};
+
+use crate::listeners::Refusal;
+use crate::reports::{Joined, NOTHING_JOINED, Report, ReportKind};
+use std::alloc::Global;
+use std::collections::VecDeque;
+use std::marker::Model;
+
+/// Reports that wait, the oldest first, each with its texts: what went, and right after it what came. What is forgotten costs
+/// no more than what was put in.
+#[derive(Drop)]
+pub struct Notes {
+    // How many bytes of texts may wait; 0 where none are kept.
+    text_room: usize,
+    waiting: VecDeque<Report>,
+    // The texts of the reports that wait, one after another. Before them stand those of reports that are forgotten, which are
+    // never more, so that not all move where one is.
+    texts: String,
+    // How many bytes of the texts are of forgotten reports.
+    spent: usize,
+}
+
+impl Model for Notes {
+    ghost use Rattle.std.specs.Prelude.{◌+◌, ◌≤◌, drop, length};
+    ghost use Rattle.std.specs.String.{string_bytes, string_capacity};
+    ghost use Rattle.std.specs.VecDeque.{deque_capacity};
+    ghost use Rattle.rl_base.specs.Notes.{Cuts, Notes, notes};
+
+    ghost Value = { Notes };
+
+    ghost view = { λ n. record { text_room = n.text_room; waiting = notes n.text_room n.waiting.items (drop n.spent (string_bytes n.texts)); places = deque_capacity n.waiting; bytes = string_capacity n.texts } };
+
+    ghost invariant = { λ n. (n.spent + n.spent ≤ length (string_bytes n.texts)) × Cuts n.text_room n.waiting.items (drop n.spent (string_bytes n.texts)) };
+}
+
+impl Notes {
+    /// Nothing waits. All texts will be kept. It takes no memory.
+    pub fn new(alloc: Global) -> Self
+        ensures all { result.text_room ≡ 2 ^ 64 - 1 }
+        ensures nothing { result.waiting ≡ [] }
+    {
+        Notes {
+            text_room: usize::MAX,
+            waiting: VecDeque::new(alloc),
+            texts: String::new(alloc),
+            spent: 0,
+        }
+    }
+
+    /// Nothing waits, and there is memory for so many reports and, with forgotten ones before them, for so many bytes of texts.
+    /// Refused only where memory is out, and never where it needs none.
+    pub fn with_room(alloc: Global, room: usize, text_room: usize) -> Result<Self, Refusal>
+        ensures ok { IfOk result (λ n. (n.text_room ≡ text_room) × (n.waiting ≡ []) × (room ≤ n.places) × (text_room + text_room ≤ n.bytes)) }
+        ensures err { IfErr result (λ r. (r ≡ NoMemory) × ((0 < room) ⊎ (0 < text_room))) }
+    {
+        let Some(bytes) = text_room.checked_add(text_room) else {
+            return Err(Refusal::NoMemory);
+        };
+        let waiting = VecDeque::with_capacity(alloc, room)?;
+        let texts = String::with_capacity(alloc, bytes)?;
+        Ok(Notes {
+            text_room,
+            waiting,
+            texts,
+            spent: 0,
+        })
+    }
+
+    /// How many reports wait.
+    #[inline(always)]
+    pub fn len(&self) -> usize
+        ensures { result ≡ length self.now.waiting }
+    {
+        self.waiting.len()
+    }
+
+    /// How many bytes of texts may wait; 0 where none are kept.
+    #[inline(always)]
+    pub fn text_room(&self) -> usize
+        ensures { result ≡ self.now.text_room }
+    {
+        self.text_room
+    }
+
+    /// How many bytes of texts wait.
+    #[inline(always)]
+    pub fn text_len(&self) -> usize
+        ensures { result ≡ text_bytes self.now.waiting }
+    {
+        self.texts.len() - self.spent
+    }
+
+    /// The oldest report that waits, None where none does.
+    pub fn oldest(&self) -> Option<Report>
+        ensures { result ≡ option_map (λ n. n.report) (oldest (Whole self.now.waiting)) }
+    {
+        self.waiting.front().copied()
+    }
+
+    /// Its texts: what went, and right after it what came. Empty where none are kept, and where none waits.
+    pub fn oldest_texts(&self) -> &str
+        ensures { result.now ≡ texts_of (oldest (Whole self.now.waiting)) }
+    {
+        let Some(oldest) = self.waiting.front() else {
+            return "";
+        };
+        let texts = &self.texts.as_str()[self.spent..];
+        &texts[..bytes_kept(self.text_room, oldest)]
+    }
+
+    // All that wait as one.
+    pub(crate) fn as_one(&self) -> Joined
+        ensures { result ≡ joined (reports_of self.now.waiting) }
+    {
+        let (first, rest) = self.waiting.as_slices();
+        let mut all = NOTHING_JOINED;
+        all.take_all(first);
+        all.take_all(rest);
+        all
+    }
+
+    /// Forgets the oldest report, so that the next becomes the oldest.
+    pub fn forget(&mut self)
+        ensures waiting { self.new.waiting ≡ drop 1 self.old.waiting }
+        ensures room { KeepsRoom self.old self.new }
+    {
+        let Some(oldest) = self.waiting.pop_front() else {
+            return;
+        };
+        // Mostly it is the only one.
+        if self.waiting.is_empty() {
+            self.texts.clear();
+            self.spent = 0;
+            return;
+        }
+        let spent = self.spent + bytes_kept(self.text_room, &oldest);
+        self.spent = drop_spent(&mut self.texts, spent);
+    }
+
+    /// Forgets all.
+    pub fn clear(&mut self)
+        ensures { self.new ≡ record self.old { waiting = [] } }
+    {
+        self.waiting.clear();
+        self.texts.clear();
+        self.spent = 0;
+    }
+
+    /// Gives the memory for texts back where none stand there and there is more than for so many bytes.
+    pub fn trim(&mut self, alloc: Global, bytes: usize)
+        ensures waiting { self.new.waiting ≡ self.old.waiting }
+        ensures room { (self.new.text_room ≡ self.old.text_room) × (self.new.places ≡ self.old.places) }
+    {
+        if self.texts.is_empty() && self.texts.capacity() > bytes {
+            self.texts = String::new(alloc);
+            self.spent = 0;
+        }
+    }
+
+    /// Forgets all but the first `count`.
+    pub fn truncate(&mut self, count: usize)
+        ensures waiting { self.new.waiting ≡ take count self.old.waiting }
+        ensures room { KeepsRoom self.old self.new }
+    {
+        while self.len() > count {
+            self.forget_newest();
+        }
+    }
+
+    // Forgets the newest report.
+    fn forget_newest(&mut self)
+        ensures waiting { self.new.waiting ≡ take (length self.old.waiting - 1) self.old.waiting }
+        ensures room { KeepsRoom self.old self.new }
+    {
+        let Some(newest) = self.waiting.pop_back() else {
+            return;
+        };
+        let left = self.texts.len() - bytes_kept(self.text_room, &newest);
+        self.texts.truncate(left);
+        self.spent = drop_spent(&mut self.texts, self.spent);
+    }
+
+    /// Finds memory for so many more reports. Refused only where memory is out for it, and all that wait do so then too.
+    #[inline(always)]
+    pub fn reserve(&mut self, more: usize) -> Result<(), Refusal>
+        ensures waiting { self.new.waiting ≡ self.old.waiting }
+        ensures room { KeepsRoom self.old self.new }
+        ensures done { OnOk result (length self.new.waiting + more ≤ self.new.places) }
+        ensures err { IfErr result (λ r. (r ≡ NoMemory) × (self.old.places < length self.old.waiting + more)) }
+    {
+        Ok(self.waiting.reserve(more)?)
+    }
+
+    /// Puts a report at the end: at a place what went gave way to what came. There is memory for one more. Refused only where memory
+    /// is out for its texts, and all that wait do so then too.
+    pub fn push(
+        &mut self,
+        kind: ReportKind,
+        at: usize,
+        gone: &str,
+        come: &str,
+    ) -> Result<(), Refusal>
+        requires { length self.old.waiting < self.old.places }
+        ensures done { OnOk result (self.new.waiting ≡ self.old.waiting ++ noted self.old.text_room kind at gone.now come.now ∷ []) }
+        ensures err { IfErr result (λ r. (r ≡ NoMemory) × (self.new.waiting ≡ self.old.waiting) × Lacks (kept self.old.text_room (gone.now ++ come.now)) self.old) }
+        ensures room { KeepsRoom self.old self.new }
+    {
+        keep_texts(&mut self.texts, self.text_room, gone, come)?;
+        let report = report_of(kind, at, gone.len(), come.len());
+        self.waiting.push_back_reserved(report);
+        Ok(())
+    }
+
+    /// Puts a report at the end: at a place a character came. Texts are kept. All else is as of `push`.
+    #[inline(always)]
+    pub fn push_char(&mut self, at: usize, c: char) -> Result<(), Refusal>
+        requires keeps { 0 < self.old.text_room }
+        requires place { length self.old.waiting < self.old.places }
+        ensures done { OnOk result (self.new.waiting ≡ self.old.waiting ++ noted self.old.text_room CharInserted at [] (encode_utf8 c) ∷ []) }
+        ensures err { IfErr result (λ r. (r ≡ NoMemory) × (self.new.waiting ≡ self.old.waiting) × Lacks (kept self.old.text_room (encode_utf8 c)) self.old) }
+        ensures room { KeepsRoom self.old self.new }
+    {
+        self.texts.push(c)?;
+        let report = report_of(ReportKind::CharInserted, at, 0, c.len_utf8());
+        self.waiting.push_back_reserved(report);
+        Ok(())
+    }
+
+    // Puts a report at the end, of which no texts are kept. There is memory for it.
+    #[inline(always)]
+    pub(crate) fn push_numbers(&mut self, report: Report)
+        requires none { self.old.text_room ≡ 0 }
+        requires place { length self.old.waiting < self.old.places }
+        ensures { self.new ≡ record self.old { waiting = self.old.waiting ++ record { report = report; texts = [] } ∷ [] } }
+    {
+        self.waiting.push_back_reserved(report);
+    }
+
+    /// Puts the reports of another, which keeps texts as this one does, after those that wait, and leaves memory for so many more. Refused
+    /// only where memory is out for it, and all that wait do so then too.
+    pub fn append(&mut self, later: Notes, more: usize) -> Result<(), Refusal>
+        requires { later.text_room ≡ self.old.text_room }
+        ensures done { OnOk result ((self.new.waiting ≡ self.old.waiting ++ later.waiting) × (length self.new.waiting + more ≤ self.new.places)) }
+        ensures err { IfErr result (λ r. (r ≡ NoMemory) × (self.new.waiting ≡ self.old.waiting) × ((0 < length later.waiting) ⊎ (self.old.places < length self.old.waiting + more))) }
+        ensures room { KeepsRoom self.old self.new }
+    {
+        let mut reports = later.waiting;
+        let Some(room) = more.checked_add(reports.len()) else {
+            return Err(Refusal::NoMemory);
+        };
+        self.waiting.reserve(room)?;
+        self.texts.push_str(&later.texts.as_str()[later.spent..])?;
+        if self.waiting.append(&mut reports).is_err() {
+            unreachable!();
+        }
+        Ok(())
+    }
+
+    /// Tells the last report where the cursor was before it and after it, where that is a change.
+    #[inline(always)]
+    pub fn tell_last(&mut self, before: usize, after: usize)
+        ensures { self.new ≡ record self.old { waiting = on_last (told_note before after) self.old.waiting } }
+    {
+        tell_last(&mut self.waiting, before, after);
+    }
+}
+
+// Tells the last report where the cursor was before it and after it, where that is a change.
+#[inline(always)]
+fn tell_last(waiting: &mut VecDeque<Report>, before: usize, after: usize)
+    ensures items { waiting.new.items ≡ on_last (told_cursors before after) waiting.old.items }
+    ensures len { deque_len waiting.new ≡ deque_len waiting.old }
+    ensures capacity { deque_capacity waiting.new ≡ deque_capacity waiting.old }
+{
+    let Some(last) = waiting.back_mut() else {
+        return;
+    };
+    if last.kind.is_change() {
+        last.cursors = Some((before, after));
+    }
+}
+
+// Drops the spent texts once they are more than those that wait, so that a byte moves at most once for each that is forgotten.
+fn drop_spent(texts: &mut String, spent: usize) -> usize
+    requires { IsCharBoundary (string_bytes texts.old) spent }
+    ensures left { drop result (string_bytes texts.new) ≡ drop spent (string_bytes texts.old) }
+    ensures less { result + result ≤ length (string_bytes texts.new) }
+    ensures capacity { string_capacity texts.old ≤ string_capacity texts.new }
+{
+    if spent <= texts.len() - spent {
+        return spent;
+    }
+    if texts.replace_range(..spent, "").is_err() {
+        unreachable!();
+    }
+    0
+}
+
+// Puts what went and what came at the end, where texts are kept, or neither where memory is out.
+fn keep_texts(texts: &mut String, text_room: usize, gone: &str, come: &str) -> Result<(), Refusal>
+    ensures done { OnOk result (string_bytes texts.new ≡ string_bytes texts.old ++ kept text_room (gone.now ++ come.now)) }
+    ensures err { IfErr result (λ r. (r ≡ NoMemory) × (string_bytes texts.new ≡ string_bytes texts.old) × (string_capacity texts.old < length (string_bytes texts.old) + length (kept text_room (gone.now ++ come.now)))) }
+    ensures capacity { string_capacity texts.old ≤ string_capacity texts.new }
+{
+    if text_room == 0 {
+        return Ok(());
+    }
+    let len = texts.len();
+    texts.push_str(gone)?;
+    if let Err(why) = texts.push_str(come) {
+        texts.truncate(len);
+        return Err(why.into());
+    }
+    Ok(())
+}
+
+// A report of a change, of which no cursor is told yet.
+#[inline(always)]
+pub(crate) fn report_of(kind: ReportKind, at: usize, old_len: usize, new_len: usize) -> Report
+    ensures { result ≡ record { kind = kind; at = at; old_len = old_len; new_len = new_len; cursors = None } }
+{
+    Report {
+        kind,
+        at,
+        old_len,
+        new_len,
+        cursors: None,
+    }
+}
+
+// How many bytes of texts are kept of a report.
+pub(crate) fn bytes_kept(text_room: usize, report: &Report) -> usize
+    requires { bytes_kept text_room report.now < 2 ^ 64 }
+    ensures { result ≡ bytes_kept text_room report.now }
+{
+    if text_room == 0 {
+        return 0;
+    }
+    report.old_len + report.new_len
+}

@@ -1,9 +1,0 @@
-use Rattle.std.proofs.Common.{drop, sym, ◌∙◌}
-use Rattle.std.specs.String.{string_bytes}
-use Rattle.rl_base.proofs.Queue.QueueLemmas.{length-notes}
-use Rattle.rl_ffi.proofs.heard.Heard.len.Goals as goal
-
-pub returns : goal.returns
-returns c =
-    let i = c.self.inside in
-    rw (← c.self.view_is) (c.len.ensures ∙ i.waiting.ok.0 ∙ sym (length-notes 1 i.waiting.items (drop i.spent (string_bytes i.texts))))

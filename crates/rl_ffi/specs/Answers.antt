@@ -1,0 +1,73 @@
+-- What a call answers, and its number.
+use Rattle.std.specs.Prelude.{Bool, true, false, ℤ, pos, negsuc, Option, Some, None, Result, Ok, Err}
+use Rattle.rl_base.specs.declared.watch.WatchFault.{WatchFault}
+use Rattle.rl_base.specs.declared.watch.WatchFault.TheVariants as unwatched
+use Rattle.rl_session.specs.declared.session.Fault.{Fault}
+use Rattle.rl_session.specs.declared.session.Fault.TheVariants as fault
+use Rattle.rl_session.specs.declared.session.Reply.{Reply}
+use Rattle.rl_session.specs.declared.session.Reply.TheVariants as says
+use Rattle.rl_ffi.specs.declared.answers.Answer.{Answer}
+use Rattle.rl_ffi.specs.declared.answers.Answer.TheVariants.{Nothing, Done, DoneAtEnd, NoMemory, BadPlace, BadYankSize, NotReplaying, NoRoom, NotUtf8, NoSuchNumber, TooSmall, IsWatched, Closed}
+
+-- 0 where there was nothing to do, from 1 on where it is done, and below 0 where it was refused
+abbrev pub number : Answer → ℤ
+number Nothing = pos 0
+number Done = pos 1
+number DoneAtEnd = pos 2
+number NoMemory = negsuc 0
+number BadPlace = negsuc 1
+number BadYankSize = negsuc 2
+number NotReplaying = negsuc 3
+number NoRoom = negsuc 4
+number NotUtf8 = negsuc 5
+number NoSuchNumber = negsuc 6
+number TooSmall = negsuc 7
+number IsWatched = negsuc 8
+number Closed = negsuc 9
+
+-- the answer of a call that was done, or refused
+abbrev pub merged : Result Answer Answer → Answer
+merged (Ok answer) = answer
+merged (Err answer) = answer
+
+-- was there something to do?
+abbrev pub truth : Bool → Answer
+truth true = Done
+truth false = Nothing
+
+-- an insertion is done: was it at the end?
+abbrev pub placed : Bool → Answer
+placed true = DoneAtEnd
+placed false = Done
+
+-- the same, or else nothing went in
+abbrev pub inserted : Answer → Option Bool → Answer
+inserted none None = none
+inserted none (Some at_end) = placed at_end
+
+abbrev pub of_fault : Fault → Answer
+of_fault fault.NoMemory = NoMemory
+of_fault fault.BadPlace = BadPlace
+of_fault fault.BadYankSize = BadYankSize
+of_fault fault.NotReplaying = NotReplaying
+
+abbrev pub of_watch_fault : WatchFault → Answer
+of_watch_fault unwatched.NoMemory = NoMemory
+of_watch_fault unwatched.NoRoom = NoSuchNumber
+of_watch_fault unwatched.IsWatched = IsWatched
+
+-- what a session's reply tells; the first argument where nothing was inserted
+abbrev pub told : Answer → Reply → Answer
+told none says.Done = Done
+told none (says.Answer a) = truth a
+told none (says.Inserted at_end) = inserted none at_end
+told none (says.Text (Some text)) = Done
+told none (says.Text None) = Nothing
+told none (says.Mark entries) = Done
+told none (says.At line column) = Done
+told none (says.Refused why) = of_fault why
+
+-- the same of an insertion at a place, whose reply says whether that was the end
+abbrev pub told_place : Reply → Answer
+told_place (says.Answer at_end) = placed at_end
+told_place reply = told NoRoom reply

@@ -1,0 +1,27 @@
+//! What C may hold.
+use crate::heard::Heard;
+use rl_base::KillRing;
+use rl_line::{Changeset, LineBuffer};
+use rl_session::Session;
+
+/// What a handle may hold.
+#[derive(Drop)]
+pub enum Held {
+    /// A session.
+    Session(Session),
+    /// A line by itself.
+    Line(HeldLine),
+    /// A record by itself.
+    Record(Changeset),
+    /// A kill ring by itself.
+    Ring(KillRing),
+}
+
+/// A line by itself, with the reports of what changed in it.
+#[derive(Drop)]
+pub struct HeldLine {
+    /// The line.
+    pub line: LineBuffer,
+    /// Hears of every change of the line.
+    pub heard: Heard,
+}
