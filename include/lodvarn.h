@@ -33,9 +33,9 @@
  * Answers
  * A call that returns an int returns one of enum lodvarn_answer: below 0 an error, 0 if there was nothing to do, and
  * from 1 on if it is done. So if (lodvarn_undo(s, 1) > 0) asks whether something was undone. The comment of each call
- * names its errors, without LODVARN_. NO_SUCH_NUMBER is one of every call that takes a count, a character, a movement or
- * an enum: a count above 65535, no character, or a number that is not in the enum. NOT_UTF8 is one of every call that
- * takes a text. What an error leaves:
+ * names its errors, without LODVARN_. NO_SUCH_NUMBER is one of every call that takes a count, a character, a movement
+ * or an enum: a count above 65535, no character, or a number that is not in the enum. NOT_UTF8 is one of every call
+ * that takes a text. What an error leaves:
  * - NO_MEMORY: an edit of several steps stops after the steps that it made, and the record has these. Every other call
  *   leaves text, cursor, record and limit as they were. The ring may have kept a text that a kill did not delete.
  * - BAD_PLACE, BAD_YANK_SIZE, NOT_REPLAYING and NO_ROOM: text, cursor, record and limit as they were. The call still
@@ -269,7 +269,8 @@ static inline lodvarn_movement lodvarn_search_for(enum lodvarn_search search, ui
     return lodvarn_movement_(LODVARN_SEARCH_ + lodvarn_index_((uint32_t)search, LODVARN_TO, 4), c, n);
 }
 
-/* From the first start of a big word after the start of the text to the cursor. No motion: lodvarn_move does nothing. */
+/* From the first start of a big word after the start of the text to the cursor. No motion: lodvarn_move does
+ * nothing. */
 static inline lodvarn_movement lodvarn_from_first_word(void) {
     return lodvarn_movement_(LODVARN_FROM_FIRST_WORD_, 0, 0);
 }
@@ -303,16 +304,16 @@ void lodvarn_close(lodvarn **s);
  * Errors: NOT_UTF8, and NO_MEMORY only if the text needs more room; they leave the whole session. */
 int lodvarn_restart(lodvarn *s, const char *text, size_t len);
 
-/* Sets what may be chosen. A kill after it still goes on from the kill before it. The limit becomes the text's length if
- * that is greater. The bound of the record holds now and after each later command: as long as the record has more than
- * max_entries entries, or they more than max_bytes bytes of text, of what went and of what came, it forgets the oldest
- * change or closed group, which can't be undone then. A group that is open stays, with all after its begin, and so does
- * what was undone. Numbers of entries that were told before count what is gone. Errors: NO_SUCH_NUMBER, also if size is
- * none that this version knows, or ring_size is not the session's. */
+/* Sets what may be chosen. A kill after it still goes on from the kill before it. The limit becomes the text's length
+ * if that is greater. The bound of the record holds now and after each later command: as long as the record has more
+ * than max_entries entries, or they more than max_bytes bytes of text, of what went and of what came, it forgets the
+ * oldest change or closed group, which can't be undone then. A group that is open stays, with all after its begin, and
+ * so does what was undone. Numbers of entries that were told before count what is gone. Errors: NO_SUCH_NUMBER, also if
+ * size is none that this version knows, or ring_size is not the session's. */
 int lodvarn_set_options(lodvarn *s, const lodvarn_options *options);
 
-/* Writes what is chosen to *options, whose size the caller has set. A read. Errors: NO_SUCH_NUMBER if size is none that this
- * version knows. */
+/* Writes what is chosen to *options, whose size the caller has set. A read. Errors: NO_SUCH_NUMBER if size is none that
+ * this version knows. */
 int lodvarn_get_options(lodvarn *s, lodvarn_options *options);
 
 /* The commands. */
@@ -330,8 +331,8 @@ int lodvarn_insert(lodvarn *s, uint32_t c, size_t n);
  * NO_MEMORY. */
 int lodvarn_paste(lodvarn *s, const char *text, size_t len, size_t n);
 
-/* Inserts the ring's current text n times at the cursor, which goes after it. Returns NOTHING if the ring has no text, or
- * an empty one. Errors: NO_ROOM, NO_MEMORY. */
+/* Inserts the ring's current text n times at the cursor, which goes after it. Returns NOTHING if the ring has no text,
+ * or an empty one. Errors: NO_ROOM, NO_MEMORY. */
 int lodvarn_yank(lodvarn *s, size_t n);
 
 /* Replaces the text that the last call yanked by the one before it in the ring. These are two changes: call
@@ -350,28 +351,28 @@ int lodvarn_set_text(lodvarn *s, size_t pos, const char *text, size_t len);
  * number. Errors: BAD_PLACE also if the cursor would come to stand inside a character, NO_MEMORY. */
 int lodvarn_insert_at(lodvarn *s, size_t place, const char *text, size_t len);
 
-/* Replaces what stands in a range by a text, whatever the limit, which rises if the text is longer then. The cursor goes
- * after the text. Errors: BAD_PLACE, NO_MEMORY. */
+/* Replaces what stands in a range by a text, whatever the limit, which rises if the text is longer then. The cursor
+ * goes after the text. Errors: BAD_PLACE, NO_MEMORY. */
 int lodvarn_replace(lodvarn *s, lodvarn_range range, const char *text, size_t len);
 
 /* Deletes what stands in a range. The cursor goes to its start. Errors: BAD_PLACE, NO_MEMORY. */
 int lodvarn_delete_range(lodvarn *s, lodvarn_range range);
 
-/* Deletes n clusters after the cursor; lodvarn_backspace those before it. lodvarn_covers and lodvarn_slice tell what goes.
- * Returns NOTHING if there are none. Errors: NO_MEMORY. */
+/* Deletes n clusters after the cursor; lodvarn_backspace those before it. lodvarn_covers and lodvarn_slice tell what
+ * goes. Returns NOTHING if there are none. Errors: NO_MEMORY. */
 int lodvarn_delete(lodvarn *s, size_t n);
 int lodvarn_backspace(lodvarn *s, size_t n);
 
 /* Deletes what a movement to one side of the cursor covers: to the start or the end of the line or the text, by words,
  * or by a search. At the end of a line lodvarn_to_line_end takes the newline, and at the start of one
  * lodvarn_to_line_start the newline before it, CR LF as one. The ring does not keep it: of all deletions it keeps only
- * those by lodvarn_kill and lodvarn_kill_range. Returns NOTHING if there is nothing. Errors: NO_SUCH_NUMBER also for the
- * other movements, NO_MEMORY. */
+ * those by lodvarn_kill and lodvarn_kill_range. Returns NOTHING if there is nothing. Errors: NO_SUCH_NUMBER also for
+ * the other movements, NO_MEMORY. */
 int lodvarn_delete_by(lodvarn *s, lodvarn_movement movement);
 
 /* Exchanges the clusters before and after the cursor; at the end of the text, the last two. The cursor goes after both.
- * Returns NOTHING if there are not two. These are two changes: call it between lodvarn_begin_group and lodvarn_end_group
- * if one undo should take back both. Errors: NO_MEMORY. */
+ * Returns NOTHING if there are not two. These are two changes: call it between lodvarn_begin_group and
+ * lodvarn_end_group if one undo should take back both. Errors: NO_MEMORY. */
 int lodvarn_transpose_chars(lodvarn *s);
 
 /* Exchanges the word that ends n-th after the cursor with the word n words before it. The cursor goes after both.
@@ -383,21 +384,21 @@ int lodvarn_transpose_words(lodvarn *s, size_t n);
  * Returns NOTHING if there is none. These are two changes, see lodvarn_transpose_chars. Errors: NO_MEMORY. */
 int lodvarn_change_case(lodvarn *s, enum lodvarn_case to);
 
-/* Deletes what a movement covers. The ring keeps it, except by lodvarn_chars_back and lodvarn_chars_forward. Consecutive
- * kills become one text of the ring: what stood before the cursor goes to its front, what stood after the cursor to its
- * end. A kill that removes nothing does not end such a run. Any other command does, so that the next kill begins a new
- * text: also a motion, lodvarn_copy, lodvarn_keep, lodvarn_yank, lodvarn_undo, a begin or end of a group, a kill by
- * clusters, and a command that had nothing to do. These do not: lodvarn_kill_range, lodvarn_set_options, the calls that
- * tell what changed, the reads, and a call that returns NOT_UTF8, NO_SUCH_NUMBER or TOO_SMALL. Returns NOTHING if there
- * is nothing. Errors: NO_MEMORY. */
+/* Deletes what a movement covers. The ring keeps it, except by lodvarn_chars_back and lodvarn_chars_forward.
+ * Consecutive kills become one text of the ring: what stood before the cursor goes to its front, what stood after the
+ * cursor to its end. A kill that removes nothing does not end such a run. Any other command does, so that the next kill
+ * begins a new text: also a motion, lodvarn_copy, lodvarn_keep, lodvarn_yank, lodvarn_undo, a begin or end of a group,
+ * a kill by clusters, and a command that had nothing to do. These do not: lodvarn_kill_range, lodvarn_set_options, the
+ * calls that tell what changed, the reads, and a call that returns NOT_UTF8, NO_SUCH_NUMBER or TOO_SMALL. Returns
+ * NOTHING if there is nothing. Errors: NO_MEMORY. */
 int lodvarn_kill(lodvarn *s, lodvarn_movement movement);
 
-/* Kills what stands in a range, wherever the cursor is. The cursor goes to its start. Returns NOTHING if it is empty, and
- * the cursor stays then. Errors: BAD_PLACE, NO_MEMORY. */
+/* Kills what stands in a range, wherever the cursor is. The cursor goes to its start. Returns NOTHING if it is empty,
+ * and the cursor stays then. Errors: BAD_PLACE, NO_MEMORY. */
 int lodvarn_kill_range(lodvarn *s, lodvarn_range range, enum lodvarn_direction direction);
 
-/* Ends a run of kills, as every other command does, and does nothing else: the next kill begins a new text of the ring, and
- * lodvarn_yank_pop finds nothing. */
+/* Ends a run of kills, as every other command does, and does nothing else: the next kill begins a new text of the ring,
+ * and lodvarn_yank_pop finds nothing. */
 int lodvarn_end_kills(lodvarn *s);
 
 /* Puts a text into the ring, as a kill of its own, whatever was done before: the next lodvarn_yank gives it, and a kill
@@ -408,8 +409,8 @@ int lodvarn_keep(lodvarn *s, const char *text, size_t len);
  * kills. Returns NOTHING if there is nothing. Errors: TOO_SMALL with the length that is needed in *len. */
 int lodvarn_copy(lodvarn *s, lodvarn_movement movement, char *out, size_t cap, size_t *len);
 
-/* Inserts amount spaces at the start of each line that a movement covers, or deletes up to amount bytes of blanks there.
- * Each line is a change or more, see lodvarn_transpose_chars. Errors: NO_MEMORY. */
+/* Inserts amount spaces at the start of each line that a movement covers, or deletes up to amount bytes of blanks
+ * there. Each line is a change or more, see lodvarn_transpose_chars. Errors: NO_MEMORY. */
 int lodvarn_indent(lodvarn *s, lodvarn_movement movement, uint8_t amount, enum lodvarn_indentation indentation);
 
 /* Begins an undo group: once it is closed, one undo takes back all its changes. Groups may be nested. Errors:
@@ -460,8 +461,8 @@ enum lodvarn_report_kind {
 };
 
 /* A report of a change: old_len bytes went from the place at, and new_len bytes came. The cursor stood at pos_before in
- * the text before, and at pos_after in that after it; both are 0 if it was not told. old_text and new_text are what went
- * and what came, and empty if no texts are kept or the report is folded. They are good until the next call on the
+ * the text before, and at pos_after in that after it; both are 0 if it was not told. old_text and new_text are what
+ * went and what came, and empty if no texts are kept or the report is folded. They are good until the next call on the
  * session that may change something; lodvarn_forget_report is one. */
 typedef struct lodvarn_report {
     enum lodvarn_report_kind kind;
@@ -484,8 +485,8 @@ int lodvarn_watch(lodvarn *s, size_t reports, size_t text_bytes);
 /* Keeps no reports any more, and forgets those that wait. */
 int lodvarn_unwatch(lodvarn *s);
 
-/* Tells the oldest report that waits in *report. It stays the oldest until lodvarn_forget_report. Returns NOTHING if none
- * waits. A read. */
+/* Tells the oldest report that waits in *report. It stays the oldest until lodvarn_forget_report. Returns NOTHING if
+ * none waits. A read. */
 int lodvarn_next_report(lodvarn *s, lodvarn_report *report);
 
 /* Forgets the oldest report, so that the next becomes the oldest. No command comes between lodvarn_next_report and this
@@ -538,8 +539,8 @@ size_t lodvarn_ring_count(lodvarn *s);
  * lodvarn_yank_pop would put in its place, and so on. Returns NOTHING if back is lodvarn_ring_count or more. */
 int lodvarn_ring_text(lodvarn *s, size_t back, lodvarn_view *view);
 
-/* Returns whether lodvarn_yank_pop would find a yanked text to replace: from a lodvarn_yank or lodvarn_yank_pop that put one
- * in, also no times, up to the next command; but a kill that removes nothing leaves it so. */
+/* Returns whether lodvarn_yank_pop would find a yanked text to replace: from a lodvarn_yank or lodvarn_yank_pop that
+ * put one in, also no times, up to the next command; but a kill that removes nothing leaves it so. */
 bool lodvarn_last_was_yank(lodvarn *s);
 
 /* Returns how many reports wait; a folded one is one. */
@@ -556,8 +557,8 @@ const char *lodvarn_answer_name(int answer);
 
 /* Runs a script in a session of its own and copies what it prints to out, as much of it as fits in cap bytes, which may
  * end inside a character, and sets *printed to the length of all that it printed, which may be more than cap. Errors:
- * NO_MEMORY, with what was printed before in out and *printed: what the first lines print, the last one perhaps cut. The
- * script need not be UTF-8. docs/RULES.md describes scripts. */
+ * NO_MEMORY, with what was printed before in out and *printed: what the first lines print, the last one perhaps cut.
+ * The script need not be UTF-8. docs/RULES.md describes scripts. */
 int lodvarn_script(const char *script, size_t len, char *out, size_t cap, size_t *printed);
 
 /* Measures a text: sets *columns to how many it takes, at most 65535. */
@@ -567,11 +568,11 @@ int lodvarn_width(enum lodvarn_mode mode, const char *text, size_t len, size_t *
 int lodvarn_first_cluster(const char *text, size_t len, size_t *bytes);
 int lodvarn_last_cluster(const char *text, size_t len, size_t *bytes);
 
-/* Finds where a place of a text is on a screen: its row, in line, and its column. The text begins at column prompt of row
- * 0. A newline, "\n" or "\r\n", leads to the next row. A cluster that does not fit in the rest of its row goes whole to
- * the next row. A place at the right edge is column 0 of the next row, and one inside a cluster is where the cluster
- * starts. A tab goes to the next column of its row that is a multiple of tab, or to the right edge if that is nearer.
- * Errors: BAD_PLACE, NO_SUCH_NUMBER also if the screen has no columns. */
+/* Finds where a place of a text is on a screen: its row, in line, and its column. The text begins at column prompt of
+ * row 0. A newline, "\n" or "\r\n", leads to the next row. A cluster that does not fit in the rest of its row goes
+ * whole to the next row. A place at the right edge is column 0 of the next row, and one inside a cluster is where the
+ * cluster starts. A tab goes to the next column of its row that is a multiple of tab, or to the right edge if that is
+ * nearer. Errors: BAD_PLACE, NO_SUCH_NUMBER also if the screen has no columns. */
 int lodvarn_cell(const lodvarn_screen *screen, size_t place, const char *text, size_t len, lodvarn_position *cell);
 
 /* Finds which place of a text is at a cell of the screen, as where a mouse points: the last place between two clusters

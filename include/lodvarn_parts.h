@@ -19,9 +19,9 @@
  *   was.
  *
  * A line tells no record and no ring of its changes. It keeps a report of each, in a queue without a bound, and whoever
- * has a record and a ring reads the reports and makes the calls that fit them. The reports, applied in order to the text
- * that the line had, give the text that it has. An edit that reports nothing, and an undo or a redo of no change, is
- * never NO_MEMORY. But a kill that reports its start and its stop takes memory for these also if nothing goes.
+ * has a record and a ring reads the reports and makes the calls that fit them. The reports, applied in order to the
+ * text that the line had, give the text that it has. An edit that reports nothing, and an undo or a redo of no change,
+ * is never NO_MEMORY. But a kill that reports its start and its stop takes memory for these also if nothing goes.
  *
  * docs/RULES.md says exactly what each call does. */
 #ifndef LODVARN_PARTS_H
@@ -44,9 +44,9 @@ typedef struct lodvarn_killring lodvarn_killring;
 
 /* The line. */
 
-/* Opens a line on a text, with the cursor at its end, and sets *out to it, which is not read. The text may grow to limit
- * bytes, or to len if that is greater; no room is reserved for that. If can_grow is true the limit limits nothing. No
- * report waits. Errors: NOT_UTF8, NO_MEMORY; they leave *out. */
+/* Opens a line on a text, with the cursor at its end, and sets *out to it, which is not read. The text may grow to
+ * limit bytes, or to len if that is greater; no room is reserved for that. If can_grow is true the limit limits
+ * nothing. No report waits. Errors: NOT_UTF8, NO_MEMORY; they leave *out. */
 int lodvarn_line_open(lodvarn_line **out, size_t limit, bool can_grow, const char *text, size_t len);
 
 /* Closes the line, frees its memory, and sets *l to NULL. Does nothing if *l is NULL, or l. */
@@ -187,8 +187,8 @@ int lodvarn_record_redo(lodvarn_record *r, lodvarn_line *l);
 /* Keeps the first entries entries, and forgets the others and what was undone. */
 int lodvarn_record_truncate(lodvarn_record *r, size_t entries);
 
-/* Copies the text that the last change put in to out, a buffer of cap bytes, and sets *len to its length. Returns NOTHING
- * if the last change put in none. Errors: TOO_SMALL with the length that is needed in *len, NO_MEMORY. */
+/* Copies the text that the last change put in to out, a buffer of cap bytes, and sets *len to its length. Returns
+ * NOTHING if the last change put in none. Errors: TOO_SMALL with the length that is needed in *len, NO_MEMORY. */
 int lodvarn_record_last_insert(lodvarn_record *r, char *out, size_t cap, size_t *len);
 
 /* Returns the number of entries, the marks of groups too; and how many groups are open. */
@@ -231,8 +231,8 @@ int lodvarn_killring_delete(lodvarn_killring *g, const char *text, size_t len, e
 /* Lends the current text, to be yanked. Returns NOTHING if there is none. */
 int lodvarn_killring_yank(lodvarn_killring *g, lodvarn_view *view);
 
-/* Goes to the text before the current one, and lends that, to be put in the place of the one that was yanked, whose length
- * is set in *size. Returns NOTHING if no yank was done last. */
+/* Goes to the text before the current one, and lends that, to be put in the place of the one that was yanked, whose
+ * length is set in *size. Returns NOTHING if no yank was done last. */
 int lodvarn_killring_yank_pop(lodvarn_killring *g, size_t *size, lodvarn_view *view);
 
 /* Returns how many texts the ring has. */

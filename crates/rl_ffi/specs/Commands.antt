@@ -39,8 +39,11 @@ indents movement amount indentation =
     of_named (movement_of movement) (λ m. of_named (dedents_of indentation) (λ dedent. asks (Indent m amount dedent)))
 
 -- the same of a command with a text
+abbrev pub ObeysWith : List ℕ → (String Global → Command) → State → Reply → State → Type 0
+ObeysWith bytes make s reply new = (left : State) × StepWith bytes make s reply left × (new ≡ within_bound left)
+
 abbrev pub does_with : Answer → List ℕ → (String Global → Command) → Effect State
-does_with none bytes make s n new = (reply : Reply) × (left : State) × StepWith bytes make s reply left × (new ≡ within_bound left) × (n ≡ told none reply)
+does_with none bytes make s n new = (reply : Reply) × ObeysWith bytes make s reply new × (n ≡ told none reply)
 
 abbrev pub asks_with : List ℕ → (String Global → Command) → Effect State
 asks_with bytes make = of_text bytes (does_with NoRoom bytes make)
@@ -53,8 +56,7 @@ abbrev pub pastes : List ℕ → ℕ → Effect State
 pastes text n = of_named (count_of n) (λ k. of_text text (does_with (room_for text) text (λ t. Paste t k)))
 
 abbrev pub puts_in : ℕ → List ℕ → Effect State
-puts_in place text = of_text text (λ s n new.
-    (reply : Reply) × (left : State) × StepWith text (λ t. InsertStr place t) s reply left × (new ≡ within_bound left) × (n ≡ told_place reply))
+puts_in place text = of_text text (λ s n new. (reply : Reply) × ObeysWith text (λ t. InsertStr place t) s reply new × (n ≡ told_place reply))
 
 -- the ring's current text is yanked, if it has one
 abbrev pub lent_room : Option (List ℕ) → Answer

@@ -9,32 +9,20 @@ use Rattle.rl_ffi.specs.declared.held.HeldLine.{HeldLine}
 
 -- the session that a handle holds, and so on, if that is what it holds
 abbrev pub session_of : Option Held → Option State
-session_of None = None
 session_of (Some (held.Session s)) = Some s
-session_of (Some (held.Line l)) = None
-session_of (Some (held.Record r)) = None
-session_of (Some (held.Ring g)) = None
+session_of _ = None
 
 abbrev pub line_of : Option Held → Option HeldLine
-line_of None = None
-line_of (Some (held.Session s)) = None
 line_of (Some (held.Line l)) = Some l
-line_of (Some (held.Record r)) = None
-line_of (Some (held.Ring g)) = None
+line_of _ = None
 
 abbrev pub record_of : Option Held → Option Record
-record_of None = None
-record_of (Some (held.Session s)) = None
-record_of (Some (held.Line l)) = None
 record_of (Some (held.Record r)) = Some r
-record_of (Some (held.Ring g)) = None
+record_of _ = None
 
 abbrev pub ring_of : Option Held → Option Ring
-ring_of None = None
-ring_of (Some (held.Session s)) = None
-ring_of (Some (held.Line l)) = None
-ring_of (Some (held.Record r)) = None
 ring_of (Some (held.Ring g)) = Some g
+ring_of _ = None
 
 -- a kind of what a handle may hold: how it is held, and what there is of it
 pub record Kind (A : Type 0) : Type 0 where

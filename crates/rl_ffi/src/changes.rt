@@ -53,15 +53,10 @@ fn watch(session: &mut Session, reports: usize, text_bytes: usize) -> Outcome
 
 /// `lodvarn_watch`.
 #[unsafe(no_mangle)]
-pub extern "C" fn lodvarn_watch(
-    alloc: Global,
-    s: &mut Handle,
-    reports: usize,
-    text_bytes: usize,
-) -> i32
-    ensures { Through a_session (Watches reports text_bytes) s.old.value result s.new.value }
+pub extern "C" fn lodvarn_watch(alloc: Global, s: &mut Handle, reports: usize, bytes: usize) -> i32
+    ensures { Through a_session (Watches reports bytes) s.old.value result s.new.value }
 {
-    of!(s, alloc, Held::Session(session) => watch(session, reports, text_bytes))
+    of!(s, alloc, Held::Session(session) => watch(session, reports, bytes))
 }
 
 /// `lodvarn_unwatch`.

@@ -1,5 +1,7 @@
 //! The calls that ask a session for a command.
-ghost use Rattle.std.specs.Prelude.{◌≡◌, true, false};
+ghost use Rattle.std.specs.Prelude.{◌≡◌, String, true, false};
+ghost use Rattle.std.specs.String.{string_bytes};
+ghost use Rattle.std.specs.declared.alloc.Global.{Global};
 ghost use Rattle.rl_base.specs.KillRing.{yank, yank_size};
 ghost use Rattle.rl_line.specs.Kills.{copied};
 ghost use Rattle.rl_session.specs.Commands.{Step};
@@ -9,7 +11,7 @@ ghost use Rattle.rl_session.specs.declared.session.Command.{Command};
 ghost use Rattle.rl_session.specs.declared.session.Reply.{Reply};
 ghost use Rattle.rl_ffi.specs.Answers.{merged};
 ghost use Rattle.rl_ffi.specs.Calls.{Through, ThroughOut, of_named};
-ghost use Rattle.rl_ffi.specs.Commands.{HasRoomFor, Obeys, PopHasRoom, asks, asks_with, copies, deletes_by, ends_kills, hands_out, indents, inserts, lent_room, pastes, popped_length, pops, puts_in, room_for, yanks};
+ghost use Rattle.rl_ffi.specs.Commands.{HasRoomFor, Obeys, ObeysWith, PopHasRoom, asks, asks_with, copies, deletes_by, ends_kills, hands_out, indents, inserts, lent_room, pastes, popped_length, pops, puts_in, room_for, yanks};
 ghost use Rattle.rl_ffi.specs.Held.{a_session};
 ghost use Rattle.rl_ffi.specs.declared.answers.Answer.TheVariants.{Done};
 ghost use Rattle.rl_ffi.specs.Numbers.{case_of, count_of, direction_of, movement_of};
@@ -37,10 +39,12 @@ pub(crate) fn obey(session: &mut Session, command: &Command) -> Reply
     reply
 }
 
-/// A command of C on a session without a bound is a row of a run, since nothing is forgotten after it. So what is said of
-/// runs holds of such calls as it stands.
+/// A command of C on a session without a bound is a row of a run, since nothing is forgotten after it, also one with a text. So
+/// what is said of runs holds of such calls as it stands.
 pub fn calls_are_rows()
-    ensures { (old new : State) (command : Command) (reply : Reply) → old.options.bound ≡ no_bound → Obeys old command reply new → Step old command reply new }
+    ensures commands { (old new : State) (command : Command) (reply : Reply) → old.options.bound ≡ no_bound → Obeys old command reply new → Step old command reply new }
+    ensures texts { (old new : State) (text : String Global) (make : String Global → Command) (reply : Reply) → old.options.bound ≡ no_bound
+        → ObeysWith (string_bytes text) make old reply new → Step old (make text) reply new }
 {}
 
 #[inline(always)]
@@ -226,15 +230,10 @@ fn kill_range(session: &mut Session, range: CRange, direction: u32) -> Outcome
 
 /// `lodvarn_kill_range`.
 #[unsafe(no_mangle)]
-pub extern "C" fn lodvarn_kill_range(
-    alloc: Global,
-    s: &mut Handle,
-    range: CRange,
-    direction: u32,
-) -> i32
-    ensures { Through a_session (of_named (direction_of direction) (λ side. asks (Command.KillRange range.from range.to side))) s.old.value result s.new.value }
+pub extern "C" fn lodvarn_kill_range(alloc: Global, s: &mut Handle, range: CRange, side: u32) -> i32
+    ensures { Through a_session (of_named (direction_of side) (λ side. asks (Command.KillRange range.from range.to side))) s.old.value result s.new.value }
 {
-    of!(s, alloc, Held::Session(session) => kill_range(session, range, direction))
+    of!(s, alloc, Held::Session(session) => kill_range(session, range, side))
 }
 
 /// `lodvarn_end_kills`.
@@ -399,7 +398,7 @@ fn yank_pop(session: &mut Session) -> Outcome
 /// `lodvarn_yank_pop`.
 #[unsafe(no_mangle)]
 pub extern "C" fn lodvarn_yank_pop(alloc: Global, s: &mut Handle) -> i32
-    ensures { Through a_session (pops) s.old.value result s.new.value }
+    ensures { Through a_session pops s.old.value result s.new.value }
 {
     of!(s, alloc, Held::Session(session) => yank_pop(session))
 }

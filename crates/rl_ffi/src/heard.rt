@@ -1,10 +1,9 @@
 //! A listener that keeps a report of everything that it hears, until the report is read.
-ghost use Rattle.std.specs.Prelude.{◌≡◌, ℕ, ◌^◌, ◌<◌, List, None, Some, IfErr, OnOk, false, length};
-ghost use Rattle.std.specs.Option.{option_map};
+ghost use Rattle.std.specs.Prelude.{◌≡◌, ℕ, ◌^◌, ◌<◌, List, Some, IfErr, OnOk, false, length};
 ghost use Rattle.rl_base.specs.Event.{Event, apply};
-ghost use Rattle.rl_base.specs.Reports.{IsLineText, LeadsBy, Noted, texts_of};
+ghost use Rattle.rl_base.specs.Reports.{IsLineText, LeadsBy};
 ghost use Rattle.rl_base.specs.declared.listeners.Refusal.TheVariants.{NoMemory};
-ghost use Rattle.rl_ffi.specs.Heard.{Heard, all_forgotten, first_kept, heard_step, hearing, joined, marking, next_of, nothing_heard, past_oldest, readied};
+ghost use Rattle.rl_ffi.specs.Heard.{Heard, all_forgotten, first_kept, heard_step, hearing, joined, marking, nothing_heard, past_oldest, readied};
 
 use rl_base::{ChangeListener, DeleteListener, Direction, Notes, Refusal, Report, ReportKind};
 use std::alloc::Global;
@@ -78,18 +77,11 @@ impl Heard {
         self.notes.len()
     }
 
-    /// The oldest report that waits, None where none does.
-    pub fn oldest(&self) -> Option<Report>
-        ensures { result ≡ option_map (λ (n : Noted). n.report) (next_of self.now.waiting) }
+    /// The reports that wait, with their texts.
+    pub fn notes(&self) -> &Notes
+        ensures { result.now.waiting ≡ self.now.waiting }
     {
-        self.notes.oldest()
-    }
-
-    /// Its texts: what went, and right after it what came. Empty where none waits.
-    pub fn oldest_texts(&self) -> &str
-        ensures { result.now ≡ texts_of (next_of self.now.waiting) }
-    {
-        self.notes.oldest_texts()
+        &self.notes
     }
 
     /// Forgets the oldest report, so that the next becomes the oldest.

@@ -1,5 +1,5 @@
 //! The calls that change a line by itself. What each edit did is told by its reports.
-ghost use Rattle.std.specs.Prelude.{◌≡◌, true, false, IfErr, OnOk};
+ghost use Rattle.std.specs.Prelude.{◌≡◌, false, IfErr, OnOk};
 ghost use Rattle.rl_base.specs.declared.motion.Movement.{Movement};
 ghost use Rattle.rl_line.specs.Kills.{is_by_characters, kill_plan};
 ghost use Rattle.rl_line.specs.LetterCase.{edit_word_plan};

@@ -118,15 +118,14 @@ pub extern "C" fn lodvarn_line_covers(
 
 /// `lodvarn_line_next_report`.
 #[unsafe(no_mangle)]
-pub extern "C" fn lodvarn_line_next_report(
-    alloc: Global,
-    l: &mut Handle,
-    report: &mut CReport,
-) -> i32
-    ensures value { Tells a_line (λ held. TellsNote (next_of held.heard.waiting)) l.old.value result report.old report.new }
+pub extern "C" fn lodvarn_line_next_report(alloc: Global, l: &mut Handle, out: &mut CReport) -> i32
+    ensures value { Tells a_line (λ held. TellsNote (next_of held.heard.waiting)) l.old.value result out.old out.new }
     ensures kept { l.new.value ≡ l.old.value }
 {
-    of!(l, alloc, Held::Line(held) => write_report(held.heard.oldest(), held.heard.oldest_texts(), report))
+    of!(l, alloc, Held::Line(held) => {
+        let notes = held.heard.notes();
+        write_report(notes.oldest(), notes.oldest_texts(), out)
+    })
 }
 
 /// `lodvarn_line_count_reports`.

@@ -11,7 +11,7 @@ ghost use Rattle.rl_ffi.specs.Answers.{merged};
 ghost use Rattle.rl_ffi.specs.Calls.{Tells, Writes, told_named};
 ghost use Rattle.rl_ffi.specs.Held.{a_session, session_of};
 ghost use Rattle.rl_ffi.specs.Numbers.{movement_of};
-ghost use Rattle.rl_ffi.specs.Reads.{IsViewOf, Lends, TellsCluster, TellsCovers, TellsSlice, TellsText, cursor_position, range_shape};
+ghost use Rattle.rl_ffi.specs.Reads.{Lends, TellsCluster, TellsCovers, TellsSlice, TellsText, cursor_position, range_shape};
 
 use crate::answers::{Answer, Outcome, merged};
 use crate::handle::{Handle, of};
@@ -55,16 +55,11 @@ pub(crate) fn slice(line: &LineBuffer, range: CRange, view: &mut View) -> Outcom
 
 /// `lodvarn_slice`.
 #[unsafe(no_mangle)]
-pub extern "C" fn lodvarn_slice(
-    alloc: Global,
-    s: &mut Handle,
-    range: CRange,
-    view: &mut View,
-) -> i32
-    ensures value { Tells a_session (λ s. TellsSlice range s.line) s.old.value result view.old view.new }
+pub extern "C" fn lodvarn_slice(alloc: Global, s: &mut Handle, range: CRange, out: &mut View) -> i32
+    ensures value { Tells a_session (λ s. TellsSlice range s.line) s.old.value result out.old out.new }
     ensures kept { s.new.value ≡ s.old.value }
 {
-    of!(s, alloc, Held::Session(session) => slice(session.line(), range, view))
+    of!(s, alloc, Held::Session(session) => slice(session.line(), range, out))
 }
 
 /// `lodvarn_pos`.
@@ -215,15 +210,11 @@ fn find_cursor(session: &Session, position: &mut CPosition) -> Outcome
 
 /// `lodvarn_find_cursor`.
 #[unsafe(no_mangle)]
-pub extern "C" fn lodvarn_find_cursor(
-    alloc: Global,
-    s: &mut Handle,
-    position: &mut CPosition,
-) -> i32
-    ensures value { Tells a_session (λ s. Writes (Some (cursor_position s))) s.old.value result position.old position.new }
+pub extern "C" fn lodvarn_find_cursor(alloc: Global, s: &mut Handle, at: &mut CPosition) -> i32
+    ensures value { Tells a_session (λ s. Writes (Some (cursor_position s))) s.old.value result at.old at.new }
     ensures kept { s.new.value ≡ s.old.value }
 {
-    of!(s, alloc, Held::Session(session) => find_cursor(session, position))
+    of!(s, alloc, Held::Session(session) => find_cursor(session, at))
 }
 
 // Writes what a movement covers.
