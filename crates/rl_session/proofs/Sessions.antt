@@ -4,7 +4,7 @@ pub mod SessionLemmas
 pub mod ReplyLemmas
 pub mod IdleLemmas
 pub mod CourseLemmas
-pub mod CourseChanges
+pub mod CommandLemmas
 pub mod RestartLemmas
 pub mod WatchLemmas
 pub mod QuietLemmas

@@ -24,7 +24,7 @@ use Rattle.rl_session.specs.Run.{Row, Leads, Run}
 use Rattle.rl_session.specs.declared.session.Command.{Command}
 use Rattle.rl_session.specs.declared.session.Reply.{Reply}
 use Rattle.rl_session.specs.declared.pair.Pair.{Pair}
-use Rattle.rl_session.proofs.Sessions.CourseChanges.{Changes, EffectChanges, effect-changes}
+use Rattle.rl_session.proofs.Sessions.CommandLemmas.{Changes, EffectChanges, effect-changes}
 use Rattle.rl_session.proofs.Sessions.CourseLemmas.{Moved-text}
 use Rattle.rl_session.proofs.Sessions.IdleLemmas.{NoneStarts-ahead, NoneStarts-first}
 use Rattle.rl_session.proofs.Sessions.PairLemmas.{cause-watch, listener_after-watch, own}
