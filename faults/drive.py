@@ -18,8 +18,12 @@ from dataclasses import dataclass
 from pathlib import Path
 
 TOP = Path(__file__).resolve().parent.parent
+sys.path.insert(0, str(TOP / "clients"))
+from rows import rows_of  # noqa: E402
+
 # The crates that both programs stand on.
 LIBRARIES = ("rl_base", "rl_line", "rl_session")
+TESTS = "crates/rl_tests/src/script.rt"
 # How long one run may take, in seconds: a thousand times what it needs.
 LIMIT = 20
 UNDO_ALL = "undo 65535"
@@ -278,10 +282,16 @@ def idle_lines(script, plain):
     return idle
 
 
+def every_word():
+    """A script with every word: the one of crates/rl_tests, which has each once, and another one."""
+    once = [script for what, script, _ in rows_of((TOP / TESTS).read_text()) if what.startswith(b"each word once")]
+    return b"".join([*once, (TOP / "faults/more_words.txt").read_bytes()])
+
+
 def every_word_part(runner, program):
     """The script with every word, and then everything undone."""
     part = Part("rl_script on every word, memory refused")
-    script = (TOP / "faults/every_word.txt").read_bytes()
+    script = every_word()
     words = words_of_grammar()
     missing = words - set(script.decode().split())
     part.must_hold(f"the script has every word; missing: {sorted(missing)}", words and not missing)
@@ -297,45 +307,40 @@ def random_text(chance):
     return "".join(chance.choice(pieces) for _ in range(chance.randint(1, 4)))
 
 
-def random_movement(chance):
-    """A movement as a script writes it, with all its arguments."""
-    forms = "line;home;eol;bword N S;fword N A S;find N X C;first;nonblank;bchar N;fchar N;up N;down N;buf;bob;eob"
-    return filled(chance, chance.choice(forms.split(";")))
+def forms_under(heading):
+    """The forms of the words in a table of docs/RULES.md: each word, and the letters or the names of its arguments."""
+    section = (TOP / "docs/RULES.md").read_text().partition(f"\n### {heading}\n")[2].partition("\n### ")[0]
+    rows = re.findall(r"^\| `(\w+)` \| *(.*?) *\|", section, re.M)
+    return [f"{word} {'/'.join(re.findall('`(.*?)`', given))}".strip() for word, given in rows]
 
 
-FORMS = (
-    "pos Q;move M;ins N C;paste N T;yank N;yankpop;update 0 T;str Q T;rep Q Q T;range Q Q;del N;back N;"
-    "killline;killbuf;discline;discbuf;prevword N S;nextword N A S;to N X C;tchars;twords N;case L;kill M;"
-    "killrange Q Q D;keep T;copy M;indent I M;dedent I M;begin;end;endone;undo N;redo;trunc K;where;text T;limit K;"
-    "ring N;mode W"
-).split(";")
+FORMS = forms_under("Words that begin a line")
+MOVEMENTS = forms_under("Movements")
 
 
 def filled(chance, form):
-    """A form of a line, with each capital letter replaced."""
+    """A form of a line, with each capital letter replaced, and one name of several."""
     made = {
-        "A": lambda: chance.choice(["start", "before", "after"]),
+        **dict.fromkeys("ABIQ", lambda: str(chance.randint(0, 12))),
         "C": lambda: chance.choice(["a", "o", "é", "\\n", "\\s"]),
         "D": lambda: chance.choice("fb"),
-        "I": lambda: str(chance.choice([0, 1, 4, 40])),
-        "K": lambda: str(chance.choice([0, 1, 3, 9, 40, 4096])),
-        "L": lambda: chance.choice(["cap", "low", "up"]),
-        "M": lambda: random_movement(chance),
+        "K": lambda: str(chance.choice([0, 1, 4, 40])),
+        "L": lambda: str(chance.choice([0, 1, 3, 9, 40, 4096])),
+        "M": lambda: filled(chance, chance.choice(MOVEMENTS)),
         "N": lambda: str(chance.choice([0, 1, 1, 1, 2, 3])),
-        "Q": lambda: str(chance.randint(0, 12)),
+        "P": lambda: chance.choice(["start", "before", "after"]),
         "S": lambda: chance.choice(["big", "emacs", "vi"]),
         "T": lambda: random_text(chance),
-        "W": lambda: chance.choice(["unicode", "wcwidth", "nozwj"]),
         "X": lambda: chance.choice("ftFT"),
     }
-    return " ".join(made[it]() if it in made else it for it in form.split(" "))
+    return " ".join(made[it]() if it in made else chance.choice(it.split("/")) for it in form.split(" "))
 
 
 def random_script(chance):
     """A script of random lines. Those that leave nothing to do come less often."""
     weights = [0.2 if it.split()[0] in ("text", "limit", "ring", "mode", "killbuf", "update") else 1 for it in FORMS]
     lines = [filled(chance, it) for it in chance.choices(FORMS, weights, k=RANDOM_LINES)]
-    return "\n".join([filled(chance, "limit K"), filled(chance, "text T"), *lines, ""]).encode() + LAST_LINES
+    return "\n".join([filled(chance, "limit L"), filled(chance, "text T"), *lines, ""]).encode() + LAST_LINES
 
 
 def random_part(runner, program):
@@ -385,7 +390,7 @@ def stream_part(runner, program):
     """Reads and writes that fail."""
     part = Part("rl_script, reads and writes refused")
     see_streams(runner, part, program, "stored script", (TOP / "crates/rl_script/stdin").read_bytes())
-    see_streams(runner, part, program, "every word", (TOP / "faults/every_word.txt").read_bytes())
+    see_streams(runner, part, program, "every word", every_word())
     return part.close()
 
 

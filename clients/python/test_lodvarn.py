@@ -1010,6 +1010,15 @@ class Module(unittest.TestCase):
             for it in kind:
                 self.assertEqual(it, getattr(lodvarn.numbers, it.name))
 
+    def test_what_is_named_as_a_call_makes_it(self):
+        named = [it for name, it in inspect.getmembers(Session) if name in vars(lodvarn._calls)]
+        self.assertGreater(len(named), 40)
+        for it in named:
+            code = (it.fget if isinstance(it, property) else it).__code__
+            with self.subTest(call=code.co_name):
+                self.assertIn("_calls", code.co_names)
+                self.assertIn(code.co_name, code.co_names)
+
     def test_the_library_has_the_version_of_the_package(self):
         self.assertEqual(lodvarn.version(), lodvarn.__version__)
         self.assertEqual(lodvarn._calls.undo._flags_, ctypes.PyDLL._func_flags_)

@@ -42,8 +42,8 @@ placed false = Done
 
 -- the same, or else nothing went in
 abbrev pub inserted : Answer → Option Bool → Answer
-inserted none None = none
-inserted none (Some at_end) = placed at_end
+inserted without None = without
+inserted without (Some at_end) = placed at_end
 
 abbrev pub of_fault : Fault → Answer
 of_fault fault.NoMemory = NoMemory
@@ -58,14 +58,14 @@ of_watch_fault unwatched.IsWatched = IsWatched
 
 -- what a session's reply tells; the first argument where nothing was inserted
 abbrev pub told : Answer → Reply → Answer
-told none says.Done = Done
-told none (says.Answer a) = truth a
-told none (says.Inserted at_end) = inserted none at_end
-told none (says.Text (Some text)) = Done
-told none (says.Text None) = Nothing
-told none (says.Mark entries) = Done
-told none (says.At line column) = Done
-told none (says.Refused why) = of_fault why
+told without says.Done = Done
+told without (says.Answer a) = truth a
+told without (says.Inserted at_end) = inserted without at_end
+told without (says.Text (Some text)) = Done
+told without (says.Text None) = Nothing
+told without (says.Mark entries) = Done
+told without (says.At line column) = Done
+told without (says.Refused why) = of_fault why
 
 -- the same of an insertion at a place, whose reply says whether that was the end
 abbrev pub told_place : Reply → Answer

@@ -26,7 +26,7 @@ Obeys s command reply new = (left : State) × Step s command reply left × (new 
 
 -- the same, with what the reply tells; the first argument where nothing was inserted
 abbrev pub does : Answer → Command → Effect State
-does none command s n new = (reply : Reply) × Obeys s command reply new × (n ≡ told none reply)
+does without command s n new = (reply : Reply) × Obeys s command reply new × (n ≡ told without reply)
 
 abbrev pub asks : Command → Effect State
 asks = does NoRoom
@@ -43,7 +43,7 @@ abbrev pub ObeysWith : List ℕ → (String Global → Command) → State → Re
 ObeysWith bytes make s reply new = (left : State) × StepWith bytes make s reply left × (new ≡ within_bound left)
 
 abbrev pub does_with : Answer → List ℕ → (String Global → Command) → Effect State
-does_with none bytes make s n new = (reply : Reply) × ObeysWith bytes make s reply new × (n ≡ told none reply)
+does_with without bytes make s n new = (reply : Reply) × ObeysWith bytes make s reply new × (n ≡ told without reply)
 
 abbrev pub asks_with : List ℕ → (String Global → Command) → Effect State
 asks_with bytes make = of_text bytes (does_with NoRoom bytes make)

@@ -79,12 +79,12 @@ pub(crate) fn placed(at_end: bool) -> Answer
 }
 
 // An insertion is done, or else nothing went in.
-pub(crate) fn inserted(none: Answer, at_end: Option<bool>) -> Answer
-    ensures { result ≡ inserted none at_end }
+pub(crate) fn inserted(without: Answer, at_end: Option<bool>) -> Answer
+    ensures { result ≡ inserted without at_end }
 {
     match at_end {
         Some(at_end) => placed(at_end),
-        None => none,
+        None => without,
     }
 }
 
@@ -111,13 +111,13 @@ pub(crate) fn of_watch_fault(fault: WatchFault) -> Answer
 
 // What a session's reply tells; the first argument where a command inserted nothing.
 #[inline(always)]
-pub(crate) fn told(none: Answer, reply: &Reply) -> Answer
-    ensures { result ≡ told none reply.now }
+pub(crate) fn told(without: Answer, reply: &Reply) -> Answer
+    ensures { result ≡ told without reply.now }
 {
     match reply {
         Reply::Done | Reply::Text(Some(_)) | Reply::Mark(_) | Reply::At(_, _) => Answer::Done,
         Reply::Answer(answer) => truth(*answer),
-        Reply::Inserted(at_end) => inserted(none, *at_end),
+        Reply::Inserted(at_end) => inserted(without, *at_end),
         Reply::Text(None) => Answer::Nothing,
         Reply::Refused(fault) => of_fault(*fault),
     }

@@ -102,8 +102,8 @@ fn yank(session: &mut Session, n: usize) -> Outcome
     ensures { of_named (count_of n) yanks session.old (merged result) session.new }
 {
     let n = count_of(n)?;
-    let none = yank_room(session.ring());
-    Ok(told(none, &obey(session, &Command::Yank(n))))
+    let without = yank_room(session.ring());
+    Ok(told(without, &obey(session, &Command::Yank(n))))
 }
 
 /// `lodvarn_yank`.
@@ -391,8 +391,8 @@ fn yank_pop(session: &mut Session) -> Outcome
     if !pop_has_room(session) {
         return Err(Answer::NoRoom);
     }
-    let none = truth(session.ring().yank_size().is_some());
-    Ok(told(none, &obey(session, &Command::YankPop)))
+    let without = truth(session.ring().yank_size().is_some());
+    Ok(told(without, &obey(session, &Command::YankPop)))
 }
 
 /// `lodvarn_yank_pop`.

@@ -1,8 +1,6 @@
 //! Rows of sessions.
 use crate::script::is_so;
-use rl_base::{
-    At, CharSearch, Direction, GraphemeClusterMode, Movement, RepeatCount, Unit, Word, WordAction,
-};
+use rl_base::{At, GraphemeClusterMode, Movement, RepeatCount, Unit, Word};
 use rl_session::{Bound, Command, Fault, Reply, Session};
 use std::alloc::Global;
 use std::process::Abort;
@@ -293,123 +291,6 @@ fn a_run_goes_on_past_a_refusal(rt: HostRuntime) -> Result<(), Fail> {
     ];
     let mut session = Session::new(rt.alloc(), "ab", 2, 4, 60, GraphemeClusterMode::Unicode)?;
     runs(&rt, &mut session, &commands, &wanted, "ab", 2)
-}
-
-// The session does the commands, one at a time, with these replies.
-fn does_each(
-    rt: &impl Abort,
-    alloc: Global,
-    session: &mut Session,
-    commands: &[Command],
-    wanted: &[Reply],
-) -> Result<(), Fail> {
-    let mut replies = Vec::new(alloc);
-    for command in commands {
-        replies.push(session.apply(command))?;
-    }
-    assert_eq!(rt; replies.as_slice(), wanted, "one reply for each command");
-    Ok(())
-}
-
-// Each command runs in a state in which it changes something, or hands something back.
-#[test]
-fn every_command_does_something(rt: HostRuntime) -> Result<(), Fail> {
-    let alloc = rt.alloc();
-    let spaced = String::from_str(alloc, "x y")?;
-    let words = String::from_str(alloc, "one two")?;
-    let line = String::from_str(alloc, "ab\n")?;
-    let lines = String::from_str(alloc, "cd\ne")?;
-    let copied = String::from_str(alloc, "x  ")?;
-    let deleted = String::from_str(alloc, "t")?;
-    let kept = String::from_str(alloc, "x y")?;
-    let commands = [
-        Command::Insert('e', 1),
-        Command::Backspace(1),
-        Command::Truncate(0),
-        Command::Begin,
-        Command::Begin,
-        Command::SetPos(0),
-        Command::Paste(spaced, 1),
-        Command::EndOne,
-        Command::End,
-        Command::Undo(1),
-        Command::Redo,
-        Command::DeletePrevWord(Word::Emacs, 1),
-        Command::DeleteWord(At::AfterEnd, Word::Emacs, 1),
-        Command::EditWord(WordAction::Uppercase),
-        Command::DeleteTo(CharSearch::Backward('C'), 1),
-        Command::Move(Movement::BeginningOfBuffer),
-        Command::Kill(Movement::EndOfLine),
-        Command::Update(words, 7),
-        Command::TransposeWords(1),
-        Command::TransposeChars,
-        Command::Kill(Movement::BackwardWord(1, Word::Emacs)),
-        Command::Yank(1),
-        Command::YankPop,
-        Command::Copy(Movement::BackwardWord(1, Word::Emacs)),
-        Command::InsertStr(0, line),
-        Command::Indent(Movement::WholeBuffer, 2, false),
-        Command::Indent(Movement::WholeLine, 1, true),
-        Command::Replace(0, 4, lines),
-        Command::LinePlace,
-        Command::Move(Movement::FirstNonBlank),
-        Command::DeleteRange(5, 6),
-        Command::Delete(1),
-        Command::SetPos(3),
-        Command::KillLine,
-        Command::KillBuffer,
-        Command::DiscardLine,
-        Command::DiscardBuffer,
-        Command::Keep(kept),
-        Command::Yank(1),
-        Command::KillRange(0, 3, Direction::Backward),
-    ];
-    let wanted = [
-        Reply::Inserted(Some(true)),
-        Reply::Answer(true),
-        Reply::Done,
-        Reply::Mark(0),
-        Reply::Mark(1),
-        Reply::Done,
-        Reply::Inserted(Some(false)),
-        Reply::Answer(true),
-        Reply::Answer(true),
-        Reply::Answer(true),
-        Reply::Answer(true),
-        Reply::Answer(true),
-        Reply::Answer(true),
-        Reply::Answer(true),
-        Reply::Answer(true),
-        Reply::Answer(true),
-        Reply::Answer(true),
-        Reply::Done,
-        Reply::Answer(true),
-        Reply::Answer(true),
-        Reply::Answer(true),
-        Reply::Inserted(Some(true)),
-        Reply::Inserted(Some(true)),
-        Reply::Text(Some(copied)),
-        Reply::Answer(false),
-        Reply::Answer(true),
-        Reply::Answer(true),
-        Reply::Done,
-        Reply::At(1, 1),
-        Reply::Answer(true),
-        Reply::Done,
-        Reply::Text(Some(deleted)),
-        Reply::Done,
-        Reply::Answer(true),
-        Reply::Answer(true),
-        Reply::Answer(true),
-        Reply::Answer(true),
-        Reply::Done,
-        Reply::Inserted(Some(true)),
-        Reply::Answer(true),
-    ];
-    let mut session = Session::new(alloc, "ab cd", 5, 64, 2, GraphemeClusterMode::Unicode)?;
-    does_each(&rt, alloc, &mut session, &commands, &wanted)?;
-    is_so(&rt, session.line().as_str() == "", "nothing is left");
-    Ok(())
 }
 
 #[test]
