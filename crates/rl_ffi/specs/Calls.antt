@@ -71,6 +71,10 @@ of_text bytes Does old n new = (IsUtf8 bytes × Does old n new) ⊎ ((¬ (IsUtf8
 unfoldable pub only_where : {A : Type 0} → (A → Type 0) → Answer → Effect A → Effect A
 only_where Condition answer Does old n new = (Condition old × Does old n new) ⊎ ((¬ (Condition old)) × leaves answer old n new)
 
+-- what is told where a condition holds
+abbrev pub told_where : {A : Type 0} → Type 0 → Answer → Tale A → Tale A
+told_where Condition why Does n out out' = (Condition × Does n out out') ⊎ ((¬ Condition) × refuses why n out out')
+
 -- a value is written, if there is one
 abbrev pub Writes : {A : Type 0} → Option A → Answer → A → A → Type 0
 Writes None n out out' = (n ≡ Nothing) × (out' ≡ out)

@@ -1,11 +1,7 @@
 -- What the calls on a kill ring by itself do.
 use Rattle.std.specs.Prelude.{◌≡◌, ◌⊎◌, ℕ, List, Option, Some, None}
 use Rattle.rl_base.specs.Event.{Delete}
-use Rattle.rl_base.specs.KillRing.{Enlarges, KeepsText, Ring, killed, ring_step, yank, yank_pop, yank_popped, yanked}
-use Rattle.rl_base.specs.declared.kill_ring.Mode.{Mode}
-use Rattle.rl_base.specs.declared.kill_ring.Mode.TheVariants.{Append, Prepend}
-use Rattle.rl_base.specs.declared.listeners.Direction.{Direction}
-use Rattle.rl_base.specs.declared.listeners.Direction.TheVariants.{Forward, Backward}
+use Rattle.rl_base.specs.KillRing.{Enlarges, KeepsText, Ring, killed, ring_step, side_mode, yank, yank_pop, yank_popped, yanked}
 use Rattle.rl_ffi.specs.Calls.{Effect, EffectOut, of_named, of_text}
 use Rattle.rl_ffi.specs.Numbers.{direction_of}
 use Rattle.rl_ffi.specs.Reads.{IsViewOf, Lends}
@@ -13,15 +9,10 @@ use Rattle.rl_ffi.specs.declared.answers.Answer.{Answer}
 use Rattle.rl_ffi.specs.declared.answers.Answer.TheVariants.{Done, NoMemory, Nothing}
 use Rattle.rl_ffi.specs.declared.view.View.{View}
 
--- the end at which a killed text is joined
-abbrev pub mode_of : Direction → Mode
-mode_of Forward = Append
-mode_of Backward = Prepend
-
 -- a text is killed, or memory is out
 abbrev pub kills : List ℕ → ℕ → Effect Ring
 kills text direction = of_named (direction_of direction) (λ side. of_text text (λ r n left.
-    ((n ≡ Done) × (left ≡ killed text (mode_of side) r)) ⊎ ((n ≡ NoMemory) × (left ≡ r) × Enlarges text (mode_of side) r)))
+    ((n ≡ Done) × (left ≡ killed text (side_mode side) r)) ⊎ ((n ≡ NoMemory) × (left ≡ r) × Enlarges text (side_mode side) r)))
 
 -- the ring hears that a text was deleted
 abbrev pub hears_deletion : List ℕ → ℕ → Effect Ring

@@ -26,9 +26,8 @@ use Rattle.rl_ffi.specs.declared.shapes.CRange.{CRange}
 abbrev pub sets : (Line → Line) → Effect HeldLine
 sets change = becomes (λ held. record held { line = change held.line })
 
-abbrev pub sets_pos : ℕ → Effect HeldLine
-sets_pos pos held n new =
-    (IsCharBoundary held.line.text pos × sets (λ line. record line { cursor = pos }) held n new) ⊎ ((¬ (IsCharBoundary held.line.text pos)) × leaves BadPlace held n new)
+unfoldable pub sets_pos : ℕ → Effect HeldLine
+sets_pos pos = only_where (λ held. IsCharBoundary held.line.text pos) BadPlace (sets (λ line. record line { cursor = pos }))
 
 abbrev pub may_grow : Bool → Effect HeldLine
 may_grow can_grow = sets (λ line. record line { grow = can_grow })

@@ -1,5 +1,5 @@
 -- What the calls tell that change nothing.
-use Rattle.std.specs.Prelude.{◌≡◌, ◌⊎◌, ℕ, ◌+◌, List, [], ◌∷◌, drop, length, slice_range, Option, Some, None, option_map}
+use Rattle.std.specs.Prelude.{◌≡◌, ℕ, ◌+◌, List, [], ◌∷◌, drop, length, slice_range, Option, Some, None, option_map}
 use Rattle.std.specs.Str.{IsCharBoundary}
 use Rattle.std.specs.declared.ops.Range.{Range}
 use Rattle.rl_base.specs.Clusters.{clusters}
@@ -10,7 +10,7 @@ use Rattle.rl_line.specs.LineRanges.{IsRange}
 use Rattle.rl_line.specs.Ranges.{covered}
 use Rattle.rl_session.specs.Commands.{line_place}
 use Rattle.rl_session.specs.State.{State}
-use Rattle.rl_ffi.specs.Calls.{Tale, Telling, Writes, refuses, told_named}
+use Rattle.rl_ffi.specs.Calls.{Tale, Telling, Writes, told_named, told_where}
 use Rattle.rl_ffi.specs.Numbers.{movement_of}
 use Rattle.rl_ffi.specs.declared.answers.Answer.TheVariants.{BadPlace, Done, Nothing}
 use Rattle.rl_ffi.specs.declared.shapes.CCluster.{CCluster}
@@ -33,8 +33,7 @@ abbrev pub TellsText : Telling Line View
 TellsText line = Lends (Some line.text)
 
 abbrev pub TellsSlice : CRange → Telling Line View
-TellsSlice r line n out out' =
-    (IsRange line.text r.from r.to × Lends (Some (slice_range line.text r.from r.to)) n out out') ⊎ ((¬ (IsRange line.text r.from r.to)) × refuses BadPlace n out out')
+TellsSlice r line = told_where (IsRange line.text r.from r.to) BadPlace (Lends (Some (slice_range line.text r.from r.to)))
 
 abbrev pub range_shape : Range ℕ → CRange
 range_shape r = record { from = r.start; to = r.end }
@@ -54,6 +53,4 @@ first_cluster mode place (cluster ∷ more) = Some (record { end = place + lengt
 
 -- the first cluster of a text from a place on
 abbrev pub TellsCluster : List ℕ → GraphemeClusterMode → ℕ → Tale CCluster
-TellsCluster text mode place n out out' =
-    (IsCharBoundary text place × Writes (first_cluster mode place (clusters (drop place text))) n out out')
-    ⊎ ((¬ (IsCharBoundary text place)) × refuses BadPlace n out out')
+TellsCluster text mode place = told_where (IsCharBoundary text place) BadPlace (Writes (first_cluster mode place (clusters (drop place text))))

@@ -7,7 +7,7 @@ use Rattle.rl_base.specs.declared.layout.GraphemeClusterMode.{GraphemeClusterMod
 use Rattle.rl_session.specs.Script.{Ran, StoppedBy}
 use Rattle.rl_session.specs.declared.script.ScriptFault.{ScriptFault}
 use Rattle.rl_ffi.specs.Answers.{number}
-use Rattle.rl_ffi.specs.Calls.{Tale, Writes, refuses, where_named}
+use Rattle.rl_ffi.specs.Calls.{Tale, Writes, refuses, told_where, where_named}
 use Rattle.rl_ffi.specs.Cells.{cell, place_at}
 use Rattle.rl_ffi.specs.Numbers.{mode_of}
 use Rattle.rl_ffi.specs.declared.answers.Answer.{Answer}
@@ -22,7 +22,7 @@ Answers Does n out out' = (answer : Answer) × Does answer out out' × (n ≡ nu
 
 -- what is told of a text, where the bytes are one
 abbrev pub of_bytes : {A : Type 0} → List ℕ → Tale A → Tale A
-of_bytes text Does n out out' = (IsUtf8 text × Does n out out') ⊎ ((¬ (IsUtf8 text)) × refuses NotUtf8 n out out')
+of_bytes text = told_where (IsUtf8 text) NotUtf8
 
 abbrev pub TellsWidth : ℕ → List ℕ → Tale ℕ
 TellsWidth mode text = where_named (mode_of mode) (λ (m : GraphemeClusterMode). of_bytes text (Writes (Some (width m text))))

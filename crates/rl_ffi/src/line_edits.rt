@@ -24,18 +24,9 @@ use crate::numbers::{case_of, char_of, count_of, dedents_of, direction_of, mode_
 use crate::shapes::{CMovement, CRange};
 use crate::texts::text_of;
 use rl_base::Movement;
-use rl_line::{LineBuffer, can_delete_by};
+use rl_line::{LineBuffer, can_delete_by, is_by_characters};
 use std::alloc::Global;
 use std::mem::replace as put_in_place;
-
-fn is_by_characters(movement: &Movement) -> bool
-    ensures { result ≡ is_by_characters movement.now }
-{
-    matches!(
-        movement,
-        Movement::BackwardChar(_) | Movement::ForwardChar(_)
-    )
-}
 
 // Finds room for the reports of the start and the stop of a kill, where these are told.
 fn ready(heard: &mut Heard, by_characters: bool) -> Result<(), Answer>
@@ -45,10 +36,7 @@ fn ready(heard: &mut Heard, by_characters: bool) -> Result<(), Answer>
     if by_characters {
         return Ok(());
     }
-    match heard.ready() {
-        Ok(()) => Ok(()),
-        Err(_) => Err(Answer::NoMemory),
-    }
+    tried(heard.ready())
 }
 
 fn set_can_grow(alloc: Global, held: &mut HeldLine, can_grow: bool) -> Outcome
@@ -67,6 +55,7 @@ pub extern "C" fn lodvarn_line_set_can_grow(alloc: Global, l: &mut Handle, can_g
     of!(l, alloc, Held::Line(held) => set_can_grow(alloc, held, can_grow))
 }
 
+#[tactic(auto, unfolding(crate::specs::Calls::only_where, crate::specs::LineEdits::sets_pos))]
 fn set_pos(held: &mut HeldLine, pos: usize) -> Outcome
     ensures { sets_pos pos held.old (merged result) held.new }
 {
@@ -227,13 +216,9 @@ fn replace(held: &mut HeldLine, range: CRange, text: &[u8]) -> Outcome
     if !held.line.is_range(range.from, range.to) {
         return Err(Answer::BadPlace);
     }
-    match held
-        .line
-        .replace(range.from..range.to, text, &mut held.heard)
-    {
-        Ok(()) => Ok(Answer::Done),
-        Err(_) => Err(Answer::NoMemory),
-    }
+    let range = range.from..range.to;
+    tried(held.line.replace(range, text, &mut held.heard))?;
+    Ok(Answer::Done)
 }
 
 /// `lodvarn_line_replace`.
@@ -256,13 +241,9 @@ fn delete_range(held: &mut HeldLine, range: CRange) -> Outcome
     if !held.line.is_range(range.from, range.to) {
         return Err(Answer::BadPlace);
     }
-    match held
-        .line
-        .delete_range(range.from..range.to, &mut held.heard)
-    {
-        Ok(()) => Ok(Answer::Done),
-        Err(_) => Err(Answer::NoMemory),
-    }
+    let range = range.from..range.to;
+    tried(held.line.delete_range(range, &mut held.heard))?;
+    Ok(Answer::Done)
 }
 
 /// `lodvarn_line_delete_range`.
@@ -277,13 +258,9 @@ fn delete(held: &mut HeldLine, n: usize) -> Outcome
     ensures { of_named (count_of n) (λ k. edits nothing_more (λ line. kill_plan line (Movement.ForwardChar k)) truth) held.old (merged result) held.new }
 {
     let n = count_of(n)?;
-    match held
-        .line
-        .delete_by(&Movement::ForwardChar(n), &mut held.heard)
-    {
-        Ok(answer) => Ok(truth(answer)),
-        Err(_) => Err(Answer::NoMemory),
-    }
+    let next = Movement::ForwardChar(n);
+    let answer = tried(held.line.delete_by(&next, &mut held.heard))?;
+    Ok(truth(answer))
 }
 
 /// `lodvarn_line_delete`.
@@ -356,13 +333,9 @@ fn kill_range(held: &mut HeldLine, range: CRange, direction: u32) -> Outcome
         return Err(Answer::BadPlace);
     }
     ready(&mut held.heard, false)?;
-    match held
-        .line
-        .kill_range(range.from..range.to, side, &mut held.heard)
-    {
-        Ok(answer) => Ok(truth(answer)),
-        Err(_) => Err(Answer::NoMemory),
-    }
+    let range = range.from..range.to;
+    let answer = tried(held.line.kill_range(range, side, &mut held.heard))?;
+    Ok(truth(answer))
 }
 
 /// `lodvarn_line_kill_range`.

@@ -11,5 +11,5 @@ mod swap;
 mod tails;
 pub mod undo;
 
-pub use line_buffer::{LineBuffer, MAX_LINE, can_delete_by};
+pub use line_buffer::{LineBuffer, MAX_LINE, can_delete_by, is_by_characters};
 pub use undo::Changeset;

@@ -302,7 +302,8 @@ pub fn can_delete_by(mvt: &Movement) -> bool
     )
 }
 
-fn is_by_characters(mvt: &Movement) -> bool
+/// Whether the movement goes by grapheme clusters: a kill by it is told as a deletion, not as a kill.
+pub fn is_by_characters(mvt: &Movement) -> bool
     ensures { result ≡ is_by_characters mvt.now }
 {
     matches!(mvt, Movement::BackwardChar(_) | Movement::ForwardChar(_))

@@ -10,6 +10,7 @@ ghost use Rattle.rl_session.specs.declared.session.Command.{Command};
 use crate::session::replies::{answered, inserted};
 use crate::session::{Fault, Reply, Session};
 use rl_base::{Direction, KillRing, Mode, Movement, RepeatCount};
+use rl_line::is_by_characters;
 use std::alloc::{AllocError, Global};
 
 impl Session {
@@ -99,10 +100,7 @@ impl Session {
     pub(super) fn ready(&mut self, movement: &Movement)
         ensures { self.new ≡ readied (Command.Kill movement.now) self.old }
     {
-        if matches!(
-            movement,
-            Movement::BackwardChar(_) | Movement::ForwardChar(_)
-        ) {
+        if is_by_characters(movement) {
             self.pair.ring.reset();
         }
     }
