@@ -27,7 +27,7 @@
 //! - A place must be one between two characters, also that of [`set_pos`](LineBuffer::set_pos), and the cursor never
 //!   stands inside a character. If a call is given another place it panics, or returns [`Fault::BadPlace`].
 //! - Words, movements and indents follow Lodvarn's rules where rustyline's drop a cluster, panic or miss a line:
-//!   `docs/DIFFERENCES.md` names each case. A width is at most 65535.
+//!   `docs/DIFFERENCES.md` of the repository names each case. A width is at most 65535.
 //! - The text is the library's own, lent as long as the line does not change. Threads that share a line wait for each
 //!   other in the calls that ask the library: `next_pos`, `grapheme_at_cursor`, `copy` and `limit`.
 mod edits;

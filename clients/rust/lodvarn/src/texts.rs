@@ -8,14 +8,16 @@ use crate::{calls, done, room, sure, told};
 ///
 /// [`Fault::NoMemory`]; what was printed before is lost.
 pub fn run_script(script: &[u8]) -> Result<Vec<u8>, Fault> {
-    let (mut out, mut len) = (room(script.len())?, 0);
-    done(calls::script(script, &mut out, &mut len))?;
-    if len > out.len() {
-        out = room(len)?;
+    let mut out = room(script.len())?;
+    loop {
+        let mut len = 0;
         done(calls::script(script, &mut out, &mut len))?;
+        if len <= out.len() {
+            out.truncate(len);
+            return Ok(out);
+        }
+        out = room(len)?;
     }
-    out.truncate(len);
-    Ok(out)
 }
 
 /// The number of columns that a text takes, at most 65535.
