@@ -141,9 +141,26 @@ impl Line {
 
     #[inline]
     fn look(&mut self) {
-        let at = self.raw.at();
-        unsafe { lodvarn_line_text(at, &mut self.text.0) };
-        self.pos = unsafe { lodvarn_line_pos(at) };
+        self.look_at_text();
+        self.pos = unsafe { lodvarn_line_pos(self.raw.at()) };
+    }
+
+    #[inline]
+    fn look_at_text(&mut self) {
+        unsafe { lodvarn_line_text(self.raw.at(), &mut self.text.0) };
+    }
+
+    /// Inserts a typed character. What is reported of it is known, and so is where the cursor goes.
+    #[inline]
+    pub(crate) fn insert_one(&mut self, c: char) -> i32 {
+        self.text = Lent::NONE;
+        let answer = self.raw.insert(c, 1);
+        self.raw.forget_reports();
+        self.look_at_text();
+        if answer > LODVARN_NOTHING {
+            self.pos += c.len_utf8();
+        }
+        answer
     }
 
     /// Makes a change, and forgets what is reported of it.

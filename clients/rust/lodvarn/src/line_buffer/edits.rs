@@ -66,7 +66,7 @@ impl LineBuffer {
         cl: &mut C,
     ) -> Result<Option<bool>, Fault> {
         let at = self.pos();
-        let goes_in = put_in(self.change(|line| line.insert(ch, 1)))?;
+        let goes_in = put_in(self.line.insert_one(ch))?;
         if goes_in.is_some() {
             cl.insert_char(at, ch);
         }
