@@ -587,9 +587,13 @@ fn listeners_follow_lines_at_random() {
             }
         }
         let end = line.as_str().to_owned();
-        while changes.undo(&mut line, 1) {}
-        assert!(line.is_empty());
-        while changes.redo(&mut line) {}
-        assert_eq!(line.as_str(), end);
+        while changes.can_undo() {
+            assert!(changes.undo(&mut line, 1));
+        }
+        assert!(line.is_empty() && !changes.undo(&mut line, 1));
+        while changes.can_redo() {
+            assert!(changes.redo(&mut line));
+        }
+        assert!(line.as_str() == end && !changes.redo(&mut line));
     }
 }

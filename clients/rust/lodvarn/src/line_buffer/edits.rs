@@ -53,18 +53,10 @@ impl LineBuffer {
         n: RepeatCount,
         cl: &mut C,
     ) -> Result<Option<bool>, Fault> {
-        if n == 1 {
-            return self.insert_one(ch, cl);
+        if n != 1 {
+            return put_in(self.edit(cl, |line| line.insert(ch, n)));
         }
-        put_in(self.edit(cl, |line| line.insert(ch, n)))
-    }
-
-    // A typed character. The one report of it is known without reading it.
-    fn insert_one<C: ChangeListener + ?Sized>(
-        &mut self,
-        ch: char,
-        cl: &mut C,
-    ) -> Result<Option<bool>, Fault> {
+        // The one report of a typed character is known without reading it.
         let at = self.pos();
         let goes_in = put_in(self.line.insert_one(ch))?;
         if goes_in.is_some() {
