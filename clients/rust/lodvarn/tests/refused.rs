@@ -141,7 +141,11 @@ fn sessions_say_that_memory_is_refused() {
         .map(|(what, call)| refuse(what, session, call, left));
     let counted: Vec<_> = counted.collect();
     assert!(counted.iter().sum::<usize>() > 40, "{counted:?}");
-    let open = |(): &mut ()| Session::builder().text(text).open();
+}
+
+#[test]
+fn what_needs_no_session_says_that_memory_is_refused() {
+    let open = |(): &mut ()| Session::builder().text("one").open();
     assert!(refuse("open", || (), open, |()| {}) > 0);
     // No line of it needs memory, which would be refused by a line of what is printed.
     let script = "where\n".repeat(99);
@@ -228,19 +232,21 @@ fn records_and_rings_say_that_memory_is_refused() {
     assert!(refuse("last_insert", line, told, |_| {}) > 1);
     let fits = |it: &mut All| fault_of(|| it.1.undo_fits(&it.0));
     refuse("undo_fits", line, fits, |_| {});
-    let yanked = |it: &mut All| {
-        fault_of(|| it.2.yank().map(String::len)).map(|it| assert_eq!(it, Some(450)))
+}
+
+#[test]
+fn rings_say_that_memory_is_refused() {
+    let made = || {
+        let mut ring = KillRing::new(9);
+        ring.kill(&"kept ".repeat(90), Mode::Append);
+        ring
     };
-    assert!(refuse("yank", line, yanked, |_| {}) > 0);
-    let text = &*"x".repeat(999);
-    assert!(
-        refuse(
-            "kill",
-            line,
-            |it| fault_of(|| it.2.kill(text, Mode::Append)),
-            |_| {}
-        ) > 0
-    );
+    let yank =
+        |ring: &mut KillRing| fault_of(|| assert_eq!(ring.yank().map(String::len), Some(450)));
+    assert!(refuse("yank", made, yank, |_| {}) > 0);
+    let text = &*"more ".repeat(99);
+    let kill = |ring: &mut KillRing| fault_of(|| ring.kill(text, Mode::Append));
+    assert!(refuse("kill", made, kill, |_| {}) > 0);
 }
 
 #[test]

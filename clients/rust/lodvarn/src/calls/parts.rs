@@ -14,7 +14,7 @@ impl Kind for lodvarn_killring {
     const CLOSE: unsafe extern "C" fn(*mut *mut Self) = lodvarn_killring_close;
 }
 
-/// A handle that threads may share. Whoever has it by `&mut` needs no lock, and edits do.
+/// A handle that threads may share. Whoever has it by `&mut`, as every edit has, needs no lock.
 pub(crate) struct Shared<T: Kind>(Mutex<Handle<T>>);
 
 impl<T: Kind> Shared<T> {
