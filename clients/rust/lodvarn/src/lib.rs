@@ -24,7 +24,7 @@
 //!
 //! The crate links the archive of the library, which `lodvarn-sys` finds.
 #![deny(missing_docs, unsafe_code, unsafe_op_in_unsafe_fn)]
-#![warn(clippy::missing_errors_doc)]
+#![warn(clippy::missing_errors_doc, clippy::must_use_candidate)]
 
 pub mod keymap;
 pub mod kill_ring;

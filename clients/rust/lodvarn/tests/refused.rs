@@ -205,7 +205,7 @@ fn lines_say_that_memory_is_refused() {
 }
 
 #[test]
-fn records_and_rings_say_that_memory_is_refused() {
+fn records_say_that_memory_is_refused() {
     type All = (LineBuffer, Changeset, KillRing);
     let undone = || {
         let mut all = line();
