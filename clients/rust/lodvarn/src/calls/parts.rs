@@ -1,6 +1,7 @@
 //! The calls on the parts of a session by themselves. Threads may share these.
 use super::*;
-use std::sync::{Mutex, PoisonError};
+use std::sync::atomic::{AtomicBool, Ordering};
+use std::thread::yield_now;
 
 impl Kind for lodvarn_line {
     const CLOSE: unsafe extern "C" fn(*mut *mut Self) = lodvarn_line_close;
@@ -15,25 +16,38 @@ impl Kind for lodvarn_killring {
 }
 
 /// A handle that threads may share. Whoever has it by `&mut`, as every edit has, needs no lock.
-pub(crate) struct Shared<T: Kind>(Mutex<Handle<T>>);
+pub(crate) struct Shared<T: Kind> {
+    handle: Handle<T>,
+    // Whether a thread is in a read. A read is short, and most are alone: so this is less than half of a `Mutex`.
+    is_read: AtomicBool,
+}
+
+// One thread at a time is in a read, and none while another has the handle by `&mut`.
+unsafe impl<T: Kind> Sync for Shared<T> {}
 
 impl<T: Kind> Shared<T> {
     fn opened(call: impl FnOnce(*mut *mut T) -> i32) -> Result<Self, Fault> {
-        Ok(Shared(Mutex::new(Handle::opened(call)?)))
+        Ok(Shared {
+            handle: Handle::opened(call)?,
+            is_read: AtomicBool::new(false),
+        })
     }
 
     /// The pointer, for a call that may change something.
     #[inline]
     fn at(&mut self) -> *mut T {
-        let handle = self.0.get_mut().unwrap_or_else(PoisonError::into_inner);
-        handle.at()
+        self.handle.at()
     }
 
-    /// Makes a read, while other threads make none.
+    /// Makes a read, while other threads make none. It must not panic.
     #[inline]
     fn read<A>(&self, read: impl FnOnce(*mut T) -> A) -> A {
-        let handle = self.0.lock().unwrap_or_else(PoisonError::into_inner);
-        handle.read(read)
+        while self.is_read.swap(true, Ordering::Acquire) {
+            yield_now();
+        }
+        let answer = self.handle.read(read);
+        self.is_read.store(false, Ordering::Release);
+        answer
     }
 }
 
