@@ -493,7 +493,7 @@ fn threads_may_share_all_but_sessions() {
     changes.insert_str(0, "aé b");
     ring.kill("two", Mode::Append);
     let read = || {
-        for _ in 0..2000 {
+        for _ in 0..20_000 {
             assert_eq!((line.as_str(), line.pos(), line.limit()), ("aé b", 5, 4096));
             assert_eq!(
                 line.copy(&Movement::BeginningOfBuffer).as_deref(),
