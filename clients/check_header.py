@@ -1,6 +1,7 @@
 #!/usr/bin/env python3
 """Compares what the headers of include declare with crates/rl_ffi and clients/handles.c, and with the names that the
-clients for Python and Rust give to the numbers. These read the headers themselves, and declare nothing.
+clients for Python and Rust give to the numbers. The former reads the headers itself, and bindgen declares what the
+latter calls.
 
     python3 clients/check_header.py
 
@@ -195,7 +196,7 @@ def main():
     numbers, taken = numbers_of(headers)
     clients = {
         "Python": named_by(read("clients/python/lodvarn/*.py"), r"numbers\."),
-        "Rust": named_by(read("clients/rust/lodvarn/src/**/*.rs"), "ffi::"),
+        "Rust": named_by(read("clients/rust/lodvarn/src/**/*.rs"), r"(?:ffi::)?LODVARN_"),
     }
     # No client needs to tell these apart.
     named = {name: name for name in numbers if name not in ("NOTHING", "DONE", "DONE_AT_END", "TOO_SMALL")}

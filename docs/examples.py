@@ -34,6 +34,9 @@ from dataclasses import dataclass
 from pathlib import Path
 
 TOP = Path(__file__).resolve().parent.parent
+sys.path.insert(0, str(TOP / "clients/rustyline"))
+from sources import take_offline  # noqa: E402
+
 PAGES = ["README.md", "docs/GUIDE.md", "docs/RULES.md", "docs/DECISIONS.md"]
 # Blocks in these languages are not pieces of code: outputs, pictures, and commands that take long.
 PLAIN = {"", "text", "sh"}
@@ -378,6 +381,8 @@ def main():
     given = parser.parse_args()
     with tempfile.TemporaryDirectory(prefix="lodvarn-") as room:
         place = Place(given.out.resolve(), given.script.resolve(), Path(room))
+        if given.only in (None, "rust", "sh"):
+            take_offline(place.room)
         faults = (judge_self if given.check else judge_pages)(given.only, place)
     wrong = list(filter(None, faults))
     for fault in wrong:

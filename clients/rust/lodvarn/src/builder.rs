@@ -1,7 +1,7 @@
 //! How a session is opened.
 use crate::calls::Handle;
 use crate::words::{Fault, Mode, Options};
-use crate::{Session, NO_LIMIT};
+use crate::Session;
 
 /// What a session is opened with, from [`Session::builder`]. What is not said stays as it is there: no text, the cursor
 /// at the end of the text, and [`Options::default`].
@@ -11,7 +11,7 @@ use crate::{Session, NO_LIMIT};
 /// # fn main() -> Result<(), Fault> {
 /// let session = Session::builder().text("one two").pos(3).limit(80).open()?;
 /// assert_eq!((session.text(), session.pos()), ("one two", 3));
-/// assert_eq!(session.options().limit, 80);
+/// assert_eq!(session.options().limit, Some(80));
 /// # Ok(())
 /// # }
 /// ```
@@ -43,13 +43,14 @@ impl<'t> SessionBuilder<'t> {
 
     /// Lets the text grow to so many bytes, as [`Options::limit`] says.
     pub fn limit(mut self, limit: usize) -> Self {
-        self.options.limit = limit;
+        self.options.limit = Some(limit);
         self
     }
 
     /// Lets the text grow to any length.
-    pub fn no_limit(self) -> Self {
-        self.limit(NO_LIMIT)
+    pub fn no_limit(mut self) -> Self {
+        self.options.limit = None;
+        self
     }
 
     /// Lets the kill ring keep up to so many texts. With 0 it keeps none, and a kill only deletes.
@@ -72,13 +73,13 @@ impl<'t> SessionBuilder<'t> {
 
     /// Lets the record have so many entries, as [`Session::set_options`] does.
     pub fn max_entries(mut self, max_entries: usize) -> Self {
-        self.options.max_entries = max_entries;
+        self.options.max_entries = Some(max_entries);
         self
     }
 
     /// Lets the record have so many bytes of text.
     pub fn max_bytes(mut self, max_bytes: usize) -> Self {
-        self.options.max_bytes = max_bytes;
+        self.options.max_bytes = Some(max_bytes);
         self
     }
 

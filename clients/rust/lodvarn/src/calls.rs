@@ -1,19 +1,25 @@
-//! All unsafe code of the crate: thin safe functions over the calls of the library. Each returns what its call returns, or
+//! All unsafe code of the crate: thin safe functions over the calls of the library. Each returns what its call does, or
 //! what that writes or lends.
 //!
 //! Why they are sound: a handle has what a call has opened, until it is dropped. A text is passed as the pointer and the
 //! length of a `&str`, a buffer as those of a `&mut [u8]`, and the library keeps neither. What a call writes is read only
-//! if it returns that it is done. A text that is lent borrows the handle, so no call that changes something comes while
-//! it is there: such a call takes the handle by `&mut`. The library's texts are UTF-8.
+//! if it returns that it is done. A call that changes something takes its handle by `&mut`, so no text that the handle
+//! lends is there then. A read takes what is read out of its handle for the time of the call: so two threads that share
+//! one wait for each other, and what may not be shared is not `Sync`. The library's texts are UTF-8.
 #![allow(unsafe_code)]
 
+mod parts;
+
+pub(crate) use parts::{Line, RawLine, Record, Ring};
+
 use crate::changes::Report;
-use crate::words::{Case, Direction, Fault, Mode, Movement, Options, ReportKind, Screen};
 use crate::ffi::*;
 use crate::found;
+use crate::words::{Case, Direction, Fault, Mode, Movement, Options, Position, ReportKind, Screen};
 use std::ffi::CStr;
 use std::mem::MaybeUninit;
 use std::ops::Range;
+use std::os::raw::c_char;
 use std::slice::from_raw_parts;
 use std::str::from_utf8_unchecked;
 
@@ -25,21 +31,17 @@ fn written<T>(call: impl FnOnce(*mut T) -> i32) -> Result<Option<T>, Fault> {
     Ok(is_found.then(|| unsafe { out.assume_init() }))
 }
 
-/// The pointer that a call writes as it opens something.
-fn opened<T>(call: impl FnOnce(*mut *mut T) -> i32) -> Result<*mut T, Fault> {
-    written(call).map(|at| at.expect("what is opened is there"))
-}
-
 /// The text of a view. It must be good as long as it is lent here.
 #[inline]
 unsafe fn lent<'s>(view: lodvarn_view) -> &'s str {
     if view.len == 0 {
         return "";
     }
-    unsafe { from_utf8_unchecked(from_raw_parts(view.at, view.len)) }
+    unsafe { from_utf8_unchecked(from_raw_parts(view.at.cast(), view.len)) }
 }
 
 /// The report of a call. Its texts must be good as long as they are lent here.
+#[inline]
 unsafe fn reported<'s>(report: lodvarn_report) -> Report<'s> {
     Report {
         kind: ReportKind::of(report.kind),
@@ -60,303 +62,204 @@ fn range_of(range: Range<usize>) -> lodvarn_range {
     }
 }
 
+fn start_of(text: &str) -> *const c_char {
+    text.as_ptr().cast()
+}
+
 fn view_of(text: &str) -> lodvarn_view {
     lodvarn_view {
-        at: text.as_ptr(),
+        at: start_of(text),
         len: text.len(),
     }
 }
 
-macro_rules! handles {
-    ($($(#[$doc:meta])* $name:ident of $kind:ident, $at:ident => $close:expr;)*) => {$(
-        $(#[$doc])*
-        pub(crate) struct $name(*mut $kind);
-
-        // All that it has is memory of the program's `malloc`, which any thread may use and free.
-        unsafe impl Send for $name {}
-
-        impl Drop for $name {
-            fn drop(&mut self) {
-                let $at = &mut self.0;
-                unsafe { $close }
-            }
-        }
-    )*};
+/// What a call opens, and the call that closes it.
+pub(crate) trait Kind: Sized {
+    const CLOSE: unsafe extern "C" fn(*mut *mut Self);
 }
 
-handles! {
-    /// A session.
-    Handle of lodvarn, at => lodvarn_close(at);
-    /// A line.
-    Line of lodvarn_line, at => lodvarn_line_close(at);
-    /// A record of changes.
-    Record of lodvarn_record, at => lodvarn_record_close(at);
-    /// A kill ring.
-    Ring of lodvarn_killring, at => lodvarn_killring_close(at);
+impl Kind for lodvarn {
+    const CLOSE: unsafe extern "C" fn(*mut *mut Self) = lodvarn_close;
 }
 
-// Methods that pass on what they get, in the form that C wants: what returns what its call does, what returns what the
-// call writes, and what lends a text. They are inlined, since a typed character makes several.
+/// The pointer that a call has opened, until this is dropped.
+pub(crate) struct Handle<T: Kind>(*mut T);
+
+// All that it has is memory of the program's `malloc`, which any thread may use and free.
+unsafe impl<T: Kind> Send for Handle<T> {}
+
+impl<T: Kind> Drop for Handle<T> {
+    fn drop(&mut self) {
+        unsafe { T::CLOSE(&mut self.0) }
+    }
+}
+
+impl<T: Kind> Handle<T> {
+    fn opened(call: impl FnOnce(*mut *mut T) -> i32) -> Result<Self, Fault> {
+        let at = written(call)?;
+        Ok(Handle(at.expect("what is opened is there")))
+    }
+
+    /// The pointer, for a call that may change something.
+    #[inline]
+    fn at(&mut self) -> *mut T {
+        self.0
+    }
+
+    /// Makes a read. The handle is not `Sync`, so no other thread makes one.
+    #[inline]
+    fn read<A>(&self, read: impl FnOnce(*mut T) -> A) -> A {
+        read(self.0)
+    }
+}
+
+// Methods that pass on what they get, in the form that C wants: what changes something returns what its call does; a
+// read that too, or what the call writes, or the text that it lends. They are inlined, since a typed character makes
+// several.
 macro_rules! calls {
-    ($(fn $name:ident($($taken:tt)*) -> $answer:ty = $called:expr;)*) => {$(
-        #[inline]
-        pub(crate) fn $name($($taken)*) -> $answer {
-            unsafe { $called }
-        }
-    )*};
-    ($(fn $name:ident($($taken:tt)*) writes $written:ty
+    ($(fn $name:ident(&mut $this:ident $(, $given:ident: $kind:ty)*)
         = $call:ident($($passed:expr),*);)*) => {$(
         #[inline]
-        pub(crate) fn $name($($taken)*) -> Result<Option<$written>, Fault> {
-            written(|out| unsafe { $call($($passed,)* out) })
+        pub(crate) fn $name(&mut $this $(, $given: $kind)*) -> i32 {
+            unsafe { $call($this.at() $(, $passed)*) }
         }
     )*};
-    ($(fn $name:ident($($taken:tt)*) lends = $call:ident($($passed:expr),*);)*) => {$(
+    ($(fn $name:ident(&$this:ident $(, $given:ident: $kind:ty)*) -> $answer:ty
+        = $call:ident($($passed:expr),*);)*) => {$(
         #[inline]
-        pub(crate) fn $name($($taken)*) -> Result<Option<&str>, Fault> {
-            let view = written(|out| unsafe { $call($($passed,)* out) })?;
+        pub(crate) fn $name(&$this $(, $given: $kind)*) -> $answer {
+            $this.read(|at| unsafe { $call(at $(, $passed)*) })
+        }
+    )*};
+    ($(fn $name:ident(&$this:ident $(, $given:ident: $kind:ty)*) writes $written:ty
+        = $call:ident($($passed:expr),*);)*) => {$(
+        #[inline]
+        pub(crate) fn $name(&$this $(, $given: $kind)*) -> Result<Option<$written>, Fault> {
+            written(|out| $this.read(|at| unsafe { $call(at $(, $passed)*, out) }))
+        }
+    )*};
+    ($(fn $name:ident(&$this:ident $(, $given:ident: $kind:ty)*) lends
+        = $call:ident($($passed:expr),*);)*) => {$(
+        #[inline]
+        pub(crate) fn $name(&$this $(, $given: $kind)*) -> Result<Option<&str>, Fault> {
+            let view = written(|out| $this.read(|at| unsafe { $call(at $(, $passed)*, out) }))?;
             Ok(view.map(|view| unsafe { lent(view) }))
         }
     )*};
 }
 
-impl Handle {
-    pub(crate) fn open(options: &Options, text: &str) -> Result<Handle, Fault> {
-        let (options, ptr, len) = (options.passed(), text.as_ptr(), text.len());
-        opened(|out| unsafe { lodvarn_open(out, &options, ptr, len) }).map(Handle)
+use calls;
+
+impl Handle<lodvarn> {
+    pub(crate) fn open(options: &Options, text: &str) -> Result<Self, Fault> {
+        let options = options.passed();
+        Handle::opened(|out| unsafe { lodvarn_open(out, &options, start_of(text), text.len()) })
     }
 
     calls! {
-        fn restart(&mut self, text: &str) -> i32
-            = lodvarn_restart(self.0, text.as_ptr(), text.len());
-        fn set_options(&mut self, options: &Options) -> i32
-            = lodvarn_set_options(self.0, &options.passed());
-        fn set_pos(&mut self, pos: usize) -> i32 = lodvarn_set_pos(self.0, pos);
-        fn move_by(&mut self, movement: Movement) -> i32 = lodvarn_move(self.0, movement.passed());
-        fn insert(&mut self, c: char, n: u16) -> i32 = lodvarn_insert(self.0, c.into(), n.into());
-        fn paste(&mut self, text: &str, n: u16) -> i32
-            = lodvarn_paste(self.0, text.as_ptr(), text.len(), n.into());
-        fn yank(&mut self, n: u16) -> i32 = lodvarn_yank(self.0, n.into());
-        fn yank_pop(&mut self) -> i32 = lodvarn_yank_pop(self.0);
-        fn set_text(&mut self, pos: usize, text: &str) -> i32
-            = lodvarn_set_text(self.0, pos, text.as_ptr(), text.len());
-        fn insert_at(&mut self, place: usize, text: &str) -> i32
-            = lodvarn_insert_at(self.0, place, text.as_ptr(), text.len());
-        fn replace(&mut self, range: Range<usize>, text: &str) -> i32
-            = lodvarn_replace(self.0, range_of(range), text.as_ptr(), text.len());
-        fn delete_range(&mut self, range: Range<usize>) -> i32
-            = lodvarn_delete_range(self.0, range_of(range));
-        fn delete(&mut self, n: u16) -> i32 = lodvarn_delete(self.0, n.into());
-        fn backspace(&mut self, n: u16) -> i32 = lodvarn_backspace(self.0, n.into());
-        fn delete_by(&mut self, movement: Movement) -> i32
-            = lodvarn_delete_by(self.0, movement.passed());
-        fn transpose_chars(&mut self) -> i32 = lodvarn_transpose_chars(self.0);
-        fn transpose_words(&mut self, n: u16) -> i32 = lodvarn_transpose_words(self.0, n.into());
-        fn change_case(&mut self, to: Case) -> i32 = lodvarn_change_case(self.0, to as u32);
-        fn kill(&mut self, movement: Movement) -> i32 = lodvarn_kill(self.0, movement.passed());
-        fn kill_range(&mut self, range: Range<usize>, direction: Direction) -> i32
-            = lodvarn_kill_range(self.0, range_of(range), direction as u32);
-        fn end_kills(&mut self) -> i32 = lodvarn_end_kills(self.0);
-        fn keep(&mut self, text: &str) -> i32 = lodvarn_keep(self.0, text.as_ptr(), text.len());
-        fn copy(&mut self, movement: Movement, out: &mut [u8], len: &mut usize) -> i32
-            = lodvarn_copy(self.0, movement.passed(), out.as_mut_ptr(), out.len(), len);
-        fn indent(&mut self, movement: Movement, amount: u8, indentation: u32) -> i32
-            = lodvarn_indent(self.0, movement.passed(), amount, indentation);
-        fn begin_group(&mut self) -> i32 = lodvarn_begin_group(self.0);
-        fn end_group(&mut self) -> i32 = lodvarn_end_group(self.0);
-        fn end_all_groups(&mut self) -> i32 = lodvarn_end_all_groups(self.0);
-        fn undo(&mut self, n: u16) -> i32 = lodvarn_undo(self.0, n.into());
-        fn redo(&mut self) -> i32 = lodvarn_redo(self.0);
-        fn truncate(&mut self, entries: usize) -> i32 = lodvarn_truncate(self.0, entries);
-        fn watch(&mut self, reports: usize, text_bytes: usize) -> i32
-            = lodvarn_watch(self.0, reports, text_bytes);
-        fn unwatch(&mut self) -> i32 = lodvarn_unwatch(self.0);
-        fn forget_report(&mut self) -> i32 = lodvarn_forget_report(self.0);
-
-        fn pos(&self) -> usize = lodvarn_pos(self.0);
-        fn cursor_line(&self) -> usize = lodvarn_cursor_line(self.0);
-        fn count_lines(&self) -> usize = lodvarn_count_lines(self.0);
-        fn entries(&self) -> usize = lodvarn_entries(self.0);
-        fn level(&self) -> usize = lodvarn_level(self.0);
-        fn can_undo(&self) -> bool = lodvarn_can_undo(self.0);
-        fn can_redo(&self) -> bool = lodvarn_can_redo(self.0);
-        fn ring_count(&self) -> usize = lodvarn_ring_count(self.0);
-        fn last_was_yank(&self) -> bool = lodvarn_last_was_yank(self.0);
-        fn count_reports(&self) -> usize = lodvarn_count_reports(self.0);
+        fn restart(&mut self, text: &str) = lodvarn_restart(start_of(text), text.len());
+        fn set_options(&mut self, options: &Options) = lodvarn_set_options(&options.passed());
+        fn set_pos(&mut self, pos: usize) = lodvarn_set_pos(pos);
+        fn move_by(&mut self, movement: Movement) = lodvarn_move(movement.passed());
+        fn insert(&mut self, c: char, n: u16) = lodvarn_insert(c.into(), n.into());
+        fn paste(&mut self, text: &str, n: u16)
+            = lodvarn_paste(start_of(text), text.len(), n.into());
+        fn yank(&mut self, n: u16) = lodvarn_yank(n.into());
+        fn yank_pop(&mut self) = lodvarn_yank_pop();
+        fn set_text(&mut self, pos: usize, text: &str)
+            = lodvarn_set_text(pos, start_of(text), text.len());
+        fn insert_at(&mut self, place: usize, text: &str)
+            = lodvarn_insert_at(place, start_of(text), text.len());
+        fn replace(&mut self, range: Range<usize>, text: &str)
+            = lodvarn_replace(range_of(range), start_of(text), text.len());
+        fn delete_range(&mut self, range: Range<usize>) = lodvarn_delete_range(range_of(range));
+        fn delete(&mut self, n: u16) = lodvarn_delete(n.into());
+        fn backspace(&mut self, n: u16) = lodvarn_backspace(n.into());
+        fn delete_by(&mut self, movement: Movement) = lodvarn_delete_by(movement.passed());
+        fn transpose_chars(&mut self) = lodvarn_transpose_chars();
+        fn transpose_words(&mut self, n: u16) = lodvarn_transpose_words(n.into());
+        fn change_case(&mut self, to: Case) = lodvarn_change_case(to as u32);
+        fn kill(&mut self, movement: Movement) = lodvarn_kill(movement.passed());
+        fn kill_range(&mut self, range: Range<usize>, direction: Direction)
+            = lodvarn_kill_range(range_of(range), direction as u32);
+        fn end_kills(&mut self) = lodvarn_end_kills();
+        fn keep(&mut self, text: &str) = lodvarn_keep(start_of(text), text.len());
+        fn copy(&mut self, movement: Movement, out: &mut [u8], len: &mut usize)
+            = lodvarn_copy(movement.passed(), out.as_mut_ptr().cast(), out.len(), len);
+        fn indent(&mut self, movement: Movement, amount: u8, indentation: u32)
+            = lodvarn_indent(movement.passed(), amount, indentation);
+        fn begin_group(&mut self) = lodvarn_begin_group();
+        fn end_group(&mut self) = lodvarn_end_group();
+        fn end_all_groups(&mut self) = lodvarn_end_all_groups();
+        fn undo(&mut self, n: u16) = lodvarn_undo(n.into());
+        fn redo(&mut self) = lodvarn_redo();
+        fn truncate(&mut self, entries: usize) = lodvarn_truncate(entries);
+        fn watch(&mut self, reports: usize, text_bytes: usize)
+            = lodvarn_watch(reports, text_bytes);
+        fn unwatch(&mut self) = lodvarn_unwatch();
+        fn forget_report(&mut self) = lodvarn_forget_report();
     }
 
     calls! {
-        fn take_change(&mut self) writes lodvarn_splice = lodvarn_take_change(self.0);
-        fn find_cursor(&self) writes lodvarn_position = lodvarn_find_cursor(self.0);
-        fn find_line(&self, line: usize) writes lodvarn_range = lodvarn_find_line(self.0, line);
+        fn pos(&self) -> usize = lodvarn_pos();
+        fn cursor_line(&self) -> usize = lodvarn_cursor_line();
+        fn count_lines(&self) -> usize = lodvarn_count_lines();
+        fn entries(&self) -> usize = lodvarn_entries();
+        fn level(&self) -> usize = lodvarn_level();
+        fn can_undo(&self) -> bool = lodvarn_can_undo();
+        fn can_redo(&self) -> bool = lodvarn_can_redo();
+        fn ring_count(&self) -> usize = lodvarn_ring_count();
+        fn last_was_yank(&self) -> bool = lodvarn_last_was_yank();
+        fn count_reports(&self) -> usize = lodvarn_count_reports();
+    }
+
+    calls! {
+        fn find_cursor(&self) writes lodvarn_position = lodvarn_find_cursor();
+        fn find_line(&self, line: usize) writes lodvarn_range = lodvarn_find_line(line);
         fn covers(&self, movement: Movement) writes lodvarn_range
-            = lodvarn_covers(self.0, movement.passed());
+            = lodvarn_covers(movement.passed());
         fn destination(&self, movement: Movement) writes usize
-            = lodvarn_destination(self.0, movement.passed());
-        fn cluster_at(&self, place: usize) writes lodvarn_cluster
-            = lodvarn_cluster_at(self.0, place);
+            = lodvarn_destination(movement.passed());
+        fn cluster_at(&self, place: usize) writes lodvarn_cluster = lodvarn_cluster_at(place);
     }
 
     calls! {
-        fn text(&self) lends = lodvarn_text(self.0);
-        fn slice(&self, range: Range<usize>) lends = lodvarn_slice(self.0, range_of(range));
-        fn ring_text(&self, back: usize) lends = lodvarn_ring_text(self.0, back);
+        fn text(&self) lends = lodvarn_text();
+        fn slice(&self, range: Range<usize>) lends = lodvarn_slice(range_of(range));
+        fn ring_text(&self, back: usize) lends = lodvarn_ring_text(back);
+    }
+
+    pub(crate) fn take_change(&mut self) -> Result<Option<lodvarn_splice>, Fault> {
+        written(|out| unsafe { lodvarn_take_change(self.at(), out) })
     }
 
     pub(crate) fn options(&self) -> Options {
-        let mut options = OPTIONS;
-        unsafe { lodvarn_get_options(self.0, &mut options) };
+        let mut options = LODVARN_OPTIONS;
+        self.read(|at| unsafe { lodvarn_get_options(at, &mut options) });
         Options::of(&options)
     }
 
     pub(crate) fn next_report(&self) -> Result<Option<Report<'_>>, Fault> {
-        let report = written(|out| unsafe { lodvarn_next_report(self.0, out) })?;
+        let report = written(|out| self.read(|at| unsafe { lodvarn_next_report(at, out) }))?;
         Ok(report.map(|report| unsafe { reported(report) }))
-    }
-}
-
-impl Line {
-    pub(crate) fn open(limit: usize) -> Result<Line, Fault> {
-        let at = "".as_ptr();
-        opened(|out| unsafe { lodvarn_line_open(out, limit, false, at, 0) }).map(Line)
-    }
-
-    calls! {
-        fn set_pos(&mut self, pos: usize) -> i32 = lodvarn_line_set_pos(self.0, pos);
-        fn set_can_grow(&mut self, can_grow: bool) -> i32
-            = lodvarn_line_set_can_grow(self.0, can_grow);
-        fn move_by(&mut self, movement: Movement, mode: Mode, prompt: u16) -> i32
-            = lodvarn_line_move(self.0, movement.passed(), mode as u32, prompt);
-        fn insert(&mut self, c: char, n: u16) -> i32
-            = lodvarn_line_insert(self.0, c.into(), n.into());
-        fn paste(&mut self, text: &str, n: u16) -> i32
-            = lodvarn_line_paste(self.0, text.as_ptr(), text.len(), n.into());
-        fn yank_pop(&mut self, size: usize, text: &str) -> i32
-            = lodvarn_line_yank_pop(self.0, size, text.as_ptr(), text.len());
-        fn set_text(&mut self, pos: usize, text: &str) -> i32
-            = lodvarn_line_set_text(self.0, pos, text.as_ptr(), text.len());
-        fn insert_at(&mut self, place: usize, text: &str) -> i32
-            = lodvarn_line_insert_at(self.0, place, text.as_ptr(), text.len());
-        fn replace(&mut self, range: Range<usize>, text: &str) -> i32
-            = lodvarn_line_replace(self.0, range_of(range), text.as_ptr(), text.len());
-        fn delete_range(&mut self, range: Range<usize>) -> i32
-            = lodvarn_line_delete_range(self.0, range_of(range));
-        fn delete(&mut self, n: u16) -> i32 = lodvarn_line_delete(self.0, n.into());
-        fn backspace(&mut self, n: u16) -> i32 = lodvarn_line_backspace(self.0, n.into());
-        fn delete_by(&mut self, movement: Movement) -> i32
-            = lodvarn_line_delete_by(self.0, movement.passed());
-        fn kill(&mut self, movement: Movement) -> i32
-            = lodvarn_line_kill(self.0, movement.passed());
-        fn kill_range(&mut self, range: Range<usize>, direction: Direction) -> i32
-            = lodvarn_line_kill_range(self.0, range_of(range), direction as u32);
-        fn transpose_chars(&mut self) -> i32 = lodvarn_line_transpose_chars(self.0);
-        fn transpose_words(&mut self, n: u16) -> i32
-            = lodvarn_line_transpose_words(self.0, n.into());
-        fn change_case(&mut self, to: Case) -> i32 = lodvarn_line_change_case(self.0, to as u32);
-        fn indent(&mut self, movement: Movement, amount: u8, indentation: u32) -> i32
-            = lodvarn_line_indent(self.0, movement.passed(), amount, indentation);
-        fn forget_report(&mut self) -> i32 = lodvarn_line_forget_report(self.0);
-        fn forget_reports(&mut self) -> i32 = lodvarn_line_forget_reports(self.0);
-
-        fn pos(&self) -> usize = lodvarn_line_pos(self.0);
-        fn limit(&self) -> usize = lodvarn_line_limit(self.0);
-        fn count_reports(&self) -> usize = lodvarn_line_count_reports(self.0);
-    }
-
-    calls! {
-        fn destination(&self, movement: Movement, mode: Mode, prompt: u16) writes usize
-            = lodvarn_line_destination(self.0, movement.passed(), mode as u32, prompt);
-        fn covers(&self, movement: Movement) writes lodvarn_range
-            = lodvarn_line_covers(self.0, movement.passed());
-    }
-
-    calls! {
-        fn text(&self) lends = lodvarn_line_text(self.0);
-        fn slice(&self, range: Range<usize>) lends = lodvarn_line_slice(self.0, range_of(range));
-    }
-
-    #[inline]
-    pub(crate) fn next_report(&self) -> Result<Option<Report<'_>>, Fault> {
-        let report = written(|out| unsafe { lodvarn_line_next_report(self.0, out) })?;
-        Ok(report.map(|report| unsafe { reported(report) }))
-    }
-}
-
-impl Record {
-    pub(crate) fn open() -> Result<Record, Fault> {
-        opened(|out| unsafe { lodvarn_record_open(out) }).map(Record)
-    }
-
-    calls! {
-        fn begin_group(&mut self) -> i32 = lodvarn_record_begin_group(self.0);
-        fn end_group(&mut self) -> i32 = lodvarn_record_end_group(self.0);
-        fn end_all_groups(&mut self) -> i32 = lodvarn_record_end_all_groups(self.0);
-        fn insert_char(&mut self, at: usize, c: char) -> i32
-            = lodvarn_record_insert_char(self.0, at, c.into());
-        fn insert(&mut self, at: usize, text: &str) -> i32
-            = lodvarn_record_insert(self.0, at, text.as_ptr(), text.len());
-        fn delete(&mut self, at: usize, text: &str) -> i32
-            = lodvarn_record_delete(self.0, at, text.as_ptr(), text.len());
-        fn replace(&mut self, at: usize, old: &str, new: &str) -> i32
-            = lodvarn_record_replace(self.0, at, view_of(old), view_of(new));
-        fn cursors(&mut self, before: usize, after: usize) -> i32
-            = lodvarn_record_cursors(self.0, before, after);
-        fn undo(&mut self, line: &mut Line, n: u16) -> i32
-            = lodvarn_record_undo(self.0, line.0, n.into());
-        fn redo(&mut self, line: &mut Line) -> i32 = lodvarn_record_redo(self.0, line.0);
-        fn truncate(&mut self, entries: usize) -> i32 = lodvarn_record_truncate(self.0, entries);
-
-        fn entries(&self) -> usize = lodvarn_record_entries(self.0);
-        fn level(&self) -> usize = lodvarn_record_level(self.0);
-        fn can_undo(&self, line: &Line) -> i32 = lodvarn_record_can_undo(self.0, line.0);
-        fn can_redo(&self, line: &Line) -> i32 = lodvarn_record_can_redo(self.0, line.0);
-        fn replays_to(&self, line: &Line, entries: usize) -> i32
-            = lodvarn_record_replays_to(self.0, line.0, entries);
-        fn last_insert(&self, out: &mut [u8], len: &mut usize) -> i32
-            = lodvarn_record_last_insert(self.0, out.as_mut_ptr(), out.len(), len);
-    }
-}
-
-impl Ring {
-    pub(crate) fn open(size: usize) -> Result<Ring, Fault> {
-        opened(|out| unsafe { lodvarn_killring_open(out, size) }).map(Ring)
-    }
-
-    calls! {
-        fn reset(&mut self) -> i32 = lodvarn_killring_reset(self.0);
-        fn start_killing(&mut self) -> i32 = lodvarn_killring_start_killing(self.0);
-        fn stop_killing(&mut self) -> i32 = lodvarn_killring_stop_killing(self.0);
-        fn kill(&mut self, text: &str, direction: Direction) -> i32
-            = lodvarn_killring_kill(self.0, text.as_ptr(), text.len(), direction as u32);
-        fn delete(&mut self, text: &str, direction: Direction) -> i32
-            = lodvarn_killring_delete(self.0, text.as_ptr(), text.len(), direction as u32);
-
-        fn count(&self) -> usize = lodvarn_killring_count(self.0);
-    }
-
-    calls! {
-        fn yank(&mut self) lends = lodvarn_killring_yank(self.0);
-        fn yank_pop(&mut self, size: &mut usize) lends = lodvarn_killring_yank_pop(self.0, size);
-        fn text(&self, back: usize) lends = lodvarn_killring_text(self.0, back);
     }
 }
 
 pub(crate) fn script(script: &[u8], out: &mut [u8], printed: &mut usize) -> i32 {
-    let (ptr, cap) = (out.as_mut_ptr(), out.len());
-    unsafe { lodvarn_script(script.as_ptr(), script.len(), ptr, cap, printed) }
+    let (at, len) = (script.as_ptr().cast(), script.len());
+    unsafe { lodvarn_script(at, len, out.as_mut_ptr().cast(), out.len(), printed) }
 }
 
 pub(crate) fn width(mode: Mode, text: &str) -> Result<Option<usize>, Fault> {
-    let (ptr, len) = (text.as_ptr(), text.len());
-    written(|out| unsafe { lodvarn_width(mode as u32, ptr, len, out) })
+    written(|out| unsafe { lodvarn_width(mode as u32, start_of(text), text.len(), out) })
 }
 
 pub(crate) fn first_cluster(text: &str) -> Result<Option<usize>, Fault> {
-    written(|out| unsafe { lodvarn_first_cluster(text.as_ptr(), text.len(), out) })
+    written(|out| unsafe { lodvarn_first_cluster(start_of(text), text.len(), out) })
 }
 
 pub(crate) fn last_cluster(text: &str) -> Result<Option<usize>, Fault> {
-    written(|out| unsafe { lodvarn_last_cluster(text.as_ptr(), text.len(), out) })
+    written(|out| unsafe { lodvarn_last_cluster(start_of(text), text.len(), out) })
 }
 
 pub(crate) fn cell(
@@ -364,26 +267,23 @@ pub(crate) fn cell(
     place: usize,
     text: &str,
 ) -> Result<Option<lodvarn_position>, Fault> {
-    let (screen, ptr, len) = (screen.passed(), text.as_ptr(), text.len());
-    written(|out| unsafe { lodvarn_cell(&screen, place, ptr, len, out) })
+    let (screen, at, len) = (screen.passed(), start_of(text), text.len());
+    written(|out| unsafe { lodvarn_cell(&screen, place, at, len, out) })
 }
 
 pub(crate) fn place_at(
     screen: &Screen,
-    (line, column): (usize, usize),
+    cell: Position,
     text: &str,
 ) -> Result<Option<usize>, Fault> {
-    let (screen, ptr, len) = (screen.passed(), text.as_ptr(), text.len());
+    let (screen, at, len) = (screen.passed(), start_of(text), text.len());
+    let Position { line, column } = cell;
     let cell = lodvarn_position { line, column };
-    written(|out| unsafe { lodvarn_place_at(&screen, cell, ptr, len, out) })
-}
-
-pub(crate) fn version() -> u32 {
-    unsafe { lodvarn_version() }
+    written(|out| unsafe { lodvarn_place_at(&screen, cell, at, len, out) })
 }
 
 pub(crate) fn answer_name(answer: i32) -> &'static str {
     // A NUL ends it.
-    let name = unsafe { CStr::from_ptr(lodvarn_answer_name(answer).cast()) };
+    let name = unsafe { CStr::from_ptr(lodvarn_answer_name(answer)) };
     name.to_str().expect("it is ASCII")
 }

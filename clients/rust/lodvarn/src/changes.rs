@@ -1,4 +1,5 @@
 //! What changed in the text of a session: as one splice, as reports, or told to a listener.
+use crate::listeners::ChangeListener;
 use crate::words::{Direction, Fault, ReportKind};
 use crate::{done, ffi, told, Session};
 use std::error::Error;
@@ -19,6 +20,7 @@ pub struct Splice {
 /// A report of a change. Its place is one of the text that the reports before it have led to. Places and lengths are in
 /// bytes.
 #[derive(Clone, Copy, Debug, PartialEq, Eq, Hash)]
+#[non_exhaustive]
 pub struct Report<'s> {
     /// What it is of. `KillStarted` and `KillStopped` are of no change, and all their numbers are 0.
     pub kind: ReportKind,
@@ -40,6 +42,7 @@ pub struct Report<'s> {
 
 impl Report<'_> {
     /// The change as a splice of the text that the reports before it have led to.
+    #[must_use]
     pub fn splice(&self) -> Splice {
         Splice {
             from: self.at,
@@ -62,34 +65,6 @@ impl Report<'_> {
             ReportKind::Folded => {}
         }
     }
-}
-
-/// Hears of deletions, and of kills, from [`Session::tell`] and from the edits of a
-/// [`LineBuffer`](crate::line_buffer::LineBuffer).
-pub trait DeleteListener {
-    /// A kill begins: the deletions up to `stop_killing` are a part of it. Without a body of its own it does nothing.
-    fn start_killing(&mut self) {}
-
-    /// The text `string` was taken out at the byte place `idx`, on the side `dir` of the cursor.
-    fn delete(&mut self, idx: usize, string: &str, dir: Direction);
-
-    /// The kill has ended. Without a body of its own it does nothing.
-    fn stop_killing(&mut self) {}
-}
-
-/// Hears of all changes, from [`Session::tell`] and from the edits of a
-/// [`LineBuffer`](crate::line_buffer::LineBuffer). The changes that it hears of, in their order, make the present text
-/// of the one that it knew.
-pub trait ChangeListener: DeleteListener {
-    /// The character `c` was put in at the byte place `idx`.
-    fn insert_char(&mut self, idx: usize, c: char);
-
-    /// The text `string` was put in at the byte place `idx`.
-    fn insert_str(&mut self, idx: usize, string: &str);
-
-    /// At the byte place `idx` the text `old` gave way to the text `new`. An undo and a redo tell each of their changes
-    /// so.
-    fn replace(&mut self, idx: usize, old: &str, new: &str);
 }
 
 /// Why [`Session::tell`] told a listener nothing.
@@ -175,6 +150,7 @@ impl Session {
     }
 
     /// How many reports wait; a folded one is one.
+    #[must_use]
     pub fn count_reports(&self) -> usize {
         self.handle.count_reports()
     }
@@ -200,6 +176,7 @@ impl Session {
     /// # Ok(())
     /// # }
     /// ```
+    #[must_use]
     pub fn next_report(&self) -> Option<Report<'_>> {
         told(self.handle.next_report())
     }
@@ -207,7 +184,7 @@ impl Session {
     /// Forgets the oldest report. False if none waits. A command between [`next_report`](Session::next_report) and this
     /// may have folded its change into the report. A kill after it still goes on from the kill before it.
     pub fn forget_report(&mut self) -> bool {
-        self.handle.forget_report() > ffi::NOTHING
+        self.handle.forget_report() > ffi::LODVARN_NOTHING
     }
 
     /// Tells a listener of all reports that wait, the oldest first, each by the method of its kind. Each is forgotten

@@ -26,7 +26,7 @@ impl Session {
 
     /// Moves the cursor by a movement. False if there is nowhere to go.
     pub fn move_by(&mut self, movement: Movement) -> bool {
-        self.handle.move_by(movement) > ffi::NOTHING
+        self.handle.move_by(movement) > ffi::LODVARN_NOTHING
     }
 
     /// Inserts a character n times at the cursor, which goes after them.
@@ -150,7 +150,7 @@ impl Session {
     ///
     /// [`Fault::NoMemory`]; the lines before stay indented.
     pub fn indent(&mut self, movement: Movement, amount: u8) -> Result<(), Fault> {
-        done(self.handle.indent(movement, amount, ffi::INDENT))
+        done(self.handle.indent(movement, amount, ffi::LODVARN_INDENT))
     }
 
     /// Deletes up to `amount` bytes of blanks at the start of each line that a movement covers, in a change for each
@@ -160,6 +160,6 @@ impl Session {
     ///
     /// [`Fault::NoMemory`]; the lines before stay dedented.
     pub fn dedent(&mut self, movement: Movement, amount: u8) -> Result<(), Fault> {
-        done(self.handle.indent(movement, amount, ffi::DEDENT))
+        done(self.handle.indent(movement, amount, ffi::LODVARN_DEDENT))
     }
 }

@@ -12,9 +12,10 @@
 //! ```
 //!
 //! What differs from rustyline: the size is a number of its own, and takes no memory before a text is kept. Out of
-//! memory, a call panics with these words. A ring may be sent to another thread, but not shared between threads.
+//! memory, a call panics with these words.
 use crate::calls::Ring;
 use crate::line_buffer::{answered, DeleteListener, Direction};
+use crate::words::Fault;
 use crate::{done, told};
 use std::fmt;
 
@@ -28,7 +29,11 @@ pub enum Mode {
 }
 
 /// A ring of killed texts. It is a listener of deletions, and keeps what is deleted by kills. An insertion takes it
-/// only in a pair, after a listener that hears all.
+/// only in a [`Pair`](crate::Pair), beside a listener that hears all.
+///
+/// # Panics
+///
+/// Every call that may need memory panics if it is refused, with "out of memory".
 pub struct KillRing {
     ring: Ring,
     // The text that was lent last.
@@ -40,6 +45,7 @@ pub struct KillRing {
 /// Keeps a text in the place of the one that was lent last, as rustyline lends a `String`.
 fn keep<'l>(lent: &'l mut String, text: &str) -> &'l String {
     lent.clear();
+    answered(lent.try_reserve(text.len()).map_err(|_| Fault::NoMemory));
     lent.push_str(text);
     lent
 }
@@ -62,7 +68,8 @@ impl KillRing {
         }
     }
 
-    /// Says that something else than a kill or a yank was done. So the next kill begins a new text.
+    /// Says that something else than a kill or a yank was done. So the next kill begins a new text. An editor calls it
+    /// before each command that neither kills nor yanks, motions too; a ring can't tell by itself.
     #[inline]
     pub fn reset(&mut self) {
         if !self.is_reset {
@@ -111,8 +118,8 @@ impl KillRing {
 
     /// The text that is `back` texts before the current one, round the ring. `None` if there are not so many.
     #[must_use]
-    pub fn text_back(&self, back: usize) -> Option<String> {
-        told(self.ring.text(back)).map(str::to_owned)
+    pub fn text_back(&self, back: usize) -> Option<&str> {
+        told(self.ring.text(back))
     }
 }
 

@@ -16,7 +16,7 @@
 //! A place is a number of bytes from the start of the text, and a boundary, as an index of a `str` is. A count is of
 //! grapheme clusters, words, lines or repetitions. Lines, rows and columns are numbered from 0. A text that a session
 //! returns is lent: it borrows the session. Each call names the faults that it returns, and [`Fault`] says what they
-//! leave. `docs/RULES.md` says exactly what each call does.
+//! leave. `docs/RULES.md` of the repository says exactly what each call does.
 //!
 //! A [`Session`] keeps a line, its record and its ring in step. An editor that was written for rustyline 19.0.0's own
 //! types, or that brings them together in its own way, finds them under their names in [`line_buffer`], [`undo`],
@@ -24,7 +24,7 @@
 //!
 //! The crate links the archive of the library, which `lodvarn-sys` finds.
 #![deny(missing_docs, unsafe_code, unsafe_op_in_unsafe_fn)]
-#![warn(clippy::missing_errors_doc)]
+#![warn(clippy::missing_errors_doc, clippy::must_use_candidate)]
 
 pub mod keymap;
 pub mod kill_ring;
@@ -36,6 +36,7 @@ mod builder;
 mod calls;
 mod changes;
 mod edits;
+mod listeners;
 mod reads;
 mod record;
 mod ring;
@@ -43,26 +44,22 @@ mod texts;
 mod words;
 
 pub use builder::SessionBuilder;
-pub use changes::{ChangeListener, DeleteListener, Report, Splice, Untold};
+pub use changes::{Report, Splice, Untold};
+pub use listeners::{ChangeListener, DeleteListener, NoListener, Pair};
 pub use record::Group;
-pub use texts::{first_cluster, last_cluster, run_script, version, width};
+pub use texts::{first_cluster, last_cluster, run_script, width};
 pub use words::{
-    At, Case, CharSearch, Direction, Fault, Inserted, Mode, Movement, Options, ReportKind, Screen,
-    Word,
+    At, Case, CharSearch, Cluster, Direction, Fault, Inserted, Mode, Movement, Options, Position,
+    ReportKind, Screen, Word,
 };
 
 use calls::Handle;
+use ffi::lodvarn;
 use lodvarn_sys as ffi;
 use std::fmt;
 
-/// The version of this crate, and of the library that it is for.
+/// The version of this crate, and of the library that it links: with another one it is not built.
 pub const VERSION: &str = env!("CARGO_PKG_VERSION");
-
-/// The limit of a text that may grow to any length.
-pub const NO_LIMIT: usize = ffi::NO_LIMIT;
-
-/// The bound of a record that forgets nothing.
-pub const NO_BOUND: usize = ffi::NO_BOUND;
 
 /// A text with its cursor, a ring of killed texts, and the record of its changes. [`Session::builder`] opens one.
 ///
@@ -82,7 +79,7 @@ pub const NO_BOUND: usize = ffi::NO_BOUND;
 /// assert_eq!(text, "on");
 /// ```
 pub struct Session {
-    handle: Handle,
+    handle: Handle<lodvarn>,
     // Whether it has a queue of reports that have texts, which the library does not tell.
     keeps_texts: bool,
 }
@@ -108,7 +105,7 @@ fn found(answer: i32) -> Result<bool, Fault> {
     if answer < 0 {
         return Err(Fault::of(answer));
     }
-    Ok(answer > ffi::NOTHING)
+    Ok(answer > ffi::LODVARN_NOTHING)
 }
 
 #[inline]
@@ -125,4 +122,21 @@ fn told<T>(answer: Result<Option<T>, Fault>) -> Option<T> {
 /// The same of a call that always finds something.
 fn sure<T>(answer: Result<Option<T>, Fault>) -> T {
     told(answer).expect("it is there")
+}
+
+/// A copy of a text.
+fn owned(text: &str) -> Result<String, Fault> {
+    let mut copy = String::new();
+    copy.try_reserve_exact(text.len())
+        .map_err(|_| Fault::NoMemory)?;
+    copy.push_str(text);
+    Ok(copy)
+}
+
+/// A buffer of so many bytes.
+fn room(len: usize) -> Result<Vec<u8>, Fault> {
+    let mut out = Vec::new();
+    out.try_reserve_exact(len).map_err(|_| Fault::NoMemory)?;
+    out.resize(len, 0);
+    Ok(out)
 }

@@ -1,10 +1,11 @@
 //! What is read of a session. A read changes nothing, and a kill after it still goes on from the kill before it.
-use crate::words::{Fault, Movement, Options};
+use crate::words::{Cluster, Fault, Movement, Options, Position};
 use crate::{sure, told, Session};
 use std::ops::Range;
 
 impl Session {
     /// The text.
+    #[must_use]
     pub fn text(&self) -> &str {
         told(self.handle.text()).unwrap_or_default()
     }
@@ -19,32 +20,37 @@ impl Session {
     }
 
     /// The place of the cursor, in bytes.
+    #[must_use]
     pub fn pos(&self) -> usize {
         self.handle.pos()
     }
 
     /// What is chosen of the session.
+    #[must_use]
     pub fn options(&self) -> Options {
         self.handle.options()
     }
 
     /// The number of the cursor's line, from 0.
+    #[must_use]
     pub fn cursor_line(&self) -> usize {
         self.handle.cursor_line()
     }
 
     /// How many lines the text has.
+    #[must_use]
     pub fn count_lines(&self) -> usize {
         self.handle.count_lines()
     }
 
-    /// The number of the cursor's line, and the width of that line before the cursor, at most 65535.
-    pub fn find_cursor(&self) -> (usize, usize) {
-        let cursor = sure(self.handle.find_cursor());
-        (cursor.line, cursor.column)
+    /// Where the cursor is: its line, and the width of that line before it, at most 65535.
+    #[must_use]
+    pub fn find_cursor(&self) -> Position {
+        Position::of(sure(self.handle.find_cursor()))
     }
 
     /// The range of a line, without its newline, or `None` if there is no such line.
+    #[must_use]
     pub fn find_line(&self, line: usize) -> Option<Range<usize>> {
         told(self.handle.find_line(line)).map(|it| it.from..it.to)
     }
@@ -61,26 +67,28 @@ impl Session {
     /// # Ok(())
     /// # }
     /// ```
+    #[must_use]
     pub fn covers(&self, movement: Movement) -> Option<Range<usize>> {
         told(self.handle.covers(movement)).map(|it| it.from..it.to)
     }
 
     /// The place where [`move_by`](Session::move_by) would bring the cursor, or `None` if there is nowhere to go.
+    #[must_use]
     pub fn destination(&self, movement: Movement) -> Option<usize> {
         told(self.handle.destination(movement))
     }
 
-    /// The end of the first grapheme cluster from a place on, and how many columns that cluster takes. `None` at the
-    /// end of the text. It takes as long as the cluster does, however long the text is.
+    /// The first grapheme cluster from a place on. `None` at the end of the text. It takes as long as the cluster does,
+    /// however long the text is.
     ///
     /// ```
     /// # use lodvarn::{Fault, Session};
     /// # fn main() -> Result<(), Fault> {
     /// let session = Session::builder().text("e\u{301}漢").open()?;
     /// let (mut place, mut columns) = (0, vec![]);
-    /// while let Some((end, taken)) = session.cluster_at(place)? {
-    ///     columns.push((place..end, taken));
-    ///     place = end;
+    /// while let Some(cluster) = session.cluster_at(place)? {
+    ///     columns.push((place..cluster.end, cluster.columns));
+    ///     place = cluster.end;
     /// }
     /// assert_eq!(columns, [(0..3, 1), (3..6, 2)]);
     /// # Ok(())
@@ -90,8 +98,11 @@ impl Session {
     /// # Errors
     ///
     /// [`Fault::BadPlace`].
-    pub fn cluster_at(&self, place: usize) -> Result<Option<(usize, usize)>, Fault> {
-        let cluster = self.handle.cluster_at(place)?;
-        Ok(cluster.map(|it| (it.end, it.columns)))
+    pub fn cluster_at(&self, place: usize) -> Result<Option<Cluster>, Fault> {
+        let found = self.handle.cluster_at(place)?;
+        Ok(found.map(|it| Cluster {
+            end: it.end,
+            columns: it.columns,
+        }))
     }
 }

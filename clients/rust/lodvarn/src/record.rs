@@ -15,13 +15,13 @@ pub struct Group<'s> {
 }
 
 impl Group<'_> {
-    /// Closes the group. Whether it has a change.
+    /// Closes a group. Whether it has a change. It is no method, since a group has those of its session.
     ///
     /// # Errors
     ///
     /// [`Fault::NoMemory`]; the group may stay open, and a drop would leave it so without a word.
-    pub fn close(mut self) -> Result<bool, Fault> {
-        self.close_open()
+    pub fn close(mut group: Self) -> Result<bool, Fault> {
+        group.close_open()
     }
 
     fn close_open(&mut self) -> Result<bool, Fault> {
@@ -113,6 +113,7 @@ impl Session {
     }
 
     /// How many groups are open.
+    #[must_use]
     pub fn level(&self) -> usize {
         self.handle.level()
     }
@@ -135,17 +136,20 @@ impl Session {
         found(self.handle.redo())
     }
 
-    /// Whether an undo would find a change.
+    /// Whether an undo of one would find a change.
+    #[must_use]
     pub fn can_undo(&self) -> bool {
         self.handle.can_undo()
     }
 
     /// Whether a redo would find a change.
+    #[must_use]
     pub fn can_redo(&self) -> bool {
         self.handle.can_redo()
     }
 
     /// How many entries the record has: changes, and the marks where groups begin and end.
+    #[must_use]
     pub fn entries(&self) -> usize {
         self.handle.entries()
     }
@@ -170,7 +174,7 @@ impl Session {
     /// # fn main() -> Result<(), Fault> {
     /// let mut session = Session::builder().open()?;
     /// let mut options = session.options();
-    /// options.max_entries = 2;
+    /// options.max_entries = Some(2);
     /// session.set_options(&options)?;
     /// for text in ["one", " two", " three"] {
     ///     session.paste(text, 1)?;

@@ -1,6 +1,6 @@
 //! Kills, yanks, and the texts that the ring keeps.
 use crate::words::{Direction, Fault, Inserted, Movement};
-use crate::{done, found, told, Session};
+use crate::{done, found, room, told, Session};
 use std::ops::Range;
 
 impl Session {
@@ -57,11 +57,14 @@ impl Session {
 
     /// The text that a movement covers, or `None` if it covers nothing. The ring does not keep it: that is
     /// [`keep`](Session::keep). This is a command: a kill after it begins a new text of the ring.
-    pub fn copy(&mut self, movement: Movement) -> Option<String> {
-        let mut out = vec![0; self.covers(movement).map_or(0, |it| it.len())];
-        let answer = self.handle.copy(movement, &mut out, &mut 0);
-        let is_copied = found(answer).expect("it fits");
-        is_copied.then(|| String::from_utf8(out).expect("the library's texts are UTF-8"))
+    ///
+    /// # Errors
+    ///
+    /// [`Fault::NoMemory`]; nothing is done.
+    pub fn copy(&mut self, movement: Movement) -> Result<Option<String>, Fault> {
+        let (mut out, mut len) = (room(self.covers(movement).map_or(0, |it| it.len()))?, 0);
+        let is_copied = found(self.handle.copy(movement, &mut out, &mut len))?;
+        Ok(is_copied.then(|| String::from_utf8(out).expect("the library's texts are UTF-8")))
     }
 
     /// Inserts the ring's current text n times at the cursor. [`Inserted::Nothing`] if the ring has no text, or an empty
@@ -87,11 +90,13 @@ impl Session {
     }
 
     /// Whether the last command was a `yank` or `yank_pop` that found a text. A yank with n = 0 counts.
+    #[must_use]
     pub fn last_was_yank(&self) -> bool {
         self.handle.last_was_yank()
     }
 
     /// How many texts the ring has.
+    #[must_use]
     pub fn ring_count(&self) -> usize {
         self.handle.ring_count()
     }
@@ -110,6 +115,7 @@ impl Session {
     /// # Ok(())
     /// # }
     /// ```
+    #[must_use]
     pub fn ring_text(&self, back: usize) -> Option<&str> {
         told(self.handle.ring_text(back))
     }

@@ -1,6 +1,6 @@
 //! The calls without a session.
-use crate::words::{Fault, Mode, Screen};
-use crate::{calls, done, sure, told};
+use crate::words::{Fault, Mode, Position, Screen};
+use crate::{calls, done, room, sure, told};
 
 /// What a script prints, run in a session of its own.
 ///
@@ -8,28 +8,32 @@ use crate::{calls, done, sure, told};
 ///
 /// [`Fault::NoMemory`]; what was printed before is lost.
 pub fn run_script(script: &[u8]) -> Result<Vec<u8>, Fault> {
-    let mut out = vec![0; script.len()];
+    let mut out = room(script.len())?;
     loop {
-        let (mut len, cap) = (0, out.len());
+        let mut len = 0;
         done(calls::script(script, &mut out, &mut len))?;
-        out.resize(len, 0);
-        if len <= cap {
+        if len <= out.len() {
+            out.truncate(len);
             return Ok(out);
         }
+        out = room(len)?;
     }
 }
 
 /// The number of columns that a text takes, at most 65535.
+#[must_use]
 pub fn width(mode: Mode, text: &str) -> usize {
     sure(calls::width(mode, text))
 }
 
 /// The first grapheme cluster of a text, empty if the text is empty.
+#[must_use]
 pub fn first_cluster(text: &str) -> &str {
     &text[..told(calls::first_cluster(text)).unwrap_or(0)]
 }
 
 /// The last grapheme cluster of a text, empty if the text is empty.
+#[must_use]
 pub fn last_cluster(text: &str) -> &str {
     &text[text.len() - told(calls::last_cluster(text)).unwrap_or(0)..]
 }
@@ -41,32 +45,28 @@ impl Screen {
     /// # Errors
     ///
     /// [`Fault::BadPlace`].
-    pub fn cell(&self, place: usize, text: &str) -> Result<(usize, usize), Fault> {
-        calls::cell(self, place, text).map(|cell| cell.map_or((0, 0), |it| (it.line, it.column)))
+    pub fn cell(&self, place: usize, text: &str) -> Result<Position, Fault> {
+        let cell = calls::cell(self, place, text)?;
+        Ok(cell.map_or(Position::default(), Position::of))
     }
 
     /// The place of a text that is shown at a row and a column, as of a click of the mouse: the last place between two
     /// clusters whose [`cell`](Screen::cell) is not after that one, by rows and then by columns. 0 if there is none.
     ///
     /// ```
-    /// # use lodvarn::{Fault, Mode, Screen};
+    /// # use lodvarn::{Fault, Position, Screen};
     /// # fn main() -> Result<(), Fault> {
-    /// let columns = 80u16.try_into().expect("80 is not 0");
-    /// let screen = Screen { columns, prompt: 2, tab: 8, mode: Mode::Unicode };
-    /// assert_eq!(screen.cell(6, "one\ntwo")?, (1, 2));
-    /// assert_eq!(screen.place_at((1, 2), "one\ntwo"), 6);
-    /// assert_eq!(screen.place_at((0, 70), "one\ntwo"), 3);
+    /// let mut screen = Screen::new(80u16.try_into().expect("80 is not 0"));
+    /// screen.prompt = 2;
+    /// let cell = Position { line: 1, column: 2 };
+    /// assert_eq!(screen.cell(6, "one\ntwo")?, cell);
+    /// assert_eq!(screen.place_at(cell, "one\ntwo"), 6);
+    /// assert_eq!(screen.place_at(Position { line: 0, column: 70 }, "one\ntwo"), 3);
     /// # Ok(())
     /// # }
     /// ```
-    pub fn place_at(&self, cell: (usize, usize), text: &str) -> usize {
+    #[must_use]
+    pub fn place_at(&self, cell: Position, text: &str) -> usize {
         sure(calls::place_at(self, cell, text))
     }
-}
-
-/// The version of the library that is linked. It is [`VERSION`](crate::VERSION), since with another one the crate is not
-/// built.
-pub fn version() -> String {
-    let number = calls::version();
-    format!("{}.{}.{}", number >> 16, number >> 8 & 255, number & 255)
 }

@@ -21,22 +21,27 @@
 //!   [`undo`](Changeset::undo) and [`redo`](Changeset::redo) panic, and [`try_undo`](Changeset::try_undo) and
 //!   [`try_redo`](Changeset::try_redo) return [`Fault::NotReplaying`]. Record and line are as they were then. Only
 //!   texts are compared: a record of another line that has the same text there is not refused.
-//! - `redo` and [`end_one`](Changeset::end_one) are public, and a record tells how long it is and what fits a line.
+//! - `redo` and [`end_one`](Changeset::end_one) are public. A record tells how long it is, whether there is something to
+//!   undo or to redo, and whether that fits a line.
 //! - [`truncate`](Changeset::truncate) forgets what was undone.
-//! - Out of memory, a call panics with these words. `try_undo` and `try_redo` return [`Fault::NoMemory`]; only the room
-//!   for a text that they bring back is found as a `String` finds it, which ends the process if it is refused.
-//! - A record may be sent to another thread, but not shared between threads.
+//! - Out of memory, a call panics with these words. `try_undo` and `try_redo` return [`Fault::NoMemory`].
 use crate::calls::Record;
 use crate::keymap::RepeatCount;
-use crate::line_buffer::{
-    answered, ChangeListener, DeleteListener, Direction, LineBuffer, NoListener,
-};
+use crate::line_buffer::{answered, ChangeListener, DeleteListener, Direction, LineBuffer};
 use crate::words::Fault;
-use crate::{done, ffi, found};
+use crate::{done, ffi, found, room};
 use std::fmt;
 
 /// A record of changes. It is a listener, and undoes what it has heard.
-pub struct Changeset(Record);
+///
+/// # Panics
+///
+/// Every call that may need memory panics if it is refused, with "out of memory", but the `try_` calls.
+pub struct Changeset {
+    record: Record,
+    // How many entries were undone and may be redone, which the library does not tell.
+    undone: usize,
+}
 
 impl Default for Changeset {
     fn default() -> Self {
@@ -58,51 +63,70 @@ impl Changeset {
     /// An empty record.
     #[must_use]
     pub fn new() -> Self {
-        Changeset(answered(Record::open()))
+        Changeset {
+            record: answered(Record::open()),
+            undone: 0,
+        }
+    }
+
+    // Takes what a call answers that drops what was undone, as each does that records something.
+    #[inline]
+    fn recorded(&mut self, answer: i32) -> bool {
+        let has_changed = answered(found(answer));
+        self.undone = 0;
+        has_changed
     }
 
     /// Begins a group: once it is closed, one undo takes back all its changes. The number of entries before it.
     pub fn begin(&mut self) -> usize {
         let mark = self.len();
-        answered(done(self.0.begin_group()));
+        let answer = self.record.begin_group();
+        self.recorded(answer);
         mark
     }
 
     /// Closes all open groups. False if they have no change, or none is open.
     pub fn end(&mut self) -> bool {
-        answered(found(self.0.end_all_groups()))
+        let answer = self.record.end_all_groups();
+        self.recorded(answer)
     }
 
     /// Closes the innermost group. False if it has no change, or none is open.
     pub fn end_one(&mut self) -> bool {
-        answered(found(self.0.end_group()))
+        let answer = self.record.end_group();
+        self.recorded(answer)
     }
 
     /// Records that a character was inserted. A letter or digit joins the insertion before it.
     #[inline]
     pub fn insert(&mut self, idx: usize, c: char) {
-        answered(done(self.0.insert_char(idx, c)));
+        let answer = self.record.insert_char(idx, c);
+        self.recorded(answer);
     }
 
     /// Records that a text was inserted.
     pub fn insert_str<S: AsRef<str>>(&mut self, idx: usize, string: S) {
-        answered(done(self.0.insert(idx, string.as_ref())));
+        let answer = self.record.insert(idx, string.as_ref());
+        self.recorded(answer);
     }
 
     /// Records that a text was deleted. A letter or digit joins the deletion before it.
     pub fn delete<S: AsRef<str>>(&mut self, indx: usize, string: S) {
-        answered(done(self.0.delete(indx, string.as_ref())));
+        let answer = self.record.delete(indx, string.as_ref());
+        self.recorded(answer);
     }
 
     /// Records that a text gave way to another one. It joins the replacement before it.
     pub fn replace<S: AsRef<str>>(&mut self, indx: usize, old_: S, new_: S) {
-        answered(done(self.0.replace(indx, old_.as_ref(), new_.as_ref())));
+        let (old, new) = (old_.as_ref(), new_.as_ref());
+        let answer = self.record.replace(indx, old, new);
+        self.recorded(answer);
     }
 
     /// Records where the cursor was before the change that was recorded last, and where it went. Then an undo brings it
     /// back there, and a redo where it went; without this call it goes to the end of what comes into the text.
     pub fn cursors(&mut self, before: usize, after: usize) {
-        answered(done(self.0.cursors(before, after)));
+        answered(done(self.record.cursors(before, after)));
     }
 
     /// Undoes the last n changes and groups in a line, one if n is 0, all if there are fewer. False if there
@@ -121,8 +145,10 @@ impl Changeset {
     ///
     /// [`Fault::NotReplaying`], [`Fault::NoMemory`]; nothing is undone.
     pub fn try_undo(&mut self, line: &mut LineBuffer, n: RepeatCount) -> Result<bool, Fault> {
-        line.edit(0, &mut NoListener, |line| self.0.undo(line, n))
-            .and_then(found)
+        let entries = self.len();
+        let answer = line.change(|line| self.record.undo(line, n));
+        self.undone += entries - self.len();
+        found(answer)
     }
 
     /// Redoes in a line what was undone last, one change or group. False if there is none. No listener hears of it.
@@ -140,32 +166,44 @@ impl Changeset {
     ///
     /// [`Fault::NotReplaying`], [`Fault::NoMemory`]; nothing is redone.
     pub fn try_redo(&mut self, line: &mut LineBuffer) -> Result<bool, Fault> {
-        line.edit(0, &mut NoListener, |line| self.0.redo(line))
-            .and_then(found)
+        let entries = self.len();
+        let answer = line.change(|line| self.record.redo(line));
+        self.undone -= self.len() - entries;
+        found(answer)
     }
 
     /// Keeps the first `len` entries, and forgets the others and what was undone.
     pub fn truncate(&mut self, len: usize) {
-        answered(done(self.0.truncate(len)));
+        let answer = self.record.truncate(len);
+        self.recorded(answer);
     }
 
     /// The text that the last change put in. `None` if it put in none.
     #[must_use]
     pub fn last_insert(&self) -> Option<String> {
+        answered(self.try_last_insert())
+    }
+
+    /// [`last_insert`](Changeset::last_insert), where memory may be refused.
+    ///
+    /// # Errors
+    ///
+    /// [`Fault::NoMemory`].
+    pub fn try_last_insert(&self) -> Result<Option<String>, Fault> {
         let (mut out, mut len) = (Vec::new(), 0);
-        let mut answer = self.0.last_insert(&mut out, &mut len);
-        if answer == ffi::TOO_SMALL {
-            out.resize(len, 0);
-            answer = self.0.last_insert(&mut out, &mut len);
+        let mut answer = self.record.last_insert(&mut out, &mut len);
+        if answer == ffi::LODVARN_TOO_SMALL {
+            out = room(len)?;
+            answer = self.record.last_insert(&mut out, &mut len);
         }
-        let is_found = answered(found(answer));
-        is_found.then(|| String::from_utf8(out).expect("the library's texts are UTF-8"))
+        let is_found = found(answer)?;
+        Ok(is_found.then(|| String::from_utf8(out).expect("the library's texts are UTF-8")))
     }
 
     /// How many entries there are: changes, and the marks where groups begin and end.
     #[must_use]
     pub fn len(&self) -> usize {
-        self.0.entries()
+        self.record.entries()
     }
 
     /// Whether there is no entry.
@@ -177,26 +215,40 @@ impl Changeset {
     /// How many groups are open.
     #[must_use]
     pub fn level(&self) -> usize {
-        self.0.level()
+        self.record.level()
     }
 
-    /// Whether all changes can be taken back from the line's text, so that no undo is refused.
+    /// Whether there is a change to undo. Right after a `begin` an undo of one takes back that alone, and no change.
     #[must_use]
-    pub fn can_undo(&self, line: &LineBuffer) -> bool {
-        answered(found(line.asked(|line| self.0.can_undo(line))))
+    pub fn can_undo(&self) -> bool {
+        self.len() > self.level()
     }
 
-    /// Whether all that was undone can be made again in the line's text, so that no redo is refused.
+    /// Whether there is something to redo: a change, or a `begin` that was undone.
     #[must_use]
-    pub fn can_redo(&self, line: &LineBuffer) -> bool {
-        answered(found(line.asked(|line| self.0.can_redo(line))))
+    pub fn can_redo(&self) -> bool {
+        self.undone > 0
+    }
+
+    /// Whether all changes can be taken back from the line's text, so that no undo is refused. So it is too if there is
+    /// none.
+    #[must_use]
+    pub fn undo_fits(&self, line: &LineBuffer) -> bool {
+        answered(found(self.record.undo_fits(line.raw())))
+    }
+
+    /// Whether all that was undone can be made again in the line's text, so that no redo is refused. So it is too if
+    /// nothing was undone.
+    #[must_use]
+    pub fn redo_fits(&self, line: &LineBuffer) -> bool {
+        answered(found(self.record.redo_fits(line.raw())))
     }
 
     /// Whether the first `len` entries lead to the line's text by themselves, as after a
     /// [`truncate`](Changeset::truncate).
     #[must_use]
     pub fn replays_to(&self, len: usize, line: &LineBuffer) -> bool {
-        answered(found(line.asked(|line| self.0.replays_to(line, len))))
+        answered(found(self.record.replays_to(line.raw(), len)))
     }
 }
 

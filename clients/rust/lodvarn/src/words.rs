@@ -10,11 +10,11 @@ use std::num::NonZeroU16;
 pub enum Mode {
     /// The width of the whole text, an emoji sequence as one emoji.
     #[default]
-    Unicode = ffi::UNICODE,
+    Unicode = ffi::LODVARN_UNICODE,
     /// The sum of the widths of its characters.
-    WcWidth = ffi::WC_WIDTH,
+    WcWidth = ffi::LODVARN_WC_WIDTH,
     /// The sum of the widths of the parts between zero-width joiners.
-    NoZwj = ffi::NO_ZWJ,
+    NoZwj = ffi::LODVARN_NO_ZWJ,
 }
 
 /// What belongs to a word.
@@ -22,11 +22,11 @@ pub enum Mode {
 #[repr(u32)]
 pub enum Word {
     /// Everything but blanks.
-    Big = ffi::BIG,
+    Big = ffi::LODVARN_BIG,
     /// Letters and digits.
-    Emacs = ffi::EMACS,
+    Emacs = ffi::LODVARN_EMACS,
     /// Letters, digits and `_`. A run of other characters except blanks is a word too.
-    Vi = ffi::VI,
+    Vi = ffi::LODVARN_VI,
 }
 
 /// Where a motion forward by words stops.
@@ -34,11 +34,11 @@ pub enum Word {
 #[repr(u32)]
 pub enum At {
     /// At the start of a word.
-    Start = ffi::AT_START,
+    Start = ffi::LODVARN_AT_START,
     /// At the last cluster of a word; after an Emacs word.
-    BeforeEnd = ffi::BEFORE_END,
+    BeforeEnd = ffi::LODVARN_BEFORE_END,
     /// After a word.
-    AfterEnd = ffi::AFTER_END,
+    AfterEnd = ffi::LODVARN_AFTER_END,
 }
 
 /// The letter case that a word gets.
@@ -46,11 +46,11 @@ pub enum At {
 #[repr(u32)]
 pub enum Case {
     /// The first character in upper case, the others in lower case.
-    Capitalize = ffi::CAPITALIZE,
+    Capitalize = ffi::LODVARN_CAPITALIZE,
     /// All in lower case.
-    Lowercase = ffi::LOWERCASE,
+    Lowercase = ffi::LODVARN_LOWERCASE,
     /// All in upper case.
-    Uppercase = ffi::UPPERCASE,
+    Uppercase = ffi::LODVARN_UPPERCASE,
 }
 
 /// Where a search for a character goes.
@@ -64,6 +64,19 @@ pub enum CharSearch {
     Backward(char),
     /// Back, to the place after the character; a deletion leaves it.
     BackwardAfter(char),
+}
+
+impl CharSearch {
+    /// Its place among the searches of the header, and its character.
+    fn passed(self) -> (u32, char) {
+        let (search, c) = match self {
+            CharSearch::Forward(c) => (ffi::LODVARN_TO, c),
+            CharSearch::ForwardBefore(c) => (ffi::LODVARN_TO_BEFORE, c),
+            CharSearch::Backward(c) => (ffi::LODVARN_BACK_TO, c),
+            CharSearch::BackwardAfter(c) => (ffi::LODVARN_BACK_TO_AFTER, c),
+        };
+        (search - ffi::LODVARN_TO, c)
+    }
 }
 
 /// Where a motion goes, and what a kill, a copy or an indent covers.
@@ -105,37 +118,36 @@ pub enum Movement {
 }
 
 impl Movement {
-    /// As the library has it.
+    /// As the library has it: what the functions of the header make.
     pub(crate) fn passed(self) -> ffi::lodvarn_movement {
-        let plain = |kind| (kind, 0, 0);
-        let search = |search, c: char, n| (ffi::SEARCH_ + search - ffi::TO, c.into(), n);
-        let (kind, c, n) = match self {
-            Movement::WholeLine => plain(ffi::WHOLE_LINE_),
-            Movement::BeginningOfLine => plain(ffi::TO_LINE_START_),
-            Movement::EndOfLine => plain(ffi::TO_LINE_END_),
-            Movement::BackwardWord(n, word) => (ffi::WORDS_BACK_ + word as u32 - ffi::BIG, 0, n),
+        use ffi::*;
+        let word_of = |word| word as u32 - LODVARN_BIG;
+        let (kind, n) = match self {
+            Movement::WholeLine => (LODVARN_WHOLE_LINE_, 0),
+            Movement::BeginningOfLine => (LODVARN_TO_LINE_START_, 0),
+            Movement::EndOfLine => (LODVARN_TO_LINE_END_, 0),
+            Movement::BackwardWord(n, word) => (LODVARN_WORDS_BACK_ + word_of(word), n),
             Movement::ForwardWord(n, at, word) => {
-                let kind = ffi::WORDS_FORWARD_ + 3 * (word as u32 - ffi::BIG);
-                (kind + at as u32 - ffi::AT_START, 0, n)
+                let stop = at as u32 - LODVARN_AT_START;
+                (LODVARN_WORDS_FORWARD_ + 3 * word_of(word) + stop, n)
             }
-            Movement::ViCharSearch(n, CharSearch::Forward(c)) => search(ffi::TO, c, n),
-            Movement::ViCharSearch(n, CharSearch::ForwardBefore(c)) => search(ffi::TO_BEFORE, c, n),
-            Movement::ViCharSearch(n, CharSearch::Backward(c)) => search(ffi::BACK_TO, c, n),
-            Movement::ViCharSearch(n, CharSearch::BackwardAfter(c)) => {
-                search(ffi::BACK_TO_AFTER, c, n)
-            }
-            Movement::ViFirstPrint => plain(ffi::FROM_FIRST_WORD_),
-            Movement::BackwardChar(n) => (ffi::CHARS_BACK_, 0, n),
-            Movement::ForwardChar(n) => (ffi::CHARS_FORWARD_, 0, n),
-            Movement::LineUp(n) => (ffi::LINES_UP_, 0, n),
-            Movement::LineDown(n) => (ffi::LINES_DOWN_, 0, n),
-            Movement::WholeBuffer => plain(ffi::WHOLE_TEXT_),
-            Movement::BeginningOfBuffer => plain(ffi::TO_TEXT_START_),
-            Movement::EndOfBuffer => plain(ffi::TO_TEXT_END_),
-            Movement::FirstNonBlank => plain(ffi::TO_FIRST_NONBLANK_),
+            Movement::ViCharSearch(n, search) => (LODVARN_SEARCH_ + search.passed().0, n),
+            Movement::ViFirstPrint => (LODVARN_FROM_FIRST_WORD_, 0),
+            Movement::BackwardChar(n) => (LODVARN_CHARS_BACK_, n),
+            Movement::ForwardChar(n) => (LODVARN_CHARS_FORWARD_, n),
+            Movement::LineUp(n) => (LODVARN_LINES_UP_, n),
+            Movement::LineDown(n) => (LODVARN_LINES_DOWN_, n),
+            Movement::WholeBuffer => (LODVARN_WHOLE_TEXT_, 0),
+            Movement::BeginningOfBuffer => (LODVARN_TO_TEXT_START_, 0),
+            Movement::EndOfBuffer => (LODVARN_TO_TEXT_END_, 0),
+            Movement::FirstNonBlank => (LODVARN_TO_FIRST_NONBLANK_, 0),
+        };
+        let c = match self {
+            Movement::ViCharSearch(_, search) => search.passed().1.into(),
+            _ => 0,
         };
         let n = n.into();
-        ffi::lodvarn_movement { kind, c, n }
+        lodvarn_movement { kind, c, n }
     }
 }
 
@@ -145,36 +157,36 @@ impl Movement {
 #[non_exhaustive]
 pub enum ReportKind {
     /// A character was put in.
-    CharInserted = ffi::CHAR_INSERTED,
+    CharInserted = ffi::LODVARN_CHAR_INSERTED,
     /// A text was put in.
-    TextInserted = ffi::TEXT_INSERTED,
+    TextInserted = ffi::LODVARN_TEXT_INSERTED,
     /// A text was taken out, from the cursor on; also wherever the cursor was, as by `set_text`, `yank_pop`,
     /// `delete_range` and `kill_range`.
-    DeletedForward = ffi::DELETED_FORWARD,
+    DeletedForward = ffi::LODVARN_DELETED_FORWARD,
     /// A text was taken out, up to the cursor; by `kill_range` also wherever the cursor was.
-    DeletedBackward = ffi::DELETED_BACKWARD,
+    DeletedBackward = ffi::LODVARN_DELETED_BACKWARD,
     /// A text gave way to another; so does each change of an undo and of a redo.
-    Replaced = ffi::REPLACED,
+    Replaced = ffi::LODVARN_REPLACED,
     /// The deletions up to the next report of the kind `KillStopped` are a kill. This one is of no change.
-    KillStarted = ffi::KILL_STARTED,
+    KillStarted = ffi::LODVARN_KILL_STARTED,
     /// The kill has ended. This one is of no change.
-    KillStopped = ffi::KILL_STOPPED,
+    KillStopped = ffi::LODVARN_KILL_STOPPED,
     /// All that waited and all that came since, as one change, without its texts: what came stands in the present text.
-    Folded = ffi::FOLDED,
+    Folded = ffi::LODVARN_FOLDED,
 }
 
 impl ReportKind {
     /// The kind of a number that the library wrote.
     pub(crate) fn of(number: u32) -> ReportKind {
         match number {
-            ffi::CHAR_INSERTED => ReportKind::CharInserted,
-            ffi::TEXT_INSERTED => ReportKind::TextInserted,
-            ffi::DELETED_FORWARD => ReportKind::DeletedForward,
-            ffi::DELETED_BACKWARD => ReportKind::DeletedBackward,
-            ffi::REPLACED => ReportKind::Replaced,
-            ffi::KILL_STARTED => ReportKind::KillStarted,
-            ffi::KILL_STOPPED => ReportKind::KillStopped,
-            ffi::FOLDED => ReportKind::Folded,
+            ffi::LODVARN_CHAR_INSERTED => ReportKind::CharInserted,
+            ffi::LODVARN_TEXT_INSERTED => ReportKind::TextInserted,
+            ffi::LODVARN_DELETED_FORWARD => ReportKind::DeletedForward,
+            ffi::LODVARN_DELETED_BACKWARD => ReportKind::DeletedBackward,
+            ffi::LODVARN_REPLACED => ReportKind::Replaced,
+            ffi::LODVARN_KILL_STARTED => ReportKind::KillStarted,
+            ffi::LODVARN_KILL_STOPPED => ReportKind::KillStopped,
+            ffi::LODVARN_FOLDED => ReportKind::Folded,
             _ => unreachable!("the library wrote the kind {number}"),
         }
     }
@@ -186,9 +198,9 @@ impl ReportKind {
 pub enum Direction {
     /// From the cursor on, or on no side of it, as by `set_text`. The ring puts it after what the kill before it took.
     #[default]
-    Forward = ffi::FORWARD,
+    Forward = ffi::LODVARN_FORWARD,
     /// Up to the cursor. The ring puts it before what the kill before it took.
-    Backward = ffi::BACKWARD,
+    Backward = ffi::LODVARN_BACKWARD,
 }
 
 /// What may be chosen of a session. Begin with those of a session, or with [`Options::default`], and change what should
@@ -201,17 +213,17 @@ pub struct Options {
     /// The column where the text begins, after a prompt: [`Movement::LineUp`] and [`Movement::LineDown`] keep to the
     /// column of the screen if they come to the first line or leave it. At first 0.
     pub prompt: u16,
-    /// How many bytes the text may have, [`NO_LIMIT`](crate::NO_LIMIT) for any number; as many as it has if that is
-    /// more. At first 4096. It rises if a call that asks for no limit makes the text longer, as
-    /// [`replace`](crate::Session::replace) and [`undo`](crate::Session::undo).
-    pub limit: usize,
+    /// How many bytes the text may have, `None` for any number; as many as it has if that is more. At first 4096. It
+    /// rises if a call that asks for no limit makes the text longer, as [`replace`](crate::Session::replace) and
+    /// [`undo`](crate::Session::undo).
+    pub limit: Option<usize>,
     /// How many texts the kill ring keeps. It can't be changed once a session is open. At first 60.
     pub ring_size: usize,
-    /// How many entries the record may have: changes, and the marks where groups begin and end. At first
-    /// [`NO_BOUND`](crate::NO_BOUND), as [`max_bytes`](Options::max_bytes).
-    pub max_entries: usize,
+    /// How many entries the record may have: changes, and the marks where groups begin and end. At first `None`, for any
+    /// number, as [`max_bytes`](Options::max_bytes).
+    pub max_entries: Option<usize>,
     /// How many bytes of text these may have, of what went and of what came.
-    pub max_bytes: usize,
+    pub max_bytes: Option<usize>,
 }
 
 impl Options {
@@ -220,11 +232,11 @@ impl Options {
         ffi::lodvarn_options {
             mode: self.mode as u32,
             prompt: self.prompt,
-            limit: self.limit,
+            limit: self.limit.unwrap_or(ffi::LODVARN_NO_LIMIT),
             ring_size: self.ring_size,
-            max_entries: self.max_entries,
-            max_bytes: self.max_bytes,
-            ..ffi::OPTIONS
+            max_entries: self.max_entries.unwrap_or(ffi::LODVARN_NO_BOUND),
+            max_bytes: self.max_bytes.unwrap_or(ffi::LODVARN_NO_BOUND),
+            ..ffi::LODVARN_OPTIONS
         }
     }
 
@@ -232,37 +244,77 @@ impl Options {
     pub(crate) fn of(options: &ffi::lodvarn_options) -> Options {
         let modes = [Mode::Unicode, Mode::WcWidth, Mode::NoZwj];
         let mode = modes.into_iter().find(|it| *it as u32 == options.mode);
+        let bounded = |number, none| Some(number).filter(|it| *it != none);
         Options {
             mode: mode.expect("a mode was chosen"),
             prompt: options.prompt,
-            limit: options.limit,
+            limit: bounded(options.limit, ffi::LODVARN_NO_LIMIT),
             ring_size: options.ring_size,
-            max_entries: options.max_entries,
-            max_bytes: options.max_bytes,
+            max_entries: bounded(options.max_entries, ffi::LODVARN_NO_BOUND),
+            max_bytes: bounded(options.max_bytes, ffi::LODVARN_NO_BOUND),
         }
     }
 }
 
 impl Default for Options {
     fn default() -> Self {
-        Options::of(&ffi::OPTIONS)
+        Options::of(&ffi::LODVARN_OPTIONS)
     }
 }
 
-/// A screen, on which a text begins in row 0. Its rows and columns are numbered from 0.
+/// A line and a column of it, numbered from 0. On a screen a line is a row.
+#[derive(Clone, Copy, Debug, Default, PartialEq, Eq, PartialOrd, Ord, Hash)]
+pub struct Position {
+    /// The number of the line.
+    pub line: usize,
+    /// The number of the column.
+    pub column: usize,
+}
+
+impl Position {
+    pub(crate) fn of(position: ffi::lodvarn_position) -> Position {
+        Position {
+            line: position.line,
+            column: position.column,
+        }
+    }
+}
+
+/// A grapheme cluster of a text, from a place on.
 #[derive(Clone, Copy, Debug, PartialEq, Eq, Hash)]
+pub struct Cluster {
+    /// The place where it ends, in bytes.
+    pub end: usize,
+    /// How many columns it takes.
+    pub columns: usize,
+}
+
+/// A screen, on which a text begins in row 0. Begin with [`Screen::new`], and change what should differ.
+#[derive(Clone, Copy, Debug, PartialEq, Eq, Hash)]
+#[non_exhaustive]
 pub struct Screen {
     /// How many columns it has.
     pub columns: NonZeroU16,
-    /// The column where the text begins, after a prompt.
+    /// The column where the text begins, after a prompt. At first 0.
     pub prompt: u16,
-    /// The distance of tab stops, 0 if a tab is as wide as [`width`](crate::width) tells.
+    /// The distance of tab stops. At first 0: a tab is as wide as [`width`](crate::width) tells.
     pub tab: u16,
-    /// How columns are counted.
+    /// How columns are counted. At first [`Mode::Unicode`].
     pub mode: Mode,
 }
 
 impl Screen {
+    /// A screen of so many columns.
+    #[must_use]
+    pub fn new(columns: NonZeroU16) -> Screen {
+        Screen {
+            columns,
+            prompt: 0,
+            tab: 0,
+            mode: Mode::Unicode,
+        }
+    }
+
     /// As the library has it.
     pub(crate) fn passed(&self) -> ffi::lodvarn_screen {
         ffi::lodvarn_screen {
@@ -290,9 +342,9 @@ impl Inserted {
     #[inline]
     pub(crate) fn of(answer: i32) -> Result<Inserted, Fault> {
         match answer {
-            ffi::DONE_AT_END => Ok(Inserted::AtEnd),
-            ffi::DONE => Ok(Inserted::Within),
-            ffi::NOTHING => Ok(Inserted::Nothing),
+            ffi::LODVARN_DONE_AT_END => Ok(Inserted::AtEnd),
+            ffi::LODVARN_DONE => Ok(Inserted::Within),
+            ffi::LODVARN_NOTHING => Ok(Inserted::Nothing),
             answer => Err(Fault::of(answer)),
         }
     }
@@ -324,14 +376,14 @@ impl Fault {
     /// The fault of an answer that is one.
     pub(crate) fn of(answer: i32) -> Fault {
         match answer {
-            ffi::NO_MEMORY => Fault::NoMemory,
-            ffi::BAD_PLACE => Fault::BadPlace,
-            ffi::BAD_YANK_SIZE => Fault::BadYankSize,
-            ffi::NOT_REPLAYING => Fault::NotReplaying,
-            ffi::NO_ROOM => Fault::NoRoom,
-            ffi::NO_SUCH_NUMBER => Fault::NoSuchNumber,
-            ffi::IS_WATCHED => Fault::IsWatched,
-            ffi::CLOSED | ffi::NOT_UTF8 | ffi::TOO_SMALL => {
+            ffi::LODVARN_NO_MEMORY => Fault::NoMemory,
+            ffi::LODVARN_BAD_PLACE => Fault::BadPlace,
+            ffi::LODVARN_BAD_YANK_SIZE => Fault::BadYankSize,
+            ffi::LODVARN_NOT_REPLAYING => Fault::NotReplaying,
+            ffi::LODVARN_NO_ROOM => Fault::NoRoom,
+            ffi::LODVARN_NO_SUCH_NUMBER => Fault::NoSuchNumber,
+            ffi::LODVARN_IS_WATCHED => Fault::IsWatched,
+            ffi::LODVARN_CLOSED | ffi::LODVARN_NOT_UTF8 | ffi::LODVARN_TOO_SMALL => {
                 unreachable!("the types rule out {}", calls::answer_name(answer))
             }
             _ => unreachable!("the library returned {answer}"),

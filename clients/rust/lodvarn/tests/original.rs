@@ -5,12 +5,11 @@ use lodvarn::keymap::{At, CharSearch, Movement, Word};
 use lodvarn::kill_ring::{KillRing, Mode};
 use lodvarn::layout::{cwidh, GraphemeClusterMode, Layout, Position};
 use lodvarn::line_buffer::{ChangeListener, DeleteListener, Direction, LineBuffer, NoListener};
-use lodvarn::line_buffer::{WordAction, INDENT};
+use lodvarn::line_buffer::{Pair, WordAction, INDENT};
 use lodvarn::undo::Changeset;
 use lodvarn::Fault;
 use random::Random;
 use std::panic::catch_unwind;
-use std::process::Command;
 
 mod heard;
 #[allow(dead_code)]
@@ -260,7 +259,7 @@ fn changes_are_undone() {
     assert_eq!(changes.last_insert().as_deref(), Some("three"));
     assert!(changes.undo(&mut line, 1));
     assert_eq!(shown(&line), "one-|");
-    assert!(changes.can_redo(&line) && changes.redo(&mut line) && !changes.redo(&mut line));
+    assert!(changes.redo_fits(&line) && changes.redo(&mut line) && !changes.redo(&mut line));
     assert_eq!(line.as_str(), "one-three two");
     assert!(changes.undo(&mut line, 2));
     assert_eq!(line.as_str(), "one");
@@ -278,10 +277,10 @@ fn groups_are_closed_and_cut_off() {
     line.backspace(1, &mut changes);
     line.replace(0..0, "x", &mut changes);
     assert_eq!((changes.len(), mark), (2, 0));
-    assert!(changes.can_undo(&line) && !changes.replays_to(1, &line));
+    assert!(changes.undo_fits(&line) && !changes.replays_to(1, &line));
     assert!(changes.replays_to(2, &line));
     changes.insert_str(1, "y");
-    assert!(!changes.can_undo(&line));
+    assert!(!changes.undo_fits(&line));
     changes.truncate(2);
     assert!(changes.undo(&mut line, 2));
     assert_eq!(line.as_str(), "ab");
@@ -304,12 +303,12 @@ fn a_record_of_another_line_is_refused() {
     assert_eq!(other.as_str(), "abcxyz");
     line.update("xyz", 3, &mut NoListener);
     line.yank("!", 1, &mut changes);
-    assert!(!changes.can_undo(&line));
+    assert!(!changes.undo_fits(&line));
     let mut changes = Changeset::new();
     line.yank("?", 1, &mut changes);
     assert!(changes.undo(&mut line, 1));
     line.update("x", 1, &mut NoListener);
-    assert!(!changes.can_redo(&line));
+    assert!(!changes.redo_fits(&line));
     assert_eq!(changes.try_redo(&mut line), Err(Fault::NotReplaying));
     let said = panic_of(|| changes.redo(&mut line));
     assert_eq!(said, "the entries do not lead to the text");
@@ -323,31 +322,36 @@ fn a_record_of_another_line_is_refused() {
 fn kills_are_yanked() {
     let mut line = line_of("one two three|");
     let (mut changes, mut ring) = (Changeset::new(), KillRing::new(2));
-    let mut pair = (&mut changes, &mut ring);
+    let mut pair = Pair {
+        all: &mut changes,
+        deletions: &mut ring,
+    };
     let word = Movement::BackwardWord(1, Word::Emacs);
     assert!(line.kill(&word, &mut pair) && line.kill(&word, &mut pair));
-    pair.1.reset();
+    pair.deletions.reset();
     assert!(line.backspace(1, &mut pair) && line.kill(&word, &mut pair));
-    assert_eq!((line.as_str(), pair.1.len()), ("", 2));
-    let text = pair.1.yank().cloned().expect("a text was killed");
+    assert_eq!((line.as_str(), pair.deletions.len()), ("", 2));
+    let text = pair.deletions.yank().cloned().expect("a text was killed");
     assert_eq!(
         (text.as_str(), line.yank(&text, 1, &mut pair)),
         ("one", Some(true))
     );
-    let (size, text) = pair.1.yank_pop().expect("a text was yanked");
+    let (size, text) = pair.deletions.yank_pop().expect("a text was yanked");
     assert_eq!((size, text.as_str()), (3, "two three"));
     assert_eq!(line.yank_pop(size, &text.clone(), &mut pair), Some(true));
     assert_eq!(
-        pair.1.yank_pop().map(|(size, text)| (size, text.clone())),
+        pair.deletions
+            .yank_pop()
+            .map(|(size, text)| (size, text.clone())),
         Some((9, "one".into()))
     );
-    assert_eq!(pair.1.text_back(1).as_deref(), Some("two three"));
-    assert_eq!(pair.1.text_back(2), None);
-    assert!(pair.0.undo(&mut line, 99));
+    assert_eq!(pair.deletions.text_back(1), Some("two three"));
+    assert_eq!(pair.deletions.text_back(2), None);
+    assert!(pair.all.undo(&mut line, 99));
     assert_eq!(line.as_str(), "one two three");
-    pair.1.kill("four", Mode::Append);
-    pair.1.kill("3", Mode::Prepend);
-    assert_eq!(format!("{:?}", pair.1), "[\"3four\", \"one\"]");
+    pair.deletions.kill("four", Mode::Append);
+    pair.deletions.kill("3", Mode::Prepend);
+    assert_eq!(format!("{:?}", pair.deletions), "[\"3four\", \"one\"]");
     let mut none = KillRing::new(0);
     none.kill("one", Mode::Append);
     assert!(none.is_empty() && none.yank().is_none() && none.yank_pop().is_none());
@@ -453,11 +457,87 @@ fn all_may_be_sent() {
 }
 
 #[test]
+fn it_is_told_whether_there_is_something_to_undo() {
+    let (mut line, mut changes) = (line_of("|"), Changeset::new());
+    let mut told = vec![];
+    let mut tell = |changes: &Changeset| told.push((changes.can_undo(), changes.can_redo()));
+    tell(&changes);
+    changes.begin();
+    tell(&changes);
+    line.yank("a", 1, &mut changes);
+    changes.end();
+    line.yank("b", 1, &mut changes);
+    tell(&changes);
+    changes.undo(&mut line, 1);
+    tell(&changes);
+    changes.undo(&mut line, 9);
+    tell(&changes);
+    changes.redo(&mut line);
+    tell(&changes);
+    changes.redo(&mut line);
+    tell(&changes);
+    changes.undo(&mut line, 1);
+    line.yank("c", 1, &mut changes);
+    tell(&changes);
+    changes.undo(&mut line, 1);
+    changes.truncate(9);
+    tell(&changes);
+    let (none, both) = ((false, false), (true, true));
+    let (undo, redo) = ((true, false), (false, true));
+    assert_eq!(told, [none, none, undo, both, redo, both, undo, undo, undo]);
+}
+
+#[test]
+fn threads_may_share_all_but_sessions() {
+    let (line, mut changes, mut ring) = (line_of("aé b|"), Changeset::new(), KillRing::new(2));
+    changes.insert_str(0, "aé b");
+    ring.kill("two", Mode::Append);
+    let read = || {
+        for _ in 0..20_000 {
+            assert_eq!((line.as_str(), line.pos(), line.limit()), ("aé b", 5, 4096));
+            assert_eq!(
+                line.copy(&Movement::BeginningOfBuffer).as_deref(),
+                Some("aé b")
+            );
+            assert!(changes.undo_fits(&line) && changes.replays_to(1, &line));
+            assert_eq!(changes.last_insert().as_deref(), Some("aé b"));
+            assert_eq!((ring.len(), ring.text_back(0)), (1, Some("two")));
+        }
+    };
+    std::thread::scope(|scope| (0..4).for_each(|_| drop(scope.spawn(read))));
+}
+
+#[test]
+fn a_line_is_cloned_shown_and_given_away() {
+    let mut line = line_of("é|b").can_growth(true);
+    let mut other = line.clone();
+    line.move_end();
+    other.insert('c', 1, &mut NoListener);
+    assert_eq!((shown(&line), shown(&other)), ("éb|".into(), "éc|b".into()));
+    assert_eq!(
+        (other.limit(), format!("{other:>5}")),
+        (4096, "  écb".into())
+    );
+    assert_eq!(AsRef::<str>::as_ref(&other), "écb");
+    assert_eq!(String::from(other), "écb");
+}
+
+#[test]
+fn what_points_to_a_listener_is_one() {
+    let (mut line, mut heard) = (line_of("|"), Heard::default());
+    line.insert('a', 1, &mut &mut heard);
+    let mut boxed: Box<dyn ChangeListener> = Box::new(heard);
+    line.yank("b", 2, &mut boxed);
+    line.kill(&Movement::WholeLine, &mut boxed);
+    assert!(line.is_empty());
+}
+
+#[test]
 fn all_may_be_read_where_panics_are_caught() {
     let (line, changes, ring) = (line_of("ab|"), Changeset::new(), KillRing::new(2));
     let read = catch_unwind(|| (line.next_pos(2), line.limit(), changes.len(), ring.len()));
     assert_eq!(read.ok(), Some((None, line.limit(), 0, 0)));
-    assert!(catch_unwind(|| assert!(changes.can_redo(&line) && !ring.is_empty())).is_err());
+    assert!(catch_unwind(|| assert!(changes.redo_fits(&line) && !ring.is_empty())).is_err());
     assert_eq!((shown(&line).as_str(), changes.len()), ("ab|", 0));
 }
 
@@ -500,60 +580,20 @@ fn listeners_follow_lines_at_random() {
                 (shown(&line), line.as_str()),
                 (shown(&other), heard.copy.as_str())
             );
-            assert!(changes.can_undo(&line));
+            assert!(changes.undo_fits(&line));
             seen.push(line.as_str().to_owned());
             if line.is_empty() || random.below(3) == 0 {
                 line.move_to_prev_word(random.word(), 1);
             }
         }
         let end = line.as_str().to_owned();
-        while changes.undo(&mut line, 1) {}
-        assert!(line.is_empty());
-        while changes.redo(&mut line) {}
-        assert_eq!(line.as_str(), end);
-    }
-}
-
-/// Yanks longer and longer texts until memory is out, where there is little of it.
-#[test]
-#[ignore = "it needs little memory: `memory_that_is_refused` runs it so"]
-fn in_little_memory() {
-    let text = "0123456789abcdef".repeat(1 << 12);
-    let mut refused = 0;
-    for n in (200..2000).step_by(200) {
-        let mut line = LineBuffer::with_capacity(usize::MAX);
-        line.yank("ab", 1, &mut NoListener);
-        match line.try_yank(&text, n, &mut NoListener) {
-            Ok(answer) => assert_eq!(
-                (answer, line.len()),
-                (Some(true), 2 + (usize::from(n) << 16))
-            ),
-            Err(fault) => {
-                assert_eq!((fault, shown(&line).as_str()), (Fault::NoMemory, "ab|"));
-                assert_eq!(
-                    panic_of(|| line.yank(&text, n, &mut NoListener)),
-                    "out of memory"
-                );
-                assert_eq!(line.insert('c', 1, &mut NoListener), Some(true));
-                refused += 1;
-            }
+        while changes.can_undo() {
+            assert!(changes.undo(&mut line, 1));
         }
+        assert!(line.is_empty() && !changes.undo(&mut line, 1));
+        while changes.can_redo() {
+            assert!(changes.redo(&mut line));
+        }
+        assert!(line.as_str() == end && !changes.redo(&mut line));
     }
-    assert!((1..9).contains(&refused), "{refused} were refused");
-}
-
-#[test]
-fn memory_that_is_refused() {
-    let program = std::env::current_exe().expect("a test has a file");
-    let script =
-        "ulimit -v 300000; exec \"$0\" --exact --ignored --test-threads=1 in_little_memory";
-    // A panic must take no memory to say where it was.
-    let ran = Command::new("sh")
-        .env("RUST_BACKTRACE", "0")
-        .args(["-c", script])
-        .arg(program)
-        .output();
-    let ran = ran.expect("a shell runs");
-    let said = String::from_utf8_lossy(&ran.stdout);
-    assert!(ran.status.success() && said.contains("1 passed"), "{said}");
 }

@@ -28,8 +28,7 @@ impl LineBuffer {
         pos: usize,
         cl: &mut C,
     ) -> Result<(), Fault> {
-        self.edit(buf.len(), cl, |line| line.set_text(pos, buf))
-            .and_then(done)
+        done(self.edit(cl, |line| line.set_text(pos, buf)))
     }
 
     /// Inserts a character n times at the cursor, which goes after them. Whether the cursor was at the end, or `None`
@@ -54,32 +53,15 @@ impl LineBuffer {
         n: RepeatCount,
         cl: &mut C,
     ) -> Result<Option<bool>, Fault> {
-        if n == 1 {
-            return self.insert_one(ch, cl);
+        if n != 1 {
+            return put_in(self.edit(cl, |line| line.insert(ch, n)));
         }
-        let growth = self.growth(ch.len_utf8(), n);
-        self.edit(growth, cl, |line| line.insert(ch, n))
-            .and_then(put_in)
-    }
-
-    // A typed character. The one report of it is known without reading it.
-    fn insert_one<C: ChangeListener + ?Sized>(
-        &mut self,
-        ch: char,
-        cl: &mut C,
-    ) -> Result<Option<bool>, Fault> {
-        self.find_room(ch.len_utf8())?;
-        let goes_in = put_in(self.line.insert(ch, 1))?;
-        let at = self.pos;
-        match goes_in {
-            Some(true) => self.text.push(ch),
-            Some(false) => self.text.insert(at, ch),
-            None => return Ok(None),
+        // The one report of a typed character is known without reading it.
+        let at = self.pos();
+        let goes_in = put_in(self.line.insert_one(ch))?;
+        if goes_in.is_some() {
+            cl.insert_char(at, ch);
         }
-        self.pos += ch.len_utf8();
-        let answer = self.line.forget_reports();
-        debug_assert_eq!(answer, ffi::DONE);
-        cl.insert_char(at, ch);
         Ok(goes_in)
     }
 
@@ -105,19 +87,7 @@ impl LineBuffer {
         n: RepeatCount,
         cl: &mut C,
     ) -> Result<Option<bool>, Fault> {
-        let growth = self.growth(text.len(), n);
-        self.edit(growth, cl, |line| line.paste(text, n))
-            .and_then(put_in)
-    }
-
-    // How many bytes a text of so many puts in n times, if the limit lets it.
-    fn growth(&self, len: usize, n: RepeatCount) -> usize {
-        let growth = len.saturating_mul(n.into());
-        if self.can_grow || growth <= self.limit().saturating_sub(self.len()) {
-            growth
-        } else {
-            0
-        }
+        put_in(self.edit(cl, |line| line.paste(text, n)))
     }
 
     /// Puts a text in the place of the `yank_size` bytes before the cursor, which were yanked, in two steps. Whether the
@@ -147,7 +117,7 @@ impl LineBuffer {
         text: &str,
         cl: &mut C,
     ) -> Result<Option<bool>, Fault> {
-        let answer = self.edit(text.len(), cl, |line| line.yank_pop(yank_size, text))?;
+        let answer = self.edit(cl, |line| line.yank_pop(yank_size, text));
         Ok(put_in(answer)?.filter(|_| !text.is_empty()))
     }
 
@@ -177,14 +147,13 @@ impl LineBuffer {
         text: &str,
         cl: &mut C,
     ) -> Result<(), Fault> {
-        self.edit(text.len(), cl, |line| line.replace(range, text))
-            .and_then(done)
+        done(self.edit(cl, |line| line.replace(range, text)))
     }
 
     // Panics if a range is none of the text.
     #[track_caller]
     pub(super) fn see_range(&self, range: &Range<usize>) {
-        let _ = &self.text[range.clone()];
+        let _ = &self[range.clone()];
     }
 
     /// Inserts a text at a place, whatever the limit. The cursor's place keeps its number. Whether the place was the
@@ -215,15 +184,14 @@ impl LineBuffer {
         cl: &mut C,
     ) -> Result<bool, Fault> {
         let is_at_end = idx == self.len();
-        let answer = self.edit(s.len(), cl, |line| line.insert_at(idx, s));
-        answer.and_then(done).map(|()| is_at_end)
+        done(self.edit(cl, |line| line.insert_at(idx, s)))?;
+        Ok(is_at_end)
     }
 
     /// Exchanges the clusters before and after the cursor, in two steps; at the end of the text, the last two. The
     /// cursor goes after both. False if there are not two.
     pub fn transpose_chars<C: ChangeListener + ?Sized>(&mut self, cl: &mut C) -> bool {
-        let answer = self.edit(0, cl, |line| line.transpose_chars());
-        answered(answer.and_then(found))
+        answered(found(self.edit(cl, |line| line.transpose_chars())))
     }
 
     /// Exchanges a word with the n-th word before it, in four steps. False if there are not two; the cursor may have
@@ -233,15 +201,13 @@ impl LineBuffer {
         n: RepeatCount,
         cl: &mut C,
     ) -> bool {
-        let answer = self.edit(0, cl, |line| line.transpose_words(n));
-        answered(answer.and_then(found))
+        answered(found(self.edit(cl, |line| line.transpose_words(n))))
     }
 
     /// Changes the letter case of the rest of the word at the cursor, or of the next word, in two steps. The cursor
     /// goes after it. False if there is none.
     pub fn edit_word<C: ChangeListener + ?Sized>(&mut self, a: WordAction, cl: &mut C) -> bool {
-        let answer = self.edit(0, cl, |line| line.change_case(a));
-        answered(answer.and_then(found))
+        answered(found(self.edit(cl, |line| line.change_case(a))))
     }
 
     /// Inserts `amount` spaces at the start of each line that a movement covers, or with `dedent` deletes up to so many
@@ -253,8 +219,13 @@ impl LineBuffer {
         dedent: bool,
         cl: &mut C,
     ) -> bool {
-        let indentation = if dedent { ffi::DEDENT } else { ffi::INDENT };
-        let answer = self.edit(0, cl, |line| line.indent(*mvt, amount, indentation));
-        answered(answer.and_then(found))
+        let indentation = if dedent {
+            ffi::LODVARN_DEDENT
+        } else {
+            ffi::LODVARN_INDENT
+        };
+        answered(found(
+            self.edit(cl, |line| line.indent(*mvt, amount, indentation)),
+        ))
     }
 }

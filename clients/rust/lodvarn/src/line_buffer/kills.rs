@@ -1,23 +1,27 @@
 //! The edits that take text out.
-use super::{answered, DeleteListener, Deletions, Direction, LineBuffer};
-use crate::calls::Line;
+use super::{answered, DeleteListener, Direction, LineBuffer, NoListener, Pair};
+use crate::calls::RawLine;
 use crate::keymap::{At, CharSearch, Movement, RepeatCount, Word};
 use crate::words::Fault;
-use crate::{done, found};
+use crate::{done, found, owned};
 use std::ops::Range;
 
 impl LineBuffer {
-    // Makes an edit that only deletes, where memory may be refused, and tells a listener of its steps.
+    // Makes an edit that only deletes, and tells a listener of its steps.
     fn take<D: DeleteListener + ?Sized>(
         &mut self,
         dl: &mut D,
-        call: impl FnOnce(&mut Line) -> i32,
-    ) -> Result<i32, Fault> {
-        self.edit(0, &mut Deletions(dl), call)
+        call: impl FnOnce(&mut RawLine) -> i32,
+    ) -> i32 {
+        let mut listener = Pair {
+            all: NoListener,
+            deletions: dl,
+        };
+        self.edit(&mut listener, call)
     }
 
     fn take_by<D: DeleteListener + ?Sized>(&mut self, mvt: Movement, dl: &mut D) -> bool {
-        answered(self.take(dl, |line| line.delete_by(mvt)).and_then(found))
+        answered(found(self.take(dl, |line| line.delete_by(mvt))))
     }
 
     /// Deletes n grapheme clusters after the cursor, and returns them. `None` if there are none.
@@ -39,12 +43,9 @@ impl LineBuffer {
         n: RepeatCount,
         dl: &mut D,
     ) -> Result<Option<String>, Fault> {
-        let mut gone = String::new();
-        let goes = self.pos..self.next_pos(n).unwrap_or(self.pos);
-        gone.try_reserve_exact(goes.len())
-            .map_err(|_| Fault::NoMemory)?;
-        gone.push_str(&self.text[goes]);
-        let is_gone = self.take(dl, |line| line.delete(n)).and_then(found)?;
+        let end = self.next_pos(n).unwrap_or(self.pos());
+        let gone = owned(&self[self.pos()..end])?;
+        let is_gone = found(self.take(dl, |line| line.delete(n)))?;
         Ok(is_gone.then_some(gone))
     }
 
@@ -63,7 +64,7 @@ impl LineBuffer {
         n: RepeatCount,
         dl: &mut D,
     ) -> Result<bool, Fault> {
-        self.take(dl, |line| line.backspace(n)).and_then(found)
+        found(self.take(dl, |line| line.backspace(n)))
     }
 
     /// Deletes to the end of the cursor's line, or the newline there. False at the end of the text. It is no kill, and
@@ -139,12 +140,13 @@ impl LineBuffer {
         range: Range<usize>,
         dl: &mut D,
     ) -> Result<(), Fault> {
-        self.take(dl, |line| line.delete_range(range))
-            .and_then(done)
+        done(self.take(dl, |line| line.delete_range(range)))
     }
 
-    /// Deletes what a movement covers, as a kill: the listener hears that it starts and stops, also if nothing goes.
-    /// By `BackwardChar` and `ForwardChar` it is no kill. False if nothing goes.
+    /// Deletes what [`copy`](LineBuffer::copy) by a movement copies, as a kill: the listener hears that it starts and
+    /// stops, also if nothing goes. At the end of a line `EndOfLine` takes the newline, and at the start of one
+    /// `BeginningOfLine` the newline before it; `ViFirstPrint` takes nothing. By `BackwardChar` and `ForwardChar` it is no
+    /// kill. False if nothing goes.
     pub fn kill<D: DeleteListener + ?Sized>(&mut self, mvt: &Movement, dl: &mut D) -> bool {
         answered(self.try_kill(mvt, dl))
     }
@@ -159,7 +161,7 @@ impl LineBuffer {
         mvt: &Movement,
         dl: &mut D,
     ) -> Result<bool, Fault> {
-        self.take(dl, |line| line.kill(*mvt)).and_then(found)
+        found(self.take(dl, |line| line.kill(*mvt)))
     }
 
     /// Deletes a range as a kill does, on a side of the cursor. The cursor goes to its start. False if it is empty.
@@ -174,7 +176,6 @@ impl LineBuffer {
         dir: Direction,
         dl: &mut D,
     ) -> Result<bool, Fault> {
-        self.take(dl, |line| line.kill_range(range, dir))
-            .and_then(found)
+        found(self.take(dl, |line| line.kill_range(range, dir)))
     }
 }

@@ -1,5 +1,5 @@
 //! Commands at random.
-use lodvarn::{At, Case, CharSearch, Direction, Fault, Movement, Session, Word, NO_BOUND};
+use lodvarn::{At, Case, CharSearch, Direction, Fault, Movement, Session, Word};
 use std::ops::Range;
 
 /// Numbers at random, by a linear congruential generator.
@@ -143,10 +143,10 @@ pub fn command(s: &mut Session, random: &mut Random) -> Result<(), Fault> {
 fn change_options(s: &mut Session, random: &mut Random) -> Result<(), Fault> {
     let mut options = s.options();
     match random.below(3) {
-        0 => options.limit = random.below(257),
+        0 => options.limit = Some(random.below(257)),
         1 => options.prompt = random.count(),
         _ => {
-            let bounds = [(NO_BOUND, NO_BOUND), (40, 1000), (100, 200)];
+            let bounds = [(None, None), (Some(40), Some(1000)), (Some(100), Some(200))];
             (options.max_entries, options.max_bytes) = random.one(&bounds);
         }
     }
