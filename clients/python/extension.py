@@ -88,7 +88,7 @@ def made():
     ffi.set_source(
         "lodvarn._lodvarn", SOURCE.read_text() + "".join(wrappers), include_dirs=[str(headers)],
         define_macros=[("Py_LIMITED_API", "0x03080000")], py_limited_api=True, extra_objects=[str(archive)],
-        extra_compile_args=["-std=c99", "-O3"], extra_link_args=["-Wl,--exclude-libs,ALL"],
-        depends=[str(archive), str(headers / "lodvarn.h")],
+        extra_compile_args=["-std=c99", "-O3"], extra_link_args=["-s", "-Wl,--exclude-libs,ALL"],
+        depends=[str(it) for it in (archive, headers / "lodvarn.h", HERE / "extension.py")],
     )
     return ffi
