@@ -78,15 +78,6 @@ static long long py_count_chars(session *it) {
     return it->s ? (long long)chars_in(text.at, text.len) : LODVARN_CLOSED;
 }
 
-/* Lends the text before the cursor, or that after it. */
-static long long py_part(session *it, bool is_after, lodvarn_view *view) {
-    size_t pos = it->s ? lodvarn_pos(it->s) : 0;
-    *view = text_of(it);
-    if (is_after) view->at += pos;
-    view->len = is_after ? view->len - pos : pos;
-    return it->s ? LODVARN_DONE : LODVARN_CLOSED;
-}
-
 /* Writes the indexes of a range, if a call told one. */
 static long long told(session *it, int answer, lodvarn_range range, size_t out[2]) {
     const char *at = text_of(it).at;
@@ -109,13 +100,6 @@ static long long py_find_line(session *it, size_t line, size_t out[2]) {
 static long long py_destination(session *it, lodvarn_movement movement, size_t out[2]) {
     lodvarn_range range = {0, 0};
     return told(it, it->s ? lodvarn_destination(it->s, movement, &range.to) : LODVARN_CLOSED, range, out);
-}
-
-/* Lends what a movement covers. */
-static long long py_covered(session *it, lodvarn_movement movement, lodvarn_view *view) {
-    lodvarn_range range;
-    int answer = it->s ? lodvarn_covers(it->s, movement, &range) : LODVARN_CLOSED;
-    return answer > 0 ? lodvarn_slice(it->s, range, view) : answer;
 }
 
 static long long py_cluster_at(session *it, long long index, size_t out[2]) {

@@ -26,33 +26,10 @@ from typing import Any, Callable, Iterator, NamedTuple, Optional, TypeVar
 from ._lodvarn import ffi, lib
 
 __all__ = [
-    "BadPlaceError",
-    "BadYankSizeError",
-    "Case",
-    "ClosedError",
-    "Direction",
-    "IsWatchedError",
-    "LodvarnError",
-    "Mode",
-    "Movement",
-    "NoMemoryError",
-    "NoRoomError",
-    "NoSuchNumberError",
-    "NotReplayingError",
-    "Report",
-    "ReportKind",
-    "Screen",
-    "Search",
-    "Session",
-    "Splice",
-    "Stop",
-    "Word",
-    "cell",
-    "first_cluster",
-    "last_cluster",
-    "place_at",
-    "run_script",
-    "width",
+    "BadPlaceError", "BadYankSizeError", "Case", "ClosedError", "Direction", "IsWatchedError", "LodvarnError", "Mode",
+    "Movement", "NoMemoryError", "NoRoomError", "NoSuchNumberError", "NotReplayingError", "Report", "ReportKind",
+    "Screen", "Search", "Session", "Splice", "Stop", "Word", "cell", "first_cluster", "last_cluster", "place_at",
+    "run_script", "width",
 ]
 
 __version__ = "0.1.0"
@@ -112,6 +89,14 @@ _VIEW, _REPORT = ffi.typeof("lodvarn_view *"), ffi.typeof("lodvarn_report *")
 _SIZE_MOST: int = 2 ** (8 * ffi.sizeof("size_t")) - 1
 
 
+def _fitted(call: Any, *given: Any) -> Any:
+    """Makes a call. Raises NoSuchNumberError if C has no room for a number."""
+    try:
+        return call(*given)
+    except OverflowError:
+        raise NoSuchNumberError(NoSuchNumberError.__doc__) from None
+
+
 def _seen(call: Any, answer: int) -> int:
     """Returns the answer of a call. Raises a LodvarnError if it is an error."""
     if answer < 0:
@@ -122,11 +107,7 @@ def _seen(call: Any, answer: int) -> int:
 
 def _asked(call: Any, *given: Any) -> int:
     """Makes a call. Returns its answer. Raises a LodvarnError if it is an error."""
-    try:
-        answer: int = call(*given)
-    except OverflowError:
-        answer = lib.LODVARN_NO_SUCH_NUMBER
-    return _seen(call, answer)
+    return _seen(call, _fitted(call, *given))
 
 
 def _place(call: Any, *given: Any) -> int:
@@ -144,17 +125,17 @@ def _pair(call: Any, *given: Any) -> Optional[tuple[int, int]]:
     return (out[0], out[1]) if _asked(call, *given, out) else None
 
 
-def _size(call: Any, *given: Any) -> int:
-    """Makes a call that tells a size. Returns it, or 0 if there was nothing to tell."""
-    out = _new("size_t *")
-    return int(out[0]) if _asked(call, *given, out) else 0
-
-
 def _position(call: Any, *given: Any) -> tuple[int, int]:
     """Makes a call that tells a line and a column. Returns them."""
     out = _new("lodvarn_position *")
     _asked(call, *given, out)
     return out.line, out.column
+
+
+def _size(call: Any, *given: Any) -> int:
+    """Makes a call that tells a size. Returns it, or 0 if there was nothing to tell."""
+    out = _new("size_t *")
+    return int(out[0]) if _asked(call, *given, out) else 0
 
 
 def _str(view: Any) -> str:
@@ -271,11 +252,8 @@ class Movement:
     @classmethod
     def _made(cls, name: str, *given: Any) -> Movement:
         """Returns the movement that the function of that name makes. Raises NoSuchNumberError."""
-        call = getattr(lib, f"lodvarn_{name}")
-        try:
-            return cls(name, given, call(*(it.value if isinstance(it, Enum) else it for it in given)))
-        except OverflowError:
-            raise NoSuchNumberError(f"{name}: {NoSuchNumberError.__doc__}") from None
+        in_c = (it.value if isinstance(it, Enum) else it for it in given)
+        return cls(name, given, _fitted(getattr(lib, f"lodvarn_{name}"), *in_c))
 
     @classmethod
     def whole_line(cls) -> Movement:
@@ -425,14 +403,13 @@ class Session:
         The kill ring keeps up to `ring_size` texts. The attributes of their names describe the others. Raises
         NoSuchNumberError, NoMemoryError.
         """
-        it, options = ffi.gc(_new("session *"), lib.py_close), _new("lodvarn_options *")
-        options.size, options.mode = ffi.sizeof("lodvarn_options"), _of(Mode, mode).value
-        self._set(options, "prompt", prompt)
-        self._set(options, "limit", _or_most(limit_bytes))
-        self._set(options, "ring_size", ring_size)
-        self._set(options, "max_entries", _or_most(max_entries))
-        self._set(options, "max_bytes", _or_most(max_bytes))
-        _asked(lib.py_open, it, options, *_sent(text))
+        options = {
+            "size": ffi.sizeof("lodvarn_options"), "mode": _of(Mode, mode).value, "prompt": prompt,
+            "limit": _or_most(limit_bytes), "ring_size": ring_size,
+            "max_entries": _or_most(max_entries), "max_bytes": _or_most(max_bytes),
+        }
+        it = ffi.gc(_new("session *"), lib.py_close)
+        _asked(lib.py_open, it, [options], *_sent(text))
         self._it, self._on_change = it, None
 
     def close(self) -> None:
@@ -631,7 +608,8 @@ class Session:
 
     def copy(self, movement: Movement) -> Optional[str]:
         """Returns the text that a movement covers, or None if it covers nothing. A command: it ends a run of kills."""
-        text = _lent(lib.py_covered, self._it, _of(Movement, movement)._in_c)
+        covered = self.covers(movement)
+        text = self.slice(*covered) if covered else None
         self.end_kills()
         return text
 
@@ -768,12 +746,12 @@ class Session:
     @property
     def before(self) -> str:
         """The text before the cursor."""
-        return _lent(lib.py_part, self._it, False) or ""
+        return self.slice(0, self.pos)
 
     @property
     def after(self) -> str:
         """The text after the cursor."""
-        return _lent(lib.py_part, self._it, True) or ""
+        return self.slice(self.pos, len(self))
 
     @property
     def pos(self) -> int:
@@ -865,18 +843,10 @@ class Session:
         _asked(lib.py_get_options, self._it, options)
         return options
 
-    @staticmethod
-    def _set(options: Any, name: str, value: int) -> None:
-        """Sets one of the options. Raises NoSuchNumberError."""
-        try:
-            setattr(options, name, value)
-        except OverflowError:
-            raise NoSuchNumberError(f"{name}: {NoSuchNumberError.__doc__}") from None
-
     def _choose(self, name: str, value: int) -> None:
         """Chooses one of the options. Raises NoSuchNumberError."""
         options = self._options()
-        self._set(options, name, value)
+        _fitted(setattr, options, name, value)
         _asked(lib.py_set_options, self._it, options)
 
     @property
