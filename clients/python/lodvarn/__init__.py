@@ -86,6 +86,7 @@ _T = TypeVar("_T")
 # What is looked up once, since it is asked often.
 _new, _insert, _index = ffi.new, lib.py_insert, lib.py_index
 _VIEW, _REPORT = ffi.typeof("lodvarn_view *"), ffi.typeof("lodvarn_report *")
+_NO_SUCH_NUMBER: int = lib.LODVARN_NO_SUCH_NUMBER
 _SIZE_MOST: int = 2 ** (8 * ffi.sizeof("size_t")) - 1
 
 
@@ -456,7 +457,7 @@ class Session:
         try:
             answer: int = call(self._it, *given)
         except OverflowError:
-            answer = lib.LODVARN_NO_SUCH_NUMBER
+            answer = _NO_SUCH_NUMBER
         if answer < 0 or self._on_change is not None:
             return self._finish(call, answer)
         return answer > 0
@@ -496,7 +497,7 @@ class Session:
         try:
             answer = _insert(self._it, c, n)
         except OverflowError:
-            answer = lib.LODVARN_NO_SUCH_NUMBER
+            answer = _NO_SUCH_NUMBER
         if answer < 0 or self._on_change is not None:
             return self._finish(_insert, answer)
         return True
