@@ -20,7 +20,9 @@ typedef struct session {
     lodvarn *s;      /* NULL once it is closed */
     size_t told;     /* how many characters the text had when its changes were taken last */
     char *copy;      /* while it is watched: the text as it was before the oldest report, */
-    size_t copy_len; /* and how many bytes that has */
+    size_t copy_len; /* how many bytes that has, */
+    size_t place;    /* a place of it, */
+    size_t index;    /* and the index of that */
 } session;
 
 enum { BLOCK = 240 };
@@ -143,6 +145,7 @@ static long long py_watch(session *it, size_t reports, size_t text_bytes) {
     if (answer <= 0) return answer;
     if (!find_room(it, text.len)) return lodvarn_unwatch(it->s), LODVARN_NO_MEMORY;
     memcpy(it->copy, text.at, it->copy_len = text.len);
+    it->place = it->index = 0;
     return answer;
 }
 
@@ -169,22 +172,29 @@ static int read_report(session *it, lodvarn_report *report, lodvarn_view *came) 
     return answer;
 }
 
+/* Returns the index of a place of the copy, from the one that is known, since most are near to it. */
+static size_t index_in_copy(session *it, size_t place) {
+    if (place < it->place) return it->index - chars_in(it->copy + place, it->place - place);
+    return it->index + chars_in(it->copy + it->place, place - it->place);
+}
+
 /* Tells the oldest report, with indexes for places. */
 static long long py_next_report(session *it, lodvarn_report *report) {
     lodvarn_view came;
-    size_t start, end, at, after, pos;
+    size_t end, after, pos;
     int answer = read_report(it, report, &came);
     if (answer <= 0) return answer;
-    at = report->at, end = at + report->old_len, after = at + report->new_len, pos = report->pos_after;
     if (!find_room(it, it->copy_len + report->new_len)) return LODVARN_NO_MEMORY;
-    start = chars_in(it->copy, at);
-    report->at = start;
-    report->old_len = chars_in(it->copy + at, end - at);
+    end = report->at + report->old_len, after = report->at + report->new_len, pos = report->pos_after;
+    it->index = index_in_copy(it, report->at);
+    it->place = report->at;
+    report->at = it->index;
+    report->old_len = chars_in(it->copy + it->place, end - it->place);
     report->new_len = chars_in(came.at, came.len);
-    report->pos_before = chars_in(it->copy, report->pos_before);
-    if (pos <= at) report->pos_after = chars_in(it->copy, pos);
-    else if (pos <= after) report->pos_after = start + chars_in(came.at, pos - at);
-    else report->pos_after = start + report->new_len + chars_in(it->copy + end, pos - after);
+    report->pos_before = index_in_copy(it, report->pos_before);
+    if (pos <= it->place) report->pos_after = index_in_copy(it, pos);
+    else if (pos <= after) report->pos_after = it->index + chars_in(came.at, pos - it->place);
+    else report->pos_after = it->index + report->new_len + chars_in(it->copy + end, pos - after);
     return answer;
 }
 

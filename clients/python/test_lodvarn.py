@@ -7,6 +7,7 @@ import pickle
 import random
 import re
 import sys
+import threading
 import unittest
 import weakref
 from contextlib import suppress
@@ -726,6 +727,18 @@ class Module(unittest.TestCase):
         number = lib.lodvarn_version()
         self.assertEqual(f"{number >> 16}.{number >> 8 & 255}.{number & 255}", lodvarn.__version__)
         self.assertTrue(sys.modules["lodvarn._lodvarn"].__file__.endswith(".abi3.so"))
+
+    def test_a_call_keeps_the_lock_of_the_interpreter(self):
+        gate, seen = threading.Lock(), []
+        self.addCleanup(sys.setswitchinterval, sys.getswitchinterval())
+        sys.setswitchinterval(99)
+        with gate:
+            thread = threading.Thread(target=lambda: (gate.acquire(), seen.append(1)))
+            thread.start()
+        lodvarn.run_script(b"text a\n" + b"paste 99 a\nback 99\n" * 2000)
+        self.assertEqual(seen, [])
+        thread.join()
+        self.assertEqual(seen, [1])
 
 
 def main():

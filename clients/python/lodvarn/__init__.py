@@ -108,7 +108,11 @@ def _seen(call: Any, answer: int) -> int:
 
 def _asked(call: Any, *given: Any) -> int:
     """Makes a call. Returns its answer. Raises a LodvarnError if it is an error."""
-    return _seen(call, _fitted(call, *given))
+    try:
+        answer: int = call(*given)
+    except OverflowError:
+        answer = _NO_SUCH_NUMBER
+    return answer if answer >= 0 else _seen(call, answer)
 
 
 def _place(call: Any, *given: Any) -> int:
