@@ -1,7 +1,6 @@
 """What the package for Python makes of the library: the worked scripts by its calls, and what it has of its own."""
 
 import copy
-import gc
 import inspect
 import pickle
 import random
@@ -16,8 +15,9 @@ from pathlib import Path
 from unittest import mock
 
 import lodvarn
-from lodvarn import Case, Direction, Mode, Movement, Report, ReportKind, Screen, Search, Session, Splice, Stop, Word
-from lodvarn import lib
+from lodvarn import (
+    Case, Direction, Mode, Movement, Report, ReportKind, Screen, Search, Session, Splice, Stop, Word, lib,
+)
 from typed import MOVEMENTS, NAMES, WORDS, Typed, do
 
 TOP = Path(__file__).resolve().parent.parent.parent
@@ -380,17 +380,11 @@ class Faults(Scripts):
         for _ in range(100):
             self.assertRaises(UnicodeEncodeError, Session, "\ud800")
             self.assertRaises(lodvarn.ClosedError, len, Session.__new__(Session))
-        gc.collect()
 
 
 def report(kind, at, old, new, pos_before, pos_after):
     """A report with its texts."""
     return Report(kind, at, len(old), len(new), pos_before, pos_after, old, new)
-
-
-def folded(at, old_len, new_len, pos_before, pos_after):
-    """A report of the kind FOLDED, which has no texts."""
-    return Report(ReportKind.FOLDED, at, old_len, new_len, pos_before, pos_after, None, None)
 
 
 STARTED = report(ReportKind.KILL_STARTED, 0, "", "", 0, 0)
@@ -446,23 +440,16 @@ class Changes(Scripts):
             report(kind.DELETED_FORWARD, 0, "漢日本", "", 1, 0), report(kind.TEXT_INSERTED, 0, "", "éé", 0, 1),
         )
 
-    def test_what_finds_no_room_is_folded(self):
-        session = Session("é漢é")
-        session.watch(1)
-        session.insert("日")
-        session.insert("本")
-        session.replace(1, 2, "ab")
-        self.tells(session, folded(1, 2, 5, 3, 3))
-        session.insert("f")
-        self.tells(session, report(ReportKind.CHAR_INSERTED, 3, "", "f", 3, 4))
-
     def test_reports_may_have_no_texts(self):
-        session = Session("é")
+        kind, session = ReportKind, Session("é漢é")
         session.watch(2, 0)
-        session.insert("漢")
-        self.tells(session, Report(ReportKind.CHAR_INSERTED, 1, 0, 1, 1, 2, None, None))
-        session.backspace(2)
-        self.tells(session, Report(ReportKind.DELETED_BACKWARD, 0, 2, 0, 2, 0, None, None))
+        for call, given, wanted in [
+            (session.insert, ("日",), (kind.CHAR_INSERTED, 3, 0, 1, 3, 4)),
+            (session.backspace, (2,), (kind.DELETED_BACKWARD, 2, 2, 0, 4, 2)),
+            (session.set_text, (1, "abc"), (kind.FOLDED, 0, 2, 3, 2, 1)),
+        ]:
+            call(*given)
+            self.tells(session, Report(*wanted, None, None))
 
     def test_a_watch_ends_and_begins(self):
         session = Session("")
@@ -510,32 +497,27 @@ class OnChange(Scripts):
         self.assertIsNone(session.on_change)
         session.on_change = call = seen.append
         self.assertIs(session.on_change, call)
-        deleted = report(ReportKind.DELETED_FORWARD, 2, "b", "", 2, 2)
-        for do_it, wanted in [
-            (lambda: session.insert("c"), [report(ReportKind.CHAR_INSERTED, 1, "", "c", 1, 2)]),
-            (session.end_kills, []),
-            (lambda: session.kill(END), [STARTED, deleted, STOPPED]),
-        ]:
-            seen.clear()
-            do_it()
-            self.assertEqual(seen, wanted)
+        inserted = report(ReportKind.CHAR_INSERTED, 1, "", "c", 1, 2)
+        session.insert("c")
+        session.end_kills()
+        session.kill(END)
+        self.assertEqual(seen, [inserted, STARTED, report(ReportKind.DELETED_FORWARD, 2, "b", "", 2, 2), STOPPED])
         session.on_change = None
         session.insert("d")
-        self.assertEqual((len(seen), len(list(session.changes()))), (3, 1))
+        self.assertEqual((len(seen), len(list(session.changes()))), (4, 1))
 
     def test_it_tells_of_a_command_that_is_refused_halfway(self):
         session, seen = Session("ab"), []
         session.on_change = seen.append
 
-        def halfway(it, *given):
+        def py_halfway(it, c, n):
             """Takes one step, and then finds no memory."""
-            lib.py_insert(it, " ", 1)
+            lib.py_insert(it, c, n)
             return lib.LODVARN_NO_MEMORY
 
-        with mock.patch.object(lodvarn, "lib", mock.Mock(wraps=lib, py_indent=mock.Mock(side_effect=halfway))) as calls:
-            calls.py_indent.__name__ = "py_indent"
-            self.assertRaises(lodvarn.NoMemoryError, session.indent, LINE, 2)
-        self.assertEqual(seen, [report(ReportKind.CHAR_INSERTED, 2, "", " ", 2, 3)])
+        with mock.patch.object(lodvarn, "_insert", py_halfway):
+            self.assertRaises(lodvarn.NoMemoryError, session.insert, "c")
+        self.assertEqual(seen, [report(ReportKind.CHAR_INSERTED, 2, "", "c", 2, 3)])
 
     def test_what_it_raises_comes_out_of_the_command(self):
         session, seen = Session("ab"), []

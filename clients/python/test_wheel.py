@@ -37,11 +37,11 @@ with lodvarn.Session("one") as session:
     text: str = session.pos
     session.insrt("a")
 """
-# What takes: needs of the library of C, and the tag that they lead to, or none.
+# A module, what its link is told, and the tag that its needs lead to, or none.
 NEEDS = [
-    ("#include <stdlib.h>\\nvoid *f(void) { return malloc(1); }", "", "manylinux_2_17_x86_64.manylinux2014_x86_64"),
-    ("#include <pthread.h>\\nint f(pthread_t t) { return pthread_join(t, 0); }", "", "manylinux_2_34_x86_64"),
-    ("#include <math.h>\\ndouble f(double x) { return sin(x); }", "-lm", None),
+    ("#include <stdlib.h>\nvoid *f(void) { return malloc(1); }", "", "manylinux_2_17_x86_64.manylinux2014_x86_64"),
+    ("#include <pthread.h>\nint f(pthread_t t) { return pthread_join(t, 0); }", "", "manylinux_2_34_x86_64"),
+    ("#include <math.h>\ndouble f(double x) { return sin(x); }", "-lm", None),
 ]
 
 
@@ -139,7 +139,8 @@ class Wheel(unittest.TestCase):
         self.assertEqual((done.stdout[:13], done.stderr), ("one twotwo 10", ""))
 
     def test_the_lock_of_the_interpreter_is_asked_for(self):
-        words = ["gcc", "-fsyntax-only", "-I", BUILT / "include", HERE / "session.c"]
+        words = ["gcc", "-std=c99", "-Wall", "-Wextra", "-Werror", "-Wno-unused-function", "-fsyntax-only"]
+        words += ["-I", BUILT / "include", HERE / "session.c"]
         self.assertEqual(run(*words).returncode, 0)
         self.assertIn("needs the interpreter's lock", run(*words, "-DPy_GIL_DISABLED").stderr)
 
@@ -147,7 +148,7 @@ class Wheel(unittest.TestCase):
         for number, (source, option, tag) in enumerate(NEEDS):
             module = self.room / f"of{number}.so"
             words = ["gcc", "-shared", "-fPIC", "-x", "c", "-", "-x", "none", "-o", module, *option.split()]
-            self.assertEqual(run(*words, input=source.replace("\\n", "\n")).returncode, 0)
+            self.assertEqual(run(*words, input=source).returncode, 0)
             if tag:
                 self.assertEqual(setup.tag_of(module), tag)
             else:

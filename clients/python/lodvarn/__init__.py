@@ -118,10 +118,9 @@ def _asked(call: Any, *given: Any) -> int:
 def _place(call: Any, *given: Any) -> int:
     """Returns the place in bytes that a call finds, and one that no text has for a number that C has no room for."""
     try:
-        place: int = call(*given)
+        return int(call(*given))
     except OverflowError:
-        place = _SIZE_MOST
-    return place
+        return _SIZE_MOST
 
 
 def _pair(call: Any, *given: Any) -> Optional[tuple[int, int]]:
