@@ -46,9 +46,9 @@ def main():
             """A wheel for every Python from 3.8 on, with the tag that its extension module takes."""
 
             def get_tag(self):
-                # An editable one has no module in it: that is built in place.
-                built = [it for folder in (Path(self.bdist_dir), HERE) for it in folder.glob("lodvarn/*.so")]
-                return "cp38", "abi3", tag_of(built[0])
+                built = [*Path(self.bdist_dir).glob("lodvarn/*.so")]
+                # An editable one has no module in it, and serves this machine alone.
+                return ("cp38", "abi3", tag_of(built[0])) if built else super().get_tag()
 
         commands["bdist_wheel"] = Wheel
     setup(cffi_modules=["extension.py:made"], cmdclass=commands)
