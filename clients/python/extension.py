@@ -32,16 +32,21 @@ def ran(*words):
     return done.stdout
 
 
+def told(variable, version):
+    """Returns the folder that pkg-config tells of the library of that version."""
+    return Path(ran("pkg-config", "--print-errors", f"--variable={variable}", f"lodvarn = {version}").strip())
+
+
 def found(version):
     """Returns the archive and the folder of its header. Ends if there is none, or it is of another version."""
     named, built = os.environ.get("LODVARN_LIB"), HERE.parent / "out/lib"
-    folder = HERE / named if named else built if (HERE.parent / "build").is_file() and built.is_dir() else None
     try:
-        told = [] if folder else [
-            ran("pkg-config", "--print-errors", f"--variable={it}", f"lodvarn = {version}").strip()
-            for it in ("libdir", "includedir")
-        ]
-        archives, headers = (folder, folder / "../include") if folder else map(Path, told)
+        # Beside another copy of the package than that of a checkout a folder of that name may be anyone's.
+        if named or (HERE.parent / "build").is_file() and built.is_dir():
+            archives = HERE / named if named else built
+            headers = archives / "../include"
+        else:
+            archives, headers = told("libdir", version), told("includedir", version)
         header = re.findall(r"^#define LODVARN_VERSION_\w+ (\d+)$", (headers / "lodvarn.h").read_text(), re.M)
         if ".".join(header) != version:
             raise SystemExit(f"{headers}/lodvarn.h is of version {'.'.join(header)}, and this package of {version}")

@@ -26,9 +26,11 @@ class Refused(test_lodvarn.Mirrors):
 
     def leads_to_the_text(self, session, patience, kinds):
         """The copies hold also if memory is refused, by which many commands are refused, some of them halfway."""
+        self.refused = self.halfway = 0
         self.addCleanup(refuse, 0)
         refuse(12)
         super().leads_to_the_text(session, patience, kinds)
+        refuse(0)
         self.assertGreater(self.refused, 500)
         self.assertGreater(self.halfway, 50)
 

@@ -299,35 +299,26 @@ class Faults(Scripts):
         session.yank(0)
         self.refuses(lodvarn.BadYankSizeError, session, session.yank_pop)
         session.yank()
-        for call, given in [
-            (session.insert, ("é",)), (session.insert, ("c", 2)), (session.paste, ("c", 2)), (session.yank, ()),
-        ]:
+        for call, given in [(session.insert, ("é",)), (session.paste, ("c", 2)), (session.yank, ())]:
             self.refuses(lodvarn.NoRoomError, session, call, *given)
+        for given in [(2**63,), (1, 2**63)]:
+            self.refuses(lodvarn.NoMemoryError, session, session.watch, *given)
         session.watch()
         self.refuses(lodvarn.IsWatchedError, session, session.watch)
         for call, given in [
             (session.set_text, (2, "é")), (session.insert_at, (3, "x")), (session.replace, (2, 1, "x")),
-            (session.delete_range, (0, 3)), (session.kill_range, (0, 2**64 - 1)), (session.slice, (2, 1)),
-            (session.cluster_at, (3,)), (lodvarn.cell, (Screen(9), 2, "é")),
+            (session.cluster_at, (3,)), (session.slice, (0, 2**64)), (lodvarn.cell, (Screen(9), 2, "é")),
         ]:
             self.refuses(lodvarn.BadPlaceError, session, call, *given)
-
-    def test_numbers_that_are_none_are_refused(self):
-        session = Session("aé")
         for call, given in [
-            (session.insert, ("\ud800",)), (session.insert, ("a", 65536)), (session.undo, (65536,)),
-            (session.move, (Movement.chars_back(65536),)), (session.delete_by, (LINE,)), (session.watch, (0,)),
-            (session.covers, (Movement.search_for(Search.TO, "\ud800"),)), (session.indent, (LINE, 256)),
-            (lodvarn.place_at, (Screen(0), (0, 0), "")),
+            (session.insert, ("\ud800",)), (session.undo, (65536,)), (session.move, (Movement.chars_back(65536),)),
+            (session.delete_by, (LINE,)), (session.watch, (0,)), (session.indent, (LINE, 256)),
             *((lodvarn.cell, (Screen(*it), 0, "")) for it in [(0,), (65536,), (9, 65536), (9, 0, -1)]),
         ]:
             self.refuses(lodvarn.NoSuchNumberError, session, call, *given)
         for call in (session.paste, session.keep, session.restart, lodvarn.width):
             self.refuses(UnicodeEncodeError, session, call, "\ud800")
-        for given in [(2**63,), (1, 2**63)]:
-            with self.assertRaises(MemoryError) as raised:
-                session.watch(*given)
-            self.assertIs(type(raised.exception), lodvarn.NoMemoryError)
+        self.assertTrue(issubclass(lodvarn.NoMemoryError, MemoryError) and issubclass(lodvarn.ClosedError, ValueError))
 
     def test_wrong_arguments_are_refused(self):
         session = Session("ab")
@@ -361,7 +352,6 @@ class Faults(Scripts):
                 self.assertRaises(lodvarn.ClosedError, ask)
         self.assertLess({"kill", "text", "group", "__len__", "insert"}, names)
         self.assertEqual((repr(session), bool(session)), ("<Session closed>", True))
-        self.assertTrue(issubclass(lodvarn.ClosedError, ValueError))
 
     def test_a_session_that_is_opened_again_is_let_go_before(self):
         session = Session("ab")
@@ -674,20 +664,16 @@ class Mirrors(Scripts):
                 self.follow_splice(by_splices, session)
         self.assertEqual(told, kinds)
 
-    def test_a_queue_of_one_report(self):
-        session = Session("", limit_bytes=200)
-        session.watch(1)
-        self.leads_to_the_text(session, 1, set(ReportKind) - {ReportKind.KILL_STARTED, ReportKind.KILL_STOPPED})
-
-    def test_a_queue_of_four_reports_with_short_texts(self):
-        session = Session("", limit_bytes=200)
-        session.watch(4, 64)
-        self.leads_to_the_text(session, 3, set(ReportKind))
-
-    def test_a_queue_of_a_thousand_reports(self):
-        session = Session("", limit_bytes=200)
-        session.watch(1000)
-        self.leads_to_the_text(session, 30, set(ReportKind) - {ReportKind.FOLDED})
+    def test_queues_of_one_of_four_with_short_texts_and_of_many_reports(self):
+        told = set(ReportKind)
+        for room, patience, kinds in [
+            ((1,), 1, told - {ReportKind.KILL_STARTED, ReportKind.KILL_STOPPED}),
+            ((4, 64), 3, told),
+            ((1000,), 30, told - {ReportKind.FOLDED}),
+        ]:
+            session = Session("", limit_bytes=200)
+            session.watch(*room)
+            self.leads_to_the_text(session, patience, kinds)
 
 
 class Module(unittest.TestCase):
