@@ -17,12 +17,13 @@
 
 /* What the calls get. */
 typedef struct session {
-    lodvarn *s;      /* NULL once it is closed */
-    size_t told;     /* how many characters the text had when its changes were taken last */
-    char *copy;      /* while it is watched: the text as it was before the oldest report, */
-    size_t copy_len; /* how many bytes that has, */
-    size_t place;    /* a place of it, */
-    size_t index;    /* and the index of that */
+    lodvarn *s;   /* NULL once it is closed */
+    size_t told;  /* how many characters the text had when its changes were taken last */
+    char *copy;   /* while it is watched: the text before the oldest report, parted in two with free room between, */
+    size_t room;  /* how many bytes there are, */
+    size_t place; /* how many the first part has, from the start on, */
+    size_t index; /* how many characters that are, */
+    size_t rest;  /* and how many bytes the other part has, up to the end */
 } session;
 
 enum { BLOCK = 240 };
@@ -58,12 +59,6 @@ static lodvarn_view text_of(session *it) {
 static size_t place_of(session *it, long long index) {
     lodvarn_view text = text_of(it);
     return place_in(text.at, text.len, index);
-}
-
-static void py_close(session *it) {
-    lodvarn_close(&it->s);
-    free(it->copy);
-    it->copy = NULL;
 }
 
 static long long py_open(session *it, const lodvarn_options *options, const char *text, size_t len) {
@@ -131,12 +126,49 @@ static long long py_take_change(session *it, size_t out[3]) {
     return answer;
 }
 
-/* Reports count in texts that are gone, so a copy goes with them, from each to the next. */
+/* Reports count in texts that are gone, so a copy goes with them, from each to the next. It is parted where the oldest
+ * report is, since the next one is mostly near to it. */
 
-static bool find_room(session *it, size_t len) {
-    char *copy = realloc(it->copy, len + 1);
-    if (copy) it->copy = copy;
-    return copy != NULL;
+static char *rest_of(session *it) { return it->copy + it->room - it->rest; }
+
+/* Makes the copy one with room for more bytes, and gives back what is far too much. */
+static bool find_room(session *it, size_t more) {
+    size_t len = it->place + it->rest, room = len + more + len / 8 + 64;
+    bool has = it->room >= len + more;
+    char *copy = has && it->room / 4 <= room ? NULL : malloc(room);
+    if (!copy) return has;
+    if (it->copy) memcpy(copy, it->copy, it->place), memcpy(copy + room - it->rest, rest_of(it), it->rest);
+    free(it->copy);
+    it->copy = copy;
+    it->room = room;
+    return true;
+}
+
+/* Parts the copy at another place. */
+static void part_at(session *it, size_t place) {
+    char *rest = rest_of(it);
+    size_t back = place < it->place ? it->place - place : 0, ahead = place > it->place ? place - it->place : 0;
+    it->index = it->index - chars_in(it->copy + place, back) + chars_in(rest, ahead);
+    memmove(rest - back, it->copy + place, back);
+    memmove(it->copy + it->place, rest, ahead);
+    it->rest = it->rest + back - ahead;
+    it->place = place;
+}
+
+static size_t index_in_copy(session *it, size_t place) {
+    if (place < it->place) return it->index - chars_in(it->copy + place, it->place - place);
+    return it->index + chars_in(rest_of(it), place - it->place);
+}
+
+static void drop_copy(session *it) {
+    free(it->copy);
+    it->copy = NULL;
+    it->room = it->place = it->index = it->rest = 0;
+}
+
+static void py_close(session *it) {
+    lodvarn_close(&it->s);
+    drop_copy(it);
 }
 
 static long long py_watch(session *it, size_t reports, size_t text_bytes) {
@@ -144,14 +176,13 @@ static long long py_watch(session *it, size_t reports, size_t text_bytes) {
     int answer = it->s ? lodvarn_watch(it->s, reports, text_bytes) : LODVARN_CLOSED;
     if (answer <= 0) return answer;
     if (!find_room(it, text.len)) return lodvarn_unwatch(it->s), LODVARN_NO_MEMORY;
-    memcpy(it->copy, text.at, it->copy_len = text.len);
-    it->place = it->index = 0;
+    it->rest = text.len;
+    memcpy(rest_of(it), text.at, text.len);
     return answer;
 }
 
 static long long py_unwatch(session *it) {
-    free(it->copy);
-    it->copy = NULL;
+    drop_copy(it);
     return it->s ? lodvarn_unwatch(it->s) : LODVARN_CLOSED;
 }
 
@@ -172,43 +203,35 @@ static int read_report(session *it, lodvarn_report *report, lodvarn_view *came) 
     return answer;
 }
 
-/* Returns the index of a place of the copy, from the one that is known, since most are near to it. */
-static size_t index_in_copy(session *it, size_t place) {
-    if (place < it->place) return it->index - chars_in(it->copy + place, it->place - place);
-    return it->index + chars_in(it->copy + it->place, place - it->place);
-}
-
 /* Tells the oldest report, with indexes for places. */
 static long long py_next_report(session *it, lodvarn_report *report) {
     lodvarn_view came;
-    size_t end, after, pos;
+    size_t old_len, after, pos;
     int answer = read_report(it, report, &came);
     if (answer <= 0) return answer;
-    if (!find_room(it, it->copy_len + report->new_len)) return LODVARN_NO_MEMORY;
-    end = report->at + report->old_len, after = report->at + report->new_len, pos = report->pos_after;
-    it->index = index_in_copy(it, report->at);
-    it->place = report->at;
+    if (!find_room(it, report->new_len)) return LODVARN_NO_MEMORY;
+    part_at(it, report->at);
+    old_len = report->old_len, after = report->at + report->new_len, pos = report->pos_after;
     report->at = it->index;
-    report->old_len = chars_in(it->copy + it->place, end - it->place);
+    report->old_len = chars_in(rest_of(it), old_len);
     report->new_len = chars_in(came.at, came.len);
     report->pos_before = index_in_copy(it, report->pos_before);
     if (pos <= it->place) report->pos_after = index_in_copy(it, pos);
     else if (pos <= after) report->pos_after = it->index + chars_in(came.at, pos - it->place);
-    else report->pos_after = it->index + report->new_len + chars_in(it->copy + end, pos - after);
+    else report->pos_after = it->index + report->new_len + chars_in(rest_of(it) + old_len, pos - after);
     return answer;
 }
 
-/* Forgets the oldest report, for which py_next_report found room. */
+/* Forgets the oldest report, at which py_next_report parted the copy. */
 static long long py_forget_report(session *it) {
     lodvarn_view came;
     lodvarn_report report;
     int answer = read_report(it, &report, &came);
     if (answer <= 0) return answer;
-    char *at = it->copy + report.at;
-    size_t old_len = report.old_len, rest = it->copy_len - report.at - old_len;
-    memmove(at + came.len, at + old_len, rest);
-    memcpy(at, came.at, came.len);
-    it->copy_len += came.len - old_len;
-    find_room(it, it->copy_len);
+    memcpy(it->copy + it->place, came.at, came.len);
+    it->index += chars_in(came.at, came.len);
+    it->place += came.len;
+    it->rest -= report.old_len;
+    find_room(it, 0);
     return lodvarn_forget_report(it->s);
 }
