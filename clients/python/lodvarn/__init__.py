@@ -497,6 +497,7 @@ class Session:
 
     def insert(self, c: str, n: int = 1) -> bool:
         """Inserts a character n times at the cursor. Returns True. Raises NoRoomError."""
+        # What _do does, but sooner: no call is made as often as that of a letter.
         try:
             answer = _insert(self._it, c, n)
         except OverflowError:
