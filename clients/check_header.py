@@ -195,7 +195,7 @@ def main():
     structs = {in_crate(name): declared(body, ";") for body, name in STRUCT.findall(headers)}
     numbers, taken = numbers_of(headers)
     clients = {
-        "Python": named_by(read("clients/python/lodvarn/*.py"), r"numbers\."),
+        "Python": named_by(read("clients/python/lodvarn/*.py"), r"lib\.LODVARN_"),
         "Rust": named_by(read("clients/rust/lodvarn/src/**/*.rs"), r"(?:ffi::)?LODVARN_"),
     }
     # No client needs to tell these apart.
@@ -207,7 +207,9 @@ def main():
         see("a number of the crate", kinds_of(numbers), numbers_of_crate(read("crates/rl_ffi/src/numbers.rt", "crates/rl_ffi/src/answers.rt"))),
         see("the enums that calls take", {"values": len(taken)}, {"values": len(set(taken))}),
     ]
-    sums += [see(client, named, {k: v for k, v in used.items() if k in named}) for client, used in clients.items()]
+    # In Python the header's functions make the movements, and no str is refused for what it encodes to.
+    needed = {"Python": {k: v for k, v in named.items() if not k.endswith("_") and k != "NOT_UTF8"}, "Rust": named}
+    sums += [see(client, needed[client], {k: v for k, v in used.items() if k in named}) for client, used in clients.items()]
     passed, failed = (sum(counts) for counts in zip(*sums))
     print(f"{passed} passed, {failed} failed")
     return 1 if failed or not passed else 0

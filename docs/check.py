@@ -32,7 +32,7 @@ LINK = re.compile(r"!?\[[^\]]*\]\(<?([^)\s>]+)>?[^)]*\)")
 SPAN = re.compile(r"(`+)(.+?)\1", re.S)
 CALL = re.compile(r"\b(?:lodvarn_[a-z0-9_]*[a-z0-9]|LODVARN_[A-Z0-9_]*[A-Z0-9])\b(?!_)")
 # What the clients for Python and Rust read of the environment.
-VARIABLES = {"LODVARN_LIB", "LODVARN_LIBRARY"}
+VARIABLES = {"LODVARN_LIB"}
 CRATE = re.compile(r"\brl_[a-z]+\b")
 
 

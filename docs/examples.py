@@ -8,7 +8,7 @@ Before each fenced block of code stands a comment that says what it is:
 
     <!-- run: rattle -->    a program in Rattle, run by `rt try` in a copy of the crates, as an extra crate
     <!-- run: c -->         a program in C, built by gcc and pkg-config over the library in FOLDER (clients/out)
-    <!-- run: python -->    a program in Python, with the folder clients/python to import from
+    <!-- run: python -->    a program in Python, with the folder clients/python to import from, whose module is built
     <!-- run: rust -->      a program in Rust, in a package that depends on clients/rust/lodvarn
     <!-- run: script -->    lines for the program at PATH (crates/rl_script/out/rl_script)
     <!-- run: sh -->        commands for bash, run in a copy of the repository that has the library and the program
@@ -193,7 +193,6 @@ def run_c(text, place):
 
 def run_python(text, place):
     environment = {**os.environ, "PYTHONPATH": str(TOP / "clients/python"), "PYTHONDONTWRITEBYTECODE": "1"}
-    environment["LODVARN_LIBRARY"] = str(place.out / "lib/liblodvarn.so")
     return output([sys.executable, "-"], given=text, env=environment, cwd=place.folder())
 
 

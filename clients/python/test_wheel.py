@@ -1,48 +1,61 @@
-"""The package as a wheel: made of the library that is built, installed where nothing else is, and used from there."""
+"""The package as others get it: a source distribution, the wheel that is made of it, and its use by nothing else."""
 
-import base64
-import csv
-import hashlib
 import os
-import shutil
+import re
 import subprocess
 import sys
+import tarfile
 import tempfile
 import unittest
+from email import message_from_bytes
 from pathlib import Path
 from zipfile import ZipFile
 
 import lodvarn
+import setup
 import test_lodvarn
 
 HERE = Path(__file__).resolve().parent
-BUILT, HEADER = HERE.parent / "out/lib/liblodvarn.so", HERE.parent / "out/include/lodvarn.h"
-INFO = f"lodvarn-{lodvarn.__version__}.dist-info/"
-TAG = "py3-none-linux_x86_64"
-NAMES = [f"lodvarn/{it}" for it in ("__init__.py", "_library.py", "py.typed", "liblodvarn.so.0", "lodvarn.h")]
-NAMES += [f"{INFO}{it}" for it in ("LICENSE", "METADATA", "WHEEL", "RECORD")]
-# Edits a line, and says which library did it.
+BUILT = HERE.parent / "out"
+NAME = f"lodvarn-{lodvarn.__version__}"
+TAG = "cp38-abi3-manylinux_2_17_x86_64.manylinux2014_x86_64"
+INFO = [f"{NAME}.dist-info/{it}" for it in ("LICENSE", "METADATA", "RECORD", "WHEEL", "top_level.txt")]
+NAMES = [f"lodvarn/{it}" for it in ("__init__.py", "_lodvarn.abi3.so", "_lodvarn.pyi", "py.typed")]
+# Edits a line, and says which files of a library for C are there.
 EDIT = """
 import lodvarn
 with lodvarn.Session("one two") as session:
     session.kill(lodvarn.Movement.words_back(lodvarn.Word.EMACS))
     session.yank(2)
-    print(session.text, session.index)
+    print(session, session.pos, lodvarn.__file__)
 print({it.split()[-1] for it in open("/proc/self/maps") if "liblodvarn" in it})
 """
 TYPED = """
 import lodvarn
 with lodvarn.Session("one") as session:
-    index: int = session.index
-    text: str = session.index
+    pos: int = session.pos
+    text: str = session.pos
+    session.insrt("a")
 """
+# A module, what its link is told, and the tag that its needs lead to, or none.
+NEEDS = [
+    ("#include <stdlib.h>\nvoid *f(void) { return malloc(1); }", "", "manylinux_2_17_x86_64.manylinux2014_x86_64"),
+    ("#include <pthread.h>\nint f(pthread_t t) { return pthread_join(t, 0); }", "", "manylinux_2_34_x86_64"),
+    ("#include <math.h>\ndouble f(double x) { return sin(x); }", "-lm", None),
+]
 
 
 def run(*words, **given):
-    """Runs the words without the variables that Python, pip and lodvarn look at."""
-    plain = {name: it for name, it in os.environ.items() if not name.startswith(("PYTHON", "PIP_", "LODVARN_"))}
+    """Runs the words without the variables that Python, pip and the package look at."""
+    plain = {name: it for name, it in os.environ.items() if not name.startswith(("PYTHON", "PIP_", "LODVARN_", "PKG_"))}
     environment = {**plain, "PYTHONDONTWRITEBYTECODE": "1", **given.pop("env", {})}
-    return subprocess.run(words, capture_output=True, text=True, env=environment, **given)
+    return subprocess.run([*map(str, words)], capture_output=True, text=True, env=environment, **given)
+
+
+def makers():
+    """The interpreters that are there, those first that have what makes wheels."""
+    known = dict.fromkeys([sys.executable, "/usr/bin/python3"])
+    return sorted(filter(os.path.exists, known), key=lambda it: run(it, "-c", "import build, cffi, wheel").returncode)
 
 
 class Wheel(unittest.TestCase):
@@ -51,63 +64,85 @@ class Wheel(unittest.TestCase):
         room = tempfile.TemporaryDirectory(prefix="lodvarn-")
         cls.addClassCleanup(room.cleanup)
         cls.room = Path(room.name).resolve()
-        cls.python = cls.room / "own/bin/python"
-        cls.succeeds(sys.executable, "-m", "venv", cls.room / "own")
-        cls.succeeds(*cls.making(HERE))
-        (cls.wheel,) = cls.room.glob("*.whl")
-        cls.succeeds(cls.python, "-m", "pip", "--isolated", "install", "--no-index", cls.wheel)
+        cls.maker, *cls.others = makers()
+        own = cls.room / "own"
+        cls.succeeds(cls.maker, "-m", "venv", "--system-site-packages", own)
+        # The wheel is made of the source distribution, in a folder of its own, by the library that is installed.
+        cls.succeeds(HERE.parent / "build", "install", "--built", cls.room / "apart")
+        making = [cls.maker, "-m", "build", "--no-isolation", "--outdir", cls.room, HERE]
+        cls.succeeds(*making, env={"PKG_CONFIG_PATH": str(cls.room / "apart/lib/pkgconfig")})
+        (cls.wheel,), (cls.source,) = cls.room.glob("*.whl"), cls.room.glob("*.tar.gz")
+        # Neither gcc nor rt is on that path.
+        cls.python, cls.alone = own / "bin/python", {"PATH": str(own / "bin")}
+        cls.succeeds(cls.python, "-m", "pip", "--isolated", "install", "--no-index", cls.wheel, env=cls.alone)
 
     @classmethod
-    def succeeds(cls, *words):
+    def succeeds(cls, *words, **given):
         """Runs the words, which must end well."""
-        done = run(*words, cwd=cls.room)
+        done = run(*words, cwd=cls.room, **given)
         if done.returncode:
             raise AssertionError(done.stdout + done.stderr)
 
-    @classmethod
-    def making(cls, folder):
-        """The words that make a wheel of the package in a folder, without a network."""
-        options = ["--no-index", "--no-build-isolation", "--no-deps", "--no-cache-dir", "--wheel-dir", cls.room]
-        return [cls.python, "-m", "pip", "--isolated", "wheel", *options, folder]
-
-    def test_it_holds_the_package_and_the_library(self):
-        self.assertEqual(self.wheel.name, f"lodvarn-{lodvarn.__version__}-{TAG}.whl")
+    def test_it_holds_the_package_and_one_module(self):
+        self.assertEqual(self.wheel.name, f"{NAME}-{TAG}.whl")
         with ZipFile(self.wheel) as wheel:
-            self.assertEqual(wheel.namelist(), NAMES)
-            self.assertIn(f"\nTag: {TAG}\n", wheel.read(f"{INFO}WHEEL").decode())
-            self.assertEqual([wheel.read(it) for it in NAMES[3:5]], [BUILT.read_bytes(), HEADER.read_bytes()])
-            content = {name: wheel.read(name) for name in NAMES}
-        rows = {}
-        for name, it in content.items():
-            digest = base64.urlsafe_b64encode(hashlib.sha256(it).digest()).decode().rstrip("=")
-            rows[name] = [f"sha256={digest}", str(len(it))]
-        rows[f"{INFO}RECORD"] = ["", ""]
-        self.assertEqual({it[0]: it[1:] for it in csv.reader(content[f"{INFO}RECORD"].decode().splitlines())}, rows)
-
-    def test_each_place_of_the_library_is_found(self):
-        (beside,) = self.room.glob(f"own/lib/*/site-packages/{NAMES[3]}")
-        for python, given, library in [
-            (self.python, {}, beside),
-            (self.python, {"LODVARN_LIBRARY": str(BUILT)}, BUILT),
-            (sys.executable, {"PYTHONPATH": str(HERE)}, BUILT),
+            self.assertEqual(sorted(wheel.namelist()), sorted([*INFO, *NAMES]))
+            said = message_from_bytes(wheel.read(INFO[1]))
+        for name, wanted in [
+            ("Version", lodvarn.__version__), ("Requires-Dist", "cffi *\\(?>=1.15\\)?"), ("License-File", "LICENSE"),
+            ("Requires-Python", ">=3.8"), ("Description-Content-Type", "text/markdown"), ("Summary", "A line of .*"),
         ]:
-            with self.subTest(python=python, given=given):
-                done = run(python, "-c", EDIT, cwd=self.room, env=given)
-                self.assertEqual((done.stdout, done.stderr), (f"one twotwo 10\n{{'{library}'}}\n", ""))
-        done = run(self.python, "-c", EDIT, cwd=self.room, env={"LODVARN_LIBRARY": "/nowhere"})
-        self.assertIn("OSError: /nowhere", done.stderr)
+            self.assertRegex(said[name], f"^{wanted}$")
+        self.assertIn("License :: OSI Approved :: MIT License", said.get_all("Classifier"))
+        self.assertEqual(said.get_payload().strip(), (HERE / "README.md").read_text().strip())
+
+    def test_each_interpreter_takes_it(self):
+        (package,) = self.room.glob("own/lib/*/site-packages")
+        for python, environment in [(self.python, {}), *((it, {"PYTHONPATH": str(package)}) for it in self.others)]:
+            with self.subTest(python=python):
+                done = run(python, "-c", EDIT, cwd=self.room, env={**self.alone, **environment})
+                self.assertEqual((done.stdout, done.stderr), (f"one twotwo 10 {package}/{NAMES[0]}\nset()\n", ""))
 
     def test_its_types_are_seen(self):
         (self.room / "typed.py").write_text(TYPED)
         own = f"--python-executable={self.python}"
         done = run("mypy", "--strict", "--cache-dir=/dev/null", own, "typed.py", cwd=self.room)
-        self.assertRegex(done.stdout, r'\Atyped.py:5: error: .*"int".*"str".*\nFound 1 error')
+        self.assertRegex(done.stdout, r'\Atyped.py:5: error: .*"int".*"str".*\ntyped.py:6: error: .*insrt.*\nFound 2 ')
 
-    def test_it_asks_for_the_library(self):
-        shutil.copytree(HERE, self.room / "clients/python")
-        done = run(*self.making(self.room / "clients/python"))
-        self.assertNotEqual(done.returncode, 0)
-        self.assertIn("liblodvarn.so.0 is not there: run clients/build", done.stdout + done.stderr)
+    def test_the_source_asks_for_the_library(self):
+        with tarfile.open(self.source) as source:
+            source.extractall(self.room)
+        other = self.room / "include"
+        other.mkdir()
+        (self.room / "lib").mkdir()
+        header = (BUILT / "include/lodvarn.h").read_text()
+        (other / "lodvarn.h").write_text(re.sub(r"(_VERSION_MINOR) \d+", r"\1 77", header))
+        for environment, wanted in [
+            ({"LODVARN_LIB": "/nowhere"}, "/nowhere(.|\\n)*- Run `clients/build install PREFIX`"),
+            ({"PKG_CONFIG_LIBDIR": "/nowhere"}, "pkg-config: "),
+            ({"LODVARN_LIB": str(self.room / "lib")}, "is of version 0.77.0, and this package of"),
+        ]:
+            with self.subTest(environment=environment):
+                done = run(self.maker, "setup.py", "build_ext", cwd=self.room / NAME, env=environment)
+                self.assertRegex(done.stderr, "is built on the library for C, which is not there(.|\\n)*" + wanted)
+        done = run(self.maker, "setup.py", "build_ext", cwd=self.room / NAME, env={"LODVARN_LIB": str(BUILT / "lib")})
+        self.assertEqual(done.returncode, 0, done.stderr)
+
+    def test_the_lock_of_the_interpreter_is_asked_for(self):
+        words = ["gcc", "-std=c99", "-Wall", "-Wextra", "-Werror", "-Wno-unused-function", "-fsyntax-only"]
+        words += ["-I", BUILT / "include", HERE / "session.c"]
+        self.assertEqual(run(*words).returncode, 0)
+        self.assertIn("needs the interpreter's lock", run(*words, "-DPy_GIL_DISABLED").stderr)
+
+    def test_a_module_gets_the_tag_of_what_it_needs(self):
+        for number, (source, option, tag) in enumerate(NEEDS):
+            module = self.room / f"of{number}.so"
+            words = ["gcc", "-shared", "-fPIC", "-x", "c", "-", "-x", "none", "-o", module, *option.split()]
+            self.assertEqual(run(*words, input=source).returncode, 0)
+            if tag:
+                self.assertEqual(setup.tag_of(module), tag)
+            else:
+                self.assertRaises(SystemExit, setup.tag_of, module)
 
 
 if __name__ == "__main__":

@@ -89,7 +89,7 @@ KEYS: Dict[str, Callable[[Vi, Iterator[str]], object]] = {
 }
 
 if __name__ == "__main__":
-    (vi := Vi(CONTROL.sub("", " ".join(sys.argv[1:])).rstrip("\n") + "\n", limit=None)).set_pos(0)
+    (vi := Vi(CONTROL.sub("", " ".join(sys.argv[1:])).rstrip("\n") + "\n", limit_bytes=None)).pos = 0
     with RawTerminal(has_screen=True) as terminal:
         keys = terminal.keys(vi.draw)
         while (key := next(keys, "\x03")) not in ("\r", "\x03"):

@@ -5,13 +5,14 @@ import re
 from typing import Callable, Dict, Iterator
 
 from arithmetic import LIMIT, evaluate
-from lodvarn import Movement, NoRoom, Screen, Session, Stop, Word, cell, first_cluster, width
+from lodvarn import Movement, NoRoomError, Screen, Session, Stop, Word, cell, first_cluster, width
 from raw_terminal import RawTerminal
 
 PROMPT, SECONDS = "> ", 0.2  # The seconds are those to wait for the rest of a key.
 # A key is a character, or an escape with what belongs to it, which may be cut short. None is found if it may go on.
 KEY = re.compile(r"\x1b\[[ -?]*[@-~]|\x1bO[ -~]|\x1b[^\[O\0-\x1f]|\x1b(\[[ -?]*|O)?(?=[^ -~])|[^\x1b]")
 SAME = {f"M-[{end}": f"C-{c}" for end, c in zip("A B C D H 1~ F 4~".split(), "pnfbaaee")}  # Arrows, Home, End.
+
 
 def transpose(session: Session) -> bool:
     """Exchanges two characters. One undo takes back both of its changes."""
@@ -78,7 +79,7 @@ def edit(session: Session, terminal: RawTerminal) -> None:
         else:
             try:
                 done = KEYS[key](session) if key in KEYS else len(key) == 1 and session.insert(key)
-            except NoRoom:
+            except NoRoomError:
                 done = False
             print("" if done else "\a", end="")
 
@@ -91,7 +92,7 @@ def main() -> None:
         return
     try:
         with RawTerminal() as terminal:
-            edit(Session(limit=LIMIT), terminal)
+            edit(Session(limit_bytes=LIMIT), terminal)
     finally:
         print()
 

@@ -1,4 +1,4 @@
-"""Lodvarn for Python: a line of text with its cursor, its undo and its kill ring.
+"""Lodvarn for Python: a line of text with its cursor, its undo record and its kill ring.
 
     from lodvarn import Movement, Session, Word
 
@@ -7,132 +7,156 @@
         session.yank()
         print(session.text, session.pos)
 
-It calls the shared library liblodvarn.so: the one that the environment's LODVARN_LIBRARY names, else the one beside
-this file, else the one that clients/build made in clients/out, else the system's. A place is a number of bytes from the
-start of the text's UTF-8. It must be a boundary: an end of the text, or between two characters. An index is a number of
-characters. A count n is of grapheme clusters, words, lines or repetitions, at most 65535. Lines and columns count from
-0. A call that is refused raises a Fault, an argument of another type TypeError, and a number that C has no room for
-OverflowError. One thread at a time uses a session, and no signal handler changes one. docs/RULES.md says exactly what
-each call does.
+A place is an index of the text, as of any str: session.text[start:end] is what stands between two places. Only what has
+`bytes` in its name counts bytes of UTF-8. A count n is of grapheme clusters, words, lines or repetitions, at most
+65535. Lines and columns count from 0. A command returns whether there was anything to do. What is refused raises a
+LodvarnError; one for a place or a number that is out of its range is a ValueError too. One thread at a time uses a
+session, and no signal handler changes one. A call keeps the interpreter's lock, so other threads wait for its end.
 """
 
 from __future__ import annotations
 
-import ctypes
-import operator
 from contextlib import contextmanager, suppress
-from dataclasses import dataclass
-from enum import IntEnum
+from dataclasses import dataclass, field
+from enum import Enum
+from itertools import chain, compress
 from types import TracebackType
 from typing import Any, Callable, Iterator, NamedTuple, Optional, TypeVar
 
-from ._library import load, numbers, structs, version_of
+from ._lodvarn import ffi, lib
 
 __all__ = [
-    "BadPlace",
-    "BadYankSize",
-    "Case",
-    "Closed",
-    "Direction",
-    "Fault",
-    "IsWatched",
-    "Mode",
-    "Movement",
-    "NoMemory",
-    "NoRoom",
-    "NoSuchNumber",
-    "NotReplaying",
-    "NotUtf8",
-    "Report",
-    "ReportKind",
-    "Screen",
-    "Search",
-    "Session",
-    "Splice",
-    "Stop",
-    "Word",
-    "cell",
-    "first_cluster",
-    "last_cluster",
-    "place_at",
-    "run_script",
-    "version",
-    "width",
+    "BadPlaceError", "BadYankSizeError", "Case", "ClosedError", "Direction", "IsWatchedError", "LodvarnError", "Mode",
+    "Movement", "NoMemoryError", "NoRoomError", "NoSuchNumberError", "NotReplayingError", "Report", "ReportKind",
+    "Screen", "Search", "Session", "Splice", "Stop", "Word", "cell", "first_cluster", "last_cluster", "place_at",
+    "run_script", "width",
 ]
 
-# That of include/lodvarn.h, and of the library.
 __version__ = "0.1.0"
 
 
-class Fault(Exception):
+class LodvarnError(Exception):
     """A call was refused. Text, cursor and record are as they were, except that an edit of several steps which ran out
     of memory stops after the steps that it made."""
 
 
-class NoMemory(Fault, MemoryError):
+class NoMemoryError(LodvarnError, MemoryError):
     """Out of memory."""
 
 
-class BadPlace(Fault, ValueError):
-    """A place is past the text's end or inside a character, or two places are out of order."""
+class BadPlaceError(LodvarnError, ValueError):
+    """A place is before the text's start or past its end, or two places are out of order."""
 
 
-class BadYankSize(Fault):
+class BadYankSizeError(LodvarnError):
     """What was yanked does not stand before the cursor."""
 
 
-class NotReplaying(Fault):
+class NotReplayingError(LodvarnError):
     """The entries to keep do not lead to the present text."""
 
 
-class NoRoom(Fault):
+class NoRoomError(LodvarnError):
     """The text would get longer than the limit."""
 
 
-class NotUtf8(Fault, ValueError):
-    """A text is not UTF-8. A str that can be encoded is UTF-8."""
+class NoSuchNumberError(LodvarnError, ValueError):
+    """A number is out of its range, as a count above 65535, or no character; or a call does not take a movement."""
 
 
-class NoSuchNumber(Fault, ValueError):
-    """A number is no character, or a count above 65535; or a call does not take 0, or that movement."""
-
-
-class IsWatched(Fault):
+class IsWatchedError(LodvarnError):
     """The session keeps reports already."""
 
 
-class Closed(Fault, ValueError):
+class ClosedError(LodvarnError, ValueError):
     """The session is closed."""
 
 
-_FAULTS: dict[int, type[Fault]] = {
-    numbers.NO_MEMORY: NoMemory,
-    numbers.BAD_PLACE: BadPlace,
-    numbers.BAD_YANK_SIZE: BadYankSize,
-    numbers.NOT_REPLAYING: NotReplaying,
-    numbers.NO_ROOM: NoRoom,
-    numbers.NOT_UTF8: NotUtf8,
-    numbers.NO_SUCH_NUMBER: NoSuchNumber,
-    numbers.IS_WATCHED: IsWatched,
-    numbers.CLOSED: Closed,
+_ERRORS: dict[int, type[LodvarnError]] = {
+    lib.LODVARN_NO_MEMORY: NoMemoryError,
+    lib.LODVARN_BAD_PLACE: BadPlaceError,
+    lib.LODVARN_BAD_YANK_SIZE: BadYankSizeError,
+    lib.LODVARN_NOT_REPLAYING: NotReplayingError,
+    lib.LODVARN_NO_ROOM: NoRoomError,
+    lib.LODVARN_NO_SUCH_NUMBER: NoSuchNumberError,
+    lib.LODVARN_IS_WATCHED: IsWatchedError,
+    lib.LODVARN_CLOSED: ClosedError,
 }
+_T = TypeVar("_T")
+# What is looked up once, since it is asked often.
+_new, _insert, _index = ffi.new, lib.py_insert, lib.py_index
+_VIEW, _REPORT = ffi.typeof("lodvarn_view *"), ffi.typeof("lodvarn_report *")
+_NO_SUCH_NUMBER: int = lib.LODVARN_NO_SUCH_NUMBER
+_SIZE_MOST: int = 2 ** (8 * ffi.sizeof("size_t")) - 1
 
 
-def _see(answer: int, call: Any, given: object) -> int:
-    """Returns the answer of a call. Raises a Fault if it is an error."""
+def _fitted(call: Any, *given: Any) -> Any:
+    """Makes a call. Raises NoSuchNumberError if C has no room for a number."""
+    try:
+        return call(*given)
+    except OverflowError:
+        raise NoSuchNumberError(NoSuchNumberError.__doc__) from None
+
+
+def _seen(call: Any, answer: int) -> int:
+    """Returns the answer of a call. Raises a LodvarnError if it is an error."""
     if answer < 0:
-        raise _FAULTS[answer](f"{call.__name__}: {_FAULTS[answer].__doc__}")
+        error = _ERRORS[answer]
+        raise error(f"{call.__name__.partition('_')[2]}: {error.__doc__}")
     return answer
 
 
-_calls = load(__version__, _see)
-_T = TypeVar("_T")
-_Size = ctypes.c_size_t
-_U16_MOST, _SIZE_MOST = 0xFFFF, _Size(-1).value
+def _asked(call: Any, *given: Any) -> int:
+    """Makes a call. Returns its answer. Raises a LodvarnError if it is an error."""
+    try:
+        answer: int = call(*given)
+    except OverflowError:
+        answer = _NO_SUCH_NUMBER
+    return answer if answer >= 0 else _seen(call, answer)
 
-# Makes a str of bytes that the library lends.
-_decode = ctypes.pythonapi.PyUnicode_FromStringAndSize
-_decode.argtypes, _decode.restype = [ctypes.c_void_p, ctypes.c_ssize_t], ctypes.py_object
+
+def _place(call: Any, *given: Any) -> int:
+    """Returns the place in bytes that a call finds, and one that no text has for a number that C has no room for."""
+    try:
+        return int(call(*given))
+    except OverflowError:
+        return _SIZE_MOST
+
+
+def _pair(call: Any, *given: Any) -> Optional[tuple[int, int]]:
+    """Makes a call that tells two numbers. Returns them, or None if there was nothing to tell."""
+    out = _new("size_t[2]")
+    return (out[0], out[1]) if _asked(call, *given, out) else None
+
+
+def _position(call: Any, *given: Any) -> tuple[int, int]:
+    """Makes a call that tells a line and a column. Returns them."""
+    out = _new("lodvarn_position *")
+    _asked(call, *given, out)
+    return out.line, out.column
+
+
+def _size(call: Any, *given: Any) -> int:
+    """Makes a call that tells a size. Returns it, or 0 if there was nothing to tell."""
+    out = _new("size_t *")
+    return int(out[0]) if _asked(call, *given, out) else 0
+
+
+def _str(view: Any) -> str:
+    """Returns a text that is lent."""
+    return str(ffi.buffer(view.at, view.len), "utf-8")
+
+
+def _lent(call: Any, *given: Any) -> Optional[str]:
+    """Makes a call that lends a text. Returns it, or None if there was nothing to lend."""
+    view = _new(_VIEW)
+    return _str(view) if _asked(call, *given, view) else None
+
+
+def _sent(text: str) -> tuple[bytes, int]:
+    """Returns the bytes of a text and their length, as the library takes it. What is no str is a TypeError."""
+    given = str.encode(text)
+    return given, len(given)
 
 
 def _of(kind: type[_T], given: object) -> _T:
@@ -142,17 +166,9 @@ def _of(kind: type[_T], given: object) -> _T:
     raise TypeError(f"{given!r} is no {kind.__name__}")
 
 
-def _size(number: int, most: int = _SIZE_MOST) -> int:
-    """Returns the number. Raises OverflowError if it is below 0 or above `most`: ctypes would cut it off silently."""
-    number = operator.index(number)
-    if 0 <= number <= most:
-        return number
-    raise OverflowError(f"{number} is not from 0 to {most}")
-
-
 def _or_most(size: Optional[int]) -> int:
     """Returns a limit or a bound as the library takes it, for which None is none."""
-    return _SIZE_MOST if size is None else _size(size)
+    return _SIZE_MOST if size is None else size
 
 
 def _or_none(size: int) -> Optional[int]:
@@ -160,192 +176,166 @@ def _or_none(size: int) -> Optional[int]:
     return None if size == _SIZE_MOST else size
 
 
-def _sent(text: str) -> tuple[bytes, int]:
-    """Returns the bytes of a text and their length, as the library takes it. What is no str is a TypeError."""
-    given = str.encode(text)
-    return given, len(given)
-
-
-def _char(c: str) -> int:
-    """Returns the number of a character."""
-    return ord(_of(str, c))
-
-
-def _range(start: int, end: int) -> Any:
-    """Returns what stands between two places, as the library takes it."""
-    return structs.range(_size(start), _size(end))
-
-
-def _told(kind: Any, call: Any, *given: Any) -> Any:
-    """Makes a call that writes a struct. Returns the fields, or None if there was nothing to tell."""
-    out = kind()
-    return out.values if call(*given, out) > 0 else None
-
-
-def _told_pair(kind: Any, call: Any, *given: Any) -> Optional[tuple[int, int]]:
-    """Makes a call that writes a struct of two sizes. Returns them, or None if there was nothing to tell."""
-    pair: Optional[tuple[int, int]] = _told(kind, call, *given)
-    return pair
-
-
-def _told_size(call: Any, *given: Any) -> Optional[int]:
-    """Makes a call that writes a size. Returns it, or None if there was nothing to tell."""
-    out = _Size()
-    return out.value if call(*given, out) > 0 else None
-
-
-class Mode(IntEnum):
+class Mode(Enum):
     """How columns are counted."""
 
-    UNICODE = numbers.UNICODE
-    WC_WIDTH = numbers.WC_WIDTH
-    NO_ZWJ = numbers.NO_ZWJ
+    UNICODE = lib.LODVARN_UNICODE
+    WC_WIDTH = lib.LODVARN_WC_WIDTH
+    NO_ZWJ = lib.LODVARN_NO_ZWJ
 
 
-class Word(IntEnum):
+class Word(Enum):
     """What belongs to a word: everything but blanks; letters and digits; or letters, digits and _."""
 
-    BIG = numbers.BIG
-    EMACS = numbers.EMACS
-    VI = numbers.VI
+    BIG = lib.LODVARN_BIG
+    EMACS = lib.LODVARN_EMACS
+    VI = lib.LODVARN_VI
 
 
-class Stop(IntEnum):
+class Stop(Enum):
     """Where a movement forward by words stops: at the start of a word, at its last cluster, or after it."""
 
-    AT_START = numbers.AT_START
-    BEFORE_END = numbers.BEFORE_END
-    AFTER_END = numbers.AFTER_END
+    AT_START = lib.LODVARN_AT_START
+    BEFORE_END = lib.LODVARN_BEFORE_END
+    AFTER_END = lib.LODVARN_AFTER_END
 
 
-class Search(IntEnum):
+class Search(Enum):
     """Where a search for a character goes: to the character, or to just before it on the way."""
 
-    TO = numbers.TO
-    TO_BEFORE = numbers.TO_BEFORE
-    BACK_TO = numbers.BACK_TO
-    BACK_TO_AFTER = numbers.BACK_TO_AFTER
+    TO = lib.LODVARN_TO
+    TO_BEFORE = lib.LODVARN_TO_BEFORE
+    BACK_TO = lib.LODVARN_BACK_TO
+    BACK_TO_AFTER = lib.LODVARN_BACK_TO_AFTER
 
 
-class Direction(IntEnum):
+class Direction(Enum):
     """To which end of the ring's text a killed range goes: to the end, as what stood after the cursor, or to the front,
     as what stood before it."""
 
-    FORWARD = numbers.FORWARD
-    BACKWARD = numbers.BACKWARD
+    FORWARD = lib.LODVARN_FORWARD
+    BACKWARD = lib.LODVARN_BACKWARD
 
 
-class Case(IntEnum):
+class Case(Enum):
     """The letter case that a word gets."""
 
-    CAPITALIZE = numbers.CAPITALIZE
-    LOWERCASE = numbers.LOWERCASE
-    UPPERCASE = numbers.UPPERCASE
+    CAPITALIZE = lib.LODVARN_CAPITALIZE
+    LOWERCASE = lib.LODVARN_LOWERCASE
+    UPPERCASE = lib.LODVARN_UPPERCASE
 
 
-class ReportKind(IntEnum):
+class ReportKind(Enum):
     """What kind of change a report is of.
 
     The deletions between KILL_STARTED and KILL_STOPPED are a kill; these two are of no change, and their numbers are 0.
     Each change of an undo and of a redo is REPLACED. FOLDED is all that waited and all that came since, as one change.
     """
 
-    CHAR_INSERTED = numbers.CHAR_INSERTED
-    TEXT_INSERTED = numbers.TEXT_INSERTED
-    DELETED_FORWARD = numbers.DELETED_FORWARD
-    DELETED_BACKWARD = numbers.DELETED_BACKWARD
-    REPLACED = numbers.REPLACED
-    KILL_STARTED = numbers.KILL_STARTED
-    KILL_STOPPED = numbers.KILL_STOPPED
-    FOLDED = numbers.FOLDED
+    CHAR_INSERTED = lib.LODVARN_CHAR_INSERTED
+    TEXT_INSERTED = lib.LODVARN_TEXT_INSERTED
+    DELETED_FORWARD = lib.LODVARN_DELETED_FORWARD
+    DELETED_BACKWARD = lib.LODVARN_DELETED_BACKWARD
+    REPLACED = lib.LODVARN_REPLACED
+    KILL_STARTED = lib.LODVARN_KILL_STARTED
+    KILL_STOPPED = lib.LODVARN_KILL_STOPPED
+    FOLDED = lib.LODVARN_FOLDED
 
 
-class Movement(NamedTuple):
-    """Where a motion goes, and what a kill, a copy or an indent covers. The methods make one."""
+_KINDS = {it.value: it for it in ReportKind}
 
-    kind: int
-    c: int = 0
-    n: int = 0
+
+@dataclass(frozen=True)
+class Movement:
+    """Where a motion goes, and what a kill, a copy or an indent covers. The class methods make one."""
+
+    name: str
+    given: tuple[object, ...]
+    _in_c: Any = field(repr=False, compare=False)
+
+    @classmethod
+    def _made(cls, name: str, *given: Any) -> Movement:
+        """Returns the movement that the function of that name makes. Raises NoSuchNumberError."""
+        in_c = (it.value if isinstance(it, Enum) else it for it in given)
+        return cls(name, given, _fitted(getattr(lib, f"lodvarn_{name}"), *in_c))
 
     @classmethod
     def whole_line(cls) -> Movement:
         """The cursor's whole line."""
-        return cls(numbers.WHOLE_LINE_)
+        return cls._made("whole_line")
 
     @classmethod
     def to_line_start(cls) -> Movement:
         """To the start of the cursor's line."""
-        return cls(numbers.TO_LINE_START_)
+        return cls._made("to_line_start")
 
     @classmethod
     def to_line_end(cls) -> Movement:
         """To the end of the cursor's line."""
-        return cls(numbers.TO_LINE_END_)
+        return cls._made("to_line_end")
 
     @classmethod
     def to_first_nonblank(cls) -> Movement:
         """To the first character of the cursor's line that is no blank, or to the line's end."""
-        return cls(numbers.TO_FIRST_NONBLANK_)
+        return cls._made("to_first_nonblank")
 
     @classmethod
     def words_back(cls, word: Word, n: int = 1) -> Movement:
         """To the start of the n-th word back."""
-        return cls(numbers.WORDS_BACK_ + _of(Word, word) - Word.BIG, 0, _size(n))
+        return cls._made("words_back", _of(Word, word), n)
 
     @classmethod
     def words_forward(cls, word: Word, stop: Stop, n: int = 1) -> Movement:
         """To the n-th word forward, and there to the place that `stop` says."""
-        at = 3 * (_of(Word, word) - Word.BIG) + _of(Stop, stop) - Stop.AT_START
-        return cls(numbers.WORDS_FORWARD_ + at, 0, _size(n))
+        return cls._made("words_forward", _of(Word, word), _of(Stop, stop), n)
 
     @classmethod
     def search_for(cls, search: Search, c: str, n: int = 1) -> Movement:
         """To the n-th character c, or the farthest if there are fewer."""
-        return cls(numbers.SEARCH_ + _of(Search, search) - Search.TO, _char(c), _size(n))
+        return cls._made("search_for", _of(Search, search), c, n)
 
     @classmethod
     def from_first_word(cls) -> Movement:
         """From the first start of a big word after the start of the text to the cursor. No motion."""
-        return cls(numbers.FROM_FIRST_WORD_)
+        return cls._made("from_first_word")
 
     @classmethod
     def chars_back(cls, n: int = 1) -> Movement:
         """n grapheme clusters back."""
-        return cls(numbers.CHARS_BACK_, 0, _size(n))
+        return cls._made("chars_back", n)
 
     @classmethod
     def chars_forward(cls, n: int = 1) -> Movement:
         """n grapheme clusters forward."""
-        return cls(numbers.CHARS_FORWARD_, 0, _size(n))
+        return cls._made("chars_forward", n)
 
     @classmethod
     def lines_up(cls, n: int = 1) -> Movement:
         """n lines up, in the column of the cursor."""
-        return cls(numbers.LINES_UP_, 0, _size(n))
+        return cls._made("lines_up", n)
 
     @classmethod
     def lines_down(cls, n: int = 1) -> Movement:
         """n lines down, in the column of the cursor."""
-        return cls(numbers.LINES_DOWN_, 0, _size(n))
+        return cls._made("lines_down", n)
 
     @classmethod
     def whole_text(cls) -> Movement:
         """The whole text."""
-        return cls(numbers.WHOLE_TEXT_)
+        return cls._made("whole_text")
 
     @classmethod
     def to_text_start(cls) -> Movement:
         """To the start of the text."""
-        return cls(numbers.TO_TEXT_START_)
+        return cls._made("to_text_start")
 
     @classmethod
     def to_text_end(cls) -> Movement:
         """To the end of the text."""
-        return cls(numbers.TO_TEXT_END_)
+        return cls._made("to_text_end")
 
 
-@dataclass(frozen=True)
-class Splice:
+class Splice(NamedTuple):
     """What stood from `start` to `old_end` gave way to what stands from `start` to `new_end` now."""
 
     start: int
@@ -353,9 +343,8 @@ class Splice:
     new_end: int
 
 
-@dataclass(frozen=True)
-class Report:
-    """At a place `old_len` bytes went and `new_len` bytes came, and the cursor went from one place to another.
+class Report(NamedTuple):
+    """At a place `old_len` characters went and `new_len` came, and the cursor went from one place to another.
 
     `old_text` and `new_text` are what went and what came, or None if that was not kept: if the session keeps no texts,
     and if the kind is FOLDED. Then what came stands in the present text.
@@ -381,15 +370,10 @@ class Screen(NamedTuple):
     mode: Mode = Mode.UNICODE
 
 
-def _by(movement: Movement) -> Any:
-    """Returns a movement as the library takes it."""
-    return structs.movement(*_of(Movement, movement))
-
-
-def _on(screen: Screen) -> Any:
+def _on(screen: Screen) -> list[tuple[int, int, int, int]]:
     """Returns a screen as the library takes it."""
-    columns, prompt, tab = (_size(it, _U16_MOST) for it in _of(Screen, screen)[:3])
-    return structs.screen(columns, prompt, tab, _of(Mode, screen.mode))
+    columns, prompt, tab, mode = _of(Screen, screen)
+    return [(columns, prompt, tab, _of(Mode, mode).value)]
 
 
 # How many characters of each side of the cursor repr shows.
@@ -399,20 +383,19 @@ _SHOWN = 20
 class Session:
     """A text with its cursor, a ring of killed texts, and the record of its changes.
 
-    A `with` closes it at its end. Otherwise `close` does, or the garbage collector. Its length is that of the text, in
-    characters; but it is true also if that is 0.
+    A `with` closes it at its end. Otherwise `close` does, or the garbage collector. Its length is that of the text, its
+    str is the text, and it is true also if that is empty.
     """
 
-    # What a session has that is not open. The last says that on_change was given the oldest report, which still waits.
-    _at = ctypes.c_void_p()
+    # What a session has that is not open.
+    _it = _new("session *")
     _on_change: Optional[Callable[[Report], object]] = None
-    _is_given = False
 
     def __init__(
         self,
         text: str = "",
         *,
-        limit: Optional[int] = 65536,
+        limit_bytes: Optional[int] = 4096,
         ring_size: int = 60,
         mode: Mode = Mode.UNICODE,
         prompt: int = 0,
@@ -421,36 +404,26 @@ class Session:
     ) -> None:
         """Opens a session on a text, with the cursor at its end.
 
-        The kill ring keeps up to `ring_size` texts. The attributes of their names describe the others. Raises NoMemory.
+        The kill ring keeps up to `ring_size` texts. The attributes of their names describe the others. Raises
+        NoSuchNumberError, NoMemoryError.
         """
-        options = structs.options(
-            size=ctypes.sizeof(structs.options),
-            mode=_of(Mode, mode),
-            prompt=_size(prompt, _U16_MOST),
-            limit=_or_most(limit),
-            ring_size=_size(ring_size),
-            max_entries=_or_most(max_entries),
-            max_bytes=_or_most(max_bytes),
-        )
-        at = ctypes.c_void_p()
-        _calls.open(at, options, *_sent(text))
-        self.close()
-        self._at = at
+        options = {
+            "size": ffi.sizeof("lodvarn_options"), "mode": _of(Mode, mode).value, "prompt": prompt,
+            "limit": _or_most(limit_bytes), "ring_size": ring_size,
+            "max_entries": _or_most(max_entries), "max_bytes": _or_most(max_bytes),
+        }
+        it = ffi.gc(_new("session *"), lib.py_close)
+        _asked(lib.py_open, it, [options], *_sent(text))
+        self._it, self._on_change = it, None
 
     def close(self) -> None:
-        """Closes the session. Whatever is asked of it later raises Closed, except to close it again and its repr."""
-        _calls.close(self._at)
-        self._on_change, self._is_given = None, False
-
-    @property
-    def _handle(self) -> ctypes.c_void_p:
-        """What calls take. Raises Closed if the session is closed, since they don't look whether it is."""
-        if self._at:
-            return self._at
-        raise Closed(Closed.__doc__)
+        """Closes the session. Whatever is asked of it later raises ClosedError, but for closing it again, its repr and
+        its truth."""
+        lib.py_close(self._it)
+        self._on_change = None
 
     def __enter__(self) -> Session:
-        self._handle
+        _asked(lib.py_index, self._it)
         return self
 
     def __exit__(
@@ -458,20 +431,21 @@ class Session:
     ) -> None:
         self.close()
 
-    def __del__(self) -> None:
-        self.close()
-
     def __len__(self) -> int:
-        """Returns how many characters the text has, as len(session.text)."""
-        return len(self.text)
+        """Returns how many characters the text has, which makes no str of it."""
+        return _asked(lib.py_count_chars, self._it)
 
     def __bool__(self) -> bool:
-        """Returns True, also if the text is empty. Raises Closed."""
-        return bool(self._handle)
+        """Returns True, also if the text is empty."""
+        return True
+
+    def __str__(self) -> str:
+        """Returns the text."""
+        return self.text
 
     def __repr__(self) -> str:
         """Returns the text before and after the cursor, of a long one only what is near to it."""
-        if not self._at:
+        if not self._it.s:
             return "<Session closed>"
         before, after = self.before, self.after
         start = "..." if len(before) > _SHOWN else ""
@@ -482,68 +456,74 @@ class Session:
         raise TypeError("a session has no copy")
 
     def _do(self, call: Any, *given: Any) -> bool:
-        """Makes a command. Returns whether anything was done. Tells on_change of it, also if it was refused halfway."""
-        self._forget_given()
+        """Makes a command. Returns whether anything was done."""
         try:
-            done: bool = call(self._handle, *given) > 0
-            return done
+            answer: int = call(self._it, *given)
+        except OverflowError:
+            answer = _NO_SUCH_NUMBER
+        if answer < 0 or self._on_change is not None:
+            return self._finish(call, answer)
+        return answer > 0
+
+    def _finish(self, call: Any, answer: int) -> bool:
+        """Tells on_change what a command changed, also if it was refused halfway. Returns whether anything was done."""
+        try:
+            return _seen(call, answer) > 0
         finally:
-            while self._on_change is not None and (report := self._oldest()):
-                self._is_given = True
-                self._on_change(report)
-                self._forget_given()
+            while self._on_change is not None and (ready := self._ready()):
+                for _ in map(self._on_change, ready):
+                    pass
 
-    def _forget_given(self) -> None:
-        """Forgets the oldest report if on_change was given it. A command that comes first might fold into it."""
-        if self._is_given:
-            self._is_given = False
-            _calls.forget_report(self._at)
+    def _ready(self) -> Optional[Iterator[Report]]:
+        """Returns what hands out the oldest report, or None if none waits.
 
-    def _oldest(self) -> Optional[Report]:
-        """Returns the oldest report that waits, or None if none waits."""
-        values = _told(structs.report, _calls.next_report, self._handle)
-        if values is None:
+        It forgets and hands out in one step of C, where no signal is heard. So a report waits until it is handed out.
+        """
+        told = _new(_REPORT)
+        if not _asked(lib.py_next_report, self._it, told):
             return None
-        kind, at, old_len, new_len, pos_before, pos_after, old, new = values
-        are_kept = kind != ReportKind.FOLDED and old.len + new.len == old_len + new_len
-        texts = [_decode(*it.values) if are_kept else None for it in (old, new)]
-        return Report(ReportKind(kind), at, old_len, new_len, pos_before, pos_after, *texts)
+        texts = [_str(it) if it.at else None for it in (told.old_text, told.new_text)]
+        numbers = told.at, told.old_len, told.new_len, told.pos_before, told.pos_after
+        report = Report(_KINDS[told.kind], *numbers, *texts)
+        return compress((report,), map(lib.py_forget_report, (self._it,)))
 
-    def _lent(self, call: Any, *given: Any) -> Optional[str]:
-        """Returns a text that the session lends, or None if there is none."""
-        view = structs.view()
-        return _decode(view.at, view.len) if call(self._handle, *given, view) > 0 else None
-
-    def set_pos(self, pos: int) -> None:
-        """Moves the cursor to a place. Raises BadPlace."""
-        self._do(_calls.set_pos, _size(pos))
+    def _places(self, start: int, end: int) -> tuple[int, int]:
+        """Returns what stands between two places, as the library takes it."""
+        return _place(lib.place_of, self._it, start), _place(lib.place_of, self._it, end)
 
     def move(self, movement: Movement) -> bool:
         """Moves the cursor. Returns False if there is nowhere to go, as by a movement over the whole line or text."""
-        return self._do(_calls.move, _by(movement))
+        return self._do(lib.py_move, _of(Movement, movement)._in_c)
 
     def insert(self, c: str, n: int = 1) -> bool:
-        """Inserts a character n times at the cursor. Returns True. Raises NoRoom."""
-        return self._do(_calls.insert, _char(c), _size(n))
+        """Inserts a character n times at the cursor. Returns True. Raises NoRoomError."""
+        # What _do does, but sooner: no call is made as often as that of a letter.
+        try:
+            answer = _insert(self._it, c, n)
+        except OverflowError:
+            answer = _NO_SUCH_NUMBER
+        if answer < 0 or self._on_change is not None:
+            return self._finish(_insert, answer)
+        return True
 
     def paste(self, text: str, n: int = 1) -> bool:
-        """Inserts a text n times at the cursor. Returns False if it is empty. Raises NoRoom."""
-        return self._do(_calls.paste, *_sent(text), _size(n))
+        """Inserts a text n times at the cursor. Returns False if it is empty. Raises NoRoomError."""
+        return self._do(lib.py_paste, *_sent(text), n)
 
     def yank(self, n: int = 1) -> bool:
         """Inserts the ring's current text n times at the cursor.
 
-        Returns False if the ring has no text, or an empty one. Raises NoRoom.
+        Returns False if the ring has no text, or an empty one. Raises NoRoomError.
         """
-        return self._do(_calls.yank, _size(n))
+        return self._do(lib.py_yank, n)
 
     def yank_pop(self) -> bool:
         """Replaces the text that was just yanked by the one before it in the ring, in two changes.
 
         Returns False if the last command was not a yank. If the text before it is empty, what was yanked is deleted.
-        Raises NoRoom, which leaves the whole session, and BadYankSize.
+        Raises NoRoomError, which leaves the whole session, and BadYankSizeError.
         """
-        return self._do(_calls.yank_pop)
+        return self._do(lib.py_yank_pop)
 
     def restart(self, text: str = "") -> None:
         """Begins anew with a text, as an editor does with the next line. The cursor goes to its end.
@@ -551,143 +531,155 @@ class Session:
         The record is empty then, and the kill ring keeps its texts. The limit rises if the text is longer. What tells
         of changes tells that all the old text gave way to the new one.
         """
-        self._do(_calls.restart, *_sent(text))
+        self._do(lib.py_restart, *_sent(text))
 
     def set_text(self, pos: int, text: str) -> None:
         """Replaces the whole text, in two changes. The cursor goes to the place pos of the new text.
 
-        A text that is longer than the limit is cut. Raises BadPlace.
+        A text that is longer than the limit is cut. Raises BadPlaceError.
         """
-        self._do(_calls.set_text, _size(pos), *_sent(text))
+        given, size = _sent(text)
+        self._do(lib.py_set_text, _place(lib.place_in, given, size, pos), given, size)
 
     def insert_at(self, place: int, text: str) -> None:
-        """Inserts a text at a place, whatever the limit. The cursor's place keeps its number.
+        """Inserts a text at a place, whatever the limit. The cursor's place in bytes keeps its number.
 
-        Raises BadPlace, also if the cursor would come to stand inside a character.
+        Raises BadPlaceError, also if the cursor would come to stand inside a character.
         """
-        self._do(_calls.insert_at, _size(place), *_sent(text))
+        self._do(lib.py_insert_at, _place(lib.place_of, self._it, place), *_sent(text))
 
     def replace(self, start: int, end: int, text: str) -> None:
-        """Replaces what stands between two places, whatever the limit. The cursor goes after it. Raises BadPlace."""
-        self._do(_calls.replace, _range(start, end), *_sent(text))
+        """Replaces what stands between two places, whatever the limit. The cursor goes after it. Raises
+        BadPlaceError."""
+        self._do(lib.py_replace, self._places(start, end), *_sent(text))
 
     def delete_range(self, start: int, end: int) -> None:
-        """Deletes what stands between two places. The cursor goes to the first. Raises BadPlace."""
-        self._do(_calls.delete_range, _range(start, end))
+        """Deletes what stands between two places. The cursor goes to the first. Raises BadPlaceError."""
+        self._do(lib.py_delete_range, self._places(start, end))
 
-    def delete(self, n: int = 1) -> Optional[str]:
-        """Deletes n clusters after the cursor. Returns them, or None if there are none."""
-        covered = self.covers(Movement.chars_forward(n))
-        text = self.slice(*covered) if covered else None
-        self._do(_calls.delete, _size(n))
-        return text
+    def delete(self, n: int = 1) -> bool:
+        """Deletes n clusters after the cursor. Returns False if there are none."""
+        return self._do(lib.py_delete, n)
 
     def backspace(self, n: int = 1) -> bool:
         """Deletes n clusters before the cursor. Returns False if there are none."""
-        return self._do(_calls.backspace, _size(n))
+        return self._do(lib.py_backspace, n)
 
     def delete_by(self, movement: Movement) -> bool:
         """Deletes what a movement to one side of the cursor covers: in the line, the text, by words, or by a search.
 
         At the end of a line to_line_end takes the newline, and at the start of one to_line_start the newline before it.
-        The ring does not keep it. Returns False if there is nothing. Raises NoSuchNumber for the other movements.
+        The ring does not keep it. Returns False if there is nothing. Raises NoSuchNumberError for the other movements.
         """
-        return self._do(_calls.delete_by, _by(movement))
+        return self._do(lib.py_delete_by, _of(Movement, movement)._in_c)
 
     def transpose_chars(self) -> bool:
         """Exchanges the clusters before and after the cursor, in two changes. Returns False if there are not two."""
-        return self._do(_calls.transpose_chars)
+        return self._do(lib.py_transpose_chars)
 
     def transpose_words(self, n: int = 1) -> bool:
         """Exchanges a word with the n-th word before it, in four changes. Returns False if there are not two."""
-        return self._do(_calls.transpose_words, _size(n))
+        return self._do(lib.py_transpose_words, n)
 
     def change_case(self, to: Case) -> bool:
         """Changes the case of the rest of the word at the cursor, or of the next word, in two changes.
 
         Returns False if there is none.
         """
-        return self._do(_calls.change_case, _of(Case, to))
+        return self._do(lib.py_change_case, _of(Case, to).value)
 
     def kill(self, movement: Movement) -> bool:
         """Deletes what a movement covers. The ring keeps it, except by chars_back and chars_forward.
 
         Kills in a row become one text of the ring. Returns False if there is nothing.
         """
-        return self._do(_calls.kill, _by(movement))
+        return self._do(lib.py_kill, _of(Movement, movement)._in_c)
 
     def kill_range(self, start: int, end: int, direction: Direction = Direction.FORWARD) -> bool:
         """Kills what stands between two places, as from a selection. The cursor goes to the first.
 
         It goes on from a kill right before it. Returns False if the places are the same, and then the cursor stays.
-        Raises BadPlace.
+        Raises BadPlaceError.
         """
-        return self._do(_calls.kill_range, _range(start, end), _of(Direction, direction))
+        return self._do(lib.py_kill_range, self._places(start, end), _of(Direction, direction).value)
 
     def end_kills(self) -> None:
         """Ends a run of kills, so that the next one begins a new text of the ring."""
-        self._do(_calls.end_kills)
+        self._do(lib.py_end_kills)
 
     def keep(self, text: str) -> None:
         """Puts a text into the ring, as a kill by itself would: a yank gives it, and a kill after it begins another."""
-        self._do(_calls.keep, *_sent(text))
+        self._do(lib.py_keep, *_sent(text))
 
     def copy(self, movement: Movement) -> Optional[str]:
         """Returns the text that a movement covers, or None if it covers nothing. A command: it ends a run of kills."""
-        start, end = self.covers(movement) or (0, 0)
-        out = ctypes.create_string_buffer(end - start)
-        done = self._do(_calls.copy, _by(movement), out, end - start, _Size())
-        return out.raw.decode() if done else None
+        covered = self.covers(movement)
+        text = self.slice(*covered) if covered else None
+        self.end_kills()
+        return text
 
     def indent(self, movement: Movement, amount: int) -> bool:
-        """Inserts `amount` spaces, at most 255, at the start of each line that a movement covers."""
-        return self._do(_calls.indent, _by(movement), _size(amount, 255), numbers.INDENT)
+        """Inserts `amount` spaces, at most 255, at the start of each line that a movement covers.
+
+        Returns False if there is nothing to do.
+        """
+        return self._do(lib.py_indent, _of(Movement, movement)._in_c, amount, lib.LODVARN_INDENT)
 
     def dedent(self, movement: Movement, amount: int) -> bool:
-        """Deletes up to `amount` bytes of blanks, at most 255, at the start of each line that a movement covers."""
-        return self._do(_calls.indent, _by(movement), _size(amount, 255), numbers.DEDENT)
+        """Deletes blanks of up to `amount` bytes, at most 255, at the start of each line that a movement covers.
+
+        Returns False if there is nothing to do.
+        """
+        return self._do(lib.py_indent, _of(Movement, movement)._in_c, amount, lib.LODVARN_DEDENT)
 
     def begin_group(self) -> None:
         """Begins an undo group: once it is closed, one undo takes back all its changes. Groups may be nested."""
-        self._do(_calls.begin_group)
+        self._do(lib.py_begin_group)
 
     def end_group(self) -> bool:
         """Closes the innermost group. Returns False if it has no change, or none is open."""
-        return self._do(_calls.end_group)
+        return self._do(lib.py_end_group)
 
     def end_all_groups(self) -> bool:
         """Closes all open groups. Returns False if they have no change, or none is open."""
-        return self._do(_calls.end_all_groups)
+        return self._do(lib.py_end_all_groups)
 
     @contextmanager
     def group(self) -> Iterator[None]:
         """Makes one undo of the changes that are made inside of a `with`, also if an exception ends it.
 
-        It closes the groups that were begun inside of it, and no others, so one may stand in another.
+        It closes the groups that were begun inside of it, and no others, so one may stand in another. If that is
+        refused after an exception, groups stay open and the exception goes on.
         """
         level = self.level
         self.begin_group()
         try:
             yield
-        finally:
-            # The group may have been ended or undone there, or the session closed.
-            while self._at and self.level > level:
-                self.end_group()
+        except BaseException:
+            with suppress(Exception):
+                self._end_groups(level)
+            raise
+        self._end_groups(level)
+
+    def _end_groups(self, level: int) -> None:
+        """Closes groups until so many are open. They may be ended or undone already, or the session closed."""
+        while self._it.s and self.level > level:
+            self.end_group()
 
     def undo(self, n: int = 1) -> bool:
-        """Undoes the last n changes and groups. Returns False if there was no change."""
-        return self._do(_calls.undo, _size(n))
+        """Undoes the last n changes and groups, one if n is 0. Returns False if there was no change."""
+        return self._do(lib.py_undo, n)
 
     def redo(self) -> bool:
         """Redoes what was undone last, one change or group. Returns False if there is none."""
-        return self._do(_calls.redo)
+        return self._do(lib.py_redo)
 
     def truncate(self, entries: int) -> None:
         """Keeps the first `entries` entries of the record, and forgets the others and what was undone.
 
-        Raises NotReplaying if they do not lead to the present text.
+        Raises NotReplayingError if they do not lead to the present text.
         """
-        self._do(_calls.truncate, _size(entries))
+        self._do(lib.py_truncate, entries)
 
     def take_change(self) -> Optional[Splice]:
         """Returns all that changed since this was asked last, or since the session was opened, as one splice; None if
@@ -696,28 +688,27 @@ class Session:
         What stood between two places of the text as it was then gave way to what stands between two places now. It is
         so whatever changed the text, also an undo, a redo, and a command that was refused halfway.
         """
-        values = _told(structs.splice, _calls.take_change, self._handle)
-        return Splice(*values) if values else None
+        out = _new("size_t[3]")
+        return Splice(*out) if _asked(lib.py_take_change, self._it, out) else None
 
     def watch(self, reports: int = 64, text_bytes: int = 65536) -> None:
-        """Keeps a report of each change from now on, for `changes` to hand out.
+        """Keeps a report of each change from now on, for `changes` to hand out, and a copy of the text to count in.
 
         The queue has room for that many reports, and for `text_bytes` bytes of their texts. If a report or its texts
         find no room, all that waits and the new one become one report, of the kind FOLDED. If `text_bytes` is 0,
         reports have no texts, and at most one waits: a change that comes before it was read is folded into it, so what
         came is always in the present text.
-        Raises NoSuchNumber if `reports` is 0, IsWatched if the session has a queue already, NoMemory.
+        Raises NoSuchNumberError if `reports` is 0, IsWatchedError if the session has a queue already, NoMemoryError.
         """
-        _calls.watch(self._handle, _size(reports), _size(text_bytes))
+        _asked(lib.py_watch, self._it, reports, text_bytes)
 
     def unwatch(self) -> None:
         """Keeps no reports any more, and forgets those that wait."""
-        self._forget_given()
-        _calls.unwatch(self._handle)
+        _asked(lib.py_unwatch, self._it)
 
     def count_reports(self) -> int:
         """Returns how many reports wait."""
-        return int(_calls.count_reports(self._handle))
+        return _asked(lib.py_count_reports, self._it)
 
     def changes(self) -> Iterator[Report]:
         """Hands out the reports that wait, the oldest first, and forgets each. None waits if nothing is watched.
@@ -725,16 +716,8 @@ class Session:
         Whoever applies them in order to the text that he had has the text of the session. One that is FOLDED, or has no
         texts, comes alone, and what came by it is in the present text: apply it before the next command.
         """
-        self._handle
-        return iter(self._take_report, None)
-
-    def _take_report(self) -> Optional[Report]:
-        """Forgets the oldest report that waits, and returns it. None if none waits."""
-        self._forget_given()
-        report = self._oldest()
-        self._is_given = report is not None
-        self._forget_given()
-        return report
+        self.count_reports()
+        return chain.from_iterable(iter(self._ready, None))
 
     @property
     def on_change(self) -> Optional[Callable[[Report], object]]:
@@ -743,115 +726,100 @@ class Session:
         Setting it watches, if the session does not watch yet. A command with more changes or longer texts than the
         queue has room for calls it once, with a report of the kind FOLDED: then it reads what came in `session.text`.
         It may do commands. What it raises comes out of the command, which is done. Each report is given to it once,
-        also if it raises; what waits then is told after the next command.
+        also if it raises; what waits then is told after the next command. So it is if a signal's handler raises.
         """
-        self._handle
+        self.count_reports()
         return self._on_change
 
     @on_change.setter
     def on_change(self, call: Optional[Callable[[Report], object]]) -> None:
-        self._handle
+        self.count_reports()
         if call is not None:
-            with suppress(IsWatched):
+            with suppress(IsWatchedError):
                 self.watch()
         self._on_change = call
 
     @property
     def text(self) -> str:
         """The text."""
-        return self._lent(_calls.text) or ""
+        return _lent(lib.py_text, self._it) or ""
 
     def slice(self, start: int, end: int) -> str:
-        """Returns what stands between two places. Raises BadPlace."""
-        return self._lent(_calls.slice, _range(start, end)) or ""
+        """Returns what stands between two places, which makes no str of the rest. Raises BadPlaceError."""
+        return _lent(lib.py_slice, self._it, self._places(start, end)) or ""
 
     @property
     def before(self) -> str:
         """The text before the cursor."""
-        return self._lent(_calls.slice, structs.range(0, self.pos)) or ""
+        return self.slice(0, self.pos)
 
     @property
     def after(self) -> str:
         """The text after the cursor."""
-        covered = self.covers(Movement.to_text_end())
-        return self.slice(*covered) if covered else ""
+        return self.slice(self.pos, len(self))
 
     @property
     def pos(self) -> int:
-        """The place of the cursor, in bytes. Setting it moves the cursor, as set_pos does. Raises BadPlace."""
-        pos: int = _calls.pos(self._handle)
-        return pos
+        """The place of the cursor. Setting it moves the cursor. Raises BadPlaceError."""
+        index: int = _index(self._it)
+        return index if index >= 0 else _seen(_index, index)
 
     @pos.setter
     def pos(self, pos: int) -> None:
-        self.set_pos(pos)
-
-    @property
-    def index(self) -> int:
-        """The place of the cursor, in characters: session.text[: session.index] is session.before.
-
-        Setting it moves the cursor. It counts from the start alone: raises BadPlace below 0 and past the end.
-        """
-        return len(self.before)
-
-    @index.setter
-    def index(self, index: int) -> None:
-        text = self.text
-        if not 0 <= operator.index(index) <= len(text):
-            raise BadPlace(f"index: {index} is not from 0 to {len(text)}")
-        self.set_pos(len(text[:index].encode()))
+        self._do(lib.py_set_pos, _place(lib.place_of, self._it, pos))
 
     @property
     def cursor_line(self) -> int:
         """The number of the cursor's line."""
-        return int(_calls.cursor_line(self._handle))
+        return _asked(lib.py_cursor_line, self._it)
 
     def count_lines(self) -> int:
         """Returns how many lines the text has, at least 1."""
-        return int(_calls.count_lines(self._handle))
+        return _asked(lib.py_count_lines, self._it)
 
     def find_cursor(self) -> tuple[int, int]:
         """Returns the number of the cursor's line, and the width of that line before the cursor, at most 65535."""
-        return _told_pair(structs.position, _calls.find_cursor, self._handle) or (0, 0)
+        return _position(lib.py_find_cursor, self._it)
 
     def find_line(self, line: int) -> Optional[tuple[int, int]]:
         """Returns the places where a line begins and ends, before its newline, or None if there is no such line."""
-        return _told_pair(structs.range, _calls.find_line, self._handle, _size(line))
+        return _pair(lib.py_find_line, self._it, line)
 
     def covers(self, movement: Movement) -> Optional[tuple[int, int]]:
         """Returns the two places between which stands what a copy by a movement would take, or None if nothing does."""
-        return _told_pair(structs.range, _calls.covers, self._handle, _by(movement))
+        return _pair(lib.py_covers, self._it, _of(Movement, movement)._in_c)
 
     def destination(self, movement: Movement) -> Optional[int]:
         """Returns the place where a move would go, or None if there is nowhere to go."""
-        return _told_size(_calls.destination, self._handle, _by(movement))
+        told = _pair(lib.py_destination, self._it, _of(Movement, movement)._in_c)
+        return told[1] if told else None
 
     def cluster_at(self, place: int) -> Optional[tuple[int, int]]:
         """Returns the place where the first cluster from a place on ends, and its columns. None at the end of the text.
 
-        It looks at that cluster alone, however long the text is. Raises BadPlace.
+        Raises BadPlaceError.
         """
-        return _told_pair(structs.cluster, _calls.cluster_at, self._handle, _size(place))
+        return _pair(lib.py_cluster_at, self._it, place)
 
     @property
     def entries(self) -> int:
         """How many entries the record has, the marks of groups too."""
-        return int(_calls.entries(self._handle))
+        return _asked(lib.py_entries, self._it)
 
     @property
     def level(self) -> int:
         """How many groups are open."""
-        return int(_calls.level(self._handle))
+        return _asked(lib.py_level, self._it)
 
     @property
     def can_undo(self) -> bool:
         """Whether an undo would find a change. Right after a `begin_group` it would not."""
-        return bool(_calls.can_undo(self._handle))
+        return _asked(lib.py_can_undo, self._it) > 0
 
     @property
     def can_redo(self) -> bool:
         """Whether a redo would find a change."""
-        return bool(_calls.can_redo(self._handle))
+        return _asked(lib.py_can_redo, self._it) > 0
 
     @property
     def ring(self) -> list[str]:
@@ -862,28 +830,29 @@ class Session:
     @property
     def ring_count(self) -> int:
         """How many texts the ring has."""
-        return int(_calls.ring_count(self._handle))
+        return _asked(lib.py_ring_count, self._it)
 
     def ring_text(self, back: int = 0) -> Optional[str]:
         """Returns the text so many places back in the ring, or None. The text at 0 is the one that a yank gives."""
-        return self._lent(_calls.ring_text, _size(back))
+        return _lent(lib.py_ring_text, self._it, back)
 
     @property
     def last_was_yank(self) -> bool:
         """Whether the last command was a yank or yank_pop that returned True. A yank with n = 0 counts."""
-        return bool(_calls.last_was_yank(self._handle))
+        return _asked(lib.py_last_was_yank, self._it) > 0
 
     def _options(self) -> Any:
         """Reads what is chosen."""
-        options = structs.options(size=ctypes.sizeof(structs.options))
-        _calls.get_options(self._handle, options)
+        options = _new("lodvarn_options *")
+        options.size = ffi.sizeof("lodvarn_options")
+        _asked(lib.py_get_options, self._it, options)
         return options
 
     def _choose(self, name: str, value: int) -> None:
-        """Sets one option."""
+        """Chooses one of the options. Raises NoSuchNumberError."""
         options = self._options()
-        setattr(options, name, value)
-        _calls.set_options(self._handle, options)
+        _fitted(setattr, options, name, value)
+        _asked(lib.py_set_options, self._it, options)
 
     @property
     def mode(self) -> Mode:
@@ -892,24 +861,24 @@ class Session:
 
     @mode.setter
     def mode(self, mode: Mode) -> None:
-        self._choose("mode", _of(Mode, mode))
+        self._choose("mode", _of(Mode, mode).value)
 
     @property
     def prompt(self) -> int:
-        """The column where the text begins, after a prompt. Movements by lines heed it."""
+        """The column where the text begins, after a prompt, at most 65535. Movements by lines heed it."""
         return int(self._options().prompt)
 
     @prompt.setter
     def prompt(self, column: int) -> None:
-        self._choose("prompt", _size(column, _U16_MOST))
+        self._choose("prompt", column)
 
     @property
-    def limit(self) -> Optional[int]:
+    def limit_bytes(self) -> Optional[int]:
         """How many bytes the text may have, or None if there is no limit. It is the text's length if that is more."""
         return _or_none(self._options().limit)
 
-    @limit.setter
-    def limit(self, limit: Optional[int]) -> None:
+    @limit_bytes.setter
+    def limit_bytes(self, limit: Optional[int]) -> None:
         self._choose("limit", _or_most(limit))
 
     @property
@@ -941,55 +910,52 @@ class Session:
         self._choose("max_bytes", _or_most(size))
 
 
-def version() -> str:
-    """Returns the version of the library, which is that of the package: `lodvarn.__version__`."""
-    return version_of(_calls.version)
-
-
 def run_script(script: bytes) -> bytes:
-    """Returns what a script prints, run in a session of its own."""
-    given = bytes(memoryview(script))
+    """Returns what a script prints, run in a session of its own. Raises NoMemoryError."""
+    given = ffi.from_buffer(script)
     length, room = len(given), -1
     while room < length:
         room = length
-        out = ctypes.create_string_buffer(room)
-        length = _told_size(_calls.script, given, len(given), out, room) or 0
-    return out.raw[:length]
+        out = _new("char[]", room)
+        length = _size(lib.lodvarn_script, given, len(given), out, room)
+    return bytes(ffi.buffer(out, length))
 
 
 def width(text: str, mode: Mode = Mode.UNICODE) -> int:
     """Returns the number of columns that a text takes, at most 65535."""
-    return _told_size(_calls.width, _of(Mode, mode), *_sent(text)) or 0
+    return _size(lib.lodvarn_width, _of(Mode, mode).value, *_sent(text))
 
 
 def first_cluster(text: str) -> str:
     """Returns the first grapheme cluster of a text, empty if the text is empty."""
     given, size = _sent(text)
-    return given[: _told_size(_calls.first_cluster, given, size) or 0].decode()
+    return given[: _size(lib.lodvarn_first_cluster, given, size)].decode()
 
 
 def last_cluster(text: str) -> str:
     """Returns the last grapheme cluster of a text, empty if the text is empty."""
     given, size = _sent(text)
-    return given[size - (_told_size(_calls.last_cluster, given, size) or 0) :].decode()
+    return given[size - _size(lib.lodvarn_last_cluster, given, size) :].decode()
 
 
 def cell(screen: Screen, place: int, text: str) -> tuple[int, int]:
     """Returns the row and column of a place of a text on a screen.
 
     The text begins at the column of the prompt in row 0, and a place inside of a cluster is where the cluster starts. A
-    tab goes to the next tab stop, or to the right edge if that is nearer. Raises BadPlace, and NoSuchNumber if the
-    screen has no columns.
+    tab goes to the next tab stop, or to the right edge if that is nearer. Raises BadPlaceError, and NoSuchNumberError
+    if the screen has no columns.
     """
-    return _told_pair(structs.position, _calls.cell, _on(screen), _size(place), *_sent(text)) or (0, 0)
+    given, size = _sent(text)
+    return _position(lib.lodvarn_cell, _on(screen), _place(lib.place_in, given, size, place), given, size)
 
 
 def place_at(screen: Screen, cell: tuple[int, int], text: str) -> int:
     """Returns the place of a text at a cell of a screen, a row and a column, as where the mouse was pressed.
 
     It is the last place between two clusters whose `cell` is that one or comes before it, and 0 if all come after it.
-    Raises NoSuchNumber if the screen has no columns.
+    Raises NoSuchNumberError if the screen has no columns.
     """
+    given, size = _sent(text)
     row, column = cell
-    wanted = structs.position(_size(row), _size(column))
-    return _told_size(_calls.place_at, _on(screen), wanted, *_sent(text)) or 0
+    place = _size(lib.lodvarn_place_at, _on(screen), (row, column), given, size)
+    return int(lib.chars_in(given, place))
