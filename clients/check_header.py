@@ -1,7 +1,7 @@
 #!/usr/bin/env python3
 """Compares what the headers of include declare with crates/rl_ffi and clients/handles.c, and with the names that the
-clients for Python and Rust give to the numbers. The former reads the headers itself, and bindgen declares what the
-latter calls.
+clients for Python and Rust give to the numbers. What these call is declared by the headers themselves, through cffi and
+bindgen.
 
     python3 clients/check_header.py
 

@@ -193,7 +193,8 @@ def run_c(text, place):
 
 def run_python(text, place):
     environment = {**os.environ, "PYTHONPATH": str(TOP / "clients/python"), "PYTHONDONTWRITEBYTECODE": "1"}
-    return output([sys.executable, "-"], given=text, env=environment, cwd=place.folder())
+    python = output([str(TOP / "clients/interpreter")]).strip()
+    return output([python, "-"], given=text, env=environment, cwd=place.folder())
 
 
 def run_rust(text, place):

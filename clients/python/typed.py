@@ -4,12 +4,14 @@ A script counts places in bytes. One that is inside of a character has no index,
 """
 
 import re
+from pathlib import Path
 
 from lodvarn import (
     BadPlaceError, BadYankSizeError, Case, Direction, Mode, Movement, NoRoomError, NotReplayingError, Search, Session,
     Stop, Word,
 )
 
+TOP = Path(__file__).resolve().parents[2]
 MARKS = {"\\": "\\", "n": "\n", "r": "\r", "t": "\t", "s": " "}
 FAULTS = {BadPlaceError: 2, BadYankSizeError: 3, NotReplayingError: 4}
 # The names among the arguments, by the letters of docs/RULES.md, in the order of their enums.
@@ -17,21 +19,26 @@ NAMES = {
     "S": (Word, "big emacs vi"), "P": (Stop, "start before after"), "X": (Search, "f t F T"), "D": (Direction, "f b"),
     "W": (Case, "cap low up"), "O": (Mode, "unicode wcwidth nozwj"),
 }
-of = Movement
-# What each word of a movement takes, and what it makes of that.
-MOVEMENTS = {
-    "line": ("", of.whole_line), "home": ("", of.to_line_start), "eol": ("", of.to_line_end),
-    "bword": ("NS", lambda n, word: of.words_back(word, n)), "first": ("", of.from_first_word),
-    "fword": ("NPS", lambda n, stop, word: of.words_forward(word, stop, n)), "buf": ("", of.whole_text),
-    "find": ("NXC", lambda n, search, c: of.search_for(search, c, n)), "nonblank": ("", of.to_first_nonblank),
-    "bchar": ("N", of.chars_back), "fchar": ("N", of.chars_forward), "up": ("N", of.lines_up),
-    "down": ("N", of.lines_down), "bob": ("", of.to_text_start), "eob": ("", of.to_text_end),
-}
+# The names that the letters of the tables of docs/RULES.md have in the calls there.
+GIVEN = dict(zip("NCTMSPXDKLQIAB", "n c text movement word stop search direction amount entries q i a b".split()))
+# A row of such a table: its word, the letters of its arguments, and its call of C, if that hands out nothing.
+ROW = re.compile(r"^\| `(\w+)` \| (?:`([A-Z ]+)` )?\| .* \| `(lodvarn_[^`&]*)` \|$", re.M)
+# What of a call of C differs in Python.
+IN_PYTHON = {r"lodvarn_(\w+)\(s\b(, )?": r"s.\1(", "lodvarn_": "Movement.", "text, len": "text", r"\brange\b": "a, b"}
 
 
-def deletes(make):
-    """What deletes by the movement that is made of the arguments."""
-    return lambda s, *given: s.delete_by(make(*given))
+def table(heading):
+    """What each word in a table of docs/RULES.md takes, and its call, which gets that."""
+    rules, calls = (TOP / "docs/RULES.md").read_text(), {}
+    for word, letters, call in ROW.findall(rules.partition(f"### {heading}\n")[2].partition("\n#")[0]):
+        for there, here in IN_PYTHON.items():
+            call = re.sub(there, here, call)
+        given = ["s"] * call.startswith("s.") + [GIVEN[it] for it in letters.split()]
+        calls[word] = re.sub("[IAB]", "Q", letters.replace(" ", "")), eval(f"lambda {', '.join(given)}: {call}")
+    return calls
+
+
+MOVEMENTS = table("Movements")
 
 
 def covered(s, movement):
@@ -39,17 +46,22 @@ def covered(s, movement):
     return s.slice(*s.covers(movement)) if s.covers(movement) else None
 
 
+def replied(text):
+    """A text, or none, as a reply."""
+    return "none" if text is None else f"text:{escaped(text, MARKS)}"
+
+
 def copy(s, movement):
     """What a movement covers, by both of the calls that tell it."""
     assert (text := covered(s, movement)) == s.copy(movement)
-    return text
+    return replied(text)
 
 
 def delete(s, n):
-    """What is deleted ahead of the cursor, or None."""
-    text = covered(s, of.chars_forward(n))
+    """What is deleted ahead of the cursor, or none."""
+    text = covered(s, Movement.chars_forward(n))
     assert s.delete(n) == (text is not None)
-    return text
+    return replied(text)
 
 
 def yank_pop(s):
@@ -65,27 +77,18 @@ def move(s, movement):
     return is_done
 
 
-# What each word takes, what it replies, and its call. IN is an insertion, which says whether it went to the text's end.
-OK, TRUTH, IN, TEXT, MARK, AT = "ok", "truth", "in", "text", "mark", "at"
+# Of each word what it takes, and its call. Here stand those that take or do something else in Python.
 WORDS = {
-    "move": ("M", TRUTH, move), "kill": ("M", TRUTH, Session.kill), "copy": ("M", TEXT, copy),
-    "indent": ("KM", TRUTH, lambda s, amount, movement: s.indent(movement, amount)),
-    "dedent": ("KM", TRUTH, lambda s, amount, movement: s.dedent(movement, amount)),
-    "ins": ("NC", IN, lambda s, n, c: s.insert(c, n)), "paste": ("NT", IN, lambda s, n, text: s.paste(text, n)),
-    "update": ("JT", OK, Session.set_text), "str": ("QT", IN, lambda s, at, text: s.insert_at(at, text) or True),
-    "rep": ("QQT", OK, Session.replace), "range": ("QQ", OK, Session.delete_range),
-    "killrange": ("QQD", TRUTH, Session.kill_range), "keep": ("T", OK, Session.keep), "del": ("N", TEXT, delete),
-    "back": ("N", TRUTH, Session.backspace), "killline": ("", TRUTH, deletes(of.to_line_end)),
-    "killbuf": ("", TRUTH, deletes(of.to_text_end)), "discline": ("", TRUTH, deletes(of.to_line_start)),
-    "discbuf": ("", TRUTH, deletes(of.to_text_start)), "prevword": ("NS", TRUTH, deletes(MOVEMENTS["bword"][1])),
-    "nextword": ("NPS", TRUTH, deletes(MOVEMENTS["fword"][1])), "to": ("NXC", TRUTH, deletes(MOVEMENTS["find"][1])),
-    "case": ("W", TRUTH, Session.change_case), "tchars": ("", TRUTH, Session.transpose_chars),
-    "twords": ("N", TRUTH, Session.transpose_words), "yank": ("N", IN, Session.yank), "yankpop": ("", IN, yank_pop),
-    "begin": ("", MARK, lambda s: (s.entries, s.begin_group())[0]), "end": ("", TRUTH, Session.end_all_groups),
-    "endone": ("", TRUTH, Session.end_group), "undo": ("N", TRUTH, Session.undo), "redo": ("", TRUTH, Session.redo),
-    "trunc": ("N", OK, Session.truncate), "pos": ("Q", OK, lambda s, pos: setattr(s, "pos", pos)),
-    "where": ("", AT, lambda s: (s.end_kills(), s.find_cursor())[1]),
+    **table("Words that begin a line"), "move": ("M", move), "copy": ("M", copy), "del": ("N", delete),
+    "indent": ("KM", lambda s, amount, movement: s.indent(movement, amount)),
+    "dedent": ("KM", lambda s, amount, movement: s.dedent(movement, amount)),
+    "update": ("JT", Session.set_text), "pos": ("Q", lambda s, pos: setattr(s, "pos", pos)),
+    "str": ("QT", lambda s, at, text: s.insert_at(at, text) or True), "case": ("W", Session.change_case),
+    "yankpop": ("", yank_pop), "begin": ("", lambda s: f"mark:{(s.entries, s.begin_group())[0]}"),
+    "where": ("", lambda s: "at:{}:{}".format(*(s.end_kills(), s.find_cursor())[1])),
 }
+# The words of an insertion, of which a script prints whether it went to the end of the text.
+INSERTIONS = {"ins", "paste", "str", "yank", "yankpop"}
 
 
 def index_of(text, place):
@@ -150,22 +153,15 @@ class Typed:
 
 def do(session, word, given):
     """Does what a word says. What it replies."""
-    _, kind, call = WORDS[word]
     is_at_end = session.pos == len(session) if word != "str" else given[0] == len(session)
     try:
-        told = call(session, *given)
+        told = WORDS[word][1](session, *given)
     except NoRoomError:
         return "none"
     except tuple(FAULTS) as fault:
         return f"refused:{FAULTS[type(fault)]}"
-    if kind == OK:
-        return "ok"
-    if kind == TRUTH:
-        return str(told).lower()
-    if kind == MARK:
-        return f"mark:{told}"
-    if kind == AT:
-        return f"at:{told[0]}:{told[1]}"
-    if kind == IN:
+    if word in INSERTIONS:
         return str(is_at_end).lower() if told else "none"
-    return "none" if told is None else f"text:{escaped(told, MARKS)}"
+    if isinstance(told, bool):
+        return str(told).lower()
+    return "ok" if told is None else told

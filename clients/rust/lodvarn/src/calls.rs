@@ -1,5 +1,5 @@
 //! All unsafe code of the crate: thin safe functions over the calls of the library. Each returns what its call does, or
-//! what that writes or lends.
+//! what that writes or lends. A public method of a session that makes one call is a line of `methods` where its page is.
 //!
 //! Why they are sound: a handle has what a call has opened, until it is dropped. A text is passed as the pointer and the
 //! length of a `&str`, a buffer as those of a `&mut [u8]`, and the library keeps neither. What a call writes is read only
@@ -55,14 +55,14 @@ unsafe fn reported<'s>(report: lodvarn_report) -> Report<'s> {
     }
 }
 
-fn range_of(range: Range<usize>) -> lodvarn_range {
+pub(crate) fn range_of(range: Range<usize>) -> lodvarn_range {
     lodvarn_range {
         from: range.start,
         to: range.end,
     }
 }
 
-fn start_of(text: &str) -> *const c_char {
+pub(crate) fn start_of(text: &str) -> *const c_char {
     text.as_ptr().cast()
 }
 
@@ -102,13 +102,13 @@ impl<T: Kind> Handle<T> {
 
     /// The pointer, for a call that may change something.
     #[inline]
-    fn at(&mut self) -> *mut T {
+    pub(crate) fn at(&mut self) -> *mut T {
         self.0
     }
 
     /// Makes a read. The handle is not `Sync`, so no other thread makes one.
     #[inline]
-    fn read<A>(&self, read: impl FnOnce(*mut T) -> A) -> A {
+    pub(crate) fn read<A>(&self, read: impl FnOnce(*mut T) -> A) -> A {
         read(self.0)
     }
 }
@@ -150,6 +150,34 @@ macro_rules! calls {
 
 use calls;
 
+// Public methods of a session that make one call each: commands, or reads. What a line says of a command is its page, its
+// head, what makes the result of the call's answer, the call, and what that gets. A text must be passed as `start_of` and
+// `len` of one `&str`, next to each other.
+macro_rules! methods {
+    ($($(#[$about:meta])* pub fn $name:ident(&mut $this:ident $(, $given:ident: $kind:ty)*) -> $result:ty
+        = $($of:ident)::+($call:ident($($passed:expr),*));)*) => {
+        #[allow(unsafe_code)]
+        impl Session {$(
+            $(#[$about])*
+            pub fn $name(&mut $this $(, $given: $kind)*) -> $result {
+                $($of)::+(unsafe { $crate::ffi::$call($this.handle.at() $(, $passed)*) })
+            }
+        )*}
+    };
+    ($($(#[$about:meta])* pub fn $name:ident(&$this:ident) -> $result:ty = $call:ident();)*) => {
+        #[allow(unsafe_code)]
+        impl Session {$(
+            $(#[$about])*
+            #[must_use]
+            pub fn $name(&$this) -> $result {
+                $this.handle.read(|at| unsafe { $crate::ffi::$call(at) })
+            }
+        )*}
+    };
+}
+
+pub(crate) use methods;
+
 impl Handle<lodvarn> {
     pub(crate) fn open(options: &Options, text: &str) -> Result<Self, Fault> {
         let options = options.passed();
@@ -157,60 +185,12 @@ impl Handle<lodvarn> {
     }
 
     calls! {
-        fn restart(&mut self, text: &str) = lodvarn_restart(start_of(text), text.len());
-        fn set_options(&mut self, options: &Options) = lodvarn_set_options(&options.passed());
-        fn set_pos(&mut self, pos: usize) = lodvarn_set_pos(pos);
-        fn move_by(&mut self, movement: Movement) = lodvarn_move(movement.passed());
-        fn insert(&mut self, c: char, n: u16) = lodvarn_insert(c.into(), n.into());
-        fn paste(&mut self, text: &str, n: u16)
-            = lodvarn_paste(start_of(text), text.len(), n.into());
-        fn yank(&mut self, n: u16) = lodvarn_yank(n.into());
-        fn yank_pop(&mut self) = lodvarn_yank_pop();
-        fn set_text(&mut self, pos: usize, text: &str)
-            = lodvarn_set_text(pos, start_of(text), text.len());
-        fn insert_at(&mut self, place: usize, text: &str)
-            = lodvarn_insert_at(place, start_of(text), text.len());
-        fn replace(&mut self, range: Range<usize>, text: &str)
-            = lodvarn_replace(range_of(range), start_of(text), text.len());
-        fn delete_range(&mut self, range: Range<usize>) = lodvarn_delete_range(range_of(range));
-        fn delete(&mut self, n: u16) = lodvarn_delete(n.into());
-        fn backspace(&mut self, n: u16) = lodvarn_backspace(n.into());
-        fn delete_by(&mut self, movement: Movement) = lodvarn_delete_by(movement.passed());
-        fn transpose_chars(&mut self) = lodvarn_transpose_chars();
-        fn transpose_words(&mut self, n: u16) = lodvarn_transpose_words(n.into());
-        fn change_case(&mut self, to: Case) = lodvarn_change_case(to as u32);
-        fn kill(&mut self, movement: Movement) = lodvarn_kill(movement.passed());
-        fn kill_range(&mut self, range: Range<usize>, direction: Direction)
-            = lodvarn_kill_range(range_of(range), direction as u32);
         fn end_kills(&mut self) = lodvarn_end_kills();
-        fn keep(&mut self, text: &str) = lodvarn_keep(start_of(text), text.len());
         fn copy(&mut self, movement: Movement, out: &mut [u8], len: &mut usize)
             = lodvarn_copy(movement.passed(), out.as_mut_ptr().cast(), out.len(), len);
-        fn indent(&mut self, movement: Movement, amount: u8, indentation: u32)
-            = lodvarn_indent(movement.passed(), amount, indentation);
-        fn begin_group(&mut self) = lodvarn_begin_group();
-        fn end_group(&mut self) = lodvarn_end_group();
-        fn end_all_groups(&mut self) = lodvarn_end_all_groups();
-        fn undo(&mut self, n: u16) = lodvarn_undo(n.into());
-        fn redo(&mut self) = lodvarn_redo();
-        fn truncate(&mut self, entries: usize) = lodvarn_truncate(entries);
         fn watch(&mut self, reports: usize, text_bytes: usize)
             = lodvarn_watch(reports, text_bytes);
         fn unwatch(&mut self) = lodvarn_unwatch();
-        fn forget_report(&mut self) = lodvarn_forget_report();
-    }
-
-    calls! {
-        fn pos(&self) -> usize = lodvarn_pos();
-        fn cursor_line(&self) -> usize = lodvarn_cursor_line();
-        fn count_lines(&self) -> usize = lodvarn_count_lines();
-        fn entries(&self) -> usize = lodvarn_entries();
-        fn level(&self) -> usize = lodvarn_level();
-        fn can_undo(&self) -> bool = lodvarn_can_undo();
-        fn can_redo(&self) -> bool = lodvarn_can_redo();
-        fn ring_count(&self) -> usize = lodvarn_ring_count();
-        fn last_was_yank(&self) -> bool = lodvarn_last_was_yank();
-        fn count_reports(&self) -> usize = lodvarn_count_reports();
     }
 
     calls! {

@@ -1,7 +1,8 @@
 //! What changed in the text of a session: as one splice, as reports, or told to a listener.
+use crate::calls::methods;
 use crate::listeners::ChangeListener;
 use crate::words::{Direction, Fault, ReportKind};
-use crate::{done, ffi, told, Session};
+use crate::{done, is_done, told, Session};
 use std::error::Error;
 use std::fmt;
 
@@ -149,12 +150,6 @@ impl Session {
         self.handle.unwatch();
     }
 
-    /// How many reports wait; a folded one is one.
-    #[must_use]
-    pub fn count_reports(&self) -> usize {
-        self.handle.count_reports()
-    }
-
     /// The oldest report that waits. It stays the oldest until [`forget_report`](Session::forget_report).
     ///
     /// Whoever applies all in order to the text that he had, has the text of the session. What came by one that has no
@@ -179,12 +174,6 @@ impl Session {
     #[must_use]
     pub fn next_report(&self) -> Option<Report<'_>> {
         told(self.handle.next_report())
-    }
-
-    /// Forgets the oldest report. False if none waits. A command between [`next_report`](Session::next_report) and this
-    /// may have folded its change into the report. A kill after it still goes on from the kill before it.
-    pub fn forget_report(&mut self) -> bool {
-        self.handle.forget_report() > ffi::LODVARN_NOTHING
     }
 
     /// Tells a listener of all reports that wait, the oldest first, each by the method of its kind. Each is forgotten
@@ -253,4 +242,15 @@ impl Session {
         }
         Ok(())
     }
+}
+
+methods! {
+    /// Forgets the oldest report. False if none waits. A command between [`next_report`](Session::next_report) and this
+    /// may have folded its change into the report. A kill after it still goes on from the kill before it.
+    pub fn forget_report(&mut self) -> bool = is_done(lodvarn_forget_report());
+}
+
+methods! {
+    /// How many reports wait; a folded one is one.
+    pub fn count_reports(&self) -> usize = lodvarn_count_reports();
 }

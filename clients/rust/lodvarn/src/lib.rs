@@ -99,13 +99,19 @@ impl Session {
     }
 }
 
+/// Whether an answer that is no fault is that something was there to do.
+#[inline]
+fn is_done(answer: i32) -> bool {
+    answer > ffi::LODVARN_NOTHING
+}
+
 /// Whether an answer is that something was there to do.
 #[inline]
 fn found(answer: i32) -> Result<bool, Fault> {
     if answer < 0 {
         return Err(Fault::of(answer));
     }
-    Ok(answer > ffi::LODVARN_NOTHING)
+    Ok(is_done(answer))
 }
 
 #[inline]

@@ -1,4 +1,5 @@
 //! What is read of a session. A read changes nothing, and a kill after it still goes on from the kill before it.
+use crate::calls::methods;
 use crate::words::{Cluster, Fault, Movement, Options, Position};
 use crate::{sure, told, Session};
 use std::ops::Range;
@@ -19,28 +20,10 @@ impl Session {
         Ok(self.handle.slice(range)?.unwrap_or_default())
     }
 
-    /// The place of the cursor, in bytes.
-    #[must_use]
-    pub fn pos(&self) -> usize {
-        self.handle.pos()
-    }
-
     /// What is chosen of the session.
     #[must_use]
     pub fn options(&self) -> Options {
         self.handle.options()
-    }
-
-    /// The number of the cursor's line, from 0.
-    #[must_use]
-    pub fn cursor_line(&self) -> usize {
-        self.handle.cursor_line()
-    }
-
-    /// How many lines the text has.
-    #[must_use]
-    pub fn count_lines(&self) -> usize {
-        self.handle.count_lines()
     }
 
     /// Where the cursor is: its line, and the width of that line before it, at most 65535.
@@ -105,4 +88,15 @@ impl Session {
             columns: it.columns,
         }))
     }
+}
+
+methods! {
+    /// The place of the cursor, in bytes.
+    pub fn pos(&self) -> usize = lodvarn_pos();
+
+    /// The number of the cursor's line, from 0.
+    pub fn cursor_line(&self) -> usize = lodvarn_cursor_line();
+
+    /// How many lines the text has.
+    pub fn count_lines(&self) -> usize = lodvarn_count_lines();
 }

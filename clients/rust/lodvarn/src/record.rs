@@ -1,4 +1,5 @@
 //! Undo, redo, and groups of changes.
+use crate::calls::methods;
 use crate::words::{Fault, Options};
 use crate::{done, found, Session};
 use std::ops::{Deref, DerefMut};
@@ -83,85 +84,52 @@ impl Session {
         let session = self;
         Ok(Group { session, around })
     }
+}
 
+methods! {
     /// Begins an undo group: once it is closed, one undo takes back all its changes. It may stay open from one key to
     /// the next, where the guard of [`group`](Session::group) can't be held.
     ///
     /// # Errors
     ///
     /// [`Fault::NoMemory`].
-    pub fn begin_group(&mut self) -> Result<(), Fault> {
-        done(self.handle.begin_group())
-    }
+    pub fn begin_group(&mut self) -> Result<(), Fault> = done(lodvarn_begin_group());
 
     /// Closes the innermost group. False if it has no change, or none is open.
     ///
     /// # Errors
     ///
     /// [`Fault::NoMemory`]; the group stays open.
-    pub fn end_group(&mut self) -> Result<bool, Fault> {
-        found(self.handle.end_group())
-    }
+    pub fn end_group(&mut self) -> Result<bool, Fault> = found(lodvarn_end_group());
 
     /// Closes all open groups. False if they have no change, or none is open.
     ///
     /// # Errors
     ///
     /// [`Fault::NoMemory`].
-    pub fn end_all_groups(&mut self) -> Result<bool, Fault> {
-        found(self.handle.end_all_groups())
-    }
-
-    /// How many groups are open.
-    #[must_use]
-    pub fn level(&self) -> usize {
-        self.handle.level()
-    }
+    pub fn end_all_groups(&mut self) -> Result<bool, Fault> = found(lodvarn_end_all_groups());
 
     /// Undoes the last n changes and groups, one if n is 0, all if there are fewer. False if there was no change.
     ///
     /// # Errors
     ///
     /// [`Fault::NoMemory`].
-    pub fn undo(&mut self, n: u16) -> Result<bool, Fault> {
-        found(self.handle.undo(n))
-    }
+    pub fn undo(&mut self, n: u16) -> Result<bool, Fault> = found(lodvarn_undo(n.into()));
 
     /// Redoes what was undone last, one change or group. False if there is none.
     ///
     /// # Errors
     ///
     /// [`Fault::NoMemory`].
-    pub fn redo(&mut self) -> Result<bool, Fault> {
-        found(self.handle.redo())
-    }
-
-    /// Whether an undo of one would find a change.
-    #[must_use]
-    pub fn can_undo(&self) -> bool {
-        self.handle.can_undo()
-    }
-
-    /// Whether a redo would find a change.
-    #[must_use]
-    pub fn can_redo(&self) -> bool {
-        self.handle.can_redo()
-    }
-
-    /// How many entries the record has: changes, and the marks where groups begin and end.
-    #[must_use]
-    pub fn entries(&self) -> usize {
-        self.handle.entries()
-    }
+    pub fn redo(&mut self) -> Result<bool, Fault> = found(lodvarn_redo());
 
     /// Keeps the first `entries` entries of the record, and forgets the others and what was undone.
     ///
     /// # Errors
     ///
     /// [`Fault::NotReplaying`] if they do not lead to the present text; [`Fault::NoMemory`].
-    pub fn truncate(&mut self, entries: usize) -> Result<(), Fault> {
-        done(self.handle.truncate(entries))
-    }
+    pub fn truncate(&mut self, entries: usize) -> Result<(), Fault>
+        = done(lodvarn_truncate(entries));
 
     /// Sets what may be chosen. If the record has more than [`max_entries`](Options::max_entries) or
     /// [`max_bytes`](Options::max_bytes), the oldest changes and groups are forgotten at once, and by each later call,
@@ -188,7 +156,20 @@ impl Session {
     /// # Errors
     ///
     /// [`Fault::NoSuchNumber`] if [`ring_size`](Options::ring_size) is not the session's; nothing is set.
-    pub fn set_options(&mut self, options: &Options) -> Result<(), Fault> {
-        done(self.handle.set_options(options))
-    }
+    pub fn set_options(&mut self, options: &Options) -> Result<(), Fault>
+        = done(lodvarn_set_options(&options.passed()));
+}
+
+methods! {
+    /// How many groups are open.
+    pub fn level(&self) -> usize = lodvarn_level();
+
+    /// Whether an undo of one would find a change.
+    pub fn can_undo(&self) -> bool = lodvarn_can_undo();
+
+    /// Whether a redo would find a change.
+    pub fn can_redo(&self) -> bool = lodvarn_can_redo();
+
+    /// How many entries the record has: changes, and the marks where groups begin and end.
+    pub fn entries(&self) -> usize = lodvarn_entries();
 }

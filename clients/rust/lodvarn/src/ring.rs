@@ -1,9 +1,10 @@
 //! Kills, yanks, and the texts that the ring keeps.
+use crate::calls::{methods, range_of, start_of};
 use crate::words::{Direction, Fault, Inserted, Movement};
 use crate::{done, found, room, told, Session};
 use std::ops::Range;
 
-impl Session {
+methods! {
     /// Deletes what a movement covers. If `WholeLine`, `BeginningOfLine` or `EndOfLine` finds nothing in the line, that is
     /// a newline. The ring keeps it, except by `BackwardChar` and `ForwardChar`. Consecutive kills become one text of
     /// the ring. False if there is nothing.
@@ -11,9 +12,8 @@ impl Session {
     /// # Errors
     ///
     /// [`Fault::NoMemory`].
-    pub fn kill(&mut self, movement: Movement) -> Result<bool, Fault> {
-        found(self.handle.kill(movement))
-    }
+    pub fn kill(&mut self, movement: Movement) -> Result<bool, Fault>
+        = found(lodvarn_kill(movement.passed()));
 
     /// Deletes what stands in a range as a kill does: the ring keeps it, and a run of kills goes on. If the kill before
     /// it has a text in the ring, this one goes after that text, [`Direction::Forward`], or before it,
@@ -34,15 +34,8 @@ impl Session {
     /// # Errors
     ///
     /// [`Fault::BadPlace`], also if the range ends before it begins; [`Fault::NoMemory`].
-    pub fn kill_range(&mut self, range: Range<usize>, direction: Direction) -> Result<bool, Fault> {
-        found(self.handle.kill_range(range, direction))
-    }
-
-    /// Ends a run of kills, and does nothing else: the next kill begins a new text of the ring.
-    pub fn end_kills(&mut self) {
-        let answer = self.handle.end_kills();
-        debug_assert!(answer >= 0);
-    }
+    pub fn kill_range(&mut self, range: Range<usize>, direction: Direction) -> Result<bool, Fault>
+        = found(lodvarn_kill_range(range_of(range), direction as u32));
 
     /// Puts a text into the ring as a kill of its own, as an editor does with a text that it got elsewhere, or that
     /// [`copy`](Session::copy) returned. The next yank inserts it. A kill after it begins another text. Text, cursor
@@ -51,8 +44,42 @@ impl Session {
     /// # Errors
     ///
     /// [`Fault::NoMemory`]; the ring stays too.
-    pub fn keep(&mut self, text: &str) -> Result<(), Fault> {
-        done(self.handle.keep(text))
+    pub fn keep(&mut self, text: &str) -> Result<(), Fault>
+        = done(lodvarn_keep(start_of(text), text.len()));
+
+    /// Inserts the ring's current text n times at the cursor. [`Inserted::Nothing`] if the ring has no text, or an empty
+    /// one.
+    ///
+    /// # Errors
+    ///
+    /// [`Fault::NoRoom`], [`Fault::NoMemory`].
+    pub fn yank(&mut self, n: u16) -> Result<Inserted, Fault>
+        = Inserted::of(lodvarn_yank(n.into()));
+
+    /// Replaces the text that was just yanked by the one before it in the ring, in two changes; after the oldest comes
+    /// the newest. If that one is empty, what was yanked is deleted. [`Inserted::Nothing`] if the last command was not a
+    /// yank.
+    ///
+    /// # Errors
+    ///
+    /// [`Fault::NoRoom`], which leaves the whole session; [`Fault::BadYankSize`] if what was yanked does not stand before
+    /// the cursor, as may be after a yank with n = 0; [`Fault::NoMemory`].
+    pub fn yank_pop(&mut self) -> Result<Inserted, Fault> = Inserted::of(lodvarn_yank_pop());
+}
+
+methods! {
+    /// Whether the last command was a `yank` or `yank_pop` that found a text. A yank with n = 0 counts.
+    pub fn last_was_yank(&self) -> bool = lodvarn_last_was_yank();
+
+    /// How many texts the ring has.
+    pub fn ring_count(&self) -> usize = lodvarn_ring_count();
+}
+
+impl Session {
+    /// Ends a run of kills, and does nothing else: the next kill begins a new text of the ring.
+    pub fn end_kills(&mut self) {
+        let answer = self.handle.end_kills();
+        debug_assert!(answer >= 0);
     }
 
     /// The text that a movement covers, or `None` if it covers nothing. The ring does not keep it: that is
@@ -65,40 +92,6 @@ impl Session {
         let (mut out, mut len) = (room(self.covers(movement).map_or(0, |it| it.len()))?, 0);
         let is_copied = found(self.handle.copy(movement, &mut out, &mut len))?;
         Ok(is_copied.then(|| String::from_utf8(out).expect("the library's texts are UTF-8")))
-    }
-
-    /// Inserts the ring's current text n times at the cursor. [`Inserted::Nothing`] if the ring has no text, or an empty
-    /// one.
-    ///
-    /// # Errors
-    ///
-    /// [`Fault::NoRoom`], [`Fault::NoMemory`].
-    pub fn yank(&mut self, n: u16) -> Result<Inserted, Fault> {
-        Inserted::of(self.handle.yank(n))
-    }
-
-    /// Replaces the text that was just yanked by the one before it in the ring, in two changes; after the oldest comes
-    /// the newest. If that one is empty, what was yanked is deleted. [`Inserted::Nothing`] if the last command was not a
-    /// yank.
-    ///
-    /// # Errors
-    ///
-    /// [`Fault::NoRoom`], which leaves the whole session; [`Fault::BadYankSize`] if what was yanked does not stand before
-    /// the cursor, as may be after a yank with n = 0; [`Fault::NoMemory`].
-    pub fn yank_pop(&mut self) -> Result<Inserted, Fault> {
-        Inserted::of(self.handle.yank_pop())
-    }
-
-    /// Whether the last command was a `yank` or `yank_pop` that found a text. A yank with n = 0 counts.
-    #[must_use]
-    pub fn last_was_yank(&self) -> bool {
-        self.handle.last_was_yank()
-    }
-
-    /// How many texts the ring has.
-    #[must_use]
-    pub fn ring_count(&self) -> usize {
-        self.handle.ring_count()
     }
 
     /// A text of the ring: for 0 the current one, which a yank inserts, for 1 the one that a `yank_pop` comes to next,
