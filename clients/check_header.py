@@ -59,7 +59,7 @@ OTHERWISE = {
 EXPORT = re.compile(r"#\[unsafe\(no_mangle\)\]\s*pub extern \"C\" fn (\w+)\s*\(([^)]*)\)\s*(?:->\s*(\w+))?")
 CALL = re.compile(r"^(\w[\w ]*[ *])(\w+)\(([^)]*)\)(;| \{)", re.M)
 STRUCT = re.compile(r"^typedef struct \w+ \{(.*?)\} (\w+);", re.M | re.S)
-CRATE_STRUCT = re.compile(r"#\[repr\(C\)\][^{};]*?struct (\w+) \{(.*?)^\}", re.M | re.S)
+CRATE_STRUCT = re.compile(r"#\[repr\(C\)\][^{};]*?struct (\w+)(?:<'\w+>)? \{(.*?)^\}", re.M | re.S)
 ENUM = re.compile(r"^enum lodvarn_(\w+) \{(.*?)\};", re.M | re.S)
 
 

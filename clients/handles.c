@@ -26,6 +26,11 @@ int rl_get_options(void *block, lodvarn_options *options);
         return answer;                                   \
     } while (0)
 
+/* Blocks that hold nothing. A call may write the NULL that is there, so no two threads share one. */
+static __thread struct block no_record, no_killring;
+lodvarn_record *lodvarn_no_record(void) { return (void *)&no_record; }
+lodvarn_killring *lodvarn_no_killring(void) { return (void *)&no_killring; }
+
 static void *closed(void *block) {
     rl_close(block);
     free(block);

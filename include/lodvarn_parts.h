@@ -6,7 +6,7 @@
  *     lodvarn_record *r;
  *     lodvarn_line_open(&l, 4096, false, "ab", 2);
  *     lodvarn_record_open(&r);
- *     if (lodvarn_line_insert(l, 'c', 1) > 0) lodvarn_record_insert_char(r, 2, 'c');
+ *     lodvarn_line_insert(l, lodvarn_tell(r, NULL), 'c', 1);
  *     lodvarn_record_undo(r, l, 1);
  *     lodvarn_record_close(&r);
  *     lodvarn_line_close(&l);
@@ -15,13 +15,14 @@
  * differences:
  * - These calls are no commands of a session: nothing is reset, yanked or recorded but by the call that says so.
  * - NO_MEMORY of an edit of a line: if it has several steps it stops after the steps that it made, and these are
- *   reported. Of every other call: line, record and ring are as they were. Every other error leaves everything as it
- *   was.
+ *   told. The ring may have kept a text that is not deleted then. Of every other call: line, record and ring are as
+ *   they were. Every other error leaves everything as it was.
  *
- * A line tells no record and no ring of its changes. It keeps a report of each, in a queue without a bound, and whoever
- * has a record and a ring reads the reports and makes the calls that fit them. The reports, applied in order to the
- * text that the line had, give the text that it has. An edit that reports nothing, and an undo or a redo of no change,
- * is never NO_MEMORY. But a kill that reports its start and its stop takes memory for these also if nothing goes.
+ * An edit of a line tells its steps to a record and to a ring, if the call is given one, as a session does: so an undo
+ * brings the cursor back, and a kill is kept. A line makes a report of each step too, unless it is told not to, in a
+ * queue without a bound: these are for whatever else follows its text. The reports, applied in order to the text that
+ * the line had, give the text that it has. An edit of no step, and an undo or a redo of no change, is never NO_MEMORY.
+ * But a kill that reports its start and its stop takes memory for these also if nothing goes.
  *
  * docs/RULES.md says exactly what each call does. */
 #ifndef LODVARN_PARTS_H
@@ -41,6 +42,24 @@ typedef struct lodvarn_record lodvarn_record;
 
 /* A ring of killed texts. */
 typedef struct lodvarn_killring lodvarn_killring;
+
+/* The record and the ring that an edit of a line tells its steps. */
+typedef struct lodvarn_listeners {
+    lodvarn_record *record;
+    lodvarn_killring *killring;
+} lodvarn_listeners;
+
+/* A record and a ring that are closed, one of each thread. Who is told by these is not told. */
+lodvarn_record *lodvarn_no_record(void);
+lodvarn_killring *lodvarn_no_killring(void);
+
+/* Tells a record and a ring. Each may be NULL, and is not told then. */
+static inline lodvarn_listeners lodvarn_tell(lodvarn_record *r, lodvarn_killring *g) {
+    lodvarn_listeners to;
+    to.record = r ? r : lodvarn_no_record();
+    to.killring = g ? g : lodvarn_no_killring();
+    return to;
+}
 
 /* The line. */
 
@@ -77,58 +96,64 @@ int lodvarn_line_destination(lodvarn_line *l, lodvarn_movement movement, enum lo
 /* Tells what a copy by a movement would copy. Returns NOTHING if there is nothing. */
 int lodvarn_line_covers(lodvarn_line *l, lodvarn_movement movement, lodvarn_range *range);
 
-/* The edits. Each does what the call of a session with its name does, and reports the steps that it made, also if
+/* The edits. Each does what the call of a session with its name does, and tells the steps that it made, also if
  * NO_MEMORY stops it halfway. */
 
 /* Inserts the character c n times at the cursor. Errors: NO_ROOM, NO_MEMORY. */
-int lodvarn_line_insert(lodvarn_line *l, uint32_t c, size_t n);
+int lodvarn_line_insert(lodvarn_line *l, lodvarn_listeners to, uint32_t c, size_t n);
 
 /* Inserts a text n times at the cursor. Returns NOTHING if the text is empty. Errors: NO_ROOM, NO_MEMORY. */
-int lodvarn_line_paste(lodvarn_line *l, const char *text, size_t len, size_t n);
+int lodvarn_line_paste(lodvarn_line *l, lodvarn_listeners to, const char *text, size_t len, size_t n);
 
 /* Replaces the size bytes before the cursor, which were yanked, by a text; deletes them if it is empty. Errors:
  * BAD_YANK_SIZE if no text of that size ends at the cursor, NO_ROOM, NO_MEMORY. */
-int lodvarn_line_yank_pop(lodvarn_line *l, size_t size, const char *text, size_t len);
+int lodvarn_line_yank_pop(lodvarn_line *l, lodvarn_listeners to, size_t size, const char *text, size_t len);
 
 /* Replaces the whole text, cut to the limit, with the cursor at the place pos. Errors: BAD_PLACE, NO_MEMORY. */
-int lodvarn_line_set_text(lodvarn_line *l, size_t pos, const char *text, size_t len);
+int lodvarn_line_set_text(lodvarn_line *l, lodvarn_listeners to, size_t pos, const char *text, size_t len);
 
 /* Inserts a text at a place, and leaves the cursor at its. Errors: BAD_PLACE, NO_MEMORY. */
-int lodvarn_line_insert_at(lodvarn_line *l, size_t place, const char *text, size_t len);
+int lodvarn_line_insert_at(lodvarn_line *l, lodvarn_listeners to, size_t place, const char *text, size_t len);
 
 /* Replaces what stands in a range by a text. Errors: BAD_PLACE, NO_MEMORY. */
-int lodvarn_line_replace(lodvarn_line *l, lodvarn_range range, const char *text, size_t len);
+int lodvarn_line_replace(lodvarn_line *l, lodvarn_listeners to, lodvarn_range range, const char *text, size_t len);
 
 /* Deletes what stands in a range. Errors: BAD_PLACE, NO_MEMORY. */
-int lodvarn_line_delete_range(lodvarn_line *l, lodvarn_range range);
+int lodvarn_line_delete_range(lodvarn_line *l, lodvarn_listeners to, lodvarn_range range);
 
 /* Deletes n clusters after the cursor, or before it. Returns NOTHING if there are none. Errors: NO_MEMORY. */
-int lodvarn_line_delete(lodvarn_line *l, size_t n);
-int lodvarn_line_backspace(lodvarn_line *l, size_t n);
+int lodvarn_line_delete(lodvarn_line *l, lodvarn_listeners to, size_t n);
+int lodvarn_line_backspace(lodvarn_line *l, lodvarn_listeners to, size_t n);
 
 /* Deletes what a movement to one side of the cursor covers, without the reports of a kill. Returns NOTHING if there is
  * nothing. Errors: NO_SUCH_NUMBER also for the movements that lodvarn_delete_by does not take, NO_MEMORY. */
-int lodvarn_line_delete_by(lodvarn_line *l, lodvarn_movement movement);
+int lodvarn_line_delete_by(lodvarn_line *l, lodvarn_listeners to, lodvarn_movement movement);
 
 /* Deletes what a movement covers, as lodvarn_kill does. Reports of the kinds KILL_STARTED and KILL_STOPPED stand around
  * those of the deletion, also if there is nothing to delete; not so by lodvarn_chars_back and lodvarn_chars_forward.
  * Returns NOTHING if there is nothing. Errors: NO_MEMORY. */
-int lodvarn_line_kill(lodvarn_line *l, lodvarn_movement movement);
+int lodvarn_line_kill(lodvarn_line *l, lodvarn_listeners to, lodvarn_movement movement);
 
 /* Kills what stands in a range. Returns NOTHING if it is empty. Errors: BAD_PLACE, NO_MEMORY. */
-int lodvarn_line_kill_range(lodvarn_line *l, lodvarn_range range, enum lodvarn_direction direction);
+int lodvarn_line_kill_range(lodvarn_line *l, lodvarn_listeners to, lodvarn_range range,
+                            enum lodvarn_direction direction);
 
 /* Exchanges the clusters at the cursor; or the word that ends n-th after it with the word n words before that. Return
  * NOTHING if there are not two; the cursor may have moved by the latter then. Errors: NO_MEMORY. */
-int lodvarn_line_transpose_chars(lodvarn_line *l);
-int lodvarn_line_transpose_words(lodvarn_line *l, size_t n);
+int lodvarn_line_transpose_chars(lodvarn_line *l, lodvarn_listeners to);
+int lodvarn_line_transpose_words(lodvarn_line *l, lodvarn_listeners to, size_t n);
 
 /* Changes the letter case of the word at the cursor, or ahead. Returns NOTHING if there is none. Errors: NO_MEMORY. */
-int lodvarn_line_change_case(lodvarn_line *l, enum lodvarn_case to);
+int lodvarn_line_change_case(lodvarn_line *l, lodvarn_listeners to, enum lodvarn_case wanted);
 
 /* Indents the lines that a movement covers by amount spaces, or dedents them by as many blanks. Errors: NO_MEMORY. */
-int lodvarn_line_indent(lodvarn_line *l, lodvarn_movement movement, uint8_t amount,
+int lodvarn_line_indent(lodvarn_line *l, lodvarn_listeners to, lodvarn_movement movement, uint8_t amount,
                         enum lodvarn_indentation indentation);
+
+/* Says whether reports are made, as they are of a line that was opened; and returns whether they are. Those that wait
+ * stay. */
+int lodvarn_line_set_reports(lodvarn_line *l, bool on);
+bool lodvarn_line_makes_reports(lodvarn_line *l);
 
 /* Tells the oldest report that waits in *report, which is never FOLDED. It stays the oldest until
  * lodvarn_line_forget_report. Returns NOTHING if none waits. */
@@ -175,13 +200,13 @@ int lodvarn_record_replace(lodvarn_record *r, size_t at, lodvarn_view old_text, 
  * cursor back there; without it the cursor goes to where the text changed. */
 int lodvarn_record_cursors(lodvarn_record *r, size_t before, size_t after);
 
-/* Undoes the last n changes and groups in a line, which reports each. Returns NOTHING if there was no change. Errors:
- * NOT_REPLAYING if the changes that it takes can't be taken back from the line's text, or a cursor that was told of one
- * would stand inside a character or past the end; NO_MEMORY only if there is a change. */
+/* Undoes the last n changes and groups in a line, which makes a report of each. Returns NOTHING if there was no change.
+ * Errors: NOT_REPLAYING if the changes that it takes can't be taken back from the line's text, or a cursor that was told
+ * of one would stand inside a character or past the end; NO_MEMORY only if there is a change. */
 int lodvarn_record_undo(lodvarn_record *r, lodvarn_line *l, size_t n);
 
-/* Redoes what was undone last, one change or group, in a line, which reports each change. Answers and errors as
- * lodvarn_record_undo, of the changes that it makes again. */
+/* Redoes what was undone last, one change or group, in a line, which makes a report of each change. Answers and errors
+ * as lodvarn_record_undo, of the changes that it makes again. */
 int lodvarn_record_redo(lodvarn_record *r, lodvarn_line *l);
 
 /* Keeps the first entries entries, and forgets the others and what was undone. */

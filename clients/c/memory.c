@@ -59,7 +59,7 @@ static void all_is_given_back(void) {
     HANDLE(lodvarn_open(&s, NULL, NULL, 0), lodvarn_insert(s, '\n', 9), lodvarn_close(&s));
     HANDLE(lodvarn_open(&s, NULL, NULL, 0), lodvarn_keep(s, "kept", 4), lodvarn_close(&s));
     HANDLE(lodvarn_open(&s, NULL, NULL, 0), lodvarn_restart(s, "a\nb", 3), lodvarn_close(&s));
-    HANDLE(lodvarn_line_open(&l, 0, true, NULL, 0), lodvarn_line_paste(l, "a\nb", 3, 2), lodvarn_line_close(&l));
+    HANDLE(lodvarn_line_open(&l, 0, true, NULL, 0), lodvarn_line_paste(l, ALONE, "a\nb", 3, 2), lodvarn_line_close(&l));
     HANDLE(lodvarn_record_open(&r), lodvarn_record_insert(r, 3, "text", 4), lodvarn_record_close(&r));
     HANDLE(lodvarn_killring_open(&g, 2), lodvarn_killring_kill(g, "c", 1, LODVARN_FORWARD), lodvarn_killring_close(&g));
     DO(lodvarn_script("text ab\nins 1 c\n", 16, NULL, 0, &len));
@@ -70,14 +70,14 @@ static void reports_are_given_back(void) {
     size_t before, first = 0;
     memset(big, 'a', sizeof big);
     DO(lodvarn_line_open(&l, LODVARN_NO_LIMIT, false, NULL, 0));
-    DO(lodvarn_line_paste(l, big, sizeof big, 1));
+    DO(lodvarn_line_paste(l, ALONE, big, sizeof big, 1));
     before = held;
     DO(lodvarn_line_forget_reports(l));
     SEE(before - held >= sizeof big);
-    DO(lodvarn_line_insert(l, 'b', 1));
+    DO(lodvarn_line_insert(l, ALONE, 'b', 1));
     for (int i = 0; i < 1000; i++) {
-        DO(lodvarn_line_paste(l, big, 1000, 1));
-        DO(lodvarn_line_delete_range(l, range(0, 1000)));
+        DO(lodvarn_line_paste(l, ALONE, big, 1000, 1));
+        DO(lodvarn_line_delete_range(l, ALONE, range(0, 1000)));
         for (int n = 0; n < 2; n++) DO(lodvarn_line_forget_report(l));
         if (i == 9) first = held;
     }

@@ -101,7 +101,7 @@ static void print_state(char *to, size_t cap) {
 /* "aé" with a report of é, an entry for it in a group, and a ring of two texts, of which one was yanked last. */
 static void begin_row(void) {
     open_at("a|", 9);
-    must(lodvarn_line_insert(l, 0xe9, 1) == LODVARN_DONE_AT_END && lodvarn_record_begin_group(r) == LODVARN_DONE);
+    must(lodvarn_line_insert(l, ALONE, 0xe9, 1) == LODVARN_DONE_AT_END && lodvarn_record_begin_group(r) == LODVARN_DONE);
     must(lodvarn_record_insert_char(r, 1, 0xe9) == LODVARN_DONE);
     must(lodvarn_killring_kill(g, "b", 1, LODVARN_FORWARD) == LODVARN_DONE);
     must(lodvarn_killring_reset(g) > 0 && lodvarn_killring_kill(g, "cd", 2, LODVARN_FORWARD) > 0);
@@ -123,9 +123,9 @@ static void refuse_movement(lodvarn_movement bad) {
     LEAVES(NO_SUCH_NUMBER, lodvarn_line_move(l, bad, LODVARN_UNICODE, 0));
     LEAVES(NO_SUCH_NUMBER, lodvarn_line_destination(l, bad, LODVARN_UNICODE, 0, &out.number));
     LEAVES(NO_SUCH_NUMBER, lodvarn_line_covers(l, bad, &out.range));
-    LEAVES(NO_SUCH_NUMBER, lodvarn_line_delete_by(l, bad));
-    LEAVES(NO_SUCH_NUMBER, lodvarn_line_kill(l, bad));
-    LEAVES(NO_SUCH_NUMBER, lodvarn_line_indent(l, bad, 1, LODVARN_INDENT));
+    LEAVES(NO_SUCH_NUMBER, lodvarn_line_delete_by(l, ALONE, bad));
+    LEAVES(NO_SUCH_NUMBER, lodvarn_line_kill(l, ALONE, bad));
+    LEAVES(NO_SUCH_NUMBER, lodvarn_line_indent(l, ALONE, bad, 1, LODVARN_INDENT));
 }
 
 static void numbers_that_are_none(void) {
@@ -137,29 +137,29 @@ static void numbers_that_are_none(void) {
     }
     EACH_OUTSIDE(LODVARN_FORWARD, LODVARN_BACKWARD) {
         enum lodvarn_direction direction = (enum lodvarn_direction)number;
-        LEAVES(NO_SUCH_NUMBER, lodvarn_line_kill_range(l, range(0, 1), direction));
+        LEAVES(NO_SUCH_NUMBER, lodvarn_line_kill_range(l, ALONE, range(0, 1), direction));
         LEAVES(NO_SUCH_NUMBER, lodvarn_killring_kill(g, "a", 1, direction));
         LEAVES(NO_SUCH_NUMBER, lodvarn_killring_delete(g, "a", 1, direction));
     }
     EACH_OUTSIDE(LODVARN_CAPITALIZE, LODVARN_UPPERCASE)
-        LEAVES(NO_SUCH_NUMBER, lodvarn_line_change_case(l, (enum lodvarn_case)number));
+        LEAVES(NO_SUCH_NUMBER, lodvarn_line_change_case(l, ALONE, (enum lodvarn_case)number));
     EACH_OUTSIDE(LODVARN_INDENT, LODVARN_DEDENT)
-        LEAVES(NO_SUCH_NUMBER, lodvarn_line_indent(l, lodvarn_whole_text(), 1, (enum lodvarn_indentation)number));
+        LEAVES(NO_SUCH_NUMBER, lodvarn_line_indent(l, ALONE, lodvarn_whole_text(), 1, (enum lodvarn_indentation)number));
     for (size_t i = 0; i < COUNT(great_counts); i++) {
         size_t n = great_counts[i];
-        LEAVES(NO_SUCH_NUMBER, lodvarn_line_insert(l, 'a', n));
-        LEAVES(NO_SUCH_NUMBER, lodvarn_line_paste(l, "a", 1, n));
-        LEAVES(NO_SUCH_NUMBER, lodvarn_line_delete(l, n));
-        LEAVES(NO_SUCH_NUMBER, lodvarn_line_backspace(l, n));
-        LEAVES(NO_SUCH_NUMBER, lodvarn_line_transpose_words(l, n));
+        LEAVES(NO_SUCH_NUMBER, lodvarn_line_insert(l, ALONE, 'a', n));
+        LEAVES(NO_SUCH_NUMBER, lodvarn_line_paste(l, ALONE, "a", 1, n));
+        LEAVES(NO_SUCH_NUMBER, lodvarn_line_delete(l, ALONE, n));
+        LEAVES(NO_SUCH_NUMBER, lodvarn_line_backspace(l, ALONE, n));
+        LEAVES(NO_SUCH_NUMBER, lodvarn_line_transpose_words(l, ALONE, n));
         LEAVES(NO_SUCH_NUMBER, lodvarn_record_undo(r, l, n));
     }
     for (size_t i = 0; i < COUNT(no_characters); i++) {
-        LEAVES(NO_SUCH_NUMBER, lodvarn_line_insert(l, no_characters[i], 1));
+        LEAVES(NO_SUCH_NUMBER, lodvarn_line_insert(l, ALONE, no_characters[i], 1));
         LEAVES(NO_SUCH_NUMBER, lodvarn_record_insert_char(r, 0, no_characters[i]));
     }
-    LEAVES(NO_SUCH_NUMBER, lodvarn_line_delete_by(l, lodvarn_whole_line()));
-    LEAVES(NO_SUCH_NUMBER, lodvarn_line_delete_by(l, lodvarn_chars_back(1)));
+    LEAVES(NO_SUCH_NUMBER, lodvarn_line_delete_by(l, ALONE, lodvarn_whole_line()));
+    LEAVES(NO_SUCH_NUMBER, lodvarn_line_delete_by(l, ALONE, lodvarn_chars_back(1)));
 }
 
 static void texts_that_are_no_utf8(void) {
@@ -168,11 +168,11 @@ static void texts_that_are_no_utf8(void) {
         size_t len = strlen(bad);
         const lodvarn_view a = {"a", 1}, view = {bad, len};
         LEAVES(NOT_UTF8, lodvarn_line_open(&out.opened, 9, true, bad, len));
-        LEAVES(NOT_UTF8, lodvarn_line_paste(l, bad, len, 1));
-        LEAVES(NOT_UTF8, lodvarn_line_yank_pop(l, 2, bad, len));
-        LEAVES(NOT_UTF8, lodvarn_line_set_text(l, 0, bad, len));
-        LEAVES(NOT_UTF8, lodvarn_line_insert_at(l, 0, bad, len));
-        LEAVES(NOT_UTF8, lodvarn_line_replace(l, range(0, 1), bad, len));
+        LEAVES(NOT_UTF8, lodvarn_line_paste(l, ALONE, bad, len, 1));
+        LEAVES(NOT_UTF8, lodvarn_line_yank_pop(l, ALONE, 2, bad, len));
+        LEAVES(NOT_UTF8, lodvarn_line_set_text(l, ALONE, 0, bad, len));
+        LEAVES(NOT_UTF8, lodvarn_line_insert_at(l, ALONE, 0, bad, len));
+        LEAVES(NOT_UTF8, lodvarn_line_replace(l, ALONE, range(0, 1), bad, len));
         LEAVES(NOT_UTF8, lodvarn_record_insert(r, 0, bad, len));
         LEAVES(NOT_UTF8, lodvarn_record_delete(r, 0, bad, len));
         LEAVES(NOT_UTF8, lodvarn_record_replace(r, 0, view, a));
@@ -184,80 +184,80 @@ static void texts_that_are_no_utf8(void) {
 
 static void refuse_range(size_t from, size_t to) {
     LEAVES(BAD_PLACE, lodvarn_line_slice(l, range(from, to), &out.view));
-    LEAVES(BAD_PLACE, lodvarn_line_replace(l, range(from, to), "x", 1));
-    LEAVES(BAD_PLACE, lodvarn_line_delete_range(l, range(from, to)));
-    LEAVES(BAD_PLACE, lodvarn_line_kill_range(l, range(from, to), LODVARN_BACKWARD));
+    LEAVES(BAD_PLACE, lodvarn_line_replace(l, ALONE, range(from, to), "x", 1));
+    LEAVES(BAD_PLACE, lodvarn_line_delete_range(l, ALONE, range(from, to)));
+    LEAVES(BAD_PLACE, lodvarn_line_kill_range(l, ALONE, range(from, to), LODVARN_BACKWARD));
 }
 
 static void places_that_are_none(void) {
     static const size_t table[] = {2, 4, SIZE_MAX};
     for (size_t i = 0; i < COUNT(table); i++) {
         LEAVES(BAD_PLACE, lodvarn_line_set_pos(l, table[i]));
-        LEAVES(BAD_PLACE, lodvarn_line_set_text(l, table[i], "aé", 3));
-        LEAVES(BAD_PLACE, lodvarn_line_insert_at(l, table[i], "x", 1));
+        LEAVES(BAD_PLACE, lodvarn_line_set_text(l, ALONE, table[i], "aé", 3));
+        LEAVES(BAD_PLACE, lodvarn_line_insert_at(l, ALONE, table[i], "x", 1));
         refuse_range(0, table[i]);
         refuse_range(table[i], 3);
     }
     refuse_range(3, 1);
-    LEAVES(BAD_PLACE, lodvarn_line_insert_at(l, 0, "éé", 4));
-    LEAVES(BAD_YANK_SIZE, lodvarn_line_yank_pop(l, 1, "c", 1));
-    LEAVES(BAD_YANK_SIZE, lodvarn_line_yank_pop(l, 4, "c", 1));
-    LEAVES(BAD_YANK_SIZE, lodvarn_line_yank_pop(l, SIZE_MAX, "", 0));
+    LEAVES(BAD_PLACE, lodvarn_line_insert_at(l, ALONE, 0, "éé", 4));
+    LEAVES(BAD_YANK_SIZE, lodvarn_line_yank_pop(l, ALONE, 1, "c", 1));
+    LEAVES(BAD_YANK_SIZE, lodvarn_line_yank_pop(l, ALONE, 4, "c", 1));
+    LEAVES(BAD_YANK_SIZE, lodvarn_line_yank_pop(l, ALONE, SIZE_MAX, "", 0));
 }
 
 static void lines_are_edited(void) {
     lodvarn_range covered;
     size_t place;
     open_at("|ab", 4);
-    DOES(NO_ROOM, lodvarn_line_insert(l, 'x', 3), "|ab");
-    DOES(DONE, lodvarn_line_insert(l, 'x', 1), "x|ab");
-    DOES(NO_ROOM, lodvarn_line_paste(l, "yz", 2, 1), "x|ab");
-    DOES(NOTHING, lodvarn_line_paste(l, NULL, 0, 1), "x|ab");
-    DOES(DONE, lodvarn_line_paste(l, "y", 1, 1), "xy|ab");
-    DOES(NO_ROOM, lodvarn_line_yank_pop(l, 1, "123", 3), "xy|ab");
-    DOES(DONE, lodvarn_line_yank_pop(l, 2, "1", 1), "1|ab");
-    DOES(DONE, lodvarn_line_yank_pop(l, 1, NULL, 0), "|ab");
+    DOES(NO_ROOM, lodvarn_line_insert(l, ALONE, 'x', 3), "|ab");
+    DOES(DONE, lodvarn_line_insert(l, ALONE, 'x', 1), "x|ab");
+    DOES(NO_ROOM, lodvarn_line_paste(l, ALONE, "yz", 2, 1), "x|ab");
+    DOES(NOTHING, lodvarn_line_paste(l, ALONE, NULL, 0, 1), "x|ab");
+    DOES(DONE, lodvarn_line_paste(l, ALONE, "y", 1, 1), "xy|ab");
+    DOES(NO_ROOM, lodvarn_line_yank_pop(l, ALONE, 1, "123", 3), "xy|ab");
+    DOES(DONE, lodvarn_line_yank_pop(l, ALONE, 2, "1", 1), "1|ab");
+    DOES(DONE, lodvarn_line_yank_pop(l, ALONE, 1, NULL, 0), "|ab");
     DOES(DONE, lodvarn_line_move(l, lodvarn_to_text_end(), LODVARN_UNICODE, 0), "ab|");
-    DOES(DONE_AT_END, lodvarn_line_insert(l, 'c', 1), "abc|");
-    DOES(DONE_AT_END, lodvarn_line_paste(l, "d", 1, 1), "abcd|");
-    DOES(DONE_AT_END, lodvarn_line_yank_pop(l, 1, "D", 1), "abcD|");
-    DOES(DONE, lodvarn_line_set_text(l, 4, "ééé", 6), "éé|");
+    DOES(DONE_AT_END, lodvarn_line_insert(l, ALONE, 'c', 1), "abc|");
+    DOES(DONE_AT_END, lodvarn_line_paste(l, ALONE, "d", 1, 1), "abcd|");
+    DOES(DONE_AT_END, lodvarn_line_yank_pop(l, ALONE, 1, "D", 1), "abcD|");
+    DOES(DONE, lodvarn_line_set_text(l, ALONE, 4, "ééé", 6), "éé|");
     SEE(lodvarn_line_limit(l) == 4 && lodvarn_line_set_can_grow(l, true) == LODVARN_DONE);
-    DOES(DONE_AT_END, lodvarn_line_paste(l, "x", 1, 3), "ééxxx|");
-    DOES(DONE, lodvarn_line_set_text(l, 5, "ab\ncd", 5), "ab\ncd|");
+    DOES(DONE_AT_END, lodvarn_line_paste(l, ALONE, "x", 1, 3), "ééxxx|");
+    DOES(DONE, lodvarn_line_set_text(l, ALONE, 5, "ab\ncd", 5), "ab\ncd|");
     DOES(DONE, lodvarn_line_move(l, lodvarn_lines_up(1), LODVARN_UNICODE, 1), "a|b\ncd");
     SEE(lodvarn_line_destination(l, lodvarn_to_line_end(), LODVARN_UNICODE, 0, &place) == LODVARN_DONE && place == 2);
     SEE(lodvarn_line_covers(l, lodvarn_whole_line(), &covered) == LODVARN_DONE && !covered.from && covered.to == 2);
-    DOES(DONE, lodvarn_line_transpose_chars(l), "ba|\ncd");
-    DOES(DONE, lodvarn_line_delete(l, 1), "ba|cd");
-    DOES(DONE, lodvarn_line_change_case(l, LODVARN_UPPERCASE), "baCD|");
-    DOES(DONE, lodvarn_line_indent(l, lodvarn_whole_line(), 2, LODVARN_INDENT), "  baCD|");
-    DOES(NOTHING, lodvarn_line_transpose_words(l, 1), "  baCD|");
+    DOES(DONE, lodvarn_line_transpose_chars(l, ALONE), "ba|\ncd");
+    DOES(DONE, lodvarn_line_delete(l, ALONE, 1), "ba|cd");
+    DOES(DONE, lodvarn_line_change_case(l, ALONE, LODVARN_UPPERCASE), "baCD|");
+    DOES(DONE, lodvarn_line_indent(l, ALONE, lodvarn_whole_line(), 2, LODVARN_INDENT), "  baCD|");
+    DOES(NOTHING, lodvarn_line_transpose_words(l, ALONE, 1), "  baCD|");
 }
 
 static void lines_report(void) {
     lodvarn_report it;
     open_at("one two|", 8);
     SEE(lodvarn_line_next_report(l, &it) == LODVARN_NOTHING && lodvarn_line_forget_report(l) == LODVARN_NOTHING);
-    DOES(DONE_AT_END, lodvarn_line_insert(l, 'x', 1), "one twox|");
-    DOES(DONE, lodvarn_line_backspace(l, 1), "one two|");
+    DOES(DONE_AT_END, lodvarn_line_insert(l, ALONE, 'x', 1), "one twox|");
+    DOES(DONE, lodvarn_line_backspace(l, ALONE, 1), "one two|");
     for (int i = 0; i < 2; i++) SEE(lodvarn_line_next_report(l, &it) == LODVARN_DONE && is(it.new_text, "x"));
     SEE(lodvarn_line_count_reports(l) == 2);
     SEE(told(LODVARN_CHAR_INSERTED, 7, "", "x", 7, 8) && told(LODVARN_DELETED_BACKWARD, 7, "x", "", 8, 7));
-    DOES(DONE, lodvarn_line_replace(l, range(1, 1), NULL, 0), "o|ne two");
+    DOES(DONE, lodvarn_line_replace(l, ALONE, range(1, 1), NULL, 0), "o|ne two");
     DOES(DONE, lodvarn_line_set_pos(l, 7), "one two|");
-    DOES(NOTHING, lodvarn_line_kill(l, lodvarn_chars_back(0)), "one two|");
-    DOES(NOTHING, lodvarn_line_kill_range(l, range(2, 2), LODVARN_FORWARD), "one two|");
+    DOES(NOTHING, lodvarn_line_kill(l, ALONE, lodvarn_chars_back(0)), "one two|");
+    DOES(NOTHING, lodvarn_line_kill_range(l, ALONE, range(2, 2), LODVARN_FORWARD), "one two|");
     SEE(lodvarn_line_count_reports(l) == 3 && told(LODVARN_REPLACED, 1, "", "", 7, 1));
     SEE(told(LODVARN_KILL_STARTED, 0, "", "", 0, 0) && told(LODVARN_KILL_STOPPED, 0, "", "", 0, 0));
-    DOES(DONE, lodvarn_line_kill(l, WORD_BACK), "one |");
+    DOES(DONE, lodvarn_line_kill(l, ALONE, WORD_BACK), "one |");
     SEE(told(LODVARN_KILL_STARTED, 0, "", "", 0, 0) && told(LODVARN_DELETED_BACKWARD, 4, "two", "", 7, 4));
     SEE(told(LODVARN_KILL_STOPPED, 0, "", "", 0, 0) && lodvarn_line_count_reports(l) == 0);
-    DOES(DONE, lodvarn_line_replace(l, range(0, 3), "1", 1), "1| ");
+    DOES(DONE, lodvarn_line_replace(l, ALONE, range(0, 3), "1", 1), "1| ");
     SEE(told(LODVARN_REPLACED, 0, "one", "1", 4, 1));
-    DOES(DONE, lodvarn_line_delete_by(l, lodvarn_to_line_start()), "| ");
-    DOES(NOTHING, lodvarn_line_delete_by(l, lodvarn_to_line_start()), "| ");
-    DOES(DONE_AT_END, lodvarn_line_insert_at(l, 1, "x", 1), "| x");
+    DOES(DONE, lodvarn_line_delete_by(l, ALONE, lodvarn_to_line_start()), "| ");
+    DOES(NOTHING, lodvarn_line_delete_by(l, ALONE, lodvarn_to_line_start()), "| ");
+    DOES(DONE_AT_END, lodvarn_line_insert_at(l, ALONE, 1, "x", 1), "| x");
     SEE(lodvarn_line_count_reports(l) == 2 && lodvarn_line_forget_reports(l) == LODVARN_DONE);
     SEE(lodvarn_line_count_reports(l) == 0 && lodvarn_line_forget_reports(l) == LODVARN_NOTHING);
 }
@@ -270,9 +270,37 @@ static void reports_are_drained_quickly(void) {
     memset(text, 'a', sizeof text);
     open_at("|", LODVARN_NO_LIMIT);
     for (int i = 0; i < count / 2; i++)
-        must(lodvarn_line_paste(l, text, 100, 1) > 0 && lodvarn_line_delete_range(l, range(0, 100)) > 0);
+        must(lodvarn_line_paste(l, ALONE, text, 100, 1) > 0 && lodvarn_line_delete_range(l, ALONE, range(0, 100)) > 0);
     while (clock() < end && lodvarn_line_forget_report(l) > 0) count--;
     SEE(count == 0);
+}
+
+/* An edit tells the record and the ring that it is given, as a session does, with reports or without. */
+static void edits_are_told(void) {
+    lodvarn_view view;
+    open_at("|", 99);
+    lodvarn_listeners to = lodvarn_tell(r, g);
+    RETURNS(DONE, lodvarn_line_set_reports(l, false));
+    SEE(!lodvarn_line_makes_reports(l));
+    DOES(DONE_AT_END, lodvarn_line_paste(l, to, "one two", 7, 1), "one two|");
+    DOES(DONE, lodvarn_line_kill(l, to, WORD_BACK), "one |");
+    DOES(DONE, lodvarn_line_kill(l, to, WORD_BACK), "|");
+    SEE(lodvarn_killring_count(g) == 1 && lodvarn_killring_text(g, 0, &view) == LODVARN_DONE && is(view, "one two"));
+    DOES(DONE, lodvarn_record_undo(r, l, 1), "one |");
+    DOES(DONE, lodvarn_record_undo(r, l, 1), "one two|");
+    DOES(DONE, lodvarn_line_replace(l, to, range(0, 3), "1", 1), "1| two");
+    DOES(DONE, lodvarn_record_undo(r, l, 1), "one two|");
+    SEE(lodvarn_record_entries(r) == 1 && lodvarn_line_count_reports(l) == 0);
+    RETURNS(DONE, lodvarn_line_set_reports(l, true));
+    SEE(lodvarn_line_makes_reports(l));
+    DOES(DONE_AT_END, lodvarn_line_insert(l, lodvarn_tell(r, NULL), '-', 1), "one two-|");
+    SEE(told(LODVARN_CHAR_INSERTED, 7, "", "-", 7, 8) && lodvarn_record_entries(r) == 2);
+    DOES(DONE, lodvarn_line_kill(l, lodvarn_tell(NULL, g), lodvarn_to_line_start()), "|");
+    SEE(lodvarn_record_entries(r) == 2 && lodvarn_killring_text(g, 0, &view) == LODVARN_DONE && is(view, "one two-one two"));
+    lodvarn_line_close(&l);
+    lodvarn_listeners none = {lodvarn_no_record(), lodvarn_no_killring()};
+    SEE(lodvarn_record_entries(none.record) == 0 && lodvarn_record_begin_group(none.record) == LODVARN_CLOSED);
+    SEE(lodvarn_killring_count(none.killring) == 0 && lodvarn_killring_reset(none.killring) == LODVARN_CLOSED);
 }
 
 static void records_undo(void) {
@@ -284,11 +312,11 @@ static void records_undo(void) {
     RETURNS(NOTHING, lodvarn_record_end_group(r));
     RETURNS(NOTHING, lodvarn_record_last_insert(r, NULL, 0, &len));
     RETURNS(DONE, lodvarn_record_begin_group(r));
-    DOES(DONE_AT_END, lodvarn_line_paste(l, "one", 3, 1), "one|");
+    DOES(DONE_AT_END, lodvarn_line_paste(l, ALONE, "one", 3, 1), "one|");
     RETURNS(DONE, lodvarn_record_insert(r, 0, "one", 3));
     RETURNS(DONE, lodvarn_record_begin_group(r));
     RETURNS(NOTHING, lodvarn_record_end_group(r));
-    DOES(DONE_AT_END, lodvarn_line_insert(l, '-', 1), "one-|");
+    DOES(DONE_AT_END, lodvarn_line_insert(l, ALONE, '-', 1), "one-|");
     RETURNS(DONE, lodvarn_record_insert_char(r, 3, '-'));
     SEE(lodvarn_record_level(r) == 1 && lodvarn_record_end_all_groups(r) == LODVARN_DONE);
     SEE(lodvarn_record_entries(r) == 4 && lodvarn_record_level(r) == 0);
@@ -355,6 +383,7 @@ int main(void) {
     lines_are_edited();
     lines_report();
     reports_are_drained_quickly();
+    edits_are_told();
     records_undo();
     rings_yank();
     lodvarn_line_close(&l);

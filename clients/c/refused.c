@@ -130,25 +130,25 @@ static int step_of_parts(unsigned which) {
     CALL(opens_a_line());
     CALL(opens_a_record());
     CALL(opens_a_ring());
-    CALL(lodvarn_line_insert(l, 'e', 3));
-    CALL(lodvarn_line_paste(l, "x y", 3, 2));
-    STEPS(lodvarn_line_yank_pop(l, 3, "one two", 7));
-    STEPS(lodvarn_line_set_text(l, 3, "one two three", 13));
-    CALL(lodvarn_line_insert_at(l, 0, "ab\n", 3));
-    CALL(lodvarn_line_replace(l, range(0, 2), "cd\ne", 4));
-    CALL(lodvarn_line_delete_range(l, range(0, 1)));
-    CALL(lodvarn_line_delete(l, 1));
+    CALL(lodvarn_line_insert(l, ALONE, 'e', 3));
+    CALL(lodvarn_line_paste(l, ALONE, "x y", 3, 2));
+    STEPS(lodvarn_line_yank_pop(l, ALONE, 3, "one two", 7));
+    STEPS(lodvarn_line_set_text(l, ALONE, 3, "one two three", 13));
+    CALL(lodvarn_line_insert_at(l, ALONE, 0, "ab\n", 3));
+    CALL(lodvarn_line_replace(l, ALONE, range(0, 2), "cd\ne", 4));
+    CALL(lodvarn_line_delete_range(l, ALONE, range(0, 1)));
+    CALL(lodvarn_line_delete(l, ALONE, 1));
     CALL(lodvarn_line_set_pos(l, 6));
-    CALL(lodvarn_line_backspace(l, 1));
-    CALL(lodvarn_line_delete_by(l, lodvarn_to_text_start()));
-    STEPS(lodvarn_line_kill(l, lodvarn_to_line_end()));
-    STEPS(lodvarn_line_set_text(l, 7, "one two", 7));
-    STEPS(lodvarn_line_transpose_chars(l));
-    STEPS(lodvarn_line_transpose_words(l, 1));
-    STEPS(lodvarn_line_kill_range(l, range(0, 1), LODVARN_FORWARD));
-    STEPS(lodvarn_line_change_case(l, LODVARN_UPPERCASE));
-    STEPS(lodvarn_line_indent(l, lodvarn_whole_text(), 40, LODVARN_INDENT));
-    STEPS(lodvarn_line_set_text(l, 3, "cda", 3));
+    CALL(lodvarn_line_backspace(l, ALONE, 1));
+    CALL(lodvarn_line_delete_by(l, ALONE, lodvarn_to_text_start()));
+    STEPS(lodvarn_line_kill(l, ALONE, lodvarn_to_line_end()));
+    STEPS(lodvarn_line_set_text(l, ALONE, 7, "one two", 7));
+    STEPS(lodvarn_line_transpose_chars(l, ALONE));
+    STEPS(lodvarn_line_transpose_words(l, ALONE, 1));
+    STEPS(lodvarn_line_kill_range(l, ALONE, range(0, 1), LODVARN_FORWARD));
+    STEPS(lodvarn_line_change_case(l, ALONE, LODVARN_UPPERCASE));
+    STEPS(lodvarn_line_indent(l, ALONE, lodvarn_whole_text(), 40, LODVARN_INDENT));
+    STEPS(lodvarn_line_set_text(l, ALONE, 3, "cda", 3));
     CALL(lodvarn_record_begin_group(r));
     CALL(lodvarn_record_insert_char(r, 0, 'a'));
     CALL(lodvarn_record_insert(r, 0, "b", 1));
@@ -170,6 +170,36 @@ static int step_of_parts(unsigned which) {
     CALL(lodvarn_killring_stop_killing(g));
     CALL(lodvarn_restart(s, "one\ntwo\nthree\nfour\nfive\nsix\nseven\neight\nnine\nten", 48));
     CALL(lodvarn_restart(s, start, 5));
+    return NO_MORE;
+}
+
+/* The record leads to the text of the line, whatever was refused. */
+static int leads(void) {
+    int answer = lodvarn_record_can_undo(r, l);
+    SEE(answer != LODVARN_NOTHING);
+    return answer;
+}
+
+/* Edits of a line that tell the record and the ring, without reports and with them. */
+static int step_of_told(unsigned which) {
+    lodvarn_listeners to = lodvarn_tell(r, g);
+    CALL(lodvarn_line_set_reports(l, false));
+    CALL(lodvarn_line_insert(l, to, 'e', 3));
+    CALL(lodvarn_line_paste(l, to, "x y", 3, 2));
+    CALL(leads());
+    STEPS(lodvarn_line_set_text(l, to, 13, "one two three", 13));
+    CALL(leads());
+    STEPS(lodvarn_line_kill(l, to, WORD_BACK));
+    CALL(leads());
+    CALL(lodvarn_record_undo(r, l, 1));
+    CALL(lodvarn_line_set_reports(l, true));
+    STEPS(lodvarn_line_kill(l, to, WORD_BACK));
+    STEPS(lodvarn_line_kill(l, to, WORD_BACK));
+    CALL(leads());
+    STEPS(lodvarn_line_transpose_chars(l, to));
+    CALL(lodvarn_line_replace(l, to, range(0, 2), "cd\ne", 4));
+    CALL(leads());
+    CALL(lodvarn_record_undo(r, l, 2));
     return NO_MORE;
 }
 
@@ -308,7 +338,7 @@ static int frugal_step(unsigned which) {
     CALL(lodvarn_line_move(l, lodvarn_lines_up(1), LODVARN_UNICODE, 2));
     CALL(lodvarn_line_destination(l, lodvarn_to_line_end(), LODVARN_UNICODE, 0, &n));
     CALL(lodvarn_line_covers(l, lodvarn_whole_text(), &covered));
-    CALL(lodvarn_line_backspace(l, 0));
+    CALL(lodvarn_line_backspace(l, ALONE, 0));
     CALL(lodvarn_line_next_report(l, &report));
     CALL(lodvarn_line_forget_report(l));
     CALL(lodvarn_line_forget_reports(l));
@@ -332,7 +362,7 @@ static int frugal_step(unsigned which) {
 static int frugal_answer(unsigned which) {
     open_all(SIZE_MAX);
     must(lodvarn_keep(s, "kept", 4) > 0 && lodvarn_watch(s, 3, 40) > 0 && lodvarn_paste(s, "\nab", 3, 1) > 0);
-    must(lodvarn_line_paste(l, "\nab", 3, 1) > 0 && lodvarn_record_insert(r, 5, "\nab", 3) > 0);
+    must(lodvarn_line_paste(l, ALONE, "\nab", 3, 1) > 0 && lodvarn_record_insert(r, 5, "\nab", 3) > 0);
     must(lodvarn_killring_kill(g, "kept", 4, LODVARN_FORWARD) > 0);
     was_refused = 0;
     left = 0;
@@ -355,7 +385,7 @@ static int reader_takes_little(size_t late) {
     int holds = lodvarn_line_open(&l, 64, false, "", 0) == LODVARN_DONE;
     greatest = 0;
     for (int i = 0; holds && i < 100000; i++) {
-        holds = (i % 2 ? lodvarn_line_backspace(l, 1) : lodvarn_line_insert(l, 'a', 1)) > 0;
+        holds = (i % 2 ? lodvarn_line_backspace(l, ALONE, 1) : lodvarn_line_insert(l, ALONE, 'a', 1)) > 0;
         while (holds && lodvarn_line_count_reports(l) > late) {
             holds = lodvarn_line_next_report(l, &report) > 0 && report.pos_before + report.pos_after == 1
                 && (is(report.old_text, "a") || is(report.new_text, "a")) && lodvarn_line_forget_report(l) > 0;
@@ -375,7 +405,7 @@ static int closes_a_group(void) {
 
 /* The texts of a report of a great insertion are given back once it is forgotten. */
 static int gives_back(void) {
-    if (lodvarn_line_insert_at(l, 0, great, GREAT) < 0) return 0;
+    if (lodvarn_line_insert_at(l, ALONE, 0, great, GREAT) < 0) return 0;
     size_t held = __sanitizer_get_current_allocated_bytes();
     return lodvarn_line_forget_report(l) > 0 && __sanitizer_get_current_allocated_bytes() + GREAT <= held;
 }
@@ -412,6 +442,7 @@ int main(void) {
     for (size_t late = 0; late < 2; late++) see("a reader that is late", reader_takes_little(late));
     refuse_each("a refused request of a session", step);
     refuse_each("a refused request of a part", step_of_parts);
+    refuse_each("a refused request of an edit that is told", step_of_told);
     do see("a refused request of a script", script_tells_its_length(request++));
     while (was_refused);
     return sum();

@@ -33,6 +33,9 @@ static inline void must(int holds) {
     if (!holds) exit(2);
 }
 
+/* What tells no record and no ring. */
+#define ALONE lodvarn_tell(NULL, NULL)
+
 static inline lodvarn_range range(size_t from, size_t to) { return (lodvarn_range){from, to}; }
 
 static inline int is(lodvarn_view view, const char *text) {

@@ -12,6 +12,8 @@ use Rattle.rl_line.specs.Plan.{Step, listener_after, listener_after_step}
 use Rattle.rl_line.specs.Record.{Entry, Begin, End, Changed, event_of}
 use Rattle.rl_line.specs.Undo.{cursor_after, steps_ahead}
 use Rattle.rl_ffi.specs.Heard.{Heard, first_kept, heard_step, joined, marking, note, nothing_heard}
+use Rattle.rl_ffi.specs.Listeners.{reported}
+use Rattle.rl_ffi.specs.declared.listeners.Listeners.{Listeners}
 
 -- a mark leads nowhere, where it is kept and where it is not
 leads-marking : (b : Bool) (n : Noted) (h : Heard) (old text : List ℕ) → LeadsBy false 1 h.waiting old text → Tells 1 n text text → IsLineText text
@@ -81,6 +83,12 @@ first-joined x h count e = ap (λ w. record { waiting = w; marks = h.marks }) (t
 pub waits-told : (ss : List Step) (cursor : ℕ) → 0 < length (listener_after heard_step cursor ss nothing_heard).waiting → 0 < length ss
 waits-told [] cursor some = absurd (omega (arith, some))
 waits-told (s ∷ ss) cursor some = omega arith
+
+-- what is kept where reports are
+pub reported-on : (t : Listeners) (change : Heard → Heard) (h : Heard) → t.reports ≡ true → h ≡ change t.heard → record t { heard = h } ≡ reported change t
+reported-on t change h on e =
+    let same : change t.heard ≡ (if t.reports then change t.heard else t.heard) = rw on refl in
+    ap (λ (x : Heard). record t { heard = x }) (e ∙ same)
 
 -- what holds of an error, and of a result that is none
 pub from_err : {A E : Type 0} (result : Result A E) (P : E → Type 0) → IfErr result P → is_err result ≡ true → (e : E) × P e

@@ -10,6 +10,7 @@ pub mod Held
 pub mod Killring
 pub mod LineEdits
 pub mod LineReads
+pub mod Listeners
 pub mod Numbers
 pub mod Opening
 pub mod Reads

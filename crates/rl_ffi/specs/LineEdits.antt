@@ -9,16 +9,19 @@ use Rattle.rl_line.specs.Kills.{CanDeleteBy, Told, is_by_characters, kill_plan, 
 use Rattle.rl_line.specs.Line.{Line}
 use Rattle.rl_line.specs.LineRanges.{IsRange}
 use Rattle.rl_line.specs.Motions.{Moved, destination}
-use Rattle.rl_line.specs.Plan.{Done as Does, Halted, Plan, Takes, nothing_more, refusal_of, room_by_step, unbegun}
+use Rattle.rl_line.specs.Plan.{Done as Does, Halted, Plan, Takes, a_copy, nothing_more, refusal_of, room_by_step, unbegun}
+use Rattle.rl_line.specs.Transpositions.{transpose_chars_plan}
 use Rattle.rl_ffi.specs.Answers.{inserted, placed, truth}
 use Rattle.rl_ffi.specs.Calls.{Effect, becomes, leaves, of_named, of_text, only_where}
 use Rattle.rl_ffi.specs.Commands.{HasRoomFor, room_for}
-use Rattle.rl_ffi.specs.Heard.{Heard, heard_refused, heard_step, readied}
+use Rattle.rl_ffi.specs.Heard.{readied}
 use Rattle.rl_ffi.specs.LineReads.{prompted_at}
+use Rattle.rl_ffi.specs.Listeners.{listeners_refused, listeners_step, reported}
 use Rattle.rl_ffi.specs.Numbers.{char_of, count_of, dedents_of, direction_of, mode_of, movement_of}
 use Rattle.rl_ffi.specs.declared.answers.Answer.{Answer}
 use Rattle.rl_ffi.specs.declared.answers.Answer.TheVariants.{BadPlace, BadYankSize, Done, NoMemory, NoRoom, NoSuchNumber}
 use Rattle.rl_ffi.specs.declared.held.HeldLine.{HeldLine}
+use Rattle.rl_ffi.specs.declared.listeners.Listeners.{Listeners}
 use Rattle.rl_ffi.specs.declared.shapes.CMovement.{CMovement}
 use Rattle.rl_ffi.specs.declared.shapes.CRange.{CRange}
 
@@ -35,17 +38,17 @@ may_grow can_grow = sets (λ line. record line { grow = can_grow })
 -- the cursor goes to where a movement leads, if anywhere
 abbrev pub moves : CMovement → ℕ → ℕ → Effect HeldLine
 moves movement mode prompt = of_named (movement_of movement) (λ m. of_named (mode_of mode) (λ (columns : GraphemeClusterMode) old n new.
-    (answer : Bool) × Moved (destination (prompted_at columns prompt) old.line m) old.line new.line answer × (new.heard ≡ old.heard) × (n ≡ truth answer)))
+    (answer : Bool) × Moved (destination (prompted_at columns prompt) old.line m) old.line new.line answer × (new.to ≡ old.to) × (n ≡ truth answer)))
 
 -- memory was out: the plan was halted after its first steps, or not begun
 abbrev pub CutShort : {A : Type 0} → Takes → Plan A → HeldLine → HeldLine → Type 0
 CutShort takes plan old new =
-    ((why : Refusal) × Halted heard_step (refusal_of heard_refused takes) plan old.line new.line old.heard new.heard why) ⊎ (unbegun takes plan × (new ≡ old))
+    ((why : Refusal) × Halted listeners_step (refusal_of listeners_refused takes) plan old.line new.line old.to new.to why) ⊎ (unbegun takes plan × (new ≡ old))
 
 -- a plan is carried out, and what it answers is told; or memory is out
 abbrev pub edits : {A : Type 0} → Takes → (Line → Plan A) → (A → Answer) → Effect HeldLine
 edits {A} takes plan tells old n new =
-    ((answer : A) × Does heard_step (plan old.line) old.line new.line old.heard new.heard answer × (n ≡ tells answer))
+    ((answer : A) × Does listeners_step (plan old.line) old.line new.line old.to new.to answer × (n ≡ tells answer))
     ⊎ (CutShort takes (plan old.line) old new × (n ≡ NoMemory))
 
 abbrev pub is_done : Unit {0} → Answer
@@ -54,11 +57,14 @@ is_done _ = Done
 abbrev pub inserts : ℕ → ℕ → Effect HeldLine
 inserts c n = of_named (char_of c) (λ x. of_named (count_of n) (λ k. edits room_by_step (λ line. insert_plan line x k) (inserted NoRoom)))
 
-abbrev pub pastes : List ℕ → ℕ → Effect HeldLine
+unfoldable pub pastes : List ℕ → ℕ → Effect HeldLine
 pastes text n = of_named (count_of n) (λ k. of_text text (edits room_by_step (λ line. yank_plan line text k) (inserted (room_for text))))
 
+unfoldable pub swaps_chars : Effect HeldLine
+swaps_chars = edits a_copy transpose_chars_plan truth
+
 -- a text takes the place of the yanked bytes before the cursor; an empty one only takes them out
-abbrev pub pops : ℕ → List ℕ → Effect HeldLine
+unfoldable pub pops : ℕ → List ℕ → Effect HeldLine
 pops size text = of_text text (only_where (λ held. CanYankPop held.line size) BadYankSize
     (only_where (λ held. HasRoomFor held.line size (length text)) NoRoom (edits room_by_step (λ line. yank_pop_plan line size text) (inserted Done))))
 
@@ -84,20 +90,20 @@ deletes_by movement =
     of_named (movement_of movement) (λ m. only_where (λ _. CanDeleteBy m) NoSuchNumber (edits nothing_more (λ line. kill_plan line m) truth))
 
 -- a kill, with room for the reports of its start and its stop; by characters it is told as a deletion, which needs none
-abbrev pub before_kill : Bool → Heard → Heard
-before_kill true h = h
-before_kill false h = readied h
+unfoldable pub before_kill : Bool → Listeners → Listeners
+before_kill true t = t
+before_kill false t = reported readied t
 
--- what is heard of the deletion of a kill is heard between its start and its stop
-abbrev pub ToldOf : Bool → (Heard → Heard → Type 0) → HeldLine → HeldLine → Type 0
-ToldOf by_characters Heard_of old new = Told heard_step by_characters Heard_of (before_kill by_characters old.heard) new.heard
+-- the deletion of a kill is heard between its start and its stop
+abbrev pub ToldOf : Bool → (Listeners → Listeners → Type 0) → HeldLine → HeldLine → Type 0
+ToldOf by_characters Heard_of old new = Told listeners_step by_characters Heard_of (before_kill by_characters old.to) new.to
 
 -- a kill by a plan; or memory is out, for the report of what goes, or before it for those of the start and the stop, and nothing goes
-abbrev pub kills : Bool → (Line → Plan Bool) → Effect HeldLine
+unfoldable pub kills : Bool → (Line → Plan Bool) → Effect HeldLine
 kills by_characters plan old n new =
-    ((answer : Bool) × ToldOf by_characters (λ before now. Does heard_step (plan old.line) old.line new.line before now answer) old new × (n ≡ truth answer))
-    ⊎ (((why : Refusal) × ToldOf by_characters (λ before now. Halted heard_step heard_refused (plan old.line) old.line new.line before now why) old new) × (n ≡ NoMemory))
-    ⊎ ((by_characters ≡ false) × leaves NoMemory old n new)
+    ((answer : Bool) × ToldOf by_characters (λ before now. Does listeners_step (plan old.line) old.line new.line before now answer) old new × (n ≡ truth answer))
+    ⊎ (((why : Refusal) × ToldOf by_characters (λ before now. Halted listeners_step listeners_refused (plan old.line) old.line new.line before now why) old new) × (n ≡ NoMemory))
+    ⊎ ((by_characters ≡ false) × (old.to.reports ≡ true) × leaves NoMemory old n new)
 
 abbrev pub kills_by : CMovement → Effect HeldLine
 kills_by movement = of_named (movement_of movement) (λ m. kills (is_by_characters m) (λ line. kill_plan line m))

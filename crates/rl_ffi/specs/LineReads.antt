@@ -1,12 +1,12 @@
 -- What the calls tell that read a line that C holds.
-use Rattle.std.specs.Prelude.{◌≡◌, ℕ, nat_lt, length}
+use Rattle.std.specs.Prelude.{◌≡◌, ℕ, Bool, nat_lt, length}
 use Rattle.rl_base.specs.Widths.{blank_layout, origin}
 use Rattle.rl_base.specs.declared.layout.GraphemeClusterMode.{GraphemeClusterMode}
 use Rattle.rl_base.specs.declared.layout.Layout.{Layout}
 use Rattle.rl_line.specs.Line.{Line}
 use Rattle.rl_line.specs.Motions.{destination}
 use Rattle.rl_ffi.specs.Answers.{truth}
-use Rattle.rl_ffi.specs.Calls.{Effect, Telling, Writes, told_named}
+use Rattle.rl_ffi.specs.Calls.{Effect, Telling, Writes, becomes, told_named}
 use Rattle.rl_ffi.specs.Heard.{Heard}
 use Rattle.rl_ffi.specs.Numbers.{mode_of, movement_of}
 use Rattle.rl_ffi.specs.declared.held.HeldLine.{HeldLine}
@@ -21,6 +21,10 @@ abbrev pub LeadsTo : CMovement → ℕ → ℕ → Telling Line ℕ
 LeadsTo movement mode prompt = told_named (movement_of movement) (λ m. told_named (mode_of mode) (λ (columns : GraphemeClusterMode) (line : Line).
     Writes (destination (prompted_at columns prompt) line m)))
 
+-- whether reports are kept from now on
+abbrev pub sets_reports : Bool → Effect HeldLine
+sets_reports on = becomes (λ held. record held { to = record held.to { reports = on } })
+
 -- reports are forgotten, if any wait
 abbrev pub forgets : (Heard → Heard) → Effect HeldLine
-forgets left old n new = (n ≡ truth (nat_lt 0 (length old.heard.waiting))) × (new ≡ record old { heard = left old.heard })
+forgets left old n new = (n ≡ truth (nat_lt 0 (length old.to.heard.waiting))) × (new ≡ record old { to = record old.to { heard = left old.to.heard } })

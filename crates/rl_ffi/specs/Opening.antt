@@ -5,7 +5,7 @@ use Rattle.rl_line.specs.Line.{NeedsRoom}
 use Rattle.rl_session.specs.Forgetting.{bounded_by, within_bound}
 use Rattle.rl_session.specs.State.{State, fresh, limited, prompted, restarted, with_mode}
 use Rattle.rl_ffi.specs.Calls.{Effect, leaves, of_named, of_text, only_where}
-use Rattle.rl_ffi.specs.Heard.{nothing_heard}
+use Rattle.rl_ffi.specs.Listeners.{fresh_listeners}
 use Rattle.rl_ffi.specs.Numbers.{mode_number, mode_of}
 use Rattle.rl_ffi.specs.declared.answers.Answer.TheVariants.{Done, NoMemory, NoSuchNumber}
 use Rattle.rl_ffi.specs.declared.held.Held.{Held}
@@ -26,10 +26,10 @@ abbrev pub OpensSession : COptions → List ℕ → Effect (Option Held)
 OpensSession o text =
     of_named (mode_of o.mode) (λ mode. of_text text (Opens (holds.Session (chosen mode o (fresh text (length text) o.limit o.ring_size mode)))))
 
--- a line of a text, with the cursor at its end, of which nothing was heard
+-- a line of a text, with the cursor at its end, which keeps reports, of which none waits
 abbrev pub fresh_line : List ℕ → ℕ → Bool → HeldLine
 fresh_line text limit can_grow =
-    record { line = record { text = text; cursor = length text; limit = max limit (length text); grow = can_grow }; heard = nothing_heard }
+    record { line = record { text = text; cursor = length text; limit = max limit (length text); grow = can_grow }; to = fresh_listeners }
 
 abbrev pub OpensLine : ℕ → Bool → List ℕ → Effect (Option Held)
 OpensLine limit can_grow text = of_text text (Opens (holds.Line (fresh_line text limit can_grow)))

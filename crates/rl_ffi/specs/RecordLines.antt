@@ -7,6 +7,7 @@ use Rattle.rl_line.specs.Units.{has_change, last_of, redo_of}
 use Rattle.rl_ffi.specs.Answers.{number, truth}
 use Rattle.rl_ffi.specs.Heard.{heard_step}
 use Rattle.rl_ffi.specs.Held.{line_of, record_of}
+use Rattle.rl_ffi.specs.Listeners.{reported}
 use Rattle.rl_ffi.specs.Numbers.{count_of}
 use Rattle.rl_ffi.specs.declared.answers.Answer.{Answer}
 use Rattle.rl_ffi.specs.declared.answers.Answer.TheVariants.{Closed, NoMemory, NotReplaying}
@@ -35,9 +36,9 @@ abbrev pub AsksBoth : (Record → HeldLine → Answer → Type 0) → Option Hel
 AsksBoth Asks old line n =
     MatchOption (record_of old) (n ≡ number Closed) (λ r. MatchOption (line_of line) (n ≡ number Closed) (λ held. (answer : Answer) × Asks r held answer × (n ≡ number answer)))
 
--- the line's listener heard of these steps
+-- the steps are reported, where reports are kept
 abbrev pub HearsOf : List Step → HeldLine → HeldLine → Type 0
-HearsOf steps old new = new.heard ≡ listener_after heard_step old.line.cursor steps old.heard
+HearsOf steps old new = new.to ≡ reported (listener_after heard_step old.line.cursor steps) old.to
 
 -- record and line, the answer, and both after
 abbrev pub EffectOnBoth : Type 1
@@ -47,7 +48,7 @@ EffectOnBoth = Record → HeldLine → Answer → Record → HeldLine → Type 0
 abbrev pub stay : Answer → EffectOnBoth
 stay answer r held n left now = (n ≡ answer) × (left ≡ r) × (now ≡ held)
 
--- k units are undone in the line, and its listener hears of it; or they can't be taken back from it, or they hold a change, and memory is out
+-- k units are undone in the line, which is reported; or they can't be taken back from it, or they hold a change, and memory is out
 abbrev pub Undoes : ℕ → EffectOnBoth
 Undoes k r held n left now =
     ((answer : Bool) × Undone k r left held.line now.line answer × HearsOf (steps_back held.line.cursor (last_of k r.recorded)) held now × (n ≡ truth answer))

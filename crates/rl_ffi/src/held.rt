@@ -1,5 +1,5 @@
 //! What C may hold.
-use crate::heard::Heard;
+use crate::listeners::Listeners;
 use rl_base::KillRing;
 use rl_line::{Changeset, LineBuffer};
 use rl_session::Session;
@@ -17,11 +17,11 @@ pub enum Held {
     Ring(KillRing),
 }
 
-/// A line by itself, with the reports of what changed in it.
+/// A line by itself, with its listeners.
 #[derive(Drop)]
 pub struct HeldLine {
     /// The line.
     pub line: LineBuffer,
-    /// Hears of every change of the line.
-    pub heard: Heard,
+    /// Hear of every change of the line.
+    pub to: Listeners,
 }

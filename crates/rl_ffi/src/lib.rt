@@ -14,6 +14,7 @@ mod held;
 mod killring;
 mod line_edits;
 mod line_reads;
+mod listeners;
 mod numbers;
 mod opening;
 mod parts;

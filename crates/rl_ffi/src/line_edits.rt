@@ -1,42 +1,45 @@
 //! The calls that change a line by itself. What each edit did is told by its reports.
-ghost use Rattle.std.specs.Prelude.{◌≡◌, false, IfErr, OnOk};
+ghost use Rattle.std.specs.Prelude.{◌≡◌, false, true, IfErr, OnOk};
 ghost use Rattle.rl_base.specs.declared.motion.Movement.{Movement};
-ghost use Rattle.rl_line.specs.Kills.{is_by_characters, kill_plan};
+ghost use Rattle.rl_line.specs.LineRanges.{IsRange};
+ghost use Rattle.rl_line.specs.Kills.{is_by_characters, kill_plan, kill_range_plan};
 ghost use Rattle.rl_line.specs.LetterCase.{edit_word_plan};
 ghost use Rattle.rl_line.specs.Plan.{a_copy, nothing_more};
-ghost use Rattle.rl_line.specs.Transpositions.{transpose_chars_plan, transpose_words_plan};
+ghost use Rattle.rl_line.specs.Transpositions.{transpose_words_plan};
 ghost use Rattle.rl_ffi.specs.Answers.{merged, truth};
 ghost use Rattle.rl_ffi.specs.Calls.{Through, of_named};
 ghost use Rattle.rl_ffi.specs.Commands.{room_for};
 ghost use Rattle.rl_ffi.specs.Held.{a_line};
-ghost use Rattle.rl_ffi.specs.LineEdits.{before_kill, deletes, deletes_by, edits, indents, inserts, kills_by, kills_range, may_grow, moves, pastes, pops, puts_in, replaces, sets_pos, sets_text};
+ghost use Rattle.rl_ffi.specs.LineEdits.{before_kill, deletes, deletes_by, edits, indents, inserts, kills, kills_by, kills_range, may_grow, moves, pastes, pops, puts_in, replaces, sets_pos, sets_text, swaps_chars};
 ghost use Rattle.rl_ffi.specs.LineReads.{prompted_at};
+ghost use Rattle.rl_ffi.specs.Listeners.{ThroughTold, handed, handed_back};
 ghost use Rattle.rl_ffi.specs.Numbers.{case_of, count_of};
 ghost use Rattle.rl_ffi.specs.declared.answers.Answer.TheVariants.{NoMemory};
 
 use crate::answers::{Answer, Outcome, inserted, merged, placed, tried, truth};
 use crate::commands::{has_room_for, room_for};
 use crate::handle::{Handle, of};
-use crate::heard::Heard;
 use crate::held::{Held, HeldLine};
 use crate::line_reads::prompted_at;
+use crate::listeners::{CListeners, Listeners, exchange, told};
 use crate::numbers::{case_of, char_of, count_of, dedents_of, direction_of, mode_of, movement_of};
 use crate::shapes::{CMovement, CRange};
 use crate::texts::text_of;
-use rl_base::Movement;
+use rl_base::{Direction, Movement};
 use rl_line::{LineBuffer, can_delete_by, is_by_characters};
 use std::alloc::Global;
 use std::mem::replace as put_in_place;
 
 // Finds room for the reports of the start and the stop of a kill, where these are told.
-fn ready(heard: &mut Heard, by_characters: bool) -> Result<(), Answer>
-    ensures done { OnOk result (heard.new ≡ before_kill by_characters heard.old) }
-    ensures err { IfErr result (λ answer. (answer ≡ NoMemory) × (by_characters ≡ false) × (heard.new ≡ heard.old)) }
+#[tactic(auto, unfolding(crate::specs::LineEdits::before_kill))]
+fn ready(to: &mut Listeners, by_characters: bool) -> Result<(), Answer>
+    ensures done { OnOk result (to.new ≡ before_kill by_characters to.old) }
+    ensures err { IfErr result (λ answer. (answer ≡ NoMemory) × (by_characters ≡ false) × (to.old.reports ≡ true) × (to.new ≡ to.old)) }
 {
-    if by_characters {
+    if by_characters || !to.reports {
         return Ok(());
     }
-    tried(heard.ready())
+    tried(to.heard.ready())
 }
 
 fn set_can_grow(alloc: Global, held: &mut HeldLine, can_grow: bool) -> Outcome
@@ -101,36 +104,49 @@ fn insert(held: &mut HeldLine, c: u32, n: usize) -> Outcome
 {
     let c = char_of(c)?;
     let n = count_of(n)?;
-    let answer = tried(held.line.insert(c, n, &mut held.heard))?;
+    let answer = tried(held.line.insert(c, n, &mut held.to))?;
     Ok(inserted(Answer::NoRoom, answer))
 }
 
 /// `lodvarn_line_insert`.
 #[unsafe(no_mangle)]
-pub extern "C" fn lodvarn_line_insert(alloc: Global, l: &mut Handle, c: u32, n: usize) -> i32
-    ensures { Through a_line (inserts c n) l.old.value result l.new.value }
+pub extern "C" fn lodvarn_line_insert(
+    alloc: Global,
+    l: &mut Handle,
+    to: CListeners,
+    c: u32,
+    n: usize,
+) -> i32
+    ensures { ThroughTold (inserts c n) (l.old.value, handed to.entry) result (l.new.value, handed_back to.exit) }
 {
-    of!(l, alloc, Held::Line(held) => insert(held, c, n))
+    told!(l, to, alloc, held => insert(held, c, n))
 }
 
+#[tactic(auto, unfolding(crate::specs::LineEdits::pastes))]
 fn paste(held: &mut HeldLine, text: &[u8], n: usize) -> Outcome
     ensures { pastes text.now n held.old (merged result) held.new }
 {
     let n = count_of(n)?;
     let text = text_of(text)?;
-    let answer = tried(held.line.yank(text, n, &mut held.heard))?;
+    let answer = tried(held.line.yank(text, n, &mut held.to))?;
     Ok(inserted(room_for(text), answer))
 }
 
 /// `lodvarn_line_paste`.
 #[unsafe(no_mangle)]
-pub extern "C" fn lodvarn_line_paste(alloc: Global, l: &mut Handle, text: &[u8], n: usize) -> i32
-    ensures { Through a_line (pastes text.now n) l.old.value result l.new.value }
+pub extern "C" fn lodvarn_line_paste(
+    alloc: Global,
+    l: &mut Handle,
+    to: CListeners,
+    text: &[u8],
+    n: usize,
+) -> i32
+    ensures { ThroughTold (pastes text.now n) (l.old.value, handed to.entry) result (l.new.value, handed_back to.exit) }
 {
-    of!(l, alloc, Held::Line(held) => paste(held, text, n))
+    told!(l, to, alloc, held => paste(held, text, n))
 }
 
-#[tactic(auto, unfolding(crate::specs::Calls::only_where))]
+#[tactic(auto, unfolding(crate::specs::Calls::only_where, crate::specs::LineEdits::pops))]
 fn yank_pop(held: &mut HeldLine, size: usize, text: &[u8]) -> Outcome
     ensures { pops size text.now held.old (merged result) held.new }
 {
@@ -141,7 +157,7 @@ fn yank_pop(held: &mut HeldLine, size: usize, text: &[u8]) -> Outcome
     if !has_room_for(&held.line, size, text.len()) {
         return Err(Answer::NoRoom);
     }
-    let answer = tried(held.line.yank_pop(size, text, &mut held.heard))?;
+    let answer = tried(held.line.yank_pop(size, text, &mut held.to))?;
     Ok(inserted(Answer::Done, answer))
 }
 
@@ -150,12 +166,13 @@ fn yank_pop(held: &mut HeldLine, size: usize, text: &[u8]) -> Outcome
 pub extern "C" fn lodvarn_line_yank_pop(
     alloc: Global,
     l: &mut Handle,
+    to: CListeners,
     size: usize,
     text: &[u8],
 ) -> i32
-    ensures { Through a_line (pops size text.now) l.old.value result l.new.value }
+    ensures { ThroughTold (pops size text.now) (l.old.value, handed to.entry) result (l.new.value, handed_back to.exit) }
 {
-    of!(l, alloc, Held::Line(held) => yank_pop(held, size, text))
+    told!(l, to, alloc, held => yank_pop(held, size, text))
 }
 
 #[tactic(auto, unfolding(crate::specs::Calls::only_where, crate::specs::LineEdits::sets_text))]
@@ -166,7 +183,7 @@ fn set_text(held: &mut HeldLine, pos: usize, text: &[u8]) -> Outcome
     if !text.is_char_boundary(pos) {
         return Err(Answer::BadPlace);
     }
-    tried(held.line.update(text, pos, &mut held.heard))?;
+    tried(held.line.update(text, pos, &mut held.to))?;
     Ok(Answer::Done)
 }
 
@@ -175,12 +192,13 @@ fn set_text(held: &mut HeldLine, pos: usize, text: &[u8]) -> Outcome
 pub extern "C" fn lodvarn_line_set_text(
     alloc: Global,
     l: &mut Handle,
+    to: CListeners,
     pos: usize,
     text: &[u8],
 ) -> i32
-    ensures { Through a_line (sets_text pos text.now) l.old.value result l.new.value }
+    ensures { ThroughTold (sets_text pos text.now) (l.old.value, handed to.entry) result (l.new.value, handed_back to.exit) }
 {
-    of!(l, alloc, Held::Line(held) => set_text(held, pos, text))
+    told!(l, to, alloc, held => set_text(held, pos, text))
 }
 
 #[tactic(auto, unfolding(crate::specs::Calls::only_where, crate::specs::LineEdits::puts_in))]
@@ -191,7 +209,7 @@ fn insert_at(held: &mut HeldLine, place: usize, text: &[u8]) -> Outcome
     if !held.line.can_insert_str(place, text) {
         return Err(Answer::BadPlace);
     }
-    let answer = tried(held.line.insert_str(place, text, &mut held.heard))?;
+    let answer = tried(held.line.insert_str(place, text, &mut held.to))?;
     Ok(placed(answer))
 }
 
@@ -200,12 +218,13 @@ fn insert_at(held: &mut HeldLine, place: usize, text: &[u8]) -> Outcome
 pub extern "C" fn lodvarn_line_insert_at(
     alloc: Global,
     l: &mut Handle,
+    to: CListeners,
     place: usize,
     text: &[u8],
 ) -> i32
-    ensures { Through a_line (puts_in place text.now) l.old.value result l.new.value }
+    ensures { ThroughTold (puts_in place text.now) (l.old.value, handed to.entry) result (l.new.value, handed_back to.exit) }
 {
-    of!(l, alloc, Held::Line(held) => insert_at(held, place, text))
+    told!(l, to, alloc, held => insert_at(held, place, text))
 }
 
 #[tactic(auto, unfolding(crate::specs::Calls::only_where, crate::specs::LineEdits::replaces))]
@@ -217,7 +236,7 @@ fn replace(held: &mut HeldLine, range: CRange, text: &[u8]) -> Outcome
         return Err(Answer::BadPlace);
     }
     let range = range.from..range.to;
-    tried(held.line.replace(range, text, &mut held.heard))?;
+    tried(held.line.replace(range, text, &mut held.to))?;
     Ok(Answer::Done)
 }
 
@@ -226,12 +245,13 @@ fn replace(held: &mut HeldLine, range: CRange, text: &[u8]) -> Outcome
 pub extern "C" fn lodvarn_line_replace(
     alloc: Global,
     l: &mut Handle,
+    to: CListeners,
     range: CRange,
     text: &[u8],
 ) -> i32
-    ensures { Through a_line (replaces range text.now) l.old.value result l.new.value }
+    ensures { ThroughTold (replaces range text.now) (l.old.value, handed to.entry) result (l.new.value, handed_back to.exit) }
 {
-    of!(l, alloc, Held::Line(held) => replace(held, range, text))
+    told!(l, to, alloc, held => replace(held, range, text))
 }
 
 #[tactic(auto, unfolding(crate::specs::Calls::only_where))]
@@ -242,16 +262,21 @@ fn delete_range(held: &mut HeldLine, range: CRange) -> Outcome
         return Err(Answer::BadPlace);
     }
     let range = range.from..range.to;
-    tried(held.line.delete_range(range, &mut held.heard))?;
+    tried(held.line.delete_range(range, &mut held.to))?;
     Ok(Answer::Done)
 }
 
 /// `lodvarn_line_delete_range`.
 #[unsafe(no_mangle)]
-pub extern "C" fn lodvarn_line_delete_range(alloc: Global, l: &mut Handle, range: CRange) -> i32
-    ensures { Through a_line (deletes range) l.old.value result l.new.value }
+pub extern "C" fn lodvarn_line_delete_range(
+    alloc: Global,
+    l: &mut Handle,
+    to: CListeners,
+    range: CRange,
+) -> i32
+    ensures { ThroughTold (deletes range) (l.old.value, handed to.entry) result (l.new.value, handed_back to.exit) }
 {
-    of!(l, alloc, Held::Line(held) => delete_range(held, range))
+    told!(l, to, alloc, held => delete_range(held, range))
 }
 
 fn delete(held: &mut HeldLine, n: usize) -> Outcome
@@ -259,32 +284,42 @@ fn delete(held: &mut HeldLine, n: usize) -> Outcome
 {
     let n = count_of(n)?;
     let next = Movement::ForwardChar(n);
-    let answer = tried(held.line.delete_by(&next, &mut held.heard))?;
+    let answer = tried(held.line.delete_by(&next, &mut held.to))?;
     Ok(truth(answer))
 }
 
 /// `lodvarn_line_delete`.
 #[unsafe(no_mangle)]
-pub extern "C" fn lodvarn_line_delete(alloc: Global, l: &mut Handle, n: usize) -> i32
-    ensures { Through a_line (of_named (count_of n) (λ k. edits nothing_more (λ line. kill_plan line (Movement.ForwardChar k)) truth)) l.old.value result l.new.value }
+pub extern "C" fn lodvarn_line_delete(
+    alloc: Global,
+    l: &mut Handle,
+    to: CListeners,
+    n: usize,
+) -> i32
+    ensures { ThroughTold (of_named (count_of n) (λ k. edits nothing_more (λ line. kill_plan line (Movement.ForwardChar k)) truth)) (l.old.value, handed to.entry) result (l.new.value, handed_back to.exit) }
 {
-    of!(l, alloc, Held::Line(held) => delete(held, n))
+    told!(l, to, alloc, held => delete(held, n))
 }
 
 fn backspace(held: &mut HeldLine, n: usize) -> Outcome
     ensures { of_named (count_of n) (λ k. edits nothing_more (λ line. kill_plan line (Movement.BackwardChar k)) truth) held.old (merged result) held.new }
 {
     let n = count_of(n)?;
-    let answer = tried(held.line.backspace(n, &mut held.heard))?;
+    let answer = tried(held.line.backspace(n, &mut held.to))?;
     Ok(truth(answer))
 }
 
 /// `lodvarn_line_backspace`.
 #[unsafe(no_mangle)]
-pub extern "C" fn lodvarn_line_backspace(alloc: Global, l: &mut Handle, n: usize) -> i32
-    ensures { Through a_line (of_named (count_of n) (λ k. edits nothing_more (λ line. kill_plan line (Movement.BackwardChar k)) truth)) l.old.value result l.new.value }
+pub extern "C" fn lodvarn_line_backspace(
+    alloc: Global,
+    l: &mut Handle,
+    to: CListeners,
+    n: usize,
+) -> i32
+    ensures { ThroughTold (of_named (count_of n) (λ k. edits nothing_more (λ line. kill_plan line (Movement.BackwardChar k)) truth)) (l.old.value, handed to.entry) result (l.new.value, handed_back to.exit) }
 {
-    of!(l, alloc, Held::Line(held) => backspace(held, n))
+    told!(l, to, alloc, held => backspace(held, n))
 }
 
 #[tactic(auto, unfolding(crate::specs::Calls::only_where))]
@@ -295,33 +330,55 @@ fn delete_by(held: &mut HeldLine, movement: CMovement) -> Outcome
     if !can_delete_by(&movement) {
         return Err(Answer::NoSuchNumber);
     }
-    let answer = tried(held.line.delete_by(&movement, &mut held.heard))?;
+    let answer = tried(held.line.delete_by(&movement, &mut held.to))?;
     Ok(truth(answer))
 }
 
 /// `lodvarn_line_delete_by`.
 #[unsafe(no_mangle)]
-pub extern "C" fn lodvarn_line_delete_by(alloc: Global, l: &mut Handle, movement: CMovement) -> i32
-    ensures { Through a_line (deletes_by movement) l.old.value result l.new.value }
+pub extern "C" fn lodvarn_line_delete_by(
+    alloc: Global,
+    l: &mut Handle,
+    to: CListeners,
+    movement: CMovement,
+) -> i32
+    ensures { ThroughTold (deletes_by movement) (l.old.value, handed to.entry) result (l.new.value, handed_back to.exit) }
 {
-    of!(l, alloc, Held::Line(held) => delete_by(held, movement))
+    told!(l, to, alloc, held => delete_by(held, movement))
 }
 
+#[tactic(auto, unfolding(crate::specs::LineEdits::kills))]
 fn kill(held: &mut HeldLine, movement: CMovement) -> Outcome
     ensures { kills_by movement held.old (merged result) held.new }
 {
     let movement = movement_of(movement)?;
-    ready(&mut held.heard, is_by_characters(&movement))?;
-    let answer = tried(held.line.kill(&movement, &mut held.heard))?;
+    ready(&mut held.to, is_by_characters(&movement))?;
+    let answer = tried(held.line.kill(&movement, &mut held.to))?;
     Ok(truth(answer))
 }
 
 /// `lodvarn_line_kill`.
 #[unsafe(no_mangle)]
-pub extern "C" fn lodvarn_line_kill(alloc: Global, l: &mut Handle, movement: CMovement) -> i32
-    ensures { Through a_line (kills_by movement) l.old.value result l.new.value }
+pub extern "C" fn lodvarn_line_kill(
+    alloc: Global,
+    l: &mut Handle,
+    to: CListeners,
+    movement: CMovement,
+) -> i32
+    ensures { ThroughTold (kills_by movement) (l.old.value, handed to.entry) result (l.new.value, handed_back to.exit) }
 {
-    of!(l, alloc, Held::Line(held) => kill(held, movement))
+    told!(l, to, alloc, held => kill(held, movement))
+}
+
+#[tactic(auto, unfolding(crate::specs::LineEdits::kills))]
+fn kill_in(held: &mut HeldLine, range: CRange, side: Direction) -> Outcome
+    requires { IsRange held.old.line.text range.from range.to }
+    ensures { kills false (λ line. kill_range_plan line range.from range.to side) held.old (merged result) held.new }
+{
+    ready(&mut held.to, false)?;
+    let range = range.from..range.to;
+    let answer = tried(held.line.kill_range(range, side, &mut held.to))?;
+    Ok(truth(answer))
 }
 
 #[tactic(auto, unfolding(crate::specs::Calls::only_where))]
@@ -332,10 +389,7 @@ fn kill_range(held: &mut HeldLine, range: CRange, direction: u32) -> Outcome
     if !held.line.is_range(range.from, range.to) {
         return Err(Answer::BadPlace);
     }
-    ready(&mut held.heard, false)?;
-    let range = range.from..range.to;
-    let answer = tried(held.line.kill_range(range, side, &mut held.heard))?;
-    Ok(truth(answer))
+    kill_in(held, range, side)
 }
 
 /// `lodvarn_line_kill_range`.
@@ -343,59 +397,71 @@ fn kill_range(held: &mut HeldLine, range: CRange, direction: u32) -> Outcome
 pub extern "C" fn lodvarn_line_kill_range(
     alloc: Global,
     l: &mut Handle,
+    to: CListeners,
     range: CRange,
     direction: u32,
 ) -> i32
-    ensures { Through a_line (kills_range range direction) l.old.value result l.new.value }
+    ensures { ThroughTold (kills_range range direction) (l.old.value, handed to.entry) result (l.new.value, handed_back to.exit) }
 {
-    of!(l, alloc, Held::Line(held) => kill_range(held, range, direction))
+    told!(l, to, alloc, held => kill_range(held, range, direction))
 }
 
+#[tactic(auto, unfolding(crate::specs::LineEdits::swaps_chars))]
 fn transpose_chars(held: &mut HeldLine) -> Outcome
-    ensures { edits a_copy transpose_chars_plan truth held.old (merged result) held.new }
+    ensures { swaps_chars held.old (merged result) held.new }
 {
-    let answer = tried(held.line.transpose_chars(&mut held.heard))?;
+    let answer = tried(held.line.transpose_chars(&mut held.to))?;
     Ok(truth(answer))
 }
 
 /// `lodvarn_line_transpose_chars`.
 #[unsafe(no_mangle)]
-pub extern "C" fn lodvarn_line_transpose_chars(alloc: Global, l: &mut Handle) -> i32
-    ensures { Through a_line (edits a_copy transpose_chars_plan truth) l.old.value result l.new.value }
+pub extern "C" fn lodvarn_line_transpose_chars(alloc: Global, l: &mut Handle, to: CListeners) -> i32
+    ensures { ThroughTold (swaps_chars) (l.old.value, handed to.entry) result (l.new.value, handed_back to.exit) }
 {
-    of!(l, alloc, Held::Line(held) => transpose_chars(held))
+    told!(l, to, alloc, held => transpose_chars(held))
 }
 
 fn transpose_words(held: &mut HeldLine, n: usize) -> Outcome
     ensures { of_named (count_of n) (λ k. edits a_copy (λ line. transpose_words_plan line k) truth) held.old (merged result) held.new }
 {
     let n = count_of(n)?;
-    let answer = tried(held.line.transpose_words(n, &mut held.heard))?;
+    let answer = tried(held.line.transpose_words(n, &mut held.to))?;
     Ok(truth(answer))
 }
 
 /// `lodvarn_line_transpose_words`.
 #[unsafe(no_mangle)]
-pub extern "C" fn lodvarn_line_transpose_words(alloc: Global, l: &mut Handle, n: usize) -> i32
-    ensures { Through a_line (of_named (count_of n) (λ k. edits a_copy (λ line. transpose_words_plan line k) truth)) l.old.value result l.new.value }
+pub extern "C" fn lodvarn_line_transpose_words(
+    alloc: Global,
+    l: &mut Handle,
+    to: CListeners,
+    n: usize,
+) -> i32
+    ensures { ThroughTold (of_named (count_of n) (λ k. edits a_copy (λ line. transpose_words_plan line k) truth)) (l.old.value, handed to.entry) result (l.new.value, handed_back to.exit) }
 {
-    of!(l, alloc, Held::Line(held) => transpose_words(held, n))
+    told!(l, to, alloc, held => transpose_words(held, n))
 }
 
-fn change_case(held: &mut HeldLine, to: u32) -> Outcome
-    ensures { of_named (case_of to) (λ action. edits a_copy (λ line. edit_word_plan line action) truth) held.old (merged result) held.new }
+fn change_case(held: &mut HeldLine, case: u32) -> Outcome
+    ensures { of_named (case_of case) (λ action. edits a_copy (λ line. edit_word_plan line action) truth) held.old (merged result) held.new }
 {
-    let action = case_of(to)?;
-    let answer = tried(held.line.edit_word(action, &mut held.heard))?;
+    let action = case_of(case)?;
+    let answer = tried(held.line.edit_word(action, &mut held.to))?;
     Ok(truth(answer))
 }
 
 /// `lodvarn_line_change_case`.
 #[unsafe(no_mangle)]
-pub extern "C" fn lodvarn_line_change_case(alloc: Global, l: &mut Handle, to: u32) -> i32
-    ensures { Through a_line (of_named (case_of to) (λ action. edits a_copy (λ line. edit_word_plan line action) truth)) l.old.value result l.new.value }
+pub extern "C" fn lodvarn_line_change_case(
+    alloc: Global,
+    l: &mut Handle,
+    to: CListeners,
+    case: u32,
+) -> i32
+    ensures { ThroughTold (of_named (case_of case) (λ action. edits a_copy (λ line. edit_word_plan line action) truth)) (l.old.value, handed to.entry) result (l.new.value, handed_back to.exit) }
 {
-    of!(l, alloc, Held::Line(held) => change_case(held, to))
+    told!(l, to, alloc, held => change_case(held, case))
 }
 
 fn indent(held: &mut HeldLine, movement: CMovement, amount: u8, indentation: u32) -> Outcome
@@ -403,7 +469,7 @@ fn indent(held: &mut HeldLine, movement: CMovement, amount: u8, indentation: u32
 {
     let movement = movement_of(movement)?;
     let dedent = dedents_of(indentation)?;
-    let answer = tried(held.line.indent(&movement, amount, dedent, &mut held.heard))?;
+    let answer = tried(held.line.indent(&movement, amount, dedent, &mut held.to))?;
     Ok(truth(answer))
 }
 
@@ -412,11 +478,12 @@ fn indent(held: &mut HeldLine, movement: CMovement, amount: u8, indentation: u32
 pub extern "C" fn lodvarn_line_indent(
     alloc: Global,
     l: &mut Handle,
+    to: CListeners,
     movement: CMovement,
     amount: u8,
     indentation: u32,
 ) -> i32
-    ensures { Through a_line (indents movement amount indentation) l.old.value result l.new.value }
+    ensures { ThroughTold (indents movement amount indentation) (l.old.value, handed to.entry) result (l.new.value, handed_back to.exit) }
 {
-    of!(l, alloc, Held::Line(held) => indent(held, movement, amount, indentation))
+    told!(l, to, alloc, held => indent(held, movement, amount, indentation))
 }

@@ -1,12 +1,12 @@
 //! The calls that read a line by itself, and forget what its reports told.
-ghost use Rattle.std.specs.Prelude.{◌≡◌, length};
+ghost use Rattle.std.specs.Prelude.{◌≡◌, false, length};
 ghost use Rattle.std.specs.Option.{option_map_or};
 ghost use Rattle.rl_ffi.specs.Answers.{merged};
 ghost use Rattle.rl_ffi.specs.Calls.{Tells, Through};
 ghost use Rattle.rl_ffi.specs.Changes.{TellsNote};
 ghost use Rattle.rl_ffi.specs.Heard.{all_forgotten, next_of, past_oldest};
 ghost use Rattle.rl_ffi.specs.Held.{a_line, line_of};
-ghost use Rattle.rl_ffi.specs.LineReads.{LeadsTo, forgets, prompted_at};
+ghost use Rattle.rl_ffi.specs.LineReads.{LeadsTo, forgets, prompted_at, sets_reports};
 ghost use Rattle.rl_ffi.specs.Reads.{TellsCovers, TellsSlice, TellsText};
 ghost use Rattle.rl_ffi.specs.declared.held.HeldLine.{HeldLine};
 
@@ -116,14 +116,34 @@ pub extern "C" fn lodvarn_line_covers(
     of!(l, alloc, Held::Line(held) => covers(&held.line, movement, range))
 }
 
+/// `lodvarn_line_set_reports`.
+#[unsafe(no_mangle)]
+pub extern "C" fn lodvarn_line_set_reports(alloc: Global, l: &mut Handle, on: bool) -> i32
+    ensures { Through a_line (sets_reports on) l.old.value result l.new.value }
+{
+    of!(l, alloc, Held::Line(held) => {
+        held.to.reports = on;
+        Ok(Answer::Done)
+    })
+}
+
+/// `lodvarn_line_makes_reports`.
+#[unsafe(no_mangle)]
+pub extern "C" fn lodvarn_line_makes_reports(alloc: Global, l: &mut Handle) -> bool
+    ensures value { result ≡ option_map_or (λ (held : HeldLine). held.to.reports) (line_of l.old.value) false }
+    ensures kept { l.new.value ≡ l.old.value }
+{
+    of!(l, alloc, Held::Line(held) => held.to.reports, false)
+}
+
 /// `lodvarn_line_next_report`.
 #[unsafe(no_mangle)]
 pub extern "C" fn lodvarn_line_next_report(alloc: Global, l: &mut Handle, out: &mut CReport) -> i32
-    ensures value { Tells a_line (λ held. TellsNote (next_of held.heard.waiting)) l.old.value result out.old out.new }
+    ensures value { Tells a_line (λ held. TellsNote (next_of held.to.heard.waiting)) l.old.value result out.old out.new }
     ensures kept { l.new.value ≡ l.old.value }
 {
     of!(l, alloc, Held::Line(held) => {
-        let notes = held.heard.notes();
+        let notes = held.to.heard.notes();
         write_report(notes.oldest(), notes.oldest_texts(), out)
     })
 }
@@ -131,17 +151,17 @@ pub extern "C" fn lodvarn_line_next_report(alloc: Global, l: &mut Handle, out: &
 /// `lodvarn_line_count_reports`.
 #[unsafe(no_mangle)]
 pub extern "C" fn lodvarn_line_count_reports(alloc: Global, l: &mut Handle) -> usize
-    ensures value { result ≡ option_map_or (λ (held : HeldLine). length held.heard.waiting) (line_of l.old.value) 0 }
+    ensures value { result ≡ option_map_or (λ (held : HeldLine). length held.to.heard.waiting) (line_of l.old.value) 0 }
     ensures kept { l.new.value ≡ l.old.value }
 {
-    of!(l, alloc, Held::Line(held) => held.heard.len(), 0)
+    of!(l, alloc, Held::Line(held) => held.to.heard.len(), 0)
 }
 
 fn forget(held: &mut HeldLine) -> Outcome
     ensures { forgets past_oldest held.old (merged result) held.new }
 {
-    let waits = held.heard.len() > 0;
-    held.heard.forget();
+    let waits = held.to.heard.len() > 0;
+    held.to.heard.forget();
     Ok(truth(waits))
 }
 
@@ -156,8 +176,8 @@ pub extern "C" fn lodvarn_line_forget_report(alloc: Global, l: &mut Handle) -> i
 fn forget_all(held: &mut HeldLine) -> Outcome
     ensures { forgets all_forgotten held.old (merged result) held.new }
 {
-    let waits = held.heard.len() > 0;
-    held.heard.forget_all();
+    let waits = held.to.heard.len() > 0;
+    held.to.heard.forget_all();
     Ok(truth(waits))
 }
 

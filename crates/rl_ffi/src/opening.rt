@@ -14,8 +14,8 @@ ghost use Rattle.rl_ffi.specs.declared.held.Held.{Held};
 
 use crate::answers::{Answer, Outcome, merged};
 use crate::handle::{Handle, of};
-use crate::heard::Heard;
 use crate::held::{Held, HeldLine};
+use crate::listeners::Listeners;
 use crate::numbers::{mode_number, mode_of};
 use crate::shapes::COptions;
 use crate::texts::text_of;
@@ -118,7 +118,7 @@ fn open_line(
     };
     let held = HeldLine {
         line: line.can_growth(can_grow),
-        heard: Heard::new(alloc),
+        to: Listeners::new(alloc),
     };
     open(alloc, handle, Held::Line(held))
 }

@@ -1,6 +1,9 @@
 //! The calls on a record and a line, each by itself.
-ghost use Rattle.std.specs.Prelude.{◌≡◌};
-ghost use Rattle.rl_ffi.specs.Answers.{merged};
+ghost use Rattle.std.specs.Prelude.{◌≡◌, Bool, true, IfErr, IfOk, IsSome};
+ghost use Rattle.rl_line.specs.Undo.{Redone, Undone, line_ahead, line_back};
+ghost use Rattle.rl_line.specs.Units.{has_change, last_of, redo_of};
+ghost use Rattle.rl_ffi.specs.declared.answers.Answer.TheVariants.{NoMemory};
+ghost use Rattle.rl_ffi.specs.Answers.{merged, truth};
 ghost use Rattle.rl_ffi.specs.RecordLines.{AsksAhead, AsksBack, AsksBoth, AsksFirst, Redoes, ThroughBoth, Undoes, UndoesCounted};
 
 use crate::answers::{Answer, Outcome, merged, tried, truth};
@@ -8,8 +11,20 @@ use crate::handle::{Handle, of};
 use crate::held::{Held, HeldLine};
 use crate::numbers::count_of;
 use rl_base::RepeatCount;
-use rl_line::Changeset;
+use rl_line::{Changeset, LineBuffer};
 use std::alloc::Global;
+
+// Undoes without a report.
+fn undo_untold(changes: &mut Changeset, line: &mut LineBuffer, n: RepeatCount) -> Outcome
+    requires { IsSome (line_back (last_of n changes.old.recorded) line.old) }
+    ensures done { IfOk result (λ n'. (answer : Bool) × Undone n changes.old changes.new line.old line.new answer × (n' ≡ truth answer)) }
+    ensures err { IfErr result (λ n'. (n' ≡ NoMemory) × (has_change (last_of n changes.old.recorded) ≡ true) × (changes.new ≡ changes.old) × (line.new ≡ line.old)) }
+{
+    match changes.undo(line, n) {
+        Ok(answer) => Ok(truth(answer)),
+        Err(_) => Err(Answer::NoMemory),
+    }
+}
 
 fn undo(changes: &mut Changeset, held: &mut HeldLine, n: RepeatCount) -> Outcome
     ensures { Undoes n changes.old held.old (merged result) changes.new held.new }
@@ -19,19 +34,22 @@ fn undo(changes: &mut Changeset, held: &mut HeldLine, n: RepeatCount) -> Outcome
         Ok(false) => return Err(Answer::NotReplaying),
         Err(_) => return Err(Answer::NoMemory),
     }
-    // The listener may refuse, so it hears of all before anything changes.
-    let mut told = held.heard.apart();
+    if !held.to.reports {
+        return undo_untold(changes, &mut held.line, n);
+    }
+    // A report may be refused, so all are made before anything changes.
+    let mut told = held.to.heard.apart();
     if changes.foretell_undo(&held.line, n, &mut told).is_err() {
         return Err(Answer::NoMemory);
     }
-    let waiting = held.heard.len();
-    if held.heard.join(told).is_err() {
+    let waiting = held.to.heard.len();
+    if held.to.heard.join(told).is_err() {
         return Err(Answer::NoMemory);
     }
     match changes.undo(&mut held.line, n) {
         Ok(answer) => Ok(truth(answer)),
         Err(_) => {
-            held.heard.keep(waiting);
+            held.to.heard.keep(waiting);
             Err(Answer::NoMemory)
         }
     }
@@ -56,6 +74,18 @@ pub extern "C" fn lodvarn_record_undo(
     of!(r, alloc, Held::Record(changes) => of!(l, alloc, Held::Line(held) => undo_counted(changes, held, n)), Answer::Closed.number())
 }
 
+// Redoes without a report.
+fn redo_untold(changes: &mut Changeset, line: &mut LineBuffer) -> Outcome
+    requires { IsSome (line_ahead (redo_of changes.old.pending) line.old) }
+    ensures done { IfOk result (λ n. (answer : Bool) × Redone changes.old changes.new line.old line.new answer × (n ≡ truth answer)) }
+    ensures err { IfErr result (λ n. (n ≡ NoMemory) × (has_change (redo_of changes.old.pending) ≡ true) × (changes.new ≡ changes.old) × (line.new ≡ line.old)) }
+{
+    match changes.redo(line) {
+        Ok(answer) => Ok(truth(answer)),
+        Err(_) => Err(Answer::NoMemory),
+    }
+}
+
 fn redo(changes: &mut Changeset, held: &mut HeldLine) -> Outcome
     ensures { Redoes changes.old held.old (merged result) changes.new held.new }
 {
@@ -64,18 +94,21 @@ fn redo(changes: &mut Changeset, held: &mut HeldLine) -> Outcome
         Ok(false) => return Err(Answer::NotReplaying),
         Err(_) => return Err(Answer::NoMemory),
     }
-    let mut told = held.heard.apart();
+    if !held.to.reports {
+        return redo_untold(changes, &mut held.line);
+    }
+    let mut told = held.to.heard.apart();
     if changes.foretell_redo(&held.line, &mut told).is_err() {
         return Err(Answer::NoMemory);
     }
-    let waiting = held.heard.len();
-    if held.heard.join(told).is_err() {
+    let waiting = held.to.heard.len();
+    if held.to.heard.join(told).is_err() {
         return Err(Answer::NoMemory);
     }
     match changes.redo(&mut held.line) {
         Ok(answer) => Ok(truth(answer)),
         Err(_) => {
-            held.heard.keep(waiting);
+            held.to.heard.keep(waiting);
             Err(Answer::NoMemory)
         }
     }

@@ -471,6 +471,18 @@ pub struct lodvarn_record {
 pub struct lodvarn_killring {
     _unused: [u8; 0],
 }
+#[repr(C)]
+#[derive(Debug, Copy, Clone)]
+pub struct lodvarn_listeners {
+    pub record: *mut lodvarn_record,
+    pub killring: *mut lodvarn_killring,
+}
+extern "C" {
+    pub fn lodvarn_no_record() -> *mut lodvarn_record;
+}
+extern "C" {
+    pub fn lodvarn_no_killring() -> *mut lodvarn_killring;
+}
 extern "C" {
     pub fn lodvarn_line_open(
         out: *mut *mut lodvarn_line,
@@ -534,11 +546,17 @@ extern "C" {
     ) -> ::std::os::raw::c_int;
 }
 extern "C" {
-    pub fn lodvarn_line_insert(l: *mut lodvarn_line, c: u32, n: usize) -> ::std::os::raw::c_int;
+    pub fn lodvarn_line_insert(
+        l: *mut lodvarn_line,
+        to: lodvarn_listeners,
+        c: u32,
+        n: usize,
+    ) -> ::std::os::raw::c_int;
 }
 extern "C" {
     pub fn lodvarn_line_paste(
         l: *mut lodvarn_line,
+        to: lodvarn_listeners,
         text: *const ::std::os::raw::c_char,
         len: usize,
         n: usize,
@@ -547,6 +565,7 @@ extern "C" {
 extern "C" {
     pub fn lodvarn_line_yank_pop(
         l: *mut lodvarn_line,
+        to: lodvarn_listeners,
         size: usize,
         text: *const ::std::os::raw::c_char,
         len: usize,
@@ -555,6 +574,7 @@ extern "C" {
 extern "C" {
     pub fn lodvarn_line_set_text(
         l: *mut lodvarn_line,
+        to: lodvarn_listeners,
         pos: usize,
         text: *const ::std::os::raw::c_char,
         len: usize,
@@ -563,6 +583,7 @@ extern "C" {
 extern "C" {
     pub fn lodvarn_line_insert_at(
         l: *mut lodvarn_line,
+        to: lodvarn_listeners,
         place: usize,
         text: *const ::std::os::raw::c_char,
         len: usize,
@@ -571,6 +592,7 @@ extern "C" {
 extern "C" {
     pub fn lodvarn_line_replace(
         l: *mut lodvarn_line,
+        to: lodvarn_listeners,
         range: lodvarn_range,
         text: *const ::std::os::raw::c_char,
         len: usize,
@@ -579,53 +601,80 @@ extern "C" {
 extern "C" {
     pub fn lodvarn_line_delete_range(
         l: *mut lodvarn_line,
+        to: lodvarn_listeners,
         range: lodvarn_range,
     ) -> ::std::os::raw::c_int;
 }
 extern "C" {
-    pub fn lodvarn_line_delete(l: *mut lodvarn_line, n: usize) -> ::std::os::raw::c_int;
+    pub fn lodvarn_line_delete(
+        l: *mut lodvarn_line,
+        to: lodvarn_listeners,
+        n: usize,
+    ) -> ::std::os::raw::c_int;
 }
 extern "C" {
-    pub fn lodvarn_line_backspace(l: *mut lodvarn_line, n: usize) -> ::std::os::raw::c_int;
+    pub fn lodvarn_line_backspace(
+        l: *mut lodvarn_line,
+        to: lodvarn_listeners,
+        n: usize,
+    ) -> ::std::os::raw::c_int;
 }
 extern "C" {
     pub fn lodvarn_line_delete_by(
         l: *mut lodvarn_line,
+        to: lodvarn_listeners,
         movement: lodvarn_movement,
     ) -> ::std::os::raw::c_int;
 }
 extern "C" {
     pub fn lodvarn_line_kill(
         l: *mut lodvarn_line,
+        to: lodvarn_listeners,
         movement: lodvarn_movement,
     ) -> ::std::os::raw::c_int;
 }
 extern "C" {
     pub fn lodvarn_line_kill_range(
         l: *mut lodvarn_line,
+        to: lodvarn_listeners,
         range: lodvarn_range,
         direction: lodvarn_direction,
     ) -> ::std::os::raw::c_int;
 }
 extern "C" {
-    pub fn lodvarn_line_transpose_chars(l: *mut lodvarn_line) -> ::std::os::raw::c_int;
+    pub fn lodvarn_line_transpose_chars(
+        l: *mut lodvarn_line,
+        to: lodvarn_listeners,
+    ) -> ::std::os::raw::c_int;
 }
 extern "C" {
-    pub fn lodvarn_line_transpose_words(l: *mut lodvarn_line, n: usize) -> ::std::os::raw::c_int;
+    pub fn lodvarn_line_transpose_words(
+        l: *mut lodvarn_line,
+        to: lodvarn_listeners,
+        n: usize,
+    ) -> ::std::os::raw::c_int;
 }
 extern "C" {
     pub fn lodvarn_line_change_case(
         l: *mut lodvarn_line,
-        to: lodvarn_case,
+        to: lodvarn_listeners,
+        wanted: lodvarn_case,
     ) -> ::std::os::raw::c_int;
 }
 extern "C" {
     pub fn lodvarn_line_indent(
         l: *mut lodvarn_line,
+        to: lodvarn_listeners,
         movement: lodvarn_movement,
         amount: u8,
         indentation: lodvarn_indentation,
     ) -> ::std::os::raw::c_int;
+}
+extern "C" {
+    pub fn lodvarn_line_set_reports(l: *mut lodvarn_line, on: bool) -> ::std::os::raw::c_int;
+}
+extern "C" {
+    pub fn lodvarn_line_makes_reports(l: *mut lodvarn_line) -> bool;
 }
 extern "C" {
     pub fn lodvarn_line_next_report(

@@ -10,6 +10,7 @@
 
 mod parts;
 
+pub use parts::Known;
 pub(crate) use parts::{Line, RawLine, Record, Ring};
 
 use crate::changes::Report;

@@ -13,7 +13,7 @@
 //!
 //! What differs from rustyline: the size is a number of its own, and takes no memory before a text is kept. Out of
 //! memory, a call panics with these words.
-use crate::calls::Ring;
+use crate::calls::{Known, Ring};
 use crate::line_buffer::{answered, DeleteListener, Direction};
 use crate::words::Fault;
 use crate::{done, told};
@@ -135,5 +135,11 @@ impl DeleteListener for KillRing {
 
     fn stop_killing(&mut self) {
         answered(done(self.ring.stop_killing()));
+    }
+
+    #[inline]
+    fn known(&mut self) -> Known<'_> {
+        self.is_reset = false;
+        Known::ring(&mut self.ring)
     }
 }

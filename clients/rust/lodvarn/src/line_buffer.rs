@@ -20,10 +20,11 @@
 //!
 //! - The text's room is no limit. The limit is the number that [`with_capacity`](LineBuffer::with_capacity) takes, and
 //!   no memory is found for it beforehand. A [`yank_pop`](LineBuffer::yank_pop) that is out of room does nothing.
-//! - A listener is told after a step has been made, and of each step in order. One that panics leaves a line that has
-//!   made all steps.
-//! - Out of memory, a call panics with these words. The `try_` calls return [`Fault::NoMemory`] instead; the listener
-//!   has heard of the steps that were made then. A listener panics by itself if it is refused memory.
+//! - A record, a ring and a [`Pair`] of the two are told by the library, of the cursor too, which an undo brings back
+//!   then. Another listener is told after all steps have been made, of each in order. One that panics leaves a line
+//!   that has made all.
+//! - Out of memory, for the line or for its record or ring, a call panics with these words. The `try_` calls return
+//!   [`Fault::NoMemory`] instead; the listener has heard of the steps that were made then.
 //! - A place must be one between two characters, also that of [`set_pos`](LineBuffer::set_pos), and the cursor never
 //!   stands inside a character. If a call is given another place it panics, or returns [`Fault::BadPlace`].
 //! - Words, movements and indents follow Lodvarn's rules where rustyline's drop a cluster, panic or miss a line:
@@ -299,11 +300,16 @@ impl LineBuffer {
 
     /// Makes an edit. Tells a listener of its steps, and returns what the call of the line does. If the listener panics
     /// the line has its text all the same.
+    #[inline]
     pub(crate) fn edit<C: ChangeListener + ?Sized>(
         &mut self,
         cl: &mut C,
-        call: impl FnOnce(&mut RawLine) -> i32,
+        call: impl FnOnce(&mut RawLine, ffi::lodvarn_listeners) -> i32,
     ) -> i32 {
+        let known = cl.known();
+        if !known.is_other() {
+            return self.line.tell(&known, call);
+        }
         let mut edit = self.line.edit(call);
         for _ in 0..edit.count_reports() {
             sure(edit.next_report()).tell(cl);
@@ -315,11 +321,7 @@ impl LineBuffer {
     /// Makes a change of which no listener hears.
     #[inline]
     pub(crate) fn change(&mut self, call: impl FnOnce(&mut RawLine) -> i32) -> i32 {
-        self.line.change(|line| {
-            let answer = call(line);
-            line.forget_reports();
-            answer
-        })
+        self.line.change(call)
     }
 
     /// The line of the library, to be asked.

@@ -1,4 +1,5 @@
 //! Who hears of changes.
+use crate::calls::Known;
 use crate::words::Direction;
 
 /// Hears of deletions, and of kills, from [`Session::tell`](crate::Session::tell) and from the edits of a
@@ -12,6 +13,12 @@ pub trait DeleteListener {
 
     /// The kill has ended. Without a body of its own it does nothing.
     fn stop_killing(&mut self) {}
+
+    // What the library can tell without a call of this listener.
+    #[doc(hidden)]
+    fn known(&mut self) -> Known<'_> {
+        Known::other()
+    }
 }
 
 /// Hears of all changes, from [`Session::tell`](crate::Session::tell) and from the edits of a
@@ -35,6 +42,11 @@ pub struct NoListener;
 
 impl DeleteListener for NoListener {
     fn delete(&mut self, _idx: usize, _string: &str, _dir: Direction) {}
+
+    #[inline]
+    fn known(&mut self) -> Known<'_> {
+        Known::nobody()
+    }
 }
 
 impl ChangeListener for NoListener {
@@ -70,6 +82,11 @@ impl<A: DeleteListener, D: DeleteListener> DeleteListener for Pair<A, D> {
         self.all.stop_killing();
         self.deletions.stop_killing();
     }
+
+    #[inline]
+    fn known(&mut self) -> Known<'_> {
+        self.all.known().beside(self.deletions.known())
+    }
 }
 
 impl<A: ChangeListener, D: DeleteListener> ChangeListener for Pair<A, D> {
@@ -100,6 +117,11 @@ macro_rules! pointers {
 
             fn stop_killing(&mut self) {
                 (**self).stop_killing();
+            }
+
+            #[inline]
+            fn known(&mut self) -> Known<'_> {
+                (**self).known()
             }
         }
 

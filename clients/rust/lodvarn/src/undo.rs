@@ -22,10 +22,10 @@
 //!   [`try_redo`](Changeset::try_redo) return [`Fault::NotReplaying`]. Record and line are as they were then. Only
 //!   texts are compared: a record of another line that has the same text there is not refused.
 //! - `redo` and [`end_one`](Changeset::end_one) are public. A record tells how long it is, whether there is something to
-//!   undo or to redo, and whether that fits a line.
+//!   undo, and whether an undo or a redo fits a line.
 //! - [`truncate`](Changeset::truncate) forgets what was undone.
 //! - Out of memory, a call panics with these words. `try_undo` and `try_redo` return [`Fault::NoMemory`].
-use crate::calls::Record;
+use crate::calls::{Known, Record};
 use crate::keymap::RepeatCount;
 use crate::line_buffer::{answered, ChangeListener, DeleteListener, Direction, LineBuffer};
 use crate::words::Fault;
@@ -39,8 +39,6 @@ use std::fmt;
 /// Every call that may need memory panics if it is refused, with "out of memory", but the `try_` calls.
 pub struct Changeset {
     record: Record,
-    // How many entries were undone and may be redone, which the library does not tell.
-    undone: usize,
 }
 
 impl Default for Changeset {
@@ -65,66 +63,51 @@ impl Changeset {
     pub fn new() -> Self {
         Changeset {
             record: answered(Record::open()),
-            undone: 0,
         }
-    }
-
-    // Takes what a call answers that drops what was undone, as each does that records something.
-    #[inline]
-    fn recorded(&mut self, answer: i32) -> bool {
-        let has_changed = answered(found(answer));
-        self.undone = 0;
-        has_changed
     }
 
     /// Begins a group: once it is closed, one undo takes back all its changes. The number of entries before it.
     pub fn begin(&mut self) -> usize {
         let mark = self.len();
-        let answer = self.record.begin_group();
-        self.recorded(answer);
+        answered(done(self.record.begin_group()));
         mark
     }
 
     /// Closes all open groups. False if they have no change, or none is open.
     pub fn end(&mut self) -> bool {
-        let answer = self.record.end_all_groups();
-        self.recorded(answer)
+        answered(found(self.record.end_all_groups()))
     }
 
     /// Closes the innermost group. False if it has no change, or none is open.
     pub fn end_one(&mut self) -> bool {
-        let answer = self.record.end_group();
-        self.recorded(answer)
+        answered(found(self.record.end_group()))
     }
 
     /// Records that a character was inserted. A letter or digit joins the insertion before it.
     #[inline]
     pub fn insert(&mut self, idx: usize, c: char) {
-        let answer = self.record.insert_char(idx, c);
-        self.recorded(answer);
+        answered(done(self.record.insert_char(idx, c)));
     }
 
     /// Records that a text was inserted.
     pub fn insert_str<S: AsRef<str>>(&mut self, idx: usize, string: S) {
-        let answer = self.record.insert(idx, string.as_ref());
-        self.recorded(answer);
+        answered(done(self.record.insert(idx, string.as_ref())));
     }
 
     /// Records that a text was deleted. A letter or digit joins the deletion before it.
     pub fn delete<S: AsRef<str>>(&mut self, indx: usize, string: S) {
-        let answer = self.record.delete(indx, string.as_ref());
-        self.recorded(answer);
+        answered(done(self.record.delete(indx, string.as_ref())));
     }
 
     /// Records that a text gave way to another one. It joins the replacement before it.
     pub fn replace<S: AsRef<str>>(&mut self, indx: usize, old_: S, new_: S) {
         let (old, new) = (old_.as_ref(), new_.as_ref());
-        let answer = self.record.replace(indx, old, new);
-        self.recorded(answer);
+        answered(done(self.record.replace(indx, old, new)));
     }
 
-    /// Records where the cursor was before the change that was recorded last, and where it went. Then an undo brings it
-    /// back there, and a redo where it went; without this call it goes to the end of what comes into the text.
+    /// Records where the cursor was before the change that was recorded last, and where it went, as an edit of a line
+    /// that tells this record does by itself. Then an undo brings it back there, and a redo where it went; else it goes
+    /// to the end of what comes into the text.
     pub fn cursors(&mut self, before: usize, after: usize) {
         answered(done(self.record.cursors(before, after)));
     }
@@ -145,10 +128,7 @@ impl Changeset {
     ///
     /// [`Fault::NotReplaying`], [`Fault::NoMemory`]; nothing is undone.
     pub fn try_undo(&mut self, line: &mut LineBuffer, n: RepeatCount) -> Result<bool, Fault> {
-        let entries = self.len();
-        let answer = line.change(|line| self.record.undo(line, n));
-        self.undone += entries - self.len();
-        found(answer)
+        found(line.change(|line| self.record.undo(line, n)))
     }
 
     /// Redoes in a line what was undone last, one change or group. False if there is none. No listener hears of it.
@@ -166,16 +146,12 @@ impl Changeset {
     ///
     /// [`Fault::NotReplaying`], [`Fault::NoMemory`]; nothing is redone.
     pub fn try_redo(&mut self, line: &mut LineBuffer) -> Result<bool, Fault> {
-        let entries = self.len();
-        let answer = line.change(|line| self.record.redo(line));
-        self.undone -= self.len() - entries;
-        found(answer)
+        found(line.change(|line| self.record.redo(line)))
     }
 
     /// Keeps the first `len` entries, and forgets the others and what was undone.
     pub fn truncate(&mut self, len: usize) {
-        let answer = self.record.truncate(len);
-        self.recorded(answer);
+        answered(done(self.record.truncate(len)));
     }
 
     /// The text that the last change put in. `None` if it put in none.
@@ -224,12 +200,6 @@ impl Changeset {
         self.len() > self.level()
     }
 
-    /// Whether there is something to redo: a change, or a `begin` that was undone.
-    #[must_use]
-    pub fn can_redo(&self) -> bool {
-        self.undone > 0
-    }
-
     /// Whether all changes can be taken back from the line's text, so that no undo is refused. So it is too if there is
     /// none.
     #[must_use]
@@ -255,6 +225,11 @@ impl Changeset {
 impl DeleteListener for Changeset {
     fn delete(&mut self, idx: usize, string: &str, _dir: Direction) {
         Changeset::delete(self, idx, string);
+    }
+
+    #[inline]
+    fn known(&mut self) -> Known<'_> {
+        Known::record(&mut self.record)
     }
 }
 

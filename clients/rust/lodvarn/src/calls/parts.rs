@@ -1,5 +1,6 @@
 //! The calls on the parts of a session by themselves. Threads may share these.
 use super::*;
+use std::marker::PhantomData;
 use std::sync::atomic::{AtomicBool, Ordering};
 use std::thread::yield_now;
 
@@ -58,36 +59,112 @@ pub(crate) type Record = Shared<lodvarn_record>;
 /// A kill ring.
 pub(crate) type Ring = Shared<lodvarn_killring>;
 
+/// What the library can tell by itself of an edit, since it knows who hears: no one, a record, a ring, or both. Whoever it
+/// does not know reads the reports.
+pub struct Known<'k> {
+    to: Option<lodvarn_listeners>,
+    // It has what it points to as by a `&mut`.
+    of: PhantomData<&'k mut ()>,
+}
+
+impl<'k> Known<'k> {
+    const fn new(to: Option<lodvarn_listeners>) -> Self {
+        let of = PhantomData;
+        Known { to, of }
+    }
+
+    /// One that the library does not know.
+    pub(crate) const fn other() -> Self {
+        Known::new(None)
+    }
+
+    /// No one hears.
+    #[inline]
+    pub(crate) fn nobody() -> Self {
+        Known::new(Some(nobody()))
+    }
+
+    #[inline]
+    pub(crate) fn record(record: &'k mut Record) -> Self {
+        let record = record.at();
+        Known::new(Some(lodvarn_listeners { record, ..nobody() }))
+    }
+
+    #[inline]
+    pub(crate) fn ring(ring: &'k mut Ring) -> Self {
+        let killring = ring.at();
+        Known::new(Some(lodvarn_listeners {
+            killring,
+            ..nobody()
+        }))
+    }
+
+    /// This one, and beside it one that hears of deletions alone, as a ring does.
+    #[inline]
+    pub(crate) fn beside(self, deletions: Known<'k>) -> Self {
+        let none = nobody();
+        match (self.to, deletions.to) {
+            (Some(all), Some(to)) if to.record == none.record => {
+                if to.killring == none.killring {
+                    Known::new(Some(all))
+                } else if all.killring == none.killring {
+                    let killring = to.killring;
+                    Known::new(Some(lodvarn_listeners { killring, ..all }))
+                } else {
+                    Known::other()
+                }
+            }
+            _ => Known::other(),
+        }
+    }
+
+    pub(crate) fn is_other(&self) -> bool {
+        self.to.is_none()
+    }
+}
+
+#[inline]
+fn nobody() -> lodvarn_listeners {
+    unsafe {
+        lodvarn_listeners {
+            record: lodvarn_no_record(),
+            killring: lodvarn_no_killring(),
+        }
+    }
+}
+
 impl RawLine {
     calls! {
         fn set_pos(&mut self, pos: usize) = lodvarn_line_set_pos(pos);
         fn set_can_grow(&mut self, can_grow: bool) = lodvarn_line_set_can_grow(can_grow);
         fn move_by(&mut self, movement: Movement, mode: Mode, prompt: u16)
             = lodvarn_line_move(movement.passed(), mode as u32, prompt);
-        fn insert(&mut self, c: char, n: u16) = lodvarn_line_insert(c.into(), n.into());
-        fn paste(&mut self, text: &str, n: u16)
-            = lodvarn_line_paste(start_of(text), text.len(), n.into());
-        fn yank_pop(&mut self, size: usize, text: &str)
-            = lodvarn_line_yank_pop(size, start_of(text), text.len());
-        fn set_text(&mut self, pos: usize, text: &str)
-            = lodvarn_line_set_text(pos, start_of(text), text.len());
-        fn insert_at(&mut self, place: usize, text: &str)
-            = lodvarn_line_insert_at(place, start_of(text), text.len());
-        fn replace(&mut self, range: Range<usize>, text: &str)
-            = lodvarn_line_replace(range_of(range), start_of(text), text.len());
-        fn delete_range(&mut self, range: Range<usize>)
-            = lodvarn_line_delete_range(range_of(range));
-        fn delete(&mut self, n: u16) = lodvarn_line_delete(n.into());
-        fn backspace(&mut self, n: u16) = lodvarn_line_backspace(n.into());
-        fn delete_by(&mut self, movement: Movement) = lodvarn_line_delete_by(movement.passed());
-        fn kill(&mut self, movement: Movement) = lodvarn_line_kill(movement.passed());
-        fn kill_range(&mut self, range: Range<usize>, direction: Direction)
-            = lodvarn_line_kill_range(range_of(range), direction as u32);
-        fn transpose_chars(&mut self) = lodvarn_line_transpose_chars();
-        fn transpose_words(&mut self, n: u16) = lodvarn_line_transpose_words(n.into());
-        fn change_case(&mut self, to: Case) = lodvarn_line_change_case(to as u32);
-        fn indent(&mut self, movement: Movement, amount: u8, indentation: u32)
-            = lodvarn_line_indent(movement.passed(), amount, indentation);
+        fn insert(&mut self, to: lodvarn_listeners, c: char, n: u16) = lodvarn_line_insert(to, c.into(), n.into());
+        fn paste(&mut self, to: lodvarn_listeners, text: &str, n: u16)
+            = lodvarn_line_paste(to, start_of(text), text.len(), n.into());
+        fn yank_pop(&mut self, to: lodvarn_listeners, size: usize, text: &str)
+            = lodvarn_line_yank_pop(to, size, start_of(text), text.len());
+        fn set_text(&mut self, to: lodvarn_listeners, pos: usize, text: &str)
+            = lodvarn_line_set_text(to, pos, start_of(text), text.len());
+        fn insert_at(&mut self, to: lodvarn_listeners, place: usize, text: &str)
+            = lodvarn_line_insert_at(to, place, start_of(text), text.len());
+        fn replace(&mut self, to: lodvarn_listeners, range: Range<usize>, text: &str)
+            = lodvarn_line_replace(to, range_of(range), start_of(text), text.len());
+        fn delete_range(&mut self, to: lodvarn_listeners, range: Range<usize>)
+            = lodvarn_line_delete_range(to, range_of(range));
+        fn delete(&mut self, to: lodvarn_listeners, n: u16) = lodvarn_line_delete(to, n.into());
+        fn backspace(&mut self, to: lodvarn_listeners, n: u16) = lodvarn_line_backspace(to, n.into());
+        fn delete_by(&mut self, to: lodvarn_listeners, movement: Movement) = lodvarn_line_delete_by(to, movement.passed());
+        fn kill(&mut self, to: lodvarn_listeners, movement: Movement) = lodvarn_line_kill(to, movement.passed());
+        fn kill_range(&mut self, to: lodvarn_listeners, range: Range<usize>, direction: Direction)
+            = lodvarn_line_kill_range(to, range_of(range), direction as u32);
+        fn transpose_chars(&mut self, to: lodvarn_listeners) = lodvarn_line_transpose_chars(to);
+        fn transpose_words(&mut self, to: lodvarn_listeners, n: u16) = lodvarn_line_transpose_words(to, n.into());
+        fn change_case(&mut self, to: lodvarn_listeners, case: Case)
+            = lodvarn_line_change_case(to, case as u32);
+        fn indent(&mut self, to: lodvarn_listeners, movement: Movement, amount: u8, indentation: u32)
+            = lodvarn_line_indent(to, movement.passed(), amount, indentation);
+        fn set_reports(&mut self, on: bool) = lodvarn_line_set_reports(on);
         fn forget_report(&mut self) = lodvarn_line_forget_report();
         fn forget_reports(&mut self) = lodvarn_line_forget_reports();
     }
@@ -123,6 +200,7 @@ pub(crate) struct Line {
     raw: RawLine,
     text: Lent,
     pos: usize,
+    reports: bool,
 }
 
 impl Line {
@@ -133,6 +211,7 @@ impl Line {
             raw: Shared::opened(opened)?,
             text: Lent::NONE,
             pos: 0,
+            reports: true,
         };
         line.look();
         Ok(line)
@@ -164,12 +243,22 @@ impl Line {
         unsafe { lodvarn_line_text(self.raw.at(), &mut self.text.0) };
     }
 
-    /// Inserts a typed character. What is reported of it is known, and so is where the cursor goes.
+    /// Has the line make reports, or make none.
     #[inline]
-    pub(crate) fn insert_one(&mut self, c: char) -> i32 {
+    fn report(&mut self, on: bool) {
+        if self.reports != on {
+            self.raw.set_reports(on);
+            self.reports = on;
+        }
+    }
+
+    /// Inserts a typed character, and tells who is known. Where the cursor goes then is known too.
+    #[inline]
+    pub(crate) fn insert_one(&mut self, c: char, known: &Known<'_>) -> i32 {
+        let to = known.to.unwrap_or_else(nobody);
+        self.report(false);
         self.text = Lent::NONE;
-        let answer = self.raw.insert(c, 1);
-        self.raw.forget_reports();
+        let answer = self.raw.insert(to, c, 1);
         self.look_at_text();
         if answer > LODVARN_NOTHING {
             self.pos += c.len_utf8();
@@ -177,20 +266,36 @@ impl Line {
         answer
     }
 
-    /// Makes a change, and forgets what is reported of it.
+    /// Makes a change, of which nothing is reported.
     #[inline]
     pub(crate) fn change(&mut self, call: impl FnOnce(&mut RawLine) -> i32) -> i32 {
+        self.report(false);
         self.text = Lent::NONE;
         let answer = call(&mut self.raw);
         self.look();
         answer
     }
 
+    /// Makes an edit, and tells who is known.
+    #[inline]
+    pub(crate) fn tell(
+        &mut self,
+        known: &Known<'_>,
+        call: impl FnOnce(&mut RawLine, lodvarn_listeners) -> i32,
+    ) -> i32 {
+        let to = known.to.unwrap_or_else(nobody);
+        self.change(|line| call(line, to))
+    }
+
     /// Makes an edit, whose reports are to be read.
     #[inline]
-    pub(crate) fn edit(&mut self, call: impl FnOnce(&mut RawLine) -> i32) -> Edit<'_> {
+    pub(crate) fn edit(
+        &mut self,
+        call: impl FnOnce(&mut RawLine, lodvarn_listeners) -> i32,
+    ) -> Edit<'_> {
+        self.report(true);
         self.text = Lent::NONE;
-        let answer = call(&mut self.raw);
+        let answer = call(&mut self.raw, nobody());
         Edit { line: self, answer }
     }
 }
@@ -224,7 +329,8 @@ impl Edit<'_> {
 impl Drop for Edit<'_> {
     #[inline]
     fn drop(&mut self) {
-        self.line.change(RawLine::forget_reports);
+        self.line.raw.forget_reports();
+        self.line.look();
     }
 }
 

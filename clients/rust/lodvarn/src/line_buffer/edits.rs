@@ -28,7 +28,7 @@ impl LineBuffer {
         pos: usize,
         cl: &mut C,
     ) -> Result<(), Fault> {
-        done(self.edit(cl, |line| line.set_text(pos, buf)))
+        done(self.edit(cl, |line, to| line.set_text(to, pos, buf)))
     }
 
     /// Inserts a character n times at the cursor, which goes after them. Whether the cursor was at the end, or `None`
@@ -54,12 +54,14 @@ impl LineBuffer {
         cl: &mut C,
     ) -> Result<Option<bool>, Fault> {
         if n != 1 {
-            return put_in(self.edit(cl, |line| line.insert(ch, n)));
+            return put_in(self.edit(cl, |line, to| line.insert(to, ch, n)));
         }
-        // The one report of a typed character is known without reading it.
+        // What a typed character changes is known, so no report of it is made.
         let at = self.pos();
-        let goes_in = put_in(self.line.insert_one(ch))?;
-        if goes_in.is_some() {
+        let known = cl.known();
+        let is_other = known.is_other();
+        let goes_in = put_in(self.line.insert_one(ch, &known))?;
+        if is_other && goes_in.is_some() {
             cl.insert_char(at, ch);
         }
         Ok(goes_in)
@@ -87,7 +89,7 @@ impl LineBuffer {
         n: RepeatCount,
         cl: &mut C,
     ) -> Result<Option<bool>, Fault> {
-        put_in(self.edit(cl, |line| line.paste(text, n)))
+        put_in(self.edit(cl, |line, to| line.paste(to, text, n)))
     }
 
     /// Puts a text in the place of the `yank_size` bytes before the cursor, which were yanked, in two steps. Whether the
@@ -117,7 +119,7 @@ impl LineBuffer {
         text: &str,
         cl: &mut C,
     ) -> Result<Option<bool>, Fault> {
-        let answer = self.edit(cl, |line| line.yank_pop(yank_size, text));
+        let answer = self.edit(cl, |line, to| line.yank_pop(to, yank_size, text));
         Ok(put_in(answer)?.filter(|_| !text.is_empty()))
     }
 
@@ -147,7 +149,7 @@ impl LineBuffer {
         text: &str,
         cl: &mut C,
     ) -> Result<(), Fault> {
-        done(self.edit(cl, |line| line.replace(range, text)))
+        done(self.edit(cl, |line, to| line.replace(to, range, text)))
     }
 
     // Panics if a range is none of the text.
@@ -184,14 +186,14 @@ impl LineBuffer {
         cl: &mut C,
     ) -> Result<bool, Fault> {
         let is_at_end = idx == self.len();
-        done(self.edit(cl, |line| line.insert_at(idx, s)))?;
+        done(self.edit(cl, |line, to| line.insert_at(to, idx, s)))?;
         Ok(is_at_end)
     }
 
     /// Exchanges the clusters before and after the cursor, in two steps; at the end of the text, the last two. The
     /// cursor goes after both. False if there are not two.
     pub fn transpose_chars<C: ChangeListener + ?Sized>(&mut self, cl: &mut C) -> bool {
-        answered(found(self.edit(cl, |line| line.transpose_chars())))
+        answered(found(self.edit(cl, |line, to| line.transpose_chars(to))))
     }
 
     /// Exchanges a word with the n-th word before it, in four steps. False if there are not two; the cursor may have
@@ -201,13 +203,13 @@ impl LineBuffer {
         n: RepeatCount,
         cl: &mut C,
     ) -> bool {
-        answered(found(self.edit(cl, |line| line.transpose_words(n))))
+        answered(found(self.edit(cl, |line, to| line.transpose_words(to, n))))
     }
 
     /// Changes the letter case of the rest of the word at the cursor, or of the next word, in two steps. The cursor
     /// goes after it. False if there is none.
     pub fn edit_word<C: ChangeListener + ?Sized>(&mut self, a: WordAction, cl: &mut C) -> bool {
-        answered(found(self.edit(cl, |line| line.change_case(a))))
+        answered(found(self.edit(cl, |line, to| line.change_case(to, a))))
     }
 
     /// Inserts `amount` spaces at the start of each line that a movement covers, or with `dedent` deletes up to so many
@@ -225,7 +227,7 @@ impl LineBuffer {
             ffi::LODVARN_INDENT
         };
         answered(found(
-            self.edit(cl, |line| line.indent(*mvt, amount, indentation)),
+            self.edit(cl, |line, to| line.indent(to, *mvt, amount, indentation)),
         ))
     }
 }

@@ -3,7 +3,7 @@ use super::{answered, DeleteListener, Direction, LineBuffer, NoListener, Pair};
 use crate::calls::RawLine;
 use crate::keymap::{At, CharSearch, Movement, RepeatCount, Word};
 use crate::words::Fault;
-use crate::{done, found, owned};
+use crate::{done, ffi, found, owned};
 use std::ops::Range;
 
 impl LineBuffer {
@@ -11,8 +11,12 @@ impl LineBuffer {
     fn take<D: DeleteListener + ?Sized>(
         &mut self,
         dl: &mut D,
-        call: impl FnOnce(&mut RawLine) -> i32,
+        call: impl FnOnce(&mut RawLine, ffi::lodvarn_listeners) -> i32,
     ) -> i32 {
+        let known = dl.known();
+        if !known.is_other() {
+            return self.line.tell(&known, call);
+        }
         let mut listener = Pair {
             all: NoListener,
             deletions: dl,
@@ -21,7 +25,7 @@ impl LineBuffer {
     }
 
     fn take_by<D: DeleteListener + ?Sized>(&mut self, mvt: Movement, dl: &mut D) -> bool {
-        answered(found(self.take(dl, |line| line.delete_by(mvt))))
+        answered(found(self.take(dl, |line, to| line.delete_by(to, mvt))))
     }
 
     /// Deletes n grapheme clusters after the cursor, and returns them. `None` if there are none.
@@ -45,7 +49,7 @@ impl LineBuffer {
     ) -> Result<Option<String>, Fault> {
         let end = self.next_pos(n).unwrap_or(self.pos());
         let gone = owned(&self[self.pos()..end])?;
-        let is_gone = found(self.take(dl, |line| line.delete(n)))?;
+        let is_gone = found(self.take(dl, |line, to| line.delete(to, n)))?;
         Ok(is_gone.then_some(gone))
     }
 
@@ -64,7 +68,7 @@ impl LineBuffer {
         n: RepeatCount,
         dl: &mut D,
     ) -> Result<bool, Fault> {
-        found(self.take(dl, |line| line.backspace(n)))
+        found(self.take(dl, |line, to| line.backspace(to, n)))
     }
 
     /// Deletes to the end of the cursor's line, or the newline there. False at the end of the text. It is no kill, and
@@ -140,7 +144,7 @@ impl LineBuffer {
         range: Range<usize>,
         dl: &mut D,
     ) -> Result<(), Fault> {
-        done(self.take(dl, |line| line.delete_range(range)))
+        done(self.take(dl, |line, to| line.delete_range(to, range)))
     }
 
     /// Deletes what [`copy`](LineBuffer::copy) by a movement copies, as a kill: the listener hears that it starts and
@@ -161,7 +165,7 @@ impl LineBuffer {
         mvt: &Movement,
         dl: &mut D,
     ) -> Result<bool, Fault> {
-        found(self.take(dl, |line| line.kill(*mvt)))
+        found(self.take(dl, |line, to| line.kill(to, *mvt)))
     }
 
     /// Deletes a range as a kill does, on a side of the cursor. The cursor goes to its start. False if it is empty.
@@ -176,6 +180,6 @@ impl LineBuffer {
         dir: Direction,
         dl: &mut D,
     ) -> Result<bool, Fault> {
-        found(self.take(dl, |line| line.kill_range(range, dir)))
+        found(self.take(dl, |line, to| line.kill_range(to, range, dir)))
     }
 }
