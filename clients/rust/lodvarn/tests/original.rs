@@ -487,6 +487,35 @@ fn it_is_told_whether_there_is_something_to_undo() {
 }
 
 #[test]
+fn whoever_hears_is_told() {
+    let (mut line, mut changes) = (line_of("one two|"), Changeset::new());
+    let (mut first, mut second, mut taken) = (KillRing::new(2), KillRing::new(2), Changeset::new());
+    let all = Pair {
+        all: &mut changes,
+        deletions: &mut first,
+    };
+    let mut both = Pair {
+        all,
+        deletions: &mut second,
+    };
+    line.kill(&Movement::BackwardWord(1, Word::Emacs), &mut both);
+    assert_eq!(
+        (first.text_back(0), second.text_back(0)),
+        (Some("two"), Some("two"))
+    );
+    let mut deletions = Pair {
+        all: NoListener,
+        deletions: &mut taken,
+    };
+    line.yank("x", 1, &mut deletions);
+    line.backspace(1, &mut deletions);
+    assert_eq!((changes.len(), taken.len()), (1, 1));
+    line.replace(0..3, "1", &mut changes);
+    assert!(changes.undo(&mut line, 1));
+    assert_eq!((line.as_str(), line.pos()), ("one ", 4));
+}
+
+#[test]
 fn threads_may_share_all_but_sessions() {
     let (line, mut changes, mut ring) = (line_of("aé b|"), Changeset::new(), KillRing::new(2));
     changes.insert_str(0, "aé b");

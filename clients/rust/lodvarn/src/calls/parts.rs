@@ -1,6 +1,7 @@
 //! The calls on the parts of a session by themselves. Threads may share these.
 use super::*;
 use std::marker::PhantomData;
+use std::ptr::null_mut;
 use std::sync::atomic::{AtomicBool, Ordering};
 use std::thread::yield_now;
 
@@ -62,74 +63,81 @@ pub(crate) type Ring = Shared<lodvarn_killring>;
 /// What the library can tell by itself of an edit, since it knows who hears: no one, a record, a ring, or both. Whoever it
 /// does not know reads the reports.
 pub struct Known<'k> {
-    to: Option<lodvarn_listeners>,
+    // Null if there is none.
+    record: *mut lodvarn_record,
+    killring: *mut lodvarn_killring,
+    is_other: bool,
     // It has what it points to as by a `&mut`.
     of: PhantomData<&'k mut ()>,
 }
 
 impl<'k> Known<'k> {
-    const fn new(to: Option<lodvarn_listeners>) -> Self {
-        let of = PhantomData;
-        Known { to, of }
+    /// No one hears.
+    #[inline]
+    pub(crate) const fn nobody() -> Self {
+        Known {
+            record: null_mut(),
+            killring: null_mut(),
+            is_other: false,
+            of: PhantomData,
+        }
     }
 
     /// One that the library does not know.
-    pub(crate) const fn other() -> Self {
-        Known::new(None)
-    }
-
-    /// No one hears.
     #[inline]
-    pub(crate) fn nobody() -> Self {
-        Known::new(Some(nobody()))
+    pub(crate) const fn other() -> Self {
+        let is_other = true;
+        Known {
+            is_other,
+            ..Known::nobody()
+        }
     }
 
     #[inline]
     pub(crate) fn record(record: &'k mut Record) -> Self {
         let record = record.at();
-        Known::new(Some(lodvarn_listeners { record, ..nobody() }))
+        Known {
+            record,
+            ..Known::nobody()
+        }
     }
 
     #[inline]
     pub(crate) fn ring(ring: &'k mut Ring) -> Self {
         let killring = ring.at();
-        Known::new(Some(lodvarn_listeners {
+        Known {
             killring,
-            ..nobody()
-        }))
+            ..Known::nobody()
+        }
     }
 
     /// This one, and beside it one that hears of deletions alone, as a ring does.
     #[inline]
-    pub(crate) fn beside(self, deletions: Known<'k>) -> Self {
-        let none = nobody();
-        match (self.to, deletions.to) {
-            (Some(all), Some(to)) if to.record == none.record => {
-                if to.killring == none.killring {
-                    Known::new(Some(all))
-                } else if all.killring == none.killring {
-                    let killring = to.killring;
-                    Known::new(Some(lodvarn_listeners { killring, ..all }))
-                } else {
-                    Known::other()
-                }
-            }
-            _ => Known::other(),
+    pub(crate) fn beside(mut self, deletions: Known<'k>) -> Self {
+        if self.killring.is_null() {
+            self.killring = deletions.killring;
+        } else {
+            self.is_other |= !deletions.killring.is_null();
         }
+        self.is_other |= deletions.is_other || !deletions.record.is_null();
+        self
     }
 
     pub(crate) fn is_other(&self) -> bool {
-        self.to.is_none()
+        self.is_other
     }
-}
 
-#[inline]
-fn nobody() -> lodvarn_listeners {
-    unsafe {
-        lodvarn_listeners {
-            record: lodvarn_no_record(),
-            killring: lodvarn_no_killring(),
+    /// Who is known, for a call. If another hears too, no one is: all hear by the reports then.
+    #[inline]
+    fn listeners(&self) -> lodvarn_listeners {
+        let (mut record, mut killring) = (self.record, self.killring);
+        if record.is_null() || self.is_other {
+            record = unsafe { lodvarn_no_record() };
         }
+        if killring.is_null() || self.is_other {
+            killring = unsafe { lodvarn_no_killring() };
+        }
+        lodvarn_listeners { record, killring }
     }
 }
 
@@ -255,7 +263,7 @@ impl Line {
     /// Inserts a typed character, and tells who is known. Where the cursor goes then is known too.
     #[inline]
     pub(crate) fn insert_one(&mut self, c: char, known: &Known<'_>) -> i32 {
-        let to = known.to.unwrap_or_else(nobody);
+        let to = known.listeners();
         self.report(false);
         self.text = Lent::NONE;
         let answer = self.raw.insert(to, c, 1);
@@ -283,7 +291,7 @@ impl Line {
         known: &Known<'_>,
         call: impl FnOnce(&mut RawLine, lodvarn_listeners) -> i32,
     ) -> i32 {
-        let to = known.to.unwrap_or_else(nobody);
+        let to = known.listeners();
         self.change(|line| call(line, to))
     }
 
@@ -295,7 +303,7 @@ impl Line {
     ) -> Edit<'_> {
         self.report(true);
         self.text = Lent::NONE;
-        let answer = call(&mut self.raw, nobody());
+        let answer = call(&mut self.raw, Known::nobody().listeners());
         Edit { line: self, answer }
     }
 }
