@@ -43,17 +43,18 @@ typedef struct lodvarn_record lodvarn_record;
 /* A ring of killed texts. */
 typedef struct lodvarn_killring lodvarn_killring;
 
-/* The record and the ring that an edit of a line tells its steps. */
+/* The record and the ring that an edit of a line tells its steps. Neither is NULL: lodvarn_tell takes NULL for
+ * none. */
 typedef struct lodvarn_listeners {
     lodvarn_record *record;
     lodvarn_killring *killring;
 } lodvarn_listeners;
 
-/* A record and a ring that are closed, one of each thread. Who is told by these is not told. */
+/* Return a record, and a ring, that is closed. Each thread has its own. An edit that gets it tells none. */
 lodvarn_record *lodvarn_no_record(void);
 lodvarn_killring *lodvarn_no_killring(void);
 
-/* Tells a record and a ring. Each may be NULL, and is not told then. */
+/* Makes an edit tell a record and a ring. Either may be NULL: then none is told. */
 static inline lodvarn_listeners lodvarn_tell(lodvarn_record *r, lodvarn_killring *g) {
     lodvarn_listeners to;
     to.record = r ? r : lodvarn_no_record();
@@ -125,8 +126,9 @@ int lodvarn_line_delete_range(lodvarn_line *l, lodvarn_listeners to, lodvarn_ran
 int lodvarn_line_delete(lodvarn_line *l, lodvarn_listeners to, size_t n);
 int lodvarn_line_backspace(lodvarn_line *l, lodvarn_listeners to, size_t n);
 
-/* Deletes what a movement to one side of the cursor covers, without the reports of a kill. Returns NOTHING if there is
- * nothing. Errors: NO_SUCH_NUMBER also for the movements that lodvarn_delete_by does not take, NO_MEMORY. */
+/* Deletes what a movement to one side of the cursor covers, which is no kill: it has no reports of one, and the ring
+ * keeps nothing. Returns NOTHING if there is nothing. Errors: NO_SUCH_NUMBER also for the movements that
+ * lodvarn_delete_by does not take, NO_MEMORY. */
 int lodvarn_line_delete_by(lodvarn_line *l, lodvarn_listeners to, lodvarn_movement movement);
 
 /* Deletes what a movement covers, as lodvarn_kill does. Reports of the kinds KILL_STARTED and KILL_STOPPED stand around

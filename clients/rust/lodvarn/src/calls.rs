@@ -5,7 +5,8 @@
 //! length of a `&str`, a buffer as those of a `&mut [u8]`, and the library keeps neither. What a call writes is read only
 //! if it returns that it is done. A call that changes something takes its handle by `&mut`, so no text that the handle
 //! lends is there then. A read takes what is read out of its handle for the time of the call: so two threads that share
-//! one wait for each other, and what may not be shared is not `Sync`. The library's texts are UTF-8.
+//! one wait for each other, and what may not be shared is not `Sync`. An edit has the handles of whom it tells from
+//! `Known`, which has them as by a `&mut`. The library's texts are UTF-8.
 #![allow(unsafe_code)]
 
 mod parts;

@@ -62,6 +62,7 @@ pub(crate) type Ring = Shared<lodvarn_killring>;
 
 /// What the library can tell by itself of an edit, since it knows who hears: no one, a record, a ring, or both. Whoever it
 /// does not know reads the reports.
+#[derive(Debug)]
 pub struct Known<'k> {
     // Null if there is none.
     record: *mut lodvarn_record,
@@ -147,7 +148,8 @@ impl RawLine {
         fn set_can_grow(&mut self, can_grow: bool) = lodvarn_line_set_can_grow(can_grow);
         fn move_by(&mut self, movement: Movement, mode: Mode, prompt: u16)
             = lodvarn_line_move(movement.passed(), mode as u32, prompt);
-        fn insert(&mut self, to: lodvarn_listeners, c: char, n: u16) = lodvarn_line_insert(to, c.into(), n.into());
+        fn insert(&mut self, to: lodvarn_listeners, c: char, n: u16)
+            = lodvarn_line_insert(to, c.into(), n.into());
         fn paste(&mut self, to: lodvarn_listeners, text: &str, n: u16)
             = lodvarn_line_paste(to, start_of(text), text.len(), n.into());
         fn yank_pop(&mut self, to: lodvarn_listeners, size: usize, text: &str)
@@ -161,13 +163,17 @@ impl RawLine {
         fn delete_range(&mut self, to: lodvarn_listeners, range: Range<usize>)
             = lodvarn_line_delete_range(to, range_of(range));
         fn delete(&mut self, to: lodvarn_listeners, n: u16) = lodvarn_line_delete(to, n.into());
-        fn backspace(&mut self, to: lodvarn_listeners, n: u16) = lodvarn_line_backspace(to, n.into());
-        fn delete_by(&mut self, to: lodvarn_listeners, movement: Movement) = lodvarn_line_delete_by(to, movement.passed());
-        fn kill(&mut self, to: lodvarn_listeners, movement: Movement) = lodvarn_line_kill(to, movement.passed());
+        fn backspace(&mut self, to: lodvarn_listeners, n: u16)
+            = lodvarn_line_backspace(to, n.into());
+        fn delete_by(&mut self, to: lodvarn_listeners, movement: Movement)
+            = lodvarn_line_delete_by(to, movement.passed());
+        fn kill(&mut self, to: lodvarn_listeners, movement: Movement)
+            = lodvarn_line_kill(to, movement.passed());
         fn kill_range(&mut self, to: lodvarn_listeners, range: Range<usize>, direction: Direction)
             = lodvarn_line_kill_range(to, range_of(range), direction as u32);
         fn transpose_chars(&mut self, to: lodvarn_listeners) = lodvarn_line_transpose_chars(to);
-        fn transpose_words(&mut self, to: lodvarn_listeners, n: u16) = lodvarn_line_transpose_words(to, n.into());
+        fn transpose_words(&mut self, to: lodvarn_listeners, n: u16)
+            = lodvarn_line_transpose_words(to, n.into());
         fn change_case(&mut self, to: lodvarn_listeners, case: Case)
             = lodvarn_line_change_case(to, case as u32);
         fn indent(&mut self, to: lodvarn_listeners, movement: Movement, amount: u8, indentation: u32)
