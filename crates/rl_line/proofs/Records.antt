@@ -1,4 +1,5 @@
 -- The record: its entries and groups, and how a line goes over them.
+pub mod PatchLemmas
 pub mod RecordLemmas
 pub mod EntryLemmas
 pub mod JoinLemmas

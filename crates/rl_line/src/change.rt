@@ -4,16 +4,18 @@ ghost use Rattle.std.specs.Option.{option_map};
 ghost use Rattle.std.specs.String.{string_bytes, string_len, string_capacity};
 ghost use Rattle.std.specs.Str.{IsCharBoundary, IsUtf8};
 ghost use Rattle.rl_base.specs.Event.{InsertChar, Delete, Replace, apply};
-ghost use Rattle.rl_base.specs.Text.{stands_at};
+ghost use Rattle.rl_base.specs.Text.{is_boundary, stands_at};
 ghost use Rattle.rl_base.specs.declared.listeners.Direction.TheVariants.{Forward};
 ghost use Rattle.rl_base.specs.declared.listeners.Refusal.TheVariants.{NoMemory};
 ghost use Rattle.rl_line.specs.Plan.{NeverRefuses, listener_after};
 ghost use Rattle.rl_line.specs.Record.{bytes_back, cursors_of, entry_of, event_of, freshness_joined, inverse, new_text, old_text, with_cursors};
 ghost use Rattle.rl_line.specs.Undo.{cursor_after, cursor_told, cursor_stands, steps_ahead};
 ghost use Rattle.rl_line.specs.Units.{is_begin, is_change};
-ghost use Rattle.rl_line.specs.Change.{TakesIn, text_back, place, entry_to_undo, greatest_back_over, order, size_back, size_of, entries_to_undo};
+ghost use Rattle.rl_line.specs.Change.{TakesIn, text_after, text_back, place, entry_to_undo, greatest_back_over, order, size_back, size_of, entries_to_undo};
 ghost use Rattle.rl_line.specs.declared.change.Measure.TheVariants.{Bytes, Newlines};
 ghost use Rattle.rl_line.specs.LineStarts.{IsTable};
+ghost use Rattle.rl_line.specs.LineRanges.{IsRange};
+ghost use Rattle.std.specs.List.{replace_range};
 
 use crate::line_starts::{LineStarts, newlines};
 use crate::swap::{find_room, swap_in, swap_text};
@@ -226,6 +228,24 @@ impl Change {
         }
     }
 
+    /// Whether a text can go over the change, so that the cursor, if it was told, stands between two characters then. It looks
+    /// only where the change and the cursor are.
+    pub(crate) fn leads(&self, text: &str, way: Way) -> bool
+        ensures { result ≡ is_some (text_after true (inverse (entry_to_undo way self.now)) text.now) }
+    {
+        let (going, coming) = self.texts(way);
+        if !self.fits(text, way) {
+            return false;
+        }
+        let Some(at) = self.place() else {
+            return true;
+        };
+        match self.cursor_over(way) {
+            Some(cursor) => is_boundary_with(text, at, at + going.len(), coming, cursor),
+            None => true,
+        }
+    }
+
     // Whether a text can go over the change.
     fn fits(&self, text: &str, way: Way) -> bool
         requires { IsUtf8 (old_text (entry_to_undo way self.now)) }
@@ -342,6 +362,24 @@ fn stands_at(text: &str, at: usize, part: &str) -> bool
         return false;
     }
     &text[at..end] == part
+}
+
+// Whether a character begins at the place `at`, or the text ends there, once the text has `part` from `from` to `to`.
+fn is_boundary_with(text: &str, from: usize, to: usize, part: &str, at: usize) -> bool
+    requires { IsRange text.now from to }
+    ensures { result ≡ is_boundary (replace_range text.now from to part.now) at }
+{
+    if at <= from {
+        return text.is_char_boundary(at);
+    }
+    let past = at - from;
+    if past <= part.len() {
+        return part.is_char_boundary(past);
+    }
+    match (past - part.len()).checked_add(to) {
+        Some(there) => text.is_char_boundary(there),
+        None => false,
+    }
 }
 
 /// The change after which `left` are left to go over: going back the last comes first, and going ahead the first.

@@ -449,8 +449,8 @@ pub(crate) fn has_change(entries: &[Change]) -> bool
     false
 }
 
-/// Whether a line can go over the entries that way, and each cursor that was told stands between two characters then. It
-/// is tried on a copy of the text, if there is a change among them.
+/// Whether a line can go over the entries that way, and each cursor that was told stands between two characters then. Of one
+/// entry the text tells it; of several it is tried on a copy of the text, if there is a change among them.
 pub(crate) fn lead(
     alloc: Global,
     line: &LineBuffer,
@@ -462,6 +462,9 @@ pub(crate) fn lead(
 {
     // So the proof knows that the cursor stands between two characters.
     let _cursor = line.pos();
+    if entries.len() == 1 {
+        return Ok(entries[0].leads(line.as_str(), way));
+    }
     if !has_change(entries) {
         return Ok(true);
     }

@@ -9,7 +9,7 @@ use Rattle.std.specs.Option.{option_map_or}
 use Rattle.std.specs.Str.{IsCharBoundary, IsUtf8, bytes_eq, is_utf8}
 use Rattle.rl_base.specs.Event.{apply}
 use Rattle.rl_base.specs.Text.{fits_at, is_boundary, stands_at}
-use Rattle.rl_base.proofs.Texts.TextLemmas.{is_boundary-means, is_boundary-true, stands_at-means}
+use Rattle.rl_base.proofs.Texts.TextLemmas.{is_boundary-true, stands_at-means}
 use Rattle.rl_base.proofs.Texts.EventLemmas.{Replaces-from_IsSome}
 use Rattle.rl_line.specs.declared.change.Change.{Change}
 use Rattle.rl_line.specs.declared.change.Way.{Way}
@@ -167,14 +167,27 @@ text_back-unwind (e ∷ es) text = ap (option_and_then (text_after false (invers
 
 -- the test of a cursor that was told
 pub cursor_stands-told : (asks : Bool) (e : Entry) (text : List ℕ) (cursor : ℕ) (b : Bool) → asks ≡ true → cursor_told e ≡ Some cursor
-    → (b ≡ true → IsCharBoundary text cursor) × (IsCharBoundary text cursor → b ≡ true) → b ≡ cursor_stands asks e text
+    → b ≡ is_boundary text cursor → b ≡ cursor_stands asks e text
 cursor_stands-told false e text cursor b asked told test = cc
-cursor_stands-told true e text cursor b asked told test = from b refl ∙ ap (λ o. option_map_or (is_boundary text) o true) (sym told)
+cursor_stands-told true e text cursor b asked told test = test ∙ ap (λ o. option_map_or (is_boundary text) o true) (sym told)
+
+-- ---- a text that goes over one entry, where the cursor is asked for
+pub leads-told : (e : Entry) (text now : List ℕ) (cursor : ℕ) → apply (event_of e) text ≡ Some now → cursor_told e ≡ Some cursor
+    → is_some (text_after true e text) ≡ is_boundary now cursor
+leads-told e text now cursor h told =
+    ap (λ o. is_some (option_and_then (λ t. cond (cursor_stands true e t) (Some t) None) o)) h ∙ tested (cursor_stands true e now) now
+    ∙ ap (λ o. option_map_or (is_boundary now) o true) told
+
+pub leads-untold : (e : Entry) (text : List ℕ) → cursor_told e ≡ None → is_some (text_after true e text) ≡ is_some (apply (event_of e) text)
+leads-untold e text told = from (apply (event_of e) text)
   where
-    from : (c : Bool) → b ≡ c → b ≡ is_boundary text cursor
-    from true is = is ∙ sym (is_boundary-true text cursor (test.0 is))
-    from false is = is ∙ no (is_boundary text cursor) refl
-      where
-        no : (d : Bool) → is_boundary text cursor ≡ d → false ≡ d
-        no false k = refl
-        no true k = let t = test.1 (is_boundary-means text cursor k) in cc
+    from : (o : Option (List ℕ)) → is_some (option_and_then (λ t. cond (cursor_stands true e t) (Some t) None) o) ≡ is_some o
+    from None = refl
+    from (Some t) = tested (cursor_stands true e t) t ∙ ap (λ p. option_map_or (is_boundary t) p true) told
+
+pub leads-not : (e : Entry) (text : List ℕ) → is_some (apply (event_of e) text) ≡ false → is_some (text_after true e text) ≡ false
+leads-not e text = from (apply (event_of e) text)
+  where
+    from : (o : Option (List ℕ)) → is_some o ≡ false → is_some (option_and_then (λ t. cond (cursor_stands true e t) (Some t) None) o) ≡ false
+    from None h = refl
+    from (Some t) h = cc

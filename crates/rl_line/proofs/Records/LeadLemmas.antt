@@ -1,11 +1,12 @@
 -- What a question about a record answers, once it was found on a copy of the text whether a line can go over the entries.
-use Rattle.std.proofs.Common.{◌≡◌, ℕ, ◌+◌, ◌<◌, Bool, true, List, length, map, sym, ap, subst, ◌∙◌}
+use Rattle.std.proofs.Common.{◌≡◌, ℕ, ◌+◌, ◌<◌, Bool, true, List, [], ◌∷◌, get_or, length, map, sym, ap, subst, ◌∙◌}
 use Rattle.std.specs.Prelude.{IfErr, IfOk, IsSome, Result, Ok, Err, is_some}
 use Rattle.rl_base.specs.declared.listeners.Refusal.{Refusal}
 use Rattle.rl_base.specs.declared.listeners.Refusal.TheVariants.{NoMemory}
 use Rattle.rl_line.specs.declared.change.Change.{Change}
+use Rattle.rl_line.specs.declared.change.Way.{Way}
 use Rattle.rl_line.specs.declared.change.Way.TheVariants.{Ahead, Back}
-use Rattle.rl_line.specs.Change.{entries_to_undo}
+use Rattle.rl_line.specs.Change.{entries_to_undo, entry_to_undo}
 use Rattle.rl_line.specs.Line.{Line}
 use Rattle.rl_line.specs.Record.{Entry, bytes_ahead, bytes_back, entry_of}
 use Rattle.rl_line.specs.Undo.{CopiesAhead, CopiesBack, line_ahead, line_back}
@@ -13,6 +14,13 @@ use Rattle.rl_line.specs.Units.{has_change, last_of, redo_of}
 use Rattle.rl_line.proofs.Records.ChangeLemmas.{ahead-inverse}
 use Rattle.rl_line.proofs.Records.MoveLemmas.{ahead-line, redo-fits, undo-fits}
 use Rattle.rl_line.proofs.Records.RoomLemmas.{bytes_ahead-back}
+
+-- one change alone
+pub lone : (way : Way) (xs : List Change) (x : Change) → length xs ≡ 1 → x ≡ get_or xs 0 x → entries_to_undo way xs ≡ entry_to_undo way x ∷ []
+lone way [] x len e = cc
+lone Back (y ∷ []) x len e = ap (λ z. entry_to_undo Back z ∷ []) (sym e)
+lone Ahead (y ∷ []) x len e = ap (λ z. entry_to_undo Ahead z ∷ []) (sym e)
+lone way (y ∷ z ∷ zs) x len e = cc
 
 pub lead-back : (result : Result Bool Refusal) (xs : List Change) (es : List Entry) (line : Line) → map entry_of xs ≡ es
     → IfOk result (λ a. a ≡ is_some (line_back (entries_to_undo Back xs) line)) → IfOk result (λ a. a ≡ is_some (line_back es line))

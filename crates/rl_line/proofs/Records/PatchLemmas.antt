@@ -1,0 +1,78 @@
+-- Where the characters begin in a text in which a part gave way to another.
+use Rattle.std.proofs.Common.{◌≡◌, ℕ, ◌+◌, ◌-◌, ◌<◌, ◌≤◌, ◌⊎◌, inl, inr, Bool, true, false, List, ◌++◌, length, length-append, append_assoc, take, drop, refl, sym, ap, subst, ◌∙◌, arith}
+use Rattle.std.proofs.Math.Nat.{eq-or-lt_of_le}
+use Rattle.std.proofs.lemmas.Bool.Decides.{nat_tests}
+use Rattle.std.proofs.lemmas.List.{get_or-append_right, get_or_append_left, length-take-le, take-append-drop}
+use Rattle.std.proofs.lemmas.Str.{IsCharBoundary-at_seam, IsCharBoundary-end, IsUtf8-append, IsUtf8-drop}
+use Rattle.std.specs.List.{replace_range}
+use Rattle.std.specs.Str.{IsCharBoundary, IsUtf8}
+use Rattle.rl_base.specs.Text.{is_boundary}
+use Rattle.rl_base.proofs.Texts.TextLemmas.{is_boundary-means, is_boundary-true}
+
+-- a test that answers whether a character begins there
+pub is_boundary-tested : (text : List ℕ) (i : ℕ) (b : Bool) → (b ≡ true → IsCharBoundary text i) × (IsCharBoundary text i → b ≡ true) → b ≡ is_boundary text i
+is_boundary-tested text i true test = sym (is_boundary-true text i (test.0 refl))
+is_boundary-tested text i false test = no (is_boundary text i) refl
+  where
+    no : (d : Bool) → is_boundary text i ≡ d → false ≡ d
+    no false k = refl
+    no true k = let t = test.1 (is_boundary-means text i k) in cc
+
+-- in two texts, one after the other, a place in the first
+boundary-inside : (front rest : List ℕ) (k : ℕ) → k < length front → is_boundary (front ++ rest) k ≡ is_boundary front k
+unfolding is_boundary
+boundary-inside front rest k lt = let same = get_or_append_left front rest 0 k lt in let more = length-append front rest in grind (arith, nat_tests)
+
+-- or at its end
+boundary-before : (front rest : List ℕ) (k : ℕ) → IsUtf8 rest → k ≤ length front → is_boundary (front ++ rest) k ≡ is_boundary front k
+boundary-before front rest k u le = from (eq-or-lt_of_le le)
+  where
+    from : (k ≡ length front) ⊎ (k < length front) → is_boundary (front ++ rest) k ≡ is_boundary front k
+    from (inl e) =
+        is_boundary-true (front ++ rest) k (subst (IsCharBoundary (front ++ rest)) (sym e) (IsCharBoundary-at_seam (front ++ rest) front rest refl u))
+        ∙ sym (is_boundary-true front k (subst (IsCharBoundary front) (sym e) (IsCharBoundary-end front)))
+    from (inr lt) = boundary-inside front rest k lt
+
+-- and one of the second
+boundary-past : (front rest : List ℕ) (k : ℕ) → length front ≤ k → is_boundary (front ++ rest) k ≡ is_boundary rest (k - length front)
+unfolding is_boundary
+boundary-past front rest k le = let same = get_or-append_right front rest (length front) k 0 refl le in let more = length-append front rest in grind (arith, nat_tests)
+
+module _ (text : List ℕ) (i j : ℕ) (s : List ℕ) (u : IsUtf8 text) (v : IsUtf8 s) (start : IsCharBoundary text i) (end : IsCharBoundary text j) where
+  abbrev patched : List ℕ
+  patched = replace_range text i j s
+
+  front : length (take i text) ≡ i
+  front = length-take-le i text start.0
+
+  -- before the part
+  pub patched-before : (k : ℕ) → k ≤ i → is_boundary patched k ≡ is_boundary text k
+  patched-before k le =
+      let within : k ≤ length (take i text) = omega (arith, front) in
+      ap (λ t. is_boundary t k) (append_assoc (take i text) s (drop j text))
+      ∙ boundary-before (take i text) (s ++ drop j text) k (IsUtf8-append s (drop j text) v (IsUtf8-drop text j u end)) within
+      ∙ sym (boundary-before (take i text) (drop i text) k (IsUtf8-drop text i u start) within)
+      ∙ ap (λ t. is_boundary t k) (take-append-drop i text)
+
+  -- in the part
+  pub patched-within : (k : ℕ) → i ≤ k → k - i ≤ length s → is_boundary patched k ≡ is_boundary s (k - i)
+  patched-within k le within =
+      ap (λ t. is_boundary t k) (append_assoc (take i text) s (drop j text))
+      ∙ boundary-past (take i text) (s ++ drop j text) k (omega (arith, front)) ∙ ap (λ n. is_boundary (s ++ drop j text) (k - n)) front
+      ∙ boundary-before s (drop j text) (k - i) (IsUtf8-drop text j u end) within
+
+  -- after the part
+  pub patched-after : (k : ℕ) → i ≤ k → length s ≤ k - i → is_boundary patched k ≡ is_boundary text ((k - i) - length s + j)
+  patched-after k le past =
+      let len : length (take i text ++ s) ≡ i + length s = omega (arith, length-append (take i text) s, front) in
+      let to : length (take j text) ≡ j = length-take-le j text end.0 in
+      let there : ((k - i) - length s + j) - length (take j text) ≡ k - length (take i text ++ s) = omega (arith, len, to) in
+      boundary-past (take i text ++ s) (drop j text) k (omega (arith, len))
+      ∙ ap (is_boundary (drop j text)) (sym there)
+      ∙ sym (boundary-past (take j text) (drop j text) ((k - i) - length s + j) (omega (arith, to)))
+      ∙ ap (λ t. is_boundary t ((k - i) - length s + j)) (take-append-drop j text)
+
+-- past what a text can be long, none begins
+pub boundary-beyond : (text : List ℕ) (k : ℕ) → length text < k → is_boundary text k ≡ false
+unfolding is_boundary
+boundary-beyond text k lt = grind (arith, nat_tests)
