@@ -52,8 +52,8 @@ steps_ahead cursor (Changed kind swap ∷ es) =
 abbrev pub steps_back : ℕ → List Entry → List Step
 steps_back cursor es = steps_ahead cursor (map inverse (reverse es))
 
--- whether a text can go back over entries, or ahead, is tried on a copy of it. That takes memory only where there is a change,
--- and the text, or one on the way, is not empty
+-- whether a text can go back over entries, or ahead, is tried on a copy of a part of it. That takes memory only where there is a
+-- change, and the text, or one on the way, is not empty
 abbrev pub CopiesBack : List Entry → List ℕ → Type 0
 CopiesBack es text = (has_change es ≡ true) × (0 < length text + bytes_back es)
 

@@ -1,5 +1,5 @@
 //! An entry of a record, and how a text goes over it.
-ghost use Rattle.std.specs.Prelude.{◌⊎◌, ◌≡◌, ℕ, List, [], ◌∷◌, None, Some, true, OnErr, OnOk, IfOk, IfErr, ◌+◌, ◌-◌, ◌^◌, ◌<◌, ◌≤◌, IsSome, IfNone, IfSome, get_or, is_some, length, vec_len, vec_capacity};
+ghost use Rattle.std.specs.Prelude.{◌⊎◌, ◌≡◌, ℕ, List, [], ◌∷◌, None, Some, true, false, OnErr, OnOk, IfOk, IfErr, ◌+◌, ◌-◌, ◌^◌, ◌<◌, ◌≤◌, IsSome, IfNone, IfSome, get_or, is_some, length, vec_len, vec_capacity};
 ghost use Rattle.std.specs.Option.{option_map};
 ghost use Rattle.std.specs.String.{string_bytes, string_len, string_capacity};
 ghost use Rattle.std.specs.Str.{IsCharBoundary, IsUtf8};
@@ -18,7 +18,8 @@ ghost use Rattle.rl_line.specs.LineRanges.{IsRange};
 ghost use Rattle.std.specs.List.{replace_range};
 
 use crate::line_starts::{LineStarts, newlines};
-use crate::swap::{find_room, swap_in, swap_text};
+use crate::patched::{Patched, is_boundary_with, stands_at};
+use crate::swap::{find_room, swap_in};
 use rl_base::places::{is_alphanumeric, is_word_cluster};
 use rl_base::{ChangeListener, Gathered, Refusal};
 use std::alloc::Global;
@@ -216,15 +217,30 @@ impl Change {
     }
 
     // Whether the cursor stands between two characters of a text that went over the change, if that is asked and it was told.
-    fn stands(&self, text: &str, way: Way, asks: bool) -> bool
+    fn stands(&self, text: &Patched, way: Way, asks: bool) -> bool
         ensures { result ≡ cursor_stands asks (inverse (entry_to_undo way self.now)) text.now }
     {
         if !asks {
             return true;
         }
         match self.cursor_over(way) {
-            Some(cursor) => text.is_char_boundary(cursor),
+            Some(cursor) => text.is_boundary(cursor),
             None => true,
+        }
+    }
+
+    // Goes over the change in a text, if it fits there. Answers whether it does.
+    fn patch(&self, text: &mut Patched, way: Way) -> Result<bool, Refusal>
+        ensures fits { IfOk result (λ fits. fits ≡ is_some (apply (event_of (inverse (entry_to_undo way self.now))) text.old)) }
+        ensures done { IfOk result (λ fits. fits ≡ true → apply (event_of (inverse (entry_to_undo way self.now))) text.old ≡ Some text.new) }
+        ensures err { IfErr result (λ r. (r ≡ NoMemory) × (0 < length text.old + length (old_text (entry_to_undo way self.now)))) }
+    {
+        match self.place() {
+            Some(at) => {
+                let (going, coming) = self.texts(way);
+                text.swap(at, going, coming)
+            }
+            None => Ok(true),
         }
     }
 
@@ -333,55 +349,6 @@ pub(crate) fn tell_over<L: ChangeListener>(
     tell_swap(at, going, coming, before, after, listener);
 }
 
-// Goes over a change in a text that has room for the result.
-fn go_over_in_text(text: &mut String, change: &Change, way: Way)
-    requires fits { IsSome (apply (event_of (inverse (entry_to_undo way change.now))) (string_bytes text.old)) }
-    requires room { size_back Bytes (entry_to_undo way change.now) (string_len text.old) ≤ string_capacity text.old }
-    ensures text { apply (event_of (inverse (entry_to_undo way change.now))) (string_bytes text.old) ≡ Some (string_bytes text.new) }
-{
-    match change.place() {
-        Some(at) => {
-            let (going, coming) = change.texts(way);
-            swap_text(text, at, at + going.len(), coming);
-        }
-        None => {}
-    }
-}
-
-// Whether a part stands in a text at a byte place.
-fn stands_at(text: &str, at: usize, part: &str) -> bool
-    ensures { result ≡ stands_at text.now at part.now }
-{
-    let Some(end) = at.checked_add(part.len()) else {
-        return false;
-    };
-    if !text.is_char_boundary(at) {
-        return false;
-    }
-    if !text.is_char_boundary(end) {
-        return false;
-    }
-    &text[at..end] == part
-}
-
-// Whether a character begins at the place `at`, or the text ends there, once the text has `part` from `from` to `to`.
-fn is_boundary_with(text: &str, from: usize, to: usize, part: &str, at: usize) -> bool
-    requires { IsRange text.now from to }
-    ensures { result ≡ is_boundary (replace_range text.now from to part.now) at }
-{
-    if at <= from {
-        return text.is_char_boundary(at);
-    }
-    let past = at - from;
-    if past <= part.len() {
-        return part.is_char_boundary(past);
-    }
-    match (past - part.len()).checked_add(to) {
-        Some(there) => text.is_char_boundary(there),
-        None => false,
-    }
-}
-
 /// The change after which `left` are left to go over: going back the last comes first, and going ahead the first.
 #[inline(always)]
 pub(crate) fn nth_on(way: Way, changes: &[Change], left: usize) -> &Change
@@ -452,34 +419,48 @@ fn growth_over(
     })
 }
 
-/// The text after it went over the changes. None where one of them does not fit or, if `asks` says so, where a cursor
-/// that was told would not stand between two characters.
+/// A text that went over the changes. None where one of them does not fit or, if `asks` says so, where a cursor that was
+/// told would not stand between two characters.
+pub(crate) fn patch_over<'t>(
+    alloc: Global,
+    text: &'t str,
+    changes: &[Change],
+    way: Way,
+    asks: bool,
+) -> Result<Option<Patched<'t>>, Refusal>
+    ensures ok { IfOk result (λ over. over ≡ text_back asks (entries_to_undo way changes.now) text.now) }
+    ensures some { IfOk result (λ over. IfSome over (λ now. 0 < length now → 0 < length text.now + bytes_back (entries_to_undo way changes.now))) }
+    ensures err { IfErr result (λ r. (r ≡ NoMemory) × (0 < length text.now + bytes_back (entries_to_undo way changes.now))) }
+{
+    let mut now = Patched::new(alloc, text);
+    let mut left = changes.len();
+    while left > 0 {
+        left -= 1;
+        let change = nth_on(way, changes, left);
+        if !change.patch(&mut now, way)? {
+            return Ok(None);
+        }
+        if !change.stands(&now, way, asks) {
+            return Ok(None);
+        }
+    }
+    Ok(Some(now))
+}
+
+/// A copy of a text that went over the changes, whatever cursors were told.
 pub(crate) fn text_over(
     alloc: Global,
     text: &str,
     changes: &[Change],
     way: Way,
-    asks: bool,
 ) -> Result<Option<String>, Refusal>
-    ensures ok { IfOk result (λ over. option_map string_bytes over ≡ text_back asks (entries_to_undo way changes.now) text.now) }
+    ensures ok { IfOk result (λ over. option_map string_bytes over ≡ text_back false (entries_to_undo way changes.now) text.now) }
     ensures err { IfErr result (λ r. (r ≡ NoMemory) × (0 < length text.now + bytes_back (entries_to_undo way changes.now))) }
 {
-    let mut now = copied(alloc, text)?;
-    let mut left = changes.len();
-    while left > 0 {
-        left -= 1;
-        let change = nth_on(way, changes, left);
-        let (_, coming) = change.texts(way);
-        if !change.fits(now.as_str(), way) {
-            return Ok(None);
-        }
-        now.reserve(coming.len())?;
-        go_over_in_text(&mut now, change, way);
-        if !change.stands(now.as_str(), way, asks) {
-            return Ok(None);
-        }
+    match patch_over(alloc, text, changes, way, false)? {
+        Some(over) => Ok(Some(over.whole(alloc)?)),
+        None => Ok(None),
     }
-    Ok(Some(now))
 }
 
 /// A copy of a text.

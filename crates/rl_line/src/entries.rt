@@ -14,7 +14,7 @@ ghost use Rattle.rl_line.specs.Undo.{line_back};
 ghost use Rattle.rl_line.specs.Units.{IsMatched, adds_end, end_one, end_times, ends_in_begin, has_change, is_change, last_of, level, redo_of};
 ghost use Rattle.rl_line.specs.Entries.{JoinsLast, deep, Records};
 
-use crate::change::{Change, Freshness, Texts, Way, copied, text_over};
+use crate::change::{Change, Freshness, Texts, Way, copied, patch_over};
 use crate::line_buffer::LineBuffer;
 use rl_base::{Gathered, Refusal, RepeatCount};
 use std::alloc::Global;
@@ -449,8 +449,8 @@ pub(crate) fn has_change(entries: &[Change]) -> bool
     false
 }
 
-/// Whether a line can go over the entries that way, and each cursor that was told stands between two characters then. Of one
-/// entry the text tells it; of several it is tried on a copy of the text, if there is a change among them.
+/// Whether a line can go over the entries that way, and each cursor that was told stands between two characters then. One
+/// entry is compared with the text; several, if there is a change among them, are tried on a copy of the part that they touch.
 pub(crate) fn lead(
     alloc: Global,
     line: &LineBuffer,
@@ -468,7 +468,7 @@ pub(crate) fn lead(
     if !has_change(entries) {
         return Ok(true);
     }
-    let text = text_over(alloc, line.as_str(), entries, way, true)?;
+    let text = patch_over(alloc, line.as_str(), entries, way, true)?;
     Ok(text.is_some())
 }
 

@@ -6,6 +6,7 @@ mod entries;
 mod forgetting;
 pub mod line_buffer;
 mod line_starts;
+mod patched;
 mod steps;
 mod swap;
 mod tails;

@@ -398,7 +398,8 @@ impl Changeset {
     }
 
     /// Whether an undo of `n` fits the line: whether its units can be taken back as `can_undo` asks it of all. It takes
-    /// time of these units and of a copy of the text, however much is recorded before them.
+    /// time of these units, however long the text is: one change is compared with it, several are tried on a copy of the
+    /// part between the places that they touch.
     pub fn can_undo_last(&self, line: &LineBuffer, n: RepeatCount) -> Result<bool, Refusal>
         ensures ok { IfOk result (λ answer. answer ≡ is_some (line_back (last_of n self.now.recorded) line.now)) }
         ensures err { IfErr result (λ r. (r ≡ NoMemory) × CopiesBack (last_of n self.now.recorded) line.now.text) }
@@ -421,7 +422,7 @@ impl Changeset {
     }
 
     /// Whether a redo fits the line: whether what it makes again can be made as `can_redo` asks it of all. It takes time
-    /// of that unit and of a copy of the text.
+    /// of that unit, as `can_undo_last` does.
     pub fn can_redo_next(&self, line: &LineBuffer) -> Result<bool, Refusal>
         ensures ok { IfOk result (λ answer. answer ≡ is_some (line_ahead (redo_of self.now.pending) line.now)) }
         ensures err { IfErr result (λ r. (r ≡ NoMemory) × CopiesAhead (redo_of self.now.pending) line.now.text) }
@@ -444,11 +445,11 @@ impl Changeset {
         if !entries::has_change(recorded) {
             return Ok(true);
         }
-        let Some(all) = text_over(alloc, text, recorded, Way::Back, false)? else {
+        let Some(all) = text_over(alloc, text, recorded, Way::Back)? else {
             return Ok(false);
         };
         let first = entries::first(recorded, len);
-        match text_over(alloc, text, first, Way::Back, false)? {
+        match text_over(alloc, text, first, Way::Back)? {
             Some(some) => Ok(all.as_str() == some.as_str()),
             None => Ok(false),
         }

@@ -3,7 +3,7 @@ use Rattle.std.proofs.Common.{◌≡◌, ℕ, ◌+◌, ◌<◌, ◌≤◌, Bool,
 use Rattle.std.proofs.lemmas.Grind.{take_at_read}
 use Rattle.std.proofs.lemmas.List.{length-reverse, map-append, reverse-append}
 use Rattle.std.proofs.lemmas.Str.{is_utf8-from_IsUtf8}
-use Rattle.std.specs.Prelude.{◌&&◌, IsSome, cond, is_some, option_and_then}
+use Rattle.std.specs.Prelude.{◌&&◌, IfOk, IsSome, Result, Ok, Err, cond, is_some, option_and_then}
 use Rattle.std.specs.List.{replace_range}
 use Rattle.std.specs.Option.{option_map_or}
 use Rattle.std.specs.Str.{IsCharBoundary, IsUtf8, bytes_eq, is_utf8}
@@ -17,6 +17,9 @@ use Rattle.rl_line.specs.declared.change.Way.TheVariants.{Back, Ahead}
 use Rattle.rl_line.specs.Record.{Entry, Begin, End, Changed, entry_of, event_of, inverse, new_text, old_text, unwind}
 use Rattle.rl_line.specs.Undo.{cursor_told, place_after, cursor_stands}
 use Rattle.rl_line.proofs.Records.RecordLemmas.{then_both, then_some}
+use Rattle.rl_base.specs.declared.listeners.Refusal.{Refusal}
+use Rattle.std.proofs.lemmas.Option.{same_Some}
+use Rattle.rl_line.proofs.Records.PatchLemmas.{length-replaced}
 use Rattle.rl_line.specs.Change.{entry_to_undo, order, place, text_after, text_back}
 
 -- an entry's new text stands at its place, and the old one may take its place
@@ -74,6 +77,27 @@ fits-is End text at p u = cc
 fits-is (Changed k c) text at p u =
     let same : c.place ≡ at = cc in
     tested (stands_at text c.place c.new && is_utf8 c.old) _ ∙ right_true (stands_at text c.place c.new) (is_utf8 c.old) (is_utf8-from_IsUtf8 c.old u) ∙ ap (λ j. stands_at text j c.new) same
+
+-- and what is made then is what the replacement makes
+pub patch-makes : (result : Result Bool Refusal) (e : Entry) (text now : List ℕ) (at : ℕ) (going coming : List ℕ) → place e ≡ Some at → IsUtf8 (old_text e)
+    → going ≡ new_text e → coming ≡ old_text e → IfOk result (λ stands. stands ≡ stands_at text at going)
+    → IfOk result (λ stands. stands ≡ true → now ≡ replace_range text at (at + length going) coming)
+    → IfOk result (λ fits. fits ≡ true → apply (event_of (inverse e)) text ≡ Some now)
+patch-makes (Ok stands) e text now at going coming p u goes comes is makes = λ yes.
+    let d = StandsNew-from_IsSome e text at p (fits-is e text at p u ∙ ap (stands_at text at) (sym goes) ∙ sym is ∙ yes) in
+    d.makes ∙ ap Some (ap (λ t. replace_range text at (at + length t) (old_text e)) (sym goes) ∙ ap (replace_range text at (at + length going)) (sym comes) ∙ sym (makes yes))
+patch-makes (Err r) e text now at going coming p u goes comes is makes = makes
+
+-- a text grows by no more than what comes
+pub longer-by : (e : Entry) (text next : List ℕ) → apply (event_of (inverse e)) text ≡ Some next → length next ≤ length text + length (old_text e)
+longer-by e text next h = from (place e) refl
+  where
+    from : (o : Option ℕ) → place e ≡ o → length next ≤ length text + length (old_text e)
+    from None p = let same : text ≡ next = same_Some text next (sym (mark-leaves e text p) ∙ h) in omega (arith, ap length same)
+    from (Some at) p =
+        let d = StandsNew-from_IsSome e text at p (ap is_some h) in
+        let made : replace_range text at (at + length (new_text e)) (old_text e) ≡ next = same_Some _ next (sym d.makes ∙ h) in
+        omega (arith, ap length made, length-replaced text at (at + length (new_text e)) (old_text e) (omega arith))
 
 -- what stands between two boundaries is told by its bytes
 pub stands_at-is : (text : List ℕ) (i : ℕ) (s : List ℕ) → IsUtf8 s → IsCharBoundary text i → IsCharBoundary text (i + length s) → stands_at text i s ≡ bytes_eq (slice_range text i (i + length s)) s

@@ -1,9 +1,9 @@
 -- The record that the code's list of entries stands for, and what an event, an undo and a redo make of it.
-use Rattle.std.proofs.Common.{◌≡◌, ℕ, zero, suc, ◌+◌, ◌-◌, ◌≤◌, min, leb, arith, Option, None, String, Global, string_bytes, option_map, take_all, List, [], ◌∷◌, ◌++◌, append_assoc, length, length-append, take, drop, take_at, drop_at, map, reverse, Bool, true, false, Some, refl, sym, ap, subst, ◌∙◌}
+use Rattle.std.proofs.Common.{◌≡◌, ℕ, zero, suc, ◌+◌, ◌-◌, ◌≤◌, min, leb, arith, take_all, List, [], ◌∷◌, ◌++◌, append_assoc, length, length-append, take, drop, take_at, drop_at, map, reverse, Bool, true, false, refl, sym, ap, subst, ◌∙◌}
 use Rattle.std.proofs.lemmas.Bool.{leb-true, leb-false}
 use Rattle.std.proofs.lemmas.List.Elements.{All-drop, All-map, All-take}
 use Rattle.std.proofs.lemmas.List.{drop-map, drop_all, length-map, length-take-le, take-map, take-append-drop, take_rest}
-use Rattle.std.specs.Prelude.{All, IsSome, get_or, is_some}
+use Rattle.std.specs.Prelude.{All, IsSome, get_or}
 use Rattle.std.specs.Str.{IsCharBoundary}
 use Rattle.rl_base.specs.Event.{Event, InsertChar, InsertStr, Delete, Replace, Cursors}
 use Rattle.rl_line.specs.declared.change.Change.{Change}
@@ -191,10 +191,6 @@ redo-fits es line h =
 pub marks-lead : (way : Way) (xs : List Change) (line : Line) → has_change (map entry_of xs) ≡ false → IsCharBoundary line.text line.cursor → IsSome (line_back (entries_to_undo way xs) line)
 marks-lead Back xs line none at = marks-back (map entry_of xs) line none at
 marks-lead Ahead xs line none at = subst IsSome (sym (ahead-line xs (map entry_of xs) line refl)) (marks-ahead (map entry_of xs) line none at)
-
-pub some-map : (o : Option (String Global)) → is_some o ≡ is_some (option_map string_bytes o)
-some-map None = refl
-some-map (Some s) = refl
 
 -- the first entries of a list, where there are so many
 pub first-view : (len n : ℕ) (xs : List Change) → n ≡ min len (length xs) → map entry_of (take n xs) ≡ take len (map entry_of xs)

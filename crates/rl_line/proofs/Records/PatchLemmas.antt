@@ -1,12 +1,14 @@
 -- Where the characters begin in a text in which a part gave way to another.
-use Rattle.std.proofs.Common.{◌≡◌, ℕ, ◌+◌, ◌-◌, ◌<◌, ◌≤◌, ◌⊎◌, inl, inr, Bool, true, false, List, ◌++◌, length, length-append, append_assoc, take, drop, refl, sym, ap, subst, ◌∙◌, arith}
+use Rattle.std.proofs.Common.{◌≡◌, ℕ, ◌+◌, ◌-◌, ◌<◌, ◌≤◌, ◌⊎◌, inl, inr, Bool, true, false, List, ◌++◌, length, length-append, append_assoc, take, drop, slice_range, refl, sym, ap, subst, ◌∙◌, arith}
 use Rattle.std.proofs.Math.Nat.{eq-or-lt_of_le}
 use Rattle.std.proofs.lemmas.Bool.Decides.{nat_tests}
-use Rattle.std.proofs.lemmas.List.{get_or-append_right, get_or_append_left, length-take-le, take-append-drop}
+use Rattle.std.proofs.Math.Seq.{drop-append-add, take-add, take-append-add}
+use Rattle.std.proofs.lemmas.List.{drop-append-le, get_or-append_right, get_or_append_left, length-drop, length-take, length-take-le, take-append-drop, take-append-le}
+use Rattle.std.proofs.lemmas.List.Folds.{drop_split}
 use Rattle.std.proofs.lemmas.Str.{IsCharBoundary-at_seam, IsCharBoundary-end, IsUtf8-append, IsUtf8-drop}
 use Rattle.std.specs.List.{replace_range}
 use Rattle.std.specs.Str.{IsCharBoundary, IsUtf8}
-use Rattle.rl_base.specs.Text.{is_boundary}
+use Rattle.rl_base.specs.Text.{is_boundary, stands_at}
 use Rattle.rl_base.proofs.Texts.TextLemmas.{is_boundary-means, is_boundary-true}
 
 -- a test that answers whether a character begins there
@@ -71,6 +73,73 @@ module _ (text : List ℕ) (i j : ℕ) (s : List ℕ) (u : IsUtf8 text) (v : IsU
       ∙ ap (is_boundary (drop j text)) (sym there)
       ∙ sym (boundary-past (take j text) (drop j text) ((k - i) - length s + j) (omega (arith, to)))
       ∙ ap (λ t. is_boundary t ((k - i) - length s + j)) (take-append-drop j text)
+
+  -- what stands in the part
+  module _ (k : ℕ) (le : i ≤ k) where
+    abbrev there : ℕ
+    there = k - i
+
+    at_front : k ≡ length (take i text) + there
+    at_front = omega (arith, front)
+
+    parts : patched ≡ take i text ++ (s ++ drop j text)
+    parts = append_assoc (take i text) s (drop j text)
+
+    patched-take : there ≤ length s → take k patched ≡ take i text ++ take there s
+    patched-take within =
+        ap (λ n. take n patched) at_front ∙ ap (take (length (take i text) + there)) parts ∙ take-append-add (take i text) (s ++ drop j text) there
+        ∙ ap (λ l. take i text ++ l) (take-append-le there s (drop j text) within)
+
+    patched-drop : (n : ℕ) → there + n ≤ length s → drop (k + n) patched ≡ drop (there + n) s ++ drop j text
+    patched-drop n within =
+        let to : k + n ≡ length (take i text) + (there + n) = omega (arith, at_front) in
+        ap (λ m. drop m patched) to ∙ ap (drop (length (take i text) + (there + n))) parts ∙ drop-append-add (take i text) (s ++ drop j text) (there + n)
+        ∙ drop-append-le (there + n) s (drop j text) within
+
+    -- a text stands in the whole where it stands in the part
+    pub patched-stands : (t : List ℕ) → there + length t ≤ length s → stands_at s there t ≡ stands_at patched k t
+    unfolding stands_at
+    patched-stands t within =
+        let n = length t in
+        let first : is_boundary patched k ≡ is_boundary s there = patched-within k le (omega arith) in
+        let more : (k + n) - i ≡ there + n = omega arith in
+        let last : is_boundary patched (k + n) ≡ is_boundary s (there + n) = patched-within (k + n) (omega arith) (omega arith) ∙ ap (is_boundary s) more in
+        let wide : n ≤ length (drop there s) = omega (arith, length-drop there s) in
+        let none : k + 0 ≡ k = omega arith in
+        let no : there + 0 ≡ there = omega arith in
+        let rest : drop k patched ≡ drop there s ++ drop j text = subst (λ m. drop m patched ≡ drop there s ++ drop j text) none (subst (λ m. drop (k + 0) patched ≡ drop m s ++ drop j text) no (patched-drop 0 (omega arith))) in
+        let here : (k + n) - k ≡ n = omega arith in
+        let same : (there + n) - there ≡ n = omega arith in
+        let bytes : slice_range patched k (k + n) ≡ slice_range s there (there + n) =
+        ap (λ m. take m (drop k patched)) here ∙ ap (take n) rest ∙ take-append-le n (drop there s) (drop j text) wide ∙ ap (λ m. take m (drop there s)) (sym same) in
+        sym (rw (first, last, bytes) refl)
+
+    -- and gives way there as in the part
+    pub patched-swap : (n : ℕ) (t : List ℕ) → there + n ≤ length s → replace_range text i j (replace_range s there (there + n) t) ≡ replace_range patched k (k + n) t
+    patched-swap n t within =
+        let head = take i text in
+        let a = take there s in
+        let b = drop (there + n) s in
+        ap (λ l. l ++ drop j text) (sym (append_assoc head (a ++ t) b)) ∙ append_assoc (head ++ (a ++ t)) b (drop j text)
+        ∙ ap (λ l. l ++ (b ++ drop j text)) (sym (append_assoc head a t))
+        ∙ ap (λ l. (l ++ t) ++ (b ++ drop j text)) (sym (patched-take (omega arith)))
+        ∙ ap (λ l. (take k patched ++ t) ++ l) (sym (patched-drop n within))
+
+-- how long it is at most
+pub length-replaced : (text : List ℕ) (i j : ℕ) (s : List ℕ) → i ≤ j → length (replace_range text i j s) ≤ length text + length s
+length-replaced text i j s le =
+    omega (arith, length-append (take i text ++ s) (drop j text), length-append (take i text) s, length-take i text, length-drop j text)
+
+-- more of the text in the part leaves the whole
+pub widened-down : (text : List ℕ) (a i j : ℕ) (s : List ℕ) → a ≤ i → replace_range text a j (slice_range text a i ++ s) ≡ replace_range text i j s
+widened-down text a i j s le =
+    let to : a + (i - a) ≡ i = omega arith in
+    ap (λ l. l ++ drop j text) (sym (append_assoc (take a text) (slice_range text a i) s) ∙ ap (λ l. l ++ s) (sym (take-add a (i - a) text) ∙ ap (λ n. take n text) to))
+
+pub widened-up : (text : List ℕ) (i j k : ℕ) (s : List ℕ) → j ≤ k → replace_range text i k (s ++ slice_range text j k) ≡ replace_range text i j s
+widened-up text i j k s le =
+    ap (λ l. l ++ drop k text) (sym (append_assoc (take i text) s (slice_range text j k))) ∙ append_assoc (take i text ++ s) (slice_range text j k) (drop k text)
+    ∙ ap (λ l. (take i text ++ s) ++ l) (sym (drop_split text j k le))
 
 -- past what a text can be long, none begins
 pub boundary-beyond : (text : List ℕ) (k : ℕ) → length text < k → is_boundary text k ≡ false

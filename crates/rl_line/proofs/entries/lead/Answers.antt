@@ -6,7 +6,7 @@ use Rattle.rl_line.specs.Change.{entries_to_undo, entry_to_undo, text_after, tex
 use Rattle.rl_line.specs.Record.{inverse}
 use Rattle.rl_line.specs.Undo.{line_back}
 use Rattle.rl_line.proofs.Records.LeadLemmas.{lone}
-use Rattle.rl_line.proofs.Records.MoveLemmas.{marks-lead, some-map}
+use Rattle.rl_line.proofs.Records.MoveLemmas.{marks-lead}
 use Rattle.rl_line.proofs.Records.UndoLemmas.{line_back-is_some}
 use Rattle.rl_line.proofs.entries.lead.Goals as goal
 
@@ -14,7 +14,7 @@ pub returns-clause-ok : goal.returns-clause-ok
 returns-clause-ok c =
     let line = c.args.line.now in
     let es = entries_to_undo c.args.way c.args.entries.now in
-    c.is_some.ensures ∙ some-map c.in_ok-text.text ∙ ap is_some (c.in_ok-text.ensures.ok ∙ ap (text_back true es) c.as_str-2.ensures)
+    c.is_some.ensures ∙ ap is_some (c.in_ok-text.ensures.ok ∙ ap (text_back true es) c.as_str-2.ensures)
     ∙ line_back-is_some es line c.pos-cursor.ensures.utf8 (subst (IsCharBoundary line.text) c.pos-cursor.ensures.place c.pos-cursor.ensures.boundary)
 
 pub returns-then-entries-eq1-clause-ok : goal.returns-then-entries-eq1-clause-ok

@@ -2,10 +2,9 @@ use Rattle.std.proofs.Common.{sym, ◌∙◌}
 use Rattle.rl_line.specs.Change.{entry_to_undo}
 use Rattle.rl_line.specs.Record.{inverse}
 use Rattle.rl_line.proofs.Records.ChangeLemmas.{cursor_stands-told}
-use Rattle.rl_line.proofs.Records.PatchLemmas.{is_boundary-tested}
 use Rattle.rl_line.proofs.change.Change.stands.Goals as goal
 
 pub returns-in-Some : goal.returns-in-Some
 returns-in-Some c =
-    cursor_stands-told c.args.asks (inverse (entry_to_undo c.args.way c.args.self.now)) c.args.text.now c.in-Some.cursor c.is_char_boundary.result c.if-not-asks.false
-    (sym c.cursor_over.ensures ∙ c.in-Some.is) (is_boundary-tested c.args.text.now c.in-Some.cursor c.is_char_boundary.result c.is_char_boundary.ensures.test)
+    cursor_stands-told c.args.asks (inverse (entry_to_undo c.args.way c.args.self.now)) c.args.text.now c.in-Some.cursor c.is_boundary.result c.if-not-asks.false
+    (sym c.cursor_over.ensures ∙ c.in-Some.is) c.is_boundary.ensures

@@ -1,7 +1,7 @@
 use Rattle.std.proofs.Common.{arith, ◌+◌, ◌-◌, ap, length, sym, ◌∙◌}
 use Rattle.rl_base.specs.Text.{is_boundary}
 use Rattle.rl_line.proofs.Records.PatchLemmas.{boundary-beyond, is_boundary-tested, patched-after, patched-before, patched-within}
-use Rattle.rl_line.proofs.change.is_boundary_with.Goals as goal
+use Rattle.rl_line.proofs.patched.is_boundary_with.Goals as goal
 
 pub returns-then-at-from : goal.returns-then-at-from
 returns-then-at-from c =

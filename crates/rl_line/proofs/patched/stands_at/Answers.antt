@@ -1,7 +1,7 @@
 use Rattle.std.proofs.Common.{arith, ◌≡◌, ◌+◌, ◌∙◌, ap, bytes_eq, length, refl, slice_range, subst, sym}
 use Rattle.std.specs.Str.{IsCharBoundary}
 use Rattle.rl_line.proofs.Records.ChangeLemmas.{stands_at-is, stands_at-not}
-use Rattle.rl_line.proofs.change.stands_at.Goals as goal
+use Rattle.rl_line.proofs.patched.stands_at.Goals as goal
 
 pub returns-in_default : goal.returns-in_default
 returns-in_default c = stands_at-not c.args.text.now c.args.at c.args.part.now (λ start end. omega (arith, end.0))
