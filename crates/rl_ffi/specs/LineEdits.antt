@@ -60,6 +60,7 @@ inserts c n = of_named (char_of c) (λ x. of_named (count_of n) (λ k. edits roo
 unfoldable pub pastes : List ℕ → ℕ → Effect HeldLine
 pastes text n = of_named (count_of n) (λ k. of_text text (edits room_by_step (λ line. yank_plan line text k) (inserted (room_for text))))
 
+-- the clusters at the cursor change places
 unfoldable pub swaps_chars : Effect HeldLine
 swaps_chars = edits a_copy transpose_chars_plan truth
 

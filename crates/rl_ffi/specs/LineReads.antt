@@ -21,7 +21,7 @@ abbrev pub LeadsTo : CMovement → ℕ → ℕ → Telling Line ℕ
 LeadsTo movement mode prompt = told_named (movement_of movement) (λ m. told_named (mode_of mode) (λ (columns : GraphemeClusterMode) (line : Line).
     Writes (destination (prompted_at columns prompt) line m)))
 
--- whether reports are kept from now on
+-- whether reports are made from now on
 abbrev pub sets_reports : Bool → Effect HeldLine
 sets_reports on = becomes (λ held. record held { to = record held.to { reports = on } })
 

@@ -26,9 +26,9 @@ fresh_listeners = record {
   heard = nothing_heard;
   reports = true;
   changes = record { recorded = []; pending = []; fresh = Stale };
-  records = false;
+  tells_record = false;
   ring = new_ring 0;
-  rings = false;
+  tells_ring = false;
 }
 
 -- the reports, where they are made
@@ -37,11 +37,11 @@ reported change t = record t { heard = if t.reports then change t.heard else t.h
 
 -- the ring, where it is told
 abbrev pub ringed : Event → Listeners → Listeners
-ringed event t = record t { ring = if t.rings then ring_step t.ring event else t.ring }
+ringed event t = record t { ring = if t.tells_ring then ring_step t.ring event else t.ring }
 
 -- the ring and the record, where they are told
 abbrev pub kept : Event → Listeners → Listeners
-kept event t = record (ringed event t) { changes = if t.records then record_step t.changes event else t.changes }
+kept event t = record (ringed event t) { changes = if t.tells_record then record_step t.changes event else t.changes }
 
 -- each hears every event by its own step
 abbrev pub listeners_step : Listeners → Event → Listeners
@@ -49,7 +49,7 @@ listeners_step t event = reported (λ h. heard_step h event) (kept event t)
 
 -- the record or the ring keeps a text of an event
 abbrev pub KeptBy : Listeners → Event → Type 0
-KeptBy t event = ((t.records ≡ true) × IsRecorded event) ⊎ ((t.rings ≡ true) × KeepsText t.ring event)
+KeptBy t event = ((t.tells_record ≡ true) × IsRecorded event) ⊎ ((t.tells_ring ≡ true) × KeepsText t.ring event)
 
 -- an event is refused where memory is out for what is kept of it, and all is as it was, or only the ring heard it
 abbrev pub listeners_refused : Listeners → Event → Refusal → Listeners → Type 0
@@ -76,7 +76,7 @@ with_ring _ old = old
 -- the record and the ring of two handles change places with those of a line, which tells them then
 abbrev pub exchanged : Option Held × Option Held → Listeners → Listeners
 exchanged with t =
-    record t { changes = record_in with.0 t.changes; records = is_some (record_of with.0); ring = ring_in with.1 t.ring; rings = is_some (ring_of with.1) }
+    record t { changes = record_in with.0 t.changes; tells_record = is_some (record_of with.0); ring = ring_in with.1 t.ring; tells_ring = is_some (ring_of with.1) }
 
 -- the handles after that
 abbrev pub handles_exchanged : Listeners → Option Held × Option Held → Option Held × Option Held

@@ -26,7 +26,7 @@ abbrev pub OpensSession : COptions → List ℕ → Effect (Option Held)
 OpensSession o text =
     of_named (mode_of o.mode) (λ mode. of_text text (Opens (holds.Session (chosen mode o (fresh text (length text) o.limit o.ring_size mode)))))
 
--- a line of a text, with the cursor at its end, which keeps reports, of which none waits
+-- a line of a text, with the cursor at its end, which makes reports, of which none waits
 abbrev pub fresh_line : List ℕ → ℕ → Bool → HeldLine
 fresh_line text limit can_grow =
     record { line = record { text = text; cursor = length text; limit = max limit (length text); grow = can_grow }; to = fresh_listeners }

@@ -36,7 +36,7 @@ abbrev pub AsksBoth : (Record → HeldLine → Answer → Type 0) → Option Hel
 AsksBoth Asks old line n =
     MatchOption (record_of old) (n ≡ number Closed) (λ r. MatchOption (line_of line) (n ≡ number Closed) (λ held. (answer : Answer) × Asks r held answer × (n ≡ number answer)))
 
--- the steps are reported, where reports are kept
+-- the steps are reported, where reports are made
 abbrev pub HearsOf : List Step → HeldLine → HeldLine → Type 0
 HearsOf steps old new = new.to ≡ reported (listener_after heard_step old.line.cursor steps) old.to
 

@@ -1,4 +1,4 @@
-//! The calls that change a line by itself. What each edit did is told by its reports.
+//! The calls that change a line by itself. Each edit tells the line's listeners what it did.
 ghost use Rattle.std.specs.Prelude.{◌≡◌, false, true, IfErr, OnOk};
 ghost use Rattle.rl_base.specs.declared.motion.Movement.{Movement};
 ghost use Rattle.rl_line.specs.LineRanges.{IsRange};
@@ -370,6 +370,7 @@ pub extern "C" fn lodvarn_line_kill(
     told!(l, to, alloc, held => kill(held, movement))
 }
 
+// Kills what stands in a range of the text.
 #[tactic(auto, unfolding(crate::specs::LineEdits::kills))]
 fn kill_in(held: &mut HeldLine, range: CRange, side: Direction) -> Outcome
     requires { IsRange held.old.line.text range.from range.to }

@@ -19,16 +19,16 @@ use std::mem::swap;
 pub struct Listeners {
     /// Keeps the reports.
     pub heard: Heard,
-    /// Whether reports are kept.
+    /// Whether reports are made.
     pub reports: bool,
     /// Hears of every change, where it is told.
     pub changes: Changeset,
     /// Whether the record is told.
-    pub records: bool,
+    pub tells_record: bool,
     /// Hears of deletions, and of where a kill starts and ends, where it is told.
     pub ring: KillRing,
     /// Whether the ring is told.
-    pub rings: bool,
+    pub tells_ring: bool,
 }
 
 impl Listeners {
@@ -40,9 +40,9 @@ impl Listeners {
             heard: Heard::new(alloc),
             reports: true,
             changes: Changeset::new(alloc),
-            records: false,
+            tells_record: false,
             ring: KillRing::new(alloc, 0),
-            rings: false,
+            tells_ring: false,
         }
     }
 
@@ -51,10 +51,10 @@ impl Listeners {
         ensures done { OnOk result (self.new ≡ kept (Delete idx string.now dir) self.old) }
         ensures err { IfErr result (λ why. (why ≡ NoMemory) × KeptBy self.old (Delete idx string.now dir) × ((self.new ≡ self.old) ⊎ (self.new ≡ ringed (Delete idx string.now dir) self.old))) }
     {
-        if self.rings {
+        if self.tells_ring {
             self.ring.delete(idx, string, dir)?;
         }
-        if self.records {
+        if self.tells_record {
             DeleteListener::delete(&mut self.changes, idx, string, dir)?;
         }
         Ok(())
@@ -82,10 +82,10 @@ impl DeleteListener for Listeners {
     ghost refused = { listeners_refused };
 
     fn start_killing(&mut self) {
-        if self.rings {
+        if self.tells_ring {
             self.ring.start_killing();
         }
-        if self.records {
+        if self.tells_record {
             self.changes.start_killing();
         }
         if self.reports {
@@ -103,10 +103,10 @@ impl DeleteListener for Listeners {
     }
 
     fn stop_killing(&mut self) {
-        if self.rings {
+        if self.tells_ring {
             self.ring.stop_killing();
         }
-        if self.records {
+        if self.tells_record {
             self.changes.stop_killing();
         }
         if self.reports {
@@ -116,7 +116,7 @@ impl DeleteListener for Listeners {
 
     #[inline(always)]
     fn cursors(&mut self, before: usize, after: usize) {
-        if self.records {
+        if self.tells_record {
             self.changes.cursors(before, after);
         }
         if self.reports {
@@ -132,7 +132,7 @@ impl ChangeListener for Listeners {
         if self.reports {
             self.heard.insert_char(idx, c)?;
         }
-        let told = if self.records {
+        let told = if self.tells_record {
             self.changes.insert_char(idx, c)
         } else {
             Ok(())
@@ -145,7 +145,7 @@ impl ChangeListener for Listeners {
         if self.reports {
             self.heard.insert_str(idx, string)?;
         }
-        let told = if self.records {
+        let told = if self.tells_record {
             ChangeListener::insert_str(&mut self.changes, idx, string)
         } else {
             Ok(())
@@ -158,7 +158,7 @@ impl ChangeListener for Listeners {
         if self.reports {
             self.heard.replace(idx, old, new)?;
         }
-        let told = if self.records {
+        let told = if self.tells_record {
             ChangeListener::replace(&mut self.changes, idx, old, new)
         } else {
             Ok(())
@@ -181,11 +181,11 @@ pub(crate) fn exchange(alloc: Global, to: &mut Listeners, r: &mut Handle, g: &mu
     ensures listeners { to.new ≡ exchanged (r.old.value, g.old.value) to.old }
     ensures handles { (r.new.value, g.new.value) ≡ handles_exchanged to.old (r.old.value, g.old.value) }
 {
-    to.records = of!(r, alloc, Held::Record(changes) => {
+    to.tells_record = of!(r, alloc, Held::Record(changes) => {
         swap(&mut to.changes, changes);
         true
     }, false);
-    to.rings = of!(g, alloc, Held::Ring(ring) => {
+    to.tells_ring = of!(g, alloc, Held::Ring(ring) => {
         swap(&mut to.ring, ring);
         true
     }, false);
