@@ -2,7 +2,7 @@
 use Rattle.std.specs.Prelude.{◌≡◌, ◌⊎◌, ℕ, ℤ, Bool, true, List, Option, Some, Result, Ok, Err, IsSome, MatchOption, is_some}
 use Rattle.rl_line.specs.Plan.{Step, listener_after}
 use Rattle.rl_line.specs.Record.{Record, replays_to}
-use Rattle.rl_line.specs.Undo.{CopiesAhead, CopiesBack, Redone, Undone, line_ahead, line_back, steps_ahead, steps_back}
+use Rattle.rl_line.specs.Undo.{CopiesBack, Redone, TriesAhead, TriesBack, Undone, line_ahead, line_back, steps_ahead, steps_back}
 use Rattle.rl_line.specs.Units.{has_change, last_of, redo_of}
 use Rattle.rl_ffi.specs.Answers.{number, truth}
 use Rattle.rl_ffi.specs.Heard.{heard_step}
@@ -21,11 +21,11 @@ Asked answer Copies n = (n ≡ truth answer) ⊎ ((n ≡ NoMemory) × Copies)
 
 -- whether the line can go back over all that is recorded
 abbrev pub AsksBack : Record → HeldLine → Answer → Type 0
-AsksBack r held n = Asked (is_some (line_back r.recorded held.line)) (CopiesBack r.recorded held.line.text) n
+AsksBack r held n = Asked (is_some (line_back r.recorded held.line)) (TriesBack r.recorded held.line.text) n
 
 -- whether it can go ahead over all that was undone
 abbrev pub AsksAhead : Record → HeldLine → Answer → Type 0
-AsksAhead r held n = Asked (is_some (line_ahead r.pending held.line)) (CopiesAhead r.pending held.line.text) n
+AsksAhead r held n = Asked (is_some (line_ahead r.pending held.line)) (TriesAhead r.pending held.line.text) n
 
 -- whether so many entries lead to its text as all do
 abbrev pub AsksFirst : ℕ → Record → HeldLine → Answer → Type 0

@@ -52,13 +52,17 @@ steps_ahead cursor (Changed kind swap ∷ es) =
 abbrev pub steps_back : ℕ → List Entry → List Step
 steps_back cursor es = steps_ahead cursor (map inverse (reverse es))
 
--- whether a text can go back over entries, or ahead, is tried on a copy of a part of it. That takes memory only where there is a
--- change, and the text, or one on the way, is not empty
+-- where entries are taken back in a copy of a text, that takes memory only where there is a change, and the text, or one on the
+-- way, is not empty
 abbrev pub CopiesBack : List Entry → List ℕ → Type 0
 CopiesBack es text = (has_change es ≡ true) × (0 < length text + bytes_back es)
 
-abbrev pub CopiesAhead : List Entry → List ℕ → Type 0
-CopiesAhead es text = (has_change es ≡ true) × (0 < length text + bytes_ahead es)
+-- whether a text can go back over entries, or ahead, is tried on a copy of a part of it, where they are several
+abbrev pub TriesBack : List Entry → List ℕ → Type 0
+TriesBack es text = (1 < length es) × CopiesBack es text
+
+abbrev pub TriesAhead : List Entry → List ℕ → Type 0
+TriesAhead es text = (1 < length es) × ((has_change es ≡ true) × (0 < length text + bytes_ahead es))
 
 -- the texts after each of these events, from the text before, as far as they fit
 abbrev pub texts_after : List Event → List ℕ → List (List ℕ)

@@ -458,7 +458,7 @@ pub(crate) fn lead(
     way: Way,
 ) -> Result<bool, Refusal>
     ensures ok { IfOk result (λ answer. answer ≡ is_some (line_back (entries_to_undo way entries.now) line.now)) }
-    ensures err { IfErr result (λ r. (r ≡ NoMemory) × ((has_change (map entry_of entries.now) ≡ true) × (0 < length line.now.text + bytes_back (entries_to_undo way entries.now)))) }
+    ensures err { IfErr result (λ r. (r ≡ NoMemory) × ((1 < length entries.now) × ((has_change (map entry_of entries.now) ≡ true) × (0 < length line.now.text + bytes_back (entries_to_undo way entries.now))))) }
 {
     // So the proof knows that the cursor stands between two characters.
     let _cursor = line.pos();

@@ -12,7 +12,7 @@ ghost use Rattle.rl_line.specs.Forgetting.{fits, forgotten, gone_within, kept_wi
 ghost use Rattle.rl_line.specs.Line.{Line, NeedsRoom};
 ghost use Rattle.rl_line.specs.Plan.{NeverRefuses, after, listener_after};
 ghost use Rattle.rl_line.specs.Record.{Begin, Entry, End, IsOfKind, Record, last_insert, record_step, replay_entries, replays_to, unwind};
-ghost use Rattle.rl_line.specs.Undo.{CopiesAhead, CopiesBack, Redone, Redos, StandAfter, StandBefore, Undone, line_ahead, line_back, steps_ahead, steps_back, texts_ahead, texts_back};
+ghost use Rattle.rl_line.specs.Undo.{CopiesBack, Redone, Redos, StandAfter, StandBefore, TriesAhead, TriesBack, Undone, line_ahead, line_back, steps_ahead, steps_back, texts_ahead, texts_back};
 ghost use Rattle.rl_line.specs.Units.{BothMatched, GroupAt, InGroup, IsMatched, adds_end, after_in_group, begun, ended, ended_one, has_change, in_group, kept_of, last_of, last_units, level, opens, redo_of, truncated, with_closed};
 
 mod foretelling;
@@ -391,7 +391,7 @@ impl Changeset {
     pub fn can_undo(&self, line: &LineBuffer) -> Result<bool, Refusal>
         ensures ok { IfOk result (λ answer. answer ≡ is_some (line_back self.now.recorded line.now)) }
         ensures units { IfOk result (λ answer. answer ≡ true → (n : ℕ) → IsSome (line_back (last_of n self.now.recorded) line.now)) }
-        ensures err { IfErr result (λ r. (r ≡ NoMemory) × CopiesBack self.now.recorded line.now.text) }
+        ensures err { IfErr result (λ r. (r ≡ NoMemory) × TriesBack self.now.recorded line.now.text) }
     {
         let alloc = *self.entries.allocator();
         entries::lead(alloc, line, &self.entries[..self.recorded], Way::Back)
@@ -402,7 +402,7 @@ impl Changeset {
     /// part between the places that they touch.
     pub fn can_undo_last(&self, line: &LineBuffer, n: RepeatCount) -> Result<bool, Refusal>
         ensures ok { IfOk result (λ answer. answer ≡ is_some (line_back (last_of n self.now.recorded) line.now)) }
-        ensures err { IfErr result (λ r. (r ≡ NoMemory) × CopiesBack (last_of n self.now.recorded) line.now.text) }
+        ensures err { IfErr result (λ r. (r ≡ NoMemory) × TriesBack (last_of n self.now.recorded) line.now.text) }
     {
         let taken = entries::last_len(&self.entries[..self.recorded], n);
         let first = self.recorded - taken;
@@ -415,7 +415,7 @@ impl Changeset {
     pub fn can_redo(&self, line: &LineBuffer) -> Result<bool, Refusal>
         ensures ok { IfOk result (λ answer. answer ≡ is_some (line_ahead self.now.pending line.now)) }
         ensures unit { IfOk result (λ answer. answer ≡ true → IsSome (line_ahead (redo_of self.now.pending) line.now)) }
-        ensures err { IfErr result (λ r. (r ≡ NoMemory) × CopiesAhead self.now.pending line.now.text) }
+        ensures err { IfErr result (λ r. (r ≡ NoMemory) × TriesAhead self.now.pending line.now.text) }
     {
         let alloc = *self.entries.allocator();
         entries::lead(alloc, line, &self.entries[self.recorded..], Way::Ahead)
@@ -425,7 +425,7 @@ impl Changeset {
     /// of that unit, as `can_undo_last` does.
     pub fn can_redo_next(&self, line: &LineBuffer) -> Result<bool, Refusal>
         ensures ok { IfOk result (λ answer. answer ≡ is_some (line_ahead (redo_of self.now.pending) line.now)) }
-        ensures err { IfErr result (λ r. (r ≡ NoMemory) × CopiesAhead (redo_of self.now.pending) line.now.text) }
+        ensures err { IfErr result (λ r. (r ≡ NoMemory) × TriesAhead (redo_of self.now.pending) line.now.text) }
     {
         let coming = entries::next_len(&self.entries[self.recorded..]);
         let end = self.recorded + coming;

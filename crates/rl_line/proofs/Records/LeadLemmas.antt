@@ -1,5 +1,6 @@
 -- What a question about a record answers, once it was found on a copy of the text whether a line can go over the entries.
-use Rattle.std.proofs.Common.{◌≡◌, ℕ, ◌+◌, ◌<◌, Bool, true, List, [], ◌∷◌, get_or, length, map, sym, ap, subst, ◌∙◌}
+use Rattle.std.proofs.Common.{◌≡◌, ℕ, ◌+◌, ◌<◌, Bool, true, List, [], ◌∷◌, get_or, length, map, refl, sym, ap, subst, arith, ◌∙◌}
+use Rattle.std.proofs.lemmas.List.{length-map}
 use Rattle.std.specs.Prelude.{IfErr, IfOk, IsSome, Result, Ok, Err, is_some}
 use Rattle.rl_base.specs.declared.listeners.Refusal.{Refusal}
 use Rattle.rl_base.specs.declared.listeners.Refusal.TheVariants.{NoMemory}
@@ -9,7 +10,7 @@ use Rattle.rl_line.specs.declared.change.Way.TheVariants.{Ahead, Back}
 use Rattle.rl_line.specs.Change.{entries_to_undo, entry_to_undo}
 use Rattle.rl_line.specs.Line.{Line}
 use Rattle.rl_line.specs.Record.{Entry, bytes_ahead, bytes_back, entry_of}
-use Rattle.rl_line.specs.Undo.{CopiesAhead, CopiesBack, line_ahead, line_back}
+use Rattle.rl_line.specs.Undo.{TriesAhead, TriesBack, line_ahead, line_back}
 use Rattle.rl_line.specs.Units.{has_change, last_of, redo_of}
 use Rattle.rl_line.proofs.Records.ChangeLemmas.{ahead-inverse}
 use Rattle.rl_line.proofs.Records.MoveLemmas.{ahead-line, redo-fits, undo-fits}
@@ -27,21 +28,30 @@ pub lead-back : (result : Result Bool Refusal) (xs : List Change) (es : List Ent
 lead-back result xs es line e h = subst (λ l. IfOk result (λ a. a ≡ is_some (line_back l line))) e h
 
 pub copies-back : (result : Result Bool Refusal) (xs : List Change) (es : List Entry) (text : List ℕ) → map entry_of xs ≡ es
-    → IfErr result (λ r. (r ≡ NoMemory) × ((has_change (map entry_of xs) ≡ true) × (0 < length text + bytes_back (entries_to_undo Back xs))))
-    → IfErr result (λ r. (r ≡ NoMemory) × CopiesBack es text)
-copies-back result xs es text e h = subst (λ l. IfErr result (λ r. (r ≡ NoMemory) × CopiesBack l text)) e h
+    → IfErr result (λ r. (r ≡ NoMemory) × ((1 < length xs) × ((has_change (map entry_of xs) ≡ true) × (0 < length text + bytes_back (entries_to_undo Back xs)))))
+    → IfErr result (λ r. (r ≡ NoMemory) × TriesBack es text)
+copies-back result xs es text e h =
+    subst (λ l. IfErr result (λ r. (r ≡ NoMemory) × TriesBack l text)) e
+    (subst (λ n. IfErr result (λ r. (r ≡ NoMemory) × ((1 < n) × ((has_change (map entry_of xs) ≡ true) × (0 < length text + bytes_back (map entry_of xs)))))) (sym (length-map xs entry_of)) h)
 
 pub lead-ahead : (result : Result Bool Refusal) (xs : List Change) (es : List Entry) (line : Line) → map entry_of xs ≡ es
     → IfOk result (λ a. a ≡ is_some (line_back (entries_to_undo Ahead xs) line)) → IfOk result (λ a. a ≡ is_some (line_ahead es line))
 lead-ahead result xs es line e h = subst (λ o. IfOk result (λ a. a ≡ is_some o)) (ahead-line xs es line e) h
 
 pub copies-ahead : (result : Result Bool Refusal) (xs : List Change) (es : List Entry) (text : List ℕ) → map entry_of xs ≡ es
-    → IfErr result (λ r. (r ≡ NoMemory) × ((has_change (map entry_of xs) ≡ true) × (0 < length text + bytes_back (entries_to_undo Ahead xs))))
-    → IfErr result (λ r. (r ≡ NoMemory) × CopiesAhead es text)
+    → IfErr result (λ r. (r ≡ NoMemory) × ((1 < length xs) × ((has_change (map entry_of xs) ≡ true) × (0 < length text + bytes_back (entries_to_undo Ahead xs)))))
+    → IfErr result (λ r. (r ≡ NoMemory) × TriesAhead es text)
 copies-ahead result xs es text e h =
     let bytes : bytes_back (entries_to_undo Ahead xs) ≡ bytes_ahead es = ap bytes_back (ahead-inverse xs) ∙ bytes_ahead-back (map entry_of xs) ∙ ap bytes_ahead e in
-    subst (λ n. IfErr result (λ r. (r ≡ NoMemory) × ((has_change es ≡ true) × (0 < length text + n)))) bytes
-    (subst (λ l. IfErr result (λ r. (r ≡ NoMemory) × ((has_change l ≡ true) × (0 < length text + bytes_back (entries_to_undo Ahead xs))))) e h)
+    subst (λ n. IfErr result (λ r. (r ≡ NoMemory) × ((1 < length es) × ((has_change es ≡ true) × (0 < length text + n))))) bytes
+    (subst (λ l. IfErr result (λ r. (r ≡ NoMemory) × ((1 < length l) × ((has_change l ≡ true) × (0 < length text + bytes_back (entries_to_undo Ahead xs)))))) e
+    (subst (λ n. IfErr result (λ r. (r ≡ NoMemory) × ((1 < n) × ((has_change (map entry_of xs) ≡ true) × (0 < length text + bytes_back (entries_to_undo Ahead xs)))))) (sym (length-map xs entry_of)) h))
+
+-- entries with a change, which are not one, are several
+pub several : (xs : List Change) → has_change (map entry_of xs) ≡ true → ¬ (length xs ≡ 1) → 1 < length xs
+several [] h alone = cc
+several (x ∷ []) h alone = absurd (alone refl)
+several (x ∷ y ∷ xs) h alone = omega arith
 
 -- a line that can go over all can go over the units that are next
 pub all-units : (result : Result Bool Refusal) (es : List Entry) (line : Line) → IfOk result (λ a. a ≡ is_some (line_back es line))

@@ -5,7 +5,7 @@ use Rattle.std.specs.Str.{IsCharBoundary}
 use Rattle.rl_line.specs.Change.{entries_to_undo, entry_to_undo, text_after, text_back}
 use Rattle.rl_line.specs.Record.{inverse}
 use Rattle.rl_line.specs.Undo.{line_back}
-use Rattle.rl_line.proofs.Records.LeadLemmas.{lone}
+use Rattle.rl_line.proofs.Records.LeadLemmas.{lone, several}
 use Rattle.rl_line.proofs.Records.MoveLemmas.{marks-lead}
 use Rattle.rl_line.proofs.Records.UndoLemmas.{line_back-is_some}
 use Rattle.rl_line.proofs.entries.lead.Goals as goal
@@ -34,4 +34,5 @@ pub returns-in_err-text-clause-err : goal.returns-in_err-text-clause-err
 returns-in_err-text-clause-err c =
     let p = err_from_is_err_and c.from_residual.result c.from_residual.ensures.1 in
     let e = c.in_err-text.ensures.err in
-    rw (p.1, p.2) (e.0, (sym c.has_change.ensures ∙ c.if-not-has_change.false, omega (arith, e.1, ap length c.as_str-2.ensures)))
+    let some = sym c.has_change.ensures ∙ c.if-not-has_change.false in
+    rw (p.1, p.2) (e.0, (several c.args.entries.now some c.if-entries-eq1.false, (some, omega (arith, e.1, ap length c.as_str-2.ensures))))
