@@ -4,7 +4,6 @@ ghost use Rattle.std.specs.Option.{option_map};
 ghost use Rattle.std.specs.String.{string_bytes, string_len, string_capacity};
 ghost use Rattle.std.specs.Str.{IsCharBoundary, IsUtf8};
 ghost use Rattle.rl_base.specs.Event.{InsertChar, Delete, Replace, apply};
-ghost use Rattle.rl_base.specs.Text.{is_boundary, stands_at};
 ghost use Rattle.rl_base.specs.declared.listeners.Direction.TheVariants.{Forward};
 ghost use Rattle.rl_base.specs.declared.listeners.Refusal.TheVariants.{NoMemory};
 ghost use Rattle.rl_line.specs.Plan.{NeverRefuses, listener_after};
@@ -14,8 +13,6 @@ ghost use Rattle.rl_line.specs.Units.{is_begin, is_change};
 ghost use Rattle.rl_line.specs.Change.{TakesIn, text_after, text_back, place, entry_to_undo, greatest_back_over, order, size_back, size_of, entries_to_undo};
 ghost use Rattle.rl_line.specs.declared.change.Measure.TheVariants.{Bytes, Newlines};
 ghost use Rattle.rl_line.specs.LineStarts.{IsTable};
-ghost use Rattle.rl_line.specs.LineRanges.{IsRange};
-ghost use Rattle.std.specs.List.{replace_range};
 
 use crate::line_starts::{LineStarts, newlines};
 use crate::patched::{Patched, is_boundary_with, stands_at};
