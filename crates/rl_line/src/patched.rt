@@ -56,7 +56,7 @@ impl<'t> Patched<'t> {
         is_boundary_with(self.text, self.from, self.to, self.part.as_str(), at)
     }
 
-    // Where nothing gave way yet, the part may be anywhere.
+    // If nothing gave way yet, the part may be anywhere: it begins here, so that nothing before is copied.
     fn begin_at(&mut self, at: usize)
         requires { IsCharBoundary self.old at }
         ensures { self.new ≡ self.old }
