@@ -1,6 +1,6 @@
 //! What sessions tell of their changes, with answers that were worked out by hand, and a listener that mirrors a random
 //! session.
-use heard::{panic_of, Fails, Heard};
+use heard::{panic_of, Heard};
 use lodvarn::{ChangeListener, Fault, Movement, Session, Splice, Untold, Word};
 use random::{command, Random};
 
@@ -15,8 +15,7 @@ fn watched(text: &str, reports: usize, text_bytes: usize) -> (Session, Heard) {
     let session = Session::builder().text(text).limit(256).open();
     let mut session = session.expect("a session opens");
     assert_eq!(session.watch(reports, text_bytes), Ok(()));
-    let (told, copy) = (vec![], text.to_string());
-    (session, Heard { told, copy })
+    (session, Heard::of(text))
 }
 
 fn splice(from: usize, old_to: usize, new_to: usize) -> Splice {
@@ -143,10 +142,11 @@ fn a_listener_is_told_nothing_of_what_is_folded() -> Result<(), Fault> {
 
 #[test]
 fn what_a_listener_did_not_bear_waits() -> Result<(), Fault> {
-    let (mut s, _) = watched("ab", 10, 100);
+    let (mut s, mut heard) = watched("ab", 10, 100);
     s.insert('c', 1)?;
     s.backspace(2)?;
-    panic_of(|| s.tell(&mut Fails(1)));
+    heard.left = 1;
+    panic_of(|| s.tell(&mut heard));
     reports(&mut s, &["DeletedBackward 1 ('bc', '') (2, 0) (3, 1)"]);
     Ok(())
 }

@@ -1,6 +1,6 @@
 //! The interface of rustyline's own files, with answers that were worked out by hand, and a line beside its listeners
 //! over edits at random.
-use heard::{line_of, panic_of, shown, Fails, Heard};
+use heard::{line_of, panic_of, shown, Heard};
 use lodvarn::keymap::{At, CharSearch, Movement, Word};
 use lodvarn::kill_ring::{KillRing, Mode};
 use lodvarn::layout::{cwidh, GraphemeClusterMode, Layout, Position};
@@ -25,8 +25,7 @@ type Row<'t> = (&'t str, Edit, &'t str, &'t str, &'t [&'t str]);
 fn edits(rows: &[Row]) {
     for (before, edit, answer, after, told) in rows {
         let mut line = line_of(before);
-        let copy = line.as_str().to_owned();
-        let mut heard = Heard { copy, told: vec![] };
+        let mut heard = Heard::of(&line);
         let answered = edit(&mut line, &mut heard);
         assert_eq!(answered, *answer, "{before} {after}");
         assert_eq!(shown(&line), *after);
@@ -326,8 +325,7 @@ fn a_reset_parts_kills() {
 #[test]
 fn places_that_are_none_panic() {
     let mut line = line_of("aé|b");
-    let mut heard = Heard::default();
-    let h = &mut heard;
+    let h = &mut Heard::of(&line);
     #[allow(clippy::reversed_empty_ranges)]
     let reversed = 3..1;
     macro_rules! panics {
@@ -355,29 +353,30 @@ fn places_that_are_none_panic() {
     assert_eq!(line.try_insert_str(2, "x", h), Err(Fault::BadPlace));
     assert_eq!(line.try_update("é", 1, h), Err(Fault::BadPlace));
     assert_eq!(line.try_yank_pop(1, "x", h), Err(Fault::BadYankSize));
-    assert_eq!((shown(&line).as_str(), heard.told.len()), ("aé|b", 0));
+    assert_eq!((shown(&line).as_str(), h.told.len()), ("aé|b", 0));
 }
 
 #[test]
 fn a_listener_that_panics_leaves_the_whole_edit() {
-    for heard in 0..4 {
+    let h = &mut Heard::of("one two");
+    for left in 0..4 {
         let mut line = line_of("one two|");
-        let said = panic_of(|| line.transpose_words(1, &mut Fails(heard)));
+        (h.left, h.copy) = (left, "one two".into());
+        let said = panic_of(|| line.transpose_words(1, h));
         assert_eq!(said, "it hears no more");
         assert_eq!(shown(&line), "two one|");
         line.backspace(1, &mut NoListener);
         assert_eq!(shown(&line), "two on|");
     }
     let mut line = line_of("|");
-    panic_of(|| line.insert('x', 1, &mut Fails(0)));
+    panic_of(|| line.insert('x', 1, h));
     assert_eq!(shown(&line), "x|");
 }
 
 #[test]
 fn long_texts_are_told() {
     let mut line = LineBuffer::with_capacity(10).can_growth(true);
-    let mut heard = Heard::default();
-    let text = "é".repeat(1000);
+    let (mut heard, text) = (Heard::of(""), "é".repeat(1000));
     line.yank(&text, 3, &mut heard);
     line.replace(2..2002, "--", &mut heard);
     line.insert_str(0, &text, &mut heard);
@@ -476,7 +475,7 @@ fn a_line_is_cloned_shown_and_given_away() {
 
 #[test]
 fn what_points_to_a_listener_is_one() {
-    let (mut line, mut heard) = (line_of("|"), Heard::default());
+    let (mut line, mut heard) = (line_of("|"), Heard::of(""));
     line.insert('a', 1, &mut &mut heard);
     let mut boxed: Box<dyn ChangeListener> = Box::new(heard);
     line.yank("b", 2, &mut boxed);
@@ -519,7 +518,7 @@ fn edit(line: &mut LineBuffer, random: &mut Random, l: &mut impl ChangeListener)
 fn listeners_follow_lines_at_random() {
     for seed in 0..20 {
         let (mut random, mut line) = (Random(seed), LineBuffer::with_capacity(200));
-        let (mut heard, mut changes) = (Heard::default(), Changeset::new());
+        let (mut heard, mut changes) = (Heard::of(""), Changeset::new());
         let mut seen = vec![String::new()];
         for _ in 0..200 {
             let mut both = random.clone();

@@ -7,6 +7,8 @@ use std::cell::Cell;
 use std::os::raw::c_void;
 use std::panic::{catch_unwind, AssertUnwindSafe};
 
+const WORD_BACK: Movement = Movement::BackwardWord(1, Word::Emacs);
+
 extern "C" {
     fn __libc_malloc(size: usize) -> *mut c_void;
     fn __libc_calloc(count: usize, size: usize) -> *mut c_void;
@@ -63,11 +65,8 @@ fn refuse<T, A>(
         REFUSED.with(|left| left.set(n));
         let answer = call(&mut one);
         let was_refused = REFUSED.with(|left| left.replace(0)) == 0;
-        assert_eq!(
-            answer.err(),
-            was_refused.then_some(Fault::NoMemory),
-            "{what}, request {n}"
-        );
+        let wanted = was_refused.then_some(Fault::NoMemory);
+        assert_eq!(answer.err(), wanted, "{what}, request {n}");
         if !was_refused {
             return n - 1;
         }
@@ -80,25 +79,18 @@ fn refuse<T, A>(
 /// The fault that a call panics with.
 fn fault_of<A>(call: impl FnOnce() -> A) -> Result<A, Fault> {
     catch_unwind(AssertUnwindSafe(call)).map_err(|said| {
-        assert_eq!(
-            said.downcast_ref::<String>().map(String::as_str),
-            Some("out of memory")
-        );
+        let said = said.downcast::<String>().expect("a text is said");
+        assert_eq!(*said, "out of memory");
         Fault::NoMemory
     })
 }
 
 fn session() -> Session {
     let text = "one two three ".repeat(20);
-    let mut session = Session::builder()
-        .text(&text)
-        .no_limit()
-        .open()
-        .expect("a session opens");
+    let session = Session::builder().text(&text).no_limit().open();
+    let mut session = session.expect("a session opens");
     session.keep(&"kept ".repeat(30)).expect("it is kept");
-    session
-        .kill(Movement::BackwardWord(1, Word::Emacs))
-        .expect("it is killed");
+    assert_eq!(session.kill(WORD_BACK), Ok(true));
     session
 }
 
@@ -158,7 +150,7 @@ fn line() -> (LineBuffer, Changeset, KillRing) {
     let mut line = LineBuffer::with_capacity(64).can_growth(true);
     let (mut changes, mut ring) = (Changeset::new(), KillRing::new(9));
     line.yank(&"one two three ".repeat(20), 1, &mut changes);
-    line.kill(&Movement::BackwardWord(1, Word::Emacs), &mut ring);
+    line.kill(&WORD_BACK, &mut ring);
     line.yank("two", 1, &mut NoListener);
     ring.yank();
     ring.kill(&"kept ".repeat(90), Mode::Append);
@@ -253,7 +245,7 @@ fn a_deletion_asks_only_for_what_goes() {
     line.yank(&"one two ".repeat(1 << 14), 1, &mut NoListener);
     LARGEST.with(|largest| largest.set(0));
     assert!(line.backspace(1, &mut NoListener));
-    assert!(line.kill(&Movement::BackwardWord(1, Word::Emacs), &mut NoListener));
+    assert!(line.kill(&WORD_BACK, &mut NoListener));
     let largest = LARGEST.with(Cell::get);
     assert!(largest < 4096, "{largest} bytes were asked for");
 }
