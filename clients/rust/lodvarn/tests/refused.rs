@@ -145,8 +145,10 @@ fn what_needs_no_session_says_that_memory_is_refused() {
     assert!(refuse("run_script", || (), run, |()| {}) > 2);
 }
 
+type All = (LineBuffer, Changeset, KillRing);
+
 /// A line of a long text, its record and its ring.
-fn line() -> (LineBuffer, Changeset, KillRing) {
+fn line() -> All {
     let mut line = LineBuffer::with_capacity(64).can_growth(true);
     let (mut changes, mut ring) = (Changeset::new(), KillRing::new(9));
     line.yank(&"one two three ".repeat(20), 1, &mut changes);
@@ -163,7 +165,7 @@ fn lines_say_that_memory_is_refused() {
     let whole = line().0.into_string();
     macro_rules! tried {
         ($($call:ident($($given:expr),*),)*) => {$({
-            let call = |it: &mut (LineBuffer, _, _)| it.0.$call($($given,)* &mut NoListener);
+            let call = |it: &mut All| it.0.$call($($given,)* &mut NoListener);
             refuse(stringify!($call), line, call, |it| assert_eq!(it.0.as_str(), whole));
         })*};
     }
@@ -178,27 +180,18 @@ fn lines_say_that_memory_is_refused() {
         try_delete_range(0..9),
         try_kill_range(0..9, Direction::Forward),
     ];
-    let of_two_steps = |it: &mut (LineBuffer, Changeset, KillRing)| {
-        assert!(it.0.is_char_boundary(it.0.pos()));
-    };
-    let update = |it: &mut (LineBuffer, _, _)| it.0.try_update(text, 3, &mut NoListener);
+    let of_two_steps = |it: &mut All| assert!(it.0.is_char_boundary(it.0.pos()));
+    let update = |it: &mut All| it.0.try_update(text, 3, &mut NoListener);
     assert!(refuse("try_update", line, update, of_two_steps) > 0);
-    let panics = |it: &mut (LineBuffer, _, _)| {
-        fault_of(|| it.0.edit_word(WordAction::Uppercase, &mut NoListener))
-    };
-    refuse("edit_word", line, panics, of_two_steps);
-    refuse(
-        "copy",
-        line,
-        |it| fault_of(|| it.0.copy(&Movement::WholeBuffer)),
-        of_two_steps,
-    );
+    let edit = |it: &mut All| fault_of(|| it.0.edit_word(WordAction::Uppercase, &mut NoListener));
+    refuse("edit_word", line, edit, of_two_steps);
+    let copy = |it: &mut All| fault_of(|| it.0.copy(&Movement::WholeBuffer));
+    refuse("copy", line, copy, of_two_steps);
     refuse("clone", line, |it| fault_of(|| it.0.clone()), of_two_steps);
 }
 
 #[test]
 fn records_say_that_memory_is_refused() {
-    type All = (LineBuffer, Changeset, KillRing);
     let undone = || {
         let mut all = line();
         all.0.replace(0..all.0.len(), "", &mut NoListener);
