@@ -111,8 +111,9 @@ fn a_session_goes_to_another_thread() {
 
 #[test]
 fn a_guard_closes_what_was_begun_in_it_alone() -> Result<(), Fault> {
+    type Inside = fn(&mut Session) -> Result<(), Fault>;
     // What is done in the inner one of two groups, whether that has a change then, and how many groups are left.
-    let rows: [(fn(&mut Session) -> Result<(), Fault>, bool, usize); 5] = [
+    let rows: [(Inside, bool, usize); 5] = [
         (|_| Ok(()), false, 1),
         (|s| s.paste("b", 1).map(drop), true, 1),
         (
