@@ -134,6 +134,7 @@ fn a_limit_is_kept() {
 
 #[test]
 fn the_line_is_read() {
+    use Movement::{BackwardWord, BeginningOfLine, WholeBuffer, WholeLine};
     let text = "one e\u{301} \n";
     let line = line_of("one |e\u{301} \n");
     assert_eq!((line.as_str(), line.pos(), line.len()), (text, 4, 9));
@@ -143,7 +144,6 @@ fn the_line_is_read() {
     assert_eq!(places, [None, Some(7), Some(9)]);
     let shown = "LineBuffer { buf: \"one e\\u{301} \\n\", pos: 4 }";
     assert_eq!(format!("{line:?}"), shown);
-    use Movement::{BackwardWord, BeginningOfLine, WholeBuffer, WholeLine};
     let copied = [BackwardWord(1, Word::Big), WholeBuffer, BeginningOfLine];
     let copied = copied.map(|it| line.copy(&it).expect("it covers a text"));
     assert_eq!(copied, ["one ", text, "one "]);

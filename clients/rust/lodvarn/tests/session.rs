@@ -112,15 +112,12 @@ fn a_session_goes_to_another_thread() {
 #[test]
 fn a_guard_closes_what_was_begun_in_it_alone() -> Result<(), Fault> {
     type Inside = fn(&mut Session) -> Result<(), Fault>;
+    let deeper: Inside = |s| s.paste("b", 1).and(s.begin_group()).and(s.begin_group());
     // What is done in the inner one of two groups, whether that has a change then, and how many groups are left.
     let rows: [(Inside, bool, usize); 5] = [
         (|_| Ok(()), false, 1),
         (|s| s.paste("b", 1).map(drop), true, 1),
-        (
-            |s| s.paste("b", 1).and(s.begin_group()).and(s.begin_group()),
-            true,
-            1,
-        ),
+        (deeper, true, 1),
         // this takes back its begin
         (|s| s.paste("b", 1).and(s.undo(2)).map(drop), false, 1),
         (|s| s.end_all_groups().map(drop), false, 0),

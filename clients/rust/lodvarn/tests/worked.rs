@@ -90,19 +90,15 @@ fn scripts_print() {
 fn movements_and_numbers_are_those_of_scripts() {
     let words = "line,home,eol,first,bchar 2,fchar 2,up 1,down 1,buf,bob,eob,nonblank";
     let searches = ["f", "t", "F", "T"].map(|kind| format!("find 1 {kind} x"));
-    let mut by: Vec<_> = words
-        .split(',')
-        .map(str::to_string)
-        .chain(searches)
-        .collect();
+    let mut by: Vec<_> = words.split(',').map(str::to_string).collect();
+    by.extend(searches);
     for sense in ["big", "emacs", "vi"] {
         by.push(format!("bword 1 {sense}"));
         by.extend(["start", "before", "after"].map(|stop| format!("fword 2 {stop} {sense}")));
     }
     let calls = ["move", "copy", "kill", "indent 2", "dedent 1"];
-    let lines = calls
-        .iter()
-        .flat_map(|call| by.iter().map(move |by| format!("{call} {by}")));
+    let with = |call: &'static str| by.iter().map(move |by| format!("{call} {by}"));
+    let lines = calls.into_iter().flat_map(with);
     let cases = ["cap", "low", "up"].map(|case| format!("case {case}"));
     let sides = ["f", "b"].map(|side| format!("kill home\nkillrange 0 1 {side}\nyank 1"));
     for line in lines.chain(cases).chain(sides) {
