@@ -25,6 +25,7 @@ CASES = [
     ("the first that is no blank", TWO, ["j^"], ["one two", THREE], (1, 2)),
     ("words", TWO, ["www"], ["one two", THREE], (1, 8)),
     ("after the last word", TWO, ["wwww"], ["one two", THREE], (1, 11)),
+    ("words back", TWO, ["wwwb"], ["one two", THREE], (1, 2)),
     ("lines", TWO, ["ljhk"], ["one two", THREE], (0, 0)),
     ("what i types", TWO, ["w", "inew "], ["one new two", THREE], (0, 8), INSERT),
     ("what ESC ends", TWO, ["winew " + ESC], ["one new two", THREE], (0, 7)),

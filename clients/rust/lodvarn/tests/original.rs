@@ -72,7 +72,7 @@ fn texts_are_taken_out() {
         "a|b\nc" l h l.kill_buffer(h), "true" "a|" ["1 - \"b\\nc\" Forward"];
         "a\nb|c" l h l.discard_line(h), "true" "a\n|c" ["2 - \"b\" Backward"];
         "a\n|c" l h l.discard_line(h), "true" "a|c" ["1 - \"\\n\" Backward"];
-        "ab|c" l h l.discard_buffer(h), "true" "|c" ["0 - \"ab\" Backward"];
+        "a\nb|c" l h l.discard_buffer(h), "true" "|c" ["0 - \"a\\nb\" Backward"];
         "one two|" l h l.delete_prev_word(Word::Emacs, 1, h), "true" "one |" ["4 - \"two\" Backward"];
         "|one two" l h l.delete_word(At::AfterEnd, Word::Emacs, 1, h), "true" "| two" ["0 - \"one\" Forward"];
         "|abcbe" l h l.delete_to(CharSearch::Forward('b'), 2, h), "true" "|e" ["0 - \"abcb\" Forward"];
@@ -149,6 +149,7 @@ fn the_line_is_read() {
     assert_eq!(copied, ["one ", text, "one "]);
     let line = line_of("one| \n");
     assert!(line.is_end_of_input() && !line.is_cursor_at_end());
+    assert!(line_of("one|").is_cursor_at_end());
     let line = line_of("|");
     assert!(line.is_cursor_at_end() && line.is_empty());
     assert_eq!((line.grapheme_at_cursor(), line.next_pos(1)), (None, None));
@@ -169,7 +170,7 @@ fn the_cursor_moves() {
         "one two|\nthree" l _h l.move_to_prev_word(Word::Emacs, 1), "true" "one |two\nthree" [];
         "one |two\nthree" l _h l.move_to(CharSearch::Forward('e'), 9), "true" "one two\nthre|e" [];
         "one two\nthre|e" l _h l.move_to(CharSearch::Backward('z'), 1), "false" "one two\nthre|e" [];
-        "one two\nthre|e" l _h l.move_buffer_end(), "true" "one two\nthree|" [];
+        "one |two\nthree" l _h l.move_buffer_end(), "true" "one two\nthree|" [];
         "one two\nthree|" l _h l.move_buffer_end(), "false" "one two\nthree|" [];
     });
 }
@@ -187,6 +188,9 @@ fn lines_are_those_of_a_layout() {
     line.set_pos(1);
     assert!(line.move_to_line_down(9, &layout));
     assert_eq!(shown(&line), "abcdef\nxy|");
+    let mut line = line_of("|a\nb\nc");
+    assert!(line.move_to_line_down(2, &layout) && line.is_cursor_at_end());
+    assert!(line.move_to_line_up(2, &layout) && line.pos() == 0);
     let family = "👩\u{200d}👧";
     assert_eq!(layout.width(family), 2);
     assert_eq!(GraphemeClusterMode::WcWidth.width(family), 4);
@@ -225,12 +229,14 @@ fn changes_are_undone() {
 fn groups_are_closed_and_cut_off() {
     let mut line = line_of("ab|");
     let mut changes = Changeset::new();
-    let mark = changes.begin();
+    assert_eq!((changes.begin(), changes.begin()), (0, 1));
+    assert!(!changes.end_one());
+    assert_eq!(changes.level(), 1);
     assert!(!changes.end_one() && changes.is_empty());
     line.backspace(1, &mut changes);
     line.backspace(1, &mut changes);
     line.replace(0..0, "x", &mut changes);
-    assert_eq!((changes.len(), mark), (2, 0));
+    assert_eq!(changes.len(), 2);
     assert!(changes.undo_fits(&line) && !changes.replays_to(1, &line));
     assert!(changes.replays_to(2, &line));
     changes.insert_str(1, "y");
@@ -240,6 +246,9 @@ fn groups_are_closed_and_cut_off() {
     assert_eq!(line.as_str(), "ab");
     changes.truncate(0);
     assert!(!changes.redo(&mut line));
+    changes.replace(0, "b", "ab");
+    assert!(changes.undo(&mut line, 1));
+    assert_eq!(line.as_str(), "b");
 }
 
 #[test]
@@ -296,7 +305,8 @@ fn kills_are_yanked() {
     assert_eq!(line.as_str(), "one two three");
     pair.deletions.kill("four", Mode::Append);
     pair.deletions.kill("3", Mode::Prepend);
-    assert_eq!(format!("{:?}", pair.deletions), "[\"3four\", \"one\"]");
+    pair.deletions.kill("5", Mode::Append);
+    assert_eq!(format!("{:?}", pair.deletions), "[\"3four5\", \"one\"]");
     let mut none = KillRing::new(0);
     none.kill("one", Mode::Append);
     assert!(none.is_empty() && none.yank().is_none() && none.yank_pop().is_none());
@@ -314,12 +324,15 @@ fn a_reset_parts_kills() {
     assert_eq!(ring.yank().map(String::as_str), Some("b"));
     ring.reset();
     assert_eq!(ring.yank_pop(), None);
-    ring.start_killing();
-    ring.delete(0, "c", Direction::Forward);
-    ring.delete(0, "d", Direction::Backward);
-    ring.stop_killing();
-    ring.delete(0, "e", Direction::Forward);
-    assert_eq!(format!("{ring:?}"), "[\"dc\", \"b\", \"a\"]");
+    for (after, before) in [("c", "d"), ("f", "g")] {
+        ring.reset();
+        ring.start_killing();
+        ring.delete(0, after, Direction::Forward);
+        ring.delete(0, before, Direction::Backward);
+        ring.stop_killing();
+        ring.delete(0, "e", Direction::Forward);
+    }
+    assert_eq!(format!("{ring:?}"), "[\"gf\", \"dc\", \"b\"]");
 }
 
 #[test]
