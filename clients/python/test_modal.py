@@ -72,6 +72,7 @@ RINGING = [
     ("no such key", TWO, ["z"], ["one two", THREE], (0, 0)),
     ("no such motion", TWO, ["dz"], ["one two", THREE], (0, 0)),
     ("no lines by a motion", TWO, ["dj"], ["one two", THREE], (0, 0)),
+    ("no word of the line before", TWO, ["jdb"], ["one two", THREE], (1, 0)),
     ("no last newline", "", ["xvd"], [], (0, 0)),
 ]
 # What is shown, what is sent, and all rows that are left.
