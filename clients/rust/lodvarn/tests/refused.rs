@@ -7,6 +7,8 @@ use std::cell::Cell;
 use std::os::raw::c_void;
 use std::panic::{catch_unwind, AssertUnwindSafe};
 
+const WORD_BACK: Movement = Movement::BackwardWord(1, Word::Emacs);
+
 extern "C" {
     fn __libc_malloc(size: usize) -> *mut c_void;
     fn __libc_calloc(count: usize, size: usize) -> *mut c_void;
@@ -63,11 +65,8 @@ fn refuse<T, A>(
         REFUSED.with(|left| left.set(n));
         let answer = call(&mut one);
         let was_refused = REFUSED.with(|left| left.replace(0)) == 0;
-        assert_eq!(
-            answer.err(),
-            was_refused.then_some(Fault::NoMemory),
-            "{what}, request {n}"
-        );
+        let wanted = was_refused.then_some(Fault::NoMemory);
+        assert_eq!(answer.err(), wanted, "{what}, request {n}");
         if !was_refused {
             return n - 1;
         }
@@ -80,25 +79,18 @@ fn refuse<T, A>(
 /// The fault that a call panics with.
 fn fault_of<A>(call: impl FnOnce() -> A) -> Result<A, Fault> {
     catch_unwind(AssertUnwindSafe(call)).map_err(|said| {
-        assert_eq!(
-            said.downcast_ref::<String>().map(String::as_str),
-            Some("out of memory")
-        );
+        let said = said.downcast::<String>().expect("a text is said");
+        assert_eq!(*said, "out of memory");
         Fault::NoMemory
     })
 }
 
 fn session() -> Session {
     let text = "one two three ".repeat(20);
-    let mut session = Session::builder()
-        .text(&text)
-        .no_limit()
-        .open()
-        .expect("a session opens");
+    let session = Session::builder().text(&text).no_limit().open();
+    let mut session = session.expect("a session opens");
     session.keep(&"kept ".repeat(30)).expect("it is kept");
-    session
-        .kill(Movement::BackwardWord(1, Word::Emacs))
-        .expect("it is killed");
+    assert_eq!(session.kill(WORD_BACK), Ok(true));
     session
 }
 
@@ -153,12 +145,14 @@ fn what_needs_no_session_says_that_memory_is_refused() {
     assert!(refuse("run_script", || (), run, |()| {}) > 2);
 }
 
+type All = (LineBuffer, Changeset, KillRing);
+
 /// A line of a long text, its record and its ring.
-fn line() -> (LineBuffer, Changeset, KillRing) {
+fn line() -> All {
     let mut line = LineBuffer::with_capacity(64).can_growth(true);
     let (mut changes, mut ring) = (Changeset::new(), KillRing::new(9));
     line.yank(&"one two three ".repeat(20), 1, &mut changes);
-    line.kill(&Movement::BackwardWord(1, Word::Emacs), &mut ring);
+    line.kill(&WORD_BACK, &mut ring);
     line.yank("two", 1, &mut NoListener);
     ring.yank();
     ring.kill(&"kept ".repeat(90), Mode::Append);
@@ -171,7 +165,7 @@ fn lines_say_that_memory_is_refused() {
     let whole = line().0.into_string();
     macro_rules! tried {
         ($($call:ident($($given:expr),*),)*) => {$({
-            let call = |it: &mut (LineBuffer, _, _)| it.0.$call($($given,)* &mut NoListener);
+            let call = |it: &mut All| it.0.$call($($given,)* &mut NoListener);
             refuse(stringify!($call), line, call, |it| assert_eq!(it.0.as_str(), whole));
         })*};
     }
@@ -186,27 +180,18 @@ fn lines_say_that_memory_is_refused() {
         try_delete_range(0..9),
         try_kill_range(0..9, Direction::Forward),
     ];
-    let of_two_steps = |it: &mut (LineBuffer, Changeset, KillRing)| {
-        assert!(it.0.is_char_boundary(it.0.pos()));
-    };
-    let update = |it: &mut (LineBuffer, _, _)| it.0.try_update(text, 3, &mut NoListener);
+    let of_two_steps = |it: &mut All| assert!(it.0.is_char_boundary(it.0.pos()));
+    let update = |it: &mut All| it.0.try_update(text, 3, &mut NoListener);
     assert!(refuse("try_update", line, update, of_two_steps) > 0);
-    let panics = |it: &mut (LineBuffer, _, _)| {
-        fault_of(|| it.0.edit_word(WordAction::Uppercase, &mut NoListener))
-    };
-    refuse("edit_word", line, panics, of_two_steps);
-    refuse(
-        "copy",
-        line,
-        |it| fault_of(|| it.0.copy(&Movement::WholeBuffer)),
-        of_two_steps,
-    );
+    let edit = |it: &mut All| fault_of(|| it.0.edit_word(WordAction::Uppercase, &mut NoListener));
+    refuse("edit_word", line, edit, of_two_steps);
+    let copy = |it: &mut All| fault_of(|| it.0.copy(&Movement::WholeBuffer));
+    refuse("copy", line, copy, of_two_steps);
     refuse("clone", line, |it| fault_of(|| it.0.clone()), of_two_steps);
 }
 
 #[test]
 fn records_say_that_memory_is_refused() {
-    type All = (LineBuffer, Changeset, KillRing);
     let undone = || {
         let mut all = line();
         all.0.replace(0..all.0.len(), "", &mut NoListener);
@@ -253,7 +238,7 @@ fn a_deletion_asks_only_for_what_goes() {
     line.yank(&"one two ".repeat(1 << 14), 1, &mut NoListener);
     LARGEST.with(|largest| largest.set(0));
     assert!(line.backspace(1, &mut NoListener));
-    assert!(line.kill(&Movement::BackwardWord(1, Word::Emacs), &mut NoListener));
+    assert!(line.kill(&WORD_BACK, &mut NoListener));
     let largest = LARGEST.with(Cell::get);
     assert!(largest < 4096, "{largest} bytes were asked for");
 }

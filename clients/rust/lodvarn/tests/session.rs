@@ -3,9 +3,9 @@
 use lodvarn::{Fault, Group, Inserted, Mode, Movement, Options, Session, Word};
 use std::panic::{catch_unwind, AssertUnwindSafe};
 
-/// A session on a text, with the cursor at a place and a limit of 64 bytes.
-fn opened(text: &str, pos: usize) -> Session {
-    let session = Session::builder().text(text).pos(pos).limit(64).open();
+/// A session on a text, with the cursor at its end and a limit of 64 bytes.
+fn opened(text: &str) -> Session {
+    let session = Session::builder().text(text).limit(64).open();
     session.expect("a session opens")
 }
 
@@ -17,31 +17,22 @@ fn stands(session: &Session, text: &str, pos: usize) {
 
 #[test]
 fn a_session_is_as_it_was_built() -> Result<(), Fault> {
-    let rocket = "\u{1f469}\u{200d}\u{1f680}";
-    let short = Session::builder().text(rocket).limit(12).ring_size(0);
+    let (new, rocket) = (Session::builder, "\u{1f469}\u{200d}\u{1f680}");
+    let short = new().text(rocket).limit(12).ring_size(0);
     // The builder, the cursor, the limit, the column of the cursor, and the text once a kill of all is yanked.
     let rows = [
-        (Session::builder(), 0, Some(4096), 0, ""),
-        (Session::builder().text(rocket), 11, Some(4096), 2, rocket),
-        (
-            Session::builder().pos(0).text(rocket),
-            0,
-            Some(4096),
-            0,
-            rocket,
-        ),
+        (new(), 0, Some(4096), 0, ""),
+        (new().text(rocket), 11, Some(4096), 2, rocket),
+        (new().pos(0).text(rocket), 0, Some(4096), 0, rocket),
         (short.clone(), 11, Some(12), 2, ""),
         (short.mode(Mode::WcWidth), 11, Some(12), 4, ""),
-        (Session::builder().no_limit(), 0, None, 0, ""),
-        (Session::builder().text("ab").limit(1), 2, Some(2), 2, "ab"),
+        (new().no_limit(), 0, None, 0, ""),
+        (new().text("ab").limit(1), 2, Some(2), 2, "ab"),
     ];
     for (built, pos, limit, column, yanked) in rows {
         let mut session = built.open()?;
-        assert_eq!(
-            (session.pos(), session.options().limit),
-            (pos, limit),
-            "{built:?}"
-        );
+        let seen = (session.pos(), session.options().limit);
+        assert_eq!(seen, (pos, limit), "{built:?}");
         assert_eq!(session.find_cursor().column, column, "{built:?}");
         session.kill(Movement::WholeLine)?;
         session.yank(1)?;
@@ -70,7 +61,7 @@ fn options_are_those_that_were_set() -> Result<(), Fault> {
 
 #[test]
 fn a_session_begins_anew() -> Result<(), Fault> {
-    let mut session = opened("one two", 7);
+    let mut session = opened("one two");
     session.kill(Movement::BackwardWord(1, Word::Emacs))?;
     session.restart("né")?;
     assert_eq!((session.undo(1)?, session.entries()), (false, 0));
@@ -86,28 +77,19 @@ fn what_is_refused_says_why_and_changes_nothing() {
         let opened = Session::builder().text("é").pos(pos).open();
         assert_eq!(opened.map(drop), Err(Fault::BadPlace), "at {pos}");
     }
-    let mut session = opened("aé", 3);
-    assert_eq!(session.set_pos(2), Err(Fault::BadPlace));
+    let mut session = opened("aé");
     assert_eq!(session.slice(1..2), Err(Fault::BadPlace));
     assert_eq!(session.insert('x', 64), Err(Fault::NoRoom));
     assert_eq!(session.paste("", 1), Ok(Inserted::Nothing));
-    assert_eq!(
-        session.delete_by(Movement::WholeLine),
-        Err(Fault::NoSuchNumber)
-    );
+    let deleted = session.delete_by(Movement::WholeLine);
+    assert_eq!(deleted, Err(Fault::NoSuchNumber));
     stands(&session, "aé", 3);
-    assert_eq!(session.kill(Movement::BeginningOfLine), Ok(true));
-    assert_eq!(session.truncate(0), Err(Fault::NotReplaying));
-    assert_eq!(session.yank(0), Ok(Inserted::AtEnd));
-    assert_eq!(session.yank_pop(), Err(Fault::BadYankSize));
-    stands(&session, "", 0);
-    assert_eq!(Fault::BadPlace.to_string(), "no such place in the text");
 }
 
 #[test]
 fn long_texts_are_lent_and_copied() {
     let text = "\0é漢".repeat(1000);
-    let mut session = opened(&text, 0);
+    let mut session = opened(&text);
     assert_eq!(session.text(), text);
     assert_eq!(session.slice(6..text.len()), Ok(&text[6..]));
     assert_eq!(session.copy(Movement::WholeLine), Ok(Some(text.clone())));
@@ -118,95 +100,52 @@ fn long_texts_are_lent_and_copied() {
 
 #[test]
 fn a_session_goes_to_another_thread() {
-    let mut session = opened("ab", 2);
+    let mut session = opened("ab");
     let there = std::thread::spawn(move || {
         assert_eq!(session.insert('c', 1), Ok(Inserted::AtEnd));
         session
     });
     let session = there.join().expect("the thread ends");
-    stands(&session, "abc", 3);
     assert_eq!(catch_unwind(|| session.pos()).ok(), Some(3));
 }
 
 #[test]
-fn a_guard_closes_its_group() -> Result<(), Fault> {
-    let mut session = opened("", 0);
-    session.paste("-", 1)?;
-    {
-        let mut outer = session.group()?;
-        outer.paste("a", 1)?;
-        {
+fn a_guard_closes_what_was_begun_in_it_alone() -> Result<(), Fault> {
+    type Inside = fn(&mut Session) -> Result<(), Fault>;
+    let deeper: Inside = |s| s.paste("b", 1).and(s.begin_group()).and(s.begin_group());
+    // What is done in the inner one of two groups, whether that has a change then, and how many groups are left.
+    let rows: [(Inside, bool, usize); 5] = [
+        (|_| Ok(()), false, 1),
+        (|s| s.paste("b", 1).map(drop), true, 1),
+        (deeper, true, 1),
+        // this takes back its begin
+        (|s| s.paste("b", 1).and(s.undo(2)).map(drop), false, 1),
+        (|s| s.end_all_groups().map(drop), false, 0),
+    ];
+    for (row, (inside, has_change, left)) in rows.into_iter().enumerate() {
+        for is_dropped in [false, true] {
+            let mut session = opened("-");
+            let mut outer = session.group()?;
+            outer.paste("a", 1)?;
             let mut inner = outer.group()?;
-            inner.paste("b", 1)?;
-            assert_eq!(inner.level(), 2);
+            inside(&mut inner)?;
+            if is_dropped {
+                drop(inner);
+            } else {
+                assert_eq!(Group::close(inner), Ok(has_change), "row {row}");
+            }
+            assert_eq!(outer.level(), left, "row {row}");
+            drop(outer);
+            assert_eq!((session.level(), session.undo(1)), (0, Ok(true)));
+            stands(&session, "-", 1);
         }
-        assert_eq!(outer.level(), 1);
-        outer.paste("c", 1)?;
-        outer.undo(2)?;
-        stands(&outer, "-a", 2);
-        outer.redo()?;
-        stands(&outer, "-ab", 3);
-        outer.paste("d", 1)?;
     }
-    assert_eq!(session.level(), 0);
-    stands(&session, "-abd", 4);
-    session.undo(1)?;
-    stands(&session, "-", 1);
-    Ok(())
-}
-
-#[test]
-fn a_guard_tells_whether_its_group_has_a_change() -> Result<(), Fault> {
-    let mut session = opened("", 0);
-    assert_eq!(Group::close(session.group()?), Ok(false));
-    let mut group = session.group()?;
-    group.paste("a", 1)?;
-    assert_eq!(Group::close(group), Ok(true));
-    assert_eq!((session.level(), session.entries()), (0, 3));
-    Ok(())
-}
-
-#[test]
-fn a_guard_closes_what_is_open_in_it() -> Result<(), Fault> {
-    let mut session = opened("", 0);
-    let mut outer = session.group()?;
-    let mut inner = outer.group()?;
-    inner.paste("a", 1)?;
-    inner.begin_group()?;
-    inner.begin_group()?;
-    inner.paste("b", 1)?;
-    assert_eq!(inner.level(), 4);
-    assert_eq!(Group::close(inner), Ok(true));
-    assert_eq!(outer.level(), 1);
-    Ok(())
-}
-
-#[test]
-fn a_guard_closes_no_other_group() -> Result<(), Fault> {
-    let mut session = opened("", 0);
-    let mut outer = session.group()?;
-    outer.paste("a", 1)?;
-    // an undo takes back the begin
-    let mut inner = outer.group()?;
-    inner.paste("b", 1)?;
-    inner.undo(2)?;
-    drop(inner);
-    assert_eq!(outer.level(), 1);
-    let mut inner = outer.group()?;
-    inner.end_all_groups()?;
-    assert_eq!(Group::close(inner), Ok(false));
-    assert_eq!(outer.level(), 0);
-    outer.paste("c", 1)?;
-    drop(outer);
-    assert_eq!(session.level(), 0);
-    session.undo(1)?;
-    stands(&session, "a", 1);
     Ok(())
 }
 
 #[test]
 fn a_guard_closes_its_group_where_a_thread_panics() -> Result<(), Fault> {
-    let mut session = opened("", 0);
+    let mut session = opened("");
     let caught = catch_unwind(AssertUnwindSafe(|| {
         let mut group = session.group().expect("a group begins");
         group.paste("a", 1).expect("a text goes in");

@@ -35,12 +35,9 @@ fn rows() -> Vec<[Vec<u8>; 3]> {
 /// The text tells the same as the reads.
 fn reads_agree(s: &Session) {
     let (text, pos, mode) = (s.text(), s.pos(), s.options().mode);
-    let newlines = |text: &str| text.matches('\n').count();
-    let own = newlines(&text[..pos]);
-    assert_eq!(
-        (s.cursor_line(), s.count_lines()),
-        (own, newlines(text) + 1)
-    );
+    let own = text[..pos].matches('\n').count();
+    assert_eq!(s.cursor_line(), own);
+    assert_eq!(s.count_lines(), text.matches('\n').count() + 1);
     let first = text[..pos].rfind('\n').map_or(0, |at| at + 1);
     let end = text[pos..].find('\n').map_or(text.len(), |at| pos + at);
     assert_eq!(s.find_line(own), Some(first..end));
@@ -91,24 +88,20 @@ fn scripts_print() {
 
 #[test]
 fn movements_and_numbers_are_those_of_scripts() {
-    let (mut lines, mut words) = (Vec::new(), vec!["line", "home", "eol", "first"]);
-    words.extend([
-        "bchar 2", "fchar 2", "up 1", "down 1", "buf", "bob", "eob", "nonblank",
-    ]);
-    lines.extend(words.iter().map(|word| word.to_string()));
+    let words = "line,home,eol,first,bchar 2,fchar 2,up 1,down 1,buf,bob,eob,nonblank";
+    let searches = ["f", "t", "F", "T"].map(|kind| format!("find 1 {kind} x"));
+    let mut by: Vec<_> = words.split(',').map(str::to_string).collect();
+    by.extend(searches);
     for sense in ["big", "emacs", "vi"] {
-        lines.push(format!("bword 1 {sense}"));
-        let ahead = |stop| format!("fword 2 {stop} {sense}");
-        lines.extend(["start", "before", "after"].map(ahead));
+        by.push(format!("bword 1 {sense}"));
+        by.extend(["start", "before", "after"].map(|stop| format!("fword 2 {stop} {sense}")));
     }
-    lines.extend(["f", "t", "F", "T"].map(|kind| format!("find 1 {kind} x")));
-    let mut lines: Vec<_> = ["move", "copy", "kill", "indent 2", "dedent 1"]
-        .iter()
-        .flat_map(|call| lines.iter().map(move |by| format!("{call} {by}")))
-        .collect();
-    lines.extend(["cap", "low", "up"].map(|case| format!("case {case}")));
-    lines.extend(["f", "b"].map(|side| format!("kill home\nkillrange 0 1 {side}\nyank 1")));
-    for line in lines {
+    let calls = ["move", "copy", "kill", "indent 2", "dedent 1"];
+    let with = |call: &'static str| by.iter().map(move |by| format!("{call} {by}"));
+    let lines = calls.into_iter().flat_map(with);
+    let cases = ["cap", "low", "up"].map(|case| format!("case {case}"));
+    let sides = ["f", "b"].map(|side| format!("kill home\nkillrange 0 1 {side}\nyank 1"));
+    for line in lines.chain(cases).chain(sides) {
         for pos in [6, 12] {
             let script = format!("text a\\n x.b,cD e.x,f-g\\n h\npos {pos}\n{line}\nyank 1\n");
             let mut typed = Typed::new();

@@ -1,14 +1,30 @@
-//! Listeners, and lines that show their cursor.
+//! A listener, and lines that show their cursor.
 use lodvarn::line_buffer::{
     ChangeListener, DeleteListener, Direction, LineBuffer, NoListener, MAX_LINE,
 };
 use std::panic::{catch_unwind, AssertUnwindSafe};
 
 /// What a listener hears, and a text that is kept by it.
-#[derive(Default)]
 pub struct Heard {
     pub told: Vec<String>,
     pub copy: String,
+    /// How many more changes it bears. It panics at the one after these.
+    pub left: usize,
+}
+
+impl Heard {
+    /// A listener that knows a text.
+    pub fn of(text: &str) -> Heard {
+        let (told, copy, left) = (vec![], text.to_string(), usize::MAX);
+        Heard { told, copy, left }
+    }
+
+    fn hear(&mut self, what: String, idx: usize, old: &str, new: &str) {
+        self.left = self.left.checked_sub(1).expect("it hears no more");
+        self.told.push(format!("{idx} {what}"));
+        assert_eq!(&self.copy[idx..idx + old.len()], old);
+        self.copy.replace_range(idx..idx + old.len(), new);
+    }
 }
 
 impl DeleteListener for Heard {
@@ -17,8 +33,7 @@ impl DeleteListener for Heard {
     }
 
     fn delete(&mut self, idx: usize, string: &str, dir: Direction) {
-        self.told.push(format!("{idx} - {string:?} {dir:?}"));
-        self.replace_in_copy(idx, string, "");
+        self.hear(format!("- {string:?} {dir:?}"), idx, string, "");
     }
 
     fn stop_killing(&mut self) {
@@ -28,25 +43,15 @@ impl DeleteListener for Heard {
 
 impl ChangeListener for Heard {
     fn insert_char(&mut self, idx: usize, c: char) {
-        self.told.push(format!("{idx} + {c:?}"));
-        self.replace_in_copy(idx, "", &c.to_string());
+        self.hear(format!("+ {c:?}"), idx, "", &c.to_string());
     }
 
     fn insert_str(&mut self, idx: usize, string: &str) {
-        self.told.push(format!("{idx} + {string:?}"));
-        self.replace_in_copy(idx, "", string);
+        self.hear(format!("+ {string:?}"), idx, "", string);
     }
 
     fn replace(&mut self, idx: usize, old: &str, new: &str) {
-        self.told.push(format!("{idx} {old:?} > {new:?}"));
-        self.replace_in_copy(idx, old, new);
-    }
-}
-
-impl Heard {
-    fn replace_in_copy(&mut self, idx: usize, old: &str, new: &str) {
-        assert_eq!(&self.copy[idx..idx + old.len()], old);
-        self.copy.replace_range(idx..idx + old.len(), new);
+        self.hear(format!("{old:?} > {new:?}"), idx, old, new);
     }
 }
 
@@ -72,34 +77,5 @@ pub fn panic_of<T>(call: impl FnOnce() -> T) -> String {
     match said.downcast::<String>() {
         Ok(said) => *said,
         Err(said) => said.downcast_ref::<&str>().expect("a text").to_string(),
-    }
-}
-
-/// Panics at what it hears as soon as it has heard so many events.
-pub struct Fails(pub usize);
-
-impl Fails {
-    fn hear(&mut self) {
-        self.0 = self.0.checked_sub(1).expect("it hears no more");
-    }
-}
-
-impl DeleteListener for Fails {
-    fn delete(&mut self, _idx: usize, _string: &str, _dir: Direction) {
-        self.hear();
-    }
-}
-
-impl ChangeListener for Fails {
-    fn insert_char(&mut self, _idx: usize, _c: char) {
-        self.hear();
-    }
-
-    fn insert_str(&mut self, _idx: usize, _string: &str) {
-        self.hear();
-    }
-
-    fn replace(&mut self, _idx: usize, _old: &str, _new: &str) {
-        self.hear();
     }
 }

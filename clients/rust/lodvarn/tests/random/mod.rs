@@ -41,9 +41,8 @@ impl Random {
         if self.below(20) == 0 {
             return place + self.below(3);
         }
-        (place..)
-            .find(|it| text.is_char_boundary(*it))
-            .expect("the end is a boundary")
+        let boundary = (place..).find(|it| text.is_char_boundary(*it));
+        boundary.expect("the end is a boundary")
     }
 
     pub fn places(&mut self, text: &str) -> Range<usize> {
@@ -60,13 +59,9 @@ impl Random {
     }
 
     pub fn search(&mut self) -> CharSearch {
-        let c = self.letter();
-        self.one(&[
-            CharSearch::Forward(c),
-            CharSearch::ForwardBefore(c),
-            CharSearch::Backward(c),
-            CharSearch::BackwardAfter(c),
-        ])
+        use CharSearch::*;
+        let kinds: [fn(char) -> _; 4] = [Forward, ForwardBefore, Backward, BackwardAfter];
+        self.one(&kinds)(self.letter())
     }
 
     pub fn movement(&mut self) -> Movement {
@@ -110,7 +105,7 @@ pub fn command(s: &mut Session, random: &mut Random) -> Result<(), Fault> {
         24 => s.delete_range(random.places(&text)),
         25 => s.delete(n).map(drop),
         26 => s.backspace(n).map(drop),
-        27..=29 => s.delete_by(random.movement()).map(drop),
+        27..=29 | 37 => s.delete_by(random.movement()).map(drop),
         30 => s.transpose_chars().map(drop),
         31 => s.transpose_words(n).map(drop),
         32 => {
@@ -121,9 +116,6 @@ pub fn command(s: &mut Session, random: &mut Random) -> Result<(), Fault> {
         34 => s.dedent(random.movement(), 2),
         35 => s.begin_group(),
         36 => s.end_all_groups().map(drop),
-        37 => s
-            .delete_by(random.one(&[Movement::EndOfLine, Movement::BeginningOfLine]))
-            .map(drop),
         38 => s.set_pos(random.place(&text)),
         39 => {
             let direction = random.one(&[Direction::Forward, Direction::Backward]);

@@ -1,7 +1,6 @@
 //! Runs lines of scripts by the calls of a session. `docs/RULES.md` says what the words are and what they print.
-use lodvarn::{
-    At, Case, CharSearch, Direction, Fault, Inserted, Mode, Movement, Options, Session, Word,
-};
+use lodvarn::{At, Case, CharSearch, Direction, Fault, Inserted, Mode, Movement, Options};
+use lodvarn::{Session, Word};
 use std::ops::Range;
 
 /// The rest of a line, of which words are taken.
@@ -10,12 +9,9 @@ struct Words<'l>(Option<&'l str>);
 impl<'l> Words<'l> {
     fn word(&mut self) -> &'l str {
         let rest = self.0.expect("a word is missing");
-        let (word, rest) = match rest.split_once(' ') {
-            Some((word, rest)) => (word, Some(rest)),
-            None => (rest, None),
-        };
-        self.0 = rest;
-        word
+        let parts = rest.split_once(' ');
+        self.0 = parts.map(|(_, rest)| rest);
+        parts.map_or(rest, |(word, _)| word)
     }
 
     fn number<N: std::str::FromStr>(&mut self) -> N {
@@ -28,23 +24,20 @@ impl<'l> Words<'l> {
         from..self.number()
     }
 
-    fn one_of<T: Copy>(&mut self, named: &[(&str, T)]) -> T {
+    /// What a word names, by the names of all in their order.
+    fn one_of<T: Copy>(&mut self, names: &str, all: &[T]) -> T {
         let word = self.word();
-        let found = named.iter().find(|(name, _)| *name == word);
-        found.unwrap_or_else(|| panic!("no such name: {word}")).1
+        let found = names.split(' ').position(|name| name == word);
+        all[found.unwrap_or_else(|| panic!("no such name: {word}"))]
     }
 
     fn sense(&mut self) -> Word {
-        self.one_of(&[("big", Word::Big), ("emacs", Word::Emacs), ("vi", Word::Vi)])
+        self.one_of("big emacs vi", &[Word::Big, Word::Emacs, Word::Vi])
     }
 
     fn stop(&mut self) -> At {
-        let stops = [
-            ("start", At::Start),
-            ("before", At::BeforeEnd),
-            ("after", At::AfterEnd),
-        ];
-        self.one_of(&stops)
+        let stops = [At::Start, At::BeforeEnd, At::AfterEnd];
+        self.one_of("start before after", &stops)
     }
 
     fn text(&mut self) -> String {
@@ -54,10 +47,8 @@ impl<'l> Words<'l> {
             let (c, len) = match escape.as_bytes()[0] {
                 b'u' => {
                     let (number, _) = escape[2..].split_once('}').expect("it ends");
-                    let c = u32::from_str_radix(number, 16)
-                        .ok()
-                        .and_then(char::from_u32);
-                    (c.expect("a character"), number.len() + 3)
+                    let c = u32::from_str_radix(number, 16).map(char::from_u32);
+                    (c.ok().flatten().expect("a character"), number.len() + 3)
                 }
                 b'n' => ('\n', 1),
                 b'r' => ('\r', 1),
@@ -76,13 +67,9 @@ impl<'l> Words<'l> {
     }
 
     fn search(&mut self) -> CharSearch {
-        let kind: fn(char) -> CharSearch = self.one_of(&[
-            ("f", CharSearch::Forward as _),
-            ("t", CharSearch::ForwardBefore as _),
-            ("F", CharSearch::Backward as _),
-            ("T", CharSearch::BackwardAfter as _),
-        ]);
-        kind(self.c())
+        use CharSearch::*;
+        let kinds: [fn(char) -> _; 4] = [Forward, ForwardBefore, Backward, BackwardAfter];
+        self.one_of("f t F T", &kinds)(self.c())
     }
 
     fn movement(&mut self) -> Movement {
@@ -108,10 +95,15 @@ impl<'l> Words<'l> {
 }
 
 fn escaped(text: &str, space: &str) -> String {
-    let text = text.replace('\\', "\\\\").replace('\n', "\\n");
-    text.replace('\r', "\\r")
-        .replace('\t', "\\t")
-        .replace(' ', space)
+    let lines = text.replace('\\', "\\\\").replace('\n', "\\n");
+    let tabs = lines.replace('\r', "\\r").replace('\t', "\\t");
+    tabs.replace(' ', space)
+}
+
+/// A text, or none, as a reply.
+fn handed(text: Option<&str>) -> String {
+    let handed = text.map(|it| format!("text:{}", escaped(it, "\\s")));
+    handed.unwrap_or("none".to_string())
 }
 
 /// What a command prints that is refused.
@@ -149,34 +141,22 @@ impl Typed {
     }
 
     fn run(&mut self, name: &str, rest: &mut Words) -> Result<String, Fault> {
-        let session = &mut self.session;
-        if let Some(done) = done(session, name, rest) {
-            return done.map(|()| "ok".to_string());
-        } else if let Some(truth) = truth(session, name, rest) {
-            return truth.map(|it| it.to_string());
-        } else if let Some(inserted) = inserted(session, name, rest) {
-            let printed = |it| match it {
-                Inserted::AtEnd => "true",
-                Inserted::Within => "false",
-                Inserted::Nothing => "none",
-            };
-            return inserted.map(|it| printed(it).to_string());
-        } else if let Some(told) = told(session, name, rest) {
-            return told;
-        }
+        let s = &mut self.session;
         match name {
             "limit" => self.next.limit = Some(rest.number()),
             "ring" => self.next.ring_size = rest.number(),
             "mode" => {
-                let modes = [
-                    ("unicode", Mode::Unicode),
-                    ("wcwidth", Mode::WcWidth),
-                    ("nozwj", Mode::NoZwj),
-                ];
-                self.next.mode = rest.one_of(&modes);
+                let modes = [Mode::Unicode, Mode::WcWidth, Mode::NoZwj];
+                self.next.mode = rest.one_of("unicode wcwidth nozwj", &modes);
             }
             "text" => self.open(&rest.text())?,
-            name => panic!("no such word: {name}"),
+            "update" => s.set_text(rest.number(), &rest.text())?,
+            "rep" => s.replace(rest.range(), &rest.text())?,
+            "range" => s.delete_range(rest.range())?,
+            "keep" => s.keep(&rest.text())?,
+            "trunc" => s.truncate(rest.number())?,
+            "pos" => s.set_pos(rest.number())?,
+            _ => return truth(s, name, rest),
         }
         Ok("ok".to_string())
     }
@@ -190,20 +170,9 @@ impl Typed {
     }
 }
 
-fn done(s: &mut Session, name: &str, rest: &mut Words) -> Option<Result<(), Fault>> {
-    Some(match name {
-        "update" => s.set_text(rest.number(), &rest.text()),
-        "rep" => s.replace(rest.range(), &rest.text()),
-        "range" => s.delete_range(rest.range()),
-        "keep" => s.keep(&rest.text()),
-        "trunc" => s.truncate(rest.number()),
-        "pos" => s.set_pos(rest.number()),
-        _ => return None,
-    })
-}
-
-fn truth(s: &mut Session, name: &str, rest: &mut Words) -> Option<Result<bool, Fault>> {
-    Some(match name {
+/// What prints whether it is done.
+fn truth(s: &mut Session, name: &str, rest: &mut Words) -> Result<String, Fault> {
+    let is_done = match name {
         "move" => {
             let (movement, pos) = (rest.movement(), s.pos());
             let goes = s.destination(movement);
@@ -212,17 +181,14 @@ fn truth(s: &mut Session, name: &str, rest: &mut Words) -> Option<Result<bool, F
             Ok(goes.is_some())
         }
         "kill" => s.kill(rest.movement()),
-        "indent" => {
-            let amount = rest.number();
-            s.indent(rest.movement(), amount).map(|()| true)
-        }
-        "dedent" => {
-            let amount = rest.number();
-            s.dedent(rest.movement(), amount).map(|()| true)
+        "indent" | "dedent" => {
+            let (amount, movement) = (rest.number(), rest.movement());
+            let indents = [Session::indent, Session::dedent];
+            indents[usize::from(name == "dedent")](s, movement, amount).map(|()| true)
         }
         "killrange" => {
-            let sides = [("f", Direction::Forward), ("b", Direction::Backward)];
-            s.kill_range(rest.range(), rest.one_of(&sides))
+            let sides = [Direction::Forward, Direction::Backward];
+            s.kill_range(rest.range(), rest.one_of("f b", &sides))
         }
         "back" => s.backspace(rest.number()),
         "killline" => s.delete_by(Movement::EndOfLine),
@@ -239,19 +205,9 @@ fn truth(s: &mut Session, name: &str, rest: &mut Words) -> Option<Result<bool, F
         "twords" => s.transpose_words(rest.number()),
         "end" => s.end_all_groups(),
         "endone" => s.end_group(),
-        _ => return of_record(s, name, rest),
-    })
-}
-
-fn of_record(s: &mut Session, name: &str, rest: &mut Words) -> Option<Result<bool, Fault>> {
-    Some(match name {
         "case" => {
-            let cases = [
-                ("cap", Case::Capitalize),
-                ("low", Case::Lowercase),
-                ("up", Case::Uppercase),
-            ];
-            s.change_case(rest.one_of(&cases))
+            let cases = [Case::Capitalize, Case::Lowercase, Case::Uppercase];
+            s.change_case(rest.one_of("cap low up", &cases))
         }
         "undo" => {
             let (n, can_undo) = (rest.number(), s.can_undo());
@@ -261,16 +217,17 @@ fn of_record(s: &mut Session, name: &str, rest: &mut Words) -> Option<Result<boo
         }
         "redo" => {
             let can_redo = s.can_redo();
-            let is_redone = s.redo();
-            assert_eq!(is_redone, Ok(can_redo));
-            is_redone
+            assert_eq!(s.redo(), Ok(can_redo));
+            Ok(can_redo)
         }
-        _ => return None,
-    })
+        _ => return inserted(s, name, rest),
+    };
+    is_done.map(|it| it.to_string())
 }
 
-fn inserted(s: &mut Session, name: &str, rest: &mut Words) -> Option<Result<Inserted, Fault>> {
-    Some(match name {
+/// What prints where a text went in.
+fn inserted(s: &mut Session, name: &str, rest: &mut Words) -> Result<String, Fault> {
+    let inserted = match name {
         "ins" => {
             let n = rest.number();
             s.insert(rest.c(), n)
@@ -288,29 +245,31 @@ fn inserted(s: &mut Session, name: &str, rest: &mut Words) -> Option<Result<Inse
             let popped = s.yank_pop();
             popped.map(|it| if is_empty { Inserted::Nothing } else { it })
         }
-        _ => return None,
-    })
+        _ => return told(s, name, rest),
+    };
+    let said = inserted.map(|it| match it {
+        Inserted::AtEnd => "true",
+        Inserted::Within => "false",
+        Inserted::Nothing => "none",
+    });
+    said.map(str::to_string)
 }
 
-/// What prints more than whether it is done.
-fn told(s: &mut Session, name: &str, rest: &mut Words) -> Option<Result<String, Fault>> {
-    let handed = |text: Option<String>| match text {
-        Some(text) => format!("text:{}", escaped(&text, "\\s")),
-        None => "none".to_string(),
-    };
-    Some(match name {
+/// What prints something else.
+fn told(s: &mut Session, name: &str, rest: &mut Words) -> Result<String, Fault> {
+    match name {
         "copy" => {
             let movement = rest.movement();
             let covered = s.covers(movement).map(|range| s.text()[range].to_string());
             assert_eq!(s.copy(movement).as_ref(), Ok(&covered), "{movement:?}");
-            Ok(handed(covered))
+            Ok(handed(covered.as_deref()))
         }
         "del" => {
             let n = rest.number();
             let covered = s.covers(Movement::ForwardChar(n));
             let goes = covered.map(|range| s.text()[range].to_string());
             assert_eq!(s.delete(n), Ok(goes.is_some()));
-            Ok(handed(goes))
+            Ok(handed(goes.as_deref()))
         }
         "begin" => {
             let mark = s.entries();
@@ -321,6 +280,6 @@ fn told(s: &mut Session, name: &str, rest: &mut Words) -> Option<Result<String, 
             let at = s.find_cursor();
             Ok(format!("at:{}:{}", at.line, at.column))
         }
-        _ => return None,
-    })
+        name => panic!("no such word: {name}"),
+    }
 }
