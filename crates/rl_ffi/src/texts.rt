@@ -20,7 +20,7 @@ pub(crate) fn text_of(bytes: &[u8]) -> Result<&str, Answer>
     ensures ok { IfOk result (λ text. IsUtf8 bytes.now × (text.now ≡ bytes.now)) }
     ensures err { IfErr result (λ answer. (¬ (IsUtf8 bytes.now)) × (answer ≡ NotUtf8)) }
 {
-    match std::str::from_utf8(bytes) {
+    match simdutf8::basic::from_utf8(bytes) {
         Ok(text) => Ok(text),
         Err(_) => Err(Answer::NotUtf8),
     }
