@@ -192,12 +192,12 @@ fn lines_say_that_memory_is_refused() {
 
 #[test]
 fn records_say_that_memory_is_refused() {
+    // A line without room for what comes back.
     let undone = || {
         let mut all = line();
-        all.0.replace(0..all.0.len(), "", &mut NoListener);
+        all.0 = LineBuffer::with_capacity(64).can_growth(true);
         all.1 = Changeset::new();
-        all.0.yank(&"a\n".repeat(99), 1, &mut all.1);
-        all.0.kill(&Movement::WholeBuffer, &mut all.1);
+        all.1.delete(0, "a\n".repeat(99));
         all
     };
     let undo = |it: &mut All| it.1.try_undo(&mut it.0, 1);
