@@ -6,7 +6,8 @@
 The core is that of rustyline 19.0.0 where its files are beside the repository and cargo takes them, else that of
 Debian's package, 9.1.2, for the first rows alone. The crate lodvarn is that of clients/rust, or the one in FOLDER.
 Prints for each row of speed.rs the nanoseconds of a key, the least of all rounds, its target, and the median of the
-ratios. A row fails if its ratio is above 1.5 times its target. Its last line is 'N passed, M failed'.
+ratios. A row fails if its ratio is above MOST times its target in each of some runs. Its last line is 'N passed, M
+failed'.
 """
 
 import os
@@ -21,7 +22,7 @@ from test_editor import LODVARN
 
 # How often its target a ratio may be.
 MOST = 1.5
-# How often it may be tried, since others use the machine.
+# How many runs there may be, since others use the machine.
 TRIES = 3
 MANIFEST = """[package]
 name = "speed"
@@ -61,17 +62,20 @@ def build(folder, lodvarn):
 
 
 def time_keys(program):
-    """Runs the program on one processor until no row is too slow, or it was tried often. Answers how many rows there
-    are, and which of them are too slow."""
+    """Runs the program on one processor until each row was quick enough once, or it was tried often. Answers how many
+    rows there are, and which of them never were."""
     os.sched_setaffinity(0, {max(os.sched_getaffinity(0))})
+    least = {}
     for _ in range(TRIES):
         said = subprocess.run([program], check=True, stdout=subprocess.PIPE, text=True).stdout
-        rows = re.findall(r"^(.*): .* target ([\d.]+), ratio ([\d.]+)$", said, re.M)
-        slow = [what for what, target, ratio in rows if float(ratio) > MOST * float(target)]
+        for what, target, ratio in re.findall(r"^(.*): .* target ([\d.]+), ratio ([\d.]+)$", said, re.M):
+            times = float(ratio) / float(target)
+            least[what] = min(times, least.get(what, times))
+        slow = [what for what, times in least.items() if times > MOST]
         if not slow:
             break
     print(said, end="")
-    return len(rows), slow
+    return len(least), slow
 
 
 def main():
