@@ -2,8 +2,8 @@
 own the core of 19.0.0, whose files may be beside the repository, or that of 9.1.2. None of them is kept in the
 repository.
 
-    python3 clients/rustyline/sources.py FOLDER    makes cargo take Debian's sources alone for what is built in FOLDER, or
-                                                   anywhere if FOLDER/.cargo is the CARGO_HOME of the environment
+    python3 clients/rustyline/sources.py FOLDER    makes cargo take Debian's sources alone for what is built in FOLDER,
+                                                   or anywhere if FOLDER/.cargo is the CARGO_HOME of the environment
 """
 
 import re
@@ -85,12 +85,21 @@ def write_crate(folder, name, edition, texts):
     (source / "lib.rs").write_text(f"#![allow(warnings)]\n{modules}")
 
 
+def redo_of_older():
+    """The redo of the older core, which has one for its tests, as the newest core calls a line. Its files have none."""
+    undo = (package_folder() / "src/undo.rs").read_text()
+    of_change, of_record = re.findall(r"(?m)^    (?:pub )?fn redo\(.*\n(?:.*\n)*?^    }\n", undo)
+    told = re.sub(r"(line\.\w+\(.*)\);", r"\1, &mut NoListener);", of_change)
+    return f"impl Change {{\n{told}}}\n\nimpl Changeset {{\n{of_record}}}\n"
+
+
 def make_newest(folder, name):
     """Makes a crate of the newest core, which has the modules and the calls of the crate lodvarn."""
     if not takes_newest():
         raise NotThere(f"The files of rustyline {NEWEST} are not in {BESIDE}, or cargo is too old for them.")
     files = {module: (BESIDE / f"src--src--{module}.rs.txt").read_text() for module in (*PARTS, "keymap", "layout")}
-    write_crate(folder, name, "2024", {**files, "keymap": types_of(files["keymap"])})
+    added = {"keymap": types_of(files["keymap"]), "undo": files["undo"] + redo_of_older()}
+    write_crate(folder, name, "2024", {**files, **added})
 
 
 def make_older(folder, name):

@@ -4,9 +4,10 @@
     python3 clients/rustyline/speed.py [--core FOLDER]
 
 The core is that of rustyline 19.0.0 where its files are beside the repository and cargo takes them, else that of
-Debian's package, 9.1.2. The crate lodvarn is that of clients/rust, or the one in FOLDER. Prints the nanoseconds of a
-key for each workload of speed.rs, the least of all rounds, and the median of the ratios. A ratio above 2 fails. Its
-last line is 'N passed, M failed'.
+Debian's package, 9.1.2, for the first rows alone. The crate lodvarn is that of clients/rust, or the one in FOLDER.
+Prints for each row of speed.rs the nanoseconds of a key, the least of all rounds, its target, and the median of the
+ratios. A row fails if its ratio is above MOST times its target in each of some runs. Its last line is 'N passed, M
+failed'.
 """
 
 import os
@@ -19,8 +20,9 @@ from pathlib import Path
 from sources import HERE, NotThere, make_newest, make_older, take_offline, takes_newest
 from test_editor import LODVARN
 
-MOST = 2
-# How often it may be tried, since others use the machine.
+# How often its target a ratio may be.
+MOST = 1.5
+# How many runs there may be, since others use the machine.
 TRIES = 3
 MANIFEST = """[package]
 name = "speed"
@@ -60,15 +62,20 @@ def build(folder, lodvarn):
 
 
 def time_keys(program):
-    """Runs the program on one processor until no ratio is too great, or it was tried often. Answers the ratios."""
+    """Runs the program on one processor until each row was quick enough once, or it was tried often. Answers how many
+    rows there are, and which of them never were."""
     os.sched_setaffinity(0, {max(os.sched_getaffinity(0))})
+    least = {}
     for _ in range(TRIES):
         said = subprocess.run([program], check=True, stdout=subprocess.PIPE, text=True).stdout
-        ratios = [float(ratio) for ratio in re.findall(r"ratio ([\d.]+)$", said, re.M)]
-        if max(ratios) <= MOST:
+        for what, target, ratio in re.findall(r"^(.*): .* target ([\d.]+), ratio ([\d.]+)$", said, re.M):
+            times = float(ratio) / float(target)
+            least[what] = min(times, least.get(what, times))
+        slow = [what for what, times in least.items() if times > MOST]
+        if not slow:
             break
     print(said, end="")
-    return ratios
+    return len(least), slow
 
 
 def main():
@@ -78,13 +85,14 @@ def main():
         return 2
     with tempfile.TemporaryDirectory(prefix="lodvarn-") as name:
         try:
-            ratios = time_keys(build(Path(name), Path(words[1]).resolve() if words else LODVARN))
+            count, slow = time_keys(build(Path(name), Path(words[1]).resolve() if words else LODVARN))
         except (NotThere, subprocess.CalledProcessError) as why:
             print(f"{why}\n0 passed, 1 failed")
             return 1
-    slow = sum(ratio > MOST for ratio in ratios)
-    print(f"{len(ratios) - slow} passed, {slow} failed")
-    return 0 if slow == 0 else 1
+    if slow:
+        print(f"FAILED, above {MOST} times the target: {'; '.join(slow)}")
+    print(f"{count - len(slow)} passed, {len(slow)} failed")
+    return 1 if slow else 0
 
 
 if __name__ == "__main__":

@@ -1,100 +1,188 @@
 //! Times an editor's keys through the crate `lodvarn` and through rustyline's own core, named `original`, by turns. The
 //! two must end with the same texts and cursors.
-use std::time::Instant;
+#![cfg_attr(feature = "older", allow(dead_code))]
+use std::fmt::Display;
+use std::time::{Duration, Instant};
 
-/// The keys of a line, typed over and over. A line is entered after so many of them.
+/// A line of prose.
 const PROSE: &str =
-    "The kill ring keeps the last texts, and a yank puts one of them (\"déjà vu\") back; ";
-const LINE: usize = 1000;
-/// How many lines a round types, and how many rounds there are of each.
-const LINES: usize = 100;
-const ROUNDS: usize = 21;
+    "The kill ring keeps the last texts, and a yank puts one of them (\"déjà vu\") back;\n";
+/// How many rounds there are of each row.
+const ROUNDS: usize = 41;
 
 /// What an editor makes of a key. Each begins with what every key does: the ring is reset; and ends with what is drawn:
-/// the text and the cursor are read.
+/// the text and the cursor are read. It returns the sum of the text's length and the cursor's place.
 trait Keys {
     /// An editor with an empty line.
     fn new() -> Self;
     /// A character is typed.
-    fn insert(&mut self, c: char);
-    /// What was recorded last is undone.
-    fn undo(&mut self);
-    /// The text and the cursor's place.
-    fn seen(&self) -> (&str, usize);
+    fn insert(&mut self, c: char) -> usize;
+    /// What was recorded last is undone, so many times.
+    fn undo(&mut self, n: u16) -> usize;
+    /// The text.
+    fn text(&self) -> &str;
 }
 
-/// An editor on a core that has the interface of rustyline 19: a record and a ring hear the line as one listener.
+/// An editor on a core that has the interface of rustyline 19. Its record hears of all that the line does, and its ring of
+/// what is deleted.
 macro_rules! editor_of {
-    ($name:ident) => {
+    ($name:ident, $heard:ty) => {
         mod $name {
-            use $name::kill_ring::KillRing;
-            use $name::line_buffer::{ChangeListener, DeleteListener, Direction, LineBuffer};
+            use super::Keys;
+            use $name::keymap::{At, Movement, Word};
+            use $name::kill_ring::{KillRing, Mode};
+            use $name::layout::{GraphemeClusterMode, Layout};
+            use $name::line_buffer::{LineBuffer, NoListener, WordAction};
             use $name::undo::Changeset;
+
+            type Heard = $heard;
 
             pub struct Editor {
                 line: LineBuffer,
                 heard: Heard,
             }
 
-            struct Heard {
-                record: Changeset,
-                ring: KillRing,
+            impl Editor {
+                /// Makes an edit that some key stands for.
+                fn key<A>(&mut self, edit: impl FnOnce(&mut LineBuffer, &mut Heard) -> A) -> usize {
+                    self.heard.deletions.reset();
+                    edit(&mut self.line, &mut self.heard);
+                    self.line.as_str().len() + self.line.pos()
+                }
+                /// The line gets a text and a cursor, of which no one hears.
+                pub fn put(&mut self, text: &str, pos: usize) {
+                    self.line.update(text, pos, &mut NoListener);
+                }
+                /// It gets a text too, and so many changes at its end, of which the record keeps each by itself.
+                pub fn change(&mut self, text: &str, times: u16) {
+                    self.put(text, text.len());
+                    for _ in 0..times {
+                        self.insert('-');
+                    }
+                }
+                /// The ring gets a text.
+                pub fn keep(&mut self, text: &str) {
+                    self.heard.deletions.kill(text, Mode::Append);
+                }
+                /// What was undone last is made again. The cursor is left out, since the original does not move it.
+                pub fn redo(&mut self) -> usize {
+                    self.key(|line, heard| heard.all.redo(line)) - self.line.pos()
+                }
+                pub fn backspace(&mut self) -> usize {
+                    self.key(|line, heard| line.backspace(1, heard))
+                }
+                pub fn kill_word(&mut self) -> usize {
+                    let word = Movement::BackwardWord(1, Word::Emacs);
+                    self.key(|line, heard| line.kill(&word, heard))
+                }
+                pub fn yank(&mut self) -> usize {
+                    self.key(|line, heard| {
+                        let text = heard.deletions.yank().expect("a text is kept");
+                        line.yank(text, 1, &mut heard.all)
+                    })
+                }
+                /// The whole text gives way to another, as to one of the history.
+                pub fn update(&mut self, text: &str) -> usize {
+                    self.key(|line, heard| line.update(text, text.len(), heard))
+                }
+                /// So many bytes at the start give way to a text, as to one that completes them.
+                pub fn replace(&mut self, len: usize, text: &str) -> usize {
+                    self.key(|line, heard| line.replace(0..len, text, heard))
+                }
+                pub fn capitalize(&mut self) -> usize {
+                    self.key(|line, heard| line.edit_word(WordAction::Capitalize, heard))
+                }
+                /// A line is begun, with a record.
+                pub fn begin(&mut self) -> usize {
+                    self.line = LineBuffer::with_capacity(4096).can_growth(true);
+                    self.heard.all = Changeset::new();
+                    self.key(|_, _| ())
+                }
+                /// How many columns the text takes.
+                pub fn width(&self) -> usize {
+                    GraphemeClusterMode::Unicode.width(self.text()).into()
+                }
+                /// The cursor moves, by one of eight motions.
+                pub fn go(&mut self, motion: usize) -> usize {
+                    let layout = Layout::new(GraphemeClusterMode::Unicode);
+                    self.key(|line, _| match motion % 8 {
+                        0 => line.move_to_next_word(At::AfterEnd, Word::Emacs, 1),
+                        1 => line.move_to_prev_word(Word::Emacs, 1),
+                        2 => line.move_forward(1),
+                        3 => line.move_backward(1),
+                        4 => line.move_to_line_up(1, &layout),
+                        5 => line.move_to_line_down(1, &layout),
+                        6 => line.move_home(),
+                        _ => line.move_end(),
+                    })
+                }
             }
 
-            impl DeleteListener for Heard {
-                fn start_killing(&mut self) {
-                    self.ring.start_killing();
-                }
-                fn delete(&mut self, at: usize, text: &str, direction: Direction) {
-                    self.ring.delete(at, text, direction);
-                    DeleteListener::delete(&mut self.record, at, text, direction);
-                }
-                fn stop_killing(&mut self) {
-                    self.ring.stop_killing();
-                }
-            }
-
-            impl ChangeListener for Heard {
-                fn insert_char(&mut self, at: usize, c: char) {
-                    self.record.insert_char(at, c);
-                }
-                fn insert_str(&mut self, at: usize, text: &str) {
-                    ChangeListener::insert_str(&mut self.record, at, text);
-                }
-                fn replace(&mut self, at: usize, old: &str, new: &str) {
-                    ChangeListener::replace(&mut self.record, at, old, new);
-                }
-            }
-
-            impl super::Keys for Editor {
+            impl Keys for Editor {
                 fn new() -> Self {
                     Self {
                         line: LineBuffer::with_capacity(4096).can_growth(true),
                         heard: Heard {
-                            record: Changeset::new(),
-                            ring: KillRing::new(60),
+                            all: Changeset::new(),
+                            deletions: KillRing::new(60),
                         },
                     }
                 }
-                fn insert(&mut self, c: char) {
-                    self.heard.ring.reset();
-                    self.line.insert(c, 1, &mut self.heard);
+                fn insert(&mut self, c: char) -> usize {
+                    self.key(|line, heard| line.insert(c, 1, heard))
                 }
-                fn undo(&mut self) {
-                    self.heard.ring.reset();
-                    self.heard.record.undo(&mut self.line, 1);
+                fn undo(&mut self, n: u16) -> usize {
+                    self.key(|line, heard| heard.all.undo(line, n))
                 }
-                fn seen(&self) -> (&str, usize) {
-                    (self.line.as_str(), self.line.pos())
+                fn text(&self) -> &str {
+                    self.line.as_str()
                 }
             }
         }
     };
 }
 
-editor_of!(lodvarn);
+editor_of!(lodvarn, lodvarn::Pair<Changeset, KillRing>);
 #[cfg(not(feature = "older"))]
-editor_of!(original);
+editor_of!(original, crate::heard::Heard);
+
+/// What hears the line of an editor on the original core, as `lodvarn::Pair` does.
+#[cfg(not(feature = "older"))]
+mod heard {
+    use original::kill_ring::KillRing;
+    use original::line_buffer::{ChangeListener, DeleteListener, Direction};
+    use original::undo::Changeset;
+
+    pub struct Heard {
+        pub all: Changeset,
+        pub deletions: KillRing,
+    }
+
+    impl DeleteListener for Heard {
+        fn start_killing(&mut self) {
+            self.deletions.start_killing();
+        }
+        fn delete(&mut self, at: usize, text: &str, direction: Direction) {
+            DeleteListener::delete(&mut self.all, at, text, direction);
+            self.deletions.delete(at, text, direction);
+        }
+        fn stop_killing(&mut self) {
+            self.deletions.stop_killing();
+        }
+    }
+
+    impl ChangeListener for Heard {
+        fn insert_char(&mut self, at: usize, c: char) {
+            self.all.insert_char(at, c);
+        }
+        fn insert_str(&mut self, at: usize, text: &str) {
+            ChangeListener::insert_str(&mut self.all, at, text);
+        }
+        fn replace(&mut self, at: usize, old: &str, new: &str) {
+            ChangeListener::replace(&mut self.all, at, old, new);
+        }
+    }
+}
 
 /// An editor on the core of rustyline 9: its line keeps the listeners.
 #[cfg(feature = "older")]
@@ -117,51 +205,46 @@ mod original {
             line.set_change_listener(record.clone());
             Self { line, record, ring }
         }
-        fn insert(&mut self, c: char) {
+        fn insert(&mut self, c: char) -> usize {
             self.ring.lock().expect("no one else has it").reset();
             self.line.insert(c, 1);
+            self.line.as_str().len() + self.line.pos()
         }
-        fn undo(&mut self) {
+        fn undo(&mut self, n: u16) -> usize {
             self.ring.lock().expect("no one else has it").reset();
-            self.record.borrow_mut().undo(&mut self.line, 1);
+            self.record.borrow_mut().undo(&mut self.line, n.into());
+            self.line.as_str().len() + self.line.pos()
         }
-        fn seen(&self) -> (&str, usize) {
-            (self.line.as_str(), self.line.pos())
+        fn text(&self) -> &str {
+            self.line.as_str()
         }
     }
 }
 
-/// What a round leaves: the last line with its cursor, and the sum of all lengths and places that were looked at, so that
-/// no look is left out as unused.
-type Left = (String, usize, usize);
+/// What a round leaves: the last text, and the sum of all that keys returned, so that no look is left out as unused.
+type Left = (String, usize);
 
-/// Types lines, with an undo after each so many characters. Returns the nanoseconds that a key took, and what is left.
-fn round<E: Keys>(undo_after: usize) -> (f64, Left) {
-    let begin = Instant::now();
-    let mut keys = 0;
-    let mut sum = 0;
-    let mut last = (String::new(), 0);
-    let mut look = |editor: &E| {
-        let (text, pos) = editor.seen();
-        sum += text.len() + pos;
-    };
-    for _ in 0..LINES {
+/// Makes some editors ready, and times keys in each, which get their number. Returns the nanoseconds that one took, and
+/// what is left.
+fn time<E: Keys>(
+    editors: usize,
+    keys: usize,
+    prepare: impl Fn(&mut E),
+    key: impl Fn(&mut E, usize) -> usize,
+) -> (f64, Left) {
+    let (mut took, mut last, mut sum) = (Duration::ZERO, String::new(), 0);
+    for _ in 0..editors {
         let mut editor = E::new();
-        for (typed, c) in PROSE.chars().cycle().take(LINE).enumerate() {
-            editor.insert(c);
-            look(&editor);
-            keys += 1;
-            if typed % undo_after == undo_after - 1 {
-                editor.undo();
-                look(&editor);
-                keys += 1;
-            }
+        prepare(&mut editor);
+        let begin = Instant::now();
+        for turn in 0..keys {
+            sum += key(&mut editor, turn);
         }
-        let (text, pos) = editor.seen();
-        last = (text.to_string(), pos);
+        took += begin.elapsed();
+        last = editor.text().to_string();
     }
-    let took = begin.elapsed().as_nanos() as f64 / f64::from(keys);
-    (took, (last.0, last.1, sum))
+    let took = took.as_nanos() as f64 / (editors * keys) as f64;
+    (took, (last, sum))
 }
 
 /// The number in the middle.
@@ -171,23 +254,80 @@ fn median(mut numbers: Vec<f64>) -> f64 {
 }
 
 /// Prints what a key takes in each, the least of all rounds, and the median of the ratios within a round.
-fn compare(what: &str, undo_after: usize) {
+fn compare(
+    what: impl Display,
+    target: f64,
+    time_ours: impl Fn() -> (f64, Left),
+    time_theirs: impl Fn() -> (f64, Left),
+) {
     let (mut ours, mut theirs, mut ratios) = (f64::MAX, f64::MAX, Vec::new());
     for _ in 0..ROUNDS {
-        let (ours_now, ends) = round::<lodvarn::Editor>(undo_after);
-        let (theirs_now, as_ends) = round::<original::Editor>(undo_after);
-        assert_eq!(ends, as_ends, "both end with the same line");
+        let (ours_now, ends) = time_ours();
+        let (theirs_now, as_ends) = time_theirs();
+        assert!(ends == as_ends, "{what}: the two end otherwise");
         ours = ours.min(ours_now);
         theirs = theirs.min(theirs_now);
         ratios.push(ours_now / theirs_now);
     }
     println!(
-        "{what}: {ours:.0} ns a key, {theirs:.0} ns by rustyline, ratio {:.2}",
+        "{what}: {ours:.0} ns, {theirs:.0} ns by rustyline, target {target}, ratio {:.2}",
         median(ratios)
     );
 }
 
+/// Compares rows. Of each: what it is, its target, how many editors a round has, how many keys each gets, what makes an
+/// editor ready, and a key.
+macro_rules! rows {
+    ($($what:expr, $target:literal, $editors:literal, $keys:literal, $prepare:expr, $key:expr;)*) => {$(
+        compare(
+            $what,
+            $target,
+            || time::<lodvarn::Editor>($editors, $keys, $prepare, $key),
+            || time::<original::Editor>($editors, $keys, $prepare, $key),
+        );
+    )*};
+}
+
+/// So many characters of prose.
+fn prose(len: usize) -> String {
+    PROSE.chars().cycle().take(len).collect()
+}
+
+/// The rows that a core needs the interface of rustyline 19 for.
+#[cfg(not(feature = "older"))]
+fn compare_more(typed: &[char]) {
+    let (kb, plain, long) = (&prose(1000), &String::from_iter(typed), &prose(47_000));
+    rows! {
+        "a letter in the middle of 1 KB", 1.2, 20, 500, |e| e.put(kb, 500), |e, i| e.insert(typed[i]);
+        "a backspace", 0.8, 10, 800, |e| e.put(kb, kb.len()), |e, _| e.backspace();
+        "a word killed", 1.0, 20, 100, |e| e.put(kb, kb.len()), |e, _| e.kill_word();
+    }
+    for (size, len) in [("1 KB", 1000), ("100 KB", 100_000), ("1 MB", 1_000_000)] {
+        let text = &prose(len);
+        rows! {
+            format!("an undo at {size}"), 1.2, 10, 400, |e| e.change(text, 400), |e, _| e.undo(1);
+            format!("a redo at {size}"), 1.2, 10, 400, |e| { e.change(text, 400); e.undo(400); }, |e, _| e.redo();
+        }
+    }
+    rows! {
+        "a yank of 20 bytes", 1.3, 40, 50, |e| { e.put(kb, kb.len()); e.keep(&kb[..20]); }, |e, _| e.yank();
+        "a yank of 47 KB", 1.3, 20, 1, |e| e.keep(long), |e, _| e.yank();
+        "a text of 1 KB replaced", 1.5, 10, 100, |_| (), |e, _| e.update(kb);
+        "a word replaced", 1.5, 10, 100, |e| e.put(kb, 0), |e, _| e.replace(3, "one");
+        "a new line with its record", 2.0, 1, 2000, |_| (), |e, _| e.begin();
+        "a width of 1 KB", 1.0, 1, 200, |e| e.put(plain, 0), |e, _| e.width();
+        "a word's case", 1.0, 20, 100, |e| e.put(kb, 0), |e, _| e.capitalize();
+        "moves", 0.85, 1, 8000, |e| e.put(kb, 500), |e, i| e.go(i);
+    }
+}
+
 fn main() {
-    compare("letters", usize::MAX);
-    compare("letters, with an undo after each 16", 16);
+    let typed: Vec<char> = prose(1000).replace('\n', " ").chars().collect();
+    rows! {
+        "a letter at the end of a line", 1.1, 10, 1000, |_| (), |e, i| e.insert(typed[i]);
+        "the same, with an undo after each 16", 1.2, 10, 1000, |_| (),
+            |e, i| if i % 17 == 16 { e.undo(1) } else { e.insert(typed[i]) };
+    }
+    #[cfg(not(feature = "older"))]
+    compare_more(&typed);
 }

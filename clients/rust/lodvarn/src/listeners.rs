@@ -34,6 +34,12 @@ pub trait ChangeListener: DeleteListener {
     /// At the byte place `idx` the text `old` gave way to the text `new`. A session tells each change of an undo and of
     /// a redo so; those of a [`Changeset`](crate::undo::Changeset) tell no one.
     fn replace(&mut self, idx: usize, old: &str, new: &str);
+
+    // What the library can tell without a call of this listener, if nothing is deleted.
+    #[doc(hidden)]
+    fn known_inserting(&mut self) -> Known<'_> {
+        self.known()
+    }
 }
 
 /// A listener that hears nothing.
@@ -101,6 +107,12 @@ impl<A: ChangeListener, D: DeleteListener> ChangeListener for Pair<A, D> {
     fn replace(&mut self, idx: usize, old: &str, new: &str) {
         self.all.replace(idx, old, new);
     }
+
+    // The second hears nothing then. So a ring that is reset stays so.
+    #[inline]
+    fn known_inserting(&mut self) -> Known<'_> {
+        self.all.known_inserting()
+    }
 }
 
 // What points to a listener is one.
@@ -136,6 +148,11 @@ macro_rules! pointers {
 
             fn replace(&mut self, idx: usize, old: &str, new: &str) {
                 (**self).replace(idx, old, new);
+            }
+
+            #[inline]
+            fn known_inserting(&mut self) -> Known<'_> {
+                (**self).known_inserting()
             }
         }
     )*};

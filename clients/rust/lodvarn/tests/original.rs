@@ -454,6 +454,12 @@ fn whoever_hears_is_told() {
     line.replace(0..3, "1", &mut changes);
     assert!(changes.undo(&mut line, 1));
     assert_eq!((line.as_str(), line.pos()), ("one ", 4));
+    let mut both = Pair {
+        all: &mut changes,
+        deletions: &mut taken,
+    };
+    line.insert('x', 1, &mut both);
+    assert_eq!((changes.len(), taken.len()), (2, 1));
 }
 
 #[test]

@@ -58,7 +58,7 @@ impl LineBuffer {
         }
         // What a typed character changes is known, so no report of it is made.
         let at = self.pos();
-        let known = cl.known();
+        let known = cl.known_inserting();
         let is_other = known.is_other();
         let goes_in = put_in(self.line.insert_one(ch, &known))?;
         if is_other && goes_in.is_some() {
