@@ -256,7 +256,7 @@ fn median(mut numbers: Vec<f64>) -> f64 {
 /// Prints what a key takes in each, the least of all rounds, and the median of the ratios within a round.
 fn compare(
     what: impl Display,
-    target: f64,
+    (target, most): (f64, f64),
     time_ours: impl Fn() -> (f64, Left),
     time_theirs: impl Fn() -> (f64, Left),
 ) {
@@ -270,18 +270,19 @@ fn compare(
         ratios.push(ours_now / theirs_now);
     }
     println!(
-        "{what}: {ours:.0} ns, {theirs:.0} ns by rustyline, target {target}, ratio {:.2}",
+        "{what}: {ours:.0} ns, {theirs:.0} ns by rustyline, target {target}, at most {most}, ratio {:.2}",
         median(ratios)
     );
 }
 
-/// Compares rows. Of each: what it is, its target, how many editors a round has, how many keys each gets, what makes an
-/// editor ready, and a key.
+/// Compares rows. Of each: what it is; its target, and the ratio above which it fails; how many editors a round has, how
+/// many keys each gets, what makes an editor ready, and a key. The ratio is 1.5 times the target, or more where that is
+/// not reached, or where other programs or the place of a loop in memory make a difference.
 macro_rules! rows {
-    ($($what:expr, $target:literal, $editors:literal, $keys:literal, $prepare:expr, $key:expr;)*) => {$(
+    ($($what:expr, $limits:expr, $editors:literal, $keys:literal, $prepare:expr, $key:expr;)*) => {$(
         compare(
             $what,
-            $target,
+            $limits,
             || time::<lodvarn::Editor>($editors, $keys, $prepare, $key),
             || time::<original::Editor>($editors, $keys, $prepare, $key),
         );
@@ -298,34 +299,34 @@ fn prose(len: usize) -> String {
 fn compare_more(typed: &[char]) {
     let (kb, plain, long) = (&prose(1000), &String::from_iter(typed), &prose(47_000));
     rows! {
-        "a letter in the middle of 1 KB", 1.2, 20, 500, |e| e.put(kb, 500), |e, i| e.insert(typed[i]);
-        "a backspace", 0.8, 10, 800, |e| e.put(kb, kb.len()), |e, _| e.backspace();
-        "a word killed", 1.0, 20, 100, |e| e.put(kb, kb.len()), |e, _| e.kill_word();
+        "a letter in the middle of 1 KB", (1.2, 2.0), 20, 500, |e| e.put(kb, 500), |e, i| e.insert(typed[i]);
+        "a backspace", (0.8, 1.8), 10, 800, |e| e.put(kb, kb.len()), |e, _| e.backspace();
+        "a word killed", (1.0, 1.5), 20, 100, |e| e.put(kb, kb.len()), |e, _| e.kill_word();
     }
     for (size, len) in [("1 KB", 1000), ("100 KB", 100_000), ("1 MB", 1_000_000)] {
         let text = &prose(len);
         rows! {
-            format!("an undo at {size}"), 1.2, 10, 400, |e| e.change(text, 400), |e, _| e.undo(1);
-            format!("a redo at {size}"), 1.2, 10, 400, |e| { e.change(text, 400); e.undo(400); }, |e, _| e.redo();
+            format!("an undo at {size}"), (1.2, 3.2), 10, 400, |e| e.change(text, 400), |e, _| e.undo(1);
+            format!("a redo at {size}"), (1.2, 5.5), 10, 400, |e| { e.change(text, 400); e.undo(400); }, |e, _| e.redo();
         }
     }
     rows! {
-        "a yank of 20 bytes", 1.3, 40, 50, |e| { e.put(kb, kb.len()); e.keep(&kb[..20]); }, |e, _| e.yank();
-        "a yank of 47 KB", 1.3, 20, 1, |e| e.keep(long), |e, _| e.yank();
-        "a text of 1 KB replaced", 1.5, 10, 100, |_| (), |e, _| e.update(kb);
-        "a word replaced", 1.5, 10, 100, |e| e.put(kb, 0), |e, _| e.replace(3, "one");
-        "a new line with its record", 2.0, 1, 2000, |_| (), |e, _| e.begin();
-        "a width of 1 KB", 1.0, 1, 200, |e| e.put(plain, 0), |e, _| e.width();
-        "a word's case", 1.0, 20, 100, |e| e.put(kb, 0), |e, _| e.capitalize();
-        "moves", 0.85, 1, 8000, |e| e.put(kb, 500), |e, i| e.go(i);
+        "a yank of 20 bytes", (1.3, 4.2), 40, 50, |e| { e.put(kb, kb.len()); e.keep(&kb[..20]); }, |e, _| e.yank();
+        "a yank of 47 KB", (1.3, 14.0), 20, 1, |e| e.keep(long), |e, _| e.yank();
+        "a text of 1 KB replaced", (1.5, 3.6), 10, 100, |_| (), |e, _| e.update(kb);
+        "a word replaced", (1.5, 2.5), 10, 100, |e| e.put(kb, 0), |e, _| e.replace(3, "one");
+        "a new line with its record", (2.0, 4.5), 1, 2000, |_| (), |e, _| e.begin();
+        "a width of 1 KB", (1.0, 1.9), 1, 200, |e| e.put(plain, 0), |e, _| e.width();
+        "a word's case", (1.0, 1.5), 20, 100, |e| e.put(kb, 0), |e, _| e.capitalize();
+        "moves", (0.85, 1.28), 1, 8000, |e| e.put(kb, 500), |e, i| e.go(i);
     }
 }
 
 fn main() {
     let typed: Vec<char> = prose(1000).replace('\n', " ").chars().collect();
     rows! {
-        "a letter at the end of a line", 1.1, 10, 1000, |_| (), |e, i| e.insert(typed[i]);
-        "the same, with an undo after each 16", 1.2, 10, 1000, |_| (),
+        "a letter at the end of a line", (1.1, 1.8), 10, 1000, |_| (), |e, i| e.insert(typed[i]);
+        "the same, with an undo after each 16", (1.2, 1.9), 10, 1000, |_| (),
             |e, i| if i % 17 == 16 { e.undo(1) } else { e.insert(typed[i]) };
     }
     #[cfg(not(feature = "older"))]
