@@ -276,8 +276,8 @@ fn compare(
 }
 
 /// Compares rows. Of each: what it is; its target, and the ratio above which it fails; how many editors a round has, how
-/// many keys each gets, what makes an editor ready, and a key. The ratio is 1.5 times the target, or more where that is
-/// not reached, or where other programs or the place of a loop in memory make a difference.
+/// many keys each gets, what makes an editor ready, and a key. That ratio is some 1.5 times the target, or more if the
+/// target is far, or if the place of a loop in memory makes a difference.
 macro_rules! rows {
     ($($what:expr, $limits:expr, $editors:literal, $keys:literal, $prepare:expr, $key:expr;)*) => {$(
         compare(
