@@ -87,27 +87,24 @@ impl<'k> Known<'k> {
     /// One that the library does not know.
     #[inline]
     pub(crate) const fn other() -> Self {
-        let is_other = true;
         Known {
-            is_other,
+            is_other: true,
             ..Known::nobody()
         }
     }
 
     #[inline]
     pub(crate) fn record(record: &'k mut Record) -> Self {
-        let record = record.at();
         Known {
-            record,
+            record: record.at(),
             ..Known::nobody()
         }
     }
 
     #[inline]
     pub(crate) fn ring(ring: &'k mut Ring) -> Self {
-        let killring = ring.at();
         Known {
-            killring,
+            killring: ring.at(),
             ..Known::nobody()
         }
     }
