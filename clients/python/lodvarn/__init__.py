@@ -713,8 +713,8 @@ class Session:
     def changes(self) -> Iterator[Report]:
         """Hands out the reports that wait, the oldest first, and forgets each. None waits if nothing is watched.
 
-        Whoever applies them in order to the text that he had has the text of the session. One that is FOLDED, or has no
-        texts, comes alone, and what came by it is in the present text: apply it before the next command.
+        Apply them in order to your copy of the text, and it equals the session's. One that is FOLDED, or has no texts,
+        comes alone, and what came by it is in the present text: apply it before the next command.
         """
         self.count_reports()
         return chain.from_iterable(iter(self._ready, None))

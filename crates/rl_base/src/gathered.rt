@@ -35,7 +35,7 @@ impl Model for Gathered {
 }
 
 impl Gathered {
-    /// A text that holds a copy of `text`. Refused only where memory is out; an empty one is never refused.
+    /// A text that holds a copy of `text`. Refused only if memory is out; an empty one is never refused.
     pub fn of(alloc: Global, text: &str) -> Result<Gathered, Refusal>
         ensures ok { IfOk result (λ g. g.text ≡ text.now) }
         ensures err { IfErr result (λ r. (r ≡ NoMemory) × (0 < length text.now)) }
@@ -64,7 +64,7 @@ impl Gathered {
         &self.buf.as_str()[self.blanks..]
     }
 
-    /// Puts a part at the end. Refused only where memory is out, and then it changes nothing; an empty part never is.
+    /// Puts a part at the end. Refused only if memory is out, and then it changes nothing; an empty part never is.
     pub fn push_back(&mut self, part: &str) -> Result<(), Refusal>
         ensures ok { OnOk result (self.new.text ≡ self.old.text ++ part.now) }
         ensures err { IfErr result (λ r. (r ≡ NoMemory) × (self.new ≡ self.old) × (0 < length part.now)) }
@@ -73,7 +73,7 @@ impl Gathered {
         Ok(())
     }
 
-    /// Puts a part in front. Refused only where memory is out, and then it changes nothing. A part that fits into
+    /// Puts a part in front. Refused only if memory is out, and then it changes nothing. A part that fits into
     /// the blanks before the text is never refused.
     pub fn push_front(&mut self, part: &str) -> Result<(), Refusal>
         ensures ok { OnOk result (self.new.text ≡ part.now ++ self.old.text) }
@@ -104,7 +104,7 @@ impl Gathered {
     }
 }
 
-// Finds blanks for `bytes` bytes before a text, and answers how many stand there then. Where there are too few, it adds
+// Finds blanks for `bytes` bytes before a text, and answers how many stand there then. If there are too few, it adds
 // at least as many as there are bytes to move, so that the next move comes only after as many bytes in front.
 fn find_blanks(buf: &mut String, blanks: usize, bytes: usize) -> Result<usize, Refusal>
     requires { BeginsBlank blanks (string_bytes buf.old) }
@@ -134,7 +134,7 @@ fn put_over_blanks(buf: &mut String, blanks: usize, part: &str) -> usize
         return from;
     };
     // The standard library doesn't promise that a text of the same length needs no more room. It does promise it of a
-    // deletion, and of an insertion where there is room: so all blanks are removed. This uses another kind of range, so
+    // deletion, and of an insertion if there is room: so all blanks are removed. This uses another kind of range, so
     // that the call above stays the only one of its kind, and is inlined.
     match buf.replace_range(..blanks, "") {
         Ok(()) => {}

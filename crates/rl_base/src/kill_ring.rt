@@ -73,8 +73,8 @@ impl KillRing {
 
     /// Puts a killed text into the ring (GNU readline: kill-line and its like). Right after another kill it is joined
     /// to that kill's text, at the side that `dir` says. Else it goes right after the current text, replaces one that
-    /// stands there, and becomes the current one. Refused only where memory is out, and then it changes nothing. Never
-    /// refused where the ring would not grow: at size 0, which keeps no text, and an empty text that needs no new slot.
+    /// stands there, and becomes the current one. Refused only if memory is out, and then it changes nothing. Never
+    /// refused if the ring would not grow: at size 0, which keeps no text, and an empty text that needs no new slot.
     pub fn kill(&mut self, text: &str, dir: Mode) -> Result<(), Refusal>
         ensures done { OnOk result (self.new ≡ killed text.now dir self.old) }
         ensures err { IfErr result (λ r. (r ≡ NoMemory) × (self.new ≡ self.old) × Enlarges text.now dir self.old) }
@@ -102,7 +102,7 @@ impl KillRing {
         self.last = Action::Other;
     }
 
-    /// The current text, `None` where there is none (GNU readline: yank): the one that was killed last, or that
+    /// The current text, `None` if there is none (GNU readline: yank): the one that was killed last, or that
     /// `yank_pop` came to. Its length in bytes is kept for `yank_pop`.
     pub fn yank(&mut self) -> Option<&String>
         ensures* moved { sem 𝓛 (EndsAs self.entry (yanked self.old)) }
@@ -155,7 +155,7 @@ impl KillRing {
         }
     }
 
-    /// The length in bytes of the text that was yanked, where a `yank` or `yank_pop` was the last thing done.
+    /// The length in bytes of the text that was yanked, if a `yank` or `yank_pop` was the last thing done.
     pub fn yank_size(&self) -> Option<usize>
         ensures size { result ≡ yank_size self.now }
         ensures ring { IsRing self.now }
@@ -217,7 +217,7 @@ fn index_before(index: usize, slots: &[Gathered]) -> usize
     index - 1
 }
 
-// The index of the slot that is so many slots before, round the ring, where there are as many.
+// The index of the slot that is so many slots before, round the ring, if there are as many.
 fn index_back(index: usize, back: usize, slots: &[Gathered]) -> Option<usize>
     requires { index < max 1 (length slots.now) }
     ensures { MatchOption result (slice_get (back_from index (texts slots.now)) back ≡ None)
@@ -291,7 +291,7 @@ fn text_at(slots: &[Gathered], index: usize) -> Option<&String>
     }
 }
 
-/// Whatever is done with a new ring except `yank_pop`, and where no kill is refused, it holds the latest groups of
+/// Whatever is done with a new ring except `yank_pop`, and if no kill is refused, it holds the latest groups of
 /// consecutive kills, as many as it has room for, and a yank gives the newest. Consecutive kills are one group:
 /// their texts, joined.
 pub fn ring_holds_groups()
@@ -302,7 +302,7 @@ pub fn ring_holds_groups()
         → groups_of (doings ++ (Kills text mode ∷ kills)) ≡ all_joined text kills ∷ groups_of doings }
 {}
 
-/// The texts of a ring are those that yanks give: the first is what a yank gives, and where there is another, each
+/// The texts of a ring are those that yanks give: the first is what a yank gives, and if there is another, each
 /// `yank_pop` goes one further back.
 pub fn texts_back_are_yanked()
     ensures yank { (r : Ring) → IsRing r → text_back 0 r ≡ yank r }

@@ -152,7 +152,7 @@ impl Layout {
 }
 
 /// The order of positions is total, goes by row and within a row by column, and two positions are equal in
-/// it exactly where both numbers are.
+/// it exactly if both numbers are.
 pub fn positions_are_ordered()
     ensures total { IsTotalOrder by_row }
     ensures rows { (a b : Position) → a.row < b.row → by_row a b ≡ Less }

@@ -75,7 +75,7 @@ pub enum Movement {
     ViCharSearch(RepeatCount, CharSearch),
     /// To the first place after the text's start where a `Big` word starts (modelled on vi's `^`).
     ViFirstPrint,
-    /// To the first character of the cursor's line that is no blank (White_Space), or to the line's end where there is none
+    /// To the first character of the cursor's line that is no blank (White_Space), or to the line's end if there is none
     /// (vi's `^`, Emacs's `back-to-indentation`).
     FirstNonBlank,
     /// Back by grapheme clusters (readline's `backward-char`, vi's `h`).

@@ -18,7 +18,7 @@ use std::marker::Model;
 /// no more than what was put in.
 #[derive(Drop)]
 pub struct Notes {
-    // How many bytes of texts may wait; 0 where none are kept.
+    // How many bytes of texts may wait; 0 if none are kept.
     text_room: usize,
     waiting: VecDeque<Report>,
     // The texts of the reports that wait, one after another. Before them stand those of reports that are forgotten, which are
@@ -56,7 +56,7 @@ impl Notes {
     }
 
     /// Nothing waits, and there is memory for so many reports and, with forgotten ones before them, for so many bytes of texts.
-    /// Refused only where memory is out, and never where it needs none.
+    /// Refused only if memory is out, and never if it needs none.
     pub fn with_room(alloc: Global, room: usize, text_room: usize) -> Result<Self, Refusal>
         ensures ok { IfOk result (λ n. (n.text_room ≡ text_room) × (n.waiting ≡ []) × (room ≤ n.places) × (text_room + text_room ≤ n.bytes)) }
         ensures err { IfErr result (λ r. (r ≡ NoMemory) × ((0 < room) ⊎ (0 < text_room))) }
@@ -82,7 +82,7 @@ impl Notes {
         self.waiting.len()
     }
 
-    /// How many bytes of texts may wait; 0 where none are kept.
+    /// How many bytes of texts may wait; 0 if none are kept.
     #[inline(always)]
     pub fn text_room(&self) -> usize
         ensures { result ≡ self.now.text_room }
@@ -98,14 +98,14 @@ impl Notes {
         self.texts.len() - self.spent
     }
 
-    /// The oldest report that waits, None where none does.
+    /// The oldest report that waits, None if none does.
     pub fn oldest(&self) -> Option<Report>
         ensures { result ≡ option_map (λ n. n.report) (oldest (Whole self.now.waiting)) }
     {
         self.waiting.front().copied()
     }
 
-    /// Its texts: what went, and right after it what came. Empty where none are kept, and where none waits.
+    /// Its texts: what went, and right after it what came. Empty if none are kept, and if none waits.
     pub fn oldest_texts(&self) -> &str
         ensures { result.now ≡ texts_of (oldest (Whole self.now.waiting)) }
     {
@@ -188,7 +188,7 @@ impl Notes {
         self.spent = drop_spent(&mut self.texts, self.spent);
     }
 
-    /// Finds memory for so many more reports. Refused only where memory is out for it, and all that wait do so then too.
+    /// Finds memory for so many more reports. Refused only if memory is out for it, and all that wait do so then too.
     #[inline(always)]
     pub fn reserve(&mut self, more: usize) -> Result<(), Refusal>
         ensures waiting { self.new.waiting ≡ self.old.waiting }
@@ -245,7 +245,7 @@ impl Notes {
     }
 
     /// Puts the reports of another, which keeps texts as this one does, after those that wait, and leaves memory for so many more. Refused
-    /// only where memory is out for it, and all that wait do so then too.
+    /// only if memory is out for it, and all that wait do so then too.
     pub fn append(&mut self, later: Notes, more: usize) -> Result<(), Refusal>
         requires { later.text_room ≡ self.old.text_room }
         ensures done { OnOk result ((self.new.waiting ≡ self.old.waiting ++ later.waiting) × (length self.new.waiting + more ≤ self.new.places)) }
@@ -264,7 +264,7 @@ impl Notes {
         Ok(())
     }
 
-    /// Tells the last report where the cursor was before it and after it, where that is a change.
+    /// Tells the last report where the cursor was before it and after it, if that is a change.
     #[inline(always)]
     pub fn tell_last(&mut self, before: usize, after: usize)
         ensures { self.new ≡ record self.old { waiting = on_last (told_note before after) self.old.waiting } }
@@ -273,7 +273,7 @@ impl Notes {
     }
 }
 
-// Tells the last report where the cursor was before it and after it, where that is a change.
+// Tells the last report where the cursor was before it and after it, if that is a change.
 #[inline(always)]
 fn tell_last(waiting: &mut VecDeque<Report>, before: usize, after: usize)
     ensures items { waiting.new.items ≡ on_last (told_cursors before after) waiting.old.items }
@@ -304,7 +304,7 @@ fn drop_spent(texts: &mut String, spent: usize) -> usize
     0
 }
 
-// Puts what went and what came at the end, where texts are kept, or neither where memory is out.
+// Puts what went and what came at the end, if texts are kept, or neither if memory is out.
 fn keep_texts(texts: &mut String, text_room: usize, gone: &str, come: &str) -> Result<(), Refusal>
     ensures done { OnOk result (string_bytes texts.new ≡ string_bytes texts.old ++ kept text_room (gone.now ++ come.now)) }
     ensures err { IfErr result (λ r. (r ≡ NoMemory) × (string_bytes texts.new ≡ string_bytes texts.old) × (string_capacity texts.old < length (string_bytes texts.old) + length (kept text_room (gone.now ++ come.now)))) }

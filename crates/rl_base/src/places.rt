@@ -18,7 +18,7 @@ pub use hits::{find_place, search};
 pub use words::{first_word_cluster, next_word, prev_word};
 
 /// The byte place past the first `n` grapheme clusters (UAX #29) of what stands from `pos` on, or past
-/// all of them where there are fewer. None at the end and for `n` = 0.
+/// all of them if there are fewer. None at the end and for `n` = 0.
 pub fn next_pos(text: &str, pos: usize, n: RepeatCount) -> Option<usize>
     requires { IsCharBoundary text.now pos }
     ensures value { result ≡ next_pos text.now pos n }
@@ -34,7 +34,7 @@ pub fn next_pos(text: &str, pos: usize, n: RepeatCount) -> Option<usize>
 }
 
 /// The byte place before the last `n` grapheme clusters (UAX #29) of what stands before `pos`, or before
-/// all of them where there are fewer. None at the start and for `n` = 0.
+/// all of them if there are fewer. None at the start and for `n` = 0.
 pub fn prev_pos(text: &str, pos: usize, n: RepeatCount) -> Option<usize>
     requires { IsCharBoundary text.now pos }
     ensures value { result ≡ prev_pos text.now pos n }

@@ -78,7 +78,7 @@ pub struct Report {
     pub old_len: usize,
     /// How many bytes came in their place.
     pub new_len: usize,
-    /// The byte places of the cursor before and after, where they were told.
+    /// The byte places of the cursor before and after, if they were told.
     pub cursors: Option<(usize, usize)>,
 }
 
@@ -156,10 +156,10 @@ fn join_cursors(
     Some((before, after))
 }
 
-/// A queue of reports of changes, for who reads late: what it hears as a listener becomes a report, which waits until it
-/// is forgotten. It refuses nothing, and takes no memory once it is made. Where there is no room for one more report,
+/// A queue of reports of changes, for a late reader: what it hears as a listener becomes a report, which waits until it
+/// is forgotten. It refuses nothing, and takes no memory once it is made. If there is no room for one more report,
 /// or for its texts, all that waits and the new one become one report of the kind `Folded`, which takes in each later
-/// change too, until it is forgotten. So who reads late loses detail, and never step. Without texts at most one report waits: a
+/// change too, until it is forgotten. A late reader loses detail, but never gets out of step. Without texts at most one report waits: a
 /// change that comes before it was read is folded into it, so what came is always in the present text.
 #[derive(Drop)]
 pub struct Reports {
@@ -182,7 +182,7 @@ impl Model for Reports {
 impl Reports {
     /// An empty queue with room for `room` reports and for `text_room` bytes of their texts. Without texts at most one report
     /// waits: a change that comes before it was read is folded into it, so what came is always in the present text. Refused
-    /// only where memory is out, and never where it needs none.
+    /// only if memory is out, and never if it needs none.
     pub fn new(alloc: Global, room: usize, text_room: usize) -> Result<Self, Refusal>
         ensures ok { IfOk result (λ reports. reports ≡ new_queue room text_room) }
         ensures err { IfErr result (λ r. (r ≡ NoMemory) × ((0 < room) ⊎ (0 < text_room))) }
@@ -206,7 +206,7 @@ impl Reports {
         self.notes.len()
     }
 
-    /// The oldest report that waits, None where nothing does.
+    /// The oldest report that waits, None if nothing does.
     pub fn oldest(&self) -> Option<Report>
         ensures { result ≡ option_map (λ n. n.report) (oldest self.now.waiting) }
     {
@@ -295,7 +295,7 @@ impl Reports {
         self.notes.push_numbers(report);
     }
 
-    // Notes that a character was put in, where texts are kept.
+    // Notes that a character was put in, if texts are kept.
     #[inline(never)]
     fn note_char(&mut self, at: usize, c: char)
         requires { 0 < self.old.text_room }
@@ -373,10 +373,10 @@ impl ChangeListener for Reports {
 }
 
 /// Who reads late loses detail, and never step. A new queue leads from each text to itself. A queue that leads from a text
-/// to another, and hears of a change of that, leads to the changed text; where cursors are told after each change, between two
+/// to another, and hears of a change of that, leads to the changed text; if cursors are told after each change, between two
 /// characters, it leads on with them. What its oldest report tells leads on: with texts, to the text in which what went gave way
 /// to the end of its texts, and from there what is left leads on; without texts it is all that waits, and what came stands in the
-/// present text. The cursors of a report stand in the texts before it and after it. Where nothing waits, the text is as it was.
+/// present text. The cursors of a report stand in the texts before it and after it. If nothing waits, the text is as it was.
 pub fn no_step_is_lost()
     ensures new { (placed : Bool) (room text_room : ℕ) (text : List ℕ) → Leads placed (new_queue room text_room) text text }
     ensures heard { (q : Queue) (event : Event) (old text new : List ℕ) → Leads false q old text → IsLineText old → IsLineText text → length new < 2 ^ 64

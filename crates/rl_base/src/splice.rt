@@ -20,7 +20,7 @@ impl Splice {
     ghost use Rattle.rl_base.specs.Splice.{folded};
 
     // Takes in that `gone` bytes at a place gave way to `come` bytes. No place of a text reaches the greatest `usize`, so
-    // the sums are cut there only where an event fits no text.
+    // the sums are cut there only if an event fits no text.
     #[inline(always)]
     pub(crate) fn fold(&mut self, place: usize, gone: usize, come: usize)
         ensures { self.new ≡ folded self.old place gone come }
@@ -59,7 +59,7 @@ pub(crate) const UNTOUCHED: Splice = Splice {
 };
 
 /// A watch that was asked about a text, and then heard of each change of it, takes in all in which the present text
-/// differs from that one, so what it tells then is a splice of the two. Where it tells none, they are the same.
+/// differs from that one, so what it tells then is a splice of the two. If it tells none, they are the same.
 pub fn all_that_changed_is_told()
     ensures asked { (text : List ℕ) → IsUtf8 text → length text < 2 ^ 64 → Covers untouched text text }
     ensures heard { (changed : Splice) (event : Event) (old text new : List ℕ) → Covers changed old text → IsUtf8 text → length text < 2 ^ 64 → length new < 2 ^ 64

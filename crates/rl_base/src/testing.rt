@@ -21,7 +21,7 @@ pub enum TextEvent {
 }
 
 /// A listener for tests of code that uses a line: it hears a given number of changes, lists them, and refuses the next
-/// with `Refusal::Listener`. Where its list finds no memory it refuses with `Refusal::NoMemory`. A refusal leaves it as
+/// with `Refusal::Listener`. If its list finds no memory it refuses with `Refusal::NoMemory`. A refusal leaves it as
 /// it was. It counts the start and the stop of a kill, and never refuses them.
 #[derive(Drop)]
 pub struct RefuseAt {

@@ -19,7 +19,7 @@ pub enum WatchFault {
     #[error("out of memory")]
     NoMemory = 1,
     /// The queue would have room for no report.
-    #[error("a queue needs room for a report")]
+    #[error("the report queue must have room for at least one report")]
     NoRoom = 2,
     /// There is a queue already.
     #[error("there is a queue of reports already")]
@@ -34,7 +34,7 @@ const _: () = prove!(WatchFault::NoRoom as u8 == 2);
 const _: () = prove!(WatchFault::IsWatched as u8 == 3);
 
 /// A listener that tells what changed since it was asked last, as one splice, for what draws, highlights or copies a
-/// text. Who wants each change asks it to keep a queue of reports. It refuses nothing, and takes no memory but the
+/// text. For each change, ask it to keep a queue of reports. It refuses nothing, and takes no memory but the
 /// queue's room.
 #[derive(Drop)]
 pub struct Watch {
@@ -61,7 +61,7 @@ impl Watch {
         }
     }
 
-    /// What changed since this was asked last, or since the watch was made; None where nothing did. Asked again, it
+    /// What changed since this was asked last, or since the watch was made; None if nothing did. Asked again, it
     /// tells only what changes from now on. The reports are another matter.
     pub fn changed(&mut self) -> Option<Splice>
         ensures told { result ≡ told self.old.changed }
@@ -106,7 +106,7 @@ impl Watch {
         self.reports = None;
     }
 
-    /// How many reports wait; a folded one counts as one. 0 where none are kept.
+    /// How many reports wait; a folded one counts as one. 0 if none are kept.
     pub fn waiting_reports(&self) -> usize
         ensures { result ≡ waiting_count self.now }
     {
@@ -116,7 +116,7 @@ impl Watch {
         }
     }
 
-    /// The oldest report that waits; None where none does, or none are kept.
+    /// The oldest report that waits; None if none does, or none are kept.
     pub fn next_report(&self) -> Option<Report>
         ensures { result ≡ option_map (λ n. n.report) (next_note self.now) }
     {
@@ -126,7 +126,7 @@ impl Watch {
         }
     }
 
-    /// Its texts: what went, and right after it what came. Empty where there is no such report, and where it has none.
+    /// Its texts: what went, and right after it what came. Empty if there is no such report, and if it has none.
     pub fn next_texts(&self) -> &str
         ensures { result.now ≡ texts_of (next_note self.now) }
     {

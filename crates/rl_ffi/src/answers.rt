@@ -26,7 +26,7 @@ pub(crate) enum Answer {
 }
 
 impl Answer {
-    // Its number for C: below 0 where the call was refused.
+    // Its number for C: below 0 if the call was refused.
     #[inline(always)]
     pub(crate) fn number(self) -> i32
         ensures { result ≡ number self }
@@ -109,7 +109,7 @@ pub(crate) fn of_watch_fault(fault: WatchFault) -> Answer
     }
 }
 
-// What a session's reply tells; the first argument where a command inserted nothing.
+// What a session's reply tells; the first argument if a command inserted nothing.
 #[inline(always)]
 pub(crate) fn told(without: Answer, reply: &Reply) -> Answer
     ensures { result ≡ told without reply.now }

@@ -7,7 +7,7 @@ ghost use Rattle.rl_ffi.specs.Cells.{after, cell, cells_of, is_within, place_at,
 use rl_base::GraphemeClusterMode;
 use unicode_segmentation::UnicodeSegmentation;
 
-// How many columns a screen has, how far its tab stops are apart, where 0 is none, and how columns are counted.
+// How many columns a screen has, how far its tab stops are apart (0 for none), and how columns are counted.
 #[derive(Clone, Copy)]
 pub(crate) struct Screen {
     pub(crate) mode: GraphemeClusterMode,
@@ -15,7 +15,7 @@ pub(crate) struct Screen {
     pub(crate) tab: u16,
 }
 
-// The row and column after a tab, which goes to the next tab stop, or to the right edge where that is nearer.
+// The row and column after a tab, which goes to the next tab stop, or to the right edge if that is nearer.
 fn tabbed(screen: &Screen, row: usize, column: usize) -> (usize, usize)
     requires row { row < 2 ^ 63 }
     requires tab { 0 < screen.now.tab }
@@ -92,7 +92,7 @@ fn is_within(at: (usize, usize), cell: (usize, usize)) -> bool
     at.0 < cell.0 || (at.0 == cell.0 && at.1 <= cell.1)
 }
 
-// The last place between two clusters of a text whose cell is not after the given one; 0 where there is none.
+// The last place between two clusters of a text whose cell is not after the given one; 0 if there is none.
 pub(crate) fn place_at(screen: &Screen, prompt: u16, text: &str, cell: (usize, usize)) -> usize
     ensures { result ≡ place_at screen.now prompt text.now cell }
 {

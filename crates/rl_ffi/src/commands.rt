@@ -360,7 +360,7 @@ pub(crate) fn has_room_for(line: &LineBuffer, size: usize, bytes: usize) -> bool
     }
 }
 
-// How long the text is that a yank-pop puts in: the one before the current one, or that where it stands alone.
+// How long the text is that a yank-pop puts in: the one before the current one, or that if it stands alone.
 fn popped_len(ring: &KillRing) -> Option<usize>
     ensures { result ≡ popped_length ring.now }
 {

@@ -9,7 +9,7 @@ use std::alloc::Global;
 use std::marker::Model;
 use std::mem::replace;
 
-/// What C holds. It is null where that is nothing.
+/// What C holds. It is null if that is nothing.
 #[repr(C)]
 pub struct Handle {
     at: *mut u8,

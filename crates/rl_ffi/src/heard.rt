@@ -14,8 +14,8 @@ use std::mem::replace;
 const ROOM: usize = 4096;
 
 /// Keeps a report of each event that it hears, with its texts, in order, until it is forgotten. It refuses an event only
-/// where memory is out, and is then as it was. The start and the stop of a kill can't be refused, so room for these two is
-/// found before the kill, by `ready`; where it was not, they are not kept.
+/// if memory is out, and is then as it was. The start and the stop of a kill can't be refused, so room for these two is
+/// found before the kill, by `ready`; if it was not, they are not kept.
 #[derive(Drop)]
 pub struct Heard {
     alloc: Global,
@@ -47,7 +47,7 @@ impl Heard {
         }
     }
 
-    /// Another one, which has heard of nothing. It takes the room of this one, where this one has heard of nothing either.
+    /// An empty listener. If this one is empty too, its buffers move to the new one.
     pub fn apart(&mut self) -> Heard
         ensures new { result ≡ nothing_heard }
         ensures kept { self.new ≡ self.old }
@@ -59,7 +59,7 @@ impl Heard {
         new
     }
 
-    /// Finds room for the start and the stop of one kill. Refused where memory is out for room that is not there yet, and then all
+    /// Finds room for the start and the stop of one kill. Refused if memory is out for room that is not there yet, and then all
     /// is as it was.
     pub fn ready(&mut self) -> Result<(), Refusal>
         ensures done { OnOk result (self.new ≡ readied self.old) }
@@ -100,8 +100,8 @@ impl Heard {
         self.notes.trim(self.alloc, ROOM);
     }
 
-    /// Puts the reports that another kept after those that wait. Refused where memory is out for them, and then all is as it was:
-    /// where it kept none, never.
+    /// Puts the reports that another kept after those that wait. Refused if memory is out for them, and then all is as it was:
+    /// if it kept none, never.
     pub fn join(&mut self, later: Heard) -> Result<(), Refusal>
         ensures done { OnOk result (self.new ≡ joined later self.old) }
         ensures err { IfErr result (λ r. (r ≡ NoMemory) × (self.new ≡ self.old) × (0 < length later.waiting)) }
@@ -129,7 +129,7 @@ impl Heard {
         self.notes.push(kind, at, gone, come)
     }
 
-    // Keeps a start or a stop of a kill, where room was found for it.
+    // Keeps a start or a stop of a kill, if room was found for it.
     fn mark(&mut self, kind: ReportKind)
         ensures { self.new ≡ marking kind self.old }
     {

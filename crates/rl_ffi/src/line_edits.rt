@@ -30,7 +30,7 @@ use rl_line::{LineBuffer, can_delete_by, is_by_characters};
 use std::alloc::Global;
 use std::mem::replace as put_in_place;
 
-// Finds room for the reports of the start and the stop of a kill, where these are told.
+// Finds room for the reports of the start and the stop of a kill, if these are told.
 #[tactic(auto, unfolding(crate::specs::LineEdits::before_kill))]
 fn ready(to: &mut Listeners, by_characters: bool) -> Result<(), Answer>
     ensures done { OnOk result (to.new ≡ before_kill by_characters to.old) }

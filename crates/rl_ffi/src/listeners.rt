@@ -21,11 +21,11 @@ pub struct Listeners {
     pub heard: Heard,
     /// Whether reports are made.
     pub reports: bool,
-    /// Hears of every change, where it is told.
+    /// Hears of every change, if it is told.
     pub changes: Changeset,
     /// Whether the record is told.
     pub tells_record: bool,
-    /// Hears of deletions, and of where a kill starts and ends, where it is told.
+    /// Hears of deletions, and of where a kill starts and ends, if it is told.
     pub ring: KillRing,
     /// Whether the ring is told.
     pub tells_ring: bool,

@@ -38,7 +38,7 @@ pub extern "C" fn lodvarn_script(
 {
     let mut reader = script;
     let mut whole = Vec::new(alloc);
-    // A read from a slice never fails, and a write to a vector fails only where memory is out.
+    // A read from a slice never fails, and a write to a vector fails only if memory is out.
     let answer = match run_script(alloc, &mut reader, &mut whole) {
         Ok(()) => Answer::Done,
         Err(_) => Answer::NoMemory,

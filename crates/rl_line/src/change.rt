@@ -39,7 +39,7 @@ pub(crate) struct Texts {
     pub(crate) after: String,
 }
 
-/// The byte places of the cursor before a change and after it, where they were told.
+/// The byte places of the cursor before a change and after it, if they were told.
 pub(crate) type Cursors = Option<(usize, usize)>;
 
 /// Whether the last change may still be told its cursors.
@@ -54,7 +54,7 @@ pub(crate) enum Freshness {
 }
 
 impl Freshness {
-    // The freshness of a joined change. It loses its cursors, but keeps the one before it where they were told.
+    // The freshness of a joined change. It loses its cursors, but keeps the one before it if they were told.
     #[inline(always)]
     fn of_joined(cursors: &mut Cursors) -> Freshness
         ensures fresh { result ≡ freshness_joined cursors.old }
@@ -177,7 +177,7 @@ impl Change {
         }
     }
 
-    /// The cursors of a change, where they were told.
+    /// The cursors of a change, if they were told.
     pub(crate) fn cursors(&self) -> Cursors
         ensures { result ≡ cursors_of (entry_of self.now) }
     {
@@ -416,8 +416,8 @@ fn growth_over(
     })
 }
 
-/// A text that went over the changes. None where one of them does not fit or, if `asks` says so, where a cursor that was
-/// told would not stand between two characters.
+/// A text that went over the changes. None if one of them does not fit, or if `asks` is set and a cursor that was told
+/// would not stand between two characters.
 pub(crate) fn patch_over<'t>(
     alloc: Global,
     text: &'t str,

@@ -124,7 +124,7 @@ pub(crate) fn replace(
     Ok(Freshness::Added)
 }
 
-/// Tells the last recorded entry its cursors, where it may still be told them.
+/// Tells the last recorded entry its cursors, if it may still be told them.
 #[inline(always)]
 pub(crate) fn tell(
     entries: &mut Vec<Change>,
@@ -201,7 +201,7 @@ fn join_replacement(
     entries[recorded - 1].join_replacement(idx, old, new)
 }
 
-/// Adds an entry to the recorded ones. Where it replaces one that was undone, there is room for it. Inlined, so that
+/// Adds an entry to the recorded ones. If it replaces one that was undone, there is room for it. Inlined, so that
 /// the entry is built in place.
 #[inline(always)]
 pub(crate) fn add(entries: &mut Vec<Change>, recorded: usize, entry: Change) -> Result<(), Refusal>
@@ -232,14 +232,14 @@ pub(crate) fn keep(entries: &mut Vec<Change>, len: usize)
     }
 }
 
-/// The first entries, all where there are fewer.
+/// The first entries, all if there are fewer.
 pub(crate) fn first(entries: &[Change], len: usize) -> &[Change]
     ensures { map entry_of result.now ≡ take len (map entry_of entries.now) }
 {
     &entries[..len.min(entries.len())]
 }
 
-/// How many groups are open after the entries, where none is open before them.
+/// How many groups are open after the entries, if none is open before them.
 pub(crate) fn level(entries: &[Change]) -> usize
     requires { IsMatched (map entry_of entries.now) }
     ensures { result ≡ level (map entry_of entries.now) }
@@ -251,7 +251,7 @@ pub(crate) fn level(entries: &[Change]) -> usize
     level
 }
 
-// How many groups are open after an entry, where `level` are open before it.
+// How many groups are open after an entry, if `level` are open before it.
 fn level_after(entry: &Change, level: usize) -> usize
     requires { level < 2 ^ 63 }
     ensures level { result ≡ deep level (entry_of entry.now ∷ []) }
@@ -264,7 +264,7 @@ fn level_after(entry: &Change, level: usize) -> usize
     }
 }
 
-/// How many groups are open after the first `len` entries, all where there are fewer. It counts back from the last
+/// How many groups are open after the first `len` entries, all if there are fewer. It counts back from the last
 /// entry, after which `last` are open.
 pub(crate) fn level_at(entries: &[Change], len: usize, last: usize) -> usize
     requires matched { IsMatched (map entry_of entries.now) }
@@ -284,7 +284,7 @@ pub(crate) fn level_at(entries: &[Change], len: usize, last: usize) -> usize
     level
 }
 
-/// Whether closing `count` groups adds an End: it does where one of them is not empty.
+/// Whether closing `count` groups adds an End: it does if one of them is not empty.
 pub(crate) fn adds_end(entries: &[Change], count: usize) -> bool
     ensures { result ≡ adds_end count (map entry_of entries.now) }
 {
@@ -303,7 +303,7 @@ pub(crate) fn adds_end(entries: &[Change], count: usize) -> bool
     false
 }
 
-/// Finds room for `count` Ends, where one is to be added.
+/// Finds room for `count` Ends, if one is to be added.
 pub(crate) fn find_ends(entries: &mut Vec<Change>, adds: bool, count: usize) -> Result<(), Refusal>
     ensures items { entries.new.items ≡ entries.old.items }
     ensures room { OnOk result (adds ≡ true → vec_len entries.new + count ≤ vec_capacity entries.new) }
@@ -353,7 +353,7 @@ fn ends_in_begin(entries: &[Change]) -> bool
     }
 }
 
-/// The change that makes up the last `n` units, or the last unit where `n` is 0, if they are one change alone.
+/// The change that makes up the last `n` units, or the last unit if `n` is 0, if they are one change alone.
 #[inline(always)]
 pub(crate) fn last_alone(entries: &[Change], n: RepeatCount) -> Option<&Change>
     ensures { IfSome result (λ change. (is_change (entry_of change.now) ≡ true) × (last_of n (map entry_of entries.now) ≡ entry_of change.now ∷ [])) }
@@ -386,7 +386,7 @@ pub(crate) fn last_has_change(entries: &[Change]) -> bool
     }
 }
 
-/// How many entries the last `n` units have, or the last one where `n` is 0.
+/// How many entries the last `n` units have, or the last one if `n` is 0.
 pub(crate) fn last_len(entries: &[Change], n: RepeatCount) -> usize
     requires { IsMatched (map entry_of entries.now) }
     ensures { result ≡ length (last_of n (map entry_of entries.now)) }

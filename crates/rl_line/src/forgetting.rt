@@ -1,4 +1,4 @@
-//! How many of the oldest entries of a record go, where it is to stay within a bound.
+//! How many of the oldest entries of a record go, if it is to stay within a bound.
 ghost use Rattle.std.specs.Prelude.{◌≡◌, ◌+◌, ◌≤◌, length, drop, map};
 ghost use Rattle.rl_line.specs.Record.{entry_of, new_text, old_text};
 ghost use Rattle.rl_line.specs.Units.{IsMatched};
@@ -26,7 +26,7 @@ pub(crate) fn oldest_len(entries: &[Change], most: usize, bytes: usize) -> usize
     at
 }
 
-// The first place from which on the entries fit. It counts back from the last entry, and counts no bytes where any
+// The first place from which on the entries fit. It counts back from the last entry, and counts no bytes if any
 // number of them fits.
 fn first_that_fits(entries: &[Change], most: usize, bytes: usize) -> usize
     ensures { FitsFrom most bytes (map entry_of entries.now) result }

@@ -165,7 +165,7 @@ impl LineBuffer {
         self.limit
     }
 
-    /// Sets the limit on the text's length, in bytes: to the text's length where that is greater. So a text that was
+    /// Sets the limit on the text's length, in bytes: to the text's length if that is greater. So a text that was
     /// longer than the limit, and shrank, can have its limit back. `usize::MAX` is no limit at all.
     pub fn set_limit(&mut self, limit: usize)
         ensures { self.new ≡ record self.old { limit = max limit (length self.old.text) } }

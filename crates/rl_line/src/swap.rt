@@ -68,7 +68,7 @@ pub(crate) fn find_room_instead(
 }
 
 /// Replaces a range by a part with `come` newlines, in a line's text and in its table, which have room for the result:
-/// an insertion where the range is empty, a deletion where the part is. Answers the part's end.
+/// an insertion if the range is empty, a deletion if the part is. Answers the part's end.
 pub(crate) fn swap_in(
     text: &mut String,
     starts: &mut LineStarts,
@@ -96,7 +96,7 @@ pub(crate) fn swap_in(
     from + part.len()
 }
 
-/// Puts a character in at a place, as `swap_in` does. Where the table's border is there, a character other than a
+/// Puts a character in at a place, as `swap_in` does. If the table's border is there, a character other than a
 /// newline is neither encoded nor counted, and at the end it costs no call.
 #[inline(always)]
 pub(crate) fn swap_in_char(text: &mut String, starts: &mut LineStarts, at: usize, c: char)
@@ -175,7 +175,7 @@ fn append(text: &mut String, part: &str)
     }
 }
 
-// As `swap_text`, where something stands after the range: that moves once, as bytes.
+// As `swap_text`, if something stands after the range: that moves once, as bytes.
 fn swap_within(text: &mut String, from: usize, to: usize, part: &str)
     requires range { IsRange (string_bytes text.old) from to }
     requires room { (string_len text.old - (to - from)) + length part.now ≤ string_capacity text.old }

@@ -3,7 +3,7 @@
 ghost use Rattle.std.specs.Prelude.{◌≡◌, ◌+◌, ◌-◌, ◌≤◌, length, take, vec_len, vec_capacity};
 ghost use Rattle.std.specs.List.{copy_within, replace_range};
 
-// Moves a tail by a distance: by `$by` with a constant where the distance is one of those listed, else by `$other`.
+// Moves a tail by a distance: by `$by` with a constant if the distance is one of those listed, else by `$other`.
 macro_rules! move_tail {
     ($tail:ident, $distance:ident, $by:ident, $other:expr; $($constant:literal)*) => {
         match $distance {

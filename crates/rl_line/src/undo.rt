@@ -127,7 +127,7 @@ impl Changeset {
     }
 
     /// Closes the group that was opened last, and leaves the others open; one that holds nothing is removed from the
-    /// record. Answers whether it holds something, and false where no group is open.
+    /// record. Answers whether it holds something, and false if no group is open.
     pub fn end_one(&mut self) -> Result<bool, Refusal>
         ensures done { IfOk result (λ answer. (answer ≡ adds_end (min 1 (level self.old.recorded)) self.old.recorded) × (self.new ≡ ended_one self.old)) }
         ensures err { IfErr result (λ r. (r ≡ NoMemory) × (self.new ≡ self.old) × (adds_end (min 1 (level self.old.recorded)) self.old.recorded ≡ true)) }
@@ -175,7 +175,7 @@ impl Changeset {
     }
 
     /// Records that `string` was deleted from the byte place `idx`, from whichever side of the cursor: an
-    /// alphanumeric grapheme cluster joins the last entry, where that is a deletion that it stood right after, or
+    /// alphanumeric grapheme cluster joins the last entry, if that is a deletion that it stood right after, or
     /// right before. An empty one is no entry.
     pub fn delete(&mut self, idx: usize, string: &str) -> Result<(), Refusal>
         ensures done { OnOk result (self.new ≡ record_step self.old (Delete idx string.now Forward)) }
@@ -197,9 +197,9 @@ impl Changeset {
         Ok(())
     }
 
-    /// Undoes the last `n` units, or one where `n` is 0, or all where there are fewer (GNU readline: undo). A
+    /// Undoes the last `n` units, or one if `n` is 0, or all if there are fewer (GNU readline: undo). A
     /// unit is a change, a closed group, or the begin of an open one. Answers whether there was a change.
-    /// The cursor goes back to where it was before the last change that is undone, or, where the record was not
+    /// The cursor goes back to where it was before the last change that is undone, or, if the record was not
     /// told that, to the place of that change, past what it puts back.
     /// `can_undo_last` tells whether these units can be taken back from the line's text, and `can_undo` whether all can.
     /// It finds all room first, so refused it changes nothing.
@@ -269,9 +269,9 @@ impl Changeset {
         Ok(changed)
     }
 
-    /// Redoes what was undone: the next change, or the next group, or all that is left where its group was
+    /// Redoes what was undone: the next change, or the next group, or all that is left if its group was
     /// never closed. Answers whether there was a change. The cursor goes to where it went with the last change that
-    /// is redone, or, where the record was not told that, to the place of that change, past what it puts in.
+    /// is redone, or, if the record was not told that, to the place of that change, past what it puts in.
     /// `can_redo_next` tells whether these changes fit the line, and `can_redo` whether all that were undone do. It finds
     /// all room first, so refused it changes nothing.
     pub fn redo(&mut self, line: &mut LineBuffer) -> Result<bool, Refusal>
@@ -337,7 +337,7 @@ impl Changeset {
         Ok(changed)
     }
 
-    /// Keeps the first `len` entries, all where there are fewer, and drops the others and what was undone. A
+    /// Keeps the first `len` entries, all if there are fewer, and drops the others and what was undone. A
     /// group that loses its end is open again.
     pub fn truncate(&mut self, len: usize)
         ensures { self.new ≡ truncated len self.old }
@@ -351,8 +351,8 @@ impl Changeset {
     /// Forgets the oldest changes and closed groups, one after another, as long as more than `entries` entries are
     /// recorded, or as their texts, old and new, have more than `bytes` bytes; `usize::MAX` is no bound. It never forgets
     /// a part of a group: it stops at the begin of an open one. What was undone stays, and an undo goes back to the text
-    /// with which the rest begins. It takes no memory. With no bound on bytes it costs nothing where so few are recorded.
-    // Inlined, so that it is a comparison then. Where nothing is left recorded, the next change joins nothing, and
+    /// with which the rest begins. It takes no memory. With no bound on bytes it costs nothing if so few are recorded.
+    // Inlined, so that it is a comparison then. If nothing is left recorded, the next change joins nothing, and
     // cursors that are told go to none, whatever `fresh` says.
     #[inline(always)]
     pub fn forget(&mut self, entries: usize, bytes: usize)
@@ -377,7 +377,7 @@ impl Changeset {
         self.recorded -= count;
     }
 
-    /// A copy of what the last change put in, where it is an insertion or a replacement; ends of groups after
+    /// A copy of what the last change put in, if it is an insertion or a replacement; ends of groups after
     /// it are passed over.
     pub fn last_insert(&self) -> Result<Option<String>, Refusal>
         ensures ok { IfOk result (λ text. option_map string_bytes text ≡ last_insert self.now.recorded) }
@@ -533,7 +533,7 @@ pub fn ends_close_groups()
     ensures { (xs ys : List Entry) → IsMatched (xs ++ End ∷ ys) → GroupAt xs }
 {}
 
-/// Ending a group that was opened where none was open, and in which no change was recorded, restores what was
+/// Ending a group that was opened if none was open, and in which no change was recorded, restores what was
 /// recorded before its begin, and adds nothing.
 pub fn empty_group_leaves_the_record()
     ensures recorded { (r : Record) (steps : List InGroup) → level r.recorded ≡ 0
@@ -544,7 +544,7 @@ pub fn empty_group_leaves_the_record()
         → adds_end (level (after_in_group steps (begun r)).recorded) (after_in_group steps (begun r)).recorded ≡ false }
 {}
 
-/// Whatever groups are open, where a group is begun in them, and these events are recorded, `end_one` closes that group
+/// Whatever groups are open, if a group is begun in them, and these events are recorded, `end_one` closes that group
 /// alone. It answers whether a change was recorded in it. Where one was, all from its begin on is one unit, so that an
 /// undo of one keeps what was recorded before; otherwise the group leaves no trace.
 pub fn group_is_closed_alone()

@@ -3,7 +3,7 @@ ghost use Rattle.std.specs.Prelude.{◌≡◌, IfOk, OnOk, OnErr, true, false};
 
 use thiserror::Error;
 
-// How many checks are made where nothing is refused.
+// How many checks are made if nothing is refused.
 const CHECKS: usize = 128;
 
 /// A check that failed.
@@ -21,7 +21,7 @@ pub(crate) struct Tally {
 }
 
 impl Tally {
-    /// Fails exactly where it is not so, and else counts a check.
+    /// Fails exactly if it is not so, and else counts a check.
     pub(crate) fn holds(&mut self, is_so: bool, what: &'static str) -> Result<(), Failed>
         ensures held { OnOk result (is_so ≡ true) }
         ensures failed { OnErr result ((is_so ≡ false) × (self.new ≡ self.old)) }
@@ -49,7 +49,7 @@ impl Tally {
         self.refused = self.refused.saturating_add(part.refused);
     }
 
-    /// What all parts counted. It fails where nothing was refused, and yet not all checks were made.
+    /// What all parts counted. It fails if nothing was refused, and yet not all checks were made.
     pub(crate) fn at_end(self) -> Result<Self, Failed>
         ensures { IfOk result (λ all. (all.refused ≡ 0) → (all.held ≡ 128)) }
     {

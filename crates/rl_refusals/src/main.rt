@@ -13,7 +13,7 @@ use crate::sessions::{all_at_once, one_by_one, word_in_capitals, wrong_record};
 use std::alloc::Global;
 use std::process::ExitCode;
 
-// Runs a check that must fail, and then all sessions. It ends well only where no check failed, and where none was left out
+// Runs a check that must fail, and then all sessions. It ends well only if no check failed, and none was left out
 // or something was refused.
 fn run_all(rt: &impl Print, alloc: Global) -> Result<Tally, Failed>
     ensures { IfOk result (λ all. (all.refused ≡ 0) → (all.held ≡ 128)) }

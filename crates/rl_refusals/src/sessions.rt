@@ -117,7 +117,7 @@ pub(crate) fn word_in_capitals(
     Ok(())
 }
 
-/// Commands in one run. None is done where there is no room for their replies.
+/// Commands in one run. None is done if there is no room for their replies.
 pub(crate) fn all_at_once(rt: &impl Print, alloc: Global, all: &mut Tally) -> Result<(), Failed> {
     let _ = println!(rt; "All at once");
     let Some(mut watched) = Watched::open(rt, alloc, all, "ab cd", 5)? else {

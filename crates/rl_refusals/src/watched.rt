@@ -55,7 +55,7 @@ pub(crate) struct Watched {
 }
 
 impl Watched {
-    /// A session on the text, with the cursor there; or None, printed as `no session` and counted, where it was refused.
+    /// A session on the text, with the cursor there; or None, printed as `no session` and counted, if it was refused.
     pub(crate) fn open(
         rt: &impl Print,
         alloc: Global,
@@ -109,7 +109,7 @@ impl Watched {
         self.tally.holds(entries == recorded, what)
     }
 
-    /// Fails exactly where it is not so.
+    /// Fails exactly if it is not so.
     pub(crate) fn holds(&mut self, is_so: bool, what: &'static str) -> Result<(), Failed>
         ensures held { OnOk result (is_so ≡ true) }
         ensures failed { OnErr result (is_so ≡ false) }

@@ -376,7 +376,7 @@ fn lone_command(alloc: Global, word: &str) -> Option<Command>
     }
 }
 
-// What a word says where no space follows it.
+// What a word says if no space follows it.
 fn alone(alloc: Global, word: &str) -> Option<ScriptLine>
     ensures { MatchOption result (SaysNothing word.now None)
         (λ said. Says word.now None (meaning_of said)) }

@@ -32,7 +32,7 @@ pub fn groups_stay_closed()
 {}
 
 /// An undo that is not refused drops exactly its units from the recorded entries and puts them before the undone ones,
-/// and it leaves a text that was held before it. Where the session forgot the units that came before, it finds nothing,
+/// and it leaves a text that was held before it. If the session forgot the units that came before, it finds nothing,
 /// answers false, and leaves the text.
 pub fn undo_leaves_a_held_text()
     ensures held { (start : List ℕ) (held : List (List ℕ)) (old new : State) (commands : List Command) (replies : List Reply)
@@ -47,7 +47,7 @@ pub fn undo_leaves_a_held_text()
 
 /// One undo right after the end of a group gives back the text at its begin. Groups may be begun inside and ended there by
 /// `EndOne`, and hold groups themselves. The group ends by `EndOne` where all begun inside are ended, whatever groups it stands
-/// in, or by `End` where no group was open before it. Conditions: none of begin, end and undo was refused, a change was
+/// in, or by `End` if no group was open before it. Conditions: none of begin, end and undo was refused, a change was
 /// recorded in the group, and each undo, redo, truncation or `End` inside was refused.
 pub fn group_is_undone_at_once()
     ensures { (start : List ℕ) (held : List (List ℕ)) (old new : State) (commands : List Command) (replies : List Reply)

@@ -11,7 +11,7 @@ ghost use Rattle.rl_session.specs.declared.session.Reply.{Reply};
 /// In every session, directed kills, one right after the other, and then one yank give back the text. The yank
 /// inserts where the kills left the cursor, and leaves the cursor at the end of the yanked text. Conditions: at least
 /// one kill answers true, nothing is refused, the ring has room for a text, and its last action before was no kill. The
-/// same holds where some of the kills are of a range that begins at the cursor, told forward, or ends there, told backward.
+/// same holds if some of the kills are of a range that begins at the cursor, told forward, or ends there, told backward.
 pub fn kills_then_yank()
     ensures movements { (first old new : State) (earlier : List Command) (said : List Reply) (movements : List Movement) (replies : List Reply) (last : Reply)
         → Stands first → 0 < first.pair.ring.size → Run first earlier said old

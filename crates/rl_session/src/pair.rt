@@ -2,7 +2,7 @@
 use rl_base::{ChangeListener, DeleteListener, Direction, KillRing, Refusal, Watch};
 use rl_line::Changeset;
 
-/// A kill ring and a record, told together. The ring hears of a deletion first. Where one of the two refuses, the
+/// A kill ring and a record, told together. The ring hears of a deletion first. If one of the two refuses, the
 /// record is as it was; the ring is as it was too, or it heard of that deletion. The watch hears what neither refused.
 #[derive(Drop)]
 pub struct Pair {

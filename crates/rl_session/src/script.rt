@@ -88,7 +88,7 @@ impl Interpreter {
         }
     }
 
-    // Begins a new text with the present settings. Where that is refused, the old session stays. The text is dropped
+    // Begins a new text with the present settings. If that is refused, the old session stays. The text is dropped
     // before the answer is printed.
     fn renew(&mut self, alloc: Global, text: String, out: &mut Vec<u8>) -> Result<(), ScriptFault>
         requires { out.old.items ≡ [] }

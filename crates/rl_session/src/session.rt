@@ -70,12 +70,12 @@ pub enum Command {
     DiscardLine,
     /// Deletes from the start of the text to the cursor.
     DiscardBuffer,
-    /// Deletes back to the start of the n-th word before the cursor. For 0, or where there are fewer words, deletes
+    /// Deletes back to the start of the n-th word before the cursor. For 0, or if there are fewer words, deletes
     /// all before the cursor.
     DeletePrevWord(Word, RepeatCount),
     /// Deletes to the start or the end of a word ahead.
     DeleteWord(At, Word, RepeatCount),
-    /// Deletes to the n-th hit of a search, or the farthest where there are fewer.
+    /// Deletes to the n-th hit of a search, or the farthest if there are fewer.
     DeleteTo(CharSearch, RepeatCount),
     /// Exchanges the clusters at the cursor.
     TransposeChars,
@@ -83,7 +83,7 @@ pub enum Command {
     TransposeWords(RepeatCount),
     /// Changes the letter case of the word at the cursor or ahead.
     EditWord(WordAction),
-    /// Kills by a movement. The killed text goes to the ring, except where the movement is by clusters.
+    /// Kills by a movement. The killed text goes to the ring, except if the movement is by clusters.
     Kill(Movement),
     /// Kills the text between two places, told with a direction: `Forward` joins it at the end of the text that was
     /// killed right before it, `Backward` at its front.
@@ -100,7 +100,7 @@ pub enum Command {
     End,
     /// Closes the group that was opened last.
     EndOne,
-    /// Undoes the given number of units: one for 0, and all where there are fewer.
+    /// Undoes the given number of units: one for 0, and all if there are fewer.
     Undo(RepeatCount),
     /// Redoes what was undone last.
     Redo,
@@ -121,10 +121,10 @@ pub enum Fault {
     #[error("no such place in the text")]
     BadPlace = 2,
     /// What was yanked does not stand before the cursor.
-    #[error("no yanked text before the cursor")]
+    #[error("the text before the cursor was not just yanked")]
     BadYankSize = 3,
     /// The entries to keep do not lead to the present text.
-    #[error("the entries do not lead to the text")]
+    #[error("the kept entries do not reproduce the text")]
     NotReplaying = 4,
 }
 
@@ -144,9 +144,9 @@ pub enum Reply {
     Done,
     /// The command's own yes or no, mostly whether there was anything to do.
     Answer(bool),
-    /// Whether the cursor was at the end, or None where there was no text to insert, or no room for it.
+    /// Whether the cursor was at the end, or None if there was no text to insert, or no room for it.
     Inserted(Option<bool>),
-    /// The text that was deleted or copied, or None where there was none.
+    /// The text that was deleted or copied, or None if there was none.
     Text(Option<String>),
     /// How many entries the record had.
     Mark(usize),
@@ -207,7 +207,7 @@ impl Session {
 
     /// What changed in the text since this was asked last, or since the session was made, as one splice: what stands
     /// between two places of the text as it was then gave way to what stands between two places of the present text, all
-    /// in bytes, and each between two characters. None where nothing changed. It is so whatever changed the text, also a
+    /// in bytes, and each between two characters. None if nothing changed. It is so whatever changed the text, also a
     /// command that was refused halfway, an undo and a redo.
     pub fn changed(&mut self) -> Option<Splice>
         ensures told { result ≡ told self.old.pair.watch.changed }
@@ -221,7 +221,7 @@ impl Session {
     }
 
     /// Keeps a report of each change from now on, in a queue with room for `reports` of them and for `text_bytes` bytes
-    /// of their texts. All room is found here, so that no command is refused because of it: where a report or its texts
+    /// of their texts. All room is found here, so that no command is refused because of it: if a report or its texts
     /// find no room, all that waits becomes one report. Without texts, reports carry numbers alone, and at most one waits: a
     /// change that comes before it was read is folded into it, so what came is always in the present text. Refused, it changes
     /// nothing.
@@ -247,21 +247,21 @@ impl Session {
         self.pair.watch.stop_reports();
     }
 
-    /// How many reports wait; one of all that waited as one change counts as one. 0 where none are kept.
+    /// How many reports wait; one of all that waited as one change counts as one. 0 if none are kept.
     pub fn waiting_reports(&self) -> usize
         ensures { result ≡ waiting_count self.now.pair.watch }
     {
         self.pair.watch.waiting_reports()
     }
 
-    /// The oldest report that waits; None where none does, or none are kept.
+    /// The oldest report that waits; None if none does, or none are kept.
     pub fn next_report(&self) -> Option<Report>
         ensures { result ≡ option_map (λ note. note.report) (next_note self.now.pair.watch) }
     {
         self.pair.watch.next_report()
     }
 
-    /// Its texts: what went, and right after it what came. Empty where there is no such report, and where it has none.
+    /// Its texts: what went, and right after it what came. Empty if there is no such report, and if it has none.
     pub fn next_texts(&self) -> &str
         ensures { result.now ≡ texts_of (next_note self.now.pair.watch) }
     {
@@ -448,7 +448,7 @@ pub fn what_was_undone_can_be_made_again()
     ensures pending { (line : Line) (changes : Record) → Follows line changes → IsSome (replay_entries changes.pending line.text) }
 {}
 
-/// After every row of a run, also where a step was refused, replaying the recorded changes from the starting text
+/// After every row of a run, also if a step was refused, replaying the recorded changes from the starting text
 /// gives the present text.
 pub fn each_row_replays()
     ensures { (start : List ℕ) (old new : State) (commands : List Command) (replies : List Reply) (run : Run old commands replies new)
@@ -456,7 +456,7 @@ pub fn each_row_replays()
 {}
 
 /// What changed is told whole: the events of a row (`reports`), replayed on the text before it, give the text after it,
-/// also where the command was refused after some of its steps, and also of an undo and a redo. The same holds of a run.
+/// also if the command was refused after some of its steps, and also of an undo and a redo. The same holds of a run.
 pub fn reports_are_replayed()
     ensures row { (row : Row) → replay (reports row) row.before.line.text ≡ Some row.after.line.text }
     ensures run { (old new : State) (commands : List Command) (replies : List Reply) (run : Run old commands replies new)
@@ -465,7 +465,7 @@ pub fn reports_are_replayed()
 
 /// What changed is told whole, whatever changed it: also an undo, a redo, and a command that was refused after some of its
 /// steps. After each row, and so over a run, all in which the text differs from the one about which `changed` was asked
-/// is in what it tells next; and where reports are kept, those that wait lead from the text at which reading left off to
+/// is in what it tells next; and if reports are kept, those that wait lead from the text at which reading left off to
 /// the present one.
 pub fn what_changed_is_told()
     ensures changed { (asked : List ℕ) (row : Row) → ChangedFrom asked row.before → ChangedFrom asked row.after }

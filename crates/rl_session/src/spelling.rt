@@ -7,7 +7,7 @@ ghost use Rattle.rl_session.specs.Spelling.{number_of, letter_of, hex_digit, Nam
 
 use std::alloc::{AllocError, Global};
 
-// The number that the digits name, where it is at most the greatest.
+// The number that the digits name, if it is at most the greatest.
 pub(crate) fn number(digits: &str, greatest: usize) -> Option<usize>
     ensures value { result ≡ number_of greatest digits.now }
     ensures bound { IfSome result (λ n. n ≤ greatest) }
@@ -141,7 +141,7 @@ fn read_text(alloc: Global, escaped: &str) -> Result<Option<String>, AllocError>
 }
 
 // The text that the bytes stand for. Out of memory comes only for bytes that stand for a text that is not empty. Bytes
-// that stand for no text give None, also where there was no memory for their first part.
+// that stand for no text give None, also if there was no memory for their first part.
 pub(crate) fn unescape(alloc: Global, escaped: &str) -> Result<Option<String>, AllocError>
     ensures ok { IfOk result (λ found. MatchOption found (SpellsNothing escaped.now)
         (λ text. Spells escaped.now (string_bytes text))) }
@@ -194,7 +194,7 @@ pub(crate) fn first_word(given: &str) -> (&str, Option<&str>)
     }
 }
 
-// The number before the first space, where it is at most the greatest, and what stands after it.
+// The number before the first space, if it is at most the greatest, and what stands after it.
 pub(crate) fn numbered(given: &str, greatest: usize) -> Option<(usize, &str)>
     ensures cases { MatchOption result (HasNoNumber greatest given.now) (λ found. Numbered greatest given.now found.0 found.1.now) }
     ensures bound { IfSome result (λ found. found.0 ≤ greatest) }
@@ -214,8 +214,8 @@ pub(crate) fn counted(given: &str) -> Option<(u16, &str)>
     Some((n as u16, after))
 }
 
-// The number before the first space, where it is at most the greatest, and the text after it, which is
-// empty where no space stands.
+// The number before the first space, if it is at most the greatest, and the text after it, which is
+// empty if no space stands.
 pub(crate) fn numbered_text(
     alloc: Global,
     given: &str,

@@ -74,7 +74,7 @@ fn refusals_are_printed(rt: HostRuntime) -> Result<(), Fail> {
         WatchFault::IsWatched
     )?;
     let wanted =
-        "out of memory, a queue needs room for a report, there is a queue of reports already";
+        "out of memory, the report queue must have room for at least one report, there is a queue of reports already";
     is_so(&rt, said.as_str() == wanted, "why there is no queue");
     Ok(())
 }

@@ -560,7 +560,7 @@ fn faults_have_words_and_numbers(rt: HostRuntime) -> Result<(), Fail> {
     is_so(
         &rt,
         said.as_str()
-            == "read failed, write failed, no memory, out of memory, no such place in the text, no yanked text before the cursor, the entries do not lead to the text",
+            == "read failed, write failed, no memory, out of memory, no such place in the text, the text before the cursor was not just yanked, the kept entries do not reproduce the text",
         "the faults' words",
     );
     let read_or_written = ScriptFault::Read as u8 == 1 && ScriptFault::Write as u8 == 2;

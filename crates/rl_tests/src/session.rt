@@ -241,7 +241,7 @@ fn motions_over_lines_count_from_the_prompt(rt: HostRuntime) -> Result<(), Fail>
     Ok(())
 }
 
-// The prompt is no part of where the cursor stands, and setting it, the limit or the bound parts no run of kills. What is not set
+// The prompt is no part of where the cursor stands, and setting it, the limit or the bound ends no run of kills. What is not set
 // stays after a restart.
 #[test]
 fn settings_part_no_kills(rt: HostRuntime) -> Result<(), Fail> {

@@ -152,8 +152,8 @@ impl Session {
 
     /// The oldest report that waits. It stays the oldest until [`forget_report`](Session::forget_report).
     ///
-    /// Whoever applies all in order to the text that he had, has the text of the session. What came by one that has no
-    /// texts is in the present text: apply it, and forget it, before the next command.
+    /// Apply all in order to your copy of the text, and it equals the session's. What came by one that has no texts is in
+    /// the present text: apply it, and forget it, before the next command.
     ///
     /// ```
     /// # use lodvarn::{Fault, Session};

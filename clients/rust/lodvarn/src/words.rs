@@ -196,7 +196,7 @@ impl ReportKind {
 #[derive(Clone, Copy, Debug, Default, PartialEq, Eq, Hash)]
 #[repr(u32)]
 pub enum Direction {
-    /// From the cursor on, or on no side of it, as by `set_text`. The ring puts it after what the kill before it took.
+    /// Text from the cursor on, or, as by `set_text`, the whole text. The ring puts it after what the kill before it took.
     #[default]
     Forward = ffi::LODVARN_FORWARD,
     /// Up to the cursor. The ring puts it before what the kill before it took.
@@ -396,8 +396,8 @@ impl fmt::Display for Fault {
         f.write_str(match self {
             Fault::NoMemory => "out of memory",
             Fault::BadPlace => "no such place in the text",
-            Fault::BadYankSize => "no yanked text before the cursor",
-            Fault::NotReplaying => "the entries do not lead to the text",
+            Fault::BadYankSize => "the text before the cursor was not just yanked",
+            Fault::NotReplaying => "the kept entries do not reproduce the text",
             Fault::NoRoom => "no room for the text",
             Fault::NoSuchNumber => "no number that the call takes",
             Fault::IsWatched => "reports are kept already",

@@ -259,7 +259,7 @@ fn a_record_of_another_line_is_refused() {
     let mut other = line_of("xyz|");
     assert_eq!(changes.try_undo(&mut other, 1), Err(Fault::NotReplaying));
     let said = panic_of(|| changes.undo(&mut other, 1));
-    assert_eq!(said, "the entries do not lead to the text");
+    assert_eq!(said, "the kept entries do not reproduce the text");
     assert_eq!((shown(&other).as_str(), changes.len()), ("xyz|", 1));
     assert!(changes.undo(&mut line, 1));
     assert_eq!(changes.try_redo(&mut other), Ok(true));
@@ -274,7 +274,7 @@ fn a_record_of_another_line_is_refused() {
     assert!(!changes.redo_fits(&line));
     assert_eq!(changes.try_redo(&mut line), Err(Fault::NotReplaying));
     let said = panic_of(|| changes.redo(&mut line));
-    assert_eq!(said, "the entries do not lead to the text");
+    assert_eq!(said, "the kept entries do not reproduce the text");
     assert_eq!(shown(&line), "x|");
     changes.delete(9, "x");
     assert_eq!(changes.try_undo(&mut line, 1), Err(Fault::NotReplaying));

@@ -73,7 +73,7 @@ fn any_blank(cluster: &str) -> bool
     cluster.chars().any(is_blank)
 }
 
-// Quick where `has_blank` is.
+// Quick if `has_blank` is.
 #[inline]
 fn all_alphanumeric(cluster: &str) -> bool
     ensures { result ≡ all_alphanumeric cluster.now }

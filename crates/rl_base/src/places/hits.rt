@@ -8,7 +8,7 @@ ghost use Rattle.rl_base.specs.Text.{stands_at};
 use crate::motion::{CharSearch, RepeatCount};
 use crate::places::next_pos;
 
-/// The `n`-th place of the character on the side that `cs` names, or the farthest where there are fewer.
+/// The `n`-th place of the character on the side that `cs` names, or the farthest if there are fewer.
 /// A search ahead begins past the cluster at `pos`. None without a hit and for `n` = 0.
 pub fn search(text: &str, pos: usize, cs: CharSearch, n: RepeatCount) -> Option<usize>
     requires { IsCharBoundary text.now pos }
@@ -48,7 +48,7 @@ fn search_ahead(text: &str, pos: usize, c: char, n: RepeatCount) -> Option<usize
     nth_hit(text, start, c, n)
 }
 
-/// The place of the `n`-th hit from `start` on, or of the last where there are fewer.
+/// The place of the `n`-th hit from `start` on, or of the last if there are fewer.
 fn nth_hit(text: &str, start: usize, wanted: char, n: RepeatCount) -> Option<usize>
     requires { IsCharBoundary text.now start }
     ensures { result ≡ nth_or_last n (hits wanted start (drop start text.now)) }
@@ -86,7 +86,7 @@ fn nth_hit_back(text: &str, end: usize, wanted: char, n: RepeatCount) -> Option<
     hit
 }
 
-/// The place of the last character before `end`, where `start` is before `end`.
+/// The place of the last character before `end`, if `start` is before `end`.
 fn char_before(text: &str, start: usize, end: usize) -> usize
     requires some { start < end }
     requires start { IsCharBoundary text.now start }

@@ -10,7 +10,7 @@ use crate::places::classes::{Class, class_of, ends, starts};
 use unicode_segmentation::{GraphemeIndices, UnicodeSegmentation};
 
 /// The place of the `n`-th start of a word before `pos`, counted from `pos` back, or the text's start
-/// where there are fewer and for `n` = 0. None at the start.
+/// if there are fewer and for `n` = 0. None at the start.
 pub fn prev_word(text: &str, pos: usize, word: Word, n: RepeatCount) -> Option<usize>
     requires { IsCharBoundary text.now pos }
     ensures value { result ≡ prev_word text.now pos word n }
@@ -40,7 +40,7 @@ pub fn prev_word(text: &str, pos: usize, word: Word, n: RepeatCount) -> Option<u
     Some(0)
 }
 
-/// The place of the `n`-th stop of a motion ahead from `pos`. Where there are fewer, and for `n` = 0: the
+/// The place of the `n`-th stop of a motion ahead from `pos`. If there are fewer, and for `n` = 0: the
 /// text's end for `At::AfterEnd` and for `Word::Emacs`; else the place of the last cluster, if it is not
 /// the one at `pos` and `n` is not 0. None at the end.
 pub fn next_word(text: &str, pos: usize, at: At, word: Word, n: RepeatCount) -> Option<usize>

@@ -90,7 +90,7 @@ impl LineBuffer {
     }
 
     /// Inserts `c` at the cursor, `n` times, and moves the cursor past it (GNU readline: self-insert).
-    /// Answers whether the cursor was at the end, or None where the text would get too long. Refused, it
+    /// Answers whether the cursor was at the end, or None if the text would get too long. Refused, it
     /// leaves the line as it was.
     pub fn insert<L: ChangeListener>(
         &mut self,
@@ -143,7 +143,7 @@ impl LineBuffer {
     }
 
     /// Inserts a text at the cursor, `n` times, and moves the cursor past it (GNU readline: yank). Answers
-    /// whether the cursor was at the end, or None where `text` is empty or the line would get too long. Refused,
+    /// whether the cursor was at the end, or None if `text` is empty or the line would get too long. Refused,
     /// it leaves the line as it was.
     pub fn yank<L: ChangeListener>(
         &mut self,
@@ -239,7 +239,7 @@ impl LineBuffer {
         Ok(())
     }
 
-    /// Replaces the line's text, and puts the cursor at a byte place of the new one. Where the line may not
+    /// Replaces the line's text, and puts the cursor at a byte place of the new one. If the line may not
     /// grow, it takes no more of the text than its limit allows, up to a character's end, and the cursor is
     /// at its end at most. Refused, it leaves the line as it was, or empty.
     pub fn update<L: ChangeListener>(
@@ -334,7 +334,7 @@ impl LineBuffer {
         Ok(at_end)
     }
 
-    /// Deletes a range of byte places, and moves the cursor to its start. It takes no memory; where its
+    /// Deletes a range of byte places, and moves the cursor to its start. It takes no memory; if its
     /// listener refuses, the line stays as it was.
     pub fn delete_range<L: DeleteListener>(
         &mut self,

@@ -19,7 +19,7 @@ impl LineBuffer {
     /// to a character's end (vi's `>` and `<`). For a movement within a line, or one that covers nothing, it
     /// takes the cursor's line. A cursor at the start of a line or after it moves with the text, to that start
     /// at least. Answers true. Refused, it leaves the line as it is after the steps that it took. A dedent takes
-    /// no memory: it is refused only where its listener refuses.
+    /// no memory: it is refused only if its listener refuses.
     pub fn indent<L: ChangeListener>(
         &mut self,
         mvt: &Movement,

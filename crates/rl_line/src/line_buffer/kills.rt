@@ -19,7 +19,7 @@ use rl_base::{At, CharSearch, DeleteListener, Direction, Movement, Refusal, Repe
 use std::ops::Range;
 
 impl LineBuffer {
-    /// Copies what a movement covers, or answers None where that is nothing. The line stays as it is.
+    /// Copies what a movement covers, or answers None if that is nothing. The line stays as it is.
     pub fn copy(&self, mvt: &Movement) -> Result<Option<String>, Refusal>
         ensures ok { IfOk result (λ answer. option_map string_bytes answer ≡ copied self.now mvt.now) }
         ensures err { IfErr result (λ r. (r ≡ NoMemory) × HasText (copied self.now mvt.now)) }
@@ -134,7 +134,7 @@ impl LineBuffer {
     }
 
     /// Deletes what a kill by the movement would take, and tells no kill. Answers whether there was something. It takes no
-    /// memory; where its listener refuses, the line stays as it was.
+    /// memory; if its listener refuses, the line stays as it was.
     pub fn delete_by<L: DeleteListener>(
         &mut self,
         mvt: &Movement,
@@ -148,11 +148,11 @@ impl LineBuffer {
         self.remove(range, side, listener)
     }
 
-    /// Kills by a movement: deletes what it covers. Where that is nothing, `WholeLine` and `EndOfLine` kill the
+    /// Kills by a movement: deletes what it covers. If that is nothing, `WholeLine` and `EndOfLine` kill the
     /// line's newline, and `BeginningOfLine` kills the cluster before the line. `ViFirstPrint` kills nothing.
     /// Answers whether something was killed. The listener hears the start of a kill first and its end last, also
-    /// where nothing was killed or it refused. With `BackwardChar` and `ForwardChar` it hears of the deletion
-    /// alone. It takes no memory; where its listener refuses, the line stays as it was.
+    /// if nothing was killed or it refused. With `BackwardChar` and `ForwardChar` it hears of the deletion
+    /// alone. It takes no memory; if its listener refuses, the line stays as it was.
     pub fn kill<L: DeleteListener>(
         &mut self,
         mvt: &Movement,
@@ -171,7 +171,7 @@ impl LineBuffer {
 
     /// Kills a range of byte places as a kill by a movement does: the listener hears the start of a kill, the deletion
     /// with the given direction, and the end. Moves the cursor to the range's start, and answers true; where the range
-    /// is empty it stays, and the answer is false. It takes no memory; where its listener refuses, the line stays as it
+    /// is empty it stays, and the answer is false. It takes no memory; if its listener refuses, the line stays as it
     /// was.
     pub fn kill_range<L: DeleteListener>(
         &mut self,
@@ -188,7 +188,7 @@ impl LineBuffer {
     }
 
     /// Deletes the last `n` grapheme clusters before the cursor (GNU readline: backward-delete-char).
-    /// Answers whether it deleted one: not at the start, nor for `n` = 0. It takes no memory; where its listener
+    /// Answers whether it deleted one: not at the start, nor for `n` = 0. It takes no memory; if its listener
     /// refuses, the line stays as it was.
     pub fn backspace<L: DeleteListener>(
         &mut self,
@@ -201,9 +201,9 @@ impl LineBuffer {
         self.delete_by(&Movement::BackwardChar(n), listener)
     }
 
-    /// Deletes from the cursor to the end of its line, or the newline where the cursor is there (GNU
+    /// Deletes from the cursor to the end of its line, or the newline if the cursor is there (GNU
     /// readline: kill-line). Answers whether the cursor was before the end of the text. It takes no memory;
-    /// where its listener refuses, the line stays as it was.
+    /// if its listener refuses, the line stays as it was.
     pub fn kill_line<L: DeleteListener>(&mut self, listener: &mut L) -> Result<bool, Refusal>
         ensures done { IfOk result (λ answer. Done L.step (kill_plan self.old EndOfLine) self.old self.new listener.old listener.new answer) }
         ensures halted { IfErr result (λ r. Halted L.step L.refused (kill_plan self.old EndOfLine) self.old self.new listener.old listener.new r) }
@@ -212,7 +212,7 @@ impl LineBuffer {
     }
 
     /// Deletes from the cursor to the end of the text. Answers whether the cursor was before the end. It takes
-    /// no memory; where its listener refuses, the line stays as it was.
+    /// no memory; if its listener refuses, the line stays as it was.
     pub fn kill_buffer<L: DeleteListener>(&mut self, listener: &mut L) -> Result<bool, Refusal>
         ensures done { IfOk result (λ answer. Done L.step (kill_plan self.old EndOfBuffer) self.old self.new listener.old listener.new answer) }
         ensures halted { IfErr result (λ r. Halted L.step L.refused (kill_plan self.old EndOfBuffer) self.old self.new listener.old listener.new r) }
@@ -222,7 +222,7 @@ impl LineBuffer {
 
     /// Deletes from the start of the cursor's line to the cursor, or the cluster before it where the cursor
     /// is there (GNU readline: unix-line-discard). Answers whether the cursor was past the start of the
-    /// text. It takes no memory; where its listener refuses, the line stays as it was.
+    /// text. It takes no memory; if its listener refuses, the line stays as it was.
     pub fn discard_line<L: DeleteListener>(&mut self, listener: &mut L) -> Result<bool, Refusal>
         ensures done { IfOk result (λ answer. Done L.step (kill_plan self.old BeginningOfLine) self.old self.new listener.old listener.new answer) }
         ensures halted { IfErr result (λ r. Halted L.step L.refused (kill_plan self.old BeginningOfLine) self.old self.new listener.old listener.new r) }
@@ -231,7 +231,7 @@ impl LineBuffer {
     }
 
     /// Deletes from the start of the text to the cursor. Answers whether the cursor was past the start. It takes
-    /// no memory; where its listener refuses, the line stays as it was.
+    /// no memory; if its listener refuses, the line stays as it was.
     pub fn discard_buffer<L: DeleteListener>(&mut self, listener: &mut L) -> Result<bool, Refusal>
         ensures done { IfOk result (λ answer. Done L.step (kill_plan self.old BeginningOfBuffer) self.old self.new listener.old listener.new answer) }
         ensures halted { IfErr result (λ r. Halted L.step L.refused (kill_plan self.old BeginningOfBuffer) self.old self.new listener.old listener.new r) }
@@ -241,7 +241,7 @@ impl LineBuffer {
 
     /// Deletes from the `n`-th start of a word before the cursor, or the text's start, to the cursor (GNU
     /// readline: backward-kill-word, unix-word-rubout). Answers whether the cursor was past the start. It
-    /// takes no memory; where its listener refuses, the line stays as it was.
+    /// takes no memory; if its listener refuses, the line stays as it was.
     pub fn delete_prev_word<L: DeleteListener>(
         &mut self,
         word: Word,
@@ -255,7 +255,7 @@ impl LineBuffer {
     }
 
     /// Deletes from the cursor to the `n`-th start or end of a word (GNU readline: kill-word). Answers whether
-    /// there is such a place. It takes no memory; where its listener refuses, the line stays as it was.
+    /// there is such a place. It takes no memory; if its listener refuses, the line stays as it was.
     pub fn delete_word<L: DeleteListener>(
         &mut self,
         at: At,
@@ -271,7 +271,7 @@ impl LineBuffer {
 
     /// Deletes between the cursor and the `n`-th hit of a search, or the farthest, with the hit's character
     /// for `Forward` and `Backward` (vi's `df`, `dt`, `dF` and `dT`). Answers whether there is one; for
-    /// `n` = 0 there is none. It takes no memory; where its listener refuses, the line stays as it was.
+    /// `n` = 0 there is none. It takes no memory; if its listener refuses, the line stays as it was.
     pub fn delete_to<L: DeleteListener>(
         &mut self,
         cs: CharSearch,
@@ -310,7 +310,7 @@ pub fn is_by_characters(mvt: &Movement) -> bool
 }
 
 /// All movements kill exactly what they copy, except those to the ends of a line, over it, and to the first
-/// print place. By one that does, a kill answers true exactly where there is something to copy, and then
+/// print place. By one that does, a kill answers true exactly if there is something to copy, and then
 /// reports that text and nothing else.
 pub fn kill_agrees_with_copy()
     ensures answer { (line : Line) (mvt : Movement) → is_exact mvt ≡ true → ((kill_plan line mvt).answer ≡ true) ↔ IsSome (copied line mvt) }

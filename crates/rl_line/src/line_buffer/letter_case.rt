@@ -17,7 +17,7 @@ impl LineBuffer {
     /// Edits the letters of the Emacs word at the cursor or ahead, but none before the cursor (GNU readline:
     /// capitalize-word, downcase-word, upcase-word), and moves the cursor past it. A word past ASCII goes by the
     /// standard library's case mappings.
-    /// Answers whether there is one. Where it finds no memory, it leaves the line as it was. Where its
+    /// Answers whether there is one. If it finds no memory, it leaves the line as it was. If its
     /// listener refuses, it leaves the line as it was or without the word.
     pub fn edit_word<L: ChangeListener>(
         &mut self,

@@ -48,7 +48,7 @@ impl LineBuffer {
         self.move_to_place(place)
     }
 
-    // The first character of the cursor's line that is no blank, or the line's end where there is none.
+    // The first character of the cursor's line that is no blank, or the line's end if there is none.
     pub(super) fn first_nonblank(&self) -> usize
         ensures value { result ≡ first_nonblank self.now }
         ensures boundary { IsCharBoundary self.now.text result }
@@ -124,7 +124,7 @@ fn column_below(layout: &Layout, k: usize, columns: Unit) -> Unit
     }
 }
 
-// The place before the cluster numbered `column`, from 0, or the end where there are fewer.
+// The place before the cluster numbered `column`, from 0, or the end if there are fewer.
 fn place_of_column(line: &str, column: usize) -> usize
     ensures value { result ≡ place_of_column line.now column }
     ensures boundary { IsCharBoundary line.now result }

@@ -28,7 +28,7 @@ impl LineBuffer {
         self.starts.places.len() + 1
     }
 
-    /// The byte range of the text of line `i`, counted from 0, without its newline. None where there is no such line.
+    /// The byte range of the text of line `i`, counted from 0, without its newline. None if there is no such line.
     pub fn line_range(&self, i: usize) -> Option<Range<usize>>
         ensures value { result ≡ range_of_line self.now.text i }
         ensures text { IfSome result (λ r. slice_range self.now.text r.start r.end ≡ text_of_line self.now.text i) }

@@ -50,7 +50,7 @@ impl LineBuffer {
         self.move_to_place(place)
     }
 
-    // The place, where the cursor is elsewhere.
+    // The place, if the cursor is elsewhere.
     fn unless_there(&self, place: usize) -> Option<usize>
         requires { IsCharBoundary self.now.text place }
         ensures value { result ≡ unless_there self.now place }
@@ -62,7 +62,7 @@ impl LineBuffer {
         Some(place)
     }
 
-    /// The byte place that a motion by the movement goes to. None where there is none, and where the cursor stands there
+    /// The byte place that a motion by the movement goes to. None if there is none, and if the cursor stands there
     /// already; `WholeLine`, `WholeBuffer` and `ViFirstPrint` lead nowhere. The layout counts columns, as for
     /// `move_to_line_up`.
     pub fn destination(&self, mvt: &Movement, layout: &Layout) -> Option<usize>

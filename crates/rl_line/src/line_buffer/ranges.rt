@@ -12,7 +12,7 @@ use rl_base::{At, CharSearch, Movement, RepeatCount, Word};
 use std::ops::Range;
 
 impl LineBuffer {
-    /// The byte range that the movement covers, whose text `copy` copies. None where that is nothing.
+    /// The byte range that the movement covers, whose text `copy` copies. None if that is nothing.
     pub fn covered(&self, mvt: &Movement) -> Option<Range<usize>>
         ensures value { result ≡ covered self.now mvt.now }
         ensures order { IfSome result (λ r. r.start ≤ r.end) }

@@ -16,7 +16,7 @@ use unicode_segmentation::UnicodeSegmentation;
 impl LineBuffer {
     /// Exchanges the grapheme clusters before and after the cursor, or the last two at the end of the text
     /// (GNU readline: transpose-chars), and moves the cursor past both. Answers whether there are two. Where
-    /// it finds no memory, it leaves the line as it was. Where its listener refuses, it leaves the line as it
+    /// it finds no memory, it leaves the line as it was. If its listener refuses, it leaves the line as it
     /// was or without the second cluster.
     pub fn transpose_chars<L: ChangeListener>(&mut self, listener: &mut L) -> Result<bool, Refusal>
         ensures done { IfOk result (λ answer. Done L.step (transpose_chars_plan self.old) self.old self.new listener.old listener.new answer) }
@@ -103,8 +103,8 @@ impl LineBuffer {
 
     /// Exchanges the Emacs word before the `n`-th word's end ahead with the word `n` words before it (GNU
     /// readline: transpose-words), and moves the cursor past both. Answers false where these are not two
-    /// words, and then leaves the cursor at the first word's end. Where it finds no memory, it leaves the line
-    /// as it was; where its listener refuses, after the steps that it took.
+    /// words, and then leaves the cursor at the first word's end. If it finds no memory, it leaves the line
+    /// as it was; if its listener refuses, after the steps that it took.
     pub fn transpose_words<L: ChangeListener>(
         &mut self,
         n: RepeatCount,

@@ -33,7 +33,7 @@ impl Session {
         anew!(self, self.do_move_by(movement))
     }
 
-    /// Inserts a character at the cursor, n times. Says whether the cursor was at the end, or None where the text would get
+    /// Inserts a character at the cursor, n times. Says whether the cursor was at the end, or None if the text would get
     /// longer than its limit. `NoMemory` leaves the text as it was. Inlined, as `apply` is.
     #[inline(always)]
     pub fn insert(&mut self, c: char, n: RepeatCount) -> Reply
@@ -42,7 +42,7 @@ impl Session {
         anew!(self, inserted(self.do_insert(c, n)))
     }
 
-    /// Inserts a text at the cursor, n times. Says what `insert` does, and None also where the text is empty. `NoMemory` leaves
+    /// Inserts a text at the cursor, n times. Says what `insert` does, and None also if the text is empty. `NoMemory` leaves
     /// the text as it was.
     pub fn paste(&mut self, text: &str, n: RepeatCount) -> Reply
         ensures { StepWith text.now (λ t. Command.Paste t n) self.old result self.new }
@@ -50,7 +50,7 @@ impl Session {
         anew!(self, self.do_paste(text, n))
     }
 
-    /// Inserts the ring's current text at the cursor, n times. Says what `paste` does, and None also where the ring has no
+    /// Inserts the ring's current text at the cursor, n times. Says what `paste` does, and None also if the ring has no
     /// text. `NoMemory` leaves the text as it was.
     pub fn yank(&mut self, n: RepeatCount) -> Reply
         ensures { Step self.old (Command.Yank n) result self.new }
@@ -81,7 +81,7 @@ impl Session {
     }
 
     /// Inserts a text at a byte place, and leaves the cursor at its own. Answers whether the place was the end. Refused, it
-    /// leaves the text as it was; `BadPlace` also comes where the cursor would stand inside a character.
+    /// leaves the text as it was; `BadPlace` also comes if the cursor would stand inside a character.
     pub fn insert_str(&mut self, idx: usize, text: &str) -> Reply
         ensures { StepWith text.now (λ t. Command.InsertStr idx t) self.old result self.new }
     {
@@ -150,7 +150,7 @@ impl Session {
         anew!(self, self.do_edit_word(action))
     }
 
-    /// Kills by a movement. Answers whether there was something. The killed text goes to the ring, except where the movement is
+    /// Kills by a movement. Answers whether there was something. The killed text goes to the ring, except if the movement is
     /// by clusters. `NoMemory` leaves the text as it was.
     pub fn kill(&mut self, movement: &Movement) -> Reply
         ensures { Step self.old (Command.Kill movement.now) result self.new }
@@ -215,7 +215,7 @@ impl Session {
         anew!(self, self.do_end_one())
     }
 
-    /// Undoes n units: one for 0, and all where there are fewer. Answers whether there was a change. `NoMemory` leaves text
+    /// Undoes n units: one for 0, and all if there are fewer. Answers whether there was a change. `NoMemory` leaves text
     /// and record as they were. Inlined, as `insert` is.
     #[inline(always)]
     pub fn undo(&mut self, n: RepeatCount) -> Reply

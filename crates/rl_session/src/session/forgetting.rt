@@ -28,7 +28,7 @@ impl Session {
     ///
     /// `apply`, `run` and scripts never forget by themselves. What is said of runs goes on after it, from the text with
     /// which the record then begins (`what_is_left_replays`). Only an undo may find nothing, or less than it is to take:
-    /// where nothing is left, it answers false.
+    /// if nothing is left, it answers false.
     #[inline(always)]
     pub fn forget(&mut self)
         ensures forgets { self.new ≡ within_bound self.old }
@@ -44,7 +44,7 @@ impl Session {
 /// What a session's record forgets leads from the text with which it began to another, and what is left leads from that to
 /// the present text. Where the record was placed among the texts that were held, that is one of them, and what is left is
 /// placed among those from there on. So the laws of its history (`history`) go on from that text, and each undo still leaves
-/// a text that was held. Where nothing is forgotten, that is the text with which it began. What tells of changes has nothing
+/// a text that was held. If nothing is forgotten, that is the text with which it began. What tells of changes has nothing
 /// to tell of it.
 pub fn what_is_left_replays()
     ensures replays { (start : List ℕ) (s : State) → Replays start s → ReplaysOn start s }

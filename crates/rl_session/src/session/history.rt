@@ -11,8 +11,8 @@ use crate::session::{Fault, Reply, Session};
 use rl_base::{Refusal, RepeatCount};
 
 impl Session {
-    /// Whether an undo of one unit would find a change (`Changeset::has_undo`), so that it would answer true. As a read it
-    /// parts no run of kills.
+    /// Whether an undo of one unit would find a change (`Changeset::has_undo`), so that it would answer true. It does not
+    /// end a run of kills.
     pub fn can_undo(&self) -> bool
         ensures { result ≡ has_change (last_of 1 self.now.pair.changes.recorded) }
     {

@@ -22,7 +22,7 @@ impl Session {
         }
     }
 
-    /// The byte range that the movement covers, whose text `Command::Copy` by it copies. None where that is nothing.
+    /// The byte range that the movement covers, whose text `Command::Copy` by it copies. None if that is nothing.
     pub fn covers(&self, movement: &Movement) -> Option<Range<usize>>
         ensures value { result ≡ covered self.now.line movement.now }
         ensures order { IfSome result (λ r. r.start ≤ r.end) }
@@ -32,8 +32,8 @@ impl Session {
         self.line.covered(movement)
     }
 
-    /// The byte place that `Command::Move` by the movement goes to. None where that answers false: where there is no such
-    /// place, and where the cursor stands there already.
+    /// The byte place that `Command::Move` by the movement goes to. None if that answers false: if there is no such
+    /// place, and if the cursor stands there already.
     pub fn destination(&self, movement: &Movement) -> Option<usize>
         ensures value { result ≡ destination self.now movement.now }
         ensures boundary { IfSome result (IsCharBoundary self.now.line.text) }
@@ -62,7 +62,7 @@ impl Session {
     }
 
     /// Where the cursor stands, as `LinePlace` answers it: the number of its line, from 0, and the columns from that
-    /// line's start to the cursor. It cuts clusters of that part of the line alone, and as a read it parts no run of kills.
+    /// line's start to the cursor. It cuts clusters of that part of the line alone, and does not end a run of kills.
     pub fn line_column(&self) -> (usize, Unit)
         ensures { result ≡ line_place self.now }
     {

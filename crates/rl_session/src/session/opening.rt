@@ -52,9 +52,9 @@ fn renew(line: &mut LineBuffer, text: &str, pos: usize, watch: &mut Watch) -> Re
 
 impl Session {
     /// A session on a text, with the cursor at the byte place `pos`. Its line has the limit `limit`, in bytes,
-    /// or the text's length where that is greater, and may not grow; its ring has room for `ring_size` texts;
-    /// `mode` says how columns are counted. `BadPlace` comes exactly where `pos` is no boundary: a place between
-    /// two characters, or an end of the text. `NoMemory` comes only where the limit or the text's length is above 0.
+    /// or the text's length if that is greater, and may not grow; its ring has room for `ring_size` texts;
+    /// `mode` says how columns are counted. `BadPlace` comes exactly if `pos` is no boundary: a place between
+    /// two characters, or an end of the text. `NoMemory` comes only if the limit or the text's length is above 0.
     pub fn new(
         alloc: Global,
         text: &str,
@@ -78,7 +78,7 @@ impl Session {
     }
 
     /// The same session, with room for the text alone: the line asks for more when it needs it. So the limit may be
-    /// any number, and `usize::MAX` is no limit at all. `NoMemory` comes only where the text is not empty.
+    /// any number, and `usize::MAX` is no limit at all. `NoMemory` comes only if the text is not empty.
     pub fn open(
         alloc: Global,
         text: &str,
@@ -135,9 +135,9 @@ impl Session {
 
     /// Begins anew with a text, with the cursor at the byte place `pos`, as an editor does with the next line: nothing is
     /// recorded yet, and the ring keeps its slots, so what was killed before can be yanked. A kill begins a new slot, and
-    /// nothing was yanked last. The limit is raised where the text is longer. What tells of changes tells of this one too:
-    /// all the old text gave way to the new one. Refused, it changes nothing: `BadPlace` comes exactly where `pos` is no
-    /// boundary of the text, and `NoMemory` only where the text needs more room than the old one.
+    /// nothing was yanked last. The limit is raised if the text is longer. What tells of changes tells of this one too:
+    /// all the old text gave way to the new one. Refused, it changes nothing: `BadPlace` comes exactly if `pos` is no
+    /// boundary of the text, and `NoMemory` only if the text needs more room than the old one.
     pub fn restart(&mut self, text: &str, pos: usize) -> Result<(), Fault>
         ensures ok { OnOk result (IsCharBoundary text.now pos × (self.new ≡ restarted text.now pos self.old)) }
         ensures begins { OnOk result (Begins text.now self.new) }
@@ -158,7 +158,7 @@ impl Session {
         Ok(())
     }
 
-    /// Sets the limit on the text's length, in bytes: to the text's length where that is greater. So a text that was
+    /// Sets the limit on the text's length, in bytes: to the text's length if that is greater. So a text that was
     /// longer than its limit, and shrank, can have the limit back. `usize::MAX` is no limit at all.
     pub fn set_limit(&mut self, limit: usize)
         ensures set { self.new ≡ limited limit self.old }

@@ -1,4 +1,4 @@
-//! What a session replies to the outcome of a call, which is refused only where memory is out.
+//! What a session replies to the outcome of a call, which is refused only if memory is out.
 ghost use Rattle.std.specs.Prelude.{◌≡◌};
 ghost use Rattle.rl_session.specs.Replies.{replied};
 ghost use Rattle.rl_session.specs.declared.session.Reply.{Reply};

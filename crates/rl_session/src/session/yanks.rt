@@ -152,7 +152,7 @@ fn popped(alloc: Global, ring: &mut KillRing) -> Result<Option<(usize, String)>,
     }
 }
 
-// A copy of a text, which takes no memory where the text is empty.
+// A copy of a text, which takes no memory if the text is empty.
 fn copied(alloc: Global, text: &str) -> Result<String, AllocError>
     ensures copy { IfOk result (λ copy. string_bytes copy ≡ text.now) }
     ensures some { OnErr result (0 < length text.now) }

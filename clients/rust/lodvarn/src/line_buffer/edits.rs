@@ -127,7 +127,7 @@ impl LineBuffer {
     ///
     /// # Panics
     ///
-    /// If the range is none of the text, as a slice of it does.
+    /// If the range is out of bounds or not on character boundaries.
     pub fn replace<C: ChangeListener + ?Sized>(
         &mut self,
         range: Range<usize>,

@@ -128,7 +128,7 @@ impl LineBuffer {
     ///
     /// # Panics
     ///
-    /// If the range is none of the text, as a slice of it does.
+    /// If the range is out of bounds or not on character boundaries.
     pub fn delete_range<D: DeleteListener + ?Sized>(&mut self, range: Range<usize>, dl: &mut D) {
         self.see_range(&range);
         answered(self.try_delete_range(range, dl));
