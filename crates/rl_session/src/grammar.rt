@@ -1,4 +1,14 @@
 //! Reads a line of a script: what each word says, with what it wants after it.
+//!
+//! `parse` cuts a line at its first space. A word stands in one function, by what it wants:
+//! - nothing: `lone_command` (`text`: `alone`);
+//! - a text, which takes memory: `text_command` (`text`: `with_given`);
+//! - a count or a range that it deletes: `deletion`;
+//! - a new setting: `setting`;
+//! - anything else: `command`;
+//! - the words of a movement, within a command: `lone_movement`, or `movement_with` if something follows.
+//!
+//! One function with all words is more than the prover goes through.
 ghost use Rattle.std.specs.Prelude.{◌≡◌, ℕ, Some, None, IfOk, OnErr, MatchOption, codes};
 ghost use Rattle.rl_session.specs.Grammar.{Set, Do, NamesWord, NamesAt, NamesSearch, NamesDirection, NamesAction, NamesMode, CountWord, CountAtWord, CountSearch, RangeDirection, Names, NamesMovement, AmountMovement, Says, Means, MeansNothing};
 ghost use Rattle.rl_session.specs.Reads.{HoldsText, LineHoldsText, HasNoWord, HasNoAt, HasNoSearch, HasNoDirection, HasNoMovement, NamesNothing, NamesNoMovement, SaysNothing, SaysNoTextCommand, SaysNoDeletion, SaysNoCommand, SaysNoSetting, SaysNoneWithoutText, SaysNoLoneCommand, meaning_of};
