@@ -2,6 +2,7 @@
 pub mod PatchLemmas
 pub mod RecordLemmas
 pub mod EntryLemmas
+pub mod LastLemmas
 pub mod JoinLemmas
 pub mod LeadLemmas
 pub mod ToldLemmas

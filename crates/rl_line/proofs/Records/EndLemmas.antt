@@ -1,5 +1,5 @@
 -- The end of one group: it leaves one unit, or no trace. And whether the last unit, and the next one, holds a change.
-use Rattle.std.proofs.Common.{◌≡◌, ℕ, ◌+◌, suc, Bool, true, false, List, [], ◌∷◌, ◌++◌, length, ◌-◌, take, drop, map, min, refl, sym, ap, subst, ◌∙◌, ◌⊎◌, inl, inr, arith, append_assoc, drop_at}
+use Rattle.std.proofs.Common.{◌≡◌, ℕ, ◌+◌, suc, true, false, List, [], ◌∷◌, ◌++◌, length, ◌-◌, take, drop, map, min, refl, sym, ap, subst, ◌∙◌, inl, inr, arith, append_assoc, drop_at}
 use Rattle.std.proofs.lemmas.List.{reverse-reverse}
 use Rattle.std.specs.Prelude.{max, not, ◌||◌, reverse, slice_get, Some, None}
 use Rattle.rl_base.specs.Event.{Event}
@@ -7,28 +7,12 @@ use Rattle.rl_line.specs.declared.change.Change.{Change}
 use Rattle.rl_line.specs.Record.{Entry, Begin, End, Changed, Record, entry_of, record_step}
 use Rattle.rl_line.specs.Units.{UndoUnit, Open, Whole, AtLevel, Hears, IsMatched, adds_end, after_in_group, begun, close, end_one, end_times, ended_one, ends_in_begin, has_change, in_group, is_begin, kept_of, last_of, level, opens, redo_from, redo_of, together, units}
 use Rattle.rl_line.proofs.Records.EntryLemmas.{last-split, none-last}
-use Rattle.rl_line.proofs.Records.GroupLemmas.{Inside-steps, Settles-change, end_one-begin, ends_in_begin-begin, has_change-append, touching}
+use Rattle.rl_line.proofs.Records.LastLemmas.{EndsOne, end_one-begin, end_one-cases, end_one-past, ends-past}
+use Rattle.rl_line.proofs.Records.GroupLemmas.{Inside-steps, Settles-change, ends_in_begin-begin, has_change-append, touching}
 use Rattle.rl_line.proofs.Records.LevelLemmas.{AtLevel-step, level-append, level-begin}
-use Rattle.rl_line.proofs.Records.MatchLemmas.{EndsOne, IsMatched-begin, Lower-end_one, end_one-cons}
+use Rattle.rl_line.proofs.Records.MatchLemmas.{IsMatched-begin, Lower-end_one}
 use Rattle.rl_line.proofs.Records.UnitLemmas.{AllGood, AllGood-reverse, Gathers, Gathers-more, Gathers-nil, Settles-group, cut_more-append, last_of-change, on, opens-reverse, together-reverse, together-units, units-good}
 use Rattle.std.proofs.lemmas.List.{map-append}
-
--- an end takes off a Begin, or adds an End
-pub end_one-cases : (es : List Entry) → EndsOne es ⊎ (end_one es ≡ es ++ (End ∷ []))
-end_one-cases [] = inr refl
-end_one-cases (Begin ∷ []) = inl (record { front = []; list_is = refl; after_is = refl })
-end_one-cases (End ∷ []) = inr refl
-end_one-cases (Changed k c ∷ []) = inr refl
-end_one-cases (e ∷ (d ∷ ds)) =
-    elim (end_one-cases (d ∷ ds)) [
-      | inl c ↦ inl (record { front = e ∷ c.front; list_is = ap (λ x. e ∷ x) c.list_is; after_is = end_one-cons e d ds ∙ ap (λ x. e ∷ x) c.after_is })
-      | inr c ↦ inr (end_one-cons e d ds ∙ ap (λ x. e ∷ x) c)
-    ]
-
-pub end_one-past : (xs : List Entry) (y : Entry) (ys : List Entry) → end_one (xs ++ (y ∷ ys)) ≡ xs ++ end_one (y ∷ ys)
-end_one-past [] y ys = refl
-end_one-past (x ∷ []) y ys = end_one-cons x y ys
-end_one-past (x ∷ (z ∷ zs)) y ys = end_one-cons x z (zs ++ (y ∷ ys)) ∙ ap (λ l. x ∷ l) (end_one-past (z ∷ zs) y ys)
 
 -- the entries of the units, the oldest unit first, are all
 on-units : (es : List Entry) (vs : List UndoUnit) → reverse (units es) ≡ vs → on vs ≡ es
@@ -57,27 +41,9 @@ not_open es l k =
     let n : suc (opens (units k.front)) ≡ 0 = sym (ap opens cut) ∙ l in
     omega arith
 
-ends-last : (es : List Entry) → ends_in_begin es ≡ true → EndsOne es
-ends-last [] h = cc
-ends-last (Begin ∷ []) h = record { front = []; list_is = refl; after_is = refl }
-ends-last (End ∷ []) h = cc
-ends-last (Changed k c ∷ []) h = cc
-ends-last (e ∷ (d ∷ ds)) h =
-    let k = ends-last (d ∷ ds) h in
-    record { front = e ∷ k.front; list_is = ap (λ x. e ∷ x) k.list_is; after_is = end_one-cons e d ds ∙ ap (λ x. e ∷ x) k.after_is }
-
-ends-past : (xs : List Entry) (y : Entry) (ys : List Entry) → ends_in_begin (xs ++ (y ∷ ys)) ≡ ends_in_begin (y ∷ ys)
-ends-past [] y ys = refl
-ends-past (x ∷ []) y ys = refl
-ends-past (x ∷ (z ∷ zs)) y ys = ends-past (z ∷ zs) y ys
-
 -- so what has none does not end in one
 ends-closed : (es : List Entry) → level es ≡ 0 → ends_in_begin es ≡ false
-ends-closed es l = go (ends_in_begin es) refl
-  where
-    go : (b : Bool) → ends_in_begin es ≡ b → ends_in_begin es ≡ false
-    go true k = absurd (not_open es l (ends-last es k))
-    go false k = k
+ends-closed es l = elim (end_one-cases es) [ inl k ↦ absurd (not_open es l k) | inr k ↦ k.other ]
 
 -- the End of a group in which nothing is open: all from its Begin on is one unit, with a change
 pub record ClosedGroup (xs inner : List Entry) : Type 0 where
@@ -94,7 +60,7 @@ closed_alone xs e es h l =
       | inr k ↦ record {
         changed = touching (e ∷ es) (g.flags (false ∷ []));
         goes_on = ends-past xs Begin (e ∷ es) ∙ ends-closed (e ∷ es) l;
-        is = end_one-past xs Begin (e ∷ es) ∙ ap (λ x. xs ++ x) (end_one-cons Begin e es) ∙ ap (λ x. xs ++ (Begin ∷ x)) k;
+        is = end_one-past xs Begin (e ∷ es) ∙ ap (λ x. xs ++ (Begin ∷ x)) k.after_is;
         cut = cut_more-append [] xs (Begin ∷ ((e ∷ es) ++ (End ∷ []))) ∙ (Settles-group (e ∷ es) g).cuts (units xs);
       }
     ]

@@ -1,7 +1,7 @@
 -- Entries in the list of the code: counting them, and closing groups.
 use Rattle.std.proofs.Common.{◌≡◌, ℕ, ◌+◌, ◌-◌, ◌<◌, ◌≤◌, arith, suc, List, [], ◌∷◌, ◌++◌, length, take, drop, add-one, drop-cons, get_or, map, reverse, refl, sym, ap, ◌∙◌, ◌⊎◌, inl, inr}
 use Rattle.std.proofs.lemmas.Grind.{take_at_read}
-use Rattle.std.proofs.lemmas.List.{map-append, reverse-append, drop_all}
+use Rattle.std.proofs.lemmas.List.{append-nil, map-append, reverse-append, drop_all}
 use Rattle.std.specs.Prelude.{zero, max, slice_get, cond, IsSome, Bool, true, false, not, ◌||◌, Option, Some, None}
 use Rattle.std.specs.Option.{option_to_list}
 use Rattle.rl_line.specs.declared.change.Change.{Change}
@@ -10,6 +10,7 @@ use Rattle.rl_line.specs.Units.{last_of, redo_of, adds_end, end_one, end_times, 
 use Rattle.rl_line.specs.Entries.{deep}
 use Rattle.rl_line.proofs.Records.Counts.{ahead_len, back_len}
 use Rattle.rl_line.proofs.Records.CountLemmas.{last-counted, redo-counted}
+use Rattle.rl_line.proofs.Records.LastLemmas.{end_one-cases, end_one-past, ends-past}
 use Rattle.rl_line.proofs.Records.RecordLemmas.{value_of}
 use Rattle.rl_line.proofs.Records.UnitLemmas.{last_of-change, redo_of-change}
 use Rattle.std.proofs.lemmas.Option.{same_Some}
@@ -159,16 +160,16 @@ ends-at (x ∷ []) o e = ap begins (sym e)
 ends-at (x ∷ (y ∷ ys)) o e = ends-at (y ∷ ys) o (e ∙ ap (slice_get (x ∷ (y ∷ ys))) (two (length ys)))
 
 -- a Begin at the end goes
-takes_begin-off : (xs : List Entry) (e : Entry) → ends_in_begin (xs ++ e ∷ []) ≡ true → xs ≡ end_one (xs ++ e ∷ [])
-takes_begin-off [] e h = sym (ap (λ b. cond b [] (e ∷ (End ∷ []))) h)
-takes_begin-off (x ∷ []) e h = ap (λ l. x ∷ l) (takes_begin-off [] e h)
-takes_begin-off (x ∷ (y ∷ ys)) e h = ap (λ l. x ∷ l) (takes_begin-off (y ∷ ys) e h)
+takes_begin-off : (xs : List Entry) (e : Entry) → is_begin e ≡ true → xs ≡ end_one (xs ++ e ∷ [])
+takes_begin-off xs e h = sym (end_one-past xs e [] ∙ ap (λ b. xs ++ cond b [] (e ∷ (End ∷ []))) h ∙ append-nil xs)
 
 -- after another entry comes an End
 adds_end-after : (xs : List Entry) → ends_in_begin xs ≡ false → xs ++ End ∷ [] ≡ end_one xs
-adds_end-after [] h = refl
-adds_end-after (x ∷ []) h = sym (ap (λ b. cond b [] (x ∷ (End ∷ []))) h)
-adds_end-after (x ∷ (y ∷ ys)) h = ap (λ l. x ∷ l) (adds_end-after (y ∷ ys) h)
+adds_end-after xs h =
+    elim (end_one-cases xs) [
+      | inl c ↦ let begins = ap ends_in_begin c.list_is ∙ ends-past c.front Begin [] in cc
+      | inr c ↦ sym c.after_is
+    ]
 
 -- a Begin that is popped, and an End that is pushed
 pub end_one-popped : (xs ys : List Change) (o : Option Change) → xs ≡ ys ++ option_to_list o → (0 < length xs → IsSome o) → ends_in_begin (map entry_of xs) ≡ true
@@ -177,7 +178,7 @@ end_one-popped [] ys o e some h = cc
 end_one-popped (x ∷ xs) ys o e some h =
     let y = value_of o (some (omega arith)) in
     let last : map entry_of (x ∷ xs) ≡ map entry_of ys ++ entry_of y.0 ∷ [] = ap (map entry_of) (e ∙ ap (λ p. ys ++ option_to_list p) y.1) ∙ map-append entry_of ys (y.0 ∷ []) in
-    takes_begin-off (map entry_of ys) (entry_of y.0) (ap ends_in_begin (sym last) ∙ h) ∙ ap end_one (sym last)
+    takes_begin-off (map entry_of ys) (entry_of y.0) (sym (ends-past (map entry_of ys) (entry_of y.0) []) ∙ ap ends_in_begin (sym last) ∙ h) ∙ ap end_one (sym last)
 
 pub end_one-pushed : (xs ys : List Change) (x : Change) → ys ≡ xs ++ x ∷ [] → entry_of x ≡ End → ends_in_begin (map entry_of xs) ≡ false → map entry_of ys ≡ end_one (map entry_of xs)
 end_one-pushed xs ys x e end h =
@@ -204,11 +205,6 @@ pub adds-here : (n : ℕ) (es : List Entry) → 0 < n → ends_in_begin es ≡ f
 adds-here zero es some h = absurd (omega (arith, some))
 adds-here (suc n) es some h = ap (λ b. not b || adds_end n (end_one es)) h
 
-ends_in-last : (ys : List Entry) (e : Entry) → ends_in_begin (ys ++ e ∷ []) ≡ is_begin e
-ends_in-last [] e = refl
-ends_in-last (x ∷ []) e = refl
-ends_in-last (x ∷ (y ∷ ys)) e = ends_in-last (y ∷ ys) e
-
 take-last : (xs : List Change) (m : ℕ) (x : Change) → m < length xs → x ≡ get_or xs m x → map entry_of (take (m + 1) xs) ≡ map entry_of (take m xs) ++ entry_of x ∷ []
 take-last xs m x lt e =
     ap (map entry_of) ((take_at_read xs m x lt).1 ∙ ap (λ y. take m xs ++ y ∷ []) (sym e)) ∙ map-append entry_of (take m xs) (x ∷ [])
@@ -220,14 +216,14 @@ adds-off xs m zero x lt e some h = absurd (omega (arith, some))
 adds-off xs m (suc n) x lt e some h =
     let k : suc n - 1 ≡ n = omega arith in
     let ys = map entry_of (take m xs) in
-    let last = ends_in-last ys (entry_of x) ∙ h in
+    let last = ends-past ys (entry_of x) [] ∙ h in
     ap (adds_end (suc n)) (take-last xs m x lt e) ∙ ap (λ b. not b || adds_end n (end_one (ys ++ entry_of x ∷ []))) last
-    ∙ ap (adds_end n) (sym (takes_begin-off ys (entry_of x) last)) ∙ ap (λ j. adds_end j ys) (sym k)
+    ∙ ap (adds_end n) (sym (takes_begin-off ys (entry_of x) h)) ∙ ap (λ j. adds_end j ys) (sym k)
 
 pub adds-before : (xs : List Change) (m n : ℕ) (x : Change) → m < length xs → x ≡ get_or xs m x → 0 < n → is_begin (entry_of x) ≡ false
     → adds_end n (map entry_of (take (m + 1) xs)) ≡ true
 adds-before xs m n x lt e some h =
-    adds-here n _ some (ap ends_in_begin (take-last xs m x lt e) ∙ ends_in-last (map entry_of (take m xs)) (entry_of x) ∙ h)
+    adds-here n _ some (ap ends_in_begin (take-last xs m x lt e) ∙ ends-past (map entry_of (take m xs)) (entry_of x) [] ∙ h)
 
 -- ---- one change alone
 -- the last entry of the list

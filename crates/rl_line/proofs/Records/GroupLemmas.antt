@@ -1,12 +1,13 @@
 -- Groups: where an End stands its group stands before it, and a group without a change leaves no trace.
-use Rattle.std.proofs.Common.{◌≡◌, ℕ, ◌+◌, suc, Bool, true, false, List, [], ◌∷◌, ◌++◌, length, drop, Some, refl, sym, ap, subst, ◌∙◌, arith, append-nil, append_assoc, add-zero}
+use Rattle.std.proofs.Common.{◌≡◌, ℕ, ◌+◌, suc, Bool, true, false, List, [], ◌∷◌, ◌++◌, length, drop, Option, Some, None, refl, sym, ap, subst, ◌∙◌, arith, append-nil, append_assoc, add-zero}
 use Rattle.std.specs.Prelude.{IsSome, zero, not, ◌||◌}
-use Rattle.rl_base.specs.Event.{Event, InsertChar, InsertStr, Delete, Replace, Start, Stop, Cursors}
-use Rattle.rl_line.specs.Record.{Entry, Begin, End, Changed, Record, entries_after, record_step, last_told}
+use Rattle.rl_base.specs.Event.{Event}
+use Rattle.rl_line.specs.Record.{Entry, Begin, End, Changed, Record, entries_after, entries_of, joined, record_step, last_told}
 use Rattle.rl_line.specs.Units.{UndoUnit, Open, Whole, close, units, together, opens, level, has_change, is_change, end_one, end_times, ends_in_begin, adds_end, begun, ended, marks, mark, IsMatched, GroupAt, InGroup, Hears, Begins, after_in_group}
-use Rattle.rl_line.proofs.Records.RecordLemmas.{value_of}
+use Rattle.rl_line.proofs.Records.LastLemmas.{after-past, end_one-begin, ends-past, ends_in}
+use Rattle.rl_line.proofs.Records.RecordLemmas.{joins, value_of}
 use Rattle.rl_line.proofs.Records.UnitLemmas.{AllGood, AllGood-left, or_true, together-append, Settles, flags_on, cut_good, cut_more-append, good_cuts, units-good, together-units, IsMatched-front, IsMatched-together}
-use Rattle.rl_line.proofs.Records.MatchLemmas.{marks-last, level-is, end_one-cons, IsMatched-after, IsMatched-begin}
+use Rattle.rl_line.proofs.Records.MatchLemmas.{marks-last, level-is, IsMatched-after, IsMatched-begin}
 use Rattle.rl_line.proofs.Records.ToldLemmas.{recorded-cases, last_told-marks, last_told-begin}
 
 pub has_change-append : (xs ys : List Entry) → has_change (xs ++ ys) ≡ has_change xs || has_change ys
@@ -119,20 +120,8 @@ all_begins (End ∷ es) (false ∷ fs) c q h = cc
 all_begins (End ∷ es) (true ∷ fs) c q h = cc
 all_begins (Changed k s ∷ es) fs c q h = cc
 
--- a Begin at the end is what an end takes off
-pub end_one-begin : (es : List Entry) → end_one (es ++ Begin ∷ []) ≡ es
-end_one-begin [] = refl
-end_one-begin (e ∷ []) = end_one-cons e Begin []
-end_one-begin (e ∷ (d ∷ ds)) = end_one-cons e d (ds ++ Begin ∷ []) ∙ ap (λ x. e ∷ x) (end_one-begin (d ∷ ds))
-
 pub ends_in_begin-begin : (es : List Entry) → ends_in_begin (es ++ Begin ∷ []) ≡ true
-ends_in_begin-begin [] = refl
-ends_in_begin-begin (Begin ∷ []) = refl
-ends_in_begin-begin (End ∷ []) = refl
-ends_in_begin-begin (Changed k c ∷ []) = refl
-ends_in_begin-begin (Begin ∷ (d ∷ ds)) = ends_in_begin-begin (d ∷ ds)
-ends_in_begin-begin (End ∷ (d ∷ ds)) = ends_in_begin-begin (d ∷ ds)
-ends_in_begin-begin (Changed k c ∷ (d ∷ ds)) = ends_in_begin-begin (d ∷ ds)
+ends_in_begin-begin es = ends-past es Begin []
 
 -- groups opened after entries: how many are open, and what their ends do
 record OpenAfter (es : List Entry) (n : ℕ) (all : List Entry) : Type 0 where
@@ -155,20 +144,13 @@ open_after es (suc n) =
     })
 
 -- what happens after a Begin happens to what stands after it
-entries_after-begin : (event : Event) (ys : List Entry) → entries_after event (Begin ∷ ys) ≡ Begin ∷ entries_after event ys
-entries_after-begin (InsertChar i c) [] = refl
-entries_after-begin (InsertStr i s) [] = refl
-entries_after-begin (Delete i s side) [] = refl
-entries_after-begin (Replace i s t) [] = refl
-entries_after-begin Start [] = refl
-entries_after-begin Stop [] = refl
-entries_after-begin (Cursors b a) [] = refl
-entries_after-begin event (y ∷ ys) = refl
-
 entries_after-inside : (event : Event) (xs ys : List Entry) → entries_after event (xs ++ Begin ∷ ys) ≡ xs ++ Begin ∷ entries_after event ys
-entries_after-inside event [] ys = entries_after-begin event ys
-entries_after-inside event (x ∷ []) ys = ap (λ l. x ∷ l) (entries_after-begin event ys)
-entries_after-inside event (x ∷ (z ∷ zs)) ys = ap (λ l. x ∷ l) (entries_after-inside event (z ∷ zs) ys)
+entries_after-inside event xs [] = from (joined event Begin) refl
+  where
+    from : (o : Option Entry) → joined event Begin ≡ o → entries_after event (xs ++ Begin ∷ []) ≡ xs ++ Begin ∷ entries_of event
+    from None h = (ends_in event (xs ++ Begin ∷ []) xs Begin None refl h).0 ∙ append_assoc xs (Begin ∷ []) (entries_of event)
+    from (Some joint) h = let was = (joins event Begin joint h).was in cc
+entries_after-inside event xs (y ∷ ys) = after-past event xs Begin (y ∷ ys)
 
 -- what stands in the record after the Begin of an open group
 pub record InsideOf (front es : List Entry) : Type 0 where

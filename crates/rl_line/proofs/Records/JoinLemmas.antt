@@ -1,120 +1,68 @@
 -- The last recorded entry, where an event joins it and where it does not.
-use Rattle.std.proofs.Common.{◌≡◌, ℕ, zero, suc, ◌-◌, ◌<◌, ◌≤◌, List, [], ◌∷◌, ◌++◌, length, take, drop, get_or, set, map, Some, None, refl, sym, ap, subst, ◌∙◌, arith}
-use Rattle.std.proofs.lemmas.List.{append-nil, drop-map, drop-set-lt, get_or-take, length-take-le, nil_from_length, take-map}
-use Rattle.std.proofs.Math.Seq.{take-set-lt}
+use Rattle.std.proofs.Common.{◌≡◌, ℕ, ◌+◌, ◌-◌, ◌<◌, ◌≤◌, List, [], ◌∷◌, ◌++◌, length, take, drop, get_or, set, map, Some, None, refl, sym, ap, subst, ◌∙◌, arith}
+use Rattle.std.proofs.lemmas.Grind.{take_at_read}
+use Rattle.std.proofs.lemmas.List.{append-nil, drop-map, drop-set-lt, map-append, nil_from_length, take-map, take_more_set}
+use Rattle.std.proofs.Math.Seq.{map-set_same}
 use Rattle.std.proofs.lemmas.Result.{IfErr-weaker, IfOk-weaker}
-use Rattle.std.specs.Option.{option_map_or}
 use Rattle.std.specs.Prelude.{IfErr, IfOk, Option, Result}
 use Rattle.std.specs.Str.{chars}
 use Rattle.unicode_segmentation.specs.Segments.{cut, segments}
-use Rattle.rl_base.specs.Event.{Event, InsertStr, Delete, Start, Stop}
+use Rattle.rl_base.specs.Event.{Event, InsertChar, InsertStr, Delete, Replace, Start, Stop, Cursors, apply}
 use Rattle.rl_base.specs.declared.listeners.Direction.{Direction}
 use Rattle.rl_base.specs.declared.listeners.Direction.TheVariants.{Forward}
 use Rattle.rl_base.specs.declared.listeners.Refusal.{Refusal}
 use Rattle.rl_base.specs.declared.listeners.Refusal.TheVariants.{NoMemory}
 use Rattle.rl_line.specs.declared.change.Change.{Change}
-use Rattle.rl_line.specs.Record.{Insertion, Deletion, Replacement, Entry, Begin, End, Changed, Record, cursors_of, entries_after, entries_of, entry_of, freshness_added, freshness_joined, freshness_of, joined, last_told, record_step, with_cursors}
+use Rattle.rl_line.specs.Record.{Insertion, Deletion, Replacement, Entry, Begin, End, Changed, Record, entries_after, entries_of, entry_of, freshness_added, freshness_of, joined, last_told, record_step, with_cursors}
 use Rattle.rl_line.specs.declared.change.Freshness.{Freshness}
 use Rattle.rl_line.specs.declared.change.Freshness.TheVariants.{Stale}
 use Rattle.rl_line.specs.Change.{TakesIn}
 use Rattle.rl_line.specs.Entries.{JoinsLast}
-
-joined-last : (event : Event) (xs : List Change) (k : ℕ) (x y : Change) → suc k ≡ length xs → x ≡ get_or xs k x → joined event (entry_of x) ≡ Some (entry_of y)
-    → map entry_of (set xs k y) ≡ entries_after event (map entry_of xs)
-joined-last event [] k x y n is e = absurd (omega arith)
-joined-last event (z ∷ []) zero x y n is e =
-    sym (ap (λ (w : Change). option_map_or (λ joint. joint ∷ []) (joined event (entry_of w)) (entry_of w ∷ entries_of event)) (sym is) ∙ ap (λ o. option_map_or (λ joint. joint ∷ []) o (entry_of x ∷ entries_of event)) e)
-joined-last event (z ∷ []) (suc k) x y n is e = absurd (omega arith)
-joined-last event (z ∷ (w ∷ ws)) zero x y n is e = absurd (omega arith)
-joined-last event (z ∷ (w ∷ ws)) (suc k) x y n is e = ap (λ es. entry_of z ∷ es) (joined-last event (w ∷ ws) k x y (omega arith) is e)
-
-added-last : (event : Event) (xs : List Change) (k : ℕ) (x : Change) → suc k ≡ length xs → x ≡ get_or xs k x → joined event (entry_of x) ≡ None
-    → entries_after event (map entry_of xs) ≡ map entry_of xs ++ entries_of event
-added-last event [] k x n is e = absurd (omega arith)
-added-last event (z ∷ []) zero x n is e =
-    ap (λ (w : Change). option_map_or (λ joint. joint ∷ []) (joined event (entry_of w)) (entry_of w ∷ entries_of event)) (sym is) ∙ ap (λ o. option_map_or (λ joint. joint ∷ []) o (entry_of x ∷ entries_of event)) e
-    ∙ ap (λ (w : Change). entry_of w ∷ entries_of event) is
-added-last event (z ∷ []) (suc k) x n is e = absurd (omega arith)
-added-last event (z ∷ (w ∷ ws)) zero x n is e = absurd (omega arith)
-added-last event (z ∷ (w ∷ ws)) (suc k) x n is e = ap (λ es. entry_of z ∷ es) (added-last event (w ∷ ws) k x (omega arith) is e)
-
--- what may be told of the last entry then
-joined-fresh : (event : Event) (xs : List Change) (k : ℕ) (x : Change) (joint : Entry) → suc k ≡ length xs → x ≡ get_or xs k x → joined event (entry_of x) ≡ Some joint
-    → freshness_of event (map entry_of xs) ≡ freshness_joined (cursors_of (entry_of x))
-joined-fresh event [] k x joint n is e = absurd (omega arith)
-joined-fresh event (z ∷ []) zero x joint n is e =
-    ap (λ o. option_map_or (λ _. freshness_joined (cursors_of (entry_of z))) o (freshness_added (entries_of event))) (ap (λ (w : Change). joined event (entry_of w)) (sym is) ∙ e)
-    ∙ ap (λ (w : Change). freshness_joined (cursors_of (entry_of w))) (sym is)
-joined-fresh event (z ∷ []) (suc k) x joint n is e = absurd (omega arith)
-joined-fresh event (z ∷ (w ∷ ws)) zero x joint n is e = absurd (omega arith)
-joined-fresh event (z ∷ (w ∷ ws)) (suc k) x joint n is e = joined-fresh event (w ∷ ws) k x joint (omega arith) is e
-
-added-fresh : (event : Event) (xs : List Change) (k : ℕ) (x : Change) → suc k ≡ length xs → x ≡ get_or xs k x → joined event (entry_of x) ≡ None
-    → freshness_of event (map entry_of xs) ≡ freshness_added (entries_of event)
-added-fresh event [] k x n is e = absurd (omega arith)
-added-fresh event (z ∷ []) zero x n is e =
-    ap (λ o. option_map_or (λ _. freshness_joined (cursors_of (entry_of z))) o (freshness_added (entries_of event))) (ap (λ (w : Change). joined event (entry_of w)) (sym is) ∙ e)
-added-fresh event (z ∷ []) (suc k) x n is e = absurd (omega arith)
-added-fresh event (z ∷ (w ∷ ws)) zero x n is e = absurd (omega arith)
-added-fresh event (z ∷ (w ∷ ws)) (suc k) x n is e = added-fresh event (w ∷ ws) k x (omega arith) is e
-
--- the last entry is told its cursors
-told-last : (cursors : ℕ × ℕ) (xs : List Change) (k : ℕ) (x y : Change) → suc k ≡ length xs → x ≡ get_or xs k x → entry_of y ≡ with_cursors cursors (entry_of x)
-    → map entry_of (set xs k y) ≡ last_told cursors (map entry_of xs)
-told-last cursors [] k x y n is e = absurd (omega arith)
-told-last cursors (z ∷ []) zero x y n is e = ap (λ w. w ∷ []) (e ∙ ap (λ (w : Change). with_cursors cursors (entry_of w)) is)
-told-last cursors (z ∷ []) (suc k) x y n is e = absurd (omega arith)
-told-last cursors (z ∷ (w ∷ ws)) zero x y n is e = absurd (omega arith)
-told-last cursors (z ∷ (w ∷ ws)) (suc k) x y n is e = ap (λ es. entry_of z ∷ es) (told-last cursors (w ∷ ws) k x y (omega arith) is e)
+use Rattle.rl_line.proofs.Records.LastLemmas.{IsApart, after-cases, ends_in, last_told-past}
 
 -- the entry that stands last among the first n of a list, and the list with another in its place
 record LastOf (xs : List Change) (n k : ℕ) (x y : Change) : Type 0 where
-  count : suc k ≡ length (take n xs)
-  is : x ≡ get_or (take n xs) k x
-  front : map entry_of (take n xs) ≡ take n (map entry_of xs)
-  changed : take n (map entry_of (set xs k y)) ≡ map entry_of (set (take n xs) k y)
-  others : drop n (map entry_of (set xs k y)) ≡ drop n (map entry_of xs)
+  front : List Entry
+  was : take n (map entry_of xs) ≡ front ++ entry_of x ∷ []
+  now : take n (map entry_of (set xs k y)) ≡ front ++ entry_of y ∷ []
 
 LastOf-at : (xs : List Change) (n k : ℕ) (x y : Change) → n ≤ length xs → 0 < n → k ≡ n - 1 → x ≡ get_or xs k x → LastOf xs n k x y
 LastOf-at xs n k x y le some at is =
-    let before : k < n = omega arith in
+    let last : n ≡ k + 1 = omega arith in
+    let within : k < length xs = omega arith in
+    let read = ap (λ m. take m xs) last ∙ (take_at_read xs k x within).1 ∙ ap (λ z. take k xs ++ z ∷ []) (sym is) in
+    let written = ap (λ m. take m (set xs k y)) last ∙ take_more_set xs k y within in
     record {
-      count = omega (arith, length-take-le n xs le);
-      is = is ∙ sym (get_or-take n xs k x before);
-      front = sym (take-map entry_of n xs);
-      changed = take-map entry_of n (set xs k y) ∙ ap (map entry_of) (take-set-lt n xs k y before);
-      others = drop-map entry_of n (set xs k y) ∙ ap (map entry_of) (drop-set-lt n xs k y before) ∙ sym (drop-map entry_of n xs);
+      front = map entry_of (take k xs);
+      was = take-map entry_of n xs ∙ ap (map entry_of) read ∙ map-append entry_of (take k xs) (x ∷ []);
+      now = take-map entry_of n (set xs k y) ∙ ap (map entry_of) written ∙ map-append entry_of (take k xs) (y ∷ []);
     }
 
 pub told-last-of : (cursors : ℕ × ℕ) (xs : List Change) (n : ℕ) (x y : Change) → n ≤ length xs → 0 < n → x ≡ get_or xs (n - 1) x → entry_of y ≡ with_cursors cursors (entry_of x)
     → take n (map entry_of (set xs (n - 1) y)) ≡ last_told cursors (take n (map entry_of xs))
 told-last-of cursors xs n x y le some is e =
     let l = LastOf-at xs n (n - 1) x y le some refl is in
-    l.changed ∙ told-last cursors (take n xs) (n - 1) x y l.count l.is e ∙ ap (last_told cursors) l.front
+    l.now ∙ ap (λ z. l.front ++ z ∷ []) e ∙ sym (ap (last_told cursors) l.was ∙ last_told-past cursors l.front (entry_of x) [])
 
 pub told-others : (xs : List Change) (n : ℕ) (y : Change) → 0 < n → drop n (map entry_of (set xs (n - 1) y)) ≡ drop n (map entry_of xs)
 told-others xs n y some =
     drop-map entry_of n (set xs (n - 1) y) ∙ ap (map entry_of) (drop-set-lt n xs (n - 1) y (omega arith)) ∙ sym (drop-map entry_of n xs)
 
-same-last : (xs : List Change) (k : ℕ) (x y : Change) → k < length xs → x ≡ get_or xs k x → entry_of y ≡ entry_of x → map entry_of (set xs k y) ≡ map entry_of xs
-same-last [] k x y l is e = absurd (omega arith)
-same-last (z ∷ xs) zero x y l is e = ap (λ w. w ∷ map entry_of xs) (e ∙ ap entry_of is)
-same-last (z ∷ xs) (suc k) x y l is e = ap (λ es. entry_of z ∷ es) (same-last xs k x y (omega arith) is e)
+-- one that stands for the same entry
+same-at : (xs : List Change) (k : ℕ) (x y : Change) → x ≡ get_or xs k x → entry_of y ≡ entry_of x → map entry_of (set xs k y) ≡ map entry_of xs
+same-at xs k x y is e = map-set_same entry_of xs k y x (e ∙ ap entry_of is)
 
 -- the entries, of which the last recorded one took the event in or did not
 joins_last : (event : Event) (xs : List Change) (n k : ℕ) (x y : Change) (fresh : Option Freshness) → n ≤ length xs → 0 < n → k ≡ n - 1 → x ≡ get_or xs k x
     → TakesIn event (entry_of x) (entry_of y) fresh → JoinsLast event n (map entry_of xs) (map entry_of (set xs k y)) fresh
 joins_last event xs n k x y (Some fresh) le some at is t =
-    let l = LastOf-at xs n k x y le some at is in (
-      l.changed ∙ joined-last event (take n xs) k x y l.count l.is t.0 ∙ ap (entries_after event) l.front,
-      t.1 ∙ sym (joined-fresh event (take n xs) k x (entry_of y) l.count l.is t.0) ∙ ap (freshness_of event) l.front,
-    )
+    let l = LastOf-at xs n k x y le some at is in
+    let ends = ends_in event (take n (map entry_of xs)) l.front (entry_of x) (Some (entry_of y)) l.was t.0 in
+    (l.now ∙ sym ends.0, t.1 ∙ sym ends.1)
 joins_last event xs n k x y None le some at is t =
-    let l = LastOf-at xs n k x y le some at is in (
-      same-last xs k x y (omega arith) is t.1,
-      ap (entries_after event) (sym l.front) ∙ added-last event (take n xs) k x l.count l.is t.0 ∙ ap (λ es. es ++ entries_of event) l.front,
-      ap (freshness_of event) (sym l.front) ∙ added-fresh event (take n xs) k x l.count l.is t.0,
-    )
+    let l = LastOf-at xs n k x y le some at is in
+    let apart = ends_in event (take n (map entry_of xs)) l.front (entry_of x) None l.was t.0 in
+    (same-at xs k x y is t.1, apart.0, apart.1)
 
 pub joins_last-nothing : (event : Event) (xs : List Change) (n : ℕ) → n ≡ 0 → JoinsLast event n (map entry_of xs) (map entry_of xs) None
 joins_last-nothing event xs n none =
@@ -129,29 +77,38 @@ joins_last-ok event xs n x y result le some is =
 pub joins_last-err : (xs : List Change) (n : ℕ) (x y : Change) (result : Result (Option Freshness) Refusal) → n ≤ length xs → 0 < n → x ≡ get_or xs (n - 1) x
     → IfErr result (λ r. (r ≡ NoMemory) × (entry_of y ≡ entry_of x)) → IfErr result (λ r. (r ≡ NoMemory) × (map entry_of (set xs (n - 1) y) ≡ map entry_of xs))
 joins_last-err xs n x y result le some is =
-    IfErr-weaker result _ _ (λ r t. (t.0, same-last xs (n - 1) x y (omega arith) is t.1))
+    IfErr-weaker result _ _ (λ r t. (t.0, same-at xs (n - 1) x y is t.1))
 
 -- ---- events that join nothing
-added : (event : Event) → ((e : Entry) → joined event e ≡ None) → (es : List Entry) → entries_after event es ≡ es ++ entries_of event
-added event none [] = refl
-added event none (e ∷ []) = ap (λ o. option_map_or (λ joint. joint ∷ []) o (e ∷ entries_of event)) (none e)
-added event none (e ∷ (d ∷ ds)) = ap (λ es. e ∷ es) (added event none (d ∷ ds))
+joins_nothing : (event : Event) → ((e : Entry) → joined event e ≡ None) → (es : List Entry) → IsApart event es
+joins_nothing event none es =
+    after-cases event (λ xs ys fresh. (ys ≡ xs ++ entries_of event) × (fresh ≡ freshness_added (entries_of event))) (λ xs. (refl, refl))
+    (λ front e joint h. let no : None ≡ Some joint = sym (none e) ∙ h in cc) es
 
 pub record_step-Start : (r : Record) → record_step r Start ≡ r
 unfolding record_step entries_of
-record_step-Start r = ap (λ es. record r { recorded = es }) (added Start (λ e. refl) r.recorded ∙ append-nil r.recorded)
+record_step-Start r = ap (λ es. record r { recorded = es }) ((joins_nothing Start (λ e. refl) r.recorded).0 ∙ append-nil r.recorded)
 
 pub record_step-Stop : (r : Record) → record_step r Stop ≡ r
 unfolding record_step entries_of
-record_step-Stop r = ap (λ es. record r { recorded = es }) (added Stop (λ e. refl) r.recorded ∙ append-nil r.recorded)
+record_step-Stop r = ap (λ es. record r { recorded = es }) ((joins_nothing Stop (λ e. refl) r.recorded).0 ∙ append-nil r.recorded)
 
-fresh-alone : (event : Event) → ((e : Entry) → joined event e ≡ None) → (es : List Entry) → freshness_of event es ≡ freshness_added (entries_of event)
-fresh-alone event none [] = refl
-fresh-alone event none (e ∷ []) = ap (λ o. option_map_or (λ _. freshness_joined (cursors_of e)) o (freshness_added (entries_of event))) (none e)
-fresh-alone event none (e ∷ (d ∷ ds)) = fresh-alone event none (d ∷ ds)
+-- what holds where an event of a text is recorded, where a record stays, and where its last change is told cursors, holds after any event
+pub step-cases : (r : Record) (P : Event → Record → Type 0)
+    → ((event : Event) → P event (record { recorded = entries_after event r.recorded; pending = []; fresh = freshness_of event r.recorded }))
+    → ((event : Event) → ((text : List ℕ) → apply event text ≡ Some text) → P event r) → ((b a : ℕ) → P (Cursors b a) (record_step r (Cursors b a)))
+    → (event : Event) → P event (record_step r event)
+unfolding apply record_step
+step-cases r P changes stays told (InsertChar i c) = changes (InsertChar i c)
+step-cases r P changes stays told (InsertStr i s) = changes (InsertStr i s)
+step-cases r P changes stays told (Delete i s side) = changes (Delete i s side)
+step-cases r P changes stays told (Replace i s t) = changes (Replace i s t)
+step-cases r P changes stays told Start = subst (P Start) (sym (record_step-Start r)) (stays Start (λ text. refl))
+step-cases r P changes stays told Stop = subst (P Stop) (sym (record_step-Stop r)) (stays Stop (λ text. refl))
+step-cases r P changes stays told (Cursors b a) = told b a
 
 pub fresh-InsertStr : (es : List Entry) (i : ℕ) (s : List ℕ) → freshness_of (InsertStr i s) es ≡ freshness_added (entries_of (InsertStr i s))
-fresh-InsertStr es i s = fresh-alone (InsertStr i s) (λ e. refl) es
+fresh-InsertStr es i s = (joins_nothing (InsertStr i s) (λ e. refl) es).1
 
 pub fresh-InsertStr-nothing : (es : List Entry) (i : ℕ) (s : List ℕ) → length s ≡ 0 → freshness_of (InsertStr i s) es ≡ Stale
 unfolding entries_of
@@ -168,10 +125,10 @@ joined-nothing i side (Changed Replacement c) = refl
 pub fresh-Delete-nothing : (es : List Entry) (i : ℕ) (s : List ℕ) (side : Direction) → length s ≡ 0 → freshness_of (Delete i s side) es ≡ Stale
 unfolding entries_of
 fresh-Delete-nothing es i s side e =
-    ap (λ (t : List ℕ). freshness_of (Delete i t side) es) (nil_from_length s e) ∙ fresh-alone (Delete i [] side) (joined-nothing i side) es
+    ap (λ (t : List ℕ). freshness_of (Delete i t side) es) (nil_from_length s e) ∙ (joins_nothing (Delete i [] side) (joined-nothing i side) es).1
 
 pub after-InsertStr : (es : List Entry) (i : ℕ) (s : List ℕ) → entries_after (InsertStr i s) es ≡ es ++ entries_of (InsertStr i s)
-after-InsertStr es i s = added (InsertStr i s) (λ e. refl) es
+after-InsertStr es i s = (joins_nothing (InsertStr i s) (λ e. refl) es).0
 
 pub after-InsertStr-nothing : (es : List Entry) (i : ℕ) (s : List ℕ) → length s ≡ 0 → entries_after (InsertStr i s) es ≡ es
 unfolding entries_of
@@ -180,29 +137,21 @@ after-InsertStr-nothing es i s e = ap (λ (t : List ℕ). entries_after (InsertS
 pub after-Delete-nothing : (es : List Entry) (i : ℕ) (s : List ℕ) (side : Direction) → length s ≡ 0 → entries_after (Delete i s side) es ≡ es
 unfolding entries_of
 after-Delete-nothing es i s side e =
-    ap (λ (t : List ℕ). entries_after (Delete i t side) es) (nil_from_length s e) ∙ added (Delete i [] side) (joined-nothing i side) es ∙ append-nil es
+    ap (λ (t : List ℕ). entries_after (Delete i t side) es) (nil_from_length s e) ∙ (joins_nothing (Delete i [] side) (joined-nothing i side) es).0 ∙ append-nil es
 
 -- ---- the side from which a text is taken is not recorded
-joined-side : (i : ℕ) (s : List ℕ) (side : Direction) (e : Entry) → joined (Delete i s Forward) e ≡ joined (Delete i s side) e
-joined-side i s side e = refl
-
-after-side : (i : ℕ) (s : List ℕ) (side : Direction) (es : List Entry) → entries_after (Delete i s Forward) es ≡ entries_after (Delete i s side) es
+same-side : (i : ℕ) (s : List ℕ) (side : Direction) (es : List Entry)
+    → (entries_after (Delete i s Forward) es ≡ entries_after (Delete i s side) es) × (freshness_of (Delete i s Forward) es ≡ freshness_of (Delete i s side) es)
 unfolding entries_of
-after-side i s side [] = refl
-after-side i s side (e ∷ []) = ap (λ o. option_map_or (λ joint. joint ∷ []) o (e ∷ entries_of (Delete i s Forward))) (joined-side i s side e)
-after-side i s side (e ∷ (d ∷ ds)) = ap (λ es. e ∷ es) (after-side i s side (d ∷ ds))
-
-fresh-side : (i : ℕ) (s : List ℕ) (side : Direction) (es : List Entry) → freshness_of (Delete i s Forward) es ≡ freshness_of (Delete i s side) es
-unfolding entries_of
-fresh-side i s side [] = refl
-fresh-side i s side (e ∷ []) = ap (λ o. option_map_or (λ _. freshness_joined (cursors_of e)) o (freshness_added (entries_of (Delete i s Forward)))) (joined-side i s side e)
-fresh-side i s side (e ∷ (d ∷ ds)) = fresh-side i s side (d ∷ ds)
+same-side i s side [] = (refl, refl)
+same-side i s side (e ∷ []) = (refl, refl)
+same-side i s side (e ∷ (d ∷ ds)) = let rest = same-side i s side (d ∷ ds) in (ap (λ es. e ∷ es) rest.0, rest.1)
 
 pub record_step-side : (i : ℕ) (s : List ℕ) (side : Direction) (r : Record) → record_step r (Delete i s Forward) ≡ record_step r (Delete i s side)
 unfolding record_step
 record_step-side i s side r =
-    ap (λ es. record { recorded = es; pending = []; fresh = freshness_of (Delete i s Forward) r.recorded }) (after-side i s side r.recorded)
-    ∙ ap (λ f. record { recorded = entries_after (Delete i s side) r.recorded; pending = []; fresh = f }) (fresh-side i s side r.recorded)
+    ap (λ es. record { recorded = es; pending = []; fresh = freshness_of (Delete i s Forward) r.recorded }) (same-side i s side r.recorded).0
+    ∙ ap (λ f. record { recorded = entries_after (Delete i s side) r.recorded; pending = []; fresh = f }) (same-side i s side r.recorded).1
 
 pub ruleset alone = (record_step-Start, record_step-Stop)
 

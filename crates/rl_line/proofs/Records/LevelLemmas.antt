@@ -1,9 +1,8 @@
 -- The level: how many groups are open after each call, counted over the entries that it moves or drops alone.
-use Rattle.std.proofs.Common.{◌≡◌, ℕ, ◌+◌, ◌-◌, ◌<◌, ◌≤◌, suc, arith, Bool, true, false, List, [], ◌∷◌, ◌++◌, length, take, drop, take_all, get_or, map, Option, Some, None, refl, sym, ap, subst, ◌∙◌, leb, inl, inr, length-take}
+use Rattle.std.proofs.Common.{◌≡◌, ℕ, ◌+◌, ◌-◌, ◌<◌, ◌≤◌, suc, arith, Bool, true, false, List, [], ◌∷◌, ◌++◌, length, take, drop, take_all, get_or, map, Some, refl, sym, ap, subst, ◌∙◌, leb, inl, inr, length-take}
 use Rattle.std.proofs.lemmas.Bool.{leb-true, leb-false}
 use Rattle.std.proofs.lemmas.Grind.{take_at_read}
 use Rattle.std.proofs.lemmas.List.{length-map, map-append, take-append-drop, take-map}
-use Rattle.std.specs.Option.{option_map_or}
 use Rattle.std.specs.Prelude.{max}
 use Rattle.rl_base.specs.Event.{Event}
 use Rattle.rl_line.specs.declared.change.Change.{Change}
@@ -12,6 +11,7 @@ use Rattle.rl_line.specs.Units.{AtLevel, IsMatched, begun, is_change, kept_of, l
 use Rattle.rl_line.specs.Entries.{deep}
 use Rattle.rl_line.proofs.Records.CountLemmas.{level-counted}
 use Rattle.rl_line.proofs.Records.EntryLemmas.{deep-append}
+use Rattle.rl_line.proofs.Records.LastLemmas.{after-cases}
 use Rattle.rl_line.proofs.Records.MatchLemmas.{AllGood-take, BothMatched-begun, BothMatched-closed, BothMatched-redone, BothMatched-step, BothMatched-truncated, BothMatched-undone, Lower-end_times, Redoes-of, length-touched, level-is, marks-last}
 use Rattle.rl_line.proofs.Records.RecordLemmas.{joins, none_or_one, value_of}
 use Rattle.rl_line.proofs.Records.UnitLemmas.{IsMatched-front, IsMatched-together, cut_more-append, kept-last, opens-append, units-append, units-good}
@@ -21,16 +21,14 @@ use Rattle.rl_line.proofs.Records.ToldLemmas.{recorded-cases, last_told-deep}
 deep-entries_of : (event : Event) (d : ℕ) → deep d (entries_of event) ≡ d
 deep-entries_of event d = elim (none_or_one event) [ inl none ↦ ap (deep d) none | inr (k, c, one) ↦ ap (deep d) one ]
 
+deep-joined : (event : Event) (e joint : Entry) (d : ℕ) → joined event e ≡ Some joint → deep d (joint ∷ []) ≡ deep d (e ∷ [])
+deep-joined event e joint d h = let b = joins event e joint h in subst (λ k. deep d (k ∷ []) ≡ deep d (e ∷ [])) b.is (ap (λ k. deep d (k ∷ [])) (sym b.was))
+
 -- no event is a mark
 deep-after : (event : Event) (es : List Entry) (d : ℕ) → deep d (entries_after event es) ≡ deep d es
-deep-after event [] d = deep-entries_of event d
-deep-after event (e ∷ []) d = from (joined event e) refl
-  where
-    from : (o : Option Entry) → joined event e ≡ o → deep d (option_map_or (λ joint. joint ∷ []) o (e ∷ entries_of event)) ≡ deep d (e ∷ [])
-    from None j = deep-append d (e ∷ []) (entries_of event) ∙ deep-entries_of event (deep d (e ∷ []))
-    from (Some joint) j = let b = joins event e joint j in subst (λ k. deep d (k ∷ []) ≡ deep d (e ∷ [])) b.is (ap (λ k. deep d (k ∷ [])) (sym b.was))
-deep-after event (e ∷ (f ∷ fs)) d =
-    deep-append d (e ∷ []) (entries_after event (f ∷ fs)) ∙ deep-after event (f ∷ fs) (deep d (e ∷ [])) ∙ sym (deep-append d (e ∷ []) (f ∷ fs))
+deep-after event es d =
+    after-cases event (λ xs ys _. deep d ys ≡ deep d xs) (λ xs. deep-append d xs (entries_of event) ∙ deep-entries_of event (deep d xs))
+    (λ front e joint h. deep-append d front (joint ∷ []) ∙ deep-joined event e joint (deep d front) h ∙ sym (deep-append d front (e ∷ []))) es
 
 pub AtLevel-step : (event : Event) (n : ℕ) (r : Record) → AtLevel n r → AtLevel n (record_step r event)
 unfolding record_step

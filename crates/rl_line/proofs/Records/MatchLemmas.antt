@@ -1,33 +1,28 @@
 -- Every operation keeps the marks matched, and a change in each closed group.
-use Rattle.std.proofs.Common.{◌≡◌, ℕ, ◌+◌, ◌-◌, ◌≤◌, suc, arith, Bool, true, false, List, [], ◌∷◌, ◌++◌, length, take, drop, reverse, Option, Some, None, refl, sym, ap, subst, ◌∙◌, ◌⊎◌, inl, inr, append-nil, drop_at}
+use Rattle.std.proofs.Common.{◌≡◌, ℕ, ◌+◌, ◌-◌, ◌≤◌, suc, arith, Bool, true, false, List, [], ◌∷◌, ◌++◌, length, take, drop, reverse, Some, refl, sym, ap, subst, ◌∙◌, inl, inr, append-nil, drop_at}
 use Rattle.std.proofs.lemmas.List.{take-append-drop, reverse-append, reverse-reverse}
-use Rattle.std.specs.Option.{option_map_or}
 use Rattle.std.specs.Prelude.{option_and_then, IsSome, zero, max}
 use Rattle.rl_base.proofs.Texts.SwapLemmas.{some_is}
 use Rattle.rl_base.specs.Event.{Event, InsertChar, InsertStr, Delete, Replace, Start, Stop, Cursors}
-use Rattle.rl_line.specs.Record.{Entry, Begin, End, Changed, Record, entries_of, joined, entries_after, pending_after, record_step}
-use Rattle.rl_line.specs.Units.{UndoUnit, Open, Whole, units, together, opens, level, last_of, kept_of, redo_from, redo_of, end_one, end_times, begun, undone, redone, truncated, with_closed, touched, mark, marks, IsMatched, BothMatched}
-use Rattle.rl_line.proofs.Records.RecordLemmas.{joins, none_or_one, through, value_of}
+use Rattle.rl_line.specs.Record.{Entry, Begin, End, Changed, Record, entries_of, entries_after, pending_after, record_step}
+use Rattle.rl_line.specs.Units.{UndoUnit, Open, Whole, units, together, opens, level, last_of, kept_of, redo_from, redo_of, end_one, ends_in_begin, is_begin, end_times, begun, undone, redone, truncated, with_closed, touched, mark, marks, IsMatched, BothMatched}
+use Rattle.rl_line.proofs.Records.LastLemmas.{after-cases, by_last, end_one-cases, ends-past}
+use Rattle.rl_line.proofs.Records.RecordLemmas.{IsSome-through, joins, none_or_one, through, value_of}
 use Rattle.rl_line.proofs.Records.UnitLemmas.{AllGood, flags_on, marks-append, IsMatched-front, IsMatched-append, IsMatched-together, AllGood-left, AllGood-right, units-good, together-units, together-append, kept-last, cut_good}
 use Rattle.rl_line.proofs.Records.ToldLemmas.{recorded-cases, last_told-marks}
 
 entries_of-marks : (event : Event) (fs : List Bool) → IsSome (marks (entries_of event) fs)
 entries_of-marks event fs = elim (none_or_one event) [ inl none ↦ rw none refl | inr (k, c, one) ↦ rw one refl ]
 
--- what the marks take in place of other entries, they take after the same entries too
-after : (o : Option (List Bool)) (xs ys : List Entry) → ((fs : List Bool) → IsSome (marks xs fs) → IsSome (marks ys fs))
-    → IsSome (option_and_then (marks xs) o) → IsSome (option_and_then (marks ys) o)
-after None xs ys f h = h
-after (Some fs) xs ys f h = f fs h
+-- what comes after the same entries is taken by the marks where it is by any
+marks-past : (xs ys : List Entry) (fs : List Bool) → IsSome (marks xs fs) → ((gs : List Bool) → IsSome (marks ys gs)) → IsSome (marks (xs ++ ys) fs)
+marks-past xs ys fs h all = let s = value_of (marks xs fs) h in subst IsSome (sym (marks-append xs ys fs ∙ ap (option_and_then (marks ys)) s.1)) (all s.0)
 
 marks-after : (event : Event) (es : List Entry) (fs : List Bool) → IsSome (marks es fs) → IsSome (marks (entries_after event es) fs)
-marks-after event [] fs h = entries_of-marks event fs
-marks-after event (e ∷ []) fs h = from (joined event e) refl
-  where
-    from : (o : Option Entry) → joined event e ≡ o → IsSome (marks (option_map_or (λ joint. joint ∷ []) o (e ∷ entries_of event)) fs)
-    from None j = after (mark e fs) [] (entries_of event) (λ gs k. entries_of-marks event gs) h
-    from (Some joint) j = subst (λ k. IsSome (marks (k ∷ []) fs)) (joins event e joint j).is refl
-marks-after event (e ∷ (d ∷ ds)) fs h = after (mark e fs) (d ∷ ds) (entries_after event (d ∷ ds)) (λ gs k. marks-after event (d ∷ ds) gs k) h
+marks-after event es fs h =
+    after-cases event (λ xs ys _. IsSome (marks xs fs) → IsSome (marks ys fs)) (λ xs k. marks-past xs (entries_of event) fs k (entries_of-marks event))
+    (λ front e joint j k. marks-past front (joint ∷ []) fs (IsSome-through (marks (e ∷ [])) (marks front fs) (subst IsSome (marks-append front (e ∷ []) fs) k))
+    (λ gs. subst (λ d. IsSome (marks (d ∷ []) gs)) (joins event e joint j).is refl)) es h
 
 pub IsMatched-after : (event : Event) (es : List Entry) → IsMatched es → IsMatched (entries_after event es)
 IsMatched-after event es h = marks-after event es [] h
@@ -62,48 +57,13 @@ level-flags [] = refl
 level-flags (Open ∷ us) = ap suc (level-flags us)
 level-flags (Whole es ∷ us) = level-flags us ∙ sym (length-touched (flags_on us []))
 
--- an end passes all entries but the last
-pub end_one-cons : (e d : Entry) (ds : List Entry) → end_one (e ∷ (d ∷ ds)) ≡ e ∷ end_one (d ∷ ds)
-end_one-cons Begin d ds = refl
-end_one-cons End d ds = refl
-end_one-cons (Changed k c) d ds = refl
-
--- an End that is added closes a group with a change, since something other than a Begin stands before it
-pub record EndsOne (es : List Entry) : Type 0 where
-  pub front : List Entry
-  pub list_is : es ≡ front ++ (Begin ∷ [])
-  pub after_is : end_one es ≡ front
-
-pub record AddsEnd (es : List Entry) : Type 0 where
-  pub front : List Entry
-  pub last : Entry
-  pub other : last ≡ Begin → ⊥
-  pub list_is : es ≡ front ++ (last ∷ [])
-  pub after_is : end_one es ≡ es ++ (End ∷ [])
-
-end_one-cases : (e : Entry) (es : List Entry) → EndsOne (e ∷ es) ⊎ AddsEnd (e ∷ es)
-end_one-cases Begin [] = inl (record { front = []; list_is = refl; after_is = refl })
-end_one-cases End [] = inr (record { front = []; last = End; other = λ h. cc; list_is = refl; after_is = refl })
-end_one-cases (Changed k c) [] = inr (record { front = []; last = Changed k c; other = λ h. cc; list_is = refl; after_is = refl })
-end_one-cases e (d ∷ ds) =
-    elim (end_one-cases d ds) [
-      | inl h ↦ inl (record { front = e ∷ h.front; list_is = ap (λ x. e ∷ x) h.list_is; after_is = end_one-cons e d ds ∙ ap (λ x. e ∷ x) h.after_is })
-      | inr h ↦ inr (record {
-        front = e ∷ h.front;
-        last = h.last;
-        other = h.other;
-        list_is = ap (λ x. e ∷ x) h.list_is;
-        after_is = end_one-cons e d ds ∙ ap (λ x. e ∷ x) h.after_is;
-      })
-    ]
-
 touched_is : (fs gs : List Bool) → touched fs ≡ gs → gs ≡ touched gs
 touched_is [] gs e = sym e ∙ ap touched e
 touched_is (f ∷ fs) gs e = sym e ∙ ap touched e
 
 -- after an entry other than a Begin, the group opened last holds a change
-mark_other : (e : Entry) (fs gs : List Bool) → (e ≡ Begin → ⊥) → mark e fs ≡ Some gs → gs ≡ touched gs
-mark_other Begin fs gs other h = absurd (other refl)
+mark_other : (e : Entry) (fs gs : List Bool) → is_begin e ≡ false → mark e fs ≡ Some gs → gs ≡ touched gs
+mark_other Begin fs gs other h = cc
 mark_other End [] gs other h = cc
 mark_other End (false ∷ fs) gs other h = cc
 mark_other End (true ∷ fs) gs other h = touched_is fs gs cc
@@ -121,46 +81,36 @@ marks-last front e fs h =
     let same : q.0 ≡ fs = let k = q.2 in cc in
     (p.0, p.1, q.1 ∙ ap Some same)
 
+marks-other : (es : List Entry) (fs : List Bool) → ends_in_begin es ≡ false → marks es [] ≡ Some fs → fs ≡ touched fs
+marks-other es fs =
+    by_last (λ l. ends_in_begin l ≡ false → marks l [] ≡ Some fs → fs ≡ touched fs) (λ other h. let none : [] ≡ fs = cc in touched_is [] fs none)
+    (λ front e other h. let l = marks-last front e fs h in mark_other e l.0 fs (sym (ends-past front e []) ∙ other) l.2) es
+
 -- one step of an end keeps the marks matched, and closes one group
 pub record Lower (es : List Entry) (n : ℕ) : Type 0 where
   pub matched : IsMatched es
   pub level_is : level es ≡ n
 
+lower : (es : List Entry) (n : ℕ) (fs : List Bool) → marks es [] ≡ Some fs → length fs ≡ n → Lower es n
+lower es n fs h long = record { matched = some_is (marks es []) fs h; level_is = level-is es fs h ∙ long }
+
 pub Lower-end_one : (es : List Entry) (n : ℕ) → IsMatched es → level es ≡ suc n → Lower (end_one es) n
-Lower-end_one [] n h k = absurd (omega arith)
-Lower-end_one (e ∷ es) n h k =
-    let s = value_of (marks (e ∷ es) []) h in
-    let long : length s.0 ≡ suc n = sym (level-is (e ∷ es) s.0 s.1) ∙ k in
-    elim (end_one-cases e es) [
-      | inl c ↦ ends c s.0 s.1 long
-      | inr c ↦ adds c s.0 s.1 long
+Lower-end_one es n h k =
+    let s = value_of (marks es []) h in
+    let long : length s.0 ≡ suc n = sym (level-is es s.0 s.1) ∙ k in
+    elim (end_one-cases es) [
+      | inl c ↦
+          let l = marks-last c.front Begin s.0 (ap (λ x. marks x []) (sym c.list_is) ∙ s.1) in
+          let top : false ∷ l.0 ≡ s.0 = let q = l.2 in cc in
+          subst (λ x. Lower x n) (sym c.after_is) (lower c.front n l.0 l.1 (omega (arith, ap length top, long)))
+      | inr c ↦ subst (λ x. Lower x n) (sym c.after_is) (closes s.0 s.1 long (marks-other es s.0 c.other s.1))
     ]
   where
-    ends : EndsOne (e ∷ es) → (fs : List Bool) → marks (e ∷ es) [] ≡ Some fs → length fs ≡ suc n → Lower (end_one (e ∷ es)) n
-    ends c fs j long =
-        let l = marks-last c.front Begin fs (ap (λ x. marks x []) (sym c.list_is) ∙ j) in
-        let front = l.1 in
-        let top : false ∷ l.0 ≡ fs = let q = l.2 in cc in
-        let n_is : suc (length l.0) ≡ suc n = ap length top ∙ long in
-        record {
-          matched = subst IsMatched (sym c.after_is) (some_is (marks c.front []) l.0 front);
-          level_is = ap level c.after_is ∙ level-is c.front l.0 front ∙ (omega arith);
-        }
-
-    closes : (fs : List Bool) → marks (e ∷ es) [] ≡ Some fs → length fs ≡ suc n → fs ≡ touched fs → Lower ((e ∷ es) ++ (End ∷ [])) n
+    closes : (fs : List Bool) → marks es [] ≡ Some fs → length fs ≡ suc n → fs ≡ touched fs → Lower (es ++ End ∷ []) n
     closes [] j long same = absurd (omega arith)
     closes (false ∷ fs) j long same = cc
     closes (true ∷ fs) j long same =
-        let all : marks ((e ∷ es) ++ (End ∷ [])) [] ≡ Some (touched fs) = marks-append (e ∷ es) (End ∷ []) [] ∙ ap (option_and_then (marks (End ∷ []))) j in
-        record {
-          matched = some_is (marks ((e ∷ es) ++ (End ∷ [])) []) (touched fs) all;
-          level_is = level-is ((e ∷ es) ++ (End ∷ [])) (touched fs) all ∙ length-touched fs ∙ (omega arith);
-        }
-
-    adds : AddsEnd (e ∷ es) → (fs : List Bool) → marks (e ∷ es) [] ≡ Some fs → length fs ≡ suc n → Lower (end_one (e ∷ es)) n
-    adds c fs j long =
-        let l = marks-last c.front c.last fs (ap (λ x. marks x []) (sym c.list_is) ∙ j) in
-        subst (λ x. Lower x n) (sym c.after_is) (closes fs j long (mark_other c.last l.0 fs c.other l.2))
+        lower (es ++ End ∷ []) n (touched fs) (marks-append es (End ∷ []) [] ∙ ap (option_and_then (marks (End ∷ []))) j) (omega (arith, long, length-touched fs))
 
 pub Lower-end_times : (n left : ℕ) (es : List Entry) → IsMatched es → level es ≡ n + left → Lower (end_times n es) left
 Lower-end_times zero left es h k = record { matched = h; level_is = omega (arith, k) }

@@ -2,7 +2,6 @@
 use Rattle.std.proofs.Common.{◌≡◌, ℕ, Bool, true, false, List, [], ◌∷◌, ◌++◌, length, Option, Some, None, refl, sym, ap, subst, ◌∙◌, ◌+◌, ◌⊎◌, inl, inr}
 use Rattle.std.proofs.lemmas.Bool.{eqb-true}
 use Rattle.std.proofs.lemmas.List.{map-append}
-use Rattle.std.specs.Option.{option_map_or}
 use Rattle.std.specs.Prelude.{option_and_then, encode_utf8, IsSome, ◌==◌, ◌&&◌, cond, not}
 use Rattle.std.specs.Str.{IsUtf8}
 use Rattle.rl_base.proofs.Texts.TextLemmas.{and_right}
@@ -11,6 +10,7 @@ use Rattle.rl_base.specs.Event.{Event, InsertChar, InsertStr, Delete, Replace, S
 use Rattle.rl_base.proofs.Texts.SwapLemmas.{Swaps, Swaps-back, Swaps-nothing, Swaps-after, Swaps-before, Swaps-InsertStr, Swaps-InsertChar, Swaps-Delete, Swaps-Replace, apply-Replace-Swaps, apply-IsUtf8}
 use Rattle.rl_base.specs.Classes.{is_alphanumeric, is_word_cluster}
 use Rattle.rl_line.specs.Record.{Kind, Insertion, Deletion, Replacement, Swap, Entry, Begin, End, Changed, Record, entries_after, entries_of, joined, record_step, event_of, inverse, replay_entries, unwind, swapped, followed, opposite, past, untold, events_ahead}
+use Rattle.rl_line.proofs.Records.LastLemmas.{after-cases}
 use Rattle.rl_line.proofs.Records.ToldLemmas.{recorded-cases, last_told-unwind}
 
 -- what was made of a value that is there
@@ -209,17 +209,16 @@ redone-joined event e joint x y z h u p q = cc
 -- the text from which entries came stays, whatever event came
 pub entries_after-unwind : (event : Event) (es : List Entry) (text now start : List ℕ) → IsUtf8 text → apply event text ≡ Some now → unwind es text ≡ Some start
     → unwind (entries_after event es) now ≡ Some start
-entries_after-unwind event [] text now start u h k = entries_of-undo event text now u h ∙ k
-entries_after-unwind event (e ∷ []) text now start u h k = from (joined event e) refl
+entries_after-unwind event es text now start u h k =
+    after-cases event (λ xs ys _. unwind xs text ≡ Some start → unwind ys now ≡ Some start)
+    (λ xs j. unwind-append xs (entries_of event) now ∙ ap (option_and_then (unwind xs)) (entries_of-undo event text now u h) ∙ j) joins es k
   where
-    from : (o : Option Entry) → joined event e ≡ o → unwind (option_map_or (λ joint. joint ∷ []) o (e ∷ entries_of event)) now ≡ Some start
-    from None j = ap (option_and_then (apply (event_of (inverse e)))) (entries_of-undo event text now u h) ∙ k
-    from (Some joint) j =
-        let v = apply-IsUtf8 (event_of (inverse e)) text start u k in
-        inverse-undoes joint start now v (redone-joined event e joint start text now j v (undoes-inverse e start text u k) h)
-entries_after-unwind event (e ∷ (d ∷ ds)) text now start u h k =
-    let p = through (apply (event_of (inverse e))) (unwind (d ∷ ds) text) start k in
-    ap (option_and_then (apply (event_of (inverse e)))) (entries_after-unwind event (d ∷ ds) text now p.0 u h p.1) ∙ p.2
+    joins : (front : List Entry) (e joint : Entry) → joined event e ≡ Some joint → unwind (front ++ e ∷ []) text ≡ Some start → unwind (front ++ joint ∷ []) now ≡ Some start
+    joins front e joint h1 j =
+        let p = through (unwind front) (unwind (e ∷ []) text) start (sym (unwind-append front (e ∷ []) text) ∙ j) in
+        let v = apply-IsUtf8 (event_of (inverse e)) text p.0 u p.1 in
+        let one = redone-joined event e joint p.0 text now h1 v (undoes-inverse e p.0 text u p.1) h in
+        unwind-append front (joint ∷ []) now ∙ ap (option_and_then (unwind front)) (inverse-undoes joint p.0 now v one) ∙ p.2
 
 pub record_step-unwind : (r : Record) (event : Event) (text now start : List ℕ) → IsUtf8 text → apply event text ≡ Some now → unwind r.recorded text ≡ Some start
     → unwind (record_step r event).recorded now ≡ Some start

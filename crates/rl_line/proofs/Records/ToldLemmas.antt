@@ -7,6 +7,7 @@ use Rattle.rl_line.specs.declared.change.Freshness.TheVariants as is
 use Rattle.rl_line.specs.Record.{Entry, Begin, End, Changed, Record, entries_after, entries_of, entries_told, event_of, inverse, last_told, recorded_after, unwind, with_cursors}
 use Rattle.rl_line.specs.Units.{mark, marks}
 use Rattle.rl_line.specs.Entries.{deep}
+use Rattle.rl_line.proofs.Records.LastLemmas.{last_told-past}
 
 pub apply-Cursors : (before after : ℕ) (text : List ℕ) → apply (Cursors before after) text ≡ Some text
 unfolding apply
@@ -81,9 +82,7 @@ last_told-deep cursors (Begin ∷ (d ∷ ds)) n = last_told-deep cursors (d ∷ 
 last_told-deep cursors (End ∷ (d ∷ ds)) n = last_told-deep cursors (d ∷ ds) _
 last_told-deep cursors (Changed k c ∷ (d ∷ ds)) n = last_told-deep cursors (d ∷ ds) n
 
--- the last entry stands after a Begin where any does
+-- what a last entry is told stands after a Begin before it
 pub last_told-begin : (cursors : ℕ × ℕ) (xs ys : List Entry) → last_told cursors (xs ++ Begin ∷ ys) ≡ xs ++ Begin ∷ last_told cursors ys
-last_told-begin cursors [] [] = refl
-last_told-begin cursors [] (y ∷ ys) = refl
-last_told-begin cursors (x ∷ []) ys = ap (λ es. x ∷ es) (last_told-begin cursors [] ys)
-last_told-begin cursors (x ∷ (z ∷ zs)) ys = ap (λ es. x ∷ es) (last_told-begin cursors (z ∷ zs) ys)
+last_told-begin cursors xs [] = last_told-past cursors xs Begin []
+last_told-begin cursors xs (y ∷ ys) = last_told-past cursors xs Begin (y ∷ ys)

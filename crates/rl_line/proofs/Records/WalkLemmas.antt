@@ -5,12 +5,10 @@ use Rattle.std.specs.Option.{option_map_or}
 use Rattle.std.specs.Prelude.{cond, IsSome, option_and_then}
 use Rattle.std.specs.Str.{IsCharBoundary, IsUtf8}
 use Rattle.rl_base.specs.declared.listeners.Refusal.{Refusal}
-use Rattle.rl_base.specs.Event.{Event, InsertChar, InsertStr, Delete, Replace, Start, Stop, Cursors, apply}
+use Rattle.rl_base.specs.Event.{Event, Cursors, apply}
 use Rattle.rl_base.specs.Text.{is_boundary}
 use Rattle.rl_base.proofs.Texts.SwapLemmas.{apply-IsUtf8}
 use Rattle.rl_base.proofs.Texts.TextLemmas.{is_boundary-means, is_boundary-true}
-use Rattle.rl_line.specs.declared.change.Freshness.{Freshness}
-use Rattle.rl_line.specs.declared.change.Freshness.TheVariants as is
 use Rattle.rl_line.specs.Change.{text_after, text_back}
 use Rattle.rl_line.specs.Line.{Line, stepped}
 use Rattle.rl_line.specs.Plan.{Step, Plan, after, listener_after, listener_after_step, Taken, Done, Halted}
@@ -18,9 +16,9 @@ use Rattle.rl_line.specs.Record.{Kind, Swap, Entry, Begin, End, Changed, Record,
 use Rattle.rl_line.specs.Undo.{cursor_after, cursor_told, line_ahead, line_back, Redone, Undone, cursor_stands}
 use Rattle.rl_line.specs.Units.{begun, end_one, end_times, kept_of, last_of, redo_of, truncated, with_closed}
 use Rattle.rl_line.specs.Walk.{LeadsTo, Walk, Walks}
-use Rattle.rl_line.proofs.Records.JoinLemmas.{record_step-Start, record_step-Stop}
+use Rattle.rl_line.proofs.Records.JoinLemmas.{step-cases}
+use Rattle.rl_line.proofs.Records.LastLemmas.{after-cases, told-added, told-past}
 use Rattle.rl_line.proofs.Records.MarkLemmas.{redo-parts, unwind-truncated}
-use Rattle.rl_line.proofs.Records.MatchLemmas.{end_one-cons}
 use Rattle.rl_line.proofs.Plans.PlanLemmas.{first_step}
 use Rattle.rl_line.proofs.Records.RecordLemmas.{entries_of-undo, inverse-undoes, joins, none_or_one, redone-joined, replay-unwind, undoes-inverse, unwind-replay}
 use Rattle.rl_line.proofs.Records.UndoLemmas.{line_after-is, line_ahead-replay, line_back-IsSome, line_back-text_back}
@@ -111,47 +109,23 @@ merged e joint x y z b a makes none lead after = from (cursors_of e) refl
     from None c = (z, untold joint x z makes none, refl)
     from (Some p) c = (z, told joint x z (p.0, a) makes (before-stands e x p c lead.before) after, refl)
 
-pub told-added : (e : Entry) (ys : List Entry) (b a : ℕ) → entries_told (freshness_added ys) b a (e ∷ ys) ≡ e ∷ entries_told (freshness_added ys) b a ys
-told-added e [] b a = refl
-told-added e (y ∷ ys) b a = refl
-
-pub after-some : (event : Event) (d : Entry) (ds : List Entry) → (y : Entry) × (ys : List Entry) × (entries_after event (d ∷ ds) ≡ y ∷ ys)
-after-some event d [] = from (joined event d)
-  where
-    from : (o : Option Entry) → (y : Entry) × (ys : List Entry) × (option_map_or (λ joint. joint ∷ []) o (d ∷ entries_of event) ≡ y ∷ ys)
-    from None = (d, entries_of event, refl)
-    from (Some j) = (j, [], refl)
-after-some event d (c ∷ cs) = (d, _, refl)
-
-pub told-after : (fresh : Freshness) (b a : ℕ) (e y : Entry) (ys : List Entry) → entries_told fresh b a (e ∷ (y ∷ ys)) ≡ e ∷ entries_told fresh b a (y ∷ ys)
-told-after is.Stale b a e y ys = refl
-told-after is.Added b a e y ys = refl
-told-after (is.Joined p) b a e y ys = refl
-
 -- an event of a text, and the cursors after it
 walked : (event : Event) (es : List Entry) (x text now : List ℕ) (b a : ℕ) → IsUtf8 x → Walk es x text → apply event text ≡ Some now → IsCharBoundary text b → IsCharBoundary now a
     → Walk (entries_told (freshness_of event es) b a (entries_after event es)) x now
-walked event [] x text now b a u w h before after =
-    added event x now b a u (ap (apply event) w ∙ h) (subst (λ t. IsCharBoundary t b) (sym w) before) after
-walked event (e ∷ []) x text now b a u w h before after = from (joined event e) refl
+walked event es x text now b a u w h before after =
+    after-cases event (λ xs ys fresh. Walk xs x text → Walk (entries_told fresh b a ys) x now)
+    (λ xs v. subst (λ l. Walk l x now) (sym (told-added xs (entries_of event) b a))
+    (Walk-append xs (entries_told (freshness_added (entries_of event)) b a (entries_of event)) x text now v (added event text now b a (Walk-IsUtf8 xs x text u v) h before after)))
+    joins es w
   where
-    here : w.0 ≡ text
-    here = w.2
-
-    from : (o : Option Entry) → joined event e ≡ o
-        → Walk (entries_told (option_map_or (λ _. freshness_joined (cursors_of e)) o (freshness_added (entries_of event))) b a (option_map_or (λ joint. joint ∷ []) o (e ∷ entries_of event))) x now
-    from None j =
-        subst (λ es. Walk es x now) (sym (told-added e (entries_of event) b a))
-        (w.0, w.1, added event w.0 now b a (apply-IsUtf8 (event_of e) x w.0 u w.1.makes) (ap (apply event) here ∙ h) (subst (λ t. IsCharBoundary t b) (sym here) before) after)
-    from (Some joint) j =
-        merged e joint x w.0 now b a (redone-joined event e joint x text now j u (w.1.makes ∙ ap (λ t. Some t) here) h) (joint-untold event e joint j) w.1 after
-walked event (e ∷ (d ∷ ds)) x text now b a u w h before after =
-    let rest = walked event (d ∷ ds) w.0 text now b a (apply-IsUtf8 (event_of e) x w.0 u w.1.makes) w.2 h before after in
-    let (y, ys, some) = after-some event d ds in
-    let fresh = freshness_of event (d ∷ ds) in
-    let turn : entries_told fresh b a (e ∷ entries_after event (d ∷ ds)) ≡ e ∷ entries_told fresh b a (entries_after event (d ∷ ds)) =
-    ap (λ l. entries_told fresh b a (e ∷ l)) some ∙ told-after fresh b a e y ys ∙ ap (λ l. e ∷ entries_told fresh b a l) (sym some) in
-    subst (λ es. Walk es x now) (sym turn) (w.0, w.1, rest)
+    joins : (front : List Entry) (e joint : Entry) → joined event e ≡ Some joint → Walk (front ++ e ∷ []) x text → Walk (entries_told (freshness_joined (cursors_of e)) b a (front ++ joint ∷ [])) x now
+    joins front e joint j v =
+        let (mid, first, last) = Walk-split front (e ∷ []) x text v in
+        let lead : LeadsTo e mid text = subst (LeadsTo e mid) last.2 last.1 in
+        let makes = redone-joined event e joint mid text now j (Walk-IsUtf8 front x mid u first) lead.makes h in
+        let fresh = freshness_joined (cursors_of e) in
+        subst (λ l. Walk l x now) (sym (told-past fresh b a front joint []))
+        (Walk-append front (entries_told fresh b a (joint ∷ [])) x mid now first (merged e joint mid text now b a makes (joint-untold event e joint j) lead after))
 
 -- ---- a record
 pub Walks-told : (r : Record) (text : List ℕ) (b a : ℕ) → Walks r text → Walks (record_step r (Cursors b a)) text
@@ -169,23 +143,15 @@ Walks-told r text b a w = record {
 Walks-step : (event : Event) (b a : ℕ) (r : Record) (text now : List ℕ) → Walks r text → apply event text ≡ Some now → IsCharBoundary text b → IsCharBoundary now a
     → Walks (listener_after_step record_step b (event, a) r) now
 unfolding apply record_step
-Walks-step (InsertChar i c) b a r text now w h before after =
-    record { start = w.start; is_text = w.is_text; back = walked (InsertChar i c) r.recorded w.start text now b a w.is_text w.back h before after; end = now; ahead = refl; stale = refl }
-Walks-step (InsertStr i s) b a r text now w h before after =
-    record { start = w.start; is_text = w.is_text; back = walked (InsertStr i s) r.recorded w.start text now b a w.is_text w.back h before after; end = now; ahead = refl; stale = refl }
-Walks-step (Delete i s side) b a r text now w h before after =
-    record { start = w.start; is_text = w.is_text; back = walked (Delete i s side) r.recorded w.start text now b a w.is_text w.back h before after; end = now; ahead = refl; stale = refl }
-Walks-step (Replace i s t) b a r text now w h before after =
-    record { start = w.start; is_text = w.is_text; back = walked (Replace i s t) r.recorded w.start text now b a w.is_text w.back h before after; end = now; ahead = refl; stale = refl }
-Walks-step Start b a r text now w h before after =
-    let same : text ≡ now = cc in
-    subst (λ (k : Record). Walks (record_step k (Cursors b a)) now) (sym (record_step-Start r)) (subst (Walks (record_step r (Cursors b a))) same (Walks-told r text b a w))
-Walks-step Stop b a r text now w h before after =
-    let same : text ≡ now = cc in
-    subst (λ (k : Record). Walks (record_step k (Cursors b a)) now) (sym (record_step-Stop r)) (subst (Walks (record_step r (Cursors b a))) same (Walks-told r text b a w))
-Walks-step (Cursors b' a') b a r text now w h before after =
-    let same : text ≡ now = cc in
-    Walks-told (record_step r (Cursors b' a')) now b a (subst (Walks (record_step r (Cursors b' a'))) same (Walks-told r text b' a' w))
+Walks-step event b a r text now w =
+    step-cases r (λ event k. apply event text ≡ Some now → IsCharBoundary text b → IsCharBoundary now a → Walks (record_step k (Cursors b a)) now)
+    (λ event h before after.
+    record { start = w.start; is_text = w.is_text; back = walked event r.recorded w.start text now b a w.is_text w.back h before after; end = now; ahead = refl; stale = refl })
+    (λ event stays h before after. still r (sym (stays text) ∙ h) w)
+    (λ b' a' h before after. still (record_step r (Cursors b' a')) h (Walks-told r text b' a' w)) event
+  where
+    still : (k : Record) → Some text ≡ Some now → Walks k text → Walks (record_step k (Cursors b a)) now
+    still k same v = subst (Walks (record_step k (Cursors b a))) (same_Some text now same) (Walks-told k text b a v)
 
 Walks-after : (steps : List Step) (r : Record) (old new : Line) → IsCharBoundary old.text old.cursor → after steps old ≡ Some new → Walks r old.text → Walks (listener_after record_step old.cursor steps r) new.text
 Walks-after [] r old new at h w = let e : old ≡ new = cc in subst (λ (l : Line). Walks r l.text) e w
@@ -258,7 +224,7 @@ Walk-end_one [] x y e = (x, (mark-leads x).1, e)
 Walk-end_one (Begin ∷ []) x y w = same_Some _ _ w.1.makes ∙ w.2
 Walk-end_one (End ∷ []) x y w = (w.0, w.1, (w.0, (mark-leads w.0).1, w.2))
 Walk-end_one (Changed k c ∷ []) x y w = (w.0, w.1, (w.0, (mark-leads w.0).1, w.2))
-Walk-end_one (e ∷ (d ∷ ds)) x y w = subst (λ es. Walk es x y) (sym (end_one-cons e d ds)) (w.0, w.1, Walk-end_one (d ∷ ds) w.0 y w.2)
+Walk-end_one (e ∷ (d ∷ ds)) x y w = (w.0, w.1, Walk-end_one (d ∷ ds) w.0 y w.2)
 
 Walk-end_times : (n : ℕ) (es : List Entry) (x y : List ℕ) → Walk es x y → Walk (end_times n es) x y
 Walk-end_times zero es x y w = w

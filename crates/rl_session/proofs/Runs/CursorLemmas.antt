@@ -12,12 +12,12 @@ use Rattle.rl_line.specs.declared.change.Freshness.{Freshness}
 use Rattle.rl_line.specs.declared.change.Freshness.TheVariants as is
 use Rattle.rl_line.specs.Line.{Line, stepped}
 use Rattle.rl_line.specs.Plan.{Step, after, listener_after, listener_after_step}
-use Rattle.rl_line.specs.Record.{Kind, Insertion, Deletion, Replacement, Swap, Entry, Begin, End, Changed, Record, cursors_of, entries_after, entries_of, entries_told, event_of, freshness_added, freshness_joined, freshness_of, joined, last_told, record_step, unwind, with_cursors}
+use Rattle.rl_line.specs.Record.{Insertion, Deletion, Replacement, Swap, Entry, Begin, End, Changed, Record, cursors_of, entries_after, entries_of, entries_told, event_of, freshness_added, freshness_joined, freshness_of, joined, last_told, record_step, unwind, with_cursors}
 use Rattle.rl_line.proofs.Records.JoinLemmas.{fresh-Delete-nothing}
 use Rattle.rl_line.proofs.Plans.PlanLemmas.{first_step}
 use Rattle.rl_line.proofs.Records.RecordLemmas.{char-joined, deletion-joined, entries_of-undo, joins, none_or_one, redone-joined, replacement-joined, undoes-inverse}
 use Rattle.rl_line.proofs.Records.ToldLemmas.{same-event, told-cases}
-use Rattle.rl_line.proofs.Records.WalkLemmas.{after-some, told-added, told-after}
+use Rattle.rl_line.proofs.Records.LastLemmas.{IsApart, after-cases, ends_in, told-added, told-past}
 
 -- an event of a text, which is the last one where it is a replacement
 abbrev pub IsLone : Event → List Step → Type 0
@@ -60,32 +60,17 @@ recorded-next b Start a ss r h = absurd h
 recorded-next b Stop a ss r h = absurd h
 recorded-next b (Cursors b' a') a ss r h = absurd h
 
--- only the last entry may change
-next-cons : (event : Event) (e d : Entry) (ds : List Entry) (b a : ℕ) → next event (e ∷ (d ∷ ds)) b a ≡ e ∷ next event (d ∷ ds) b a
-next-cons event e d ds b a =
-    let (y, ys, some) = after-some event d ds in
-    let fresh = freshness_of event (d ∷ ds) in
-    ap (λ l. entries_told fresh b a (e ∷ l)) some ∙ told-after fresh b a e y ys ∙ ap (λ l. e ∷ entries_told fresh b a l) (sym some)
+-- what becomes of the entries, where the event joins the last one and where it joins none
+next-joined : (event : Event) (front : List Entry) (l j : Entry) (b a : ℕ) → joined event l ≡ Some j
+    → next event (front ++ l ∷ []) b a ≡ front ++ entries_told (freshness_joined (cursors_of l)) b a (j ∷ [])
+next-joined event front l j b a h =
+    let ends = ends_in event (front ++ l ∷ []) front l (Some j) refl h in
+    let fresh = freshness_joined (cursors_of l) in
+    ap (λ f. entries_told f b a (entries_after event (front ++ l ∷ []))) ends.1 ∙ ap (entries_told fresh b a) ends.0 ∙ told-past fresh b a front j []
 
-next-front : (event : Event) (front : List Entry) (l : Entry) (b a : ℕ) → next event (front ++ l ∷ []) b a ≡ front ++ next event (l ∷ []) b a
-next-front event [] l b a = refl
-next-front event (x ∷ []) l b a = next-cons event x l [] b a
-next-front event (x ∷ (z ∷ zs)) l b a = next-cons event x z (zs ++ l ∷ []) b a ∙ ap (λ es. x ∷ es) (next-front event (z ∷ zs) l b a)
-
--- what becomes of the last entry, by the one that stands for it and the event
-abbrev last_next : Event → Entry → ℕ → ℕ → Option Entry → List Entry
-last_next event l b a o =
-    let fresh = option_map_or (λ _. freshness_joined (cursors_of l)) o (freshness_added (entries_of event)) in
-    entries_told fresh b a (option_map_or (λ joint. joint ∷ []) o (l ∷ entries_of event))
-
--- the last entry, where the event joins it and where it does not
-next-joined : (event : Event) (l j : Entry) (b a : ℕ) → joined event l ≡ Some j
-    → next event (l ∷ []) b a ≡ entries_told (freshness_joined (cursors_of l)) b a (j ∷ [])
-next-joined event l j b a h = ap (last_next event l b a) h
-
-next-apart : (event : Event) (l : Entry) (b a : ℕ) → joined event l ≡ None
-    → next event (l ∷ []) b a ≡ l ∷ entries_told (freshness_added (entries_of event)) b a (entries_of event)
-next-apart event l b a h = ap (last_next event l b a) h ∙ told-added l (entries_of event) b a
+next-apart : (event : Event) (es : List Entry) (b a : ℕ) → IsApart event es → next event es b a ≡ es ++ entries_told (freshness_added (entries_of event)) b a (entries_of event)
+next-apart event es b a apart =
+    ap (λ f. entries_told f b a (entries_after event es)) apart.1 ∙ ap (entries_told (freshness_added (entries_of event)) b a) apart.0 ∙ told-added es (entries_of event) b a
 
 -- the last entry that an event joined
 record JoinsOne (event : Event) (es : List Entry) (b a : ℕ) : Type 0 where
@@ -98,27 +83,11 @@ record JoinsOne (event : Event) (es : List Entry) (b a : ℕ) : Type 0 where
 
 next-cases : (event : Event) (es : List Entry) (b a : ℕ)
     → (next event es b a ≡ es ++ entries_told (freshness_added (entries_of event)) b a (entries_of event)) ⊎ JoinsOne event es b a
-next-cases event [] b a = inl refl
-next-cases event (l ∷ []) b a = from (joined event l) refl
-  where
-    from : (o : Option Entry) → joined event l ≡ o
-        → (next event (l ∷ []) b a ≡ l ∷ entries_told (freshness_added (entries_of event)) b a (entries_of event)) ⊎ JoinsOne event (l ∷ []) b a
-    from None h = inl (next-apart event l b a h)
-    from (Some j) h = inr (record { front = []; last = l; joint = j; split = refl; joins = h; makes = next-joined event l j b a h })
-next-cases event (e ∷ (d ∷ ds)) b a =
-    let turn = next-cons event e d ds b a in
-    let rest = next-cases event (d ∷ ds) b a in
-    elim rest [
-      | inl h ↦ inl (turn ∙ ap (λ es. e ∷ es) h)
-      | inr j ↦ inr (record {
-        front = e ∷ j.front;
-        last = j.last;
-        joint = j.joint;
-        split = ap (λ es. e ∷ es) j.split;
-        joins = j.joins;
-        makes = turn ∙ ap (λ es. e ∷ es) j.makes;
-      })
-    ]
+next-cases event es b a =
+    after-cases event
+    (λ xs ys fresh. (entries_told fresh b a ys ≡ xs ++ entries_told (freshness_added (entries_of event)) b a (entries_of event)) ⊎ JoinsOne event xs b a)
+    (λ xs. inl (told-added xs (entries_of event) b a))
+    (λ front l j h. inr (record { front = front; last = l; joint = j; split = refl; joins = h; makes = next-joined event front l j b a h })) es
 
 -- the entries that an event adds, told their cursors
 told-none : (es : List Entry) (b a : ℕ) → es ≡ [] → entries_told (freshness_added es) b a es ≡ []
@@ -234,39 +203,40 @@ added-makes : (event : Event) (x y : List ℕ) (k : Entry) → IsUtf8 x → appl
 added-makes event x y k u h one =
     undoes-inverse k x y (apply-IsUtf8 event x y u h) (ap (λ ks. unwind ks y) (sym one) ∙ entries_of-undo event x y u h)
 
--- what an event makes of one entry that was added: one again, or two
-record StaysOne (event : Event) (x now : List ℕ) (k : Entry) (first b a : ℕ) : Type 0 where
+-- what an event makes of a last entry that was added: one again, or two
+record StaysOne (event : Event) (x now : List ℕ) (base : List Entry) (k : Entry) (first b a : ℕ) : Type 0 where
   pub entry : Entry
-  pub is : next event (k ∷ []) b a ≡ entry ∷ []
+  pub is : next event (base ++ k ∷ []) b a ≡ base ++ entry ∷ []
   pub alone : AddedAlone entry x now first a
 
-one-more : (event : Event) (x text now : List ℕ) (k : Entry) (first b a : ℕ) → IsUtf8 x
+one-more : (event : Event) (x text now : List ℕ) (base : List Entry) (k : Entry) (first b a : ℕ) → IsUtf8 x
     → AddedAlone k x text first b → apply event text ≡ Some now → (entries_of event ≡ [] → a ≡ b)
-    → StaysOne event x now k first b a ⊎ ((d : Entry) × (next event (k ∷ []) b a ≡ k ∷ (d ∷ [])))
-one-more event x text now k first b a u alone h quiet = from (joined event k) refl
+    → StaysOne event x now base k first b a ⊎ ((d : Entry) × (next event (base ++ k ∷ []) b a ≡ (base ++ k ∷ []) ++ d ∷ []))
+one-more event x text now base k first b a u alone h quiet = from (joined event k) refl
   where
     v : IsUtf8 text
     v = apply-IsUtf8 (event_of k) x text u alone.makes
 
-    apart : joined event k ≡ None → (entries_of event ≡ []) ⊎ ((kind : Kind) × (swap : Swap) × (entries_of event ≡ Changed kind swap ∷ []))
-        → StaysOne event x now k first b a ⊎ ((d : Entry) × (next event (k ∷ []) b a ≡ k ∷ (d ∷ [])))
-    apart j (inl none) = inl (record {
-      entry = k;
-      is = next-apart event k b a j ∙ ap (λ es. k ∷ es) (told-none (entries_of event) b a none);
-      alone = record {
-        cursors = alone.cursors ∙ ap (λ n. Some (first, n)) (sym (quiet none));
-        makes = alone.makes ∙ ap (λ t. Some t) (sym (text-same event text now v h none));
-      };
-    })
-    apart j (inr (kind, swap, one)) =
-        let d = Changed kind swap in
-        inr (with_cursors (b, a) d, next-apart event k b a j ∙ ap (λ es. k ∷ es) (told-one (entries_of event) d b a one))
+    es : List Entry
+    es = base ++ k ∷ []
 
-    from : (o : Option Entry) → joined event k ≡ o → StaysOne event x now k first b a ⊎ ((d : Entry) × (next event (k ∷ []) b a ≡ k ∷ (d ∷ [])))
-    from None j = apart j (none_or_one event)
+    from : (o : Option Entry) → joined event k ≡ o → StaysOne event x now base k first b a ⊎ ((d : Entry) × (next event es b a ≡ es ++ d ∷ []))
+    from None j =
+        let apart = next-apart event es b a (ends_in event es base k None refl j) in
+        elim (none_or_one event) [
+          | inl none ↦ inl (record {
+            entry = k;
+            is = apart ∙ ap (λ ks. es ++ ks) (told-none (entries_of event) b a none) ∙ append-nil es;
+            alone = record {
+              cursors = alone.cursors ∙ ap (λ n. Some (first, n)) (sym (quiet none));
+              makes = alone.makes ∙ ap (λ t. Some t) (sym (text-same event text now v h none));
+            };
+          })
+          | inr (kind, swap, one) ↦ inr (with_cursors (b, a) (Changed kind swap), apart ∙ ap (λ ks. es ++ ks) (told-one (entries_of event) (Changed kind swap) b a one))
+        ]
     from (Some joint) j = inl (record {
       entry = with_cursors (first, a) joint;
-      is = next-joined event k joint b a j ∙ ap (λ o. entries_told (freshness_joined o) b a (joint ∷ [])) alone.cursors;
+      is = next-joined event base k joint b a j ∙ ap (λ o. base ++ entries_told (freshness_joined o) b a (joint ∷ [])) alone.cursors;
       alone = record {
         cursors = joint-cursors event k joint (first, a) j;
         makes = ap (λ q. apply q x) (same-event (first, a) joint) ∙ redone-joined event k joint x text now j u alone.makes h;
@@ -291,15 +261,14 @@ after-added (s ∷ ss) r x first line new base k e u h q is alone end =
     let b = first_step s ss line new h in
     let c = line.cursor in
     let now = listener_after_step record_step c s r in
-    let made : now.recorded ≡ base ++ next s.0 (k ∷ []) c s.1 =
-    recorded-next c s.0 s.1 ss r q.1 ∙ ap (λ es. next s.0 es c s.1) is ∙ next-front s.0 base k c s.1 in
-    elim (one-more s.0 x line.text b.text k first c s.1 u alone b.makes q.0) [
-      | inl t ↦ after-added ss now x first (stepped line b.text s.1) new base t.entry e u b.rest q.2 (made ∙ ap (λ es. base ++ es) t.is) t.alone end
+    let made : now.recorded ≡ next s.0 (base ++ k ∷ []) c s.1 = recorded-next c s.0 s.1 ss r q.1 ∙ ap (λ es. next s.0 es c s.1) is in
+    elim (one-more s.0 x line.text b.text base k first c s.1 u alone b.makes q.0) [
+      | inl t ↦ after-added ss now x first (stepped line b.text s.1) new base t.entry e u b.rest q.2 (made ∙ t.is) t.alone end
       | inr t ↦
           let more = Grows-length now.recorded (listener_after record_step s.1 ss now).recorded (Grows-listener_after s.1 ss now q.2) in
-          let two : length now.recorded ≡ length base + 2 = ap length (made ∙ ap (λ es. base ++ es) t.1) ∙ length-append base (k ∷ (t.0 ∷ [])) in
+          let two : length now.recorded ≡ length (base ++ k ∷ []) + 1 = ap length (made ∙ t.1) ∙ length-append (base ++ k ∷ []) (t.0 ∷ []) in
           let last : length (listener_after record_step s.1 ss now).recorded ≡ length base + 1 = ap length end ∙ length-append base (e ∷ []) in
-          absurd (omega (arith, more, two, last))
+          absurd (omega (arith, more, two, last, length-append base (k ∷ [])))
     ]
 
 -- ---- no entry is there yet

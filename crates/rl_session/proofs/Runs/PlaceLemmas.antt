@@ -1,17 +1,17 @@
 -- A record is placed among the texts that were held, whatever it hears.
-use Rattle.std.proofs.Common.{◌≡◌, ◌≤◌, ℕ, zero, suc, List, [], ◌∷◌, ◌++◌, length, length-append, take, drop, map, reverse, Option, Some, None, refl, sym, ap, subst, ◌∙◌, ◌⊎◌, inl, inr, append-nil, append_assoc, arith}
+use Rattle.std.proofs.Common.{◌≡◌, ◌≤◌, ℕ, zero, suc, List, [], ◌∷◌, ◌++◌, length, length-append, take, drop, map, reverse, Some, refl, sym, ap, subst, ◌∙◌, inl, inr, append-nil, append_assoc, arith}
+use Rattle.std.proofs.lemmas.Option.{same_Some}
 use Rattle.std.proofs.lemmas.List.{take-append-drop, reverse-append, reverse-reverse, map-append}
-use Rattle.std.specs.Option.{option_map_or}
 use Rattle.std.specs.Prelude.{option_and_then, IsSome}
 use Rattle.std.specs.Str.{IsUtf8}
-use Rattle.rl_base.specs.Event.{Event, InsertChar, InsertStr, Delete, Replace, Start, Stop, apply, Cursors, replay}
+use Rattle.rl_base.specs.Event.{Event, apply, Cursors, replay}
 use Rattle.rl_base.proofs.Texts.SwapLemmas.{apply-IsUtf8}
 use Rattle.rl_line.specs.Line.{Line, stepped}
 use Rattle.rl_line.specs.Plan.{Step, after, listener_after, listener_after_step}
-use Rattle.rl_line.specs.Record.{Entry, Begin, End, Changed, Record, entries_of, entries_after, joined, record_step, replay_entries, unwind, event_of, entries_told, last_told, freshness_of}
+use Rattle.rl_line.specs.Record.{Entry, Begin, End, Changed, Record, entries_of, entries_after, record_step, replay_entries, unwind, event_of, entries_told, last_told, freshness_of}
 use Rattle.rl_line.specs.Units.{level, last_of, kept_of, redo_of, end_one, end_times, begun, undone, redone, truncated, with_closed}
-use Rattle.rl_line.proofs.Records.JoinLemmas.{record_step-Start, record_step-Stop}
-use Rattle.rl_line.proofs.Records.EndLemmas.{end_one-cases}
+use Rattle.rl_line.proofs.Records.JoinLemmas.{step-cases}
+use Rattle.rl_line.proofs.Records.LastLemmas.{after-cases, end_one-cases}
 use Rattle.rl_line.proofs.Records.MatchLemmas.{IsMatched-after, BothMatched-begun, BothMatched-closed, BothMatched-undone, BothMatched-redone, BothMatched-truncated, Redoes-of, BothMatched-step}
 use Rattle.rl_line.proofs.Records.RecordLemmas.{none_or_one, then_some, through, replay-append, replay-IsUtf8, replay-unwind, unwind-replay, entries_after-unwind}
 use Rattle.rl_line.proofs.Records.UnitLemmas.{kept-last}
@@ -106,7 +106,7 @@ replay-end_one : (es : List Entry) (start : List ℕ) → replay_entries (end_on
 replay-end_one es start =
     elim (end_one-cases es) [
       | inl c ↦ ap (λ x. replay_entries x start) c.after_is ∙ sym (replay-begin c.front start) ∙ ap (λ x. replay_entries x start) (sym c.list_is)
-      | inr c ↦ ap (λ x. replay_entries x start) c ∙ replay-end es start
+      | inr c ↦ ap (λ x. replay_entries x start) c.after_is ∙ replay-end es start
     ]
 
 replay-end_times : (n : ℕ) (es : List Entry) (start : List ℕ) → replay_entries (end_times n es) start ≡ replay_entries es start
@@ -117,7 +117,7 @@ Placed-end_one : (es : List Entry) (start : List ℕ) (held : List (List ℕ)) �
 Placed-end_one es start held p =
     elim (end_one-cases es) [
       | inl c ↦ subst (λ x. Placed start x held) (sym c.after_is) (Placed-front start c.front (Begin ∷ []) held (subst (λ x. Placed start x held) c.list_is p))
-      | inr c ↦ subst (λ x. Placed start x held) (sym c) (Placed-mark start es End held p (replay-end es start))
+      | inr c ↦ subst (λ x. Placed start x held) (sym c.after_is) (Placed-mark start es End held p (replay-end es start))
     ]
 
 Placed-end_times : (n : ℕ) (es : List Entry) (start : List ℕ) (held : List (List ℕ)) → Placed start es held → Placed start (end_times n es) held
@@ -125,28 +125,6 @@ Placed-end_times zero es start held p = p
 Placed-end_times (suc n) es start held p = Placed-end_times n (end_one es) start held (Placed-end_one es start held p)
 
 -- ---- an event
--- an event joins the last entry
-record IsJoint (event : Event) (es : List Entry) : Type 0 where
-  front : List Entry
-  last : Entry
-  joint : Entry
-  list_is : es ≡ front ++ (last ∷ [])
-  after_is : entries_after event es ≡ front ++ (joint ∷ [])
-
-entries_after-cases : (event : Event) (es : List Entry) → (entries_after event es ≡ es ++ entries_of event) ⊎ IsJoint event es
-entries_after-cases event [] = inl refl
-entries_after-cases event (e ∷ []) = by_join (joined event e) refl
-  where
-    by_join : (o : Option Entry) → joined event e ≡ o → (entries_after event (e ∷ []) ≡ e ∷ entries_of event) ⊎ IsJoint event (e ∷ [])
-    by_join None h = inl (ap (λ x. option_map_or (λ joint. joint ∷ []) x (e ∷ entries_of event)) h)
-    by_join (Some l) h =
-        inr (record { front = []; last = e; joint = l; list_is = refl; after_is = ap (λ x. option_map_or (λ joint. joint ∷ []) x (e ∷ entries_of event)) h })
-entries_after-cases event (e ∷ (d ∷ ds)) =
-    elim (entries_after-cases event (d ∷ ds)) [
-      | inl h ↦ inl (ap (λ x. e ∷ x) h)
-      | inr j ↦ inr (record { front = e ∷ j.front; last = j.last; joint = j.joint; list_is = ap (λ x. e ∷ x) j.list_is; after_is = ap (λ x. e ∷ x) j.after_is })
-    ]
-
 after-leads : (event : Event) (es : List Entry) (start x y : List ℕ) → IsUtf8 start → replay_entries es start ≡ Some x → apply event x ≡ Some y
     → replay_entries (entries_after event es) start ≡ Some y
 after-leads event es start x y u h k =
@@ -156,20 +134,18 @@ after-leads event es start x y u h k =
 -- the entries after an event are placed among the texts held before and the one after it
 Placed-after : (event : Event) (es : List Entry) (start y : List ℕ) (held : List (List ℕ)) → Placed start es held
     → replay_entries (entries_after event es) start ≡ Some y → Placed start (entries_after event es) (held ++ (y ∷ []))
-Placed-after event es start y held p leads =
-    elim (entries_after-cases event es) [
-      | inl e ↦ elim (none_or_one event) [
-        | inl n ↦ subst (λ l. Placed start l (held ++ (y ∷ []))) (sym (e ∙ ap (λ l. es ++ l) n ∙ append-nil es)) (Placed-more start es held (y ∷ []) p)
-        | inr (k, c, one) ↦
-            let is : entries_after event es ≡ es ++ (Changed k c ∷ []) = e ∙ ap (λ l. es ++ l) one in
-            subst (λ l. Placed start l (held ++ (y ∷ []))) (sym is) (Placed-add start es (Changed k c) held y p (ap (λ l. replay_entries l start) (sym is) ∙ leads))
-      ]
-      | inr j ↦
-          subst (λ l. Placed start l (held ++ (y ∷ []))) (sym j.after_is)
-          (Placed-add start j.front j.joint held y
-          (Placed-front start j.front (j.last ∷ []) held (subst (λ l. Placed start l held) j.list_is p))
-          (ap (λ l. replay_entries l start) (sym j.after_is) ∙ leads))
-    ]
+Placed-after event es start y held =
+    after-cases event (λ xs ys _. Placed start xs held → replay_entries ys start ≡ Some y → Placed start ys (held ++ (y ∷ []))) adds
+    (λ front e joint h p leads. Placed-add start front joint held y (Placed-front start front (e ∷ []) held p) leads) es
+  where
+    adds : (xs : List Entry) → Placed start xs held → replay_entries (xs ++ entries_of event) start ≡ Some y → Placed start (xs ++ entries_of event) (held ++ (y ∷ []))
+    adds xs p leads =
+        elim (none_or_one event) [
+          | inl n ↦ subst (λ l. Placed start l (held ++ (y ∷ []))) (sym (ap (λ l. xs ++ l) n ∙ append-nil xs)) (Placed-more start xs held (y ∷ []) p)
+          | inr (k, c, one) ↦
+              let is = ap (λ l. xs ++ l) one in
+              subst (λ l. Placed start l (held ++ (y ∷ []))) (sym is) (Placed-add start xs (Changed k c) held y p (ap (λ l. replay_entries l start) (sym is) ∙ leads))
+        ]
 
 -- ---- the history
 pub History-more : (start : List ℕ) (held more : List (List ℕ)) (text : List ℕ) (r : Record) → History start held text r → History start (held ++ more) text r
@@ -234,25 +210,15 @@ History-told b a start held text r h =
       matched = BothMatched-step r (Cursors b a) h.matched;
     }
 
--- the start or the stop of a kill
-History-still : (start : List ℕ) (held : List (List ℕ)) (text next : List ℕ) (r now : Record) → History start held text r → Some text ≡ Some next → now ≡ r
-    → History start (held ++ (next ∷ [])) next now
-History-still start held text next r now h k e =
-    let same : text ≡ next = cc in
-    subst (λ (x : Record). History start (held ++ (next ∷ [])) next x) (sym e) (subst (λ t. History start (held ++ (next ∷ [])) t r) same (History-more start held (next ∷ []) text r h))
-
 History-event : (event : Event) (start : List ℕ) (held : List (List ℕ)) (text next : List ℕ) (r : Record) → History start held text r → apply event text ≡ Some next
     → History start (held ++ (next ∷ [])) next (record_step r event)
-unfolding apply record_step
-History-event (InsertChar i c) start held text next r h k = History-change (InsertChar i c) start held text next r h k
-History-event (InsertStr i s) start held text next r h k = History-change (InsertStr i s) start held text next r h k
-History-event (Delete i s side) start held text next r h k = History-change (Delete i s side) start held text next r h k
-History-event (Replace i s t) start held text next r h k = History-change (Replace i s t) start held text next r h k
-History-event Start start held text next r h k = History-still start held text next r (record_step r Start) h k (record_step-Start r)
-History-event Stop start held text next r h k = History-still start held text next r (record_step r Stop) h k (record_step-Stop r)
-History-event (Cursors b a) start held text next r h k =
-    let same : text ≡ next = cc in
-    subst (λ t. History start (held ++ (t ∷ [])) t (record_step r (Cursors b a))) same (History-more start held (text ∷ []) text (record_step r (Cursors b a)) (History-told b a start held text r h))
+unfolding apply
+History-event event start held text next r h =
+    step-cases r (λ event k. apply event text ≡ Some next → History start (held ++ (next ∷ [])) next k) (λ event k. History-change event start held text next r h k)
+    (λ event stays k. still r (sym (stays text) ∙ k) h) (λ b a k. still (record_step r (Cursors b a)) k (History-told b a start held text r h)) event
+  where
+    still : (now : Record) → Some text ≡ Some next → History start held text now → History start (held ++ (next ∷ [])) next now
+    still now same i = subst (λ t. History start (held ++ (next ∷ [])) t now) (same_Some text next same) (History-more start held (next ∷ []) text now i)
 
 -- the steps of an edit
 pub History-steps : (steps : List Step) (start : List ℕ) (held : List (List ℕ)) (old new : Line) (r : Record) → History start held old.text r → after steps old ≡ Some new

@@ -4,9 +4,10 @@ use Rattle.std.specs.Prelude.{min, ◌||◌}
 use Rattle.rl_line.specs.Plan.{Step, listener_after, listener_after_step}
 use Rattle.rl_line.specs.Record.{Begin, End, Entry, Record, record_step, replay_entries}
 use Rattle.rl_line.specs.Units.{IsMatched, begun, end_one, end_times, ended, ended_one, has_change, kept_of, last_of, level, opens, with_closed}
-use Rattle.rl_line.proofs.Records.GroupLemmas.{end_one-begin, has_change-append, Inside, InsideOf, Inside-event, Inside-begun, past_begin}
-use Rattle.rl_line.proofs.Records.EndLemmas.{closed_alone, closed_group, end_one-cases, end_one-past, level-group}
-use Rattle.rl_line.proofs.Records.MatchLemmas.{Lower-end_one, Lower-end_times, end_one-cons}
+use Rattle.rl_line.proofs.Records.GroupLemmas.{has_change-append, Inside, InsideOf, Inside-event, Inside-begun, past_begin}
+use Rattle.rl_line.proofs.Records.LastLemmas.{end_one-begin, end_one-cases, end_one-past}
+use Rattle.rl_line.proofs.Records.EndLemmas.{closed_alone, closed_group, level-group}
+use Rattle.rl_line.proofs.Records.MatchLemmas.{Lower-end_one, Lower-end_times}
 use Rattle.rl_line.proofs.Records.UndoLemmas.{line_back-unwind}
 use Rattle.rl_session.specs.Commands.{Effect, by_steps, puts_begin, puts_end, Became, effect, Does, readied, with_changes, keeps}
 use Rattle.rl_session.specs.History.{AllStandInGroup, ClosesGroup, Holds, MayStandInGroup, WasRefused}
@@ -31,7 +32,7 @@ ends_inside zero xs inner h l = refl
 ends_inside (suc k) xs [] h l = absurd (omega arith)
 ends_inside (suc k) xs (e ∷ es) h l =
     let lower = Lower-end_one (e ∷ es) k h l in
-    ap (end_times (suc k)) (end_one-past xs Begin (e ∷ es) ∙ ap (λ x. xs ++ x) (end_one-cons Begin e es))
+    ap (end_times (suc k)) (end_one-past xs Begin (e ∷ es))
     ∙ ends_inside k xs (end_one (e ∷ es)) lower.matched lower.level_is
 
 -- ends take no change away
@@ -43,7 +44,7 @@ has_change-end_one : (es : List Entry) → has_change (end_one es) ≡ has_chang
 has_change-end_one es =
     elim (end_one-cases es) [
       | inl c ↦ ap has_change c.after_is ∙ sym (or_none (has_change c.front)) ∙ sym (has_change-append c.front (Begin ∷ [])) ∙ ap has_change (sym c.list_is)
-      | inr c ↦ ap has_change c ∙ has_change-append es (End ∷ []) ∙ or_none (has_change es)
+      | inr c ↦ ap has_change c.after_is ∙ has_change-append es (End ∷ []) ∙ or_none (has_change es)
     ]
 
 has_change-end_times : (n : ℕ) (es : List Entry) → has_change (end_times n es) ≡ has_change es
@@ -93,7 +94,7 @@ Inside-end_one front (e ∷ es) m up = by_level (level (e ∷ es)) refl
     by_level zero l = let g = closed_alone front e es m l in absurd (omega (arith, up, ap level g.is, ap opens g.cut))
     by_level (suc n) l = record {
       inner = end_one (e ∷ es);
-      is = end_one-past front Begin (e ∷ es) ∙ ap (λ x. front ++ x) (end_one-cons Begin e es);
+      is = end_one-past front Begin (e ∷ es);
       matched = (Lower-end_one (e ∷ es) n m l).matched;
     }
 

@@ -1,0 +1,119 @@
+-- The last entry of a list: what an event, the end of a group and cursors that are told make of it. All before it stays.
+use Rattle.std.proofs.Common.{◌≡◌, ℕ, ◌⊎◌, inl, inr, false, List, [], ◌∷◌, ◌++◌, append-nil, append_assoc, Option, Some, None, refl, sym, ap, subst, ◌∙◌}
+use Rattle.std.specs.Option.{option_map_or}
+use Rattle.rl_base.specs.Event.{Event}
+use Rattle.rl_line.specs.declared.change.Freshness.{Freshness}
+use Rattle.rl_line.specs.declared.change.Freshness.TheVariants as is
+use Rattle.rl_line.specs.Record.{Entry, Begin, End, Changed, cursors_of, entries_after, entries_of, entries_told, freshness_added, freshness_joined, freshness_of, joined, last_told}
+use Rattle.rl_line.specs.Units.{end_one, ends_in_begin}
+
+-- what holds of no elements, and of any that end with one, holds of all lists
+pub by_last : {A : Type 0} (P : List A → Type 0) → P [] → ((front : List A) (x : A) → P (front ++ x ∷ [])) → (xs : List A) → P xs
+by_last P none last [] = none
+by_last P none last (x ∷ xs) = by_last (λ ys. P (x ∷ ys)) (last [] x) (λ front y. last (x ∷ front) y) xs
+
+-- a function that passes the first of two entries passes all before the last ones
+pub passes : (f : List Entry → List Entry) → ((e d : Entry) (ds : List Entry) → f (e ∷ (d ∷ ds)) ≡ e ∷ f (d ∷ ds)) → (xs : List Entry) (y : Entry) (ys : List Entry)
+    → f (xs ++ y ∷ ys) ≡ xs ++ f (y ∷ ys)
+passes f pass [] y ys = refl
+passes f pass (x ∷ []) y ys = pass x y ys
+passes f pass (x ∷ (z ∷ zs)) y ys = pass x z (zs ++ y ∷ ys) ∙ ap (λ l. x ∷ l) (passes f pass (z ∷ zs) y ys)
+
+pub skips : {A : Type 0} (f : List Entry → A) → ((e d : Entry) (ds : List Entry) → f (e ∷ (d ∷ ds)) ≡ f (d ∷ ds)) → (xs : List Entry) (y : Entry) (ys : List Entry)
+    → f (xs ++ y ∷ ys) ≡ f (y ∷ ys)
+skips f skip [] y ys = refl
+skips f skip (x ∷ []) y ys = skip x y ys
+skips f skip (x ∷ (z ∷ zs)) y ys = skip x z (zs ++ y ∷ ys) ∙ skips f skip (z ∷ zs) y ys
+
+-- ---- an event
+pub after-past : (event : Event) (xs : List Entry) (y : Entry) (ys : List Entry) → entries_after event (xs ++ y ∷ ys) ≡ xs ++ entries_after event (y ∷ ys)
+after-past event = passes (entries_after event) (λ e d ds. refl)
+
+pub fresh-past : (event : Event) (xs : List Entry) (y : Entry) (ys : List Entry) → freshness_of event (xs ++ y ∷ ys) ≡ freshness_of event (y ∷ ys)
+fresh-past event = skips (freshness_of event) (λ e d ds. refl)
+
+-- what holds where an event adds its entries, and where it joins the last entry, holds after any event
+pub after-cases : (event : Event) (P : List Entry → List Entry → Freshness → Type 0)
+    → ((es : List Entry) → P es (es ++ entries_of event) (freshness_added (entries_of event)))
+    → ((front : List Entry) (e joint : Entry) → joined event e ≡ Some joint → P (front ++ e ∷ []) (front ++ joint ∷ []) (freshness_joined (cursors_of e)))
+    → (es : List Entry) → P es (entries_after event es) (freshness_of event es)
+after-cases event P adds joins [] = adds []
+after-cases event P adds joins (e ∷ []) = from (joined event e) refl
+  where
+    from : (o : Option Entry) → joined event e ≡ o
+        → P (e ∷ []) (option_map_or (λ joint. joint ∷ []) o (e ∷ entries_of event)) (option_map_or (λ _. freshness_joined (cursors_of e)) o (freshness_added (entries_of event)))
+    from None h = adds (e ∷ [])
+    from (Some joint) h = joins [] e joint h
+after-cases event P adds joins (e ∷ (d ∷ ds)) =
+    after-cases event (λ xs ys fresh. P (e ∷ xs) (e ∷ ys) fresh) (λ es. adds (e ∷ es)) (λ front l joint h. joins (e ∷ front) l joint h) (d ∷ ds)
+
+-- an event joins no entry
+abbrev pub IsApart : Event → List Entry → Type 0
+IsApart event es = (entries_after event es ≡ es ++ entries_of event) × (freshness_of event es ≡ freshness_added (entries_of event))
+
+-- an event after entries that end with e, where o is the one entry for both, if there is one
+abbrev pub EndsIn : Event → List Entry → List Entry → Entry → Option Entry → Type 0
+EndsIn event es front e None = IsApart event es
+EndsIn event es front e (Some joint) = (entries_after event es ≡ front ++ joint ∷ []) × (freshness_of event es ≡ freshness_joined (cursors_of e))
+
+pub ends_in : (event : Event) (es front : List Entry) (e : Entry) (o : Option Entry) → es ≡ front ++ e ∷ [] → joined event e ≡ o → EndsIn event es front e o
+ends_in event es front e o is h =
+    subst (λ (l : List Entry). EndsIn event l front e o) (sym is) (by_join o (ap made h) (ap told h))
+  where
+    made : Option Entry → List Entry
+    made k = option_map_or (λ joint. joint ∷ []) k (e ∷ entries_of event)
+
+    told : Option Entry → Freshness
+    told k = option_map_or (λ _. freshness_joined (cursors_of e)) k (freshness_added (entries_of event))
+
+    by_join : (k : Option Entry) → entries_after event (e ∷ []) ≡ made k → freshness_of event (e ∷ []) ≡ told k → EndsIn event (front ++ e ∷ []) front e k
+    by_join None m t = (after-past event front e [] ∙ ap (λ es. front ++ es) m ∙ sym (append_assoc front (e ∷ []) (entries_of event)), fresh-past event front e [] ∙ t)
+    by_join (Some joint) m t = (after-past event front e [] ∙ ap (λ es. front ++ es) m, fresh-past event front e [] ∙ t)
+
+-- ---- cursors that are told
+pub last_told-past : (cursors : ℕ × ℕ) (xs : List Entry) (y : Entry) (ys : List Entry) → last_told cursors (xs ++ y ∷ ys) ≡ xs ++ last_told cursors (y ∷ ys)
+last_told-past cursors = passes (last_told cursors) (λ e d ds. refl)
+
+pub told-past : (fresh : Freshness) (b a : ℕ) (xs : List Entry) (y : Entry) (ys : List Entry) → entries_told fresh b a (xs ++ y ∷ ys) ≡ xs ++ entries_told fresh b a (y ∷ ys)
+told-past is.Stale b a xs y ys = refl
+told-past is.Added b a xs y ys = last_told-past (b, a) xs y ys
+told-past (is.Joined p) b a xs y ys = last_told-past (p, a) xs y ys
+
+pub told-added : (es ys : List Entry) (b a : ℕ) → entries_told (freshness_added ys) b a (es ++ ys) ≡ es ++ entries_told (freshness_added ys) b a ys
+told-added es [] b a = refl
+told-added es (y ∷ ys) b a = told-past is.Added b a es y ys
+
+-- ---- the end of a group
+pub end_one-past : (xs : List Entry) (y : Entry) (ys : List Entry) → end_one (xs ++ y ∷ ys) ≡ xs ++ end_one (y ∷ ys)
+end_one-past = passes end_one (λ e d ds. refl)
+
+pub ends-past : (xs : List Entry) (y : Entry) (ys : List Entry) → ends_in_begin (xs ++ y ∷ ys) ≡ ends_in_begin (y ∷ ys)
+ends-past = skips ends_in_begin (λ e d ds. refl)
+
+-- a Begin at the end is what an end takes off
+pub end_one-begin : (es : List Entry) → end_one (es ++ Begin ∷ []) ≡ es
+end_one-begin es = end_one-past es Begin [] ∙ append-nil es
+
+pub record EndsOne (es : List Entry) : Type 0 where
+  pub front : List Entry
+  pub list_is : es ≡ front ++ (Begin ∷ [])
+  pub after_is : end_one es ≡ front
+
+-- and after any other entry it adds an End
+pub record AddsEnd (es : List Entry) : Type 0 where
+  pub other : ends_in_begin es ≡ false
+  pub after_is : end_one es ≡ es ++ (End ∷ [])
+
+pub end_one-cases : (es : List Entry) → EndsOne es ⊎ AddsEnd es
+end_one-cases = by_last (λ es. EndsOne es ⊎ AddsEnd es) (inr (record { other = refl; after_is = refl })) from
+  where
+    adds : (front : List Entry) (e : Entry) → ends_in_begin (e ∷ []) ≡ false → end_one (e ∷ []) ≡ e ∷ (End ∷ []) → AddsEnd (front ++ e ∷ [])
+    adds front e other after = record {
+      other = ends-past front e [] ∙ other;
+      after_is = end_one-past front e [] ∙ ap (λ es. front ++ es) after ∙ sym (append_assoc front (e ∷ []) (End ∷ []));
+    }
+
+    from : (front : List Entry) (e : Entry) → EndsOne (front ++ e ∷ []) ⊎ AddsEnd (front ++ e ∷ [])
+    from front Begin = inl (record { front = front; list_is = refl; after_is = end_one-begin front })
+    from front End = inr (adds front End refl refl)
+    from front (Changed k c) = inr (adds front (Changed k c) refl refl)
