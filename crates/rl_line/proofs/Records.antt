@@ -14,6 +14,7 @@ pub mod MarkLemmas
 pub mod LevelLemmas
 pub mod EndLemmas
 pub mod GroupLemmas
+pub mod TurnLemmas
 pub mod HeardLemmas
 pub mod MoveLemmas
 pub mod OriginLemmas

@@ -30,19 +30,17 @@ pub record StandsNew (e : Entry) (text : List ℕ) (at : ℕ) : Type 0 where
   pub makes : apply (event_of (inverse e)) text ≡ Some (replace_range text at (at + length (new_text e)) (old_text e))
 
 pub StandsNew-from_IsSome : (e : Entry) (text : List ℕ) (at : ℕ) → place e ≡ Some at → IsSome (apply (event_of (inverse e)) text) → StandsNew e text at
-StandsNew-from_IsSome Begin text at p h = cc
-StandsNew-from_IsSome End text at p h = cc
 StandsNew-from_IsSome (Changed k c) text at p h =
     let same : c.place ≡ at = cc in
     let d = Replaces-from_IsSome text c.place c.new c.old h in
     subst (λ j. StandsNew (Changed k c) text j) same (record { start = d.stands.start; end = d.stands.end; bytes = d.stands.bytes; makes = d.makes })
+StandsNew-from_IsSome mark text at p h = cc
 
 -- a mark leaves the text
 pub mark-leaves : (e : Entry) (text : List ℕ) → place e ≡ None → apply (event_of (inverse e)) text ≡ Some text
 unfolding apply
-mark-leaves Begin text p = refl
-mark-leaves End text p = refl
 mark-leaves (Changed k c) text p = cc
+mark-leaves mark text p = refl
 
 place-inverse : (e : Entry) → place (inverse e) ≡ place e
 place-inverse Begin = refl
@@ -51,9 +49,8 @@ place-inverse (Changed k c) = refl
 
 -- where the cursor goes where an entry is taken back, if it was not told
 pub place_after-is : (e : Entry) (at cursor : ℕ) → place e ≡ Some at → place_after cursor (inverse e) ≡ at + length (old_text e)
-place_after-is Begin at cursor p = cc
-place_after-is End at cursor p = cc
 place_after-is (Changed k c) at cursor p = let same : c.place ≡ at = cc in ap (λ j. j + length c.old) same
+place_after-is mark at cursor p = cc
 
 -- both ways the place is the same
 pub place-entry_to_undo : (way : Way) (change : Change) → place (entry_to_undo way change) ≡ place (entry_of change)
@@ -72,11 +69,10 @@ right_true false b e = refl
 -- it can where the new text stands at the place
 pub fits-is : (e : Entry) (text : List ℕ) (at : ℕ) → place e ≡ Some at → IsUtf8 (old_text e) → is_some (apply (event_of (inverse e)) text) ≡ stands_at text at (new_text e)
 unfolding apply fits_at
-fits-is Begin text at p u = cc
-fits-is End text at p u = cc
 fits-is (Changed k c) text at p u =
     let same : c.place ≡ at = cc in
     tested (stands_at text c.place c.new && is_utf8 c.old) _ ∙ right_true (stands_at text c.place c.new) (is_utf8 c.old) (is_utf8-from_IsUtf8 c.old u) ∙ ap (λ j. stands_at text j c.new) same
+fits-is mark text at p u = cc
 
 -- and what is made then is what the replacement makes
 pub patch-makes : (result : Result Bool Refusal) (e : Entry) (text now : List ℕ) (at : ℕ) (going coming : List ℕ) → place e ≡ Some at → IsUtf8 (old_text e)

@@ -1,5 +1,6 @@
 -- Entries in the list of the code: counting them, and closing groups.
 use Rattle.std.proofs.Common.{◌≡◌, ℕ, ◌+◌, ◌-◌, ◌<◌, ◌≤◌, arith, suc, List, [], ◌∷◌, ◌++◌, length, take, drop, add-one, drop-cons, get_or, map, reverse, refl, sym, ap, ◌∙◌, ◌⊎◌, inl, inr}
+use Rattle.std.proofs.Math.Bool.{or-true}
 use Rattle.std.proofs.lemmas.Grind.{take_at_read}
 use Rattle.std.proofs.lemmas.List.{append-nil, map-append, reverse-append, drop_all}
 use Rattle.std.specs.Prelude.{zero, max, slice_get, cond, IsSome, Bool, true, false, not, ◌||◌, Option, Some, None}
@@ -195,10 +196,6 @@ pub adds-more : (count i : ℕ) (es next : List Entry) → i < count → next �
 adds-more count i es next lt e h =
     let k : suc (count - (i + 1)) ≡ count - i = omega arith in
     ap (λ n. adds_end n es) (sym k) ∙ ap (λ l. not (ends_in_begin es) || adds_end (count - (i + 1)) l) (sym e) ∙ ap (λ b. not (ends_in_begin es) || b) h ∙ or-true (not (ends_in_begin es))
-  where
-    or-true : (b : Bool) → (b || true) ≡ true
-    or-true true = refl
-    or-true false = refl
 
 -- so does closing one that is not empty
 pub adds-here : (n : ℕ) (es : List Entry) → 0 < n → ends_in_begin es ≡ false → adds_end n es ≡ true

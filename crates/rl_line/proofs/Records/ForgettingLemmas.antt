@@ -1,8 +1,9 @@
 -- Forgetting the oldest units: where entries fit a bound, which units go, and what is left.
 use Rattle.std.proofs.Common.{◌≡◌, ℕ, Some, zero, suc, ◌+◌, ◌-◌, ◌≤◌, ◌<◌, ◌⊎◌, inl, inr, leb, cond, arith, Bool, true, false, List, [], ◌∷◌, ◌++◌, length, length-append, take, drop, take_at, drop_at, drop-cons, get_or, map, append-nil, append_assoc, reverse, refl, sym, ap, subst, ◌∙◌}
+use Rattle.std.proofs.Math.Bool.{and-false, or-true}
 use Rattle.std.proofs.lemmas.Bool.{le-leb, leb-false, leb-true, lt-leb}
 use Rattle.std.proofs.lemmas.List.{drop-drop, drop-map, drop-take, length-drop, length-map, length-take-le, reverse-append, reverse-reverse, take-map}
-use Rattle.std.specs.Prelude.{nat_le, ◌&&◌}
+use Rattle.std.specs.Prelude.{nat_le}
 use Rattle.rl_line.specs.declared.change.Change.{Change}
 use Rattle.rl_line.specs.Record.{Begin, Entry, Record, entry_of, new_text, old_text, replay_entries}
 use Rattle.rl_line.specs.Walk.{Walk, Walks}
@@ -14,7 +15,7 @@ use Rattle.rl_line.specs.Entries.{cut_at}
 use Rattle.std.specs.List.{remove_range}
 use Rattle.rl_line.specs.Forgetting.{FitsFrom, ForgetsFirst, bytes_held, fits, forgotten, gone_within, is_within, kept_within, unbounded, units_kept}
 use Rattle.rl_line.proofs.Records.MatchLemmas.{Redoes-of}
-use Rattle.rl_line.proofs.Records.UnitLemmas.{AllGood, AllGood-left, AllGood-reverse, AllGood-right, IsMatched-together, Settles, good_cuts, opens-reverse, or_true, together-append, together-units, units-append, units-good}
+use Rattle.rl_line.proofs.Records.UnitLemmas.{AllGood, AllGood-left, AllGood-reverse, AllGood-right, IsMatched-together, Settles, good_cuts, opens-reverse, together-append, together-units, units-append, units-good}
 
 -- ---- where entries fit
 -- fewer entries hold no more bytes
@@ -31,7 +32,7 @@ within-none : (bound n : ℕ) → unbounded ≤ bound → is_within bound n ≡ 
 within-none bound n free = rw (le-leb unbounded bound free) refl
 
 within-few : (bound n : ℕ) → n ≤ bound → is_within bound n ≡ true
-within-few bound n few = rw (le-leb n bound few) (or_true (leb unbounded bound))
+within-few bound n few = rw (le-leb n bound few) (or-true (leb unbounded bound))
 
 past-bound : (bound n : ℕ) → bound < unbounded → bound < n → is_within bound n ≡ false
 past-bound bound n some many = rw (lt-leb unbounded bound some, lt-leb n bound many) refl
@@ -47,10 +48,6 @@ fits-long most bytes es some long = rw (past-bound most (length es) some long) r
 
 pub fits-heavy : (most bytes : ℕ) (es : List Entry) → bytes < unbounded → bytes < bytes_held es → fits most bytes es ≡ false
 fits-heavy most bytes es bound heavy = rw (past-bound bytes (bytes_held es) bound heavy) (and-false (is_within most (length es)))
-  where
-    and-false : (b : Bool) → (b && false) ≡ false
-    and-false true = refl
-    and-false false = refl
 
 -- the answer to whether they fit, from the two cases
 from-cases : (most bytes k : ℕ) (es : List Entry) → ((j : ℕ) → k ≤ j → fits most bytes (drop j es) ≡ true) → ((j : ℕ) → j < k → fits most bytes (drop j es) ≡ false)

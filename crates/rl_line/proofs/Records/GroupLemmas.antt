@@ -1,22 +1,19 @@
 -- Groups: where an End stands its group stands before it, and a group without a change leaves no trace.
 use Rattle.std.proofs.Common.{◌≡◌, ℕ, ◌+◌, suc, Bool, true, false, List, [], ◌∷◌, ◌++◌, length, drop, Option, Some, None, refl, sym, ap, subst, ◌∙◌, arith, append-nil, append_assoc, add-zero}
+use Rattle.std.proofs.Math.Bool.{or-true, or_assoc}
 use Rattle.std.specs.Prelude.{IsSome, zero, not, ◌||◌}
 use Rattle.rl_base.specs.Event.{Event}
 use Rattle.rl_line.specs.Record.{Entry, Begin, End, Changed, Record, entries_after, entries_of, joined, record_step, last_told}
 use Rattle.rl_line.specs.Units.{UndoUnit, Open, Whole, close, units, together, opens, level, has_change, is_change, end_one, end_times, ends_in_begin, adds_end, begun, ended, marks, mark, IsMatched, GroupAt, InGroup, Hears, Begins, after_in_group}
 use Rattle.rl_line.proofs.Records.LastLemmas.{after-past, end_one-begin, ends-past, ends_in}
 use Rattle.rl_line.proofs.Records.RecordLemmas.{joins, value_of}
-use Rattle.rl_line.proofs.Records.UnitLemmas.{AllGood, AllGood-left, or_true, together-append, Settles, flags_on, cut_good, cut_more-append, good_cuts, units-good, together-units, IsMatched-front, IsMatched-together}
+use Rattle.rl_line.proofs.Records.UnitLemmas.{AllGood, AllGood-left, together-append, Settles, flags_on, cut_good, cut_more-append, good_cuts, units-good, together-units, IsMatched-front, IsMatched-together}
 use Rattle.rl_line.proofs.Records.MatchLemmas.{marks-last, level-is, IsMatched-after, IsMatched-begin}
 use Rattle.rl_line.proofs.Records.ToldLemmas.{recorded-cases, last_told-marks, last_told-begin}
 
 pub has_change-append : (xs ys : List Entry) → has_change (xs ++ ys) ≡ has_change xs || has_change ys
 has_change-append [] ys = refl
-has_change-append (x ∷ xs) ys = ap (λ b. is_change x || b) (has_change-append xs ys) ∙ or_assoc (is_change x) (has_change xs) (has_change ys)
-  where
-    or_assoc : (a b c : Bool) → (a || (b || c)) ≡ ((a || b) || c)
-    or_assoc true b c = refl
-    or_assoc false b c = refl
+has_change-append (x ∷ xs) ys = ap (λ b. is_change x || b) (has_change-append xs ys) ∙ sym (or_assoc (is_change x) (has_change xs) (has_change ys))
 
 -- without a change no group holds one
 quiet : List Bool → Bool
@@ -79,7 +76,7 @@ group_at xs h =
     changes [] others fs g o e = cc
     changes (Open ∷ ws) others fs g o e = absurd (omega arith)
     changes (Whole es ∷ ws) others fs g o e =
-        has_change-append (together ws) es ∙ ap (λ b. has_change (together ws) || b) (Settles-change es g.0) ∙ or_true (has_change (together ws))
+        has_change-append (together ws) es ∙ ap (λ b. has_change (together ws) || b) (Settles-change es g.0) ∙ or-true (has_change (together ws))
 
     made : (fs : List Bool) → flags_on (units xs) [] ≡ true ∷ fs → Closes (units xs) [] → GroupAt xs
     made fs e r =

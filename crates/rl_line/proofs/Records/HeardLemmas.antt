@@ -1,9 +1,9 @@
 -- What a listener hears of a line that goes over its record.
-use Rattle.std.proofs.Common.{◌≡◌, ℕ, ◌^◌, ◌<◌, ◌≤◌, ◌⊎◌, inl, inr, zero, suc, Bool, true, false, max, List, [], ◌∷◌, ◌++◌, length, map, reverse, Some, refl, sym, ap, subst, append_assoc, ◌∙◌, arith}
+use Rattle.std.proofs.Common.{◌≡◌, ℕ, ◌^◌, ◌<◌, ◌≤◌, ◌⊎◌, inl, inr, zero, suc, true, max, List, [], ◌∷◌, ◌++◌, length, map, reverse, Some, refl, sym, ap, subst, append_assoc, ◌∙◌, arith}
 use Rattle.std.proofs.lemmas.List.{map-append, reverse-append}
 use Rattle.std.proofs.lemmas.Simd.{map-map}
 use Rattle.std.proofs.lemmas.Option.{same_Some}
-use Rattle.std.specs.Prelude.{Any, get_or, option_and_then, ◌||◌}
+use Rattle.std.specs.Prelude.{Any, get_or, option_and_then}
 use Rattle.std.specs.Str.{IsCharBoundary}
 use Rattle.rl_base.specs.Event.{Event, Replace, apply}
 use Rattle.rl_base.specs.declared.listeners.Refusal.{Refusal}
@@ -11,45 +11,27 @@ use Rattle.rl_base.specs.declared.listeners.Refusal.TheVariants.{NoMemory}
 use Rattle.rl_line.specs.Foretelling.{HeardInPart}
 use Rattle.rl_line.specs.Line.{Line, NeedsRoom, stepped}
 use Rattle.rl_line.specs.Plan.{Step, after, listener_after, listener_after_step}
-use Rattle.rl_line.specs.Record.{Entry, Begin, End, Changed, event_of, inverse, new_text, old_text}
+use Rattle.rl_line.specs.Record.{Entry, Changed, event_of, inverse, new_text, old_text}
 use Rattle.rl_line.specs.Change.{place}
 use Rattle.rl_line.specs.Undo.{cursor_after, line_after, line_ahead, line_back, steps_ahead, steps_back, texts_after, texts_ahead, texts_back}
-use Rattle.rl_line.specs.Units.{has_change, is_change}
-use Rattle.rl_line.proofs.Records.GroupLemmas.{has_change-append}
+use Rattle.rl_line.specs.Units.{has_change}
 use Rattle.rl_line.proofs.Plans.PlanLemmas.{Fits-from, standing-is}
-use Rattle.rl_line.proofs.Records.RecordLemmas.{inverse-inverse, then_some, through}
-use Rattle.rl_line.proofs.Records.UndoLemmas.{line_ahead-append, then-same}
+use Rattle.rl_line.proofs.Records.RecordLemmas.{through}
+use Rattle.rl_line.proofs.Records.TurnLemmas.{has_change-turned, turned-cons, turned-turned}
+use Rattle.rl_line.proofs.Records.UndoLemmas.{line_ahead-back}
 
 -- going back is going ahead over the inverses, the last first
 pub line_back-ahead : (es : List Entry) (line : Line) → line_ahead (map inverse (reverse es)) line ≡ line_back es line
-line_back-ahead [] line = refl
-line_back-ahead (e ∷ es) line =
-    ap (λ l. line_ahead (map inverse l) line) (reverse-append (e ∷ []) es) ∙ ap (λ l. line_ahead l line) (map-append inverse (reverse es) (e ∷ []))
-    ∙ line_ahead-append (map inverse (reverse es)) (inverse e ∷ []) line ∙ ap (option_and_then (line_ahead (inverse e ∷ []))) (line_back-ahead es line)
-    ∙ then-same (line_ahead (inverse e ∷ [])) (line_after (inverse e)) (λ l. then_some (line_after (inverse e) l)) (line_back es line)
-
-turned-cons : (e : Entry) (es : List Entry) → map inverse (reverse (e ∷ es)) ≡ map inverse (reverse es) ++ inverse e ∷ []
-turned-cons e es = ap (map inverse) (reverse-append (e ∷ []) es) ∙ map-append inverse (reverse es) (e ∷ [])
-
--- entries that are turned round twice
-turned-turned : (es : List Entry) → map inverse (reverse (map inverse (reverse es))) ≡ es
-turned-turned [] = refl
-turned-turned (e ∷ es) =
-    ap (λ l. map inverse (reverse (map inverse l))) (reverse-append (e ∷ []) es)
-    ∙ ap (λ l. map inverse (reverse l)) (map-append inverse (reverse es) (e ∷ []))
-    ∙ ap (map inverse) (reverse-append (map inverse (reverse es)) (inverse e ∷ []))
-    ∙ ap (λ f. f ∷ map inverse (reverse (map inverse (reverse es)))) (inverse-inverse e)
-    ∙ ap (λ l. e ∷ l) (turned-turned es)
+line_back-ahead es line = sym (line_ahead-back (map inverse (reverse es)) line) ∙ ap (λ l. line_back l line) (turned-turned es)
 
 pub steps_ahead-back : (cursor : ℕ) (es : List Entry) → steps_back cursor (map inverse (reverse es)) ≡ steps_ahead cursor es
 steps_ahead-back cursor es = ap (steps_ahead cursor) (turned-turned es)
 
 -- the one step of a change
 pub told-one : (e : Entry) (i cursor : ℕ) → place e ≡ Some i → steps_ahead cursor (inverse e ∷ []) ≡ (Replace i (new_text e) (old_text e), cursor_after cursor (inverse e)) ∷ []
-told-one Begin i cursor at = cc
-told-one End i cursor at = cc
 told-one (Changed kind swap) i cursor at =
     ap (λ k. (Replace k swap.new swap.old, cursor_after cursor (inverse (Changed kind swap))) ∷ []) (same_Some swap.place i at)
+told-one mark i cursor at = cc
 
 -- where a line goes over an entry, its cursor goes where the entry says
 pub cursor-gone : (e : Entry) (line next : Line) → line_after e line ≡ Some next → next.cursor ≡ cursor_after line.cursor e
@@ -66,14 +48,6 @@ pub after-steps_ahead : (es : List Entry) (line now : Line) → IsCharBoundary l
     → after (steps_ahead line.cursor es) line ≡ Some now
 unfolding apply
 after-steps_ahead [] line now at within h = h
-after-steps_ahead (Begin ∷ es) line now at within h =
-    let p = through (line_ahead es) (line_after Begin line) now h in
-    let same = by_a_mark line p.0 within (standing-is (stepped line line.text line.cursor) p.0 p.1) in
-    after-steps_ahead es line now at within (ap (line_ahead es) (sym same) ∙ p.2)
-after-steps_ahead (End ∷ es) line now at within h =
-    let p = through (line_ahead es) (line_after End line) now h in
-    let same = by_a_mark line p.0 within (standing-is (stepped line line.text line.cursor) p.0 p.1) in
-    after-steps_ahead es line now at within (ap (line_ahead es) (sym same) ∙ p.2)
 after-steps_ahead (Changed k c ∷ es) line now at within h =
     let e = Changed k c in
     let place = cursor_after line.cursor e in
@@ -83,6 +57,10 @@ after-steps_ahead (Changed k c ∷ es) line now at within h =
     let keeps : length p.0.text ≤ p.0.limit = subst (λ (l : Line). length l.text ≤ l.limit) (sym f.is) (omega arith) in
     ap (option_and_then (after (steps_ahead place es))) p.1 ∙ ap (λ k. after (steps_ahead k es) p.0) (sym (cursor-gone e line p.0 p.1))
     ∙ after-steps_ahead es p.0 now stands keeps p.2
+after-steps_ahead (mark ∷ es) line now at within h =
+    let p = through (line_ahead es) (line_after mark line) now h in
+    let same = by_a_mark line p.0 within (standing-is (stepped line line.text line.cursor) p.0 p.1) in
+    after-steps_ahead es line now at within (ap (line_ahead es) (sym same) ∙ p.2)
 
 pub after-steps_back : (es : List Entry) (line now : Line) → IsCharBoundary line.text line.cursor → length line.text ≤ line.limit → line_back es line ≡ Some now
     → after (steps_back line.cursor es) line ≡ Some now
@@ -100,17 +78,22 @@ cursor_past-append : (es : List Entry) (e : Entry) (cursor : ℕ) → cursor_pas
 cursor_past-append [] e cursor = refl
 cursor_past-append (d ∷ es) e cursor = cursor_past-append es e (cursor_after cursor d)
 
+-- that of a line that goes ahead over them
+cursor_past-ahead : (es : List Entry) (line now : Line) → line_ahead es line ≡ Some now → cursor_past line.cursor es ≡ now.cursor
+cursor_past-ahead [] line now h = let same : line ≡ now = cc in ap (λ (l : Line). l.cursor) same
+cursor_past-ahead (e ∷ es) line now h =
+    let p = through (line_ahead es) (line_after e line) now h in ap (λ k. cursor_past k es) (sym (cursor-gone e line p.0 p.1)) ∙ cursor_past-ahead es p.0 now p.2
+
 pub cursor_past_back-one_more : (e : Entry) (es : List Entry) (cursor : ℕ) → cursor_past_back cursor (e ∷ es) ≡ cursor_after (cursor_past_back cursor es) (inverse e)
 cursor_past_back-one_more e es cursor =
     ap (cursor_past cursor) (turned-cons e es) ∙ cursor_past-append (map inverse (reverse es)) (inverse e) cursor
 
 steps_ahead-append : (es ds : List Entry) (cursor : ℕ) → steps_ahead cursor (es ++ ds) ≡ steps_ahead cursor es ++ steps_ahead (cursor_past cursor es) ds
 steps_ahead-append [] ds cursor = refl
-steps_ahead-append (Begin ∷ es) ds cursor = steps_ahead-append es ds cursor
-steps_ahead-append (End ∷ es) ds cursor = steps_ahead-append es ds cursor
 steps_ahead-append (Changed kind swap ∷ es) ds cursor =
     let d = Changed kind swap in
     ap (λ ss. (event_of d, cursor_after cursor d) ∷ ss) (steps_ahead-append es ds (cursor_after cursor d))
+steps_ahead-append (mark ∷ es) ds cursor = steps_ahead-append es ds cursor
 
 -- the way back over entries is that over the last ones, and then over those before them
 steps_back-parts : (more : List Entry) (e : Entry) (es : List Entry) (cursor : ℕ)
@@ -129,79 +112,45 @@ same_room text (inr more) = omega (arith, more)
 -- ---- something is told, and a text on the way needs room, only where there is a change
 pub told-change : (es : List Entry) (cursor : ℕ) → 0 < length (steps_ahead cursor es) → has_change es ≡ true
 told-change [] cursor some = absurd (omega (arith, some))
-told-change (Begin ∷ es) cursor some = told-change es cursor some
-told-change (End ∷ es) cursor some = told-change es cursor some
 told-change (Changed kind swap ∷ es) cursor some = refl
+told-change (mark ∷ es) cursor some = told-change es cursor some
 
 room-change : (es : List Entry) (text : List ℕ) (k : ℕ) (x : List ℕ) → k < length (texts_ahead es text) → get_or (texts_ahead es text) k x ≡ x → NeedsRoom text x → has_change es ≡ true
 unfolding apply
 room-change [] text k x within is needs = absurd (omega (arith, within))
-room-change (Begin ∷ es) text zero x within is needs = absurd (same_room text (subst (NeedsRoom text) (sym is) needs))
-room-change (Begin ∷ es) text (suc k) x within is needs = room-change es text k x (omega (arith, within)) is needs
-room-change (End ∷ es) text zero x within is needs = absurd (same_room text (subst (NeedsRoom text) (sym is) needs))
-room-change (End ∷ es) text (suc k) x within is needs = room-change es text k x (omega (arith, within)) is needs
 room-change (Changed kind swap ∷ es) text k x within is needs = refl
+room-change (mark ∷ es) text zero x within is needs = absurd (same_room text (subst (NeedsRoom text) (sym is) needs))
+room-change (mark ∷ es) text (suc k) x within is needs = room-change es text k x (omega (arith, within)) is needs
 
 pub room_ahead-change : (es : List Entry) (text : List ℕ) → Any (NeedsRoom text) (texts_ahead es text) → has_change es ≡ true
 room_ahead-change es text some = room-change es text some.0 some.1 some.2 some.3 some.4
 
--- turned round, entries hold a change where they did
-or_nothing : (b : Bool) → (b || false) ≡ b
-or_nothing true = refl
-or_nothing false = refl
-
-turned-mark : (m : Entry) (es : List Entry) → is_change (inverse m) ≡ false → has_change (map inverse (reverse (m ∷ es))) ≡ true → has_change (map inverse (reverse es)) ≡ true
-turned-mark m es none h =
-    let ds = map inverse (reverse es) in
-    sym (ap has_change (turned-cons m es) ∙ has_change-append ds (inverse m ∷ []) ∙ ap (λ b. has_change ds || (b || false)) none ∙ or_nothing (has_change ds)) ∙ h
-
-turned-change : (es : List Entry) → has_change (map inverse (reverse es)) ≡ true → has_change es ≡ true
-turned-change [] h = h
-turned-change (Begin ∷ es) h = turned-change es (turned-mark Begin es refl h)
-turned-change (End ∷ es) h = turned-change es (turned-mark End es refl h)
-turned-change (Changed kind swap ∷ es) h = refl
-
 pub told_back-change : (es : List Entry) (cursor : ℕ) → 0 < length (steps_back cursor es) → has_change es ≡ true
-told_back-change es cursor some = turned-change es (told-change (map inverse (reverse es)) cursor some)
+told_back-change es cursor some = sym (has_change-turned es) ∙ told-change (map inverse (reverse es)) cursor some
 
 pub room_back-change : (es : List Entry) (text : List ℕ) → Any (NeedsRoom text) (texts_back es text) → has_change es ≡ true
 room_back-change es text some =
-    turned-change es (room_ahead-change (map inverse (reverse es)) text (subst (λ events. Any (NeedsRoom text) (texts_after events text)) (sym (map-map event_of inverse (reverse es))) some))
+    sym (has_change-turned es)
+    ∙ room_ahead-change (map inverse (reverse es)) text (subst (λ events. Any (NeedsRoom text) (texts_after events text)) (sym (map-map event_of inverse (reverse es))) some)
 
 -- ---- what a listener became
 module _ {L : Type 0} (step : L → Event → L) where
+  -- over entries, and then other steps
+  heard-past : (es : List Entry) (cursor : ℕ) (ss : List Step) (l : L)
+      → listener_after step cursor (steps_ahead cursor es ++ ss) l ≡ listener_after step (cursor_past cursor es) ss (listener_after step cursor (steps_ahead cursor es) l)
+  heard-past [] cursor ss l = refl
+  heard-past (Changed kind swap ∷ es) cursor ss l =
+      let d = Changed kind swap in
+      heard-past es (cursor_after cursor d) ss (listener_after_step step cursor (event_of d, cursor_after cursor d) l)
+  heard-past (mark ∷ es) cursor ss l = heard-past es cursor ss l
+
   -- over entries and one more
   ahead-one_more : (es : List Entry) (e : Entry) (line now : Line) (l : L) → line_ahead es line ≡ Some now
       → listener_after step line.cursor (steps_ahead line.cursor (es ++ e ∷ [])) l
       ≡ listener_after step now.cursor (steps_ahead now.cursor (e ∷ [])) (listener_after step line.cursor (steps_ahead line.cursor es) l)
-  ahead-one_more [] e line now l h = let same : line ≡ now = cc in ap (λ (k : Line). listener_after step k.cursor (steps_ahead k.cursor (e ∷ [])) l) same
-  ahead-one_more (Begin ∷ es) e line now l h =
-      let p = through (line_ahead es) (line_after Begin line) now h in
-      let gone = cursor-gone Begin line p.0 p.1 in
-      subst (λ k. listener_after step k (steps_ahead k (es ++ e ∷ [])) l ≡ listener_after step now.cursor (steps_ahead now.cursor (e ∷ [])) (listener_after step k (steps_ahead k es) l)) gone
-      (ahead-one_more es e p.0 now l p.2)
-  ahead-one_more (End ∷ es) e line now l h =
-      let p = through (line_ahead es) (line_after End line) now h in
-      let gone = cursor-gone End line p.0 p.1 in
-      subst (λ k. listener_after step k (steps_ahead k (es ++ e ∷ [])) l ≡ listener_after step now.cursor (steps_ahead now.cursor (e ∷ [])) (listener_after step k (steps_ahead k es) l)) gone
-      (ahead-one_more es e p.0 now l p.2)
-  ahead-one_more (Changed kind swap ∷ es) e line now l h =
-      let d = Changed kind swap in
-      let p = through (line_ahead es) (line_after d line) now h in
-      let gone = cursor-gone d line p.0 p.1 in
-      let heard = listener_after_step step line.cursor (event_of d, cursor_after line.cursor d) l in
-      subst (λ k. listener_after step k (steps_ahead k (es ++ e ∷ [])) heard ≡ listener_after step now.cursor (steps_ahead now.cursor (e ∷ [])) (listener_after step k (steps_ahead k es) heard)) gone
-      (ahead-one_more es e p.0 now heard p.2)
-
-  -- the same by the cursor alone
-  heard-past : (es : List Entry) (cursor : ℕ) (ss : List Step) (l : L)
-      → listener_after step cursor (steps_ahead cursor es ++ ss) l ≡ listener_after step (cursor_past cursor es) ss (listener_after step cursor (steps_ahead cursor es) l)
-  heard-past [] cursor ss l = refl
-  heard-past (Begin ∷ es) cursor ss l = heard-past es cursor ss l
-  heard-past (End ∷ es) cursor ss l = heard-past es cursor ss l
-  heard-past (Changed kind swap ∷ es) cursor ss l =
-      let d = Changed kind swap in
-      heard-past es (cursor_after cursor d) ss (listener_after_step step cursor (event_of d, cursor_after cursor d) l)
+  ahead-one_more es e line now l h =
+      ap (λ ss. listener_after step line.cursor ss l) (steps_ahead-append es (e ∷ []) line.cursor) ∙ heard-past es line.cursor (steps_ahead (cursor_past line.cursor es) (e ∷ [])) l
+      ∙ ap (λ k. listener_after step k (steps_ahead k (e ∷ [])) (listener_after step line.cursor (steps_ahead line.cursor es) l)) (cursor_past-ahead es line now h)
 
   pub back-past : (e : Entry) (es : List Entry) (cursor : ℕ) (l : L)
       → listener_after step cursor (steps_back cursor (e ∷ es)) l

@@ -7,13 +7,13 @@ use Rattle.std.proofs.lemmas.Result.{IfErr-weaker, IfOk-weaker}
 use Rattle.std.specs.Prelude.{IfErr, IfOk, Option, Result}
 use Rattle.std.specs.Str.{chars}
 use Rattle.unicode_segmentation.specs.Segments.{cut, segments}
-use Rattle.rl_base.specs.Event.{Event, InsertChar, InsertStr, Delete, Replace, Start, Stop, Cursors, apply}
+use Rattle.rl_base.specs.Event.{Event, InsertStr, Delete, Start, Stop, Cursors, apply}
 use Rattle.rl_base.specs.declared.listeners.Direction.{Direction}
 use Rattle.rl_base.specs.declared.listeners.Direction.TheVariants.{Forward}
 use Rattle.rl_base.specs.declared.listeners.Refusal.{Refusal}
 use Rattle.rl_base.specs.declared.listeners.Refusal.TheVariants.{NoMemory}
 use Rattle.rl_line.specs.declared.change.Change.{Change}
-use Rattle.rl_line.specs.Record.{Insertion, Deletion, Replacement, Entry, Begin, End, Changed, Record, entries_after, entries_of, entry_of, freshness_added, freshness_of, joined, last_told, record_step, with_cursors}
+use Rattle.rl_line.specs.Record.{Deletion, Entry, Changed, Record, entries_after, entries_of, entry_of, freshness_added, freshness_of, joined, last_told, record_step, with_cursors}
 use Rattle.rl_line.specs.declared.change.Freshness.{Freshness}
 use Rattle.rl_line.specs.declared.change.Freshness.TheVariants.{Stale}
 use Rattle.rl_line.specs.Change.{TakesIn}
@@ -99,13 +99,10 @@ pub step-cases : (r : Record) (P : Event → Record → Type 0)
     → ((event : Event) → ((text : List ℕ) → apply event text ≡ Some text) → P event r) → ((b a : ℕ) → P (Cursors b a) (record_step r (Cursors b a)))
     → (event : Event) → P event (record_step r event)
 unfolding apply record_step
-step-cases r P changes stays told (InsertChar i c) = changes (InsertChar i c)
-step-cases r P changes stays told (InsertStr i s) = changes (InsertStr i s)
-step-cases r P changes stays told (Delete i s side) = changes (Delete i s side)
-step-cases r P changes stays told (Replace i s t) = changes (Replace i s t)
 step-cases r P changes stays told Start = subst (P Start) (sym (record_step-Start r)) (stays Start (λ text. refl))
 step-cases r P changes stays told Stop = subst (P Stop) (sym (record_step-Stop r)) (stays Stop (λ text. refl))
 step-cases r P changes stays told (Cursors b a) = told b a
+step-cases r P changes stays told event = changes event
 
 pub fresh-InsertStr : (es : List Entry) (i : ℕ) (s : List ℕ) → freshness_of (InsertStr i s) es ≡ freshness_added (entries_of (InsertStr i s))
 fresh-InsertStr es i s = (joins_nothing (InsertStr i s) (λ e. refl) es).1
@@ -116,11 +113,8 @@ fresh-InsertStr-nothing es i s e = ap (λ (t : List ℕ). freshness_of (InsertSt
 
 joined-nothing : (i : ℕ) (side : Direction) (e : Entry) → joined (Delete i [] side) e ≡ None
 unfolding segments cut chars
-joined-nothing i side Begin = refl
-joined-nothing i side End = refl
-joined-nothing i side (Changed Insertion c) = refl
 joined-nothing i side (Changed Deletion c) = refl
-joined-nothing i side (Changed Replacement c) = refl
+joined-nothing i side _ = refl
 
 pub fresh-Delete-nothing : (es : List Entry) (i : ℕ) (s : List ℕ) (side : Direction) → length s ≡ 0 → freshness_of (Delete i s side) es ≡ Stale
 unfolding entries_of

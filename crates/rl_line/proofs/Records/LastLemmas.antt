@@ -4,7 +4,7 @@ use Rattle.std.specs.Option.{option_map_or}
 use Rattle.rl_base.specs.Event.{Event}
 use Rattle.rl_line.specs.declared.change.Freshness.{Freshness}
 use Rattle.rl_line.specs.declared.change.Freshness.TheVariants as is
-use Rattle.rl_line.specs.Record.{Entry, Begin, End, Changed, cursors_of, entries_after, entries_of, entries_told, freshness_added, freshness_joined, freshness_of, joined, last_told}
+use Rattle.rl_line.specs.Record.{Entry, Begin, End, cursors_of, entries_after, entries_of, entries_told, freshness_added, freshness_joined, freshness_of, joined, last_told}
 use Rattle.rl_line.specs.Units.{end_one, ends_in_begin}
 
 -- what holds of no elements, and of any that end with one, holds of all lists
@@ -115,5 +115,4 @@ end_one-cases = by_last (λ es. EndsOne es ⊎ AddsEnd es) (inr (record { other 
 
     from : (front : List Entry) (e : Entry) → EndsOne (front ++ e ∷ []) ⊎ AddsEnd (front ++ e ∷ [])
     from front Begin = inl (record { front = front; list_is = refl; after_is = end_one-begin front })
-    from front End = inr (adds front End refl refl)
-    from front (Changed k c) = inr (adds front (Changed k c) refl refl)
+    from front e = inr (adds front e refl refl)

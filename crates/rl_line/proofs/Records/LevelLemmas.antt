@@ -151,9 +151,8 @@ LevelAt-end xs len at n z x m lt e b l =
     }
 
 pub level-change : (es : List Entry) (e : Entry) → is_change e ≡ true → level (es ++ e ∷ []) ≡ level es
-level-change es Begin h = cc
-level-change es End h = cc
 level-change es (Changed k c) h = ap opens (cut_more-append [] es (Changed k c ∷ []))
+level-change es other h = cc
 
 pub LevelAt-change : (xs : List Change) (len at n : ℕ) (z x : Change) → len < at → get_or xs (at - 1) z ≡ x → is_change (entry_of x) ≡ true → LevelAt xs len at n
     → LevelAt xs len (at - 1) n

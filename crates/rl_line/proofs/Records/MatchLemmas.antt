@@ -3,7 +3,7 @@ use Rattle.std.proofs.Common.{◌≡◌, ℕ, ◌+◌, ◌-◌, ◌≤◌, suc, 
 use Rattle.std.proofs.lemmas.List.{take-append-drop, reverse-append, reverse-reverse}
 use Rattle.std.specs.Prelude.{option_and_then, IsSome, zero, max}
 use Rattle.rl_base.proofs.Texts.SwapLemmas.{some_is}
-use Rattle.rl_base.specs.Event.{Event, InsertChar, InsertStr, Delete, Replace, Start, Stop, Cursors}
+use Rattle.rl_base.specs.Event.{Event, Start, Stop, Cursors}
 use Rattle.rl_line.specs.Record.{Entry, Begin, End, Changed, Record, entries_of, entries_after, pending_after, record_step}
 use Rattle.rl_line.specs.Units.{UndoUnit, Open, Whole, units, together, opens, level, last_of, kept_of, redo_from, redo_of, end_one, ends_in_begin, is_begin, end_times, begun, undone, redone, truncated, with_closed, touched, mark, marks, IsMatched, BothMatched}
 use Rattle.rl_line.proofs.Records.LastLemmas.{after-cases, by_last, end_one-cases, ends-past}
@@ -28,13 +28,10 @@ pub IsMatched-after : (event : Event) (es : List Entry) → IsMatched es → IsM
 IsMatched-after event es h = marks-after event es [] h
 
 pending-matched : (event : Event) (es : List Entry) → IsMatched es → IsMatched (pending_after event es)
-pending-matched (InsertChar i c) es h = refl
-pending-matched (InsertStr i s) es h = refl
-pending-matched (Delete i s side) es h = refl
-pending-matched (Replace i s t) es h = refl
 pending-matched Start es h = h
 pending-matched Stop es h = h
 pending-matched (Cursors b a) es h = h
+pending-matched _ es h = refl
 
 pub BothMatched-step : (r : Record) (event : Event) → BothMatched r → BothMatched (record_step r event)
 unfolding record_step

@@ -6,10 +6,10 @@ use Rattle.std.specs.Prelude.{option_and_then, encode_utf8, IsSome, ◌==◌, �
 use Rattle.std.specs.Str.{IsUtf8}
 use Rattle.rl_base.proofs.Texts.TextLemmas.{and_right}
 use Rattle.rl_base.specs.declared.listeners.Direction.{Direction}
-use Rattle.rl_base.specs.Event.{Event, InsertChar, InsertStr, Delete, Replace, Start, Stop, Cursors, apply, replay}
+use Rattle.rl_base.specs.Event.{Event, InsertChar, InsertStr, Delete, Replace, apply, replay}
 use Rattle.rl_base.proofs.Texts.SwapLemmas.{Swaps, Swaps-back, Swaps-nothing, Swaps-after, Swaps-before, Swaps-InsertStr, Swaps-InsertChar, Swaps-Delete, Swaps-Replace, apply-Replace-Swaps, apply-IsUtf8}
 use Rattle.rl_base.specs.Classes.{is_alphanumeric, is_word_cluster}
-use Rattle.rl_line.specs.Record.{Kind, Insertion, Deletion, Replacement, Swap, Entry, Begin, End, Changed, Record, entries_after, entries_of, joined, record_step, event_of, inverse, replay_entries, unwind, swapped, followed, opposite, past, untold, events_ahead}
+use Rattle.rl_line.specs.Record.{Kind, Insertion, Deletion, Replacement, Swap, Entry, Changed, Record, entries_after, entries_of, joined, record_step, event_of, inverse, replay_entries, unwind, swapped, followed, opposite, past, untold, events_ahead}
 use Rattle.rl_line.proofs.Records.LastLemmas.{after-cases}
 use Rattle.rl_line.proofs.Records.ToldLemmas.{recorded-cases, last_told-unwind}
 
@@ -40,9 +40,8 @@ then_both f g h e (Some a) = e a
 -- an entry is taken back by its inverse
 pub inverse-undoes : (e : Entry) (x y : List ℕ) → IsUtf8 x → apply (event_of e) x ≡ Some y → apply (event_of (inverse e)) y ≡ Some x
 unfolding apply
-inverse-undoes Begin x y u h = sym h
-inverse-undoes End x y u h = sym h
 inverse-undoes (Changed k c) x y u h = apply-Replace-Swaps y x c.place c.new c.old (Swaps-back x y c.place c.old c.new (Swaps-Replace x y c.place c.old c.new u h))
+inverse-undoes mark x y u h = sym h
 
 swapped-swapped : (ps : Option (ℕ × ℕ)) → swapped (swapped ps) ≡ ps
 swapped-swapped None = refl
@@ -54,9 +53,8 @@ opposite-opposite Deletion = refl
 opposite-opposite Replacement = refl
 
 pub inverse-inverse : (e : Entry) → inverse (inverse e) ≡ e
-inverse-inverse Begin = refl
-inverse-inverse End = refl
 inverse-inverse (Changed k c) = rw (opposite-opposite k, swapped-swapped c.cursors) refl
+inverse-inverse mark = refl
 
 pub undoes-inverse : (e : Entry) (x y : List ℕ) → IsUtf8 y → apply (event_of (inverse e)) y ≡ Some x → apply (event_of e) x ≡ Some y
 undoes-inverse e x y u h = ap (λ k. apply (event_of k) x) (sym (inverse-inverse e)) ∙ inverse-undoes (inverse e) y x u h
@@ -112,9 +110,7 @@ entries_of-undo (InsertChar i c) text now u h = undoes Insertion i [] _ text now
 entries_of-undo (InsertStr i s) text now u h = undoes-unless Insertion i [] s text now (length s == 0) (λ e. (refl, eqb-true (length s) 0 e)) (Swaps-InsertStr text now i s u h)
 entries_of-undo (Delete i s side) text now u h = undoes-unless Deletion i s [] text now (length s == 0) (λ e. (eqb-true (length s) 0 e, refl)) (Swaps-Delete text now i s side u h)
 entries_of-undo (Replace i s t) text now u h = undoes Replacement i s t text now (Swaps-Replace text now i s t u h)
-entries_of-undo Start text now u h = sym h
-entries_of-undo Stop text now u h = sym h
-entries_of-undo (Cursors b a) text now u h = sym h
+entries_of-undo _ text now u h = sym h
 
 unless_nothing : (kind : Kind) (swap : Swap) (b : Bool)
     → (cond b [] (Changed kind swap ∷ []) ≡ []) ⊎ ((k : Kind) × (c : Swap) × (cond b [] (Changed kind swap ∷ []) ≡ Changed k c ∷ []))
@@ -128,9 +124,7 @@ none_or_one (InsertChar i c) = inr (_, _, refl)
 none_or_one (InsertStr i s) = unless_nothing _ _ (length s == 0)
 none_or_one (Delete i s side) = unless_nothing _ _ (length s == 0)
 none_or_one (Replace i s t) = inr (_, _, refl)
-none_or_one Start = inl refl
-none_or_one Stop = inl refl
-none_or_one (Cursors b a) = inl refl
+none_or_one _ = inl refl
 
 -- ---- joining
 pub if_some : {A : Type 0} (b : Bool) (a c : A) → cond b (Some a) None ≡ Some c → (b ≡ true) × (a ≡ c)

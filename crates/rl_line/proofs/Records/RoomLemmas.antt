@@ -4,6 +4,7 @@ use Rattle.std.proofs.lemmas.Bool.Decides.{nat_tests}
 use Rattle.std.proofs.Math.ListN.{get_or-append}
 use Rattle.std.proofs.lemmas.List.{drop-map, map-append, reverse-append}
 use Rattle.std.proofs.lemmas.List.Quantifiers.{Any-push}
+use Rattle.std.proofs.lemmas.Simd.{map-map}
 use Rattle.std.specs.Prelude.{Any, IsSome, get_or, nat_lt, option_and_then}
 use Rattle.std.specs.Str.{IsUtf8}
 use Rattle.rl_base.proofs.Texts.SwapLemmas.{Swaps, Swaps-Replace}
@@ -15,10 +16,11 @@ use Rattle.rl_line.specs.declared.change.Measure.TheVariants.{Bytes, Newlines}
 use Rattle.rl_line.specs.declared.change.Way.{Way}
 use Rattle.rl_line.specs.Change.{entry_to_undo, greatest_back_over, size_back, size_back_over, size_of}
 use Rattle.rl_line.specs.Line.{Line, NeedsRoom}
-use Rattle.rl_line.specs.Record.{Entry, Begin, End, Changed, bytes_ahead, bytes_back, event_of, inverse, new_text, old_text, unwind}
+use Rattle.rl_line.specs.Record.{Entry, Changed, bytes_ahead, bytes_back, event_of, inverse, new_text, old_text, unwind}
 use Rattle.rl_line.specs.Undo.{line_back, texts_after, texts_ahead, texts_back}
 use Rattle.rl_line.proofs.Lines.LineStartLemmas.{newlines-append}
-use Rattle.rl_line.proofs.Records.RecordLemmas.{inverse-inverse, through, unwind-IsUtf8, value_of}
+use Rattle.rl_line.proofs.Records.RecordLemmas.{through, unwind-IsUtf8, value_of}
+use Rattle.rl_line.proofs.Records.TurnLemmas.{turned-cons, turned-turned}
 use Rattle.rl_line.proofs.Records.UndoLemmas.{entries_from, line_back-unwind, size_back_over-within}
 
 size-append : (k : Measure) (xs ys : List ℕ) → size_of k (xs ++ ys) ≡ size_of k xs + size_of k ys
@@ -40,9 +42,8 @@ size-nothing Newlines n = omega arith
 -- the size of the text before an entry
 size_back-is : (k : Measure) (e : Entry) (text now : List ℕ) → IsUtf8 text → apply (event_of (inverse e)) text ≡ Some now → size_of k now ≡ size_back k e (size_of k text)
 unfolding apply
-size_back-is k Begin text now u h = let e : text ≡ now = cc in ap (size_of k) (sym e) ∙ size-nothing k (size_of k text)
-size_back-is k End text now u h = let e : text ≡ now = cc in ap (size_of k) (sym e) ∙ size-nothing k (size_of k text)
 size_back-is k (Changed j c) text now u h = size-swapped k text now c.place c.new c.old (Swaps-Replace text now c.place c.new c.old u h)
+size_back-is k mark text now u h = let e : text ≡ now = cc in ap (size_of k) (sym e) ∙ size-nothing k (size_of k text)
 
 size_back_over-is : (k : Measure) (es : List Entry) (text now : List ℕ) → IsUtf8 text → unwind es text ≡ Some now → size_of k now ≡ size_back_over k es (size_of k text)
 size_back_over-is k [] text now u h = let e : text ≡ now = cc in ap (size_of k) (sym e)
@@ -135,16 +136,8 @@ past_a_usize k way xs m n size x lt e is fits past =
 
 -- the texts on the way ahead are those on the way back over the inverses, the last first
 pub texts_ahead-back : (es : List Entry) (text : List ℕ) → texts_back (map inverse (reverse es)) text ≡ texts_ahead es text
-texts_ahead-back es text = ap (λ l. texts_after l text) (each es)
-  where
-    each : (es : List Entry) → map taking_back (reverse (map inverse (reverse es))) ≡ map event_of es
-    each [] = refl
-    each (e ∷ es) =
-        ap (λ l. map taking_back (reverse (map inverse l))) (reverse-append (e ∷ []) es)
-        ∙ ap (λ l. map taking_back (reverse l)) (map-append inverse (reverse es) (e ∷ []))
-        ∙ ap (map taking_back) (reverse-append (map inverse (reverse es)) (inverse e ∷ []))
-        ∙ ap (λ f. event_of f ∷ map taking_back (reverse (map inverse (reverse es)))) (inverse-inverse e)
-        ∙ ap (λ l. event_of e ∷ l) (each es)
+texts_ahead-back es text =
+    ap (λ l. texts_after l text) (sym (map-map event_of inverse (reverse (map inverse (reverse es)))) ∙ ap (map event_of) (turned-turned es))
 
 -- what comes with one of the changes is no more than what comes with all
 pub bytes_back-one : (way : Way) (xs : List Change) (m : ℕ) (x : Change) → m < length xs → x ≡ get_or xs m x → 0 < length (old_text (entry_to_undo way x)) → 0 < bytes_back (map (entry_to_undo way) xs)
@@ -162,14 +155,10 @@ bytes_back-append [] ys = omega arith
 bytes_back-append (x ∷ xs) ys = omega (arith, bytes_back-append xs ys)
 
 old_text-inverse : (e : Entry) → length (old_text (inverse e)) ≡ bytes_ahead (e ∷ [])
-old_text-inverse Begin = refl
-old_text-inverse End = refl
 old_text-inverse (Changed k c) = omega arith
+old_text-inverse mark = refl
 
 pub bytes_ahead-back : (es : List Entry) → bytes_back (map inverse (reverse es)) ≡ bytes_ahead es
 bytes_ahead-back [] = refl
 bytes_ahead-back (e ∷ es) =
-    let turned : bytes_back (map inverse (reverse (e ∷ es))) ≡ bytes_back (map inverse (reverse es)) + bytes_back (inverse e ∷ []) =
-    ap (λ l. bytes_back (map inverse l)) (reverse-append (e ∷ []) es) ∙ ap bytes_back (map-append inverse (reverse es) (e ∷ []))
-    ∙ bytes_back-append (map inverse (reverse es)) (inverse e ∷ []) in
-    omega (arith, turned, bytes_ahead-back es, old_text-inverse e)
+    omega (arith, ap bytes_back (turned-cons e es) ∙ bytes_back-append (map inverse (reverse es)) (inverse e ∷ []), bytes_ahead-back es, old_text-inverse e)

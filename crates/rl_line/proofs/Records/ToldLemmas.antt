@@ -1,7 +1,7 @@
 -- Entries of which the last is told its cursors: they change nothing but where a cursor goes.
 use Rattle.std.proofs.Common.{◌≡◌, ℕ, Bool, List, [], ◌∷◌, ◌++◌, Option, Some, None, refl, ap, subst}
 use Rattle.std.specs.Prelude.{option_and_then}
-use Rattle.rl_base.specs.Event.{Event, InsertChar, InsertStr, Delete, Replace, Start, Stop, Cursors, apply}
+use Rattle.rl_base.specs.Event.{Event, Cursors, apply}
 use Rattle.rl_line.specs.declared.change.Freshness.{Freshness}
 use Rattle.rl_line.specs.declared.change.Freshness.TheVariants as is
 use Rattle.rl_line.specs.Record.{Entry, Begin, End, Changed, Record, entries_after, entries_of, entries_told, event_of, inverse, last_told, recorded_after, unwind, with_cursors}
@@ -29,14 +29,9 @@ told-cases P (is.Joined first) before after es h told = told (first, after)
 -- what holds of entries after an event, and stays where a last entry is told its cursors, holds of what is recorded after any event
 pub recorded-cases : (P : List Entry → Type 0) (event : Event) (r : Record) → P (entries_after event r.recorded)
     → ((es : List Entry) (cursors : ℕ × ℕ) → P es → P (last_told cursors es)) → P (recorded_after event r)
-recorded-cases P (InsertChar i c) r h told = h
-recorded-cases P (InsertStr i s) r h told = h
-recorded-cases P (Delete i s side) r h told = h
-recorded-cases P (Replace i s t) r h told = h
-recorded-cases P Start r h told = h
-recorded-cases P Stop r h told = h
 recorded-cases P (Cursors before after) r h told =
     let k = subst P (nothing_added before after r.recorded) h in told-cases P r.fresh before after r.recorded k (λ cursors. told r.recorded cursors k)
+recorded-cases P _ r h told = h
 
 -- ---- what an entry makes of a text, and takes back
 pub same-event : (cursors : ℕ × ℕ) (e : Entry) → event_of (with_cursors cursors e) ≡ event_of e
@@ -78,9 +73,8 @@ same-deep cursors (Changed k c) n es = refl
 pub last_told-deep : (cursors : ℕ × ℕ) (es : List Entry) (n : ℕ) → deep n (last_told cursors es) ≡ deep n es
 last_told-deep cursors [] n = refl
 last_told-deep cursors (e ∷ []) n = same-deep cursors e n []
-last_told-deep cursors (Begin ∷ (d ∷ ds)) n = last_told-deep cursors (d ∷ ds) _
-last_told-deep cursors (End ∷ (d ∷ ds)) n = last_told-deep cursors (d ∷ ds) _
 last_told-deep cursors (Changed k c ∷ (d ∷ ds)) n = last_told-deep cursors (d ∷ ds) n
+last_told-deep cursors (other ∷ (d ∷ ds)) n = last_told-deep cursors (d ∷ ds) _
 
 -- what a last entry is told stands after a Begin before it
 pub last_told-begin : (cursors : ℕ × ℕ) (xs ys : List Entry) → last_told cursors (xs ++ Begin ∷ ys) ≡ xs ++ Begin ∷ last_told cursors ys

@@ -14,13 +14,14 @@ use Rattle.rl_base.specs.Text.{is_boundary}
 use Rattle.rl_base.proofs.Texts.TextLemmas.{is_boundary-means, is_boundary-true}
 use Rattle.rl_line.specs.declared.change.Change.{Change}
 use Rattle.rl_line.specs.Line.{Line, stepped, if_standing}
-use Rattle.rl_line.specs.Record.{Entry, Begin, End, Changed, agree, event_of, inverse, replay_entries, unwind}
+use Rattle.rl_line.specs.Record.{Entry, Changed, agree, event_of, inverse, replay_entries, unwind}
 use Rattle.rl_line.specs.declared.change.Way.{Way}
 use Rattle.rl_line.specs.Units.{has_change}
 use Rattle.rl_line.specs.Undo.{cursor_after, cursor_told, place_after, line_after, line_ahead, line_back, cursor_stands}
 use Rattle.rl_line.specs.declared.change.Measure.{Measure}
 use Rattle.rl_line.specs.Change.{entry_to_undo, text_after, text_back, size_back_over, greatest_back_over}
 use Rattle.rl_line.proofs.Plans.PlanLemmas.{Fits-from, after_step-is, standing, standing-is}
+use Rattle.rl_line.proofs.Records.TurnLemmas.{has_change-turned}
 use Rattle.rl_line.proofs.Records.RecordLemmas.{if_some, through, value_of, IsSome-through, inverse-inverse, then_both, then_some}
 
 -- one entry back
@@ -35,9 +36,8 @@ Swaps-past text after i old new s =
 
 place_after-stands : (e : Entry) (text now : List ℕ) (cursor : ℕ) → IsUtf8 text → IsCharBoundary text cursor → apply (event_of e) text ≡ Some now → IsCharBoundary now (place_after cursor e)
 unfolding apply
-place_after-stands Begin text now cursor u at h = let e : text ≡ now = cc in subst (λ t. IsCharBoundary t cursor) e at
-place_after-stands End text now cursor u at h = let e : text ≡ now = cc in subst (λ t. IsCharBoundary t cursor) e at
 place_after-stands (Changed k c) text now cursor u at h = Swaps-past text now c.place c.old c.new (Swaps-Replace text now c.place c.old c.new u h)
+place_after-stands mark text now cursor u at h = let e : text ≡ now = cc in subst (λ t. IsCharBoundary t cursor) e at
 
 -- what a text that goes on with its cursor is
 text_after-means : (e : Entry) (text now : List ℕ) → text_after true e text ≡ Some now → (apply (event_of e) text ≡ Some now) × (cursor_stands true e now ≡ true)
@@ -76,6 +76,22 @@ pub line_back-append : (xs ys : List Entry) (line : Line) → line_back (xs ++ y
 line_back-append [] ys line = sym (then_some (line_back ys line))
 line_back-append (x ∷ xs) ys line =
     ap (option_and_then (back_one x)) (line_back-append xs ys line) ∙ sym (then_both (line_back (x ∷ xs)) (line_back xs) (back_one x) (λ l. refl) (line_back ys line))
+
+pub then-same : {A B : Type 0} (f g : A → Option B) → ((a : A) → f a ≡ g a) → (o : Option A) → option_and_then f o ≡ option_and_then g o
+then-same f g same None = refl
+then-same f g same (Some a) = same a
+
+pub line_ahead-append : (xs ys : List Entry) (line : Line) → line_ahead (xs ++ ys) line ≡ option_and_then (line_ahead ys) (line_ahead xs line)
+line_ahead-append [] ys line = refl
+line_ahead-append (x ∷ xs) ys line = then_both (line_ahead (xs ++ ys)) (line_ahead xs) (line_ahead ys) (λ l. line_ahead-append xs ys l) (line_after x line)
+
+-- going ahead takes the inverses back, the first first
+pub line_ahead-back : (es : List Entry) (line : Line) → line_back (map inverse (reverse es)) line ≡ line_ahead es line
+line_ahead-back [] line = refl
+line_ahead-back (e ∷ es) line =
+    ap (λ l. line_back (map inverse l) line) (reverse-append (e ∷ []) es) ∙ ap (λ l. line_back l line) (map-append inverse (reverse es) (e ∷ []))
+    ∙ line_back-append (map inverse (reverse es)) (inverse e ∷ []) line ∙ ap (λ f. option_and_then (line_back (map inverse (reverse es))) (line_after f line)) (inverse-inverse e)
+    ∙ then-same (line_back (map inverse (reverse es))) (line_ahead es) (line_ahead-back es) (line_after e line)
 
 -- the entries from n on were taken back, which led from start to now, and those before can be
 pub record IsBack (way : Way) (xs : List Change) (n : ℕ) (start now : Line) : Type 0 where
@@ -219,26 +235,12 @@ unfolding apply
 line_back-marks [] line now none is =
     let same : line ≡ now = cc in
     (ap (λ (l : Line). l.text) (sym same), ap (λ (l : Line). l.cursor) (sym same))
-line_back-marks (Begin ∷ es) line now none is =
-    let p = through (line_after Begin) (line_back es line) now is in left_by_a_mark line p.0 now (line_back-marks es line p.0 none p.1) p.2
-line_back-marks (End ∷ es) line now none is =
-    let p = through (line_after End) (line_back es line) now is in left_by_a_mark line p.0 now (line_back-marks es line p.0 none p.1) p.2
 line_back-marks (Changed k c ∷ es) line now none is = cc
+line_back-marks (mark ∷ es) line now none is =
+    let p = through (line_after mark) (line_back es line) now is in left_by_a_mark line p.0 now (line_back-marks es line p.0 none p.1) p.2
 
 pub line_ahead-marks : (es : List Entry) (line now : Line) → has_change es ≡ false → line_ahead es line ≡ Some now → (now.text ≡ line.text) × (now.cursor ≡ line.cursor)
-unfolding apply
-line_ahead-marks [] line now none is =
-    let same : line ≡ now = cc in
-    (ap (λ (l : Line). l.text) (sym same), ap (λ (l : Line). l.cursor) (sym same))
-line_ahead-marks (Begin ∷ es) line now none is =
-    let p = through (line_ahead es) (line_after Begin line) now is in
-    let mark = left_by_a_mark line line p.0 (refl, refl) p.1 in
-    let rest = line_ahead-marks es p.0 now none p.2 in (rest.0 ∙ mark.0, rest.1 ∙ mark.1)
-line_ahead-marks (End ∷ es) line now none is =
-    let p = through (line_ahead es) (line_after End line) now is in
-    let mark = left_by_a_mark line line p.0 (refl, refl) p.1 in
-    let rest = line_ahead-marks es p.0 now none p.2 in (rest.0 ∙ mark.0, rest.1 ∙ mark.1)
-line_ahead-marks (Changed k c ∷ es) line now none is = cc
+line_ahead-marks es line now none is = line_back-marks (map inverse (reverse es)) line now (has_change-turned es ∙ none) (line_ahead-back es line ∙ is)
 
 past_a_mark : (es : List Entry) (line : Line) → has_change es ≡ false → IsCharBoundary line.text line.cursor → IsSome (line_back es line)
     → IsSome (option_and_then (λ (mid : Line). if_standing (stepped mid mid.text mid.cursor)) (line_back es line))
@@ -253,53 +255,28 @@ past_a_mark es line none at h =
 pub marks-back : (es : List Entry) (line : Line) → has_change es ≡ false → IsCharBoundary line.text line.cursor → IsSome (line_back es line)
 unfolding apply
 marks-back [] line none at = refl
-marks-back (Begin ∷ es) line none at = past_a_mark es line none at (marks-back es line none at)
-marks-back (End ∷ es) line none at = past_a_mark es line none at (marks-back es line none at)
 marks-back (Changed k c ∷ es) line none at = cc
+marks-back (mark ∷ es) line none at = past_a_mark es line none at (marks-back es line none at)
 
 pub marks-ahead : (es : List Entry) (line : Line) → has_change es ≡ false → IsCharBoundary line.text line.cursor → IsSome (line_ahead es line)
-unfolding apply
-marks-ahead [] line none at = refl
-marks-ahead (Begin ∷ es) line none at =
-    let now = stepped line line.text line.cursor in subst (λ o. IsSome (option_and_then (line_ahead es) o)) (sym (standing now at)) (marks-ahead es now none at)
-marks-ahead (End ∷ es) line none at =
-    let now = stepped line line.text line.cursor in subst (λ o. IsSome (option_and_then (line_ahead es) o)) (sym (standing now at)) (marks-ahead es now none at)
-marks-ahead (Changed k c ∷ es) line none at = cc
+marks-ahead es line none at = subst IsSome (line_ahead-back es line) (marks-back (map inverse (reverse es)) line (has_change-turned es ∙ none) at)
 
 marks-unwind : (es : List Entry) (text : List ℕ) → has_change es ≡ false → unwind es text ≡ Some text
 unfolding apply
 marks-unwind [] text none = refl
-marks-unwind (Begin ∷ es) text none = ap (option_and_then (λ t. Some t)) (marks-unwind es text none)
-marks-unwind (End ∷ es) text none = ap (option_and_then (λ t. Some t)) (marks-unwind es text none)
 marks-unwind (Changed k c ∷ es) text none = cc
+marks-unwind (mark ∷ es) text none = ap (option_and_then (λ t. Some t)) (marks-unwind es text none)
 
 marks-take : (len : ℕ) (es : List Entry) → has_change es ≡ false → has_change (take len es) ≡ false
 marks-take zero es none = refl
 marks-take (suc len) [] none = refl
-marks-take (suc len) (Begin ∷ es) none = marks-take len es none
-marks-take (suc len) (End ∷ es) none = marks-take len es none
 marks-take (suc len) (Changed k c ∷ es) none = cc
+marks-take (suc len) (mark ∷ es) none = marks-take len es none
 
 -- and the first entries lead to the text as all do
 pub marks-replay : (len : ℕ) (es : List Entry) (text : List ℕ) → has_change es ≡ false → agree (unwind es text) (unwind (take len es) text) ≡ true
 marks-replay len es text none =
     ap (λ o. agree o (unwind (take len es) text)) (marks-unwind es text none) ∙ ap (agree (Some text)) (marks-unwind (take len es) text (marks-take len es none)) ∙ (bytes_eq-Decides text text).1 refl
-
-pub then-same : {A B : Type 0} (f g : A → Option B) → ((a : A) → f a ≡ g a) → (o : Option A) → option_and_then f o ≡ option_and_then g o
-then-same f g same None = refl
-then-same f g same (Some a) = same a
-
-pub line_ahead-append : (xs ys : List Entry) (line : Line) → line_ahead (xs ++ ys) line ≡ option_and_then (line_ahead ys) (line_ahead xs line)
-line_ahead-append [] ys line = refl
-line_ahead-append (x ∷ xs) ys line = then_both (line_ahead (xs ++ ys)) (line_ahead xs) (line_ahead ys) (λ l. line_ahead-append xs ys l) (line_after x line)
-
--- going ahead takes the inverses back, the first first
-pub line_ahead-back : (es : List Entry) (line : Line) → line_back (map inverse (reverse es)) line ≡ line_ahead es line
-line_ahead-back [] line = refl
-line_ahead-back (e ∷ es) line =
-    ap (λ l. line_back (map inverse l) line) (reverse-append (e ∷ []) es) ∙ ap (λ l. line_back l line) (map-append inverse (reverse es) (e ∷ []))
-    ∙ line_back-append (map inverse (reverse es)) (inverse e ∷ []) line ∙ ap (λ f. option_and_then (line_back (map inverse (reverse es))) (line_after f line)) (inverse-inverse e)
-    ∙ then-same (line_back (map inverse (reverse es))) (line_ahead es) (line_ahead-back es) (line_after e line)
 
 -- no length on the way is past the greatest
 pub size_back_over-within : (k : Measure) (m : ℕ) (es : List Entry) (n : ℕ) → size_back_over k (drop m es) n ≤ greatest_back_over k es n

@@ -1,5 +1,6 @@
 -- Units: they make up the list, each by itself is one unit, and lists with matched marks cut apart.
 use Rattle.std.proofs.Common.{◌≡◌, ℕ, ◌+◌, ◌≤◌, suc, zero-add, add-zero, length-append, reverse, Bool, true, false, cond, List, [], ◌∷◌, ◌++◌, length, take, drop, Option, Some, None, refl, sym, ap, subst, ◌∙◌, arith, append_assoc, append-nil}
+use Rattle.std.proofs.Math.Bool.{or-true}
 use Rattle.std.proofs.lemmas.List.{take-append-drop, reverse-append}
 use Rattle.std.specs.Prelude.{option_and_then, IsSome, ◌||◌, max}
 use Rattle.rl_line.specs.Record.{Entry, Begin, End, Changed}
@@ -149,10 +150,6 @@ or_false : (f b : Bool) → f ≡ false → f || b ≡ true → b ≡ true
 or_false false b e h = h
 or_false true b e h = cc
 
-pub or_true : (f : Bool) → f || true ≡ true
-or_true false = refl
-or_true true = refl
-
 close_good : (us : List UndoUnit) (inner : List Entry) (b f : Bool) (s : List Bool) → AllGood us → Gathers b inner → flags_on us [] ≡ f ∷ s → f || b ≡ true
     → AllGood (close inner us) × (flags_on (close inner us) [] ≡ touched s)
 close_good [] inner b f s good g e h = cc
@@ -161,7 +158,7 @@ close_good (Open ∷ us) inner b f s good g e h =
     let tail : flags_on us [] ≡ s = cc in
     ((Settles-group inner (subst (λ x. Gathers x inner) (or_false f b zero h) g), good.1), ap touched tail)
 close_good (Whole es ∷ us) inner b f s good g e h =
-    through (flags_on us []) refl e (λ f0 k. close_good us (es ++ inner) true f0 s good.1 (Gathers-more b es inner good.0 g) k (or_true f0))
+    through (flags_on us []) refl e (λ f0 k. close_good us (es ++ inner) true f0 s good.1 (Gathers-more b es inner good.0 g) k (or-true f0))
   where
     through : (fs : List Bool) → flags_on us [] ≡ fs → touched fs ≡ f ∷ s
         → ((f0 : Bool) → flags_on us [] ≡ f0 ∷ s → AllGood (close (es ++ inner) us) × (flags_on (close (es ++ inner) us) [] ≡ touched s))
@@ -272,16 +269,14 @@ AllGood-reverse (u ∷ us) g = subst AllGood (sym (reverse-append (u ∷ []) us)
 
 -- a change at the end is the last unit, and one in front is the unit that is redone next
 pub last_of-change : (n : ℕ) (e : Entry) (es : List Entry) → n ≤ 1 → is_change e ≡ true → last_of n (es ++ e ∷ []) ≡ e ∷ []
-last_of-change n Begin es few is = cc
-last_of-change n End es few is = cc
 last_of-change n (Changed k c) es few is =
     let e = Changed k c in
     let single : max n 1 ≡ 1 = omega (arith, few) in
     ap (λ us. together (take (max n 1) us)) (cut_more-append [] es (e ∷ [])) ∙ ap (λ j. together (take j (Whole (e ∷ []) ∷ units es))) single
+last_of-change n other es few is = cc
 
 pub redo_of-change : (e : Entry) (es : List Entry) → is_change e ≡ true → IsMatched (e ∷ es) → redo_of (e ∷ es) ≡ e ∷ []
-redo_of-change Begin es is m = cc
-redo_of-change End es is m = cc
 redo_of-change (Changed k c) es is m =
     let e = Changed k c in
     ap (λ us. redo_from (e ∷ es) (reverse us)) (units-append (e ∷ []) es m) ∙ ap (redo_from (e ∷ es)) (reverse-append (units es) (Whole (e ∷ []) ∷ []))
+redo_of-change other es is m = cc

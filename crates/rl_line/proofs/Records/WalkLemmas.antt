@@ -64,15 +64,13 @@ Walk-line_ahead (e ∷ es) line y u w at =
 -- ---- an event, and the cursors that are told after it
 -- an entry that was told no cursors
 untold : (e : Entry) (x y : List ℕ) → apply (event_of e) x ≡ Some y → cursors_of e ≡ None → LeadsTo e x y
-untold Begin x y makes none = record { makes = makes; before = refl; after = refl }
-untold End x y makes none = record { makes = makes; before = refl; after = refl }
 untold (Changed k c) x y makes none = record { makes = makes; before = rw none refl; after = rw none refl }
+untold mark x y makes none = record { makes = makes; before = refl; after = refl }
 
 -- one that was told them
 told : (e : Entry) (x y : List ℕ) (p : ℕ × ℕ) → apply (event_of e) x ≡ Some y → IsCharBoundary x p.0 → IsCharBoundary y p.1 → LeadsTo (with_cursors p e) x y
-told Begin x y p makes b a = record { makes = makes; before = refl; after = refl }
-told End x y p makes b a = record { makes = makes; before = refl; after = refl }
 told (Changed k c) x y p makes b a = record { makes = makes; before = is_boundary-true x p.0 b; after = is_boundary-true y p.1 a }
+told mark x y p makes b a = record { makes = makes; before = refl; after = refl }
 
 -- an event whose entry is added
 added : (event : Event) (x y : List ℕ) (b a : ℕ) → IsUtf8 x → apply event x ≡ Some y → IsCharBoundary x b → IsCharBoundary y a
@@ -92,9 +90,8 @@ joint-untold event e joint h = let j = joins event e joint h in ap cursors_of (s
 
 -- the cursor before an entry, where it was told
 pub cursor_told-back : (e : Entry) (p : ℕ × ℕ) → cursors_of e ≡ Some p → cursor_told (inverse e) ≡ Some p.0
-cursor_told-back Begin p c = cc
-cursor_told-back End p c = cc
 cursor_told-back (Changed k s) p c = rw c refl
+cursor_told-back mark p c = cc
 
 -- it stands in the text before it
 before-stands : (e : Entry) (x : List ℕ) (p : ℕ × ℕ) → cursors_of e ≡ Some p → cursor_stands true (inverse e) x ≡ true → IsCharBoundary x p.0

@@ -52,13 +52,10 @@ next event es b a = entries_told (freshness_of event es) b a (entries_after even
 pub recorded-next : (b : ℕ) (event : Event) (a : ℕ) (ss : List Step) (r : Record) → IsLone event ss
     → (listener_after_step record_step b (event, a) r).recorded ≡ next event r.recorded b a
 unfolding record_step
-recorded-next b (InsertChar i c) a ss r h = refl
-recorded-next b (InsertStr i s) a ss r h = refl
-recorded-next b (Delete i s side) a ss r h = refl
-recorded-next b (Replace i s t) a ss r h = refl
 recorded-next b Start a ss r h = absurd h
 recorded-next b Stop a ss r h = absurd h
 recorded-next b (Cursors b' a') a ss r h = absurd h
+recorded-next b _ a ss r h = refl
 
 -- what becomes of the entries, where the event joins the last one and where it joins none
 next-joined : (event : Event) (front : List Entry) (l j : Entry) (b a : ℕ) → joined event l ≡ Some j
@@ -99,9 +96,8 @@ told-one es k b a h = ap (λ (ks : List Entry). entries_told (freshness_added ks
 -- ---- entries grow
 -- the length of what an entry puts in and takes out
 abbrev weight : Entry → ℕ
-weight Begin = 0
-weight End = 0
 weight (Changed k c) = length c.old + length c.new
+weight mark = 0
 
 same-weight : (p : ℕ × ℕ) (e : Entry) → weight (with_cursors p e) ≡ weight e
 same-weight p Begin = refl

@@ -6,7 +6,7 @@ use Rattle.std.specs.Prelude.{unwrap_or}
 use Rattle.std.specs.Str.{IsCharBoundary, IsUtf8}
 use Rattle.rl_base.specs.Event.{apply}
 use Rattle.rl_line.specs.Line.{Line}
-use Rattle.rl_line.specs.Record.{Entry, Begin, End, Changed, Record, cursors_of, event_of, inverse}
+use Rattle.rl_line.specs.Record.{Entry, Changed, Record, cursors_of, event_of, inverse}
 use Rattle.rl_line.specs.Undo.{cursor_after, cursor_told, line_after, line_ahead, line_back, place_after, Redone, Undone}
 use Rattle.rl_line.specs.Units.{is_change, last_of, redo_of}
 use Rattle.rl_line.proofs.Plans.PlanLemmas.{Fits-from}
@@ -39,17 +39,15 @@ row-adds row e u at i w adds =
 -- ---- one change back, and ahead again
 -- an entry that was told its cursors is a unit of its own
 told-change : (e : Entry) (p : ℕ × ℕ) → cursors_of e ≡ Some p → is_change e ≡ true
-told-change Begin p c = cc
-told-change End p c = cc
 told-change (Changed k s) p c = refl
+told-change mark p c = cc
 
 last-one : (es : List Entry) (e : Entry) (p : ℕ × ℕ) → cursors_of e ≡ Some p → last_of 1 (es ++ e ∷ []) ≡ e ∷ []
 last-one es e p told = last_of-change 1 e es (omega arith) (told-change e p told)
 
 next-one : (e : Entry) (p : ℕ × ℕ) → cursors_of e ≡ Some p → redo_of (e ∷ []) ≡ e ∷ []
-next-one Begin p c = cc
-next-one End p c = cc
 next-one (Changed k s) p c = refl
+next-one mark p c = cc
 
 -- a line that goes over one entry
 over-one : (e : Entry) (line now : Line) (text : List ℕ) (cursor : ℕ) → apply (event_of e) line.text ≡ Some text → cursor_told e ≡ Some cursor → line_after e line ≡ Some now

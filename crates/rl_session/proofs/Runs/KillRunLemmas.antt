@@ -19,7 +19,7 @@ use Rattle.rl_base.specs.declared.listeners.Direction.{Direction}
 use Rattle.rl_base.specs.declared.listeners.Direction.TheVariants.{Forward, Backward}
 use Rattle.rl_base.specs.declared.listeners.Refusal.{Refusal}
 use Rattle.rl_base.specs.declared.motion.Movement.{Movement}
-use Rattle.rl_base.specs.declared.motion.Movement.TheVariants.{BeginningOfLine, EndOfLine, FirstNonBlank, BackwardWord, ForwardWord, ViCharSearch, BeginningOfBuffer, EndOfBuffer}
+use Rattle.rl_base.specs.declared.motion.Movement.TheVariants.{BackwardChar, ForwardChar, BeginningOfLine, EndOfLine, FirstNonBlank, BackwardWord, ForwardWord, ViCharSearch, BeginningOfBuffer, EndOfBuffer}
 use Rattle.rl_base.proofs.Ring.KillGroupLemmas.{lent-size, ring_step-size, killed_as-size}
 use Rattle.rl_base.proofs.Ring.RingLemmas.{next_index-is}
 use Rattle.rl_base.proofs.Texts.SwapLemmas.{Swaps, Swaps-back, Swaps-Delete, Swaps-after, Swaps-before, apply-InsertStr-Swaps}
@@ -32,7 +32,7 @@ use Rattle.rl_line.proofs.Plans.EditLemmas.{yank_plan-nothing, yank_plan-some}
 use Rattle.rl_line.proofs.Plans.SideLemmas.{LiesOn, BeginningOfLine-side, EndOfLine-side, FirstNonBlank-side, BackwardWord-side, ForwardWord-side, ViCharSearch-side, BeginningOfBuffer-side, EndOfBuffer-side}
 use Rattle.rl_session.specs.Pair.{pair_step, pair_refused}
 use Rattle.rl_session.specs.State.{State, Stands, with_ring}
-use Rattle.rl_session.specs.Commands.{Course, never, when, stays, goes, edits, stops, lends, pops, tells, Came, Effect, by_steps, puts_begin, puts_ends, puts_end, shortens, takes_back, puts_again, Became, effect, Edited, Step, is_vain_yank, lent as lent_state, lent_plan, popped, readied, keeps}
+use Rattle.rl_session.specs.Commands.{Course, never, when, stays, goes, edits, stops, lends, pops, tells, Came, Effect, by_steps, puts_ends, Became, effect, Edited, Step, is_vain_yank, lent as lent_state, lent_plan, popped, readied, keeps}
 use Rattle.rl_session.specs.KillRuns.{IsDirected, AllDirected, IsNoKill, AnyTook, NoneRefused, GivenBack, IsDirectedKill, AllKill}
 use Rattle.rl_session.specs.Run.{Row, Leads, Run, before_last, commands_of, replies_of}
 use Rattle.rl_session.specs.declared.pair.Pair.{Pair}
@@ -148,13 +148,9 @@ Came-size (tells false course) old new d =
 
 Became-size : (effect : Effect) (old new : State) → Became effect old new → new.pair.ring.size ≡ old.pair.ring.size
 Became-size (by_steps course) old new d = Came-size course old new d
-Became-size (puts_begin n) old new d = ap (λ (s : State). s.pair.ring.size) d.1
 Became-size (puts_ends a) old new d = ap (λ (s : State). s.pair.ring.size) d.1
-Became-size (puts_end a) old new d = ap (λ (s : State). s.pair.ring.size) d.1
-Became-size (shortens len) old new d = ap (λ (s : State). s.pair.ring.size) d.1
-Became-size (takes_back n a) old new d = ap (λ (s : State). s.pair.ring.size) d.1
-Became-size (puts_again a) old new d = ap (λ (s : State). s.pair.ring.size) d.1
 Became-size (keeps text) old new d = ap (λ (s : State). s.pair.ring.size) d ∙ killed_as-size old.pair.ring.size old.pair.ring.last text Append old.pair.ring
+Became-size _ old new d = ap (λ (s : State). s.pair.ring.size) d.1
 
 reset-size : (b : Bool) (r : Ring) → (cond b (reset r) r).size ≡ r.size
 reset-size true r = refl
@@ -196,15 +192,9 @@ killed-side line EndOfBuffer h u at = EndOfBuffer-side line
 killed-side line _ h u at = absurd h
 
 not_by_characters : (m : Movement) → IsDirected m → is_by_characters m ≡ false
-not_by_characters BeginningOfLine h = refl
-not_by_characters EndOfLine h = refl
-not_by_characters FirstNonBlank h = refl
-not_by_characters (BackwardWord n word) h = refl
-not_by_characters (ForwardWord n stop word) h = refl
-not_by_characters (ViCharSearch n cs) h = refl
-not_by_characters BeginningOfBuffer h = refl
-not_by_characters EndOfBuffer h = refl
-not_by_characters _ h = absurd h
+not_by_characters (BackwardChar n) h = absurd h
+not_by_characters (ForwardChar n) h = absurd h
+not_by_characters _ h = refl
 
 -- so many bytes went on that side of the cursor
 abbrev Touches : Direction → ℕ → ℕ → ℕ → Type 0
@@ -361,40 +351,23 @@ Going-nothing start old new more roomy t g =
 Roomy-Going : (start : List ℕ) (now : State) (replies : List Reply) → Going start now replies → Roomy now
 Roomy-Going start now replies g = elim g [ inl m ↦ m.roomy | inr r ↦ r.0.roomy ]
 
-Going-Kill : (start : List ℕ) (old new : State) (m : Movement) (reply : Reply) (more : List Reply) → IsDirected m → Step old (Kill m) reply new → NoneRefused (reply ∷ more)
-    → Going start old (reply ∷ more) → Going start new more × NoneRefused more
-Going-Kill start old new m (says.Answer true) more directed s none g =
-    let roomy = Roomy-Going start old (says.Answer true ∷ more) g in
-    (Going-took start old new more (Roomy-Step old (Kill m) _ new roomy.some s) (Kill-outcome old new m true directed roomy.stands s) g, none)
-Going-Kill start old new m (says.Answer false) more directed s none g =
-    let roomy = Roomy-Going start old (says.Answer false ∷ more) g in
-    (Going-nothing start old new more (Roomy-Step old (Kill m) _ new roomy.some s) (Kill-outcome old new m false directed roomy.stands s) g, none)
-Going-Kill start old new m (says.Refused f) more directed s none g = absurd none
-Going-Kill start old new m says.Done more directed s none g = absurd s.does
-Going-Kill start old new m (says.Inserted a) more directed s none g = absurd s.does
-Going-Kill start old new m (says.Text t) more directed s none g = absurd s.does
-Going-Kill start old new m (says.Mark n) more directed s none g = absurd s.does
-Going-Kill start old new m (says.At k columns) more directed s none g = absurd s.does
-
-Going-KillRange : (start : List ℕ) (old new : State) (i j : ℕ) (side : Direction) (reply : Reply) (more : List Reply) → IsDirectedKill old.line (KillRange i j side)
-    → Step old (KillRange i j side) reply new → NoneRefused (reply ∷ more) → Going start old (reply ∷ more) → Going start new more × NoneRefused more
-Going-KillRange start old new i j side (says.Answer true) more directed s none g =
-    let roomy = Roomy-Going start old (says.Answer true ∷ more) g in
-    (Going-took start old new more (Roomy-Step old (KillRange i j side) _ new roomy.some s) (KillRange-outcome old new i j side true directed roomy.stands s) g, none)
-Going-KillRange start old new i j side (says.Answer false) more directed s none g =
-    let roomy = Roomy-Going start old (says.Answer false ∷ more) g in
-    (Going-nothing start old new more (Roomy-Step old (KillRange i j side) _ new roomy.some s) (KillRange-outcome old new i j side false directed roomy.stands s) g, none)
-Going-KillRange start old new i j side (says.Refused f) more directed s none g = absurd none
-Going-KillRange start old new i j side says.Done more directed s none g = absurd s.does
-Going-KillRange start old new i j side (says.Inserted a) more directed s none g = absurd s.does
-Going-KillRange start old new i j side (says.Text t) more directed s none g = absurd s.does
-Going-KillRange start old new i j side (says.Mark n) more directed s none g = absurd s.does
-Going-KillRange start old new i j side (says.At k columns) more directed s none g = absurd s.does
+-- a kill that was answered
+Going-on : (start : List ℕ) (old new : State) (command : Command) (a : Bool) (more : List Reply) → Step old command (says.Answer a) new → (Stands old → Outcome a old new)
+    → Going start old (says.Answer a ∷ more) → Going start new more
+Going-on start old new command true more s outcome g =
+    let roomy = Roomy-Going start old (says.Answer true ∷ more) g in Going-took start old new more (Roomy-Step old command _ new roomy.some s) (outcome roomy.stands) g
+Going-on start old new command false more s outcome g =
+    let roomy = Roomy-Going start old (says.Answer false ∷ more) g in Going-nothing start old new more (Roomy-Step old command _ new roomy.some s) (outcome roomy.stands) g
 
 Going-directed : (start : List ℕ) (old new : State) (command : Command) (reply : Reply) (more : List Reply) → IsDirectedKill old.line command → Step old command reply new
     → NoneRefused (reply ∷ more) → Going start old (reply ∷ more) → Going start new more × NoneRefused more
-Going-directed start old new (Kill m) reply more directed s none g = Going-Kill start old new m reply more directed s none g
-Going-directed start old new (KillRange i j side) reply more directed s none g = Going-KillRange start old new i j side reply more directed s none g
+Going-directed start old new command (says.Refused f) more directed s none g = absurd none
+Going-directed start old new (Kill m) (says.Answer a) more directed s none g =
+    (Going-on start old new (Kill m) a more s (λ stands. Kill-outcome old new m a directed stands s) g, none)
+Going-directed start old new (KillRange i j side) (says.Answer a) more directed s none g =
+    (Going-on start old new (KillRange i j side) a more s (λ stands. KillRange-outcome old new i j side a directed stands s) g, none)
+Going-directed start old new (Kill m) _ more directed s none g = absurd s.does
+Going-directed start old new (KillRange i j side) _ more directed s none g = absurd s.does
 Going-directed start old new _ reply more directed s none g = absurd directed
 
 -- ---- the yank: with its slot the text is as long as at the start, so it is not too long
@@ -487,20 +460,11 @@ GivenBack-Yank old now new (says.Inserted a) more m none s =
     let done = subst (λ o. Done pair_step (lent_plan now.line o 1) now.line s.left.line (lent_state now).pair s.left.pair a) m.newest.slot_is s.does.done in
     GivenBack-yanked old now s.left new m (is_vain_yank (Yank 1) (says.Inserted a)) s.settles (yank_plan-done m.slot now.line s.left.line (lent_state now).pair s.left.pair a room done)
 GivenBack-Yank old now new (says.Refused f) more m none s = absurd none
-GivenBack-Yank old now new says.Done more m none s = absurd s.does
-GivenBack-Yank old now new (says.Answer a) more m none s = absurd s.does
-GivenBack-Yank old now new (says.Text t) more m none s = absurd s.does
-GivenBack-Yank old now new (says.Mark n) more m none s = absurd s.does
-GivenBack-Yank old now new (says.At k columns) more m none s = absurd s.does
+GivenBack-Yank old now new _ more m none s = absurd s.does
 
 no_yank_took : (old new : State) (reply : Reply) → Step old (Yank 1) reply new → AnyTook (reply ∷ []) → ⊥
 no_yank_took old new (says.Answer a) s h = s.does
-no_yank_took old new says.Done s h = h
-no_yank_took old new (says.Inserted a) s h = h
-no_yank_took old new (says.Text t) s h = h
-no_yank_took old new (says.Mark n) s h = h
-no_yank_took old new (says.At k columns) s h = h
-no_yank_took old new (says.Refused f) s h = h
+no_yank_took old new _ s h = h
 
 -- ---- row after row
 step_of : (row : Row) (old : State) (command : Command) → row.before ≡ old → row.command ≡ command → Step old command row.reply row.after
@@ -527,19 +491,13 @@ GivenBack-rows (m ∷ ms) (row ∷ []) old now new s directed l asked none g = l
 GivenBack-rows (m ∷ ms) (row ∷ (next ∷ rows)) old now new s directed l asked none g =
     let command : row.command ≡ Kill m = cc in
     let rest : commands_of (next ∷ rows) ≡ map Kill ms ++ (Yank 1 ∷ []) = cc in
-    let on = Going-Kill old.line.text now row.after m row.reply (replies_of (next ∷ rows)) directed.0 (step_of row now (Kill m) l.0 command) none g in
+    let on = Going-directed old.line.text now row.after (Kill m) row.reply (replies_of (next ∷ rows)) directed.0 (step_of row now (Kill m) l.0 command) none g in
     GivenBack-rows ms (next ∷ rows) old row.after new s directed.1 l.1 rest on.1 on.0
 
 AnyTook-append : (xs ys : List Reply) → AnyTook xs → AnyTook (xs ++ ys)
 AnyTook-append [] ys h = absurd h
 AnyTook-append (says.Answer true ∷ xs) ys h = tt
-AnyTook-append (says.Answer false ∷ xs) ys h = AnyTook-append xs ys h
-AnyTook-append (says.Done ∷ xs) ys h = AnyTook-append xs ys h
-AnyTook-append (says.Inserted a ∷ xs) ys h = AnyTook-append xs ys h
-AnyTook-append (says.Text t ∷ xs) ys h = AnyTook-append xs ys h
-AnyTook-append (says.Mark n ∷ xs) ys h = AnyTook-append xs ys h
-AnyTook-append (says.At k columns ∷ xs) ys h = AnyTook-append xs ys h
-AnyTook-append (says.Refused f ∷ xs) ys h = AnyTook-append xs ys h
+AnyTook-append (_ ∷ xs) ys h = AnyTook-append xs ys h
 
 -- in every session
 pub kills-yank : (first old new : State) (earlier : List Command) (said : List Reply) (movements : List Movement) (replies : List Reply) (last : Reply)

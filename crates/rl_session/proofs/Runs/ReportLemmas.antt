@@ -2,7 +2,7 @@
 use Rattle.std.proofs.Common.{◌≡◌, ℕ, List, [], ◌∷◌, Option, Some, None, refl, sym, ap, ◌∙◌}
 use Rattle.std.specs.Prelude.{map, option_and_then, reverse}
 use Rattle.rl_base.specs.Event.{Event, Replace, apply, replay}
-use Rattle.rl_line.specs.Record.{Entry, Begin, End, Changed, events_ahead, inverse}
+use Rattle.rl_line.specs.Record.{Entry, Changed, events_ahead, inverse}
 use Rattle.rl_line.specs.Plan.{events_of}
 use Rattle.rl_line.specs.Undo.{cursor_after, steps_ahead}
 use Rattle.rl_line.specs.Units.{last_of, redo_of}
@@ -25,11 +25,10 @@ then_same xs ys (Some t) same = same t
 replay-ahead : (cursor : ℕ) (es : List Entry) (text : List ℕ) → replay (events_of (steps_ahead cursor es)) text ≡ replay (events_ahead es) text
 unfolding apply
 replay-ahead cursor [] text = refl
-replay-ahead cursor (Begin ∷ es) text = replay-ahead cursor es text
-replay-ahead cursor (End ∷ es) text = replay-ahead cursor es text
 replay-ahead cursor (Changed kind swap ∷ es) text =
     then_same (events_of (steps_ahead (cursor_after cursor (Changed kind swap)) es)) (events_ahead es) (apply (Replace swap.place swap.old swap.new) text)
     (λ t. replay-ahead (cursor_after cursor (Changed kind swap)) es t)
+replay-ahead cursor (mark ∷ es) text = replay-ahead cursor es text
 
 reported : (effect : Effect) (old new : State) (d : Became effect old new) → replay (events_of (steps_done effect old new d)) old.line.text ≡ Some new.line.text
 reported (by_steps course) old new d =

@@ -1,6 +1,7 @@
 -- A group that was closed is one unit, whatever happened inside, so that one undo takes it off.
-use Rattle.std.proofs.Common.{◌≡◌, ◌<◌, ◌+◌, ℕ, inl, inr, zero, suc, Bool, true, false, List, [], ◌∷◌, ◌++◌, length, drop, Some, refl, sym, ap, subst, ◌∙◌, arith}
-use Rattle.std.specs.Prelude.{min, ◌||◌}
+use Rattle.std.proofs.Common.{◌≡◌, ◌<◌, ◌+◌, ℕ, inl, inr, zero, suc, true, List, [], ◌∷◌, ◌++◌, length, drop, Some, refl, sym, ap, subst, ◌∙◌, arith}
+use Rattle.std.proofs.Math.Bool.{or-false}
+use Rattle.std.specs.Prelude.{min}
 use Rattle.rl_line.specs.Plan.{Step, listener_after, listener_after_step}
 use Rattle.rl_line.specs.Record.{Begin, End, Entry, Record, record_step, replay_entries}
 use Rattle.rl_line.specs.Units.{IsMatched, begun, end_one, end_times, ended, ended_one, has_change, kept_of, last_of, level, opens, with_closed}
@@ -36,15 +37,11 @@ ends_inside (suc k) xs (e ∷ es) h l =
     ∙ ends_inside k xs (end_one (e ∷ es)) lower.matched lower.level_is
 
 -- ends take no change away
-or_none : (b : Bool) → (b || false) ≡ b
-or_none true = refl
-or_none false = refl
-
 has_change-end_one : (es : List Entry) → has_change (end_one es) ≡ has_change es
 has_change-end_one es =
     elim (end_one-cases es) [
-      | inl c ↦ ap has_change c.after_is ∙ sym (or_none (has_change c.front)) ∙ sym (has_change-append c.front (Begin ∷ [])) ∙ ap has_change (sym c.list_is)
-      | inr c ↦ ap has_change c.after_is ∙ has_change-append es (End ∷ []) ∙ or_none (has_change es)
+      | inl c ↦ ap has_change c.after_is ∙ sym (or-false (has_change c.front)) ∙ sym (has_change-append c.front (Begin ∷ [])) ∙ ap has_change (sym c.list_is)
+      | inr c ↦ ap has_change c.after_is ∙ has_change-append es (End ∷ []) ∙ or-false (has_change es)
     ]
 
 has_change-end_times : (n : ℕ) (es : List Entry) → has_change (end_times n es) ≡ has_change es
