@@ -1,6 +1,5 @@
 -- What stands in a text where it can go over an entry.
 use Rattle.std.proofs.Common.{◌≡◌, ℕ, ◌+◌, ◌<◌, ◌≤◌, Bool, true, false, List, [], ◌∷◌, ◌++◌, length, take, get_or, map, reverse, slice_range, Option, Some, None, refl, sym, ap, subst, ◌∙◌, arith}
-use Rattle.std.proofs.lemmas.Grind.{take_at_read}
 use Rattle.std.proofs.lemmas.List.{length-reverse, map-append, reverse-append}
 use Rattle.std.proofs.lemmas.Str.{is_utf8-from_IsUtf8}
 use Rattle.std.specs.Prelude.{◌&&◌, IfOk, IsSome, Result, Ok, Err, cond, is_some, option_and_then}
@@ -16,6 +15,7 @@ use Rattle.rl_line.specs.declared.change.Way.{Way}
 use Rattle.rl_line.specs.declared.change.Way.TheVariants.{Back, Ahead}
 use Rattle.rl_line.specs.Record.{Entry, Begin, End, Changed, entry_of, event_of, inverse, new_text, old_text, unwind}
 use Rattle.rl_line.specs.Undo.{cursor_told, place_after, cursor_stands}
+use Rattle.rl_line.proofs.Records.LastLemmas.{read-last}
 use Rattle.rl_line.proofs.Records.RecordLemmas.{then_both, then_some}
 use Rattle.rl_base.specs.declared.listeners.Refusal.{Refusal}
 use Rattle.std.proofs.lemmas.Option.{same_Some}
@@ -141,8 +141,7 @@ text_back-append asks (x ∷ xs) ys text =
 last_one : (asks : Bool) (way : Way) (xs : List Change) (m : ℕ) (x : Change) (now : List ℕ) → m < length xs → x ≡ get_or xs m x
     → text_back asks (map (entry_to_undo way) (take (m + 1) xs)) now ≡ option_and_then (text_back asks (map (entry_to_undo way) (take m xs))) (text_after asks (inverse (entry_to_undo way x)) now)
 last_one asks way xs m x now lt e =
-    ap (λ ys. text_back asks (map (entry_to_undo way) ys) now) ((take_at_read xs m x lt).1 ∙ ap (λ y. take m xs ++ y ∷ []) (sym e))
-    ∙ ap (λ es. text_back asks es now) (map-append (entry_to_undo way) (take m xs) (x ∷ []))
+    ap (λ es. text_back asks es now) (read-last (entry_to_undo way) xs m x x lt (sym e))
     ∙ text_back-append asks (map (entry_to_undo way) (take m xs)) (entry_to_undo way x ∷ []) now
 
 pub GoesOver-next : (asks : Bool) (way : Way) (xs : List Change) (m : ℕ) (x : Change) (text now next : List ℕ) → m < length xs → x ≡ get_or xs m x → GoesOver asks way xs (m + 1) text now

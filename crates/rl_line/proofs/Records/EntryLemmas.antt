@@ -1,7 +1,6 @@
 -- Entries in the list of the code: counting them, and closing groups.
-use Rattle.std.proofs.Common.{◌≡◌, ℕ, ◌+◌, ◌-◌, ◌<◌, ◌≤◌, arith, suc, List, [], ◌∷◌, ◌++◌, length, take, drop, add-one, drop-cons, get_or, map, reverse, refl, sym, ap, ◌∙◌, ◌⊎◌, inl, inr}
+use Rattle.std.proofs.Common.{◌≡◌, ℕ, ◌+◌, ◌-◌, ◌<◌, ◌≤◌, arith, suc, List, [], ◌∷◌, ◌++◌, length, take, drop, get_or, map, reverse, refl, sym, ap, ◌∙◌, ◌⊎◌, inl, inr}
 use Rattle.std.proofs.Math.Bool.{or-true}
-use Rattle.std.proofs.lemmas.Grind.{take_at_read}
 use Rattle.std.proofs.lemmas.List.{append-nil, map-append, reverse-append, drop_all}
 use Rattle.std.specs.Prelude.{zero, max, slice_get, cond, IsSome, Bool, true, false, not, ◌||◌, Option, Some, None}
 use Rattle.std.specs.Option.{option_to_list}
@@ -11,7 +10,7 @@ use Rattle.rl_line.specs.Units.{last_of, redo_of, adds_end, end_one, end_times, 
 use Rattle.rl_line.specs.Entries.{deep}
 use Rattle.rl_line.proofs.Records.Counts.{ahead_len, back_len}
 use Rattle.rl_line.proofs.Records.CountLemmas.{last-counted, redo-counted}
-use Rattle.rl_line.proofs.Records.LastLemmas.{end_one-cases, end_one-past, ends-past}
+use Rattle.rl_line.proofs.Records.LastLemmas.{end_one-cases, end_one-past, ends-past, read-first, read-last}
 use Rattle.rl_line.proofs.Records.RecordLemmas.{value_of}
 use Rattle.rl_line.proofs.Records.UnitLemmas.{last_of-change, redo_of-change}
 use Rattle.std.proofs.lemmas.Option.{same_Some}
@@ -20,9 +19,7 @@ use Rattle.std.proofs.lemmas.Option.{same_Some}
 back-read : (xs : List Change) (m : ℕ) (z x : Change) → m < length xs → get_or xs m z ≡ x
     → reverse (map entry_of (take (m + 1) xs)) ≡ entry_of x ∷ reverse (map entry_of (take m xs))
 back-read xs m z x lt e =
-    ap (λ ys. reverse (map entry_of ys)) ((take_at_read xs m z lt).1 ∙ ap (λ y. take m xs ++ y ∷ []) e)
-    ∙ ap reverse (map-append entry_of (take m xs) (x ∷ []))
-    ∙ reverse-append (map entry_of (take m xs)) (entry_of x ∷ [])
+    ap reverse (read-last entry_of xs m z x lt e) ∙ reverse-append (map entry_of (take m xs)) (entry_of x ∷ [])
 
 pub back_len-nil : (d k : ℕ) → back_len d k [] ≡ 0
 back_len-nil zero zero = refl
@@ -82,8 +79,7 @@ deep-append d (Changed k c ∷ xs) ys = deep-append d xs ys
 pub deep-next : (xs : List Change) (i n : ℕ) (x : Change) → i < length xs → x ≡ get_or xs i x → n ≡ deep 0 (map entry_of (take i xs))
     → deep 0 (map entry_of (take (i + 1) xs)) ≡ deep n (entry_of x ∷ [])
 deep-next xs i n x lt is e =
-    ap (λ ys. deep 0 (map entry_of ys)) ((take_at_read xs i x lt).1 ∙ ap (λ y. take i xs ++ y ∷ []) (sym is))
-    ∙ ap (deep 0) (map-append entry_of (take i xs) (x ∷ []))
+    ap (deep 0) (read-last entry_of xs i x x lt (sym is))
     ∙ deep-append 0 (map entry_of (take i xs)) (entry_of x ∷ []) ∙ ap (λ d. deep d (entry_of x ∷ [])) (sym e)
 
 -- ---- counting ahead
@@ -107,17 +103,11 @@ pub record Counted (xs : List Change) (at d : ℕ) : Type 0 where
   pub small : d ≤ at
   pub unit : at + ahead_len d (map entry_of (drop at xs)) ≡ ahead_len 0 (map entry_of xs)
 
--- the entries from `at` on are the one there and those after it
-front-read : (xs : List Change) (at : ℕ) (x : Change) → at < length xs → x ≡ get_or xs at x → map entry_of (drop at xs) ≡ entry_of x ∷ map entry_of (drop (at + 1) xs)
-front-read xs at x lt is =
-    ap (map entry_of) (drop-cons xs at x lt) ∙ ap (λ (y : Change). entry_of y ∷ map entry_of (drop (suc at) xs)) (sym is)
-    ∙ ap (λ k. entry_of x ∷ map entry_of (drop k xs)) (sym (add-one at))
-
 next-unit : (xs : List Change) (at d : ℕ) (x : Change) → at < length xs → x ≡ get_or xs at x → Counted xs at d
     → (at + 1) + rest_len (deep d (entry_of x ∷ [])) (map entry_of (drop (at + 1) xs)) ≡ ahead_len 0 (map entry_of xs)
 next-unit xs at d x lt is c =
     let rest = map entry_of (drop (at + 1) xs) in
-    let one : ahead_len d (map entry_of (drop at xs)) ≡ suc (rest_len (deep d (entry_of x ∷ [])) rest) = ap (ahead_len d) (front-read xs at x lt is) ∙ ahead-step d (entry_of x) rest in
+    let one : ahead_len d (map entry_of (drop at xs)) ≡ suc (rest_len (deep d (entry_of x ∷ [])) rest) = ap (ahead_len d) (read-first entry_of xs at x lt is) ∙ ahead-step d (entry_of x) rest in
     omega (arith, one, c.unit)
 
 -- one entry more, where groups are open after it
@@ -202,10 +192,6 @@ pub adds-here : (n : ℕ) (es : List Entry) → 0 < n → ends_in_begin es ≡ f
 adds-here zero es some h = absurd (omega (arith, some))
 adds-here (suc n) es some h = ap (λ b. not b || adds_end n (end_one es)) h
 
-take-last : (xs : List Change) (m : ℕ) (x : Change) → m < length xs → x ≡ get_or xs m x → map entry_of (take (m + 1) xs) ≡ map entry_of (take m xs) ++ entry_of x ∷ []
-take-last xs m x lt e =
-    ap (map entry_of) ((take_at_read xs m x lt).1 ∙ ap (λ y. take m xs ++ y ∷ []) (sym e)) ∙ map-append entry_of (take m xs) (x ∷ [])
-
 -- a Begin before a place leaves one group less to close, and any other entry gets an End
 pub adds-off : (xs : List Change) (m n : ℕ) (x : Change) → m < length xs → x ≡ get_or xs m x → 0 < n → is_begin (entry_of x) ≡ true
     → adds_end n (map entry_of (take (m + 1) xs)) ≡ adds_end (n - 1) (map entry_of (take m xs))
@@ -214,13 +200,13 @@ adds-off xs m (suc n) x lt e some h =
     let k : suc n - 1 ≡ n = omega arith in
     let ys = map entry_of (take m xs) in
     let last = ends-past ys (entry_of x) [] ∙ h in
-    ap (adds_end (suc n)) (take-last xs m x lt e) ∙ ap (λ b. not b || adds_end n (end_one (ys ++ entry_of x ∷ []))) last
+    ap (adds_end (suc n)) (read-last entry_of xs m x x lt (sym e)) ∙ ap (λ b. not b || adds_end n (end_one (ys ++ entry_of x ∷ []))) last
     ∙ ap (adds_end n) (sym (takes_begin-off ys (entry_of x) h)) ∙ ap (λ j. adds_end j ys) (sym k)
 
 pub adds-before : (xs : List Change) (m n : ℕ) (x : Change) → m < length xs → x ≡ get_or xs m x → 0 < n → is_begin (entry_of x) ≡ false
     → adds_end n (map entry_of (take (m + 1) xs)) ≡ true
 adds-before xs m n x lt e some h =
-    adds-here n _ some (ap ends_in_begin (take-last xs m x lt e) ∙ ends-past (map entry_of (take m xs)) (entry_of x) [] ∙ h)
+    adds-here n _ some (ap ends_in_begin (read-last entry_of xs m x x lt (sym e)) ∙ ends-past (map entry_of (take m xs)) (entry_of x) [] ∙ h)
 
 -- ---- one change alone
 -- the last entry of the list

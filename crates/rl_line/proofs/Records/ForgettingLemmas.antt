@@ -1,5 +1,5 @@
 -- Forgetting the oldest units: where entries fit a bound, which units go, and what is left.
-use Rattle.std.proofs.Common.{◌≡◌, ℕ, Some, zero, suc, ◌+◌, ◌-◌, ◌≤◌, ◌<◌, ◌⊎◌, inl, inr, leb, cond, arith, Bool, true, false, List, [], ◌∷◌, ◌++◌, length, length-append, take, drop, take_at, drop_at, drop-cons, get_or, map, append-nil, append_assoc, reverse, refl, sym, ap, subst, ◌∙◌}
+use Rattle.std.proofs.Common.{◌≡◌, ℕ, Some, zero, suc, ◌+◌, ◌-◌, ◌≤◌, ◌<◌, ◌⊎◌, inl, inr, leb, cond, arith, Bool, true, false, List, [], ◌∷◌, ◌++◌, length, length-append, take, drop, take_at, drop-cons, get_or, map, append-nil, append_assoc, reverse, refl, sym, ap, subst, ◌∙◌}
 use Rattle.std.proofs.Math.Bool.{and-false, or-true}
 use Rattle.std.proofs.lemmas.Bool.{le-leb, leb-false, leb-true, lt-leb}
 use Rattle.std.proofs.lemmas.List.{drop-drop, drop-map, drop-take, length-drop, length-map, length-take-le, reverse-append, reverse-reverse, take-map}
@@ -15,7 +15,7 @@ use Rattle.rl_line.specs.Entries.{cut_at}
 use Rattle.std.specs.List.{remove_range}
 use Rattle.rl_line.specs.Forgetting.{FitsFrom, ForgetsFirst, bytes_held, fits, forgotten, gone_within, is_within, kept_within, unbounded, units_kept}
 use Rattle.rl_line.proofs.Records.MatchLemmas.{Redoes-of}
-use Rattle.rl_line.proofs.Records.UnitLemmas.{AllGood, AllGood-left, AllGood-reverse, AllGood-right, IsMatched-together, Settles, good_cuts, opens-reverse, together-append, together-units, units-append, units-good}
+use Rattle.rl_line.proofs.Records.UnitLemmas.{oldest, oldest-first, AllGood, AllGood-left, AllGood-reverse, AllGood-right, IsMatched-together, Settles, good_cuts, opens-reverse, together-append, together-units, units-append, units-good}
 
 -- ---- where entries fit
 -- fewer entries hold no more bytes
@@ -120,11 +120,8 @@ FitsFrom-stopped most bytes first at left size xs x bound lt heavy e s c =
 
 -- ---- which units go
 -- what a list is, from its units, the oldest first
-pieces : (es : List Entry) (rs : List UndoUnit) → reverse (units es) ≡ rs → units es ≡ reverse rs
-pieces es rs e = sym (reverse-reverse (units es)) ∙ ap reverse e
-
 whole-list : (es : List Entry) (rs : List UndoUnit) → reverse (units es) ≡ rs → together (reverse rs) ≡ es
-whole-list es rs e = ap together (sym (pieces es rs e)) ∙ together-units es
+whole-list es rs e = ap together (sym (oldest-first es rs e)) ∙ together-units es
 
 -- how many groups are open, from the units, the oldest first
 level-of : (es : List Entry) (rs : List UndoUnit) → reverse (units es) ≡ rs → level es ≡ opens rs
@@ -149,13 +146,11 @@ oldest-whole es m long none = go (reverse (units es)) refl none
     go [] e n = absurd (omega (arith, long, ap length (whole-list es [] e)))
     go (Open ∷ rs) e n = absurd (omega (arith, n, level-of es (Open ∷ rs) e))
     go (Whole inner ∷ rs) e n =
-        let us : units es ≡ reverse rs ++ (Whole inner ∷ []) = pieces es (Whole inner ∷ rs) e ∙ reverse-append (Whole inner ∷ []) rs in
-        let good = subst AllGood us (units-good es m) in
-        let all : inner ++ together (reverse rs) ≡ es = sym (together-append (reverse rs) (Whole inner ∷ [])) ∙ ap together (sym us) ∙ together-units es in
-        let rest : drop (length inner) es ≡ together (reverse rs) = ap (drop (length inner)) (sym all) ∙ drop_at inner (together (reverse rs)) (length inner) refl in
+        let o = oldest es inner rs e in
+        let good = subst AllGood o.units_are (units-good es m) in
         let is : redo_of es ≡ inner = ap (redo_from es) e in
         let others : rs ≡ reverse (units (drop (length inner) es)) =
-        sym (ap (λ l. reverse (units l)) rest ∙ ap reverse (good_cuts (reverse rs) [] (AllGood-left (reverse rs) (Whole inner ∷ []) good) ∙ append-nil (reverse rs)) ∙ reverse-reverse rs) in
+        sym (ap (λ l. reverse (units l)) o.rest_is ∙ ap reverse (good_cuts (reverse rs) [] (AllGood-left (reverse rs) (Whole inner ∷ []) good) ∙ append-nil (reverse rs)) ∙ reverse-reverse rs) in
         record {
           some = subst (λ l. 0 < length l) (sym is) (whole-some inner (AllGood-right (reverse rs) (Whole inner ∷ []) good).0);
           first = e ∙ ap (λ l. Whole inner ∷ l) others ∙ ap (λ l. Whole l ∷ reverse (units (drop (length l) es))) (sym is);
@@ -180,8 +175,7 @@ open-stays most bytes es m h = go (reverse (units es)) refl h
     go [] e n = whole-list es [] e
     go (Open ∷ rs) e n = whole-list es (Open ∷ rs) e
     go (Whole inner ∷ rs) e n =
-        let us : units es ≡ reverse rs ++ (Whole inner ∷ []) = pieces es (Whole inner ∷ rs) e ∙ reverse-append (Whole inner ∷ []) rs in
-        let good = AllGood-right (reverse rs) (Whole inner ∷ []) (subst AllGood us (units-good es m)) in
+        let good = AllGood-right (reverse rs) (Whole inner ∷ []) (subst AllGood (oldest es inner rs e).units_are (units-good es m)) in
         absurd (omega (arith, n, level-whole inner good.0))
 
 -- a whole unit goes where it and what comes after it do not fit

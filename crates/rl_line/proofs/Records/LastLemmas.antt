@@ -1,5 +1,7 @@
 -- The last entry of a list: what an event, the end of a group and cursors that are told make of it. All before it stays.
-use Rattle.std.proofs.Common.{◌≡◌, ℕ, ◌⊎◌, inl, inr, false, List, [], ◌∷◌, ◌++◌, append-nil, append_assoc, Option, Some, None, refl, sym, ap, subst, ◌∙◌}
+use Rattle.std.proofs.lemmas.Grind.{take_at_read}
+use Rattle.std.proofs.lemmas.List.{map-append}
+use Rattle.std.proofs.Common.{suc, ◌+◌, ◌<◌, length, map, take, drop, get_or, drop-cons, add-one, ◌≡◌, ℕ, ◌⊎◌, inl, inr, false, List, [], ◌∷◌, ◌++◌, append-nil, append_assoc, Option, Some, None, refl, sym, ap, subst, ◌∙◌}
 use Rattle.std.specs.Option.{option_map_or}
 use Rattle.rl_base.specs.Event.{Event}
 use Rattle.rl_line.specs.declared.change.Freshness.{Freshness}
@@ -11,6 +13,14 @@ use Rattle.rl_line.specs.Units.{end_one, ends_in_begin}
 pub by_last : {A : Type 0} (P : List A → Type 0) → P [] → ((front : List A) (x : A) → P (front ++ x ∷ [])) → (xs : List A) → P xs
 by_last P none last [] = none
 by_last P none last (x ∷ xs) = by_last (λ ys. P (x ∷ ys)) (last [] x) (λ front y. last (x ∷ front) y) xs
+
+-- the first elements with the last of them, and those from a place on with the first
+pub read-last : {A B : Type 0} (f : A → B) (xs : List A) (m : ℕ) (z x : A) → m < length xs → get_or xs m z ≡ x → map f (take (m + 1) xs) ≡ map f (take m xs) ++ f x ∷ []
+read-last f xs m z x lt e = ap (map f) ((take_at_read xs m z lt).1 ∙ ap (λ y. take m xs ++ y ∷ []) e) ∙ map-append f (take m xs) (x ∷ [])
+
+pub read-first : {A B : Type 0} (f : A → B) (xs : List A) (m : ℕ) (x : A) → m < length xs → x ≡ get_or xs m x → map f (drop m xs) ≡ f x ∷ map f (drop (m + 1) xs)
+read-first f xs m x lt e =
+    ap (map f) (drop-cons xs m x lt) ∙ ap (λ y. f y ∷ map f (drop (suc m) xs)) (sym e) ∙ ap (λ k. f x ∷ map f (drop k xs)) (sym (add-one m))
 
 -- a function that passes the first of two entries passes all before the last ones
 pub passes : (f : List Entry → List Entry) → ((e d : Entry) (ds : List Entry) → f (e ∷ (d ∷ ds)) ≡ e ∷ f (d ∷ ds)) → (xs : List Entry) (y : Entry) (ys : List Entry)

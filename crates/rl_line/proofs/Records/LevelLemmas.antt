@@ -1,8 +1,6 @@
 -- The level: how many groups are open after each call, counted over the entries that it moves or drops alone.
-use Rattle.std.proofs.Common.{◌≡◌, ℕ, ◌+◌, ◌-◌, ◌<◌, ◌≤◌, suc, arith, Bool, true, false, List, [], ◌∷◌, ◌++◌, length, take, drop, take_all, get_or, map, Some, refl, sym, ap, subst, ◌∙◌, leb, inl, inr, length-take}
-use Rattle.std.proofs.lemmas.Bool.{leb-true, leb-false}
-use Rattle.std.proofs.lemmas.Grind.{take_at_read}
-use Rattle.std.proofs.lemmas.List.{length-map, map-append, take-append-drop, take-map}
+use Rattle.std.proofs.Common.{◌≡◌, ℕ, ◌+◌, ◌-◌, ◌<◌, ◌≤◌, suc, arith, Bool, true, false, List, [], ◌∷◌, ◌++◌, length, take, drop, get_or, map, Some, sym, ap, subst, ◌∙◌, inl, inr, length-take}
+use Rattle.std.proofs.lemmas.List.{length-map, map-append, take-append-drop}
 use Rattle.std.specs.Prelude.{max}
 use Rattle.rl_base.specs.Event.{Event}
 use Rattle.rl_line.specs.declared.change.Change.{Change}
@@ -11,7 +9,8 @@ use Rattle.rl_line.specs.Units.{AtLevel, IsMatched, begun, is_change, kept_of, l
 use Rattle.rl_line.specs.Entries.{deep}
 use Rattle.rl_line.proofs.Records.CountLemmas.{level-counted}
 use Rattle.rl_line.proofs.Records.EntryLemmas.{deep-append}
-use Rattle.rl_line.proofs.Records.LastLemmas.{after-cases}
+use Rattle.rl_line.proofs.Records.LastLemmas.{after-cases, read-last}
+use Rattle.rl_line.proofs.Records.MoveLemmas.{first-view}
 use Rattle.rl_line.proofs.Records.MatchLemmas.{AllGood-take, BothMatched-begun, BothMatched-closed, BothMatched-redone, BothMatched-step, BothMatched-truncated, BothMatched-undone, Lower-end_times, Redoes-of, length-touched, level-is, marks-last}
 use Rattle.rl_line.proofs.Records.RecordLemmas.{joins, none_or_one, value_of}
 use Rattle.rl_line.proofs.Records.UnitLemmas.{IsMatched-front, IsMatched-together, cut_more-append, kept-last, opens-append, units-append, units-good}
@@ -105,10 +104,6 @@ AtLevel-redone n opened r e a = record {
 pub AtLevel-truncated : (len m n : ℕ) (r : Record) → m ≡ level (take len r.recorded) → AtLevel n r → AtLevel m (truncated len r)
 AtLevel-truncated len m n r e a = record { matched = BothMatched-truncated len r a.matched; level = e }
 
--- the entries with the one at `at`
-read-front : (xs : List Change) (at : ℕ) (z x : Change) → at < length xs → get_or xs at z ≡ x → map entry_of (take (at + 1) xs) ≡ map entry_of (take at xs) ++ entry_of x ∷ []
-read-front xs at z x lt e = ap (map entry_of) ((take_at_read xs at z lt).1 ∙ ap (λ y. take at xs ++ y ∷ []) e) ∙ map-append entry_of (take at xs) (x ∷ [])
-
 pub front-matched : (xs : List Change) (at : ℕ) → IsMatched (map entry_of xs) → IsMatched (map entry_of (take at xs))
 front-matched xs at h =
     IsMatched-front (map entry_of (take at xs)) (map entry_of (drop at xs))
@@ -125,7 +120,7 @@ front-last : (xs : List Change) (len at : ℕ) (z x : Change) → len < at → a
     → map entry_of (take at xs) ≡ map entry_of (take (at - 1) xs) ++ entry_of x ∷ []
 front-last xs len at z x lt within e =
     let k : at ≡ (at - 1) + 1 = omega arith in
-    ap (λ m. map entry_of (take m xs)) k ∙ read-front xs (at - 1) z x (omega arith) e
+    ap (λ m. map entry_of (take m xs)) k ∙ read-last entry_of xs (at - 1) z x (omega arith) e
 
 pub opened-before : (xs : List Change) (len at n : ℕ) (z x : Change) → len < at → get_or xs (at - 1) z ≡ x → entry_of x ≡ Begin → LevelAt xs len at n
     → n ≡ suc (level (map entry_of (take (at - 1) xs)))
@@ -168,10 +163,4 @@ LevelAt-small xs len at n m l =
     omega (arith, l.level, level-within (map entry_of (take at xs)) (front-matched xs at m), length-map (take at xs) entry_of, length-take at xs)
 
 pub LevelAt-done : (xs : List Change) (len at n : ℕ) → at ≤ len → LevelAt xs len at n → n ≡ level (take len (map entry_of xs))
-LevelAt-done xs len at n le l = l.level ∙ ap level (sym (take-map entry_of at xs) ∙ from (leb len (length xs)) refl)
-  where
-    from : (b : Bool) → leb len (length xs) ≡ b → take at (map entry_of xs) ≡ take len (map entry_of xs)
-    from true h = let same : at ≡ len = omega (arith, leb-true len (length xs) h, l.within, l.cut) in ap (λ k. take k (map entry_of xs)) same
-    from false h =
-        let past = leb-false len (length xs) h in
-        take_all at (map entry_of xs) (omega (arith, past, l.cut, length-map xs entry_of)) ∙ sym (take_all len (map entry_of xs) (omega (arith, past, length-map xs entry_of)))
+LevelAt-done xs len at n le l = l.level ∙ ap level (first-view len at xs (omega (arith, l.within, l.cut, le)))

@@ -1,18 +1,16 @@
 -- The record after a begin, an end, a redo and a truncation leads back to the same text.
-use Rattle.std.proofs.Common.{◌≡◌, ℕ, zero, suc, Bool, true, List, [], ◌∷◌, ◌++◌, length, take, drop, reverse, Option, Some, None, refl, sym, ap, ◌∙◌, append-nil, arith, drop_at}
-use Rattle.std.proofs.lemmas.List.{reverse-append, reverse-reverse, drop_all}
+use Rattle.std.proofs.Common.{◌≡◌, ℕ, zero, suc, Bool, true, List, [], ◌∷◌, take, Option, Some, None, refl, sym, ap, ◌∙◌}
 use Rattle.std.specs.Cmp.Lexicographic.{same_text}
 use Rattle.std.specs.Prelude.{option_and_then}
 use Rattle.std.specs.Str.{IsUtf8}
 use Rattle.rl_base.specs.Event.{apply}
 use Rattle.rl_line.specs.Line.{Line}
-use Rattle.rl_line.specs.Record.{Entry, Begin, End, Changed, Record, event_of, inverse, agree, replays_to, unwind}
+use Rattle.rl_line.specs.Record.{Entry, Begin, Record, event_of, inverse, agree, replays_to, unwind}
 use Rattle.rl_line.specs.Undo.{Redone}
-use Rattle.rl_line.specs.Units.{UndoUnit, Open, Whole, units, together, begun, end_one, end_times, redo_from, redo_of, truncated, with_closed}
+use Rattle.rl_line.specs.Units.{begun, end_one, end_times, redo_of, truncated, with_closed}
 use Rattle.rl_line.proofs.Records.OriginLemmas.{Kept}
 use Rattle.rl_line.proofs.Records.RecordLemmas.{replay-IsUtf8, unwind-append, unwind-replay}
 use Rattle.rl_line.proofs.Records.UndoLemmas.{line_ahead-replay}
-use Rattle.rl_line.proofs.Records.UnitLemmas.{together-append, together-units}
 
 -- a mark changes nothing
 pub unwind-begun : (r : Record) (text : List ℕ) → unwind (begun r).recorded text ≡ unwind r.recorded text
@@ -23,8 +21,7 @@ unwind-end_one : (es : List Entry) (text : List ℕ) → unwind (end_one es) tex
 unfolding apply
 unwind-end_one [] text = refl
 unwind-end_one (Begin ∷ []) text = refl
-unwind-end_one (End ∷ []) text = refl
-unwind-end_one (Changed k c ∷ []) text = refl
+unwind-end_one (e ∷ []) text = refl
 unwind-end_one (e ∷ (d ∷ ds)) text = ap (option_and_then (apply (event_of (inverse e)))) (unwind-end_one (d ∷ ds) text)
 
 unwind-end_times : (n : ℕ) (es : List Entry) (text : List ℕ) → unwind (end_times n es) text ≡ unwind es text
@@ -38,17 +35,6 @@ agree-same (Some a) None h = cc
 
 pub unwind-truncated : (len : ℕ) (r : Record) (text : List ℕ) → replays_to len r text ≡ true → unwind (truncated len r).recorded text ≡ unwind r.recorded text
 unwind-truncated len r text h = sym (agree-same (unwind r.recorded text) (unwind (take len r.recorded) text) h)
-
--- what a redo puts back stands in front of what it leaves
-pub redo-parts : (es : List Entry) → redo_of es ++ drop (length (redo_of es)) es ≡ es
-redo-parts es = parts (reverse (units es)) (ap together (reverse-reverse (units es)) ∙ together-units es)
-  where
-    parts : (us : List UndoUnit) → together (reverse us) ≡ es → redo_from es us ++ drop (length (redo_from es us)) es ≡ es
-    parts [] h = refl
-    parts (Open ∷ us) h = ap (λ l. es ++ l) (drop_all (length es) es (omega arith)) ∙ append-nil es
-    parts (Whole inner ∷ us) h =
-        let split : inner ++ together (reverse us) ≡ es = sym (ap together (reverse-append (Whole inner ∷ []) us) ∙ together-append (reverse us) (Whole inner ∷ [])) ∙ h in
-        ap (λ l. inner ++ drop (length inner) l) (sym split) ∙ ap (λ l. inner ++ l) (drop_at inner (together (reverse us)) (length inner) refl) ∙ split
 
 -- the entries that were made again are taken back first
 pub unwind-redone : (r now : Record) (old new : Line) (x : Bool) → IsUtf8 old.text → Redone r now old new x → unwind now.recorded new.text ≡ unwind r.recorded old.text

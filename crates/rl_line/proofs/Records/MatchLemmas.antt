@@ -1,14 +1,14 @@
 -- Every operation keeps the marks matched, and a change in each closed group.
-use Rattle.std.proofs.Common.{◌≡◌, ℕ, ◌+◌, ◌-◌, ◌≤◌, suc, arith, Bool, true, false, List, [], ◌∷◌, ◌++◌, length, take, drop, reverse, Some, refl, sym, ap, subst, ◌∙◌, inl, inr, append-nil, drop_at}
-use Rattle.std.proofs.lemmas.List.{take-append-drop, reverse-append, reverse-reverse}
+use Rattle.std.proofs.Common.{◌≡◌, ℕ, ◌+◌, ◌-◌, ◌≤◌, suc, arith, Bool, true, false, List, [], ◌∷◌, ◌++◌, length, take, drop, reverse, Some, refl, sym, ap, subst, ◌∙◌, inl, inr, append-nil}
+use Rattle.std.proofs.lemmas.List.{drop_all, take-append-drop}
 use Rattle.std.specs.Prelude.{option_and_then, IsSome, zero, max}
 use Rattle.rl_base.proofs.Texts.SwapLemmas.{some_is}
 use Rattle.rl_base.specs.Event.{Event, Start, Stop, Cursors}
 use Rattle.rl_line.specs.Record.{Entry, Begin, End, Changed, Record, entries_of, entries_after, pending_after, record_step}
-use Rattle.rl_line.specs.Units.{UndoUnit, Open, Whole, units, together, opens, level, last_of, kept_of, redo_from, redo_of, end_one, ends_in_begin, is_begin, end_times, begun, undone, redone, truncated, with_closed, touched, mark, marks, IsMatched, BothMatched}
+use Rattle.rl_line.specs.Units.{UndoUnit, Open, Whole, units, opens, level, last_of, kept_of, redo_from, redo_of, end_one, ends_in_begin, is_begin, end_times, begun, undone, redone, truncated, with_closed, touched, mark, marks, IsMatched, BothMatched}
 use Rattle.rl_line.proofs.Records.LastLemmas.{after-cases, by_last, end_one-cases, ends-past}
 use Rattle.rl_line.proofs.Records.RecordLemmas.{IsSome-through, joins, none_or_one, through, value_of}
-use Rattle.rl_line.proofs.Records.UnitLemmas.{AllGood, flags_on, marks-append, IsMatched-front, IsMatched-append, IsMatched-together, AllGood-left, AllGood-right, units-good, together-units, together-append, kept-last, cut_good}
+use Rattle.rl_line.proofs.Records.UnitLemmas.{oldest, AllGood, flags_on, marks-append, IsMatched-front, IsMatched-append, IsMatched-together, AllGood-left, AllGood-right, units-good, kept-last, cut_good}
 use Rattle.rl_line.proofs.Records.ToldLemmas.{recorded-cases, last_told-marks}
 
 entries_of-marks : (event : Event) (fs : List Bool) → IsSome (marks (entries_of event) fs)
@@ -139,32 +139,22 @@ redo-front es = go (reverse (units es)) refl
   where
     go : (rs : List UndoUnit) → reverse (units es) ≡ rs → redo_from es rs ++ drop (length (redo_from es rs)) es ≡ es
     go [] e = refl
-    go (Open ∷ rs) e = ap (λ x. es ++ x) (ap (drop (length es)) (sym (append-nil es)) ∙ drop_at es [] (length es) refl) ∙ append-nil es
-    go (Whole inner ∷ rs) e =
-        let us : units es ≡ reverse rs ++ (Whole inner ∷ []) = sym (reverse-reverse (units es)) ∙ ap reverse e ∙ reverse-append (Whole inner ∷ []) rs in
-        let all : inner ++ together (reverse rs) ≡ es = sym (together-append (reverse rs) (Whole inner ∷ [])) ∙ ap together (sym us) ∙ together-units es in
-        ap (λ x. inner ++ x) (ap (drop (length inner)) (sym all) ∙ drop_at inner (together (reverse rs)) (length inner) refl) ∙ all
+    go (Open ∷ rs) e = ap (λ x. es ++ x) (drop_all (length es) es (omega arith)) ∙ append-nil es
+    go (Whole inner ∷ rs) e = let o = oldest es inner rs e in ap (λ x. inner ++ x) o.rest_is ∙ o.list_is
 
 pub Redoes-of : (es : List Entry) → IsMatched es → Redoes es (redo_of es) (drop (length (redo_of es)) es)
-Redoes-of es h = go (reverse (units es)) refl
+Redoes-of es h = go (reverse (units es)) refl (redo-front es)
   where
-    pieces : (rs : List UndoUnit) → reverse (units es) ≡ rs → units es ≡ reverse rs
-    pieces rs e = sym (reverse-reverse (units es)) ∙ ap reverse e
-
-    go : (rs : List UndoUnit) → reverse (units es) ≡ rs → Redoes es (redo_from es rs) (drop (length (redo_from es rs)) es)
-    go [] e = record { list_is = refl; unit_matched = refl; rest_matched = h }
-    go (Open ∷ rs) e =
-        let none : drop (length es) es ≡ [] = ap (drop (length es)) (sym (append-nil es)) ∙ drop_at es [] (length es) refl in
-        record { list_is = ap (λ x. es ++ x) none ∙ append-nil es; unit_matched = h; rest_matched = subst IsMatched (sym none) refl }
-    go (Whole inner ∷ rs) e =
-        let us : units es ≡ reverse rs ++ (Whole inner ∷ []) = pieces (Whole inner ∷ rs) e ∙ reverse-append (Whole inner ∷ []) rs in
-        let good = subst AllGood us (units-good es h) in
-        let all : inner ++ together (reverse rs) ≡ es = sym (together-append (reverse rs) (Whole inner ∷ [])) ∙ ap together (sym us) ∙ together-units es in
-        let rest : drop (length inner) es ≡ together (reverse rs) = ap (drop (length inner)) (sym all) ∙ drop_at inner (together (reverse rs)) (length inner) refl in
+    go : (rs : List UndoUnit) → reverse (units es) ≡ rs → redo_from es rs ++ drop (length (redo_from es rs)) es ≡ es → Redoes es (redo_from es rs) (drop (length (redo_from es rs)) es)
+    go [] e list = record { list_is = list; unit_matched = refl; rest_matched = h }
+    go (Open ∷ rs) e list = record { list_is = list; unit_matched = h; rest_matched = subst IsMatched (sym (drop_all (length es) es (omega arith))) refl }
+    go (Whole inner ∷ rs) e list =
+        let o = oldest es inner rs e in
+        let good = subst AllGood o.units_are (units-good es h) in
         record {
-          list_is = ap (λ x. inner ++ x) rest ∙ all;
+          list_is = list;
           unit_matched = IsMatched-together (Whole inner ∷ []) (AllGood-right (reverse rs) (Whole inner ∷ []) good);
-          rest_matched = subst IsMatched (sym rest) (IsMatched-together (reverse rs) (AllGood-left (reverse rs) (Whole inner ∷ []) good));
+          rest_matched = subst IsMatched (sym o.rest_is) (IsMatched-together (reverse rs) (AllGood-left (reverse rs) (Whole inner ∷ []) good));
         }
 
 pub BothMatched-redone : (r : Record) → BothMatched r → BothMatched (redone r)

@@ -1,8 +1,7 @@
 -- The record that the code's list of entries stands for, and what an event, an undo and a redo make of it.
-use Rattle.std.proofs.Common.{◌≡◌, ℕ, zero, suc, ◌+◌, ◌-◌, ◌≤◌, min, leb, arith, take_all, List, [], ◌∷◌, ◌++◌, append_assoc, length, length-append, take, drop, take_at, drop_at, map, reverse, Bool, true, false, refl, sym, ap, subst, ◌∙◌}
-use Rattle.std.proofs.lemmas.Bool.{leb-true, leb-false}
+use Rattle.std.proofs.Common.{◌≡◌, ℕ, zero, suc, ◌+◌, ◌-◌, ◌≤◌, min, arith, take_all, List, [], ◌∷◌, ◌++◌, append_assoc, length, length-append, take, drop, take_at, drop_at, map, reverse, false, refl, sym, ap, subst, ◌∙◌}
 use Rattle.std.proofs.lemmas.List.Elements.{All-drop, All-map, All-take}
-use Rattle.std.proofs.lemmas.List.{drop-map, drop_all, length-map, length-take-le, take-map, take-append-drop, take_rest}
+use Rattle.std.proofs.lemmas.List.{drop-map, drop_all, length-map, length-take-le, take-map, take-append-drop, take_min, take_rest}
 use Rattle.std.specs.Prelude.{All, IsSome, get_or}
 use Rattle.std.specs.Str.{IsCharBoundary}
 use Rattle.rl_base.specs.Event.{Event, InsertChar, InsertStr, Delete, Replace, Cursors}
@@ -194,10 +193,5 @@ marks-lead Ahead xs line none at = subst IsSome (sym (ahead-line xs (map entry_o
 
 -- the first entries of a list, where there are so many
 pub first-view : (len n : ℕ) (xs : List Change) → n ≡ min len (length xs) → map entry_of (take n xs) ≡ take len (map entry_of xs)
-first-view len n xs e = sym (take-map entry_of n xs) ∙ from (leb len (length xs)) refl
-  where
-    from : (b : Bool) → leb len (length xs) ≡ b → take n (map entry_of xs) ≡ take len (map entry_of xs)
-    from true h = let same : n ≡ len = omega (arith, leb-true len (length xs) h) in ap (λ k. take k (map entry_of xs)) same
-    from false h =
-        let l = leb-false len (length xs) h in
-        take_all n (map entry_of xs) (omega (arith, l, length-map xs entry_of)) ∙ sym (take_all len (map entry_of xs) (omega (arith, l, length-map xs entry_of)))
+first-view len n xs e =
+    sym (take-map entry_of n xs) ∙ ap (λ k. take k (map entry_of xs)) (e ∙ ap (min len) (sym (length-map xs entry_of))) ∙ take_min len (map entry_of xs)

@@ -1,6 +1,5 @@
 -- A line that goes over changes of its record, back or ahead.
-use Rattle.std.proofs.Common.{le_refl, ◌≡◌, ℕ, ◌+◌, ◌<◌, ◌≤◌, zero, suc, List, [], ◌∷◌, ◌++◌, length, take, drop, get_or, map, reverse, Option, Some, None, false, refl, sym, ap, subst, ◌∙◌, arith, add-one, append_assoc, true, drop-cons, length-append}
-use Rattle.std.proofs.lemmas.Grind.{take_at_read}
+use Rattle.std.proofs.Common.{le_refl, ◌≡◌, ℕ, ◌+◌, ◌<◌, ◌≤◌, zero, suc, List, [], ◌∷◌, ◌++◌, length, take, drop, get_or, map, reverse, Option, Some, None, false, refl, sym, ap, subst, ◌∙◌, arith, append_assoc, true, length-append}
 use Rattle.std.proofs.lemmas.Slice.Eq.{bytes_eq-Decides}
 use Rattle.std.proofs.lemmas.List.{drop_all, take_all, map-append, reverse-append}
 use Rattle.std.proofs.lemmas.Str.{IsCharBoundary-at_seam}
@@ -21,6 +20,7 @@ use Rattle.rl_line.specs.Undo.{cursor_after, cursor_told, place_after, line_afte
 use Rattle.rl_line.specs.declared.change.Measure.{Measure}
 use Rattle.rl_line.specs.Change.{entry_to_undo, text_after, text_back, size_back_over, greatest_back_over}
 use Rattle.rl_line.proofs.Plans.PlanLemmas.{Fits-from, after_step-is, standing, standing-is}
+use Rattle.rl_line.proofs.Records.LastLemmas.{read-first, read-last}
 use Rattle.rl_line.proofs.Records.TurnLemmas.{has_change-turned}
 use Rattle.rl_line.proofs.Records.RecordLemmas.{if_some, through, value_of, IsSome-through, inverse-inverse, then_both, then_some}
 
@@ -102,16 +102,13 @@ pub record IsBack (way : Way) (xs : List Change) (n : ℕ) (start now : Line) : 
 rest_split : (way : Way) (xs : List Change) (m : ℕ) (x : Change) (now : Line) → m < length xs → x ≡ get_or xs m x
     → line_back (map (entry_to_undo way) (take (m + 1) xs)) now ≡ option_and_then (line_back (map (entry_to_undo way) (take m xs))) (back_one (entry_to_undo way x) now)
 rest_split way xs m x now lt e =
-    ap (λ ys. line_back (map (entry_to_undo way) ys) now) ((take_at_read xs m x lt).1 ∙ ap (λ y. take m xs ++ y ∷ []) (sym e))
-    ∙ ap (λ es. line_back es now) (map-append (entry_to_undo way) (take m xs) (x ∷ []))
+    ap (λ es. line_back es now) (read-last (entry_to_undo way) xs m x x lt (sym e))
     ∙ line_back-append (map (entry_to_undo way) (take m xs)) (entry_to_undo way x ∷ []) now
 
 -- the entries from m on are that at m and those after it
 pub entries_from : (way : Way) (xs : List Change) (m : ℕ) (x : Change) → m < length xs → x ≡ get_or xs m x
     → map (entry_to_undo way) (drop m xs) ≡ entry_to_undo way x ∷ map (entry_to_undo way) (drop (m + 1) xs)
-entries_from way xs m x lt e =
-    ap (map (entry_to_undo way)) (drop-cons xs m x lt) ∙ ap (λ y. entry_to_undo way y ∷ map (entry_to_undo way) (drop (suc m) xs)) (sym e)
-    ∙ ap (λ k. entry_to_undo way x ∷ map (entry_to_undo way) (drop k xs)) (sym (add-one m))
+entries_from way = read-first (entry_to_undo way)
 
 -- before the first of them
 pub IsBack-none : (way : Way) (xs : List Change) (start : Line) → IsSome (line_back (map (entry_to_undo way) xs) start) → IsBack way xs (length xs) start start

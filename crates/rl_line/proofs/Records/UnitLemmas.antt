@@ -1,7 +1,7 @@
 -- Units: they make up the list, each by itself is one unit, and lists with matched marks cut apart.
-use Rattle.std.proofs.Common.{◌≡◌, ℕ, ◌+◌, ◌≤◌, suc, zero-add, add-zero, length-append, reverse, Bool, true, false, cond, List, [], ◌∷◌, ◌++◌, length, take, drop, Option, Some, None, refl, sym, ap, subst, ◌∙◌, arith, append_assoc, append-nil}
+use Rattle.std.proofs.Common.{drop_at, ◌≡◌, ℕ, ◌+◌, ◌≤◌, suc, zero-add, add-zero, length-append, reverse, Bool, true, false, cond, List, [], ◌∷◌, ◌++◌, length, take, drop, Option, Some, None, refl, sym, ap, subst, ◌∙◌, arith, append_assoc, append-nil}
 use Rattle.std.proofs.Math.Bool.{or-true}
-use Rattle.std.proofs.lemmas.List.{take-append-drop, reverse-append}
+use Rattle.std.proofs.lemmas.List.{take-append-drop, reverse-append, reverse-reverse}
 use Rattle.std.specs.Prelude.{option_and_then, IsSome, ◌||◌, max}
 use Rattle.rl_line.specs.Record.{Entry, Begin, End, Changed}
 use Rattle.rl_line.specs.Units.{UndoUnit, Open, Whole, entries, close, add_entry, cut_more, units, together, opens, last_of, kept_of, redo_from, redo_of, is_change, touched, mark, marks, IsMatched}
@@ -280,3 +280,19 @@ redo_of-change (Changed k c) es is m =
     let e = Changed k c in
     ap (λ us. redo_from (e ∷ es) (reverse us)) (units-append (e ∷ []) es m) ∙ ap (redo_from (e ∷ es)) (reverse-append (units es) (Whole (e ∷ []) ∷ []))
 redo_of-change other es is m = cc
+
+-- ---- the oldest unit of a list
+pub oldest-first : (es : List Entry) (rs : List UndoUnit) → reverse (units es) ≡ rs → units es ≡ reverse rs
+oldest-first es rs e = sym (reverse-reverse (units es)) ∙ ap reverse e
+
+-- where it is whole, it stands in front of the others
+pub record OldestFirst (es inner : List Entry) (rs : List UndoUnit) : Type 0 where
+  pub units_are : units es ≡ reverse rs ++ (Whole inner ∷ [])
+  pub list_is : inner ++ together (reverse rs) ≡ es
+  pub rest_is : drop (length inner) es ≡ together (reverse rs)
+
+pub oldest : (es inner : List Entry) (rs : List UndoUnit) → reverse (units es) ≡ Whole inner ∷ rs → OldestFirst es inner rs
+oldest es inner rs e =
+    let us : units es ≡ reverse rs ++ (Whole inner ∷ []) = oldest-first es (Whole inner ∷ rs) e ∙ reverse-append (Whole inner ∷ []) rs in
+    let all : inner ++ together (reverse rs) ≡ es = sym (together-append (reverse rs) (Whole inner ∷ [])) ∙ ap together (sym us) ∙ together-units es in
+    record { units_are = us; list_is = all; rest_is = ap (drop (length inner)) (sym all) ∙ drop_at inner (together (reverse rs)) (length inner) refl }

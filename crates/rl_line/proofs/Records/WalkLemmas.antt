@@ -18,7 +18,8 @@ use Rattle.rl_line.specs.Units.{begun, end_one, end_times, kept_of, last_of, red
 use Rattle.rl_line.specs.Walk.{LeadsTo, Walk, Walks}
 use Rattle.rl_line.proofs.Records.JoinLemmas.{step-cases}
 use Rattle.rl_line.proofs.Records.LastLemmas.{after-cases, told-added, told-past}
-use Rattle.rl_line.proofs.Records.MarkLemmas.{redo-parts, unwind-truncated}
+use Rattle.rl_line.proofs.Records.MarkLemmas.{unwind-truncated}
+use Rattle.rl_line.proofs.Records.MatchLemmas.{redo-front}
 use Rattle.rl_line.proofs.Plans.PlanLemmas.{first_step}
 use Rattle.rl_line.proofs.Records.RecordLemmas.{entries_of-undo, inverse-undoes, joins, none_or_one, redone-joined, replay-unwind, undoes-inverse, unwind-replay}
 use Rattle.rl_line.proofs.Records.UndoLemmas.{line_after-is, line_ahead-replay, line_back-IsSome, line_back-text_back}
@@ -189,7 +190,7 @@ pub Walks-Redone : (r now : Record) (old new : Line) (a : Bool) → Redone r now
 Walks-Redone r now old new a d w =
     let unit = redo_of r.pending in
     let rest = drop (length unit) r.pending in
-    let (mid, first, after) = Walk-split unit rest old.text w.end (subst (λ es. Walk es old.text w.end) (sym (redo-parts r.pending)) w.ahead) in
+    let (mid, first, after) = Walk-split unit rest old.text w.end (subst (λ es. Walk es old.text w.end) (sym (redo-front r.pending)) w.ahead) in
     let there : mid ≡ new.text = same_Some _ _ (sym (Walk-replay unit old.text mid first) ∙ line_ahead-replay unit old new d.line_is) in
     subst (λ (k : Record). Walks k new.text) (sym d.record_is) (record {
       start = w.start;
@@ -219,8 +220,7 @@ Walk-end_one : (es : List Entry) (x y : List ℕ) → Walk es x y → Walk (end_
 unfolding apply
 Walk-end_one [] x y e = (x, (mark-leads x).1, e)
 Walk-end_one (Begin ∷ []) x y w = same_Some _ _ w.1.makes ∙ w.2
-Walk-end_one (End ∷ []) x y w = (w.0, w.1, (w.0, (mark-leads w.0).1, w.2))
-Walk-end_one (Changed k c ∷ []) x y w = (w.0, w.1, (w.0, (mark-leads w.0).1, w.2))
+Walk-end_one (e ∷ []) x y w = (w.0, w.1, (w.0, (mark-leads w.0).1, w.2))
 Walk-end_one (e ∷ (d ∷ ds)) x y w = (w.0, w.1, Walk-end_one (d ∷ ds) w.0 y w.2)
 
 Walk-end_times : (n : ℕ) (es : List Entry) (x y : List ℕ) → Walk es x y → Walk (end_times n es) x y
