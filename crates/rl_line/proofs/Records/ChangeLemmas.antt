@@ -1,6 +1,6 @@
 -- What stands in a text where it can go over an entry.
 use Rattle.std.proofs.Common.{◌≡◌, ℕ, ◌+◌, ◌<◌, ◌≤◌, Bool, true, false, List, [], ◌∷◌, ◌++◌, length, take, get_or, map, reverse, slice_range, Option, Some, None, refl, sym, ap, subst, ◌∙◌, arith}
-use Rattle.std.proofs.lemmas.List.{length-reverse, map-append, reverse-append}
+use Rattle.std.proofs.lemmas.List.{length-reverse}
 use Rattle.std.proofs.lemmas.Str.{is_utf8-from_IsUtf8}
 use Rattle.std.specs.Prelude.{◌&&◌, IfOk, IsSome, Result, Ok, Err, cond, is_some, option_and_then}
 use Rattle.std.specs.List.{replace_range}
@@ -15,7 +15,7 @@ use Rattle.rl_line.specs.declared.change.Way.{Way}
 use Rattle.rl_line.specs.declared.change.Way.TheVariants.{Back, Ahead}
 use Rattle.rl_line.specs.Record.{Entry, Begin, End, Changed, entry_of, event_of, inverse, new_text, old_text, unwind}
 use Rattle.rl_line.specs.Undo.{cursor_told, place_after, cursor_stands}
-use Rattle.rl_line.proofs.Records.LastLemmas.{read-last}
+use Rattle.rl_line.proofs.Records.LastLemmas.{map-reverse, read-last}
 use Rattle.rl_line.proofs.Records.RecordLemmas.{then_both, then_some}
 use Rattle.rl_base.specs.declared.listeners.Refusal.{Refusal}
 use Rattle.std.proofs.lemmas.Option.{same_Some}
@@ -112,15 +112,9 @@ pub length-order : (way : Way) (xs : List Change) → length (order way xs) ≡ 
 length-order Back xs = refl
 length-order Ahead xs = length-reverse xs
 
-map-reverse : (xs : List Change) → map entry_of (reverse xs) ≡ reverse (map entry_of xs)
-map-reverse [] = refl
-map-reverse (x ∷ xs) =
-    ap (map entry_of) (reverse-append (x ∷ []) xs) ∙ map-append entry_of (reverse xs) (x ∷ []) ∙ ap (λ l. l ++ entry_of x ∷ []) (map-reverse xs)
-    ∙ sym (reverse-append (entry_of x ∷ []) (map entry_of xs))
-
 -- going ahead takes the inverses back
 pub ahead-inverse : (xs : List Change) → map (entry_to_undo Ahead) (order Ahead xs) ≡ map inverse (reverse (map entry_of xs))
-ahead-inverse xs = each (reverse xs) ∙ ap (map inverse) (map-reverse xs)
+ahead-inverse xs = each (reverse xs) ∙ ap (map inverse) (map-reverse entry_of xs)
   where
     each : (ys : List Change) → map (entry_to_undo Ahead) ys ≡ map inverse (map entry_of ys)
     each [] = refl

@@ -1,13 +1,13 @@
 -- The last entry of a list: what an event, the end of a group and cursors that are told make of it. All before it stays.
 use Rattle.std.proofs.lemmas.Grind.{take_at_read}
-use Rattle.std.proofs.lemmas.List.{map-append}
-use Rattle.std.proofs.Common.{suc, ◌+◌, ◌<◌, length, map, take, drop, get_or, drop-cons, add-one, ◌≡◌, ℕ, ◌⊎◌, inl, inr, false, List, [], ◌∷◌, ◌++◌, append-nil, append_assoc, Option, Some, None, refl, sym, ap, subst, ◌∙◌}
+use Rattle.std.proofs.lemmas.List.{map-append, reverse-append}
+use Rattle.std.proofs.Common.{zero, reverse, suc, ◌+◌, ◌<◌, length, map, take, drop, get_or, drop-cons, add-one, ◌≡◌, ℕ, ◌⊎◌, inl, inr, false, List, [], ◌∷◌, ◌++◌, append-nil, append_assoc, Option, Some, None, refl, sym, ap, subst, ◌∙◌}
 use Rattle.std.specs.Option.{option_map_or}
 use Rattle.rl_base.specs.Event.{Event}
 use Rattle.rl_line.specs.declared.change.Freshness.{Freshness}
 use Rattle.rl_line.specs.declared.change.Freshness.TheVariants as is
 use Rattle.rl_line.specs.Record.{Entry, Begin, End, cursors_of, entries_after, entries_of, entries_told, freshness_added, freshness_joined, freshness_of, joined, last_told}
-use Rattle.rl_line.specs.Units.{end_one, ends_in_begin}
+use Rattle.rl_line.specs.Units.{end_one, end_times, ends_in_begin}
 
 -- what holds of no elements, and of any that end with one, holds of all lists
 pub by_last : {A : Type 0} (P : List A → Type 0) → P [] → ((front : List A) (x : A) → P (front ++ x ∷ [])) → (xs : List A) → P xs
@@ -21,6 +21,11 @@ read-last f xs m z x lt e = ap (map f) ((take_at_read xs m z lt).1 ∙ ap (λ y.
 pub read-first : {A B : Type 0} (f : A → B) (xs : List A) (m : ℕ) (x : A) → m < length xs → x ≡ get_or xs m x → map f (drop m xs) ≡ f x ∷ map f (drop (m + 1) xs)
 read-first f xs m x lt e =
     ap (map f) (drop-cons xs m x lt) ∙ ap (λ y. f y ∷ map f (drop (suc m) xs)) (sym e) ∙ ap (λ k. f x ∷ map f (drop k xs)) (sym (add-one m))
+
+pub map-reverse : {A B : Type 0} (f : A → B) (xs : List A) → map f (reverse xs) ≡ reverse (map f xs)
+map-reverse f [] = refl
+map-reverse f (x ∷ xs) =
+    ap (map f) (reverse-append (x ∷ []) xs) ∙ map-append f (reverse xs) (x ∷ []) ∙ ap (λ ys. ys ++ f x ∷ []) (map-reverse f xs) ∙ sym (reverse-append (f x ∷ []) (map f xs))
 
 -- a function that passes the first of two entries passes all before the last ones
 pub passes : (f : List Entry → List Entry) → ((e d : Entry) (ds : List Entry) → f (e ∷ (d ∷ ds)) ≡ e ∷ f (d ∷ ds)) → (xs : List Entry) (y : Entry) (ys : List Entry)
@@ -126,3 +131,8 @@ end_one-cases = by_last (λ es. EndsOne es ⊎ AddsEnd es) (inr (record { other 
     from : (front : List Entry) (e : Entry) → EndsOne (front ++ e ∷ []) ⊎ AddsEnd (front ++ e ∷ [])
     from front Begin = inl (record { front = front; list_is = refl; after_is = end_one-begin front })
     from front e = inr (adds front e refl refl)
+
+-- what the end of one group keeps, that of any number does
+pub end_times-keeps : (P : List Entry → Type 0) → ((es : List Entry) → P es → P (end_one es)) → (n : ℕ) (es : List Entry) → P es → P (end_times n es)
+end_times-keeps P keeps zero es p = p
+end_times-keeps P keeps (suc n) es p = end_times-keeps P keeps n (end_one es) (keeps es p)

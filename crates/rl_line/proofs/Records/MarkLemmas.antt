@@ -1,5 +1,5 @@
 -- The record after a begin, an end, a redo and a truncation leads back to the same text.
-use Rattle.std.proofs.Common.{◌≡◌, ℕ, zero, suc, Bool, true, List, [], ◌∷◌, take, Option, Some, None, refl, sym, ap, ◌∙◌}
+use Rattle.std.proofs.Common.{◌≡◌, ℕ, Bool, true, List, [], ◌∷◌, take, Option, Some, None, refl, sym, ap, ◌∙◌}
 use Rattle.std.specs.Cmp.Lexicographic.{same_text}
 use Rattle.std.specs.Prelude.{option_and_then}
 use Rattle.std.specs.Str.{IsUtf8}
@@ -7,7 +7,8 @@ use Rattle.rl_base.specs.Event.{apply}
 use Rattle.rl_line.specs.Line.{Line}
 use Rattle.rl_line.specs.Record.{Entry, Begin, Record, event_of, inverse, agree, replays_to, unwind}
 use Rattle.rl_line.specs.Undo.{Redone}
-use Rattle.rl_line.specs.Units.{begun, end_one, end_times, redo_of, truncated, with_closed}
+use Rattle.rl_line.specs.Units.{begun, end_one, redo_of, truncated, with_closed}
+use Rattle.rl_line.proofs.Records.LastLemmas.{end_times-keeps}
 use Rattle.rl_line.proofs.Records.OriginLemmas.{Kept}
 use Rattle.rl_line.proofs.Records.RecordLemmas.{replay-IsUtf8, unwind-append, unwind-replay}
 use Rattle.rl_line.proofs.Records.UndoLemmas.{line_ahead-replay}
@@ -24,11 +25,7 @@ unwind-end_one (Begin ∷ []) text = refl
 unwind-end_one (e ∷ []) text = refl
 unwind-end_one (e ∷ (d ∷ ds)) text = ap (option_and_then (apply (event_of (inverse e)))) (unwind-end_one (d ∷ ds) text)
 
-unwind-end_times : (n : ℕ) (es : List Entry) (text : List ℕ) → unwind (end_times n es) text ≡ unwind es text
-unwind-end_times zero es text = refl
-unwind-end_times (suc n) es text = unwind-end_times n (end_one es) text ∙ unwind-end_one es text
-
-agree-same : (o p : Option (List ℕ)) → agree o p ≡ true → o ≡ p
+pub agree-same : (o p : Option (List ℕ)) → agree o p ≡ true → o ≡ p
 agree-same (Some a) (Some b) h = ap (λ t. Some t) (same_text a b (sym h))
 agree-same None p h = cc
 agree-same (Some a) None h = cc
@@ -48,7 +45,7 @@ pub Kept-begun : (r : Record) (line : Line) → IsUtf8 line.text → Kept r (beg
 Kept-begun r line u = record { origin_is = λ start e. unwind-begun r line.text ∙ e; utf8 = u }
 
 pub Kept-closed : (n : ℕ) (r : Record) (line : Line) → IsUtf8 line.text → Kept r (with_closed n r) line line
-Kept-closed n r line u = record { origin_is = λ start e. unwind-end_times n r.recorded line.text ∙ e; utf8 = u }
+Kept-closed n r line u = record { origin_is = λ start e. end_times-keeps (λ es. unwind es line.text ≡ Some start) (λ es k. unwind-end_one es line.text ∙ k) n r.recorded e; utf8 = u }
 
 pub Kept-truncated : (len : ℕ) (r : Record) (line : Line) → IsUtf8 line.text → replays_to len r line.text ≡ true → Kept r (truncated len r) line line
 Kept-truncated len r line u h = record { origin_is = λ start e. unwind-truncated len r line.text h ∙ e; utf8 = u }

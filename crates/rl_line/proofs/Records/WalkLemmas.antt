@@ -1,5 +1,5 @@
 -- Entries that lead from a text to another, with their cursors: what keeps that, and where a line goes over them.
-use Rattle.std.proofs.Common.{◌≡◌, ℕ, ◌⊎◌, inl, inr, Bool, true, zero, suc, List, [], ◌∷◌, ◌++◌, length, take, drop, take-append-drop, Option, Some, None, refl, sym, ap, subst, ◌∙◌}
+use Rattle.std.proofs.Common.{◌≡◌, ℕ, ◌⊎◌, inl, inr, Bool, true, List, [], ◌∷◌, ◌++◌, length, take, drop, take-append-drop, Option, Some, None, refl, sym, ap, subst, ◌∙◌}
 use Rattle.std.proofs.lemmas.Option.{same_Some}
 use Rattle.std.specs.Option.{option_map_or}
 use Rattle.std.specs.Prelude.{cond, IsSome, option_and_then}
@@ -14,10 +14,10 @@ use Rattle.rl_line.specs.Line.{Line, stepped}
 use Rattle.rl_line.specs.Plan.{Step, Plan, after, listener_after, listener_after_step, Taken, Done, Halted}
 use Rattle.rl_line.specs.Record.{Kind, Swap, Entry, Begin, End, Changed, Record, cursors_of, entries_after, entries_of, entries_told, event_of, freshness_added, freshness_joined, freshness_of, inverse, joined, record_step, replay_entries, replays_to, unwind, with_cursors}
 use Rattle.rl_line.specs.Undo.{cursor_after, cursor_told, line_ahead, line_back, Redone, Undone, cursor_stands}
-use Rattle.rl_line.specs.Units.{begun, end_one, end_times, kept_of, last_of, redo_of, truncated, with_closed}
+use Rattle.rl_line.specs.Units.{begun, end_one, kept_of, last_of, redo_of, truncated, with_closed}
 use Rattle.rl_line.specs.Walk.{LeadsTo, Walk, Walks}
 use Rattle.rl_line.proofs.Records.JoinLemmas.{step-cases}
-use Rattle.rl_line.proofs.Records.LastLemmas.{after-cases, told-added, told-past}
+use Rattle.rl_line.proofs.Records.LastLemmas.{after-cases, end_times-keeps, told-added, told-past}
 use Rattle.rl_line.proofs.Records.MarkLemmas.{unwind-truncated}
 use Rattle.rl_line.proofs.Records.MatchLemmas.{redo-front}
 use Rattle.rl_line.proofs.Plans.PlanLemmas.{first_step}
@@ -223,13 +223,10 @@ Walk-end_one (Begin ∷ []) x y w = same_Some _ _ w.1.makes ∙ w.2
 Walk-end_one (e ∷ []) x y w = (w.0, w.1, (w.0, (mark-leads w.0).1, w.2))
 Walk-end_one (e ∷ (d ∷ ds)) x y w = (w.0, w.1, Walk-end_one (d ∷ ds) w.0 y w.2)
 
-Walk-end_times : (n : ℕ) (es : List Entry) (x y : List ℕ) → Walk es x y → Walk (end_times n es) x y
-Walk-end_times zero es x y w = w
-Walk-end_times (suc n) es x y w = Walk-end_times n (end_one es) x y (Walk-end_one es x y w)
-
 pub Walks-closed : (n : ℕ) (r : Record) (text : List ℕ) → Walks r text → Walks (with_closed n r) text
 Walks-closed n r text w =
-    record { start = w.start; is_text = w.is_text; back = Walk-end_times n r.recorded w.start text w.back; end = text; ahead = refl; stale = refl }
+    let back = end_times-keeps (λ es. Walk es w.start text) (λ es v. Walk-end_one es w.start text v) n r.recorded w.back in
+    record { start = w.start; is_text = w.is_text; back = back; end = text; ahead = refl; stale = refl }
 
 -- entries that lead to the text by themselves pass through the same texts
 pub Walks-truncated : (len : ℕ) (r : Record) (text : List ℕ) → replays_to len r text ≡ true → Walks r text → Walks (truncated len r) text

@@ -1,12 +1,12 @@
 -- Rows of a session: what they make of its history, and what undos and redos among them do.
-use Rattle.std.proofs.Common.{◌≡◌, ℕ, Bool, true, suc, List, [], ◌∷◌, ◌++◌, length, min, arith, take, Option, Some, None, refl, sym, ap, subst, ◌∙◌, append-nil, append_assoc}
-use Rattle.std.proofs.lemmas.Slice.Eq.{bytes_eq-Decides}
+use Rattle.std.proofs.Common.{◌≡◌, ℕ, Bool, suc, List, [], ◌∷◌, ◌++◌, length, min, arith, take, refl, sym, ap, subst, ◌∙◌, append-nil, append_assoc}
 use Rattle.std.specs.Str.{IsUtf8}
 use Rattle.rl_line.specs.Line.{Line}
 use Rattle.rl_line.specs.Plan.{Step as PlanStep, listener_after}
-use Rattle.rl_line.specs.Record.{Record, agree, record_step, unwind}
+use Rattle.rl_line.specs.Record.{Record, record_step, unwind}
 use Rattle.rl_line.specs.Undo.{Undone, Redone, Redos}
 use Rattle.rl_line.specs.Units.{begun, ended, ended_one, level, last_of, last_units, opens, redo_of, truncated, undone}
+use Rattle.rl_line.proofs.Records.MarkLemmas.{agree-same}
 use Rattle.rl_line.proofs.Records.RecordLemmas.{replay-IsUtf8}
 use Rattle.rl_line.proofs.Records.RedoLemmas.{redos-give-back}
 use Rattle.rl_line.proofs.Records.UndoLemmas.{line_ahead-replay, line_back-unwind}
@@ -37,12 +37,6 @@ History-Heard start held steps old r text now h k =
 History-changes : (start : List ℕ) (held : List (List ℕ)) (new made : State) → Holds start held made → new ≡ made → Holds start (held ++ []) new
 History-changes start held new made h e = subst (λ k. Holds start k new) (sym (append-nil held)) (subst (λ s. Holds start held s) (sym e) h)
 
-agree-same : (a b : Option (List ℕ)) → agree a b ≡ true → b ≡ a
-agree-same (Some a) (Some b) h = ap (λ t. Some t) (sym ((bytes_eq-Decides a b).0 h))
-agree-same (Some a) None h = cc
-agree-same None (Some b) h = cc
-agree-same None None h = refl
-
 History-TookBack : (n : ℕ) (start : List ℕ) (held more : List (List ℕ)) (old new : State) (a : Bool) → Holds start held old
     → Undone n old.pair.changes new.pair.changes old.line new.line a → Holds start (held ++ more) new
 History-TookBack n start held more old new a h d =
@@ -67,7 +61,7 @@ Holds-Became start held (puts_end a) old new d h =
     History-changes start held new (with_changes (ended_one old.pair.changes) old) (History-closed start held old.line.text (min 1 (level old.pair.changes.recorded)) old.pair.changes (omega arith) h) d.1
 Holds-Became start held (shortens len) old new d h =
     let r = old.pair.changes in
-    let same = agree-same (unwind r.recorded old.line.text) (unwind (take len r.recorded) old.line.text) d.0 in
+    let same = sym (agree-same (unwind r.recorded old.line.text) (unwind (take len r.recorded) old.line.text) d.0) in
     History-changes start held new (with_changes (truncated len r) old) (History-truncated len start held old.line.text r h same) d.1
 Holds-Became start held (keeps text) old new d h = History-changes start held new (with_ring (reset (killed text Append old.pair.ring)) old) h d
 Holds-Became start held (takes_back n a) old new d h = History-TookBack _ start held _ old new a h d.0

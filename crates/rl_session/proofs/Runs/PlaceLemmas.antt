@@ -1,5 +1,5 @@
 -- A record is placed among the texts that were held, whatever it hears.
-use Rattle.std.proofs.Common.{◌≡◌, ◌≤◌, ℕ, zero, suc, List, [], ◌∷◌, ◌++◌, length, length-append, take, drop, map, reverse, Some, refl, sym, ap, subst, ◌∙◌, inl, inr, append-nil, append_assoc, arith}
+use Rattle.std.proofs.Common.{◌≡◌, ◌≤◌, ℕ, List, [], ◌∷◌, ◌++◌, length, length-append, take, drop, map, reverse, Some, refl, sym, ap, subst, ◌∙◌, inl, inr, append-nil, append_assoc, arith}
 use Rattle.std.proofs.lemmas.Option.{same_Some}
 use Rattle.std.proofs.lemmas.List.{take-append-drop, reverse-append, reverse-reverse, map-append}
 use Rattle.std.specs.Prelude.{option_and_then, IsSome}
@@ -11,7 +11,7 @@ use Rattle.rl_line.specs.Plan.{Step, after, listener_after, listener_after_step}
 use Rattle.rl_line.specs.Record.{Entry, Begin, End, Changed, Record, entries_of, entries_after, record_step, replay_entries, unwind, event_of, entries_told, last_told, freshness_of}
 use Rattle.rl_line.specs.Units.{level, last_of, kept_of, redo_of, end_one, end_times, begun, undone, redone, truncated, with_closed}
 use Rattle.rl_line.proofs.Records.JoinLemmas.{step-cases}
-use Rattle.rl_line.proofs.Records.LastLemmas.{after-cases, end_one-cases}
+use Rattle.rl_line.proofs.Records.LastLemmas.{after-cases, end_one-cases, end_times-keeps, map-reverse}
 use Rattle.rl_line.proofs.Records.MatchLemmas.{IsMatched-after, BothMatched-begun, BothMatched-closed, BothMatched-undone, BothMatched-redone, BothMatched-truncated, Redoes-of, BothMatched-step}
 use Rattle.rl_line.proofs.Records.RecordLemmas.{none_or_one, then_some, through, replay-append, replay-IsUtf8, replay-unwind, unwind-replay, entries_after-unwind}
 use Rattle.rl_line.proofs.Records.UnitLemmas.{kept-last}
@@ -109,20 +109,12 @@ replay-end_one es start =
       | inr c ↦ ap (λ x. replay_entries x start) c.after_is ∙ replay-end es start
     ]
 
-replay-end_times : (n : ℕ) (es : List Entry) (start : List ℕ) → replay_entries (end_times n es) start ≡ replay_entries es start
-replay-end_times zero es start = refl
-replay-end_times (suc n) es start = replay-end_times n (end_one es) start ∙ replay-end_one es start
-
 Placed-end_one : (es : List Entry) (start : List ℕ) (held : List (List ℕ)) → Placed start es held → Placed start (end_one es) held
 Placed-end_one es start held p =
     elim (end_one-cases es) [
       | inl c ↦ subst (λ x. Placed start x held) (sym c.after_is) (Placed-front start c.front (Begin ∷ []) held (subst (λ x. Placed start x held) c.list_is p))
       | inr c ↦ subst (λ x. Placed start x held) (sym c.after_is) (Placed-mark start es End held p (replay-end es start))
     ]
-
-Placed-end_times : (n : ℕ) (es : List Entry) (start : List ℕ) (held : List (List ℕ)) → Placed start es held → Placed start (end_times n es) held
-Placed-end_times zero es start held p = p
-Placed-end_times (suc n) es start held p = Placed-end_times n (end_one es) start held (Placed-end_one es start held p)
 
 -- ---- an event
 after-leads : (event : Event) (es : List Entry) (start x y : List ℕ) → IsUtf8 start → replay_entries es start ≡ Some x → apply event x ≡ Some y
@@ -172,19 +164,13 @@ History-change event start held text next r h k =
     }
 
 -- entries that make the same of a text are placed alike
-events-reverse : (es : List Entry) → map event_of (reverse es) ≡ reverse (map event_of es)
-events-reverse [] = refl
-events-reverse (e ∷ es) =
-    ap (map event_of) (reverse-append (e ∷ []) es) ∙ map-append event_of (reverse es) (e ∷ []) ∙ ap (λ l. l ++ (event_of e ∷ [])) (events-reverse es)
-    ∙ sym (reverse-append (event_of e ∷ []) (map event_of es))
-
 PlacedBack-same : (start : List ℕ) (es ks : List Entry) (held : List (List ℕ)) → map event_of es ≡ map event_of ks → PlacedBack start es held → PlacedBack start ks held
 PlacedBack-same start [] [] held same p = p
 PlacedBack-same start [] (k ∷ ks) held same p = cc
 PlacedBack-same start (e ∷ es) [] held same p = cc
 PlacedBack-same start (e ∷ es) (k ∷ ks) held same p =
     let rest : map event_of es ≡ map event_of ks = cc in
-    let events : map event_of (reverse (k ∷ ks)) ≡ map event_of (reverse (e ∷ es)) = events-reverse (k ∷ ks) ∙ ap reverse (sym same) ∙ sym (events-reverse (e ∷ es)) in
+    let events : map event_of (reverse (k ∷ ks)) ≡ map event_of (reverse (e ∷ es)) = map-reverse event_of (k ∷ ks) ∙ ap reverse (sym same) ∙ sym (map-reverse event_of (e ∷ es)) in
     (p.0, p.1, p.2, ap (λ l. replay l start) events ∙ p.3, PlacedBack-same start es ks (p.0 ++ (p.1 ∷ [])) rest p.4)
 
 last_told-events : (cursors : ℕ × ℕ) (es : List Entry) → map event_of (last_told cursors es) ≡ map event_of es
@@ -202,7 +188,7 @@ History-told b a start held text r h =
     let all : map event_of (r.recorded ++ r.pending) ≡ map event_of (now ++ r.pending) =
     map-append event_of r.recorded r.pending ∙ ap (λ l. l ++ map event_of r.pending) (sym same) ∙ sym (map-append event_of now r.pending) in
     let turned : map event_of (reverse (r.recorded ++ r.pending)) ≡ map event_of (reverse (now ++ r.pending)) =
-    events-reverse (r.recorded ++ r.pending) ∙ ap reverse all ∙ sym (events-reverse (now ++ r.pending)) in
+    map-reverse event_of (r.recorded ++ r.pending) ∙ ap reverse all ∙ sym (map-reverse event_of (now ++ r.pending)) in
     record {
       is_text = h.is_text;
       leads = ap (λ l. replay l start) same ∙ h.leads;
@@ -246,8 +232,8 @@ History-begun start held text r h = record {
 pub History-closed : (start : List ℕ) (held : List (List ℕ)) (text : List ℕ) (n : ℕ) (r : Record) → n ≤ level r.recorded → History start held text r → History start held text (with_closed n r)
 History-closed start held text n r few h = record {
   is_text = h.is_text;
-  leads = replay-end_times n r.recorded start ∙ h.leads;
-  placed = alone start (end_times n r.recorded) held (Placed-end_times n r.recorded start held (recorded-placed start held text r h));
+  leads = end_times-keeps (λ es. replay_entries es start ≡ Some text) (λ es k. replay-end_one es start ∙ k) n r.recorded h.leads;
+  placed = alone start (end_times n r.recorded) held (end_times-keeps (λ es. Placed start es held) (λ es p. Placed-end_one es start held p) n r.recorded (recorded-placed start held text r h));
   matched = BothMatched-closed n r few h.matched;
 }
 

@@ -6,7 +6,7 @@ use Rattle.rl_line.specs.Plan.{Step, listener_after, listener_after_step}
 use Rattle.rl_line.specs.Record.{Begin, End, Entry, Record, record_step, replay_entries}
 use Rattle.rl_line.specs.Units.{IsMatched, begun, end_one, end_times, ended, ended_one, has_change, kept_of, last_of, level, opens, with_closed}
 use Rattle.rl_line.proofs.Records.GroupLemmas.{has_change-append, Inside, InsideOf, Inside-event, Inside-begun, past_begin}
-use Rattle.rl_line.proofs.Records.LastLemmas.{end_one-begin, end_one-cases, end_one-past}
+use Rattle.rl_line.proofs.Records.LastLemmas.{end_one-begin, end_one-cases, end_one-past, end_times-keeps}
 use Rattle.rl_line.proofs.Records.EndLemmas.{closed_alone, closed_group, level-group}
 use Rattle.rl_line.proofs.Records.MatchLemmas.{Lower-end_one, Lower-end_times}
 use Rattle.rl_line.proofs.Records.UndoLemmas.{line_back-unwind}
@@ -44,16 +44,13 @@ has_change-end_one es =
       | inr c ↦ ap has_change c.after_is ∙ has_change-append es (End ∷ []) ∙ or-false (has_change es)
     ]
 
-has_change-end_times : (n : ℕ) (es : List Entry) → has_change (end_times n es) ≡ has_change es
-has_change-end_times zero es = refl
-has_change-end_times (suc n) es = has_change-end_times n (end_one es) ∙ has_change-end_one es
-
 -- once a group and those that are open in it are closed, an undo of one unit keeps what was recorded before its begin
 ended_group : (xs inner : List Entry) → IsMatched inner → has_change inner ≡ true → kept_of 1 (end_times (suc (level inner)) (xs ++ (Begin ∷ inner))) ≡ xs
 ended_group xs inner h c =
     let low = Lower-end_times (level inner) 0 inner h (omega arith) in
     ap (kept_of 1) (ends_inside (level inner) xs inner h refl)
-    ∙ closed_group xs (end_times (level inner) inner) low.matched low.level_is (has_change-end_times (level inner) inner ∙ c)
+    ∙ closed_group xs (end_times (level inner) inner) low.matched low.level_is
+    (end_times-keeps (λ es. has_change es ≡ true) (λ es k. has_change-end_one es ∙ k) (level inner) inner c)
 
 -- ---- what stands in the record after the Begin of an open group
 Inside-steps : (cursor : ℕ) (steps : List Step) (front : List Entry) (r : Record) → Inside front r → Inside front (listener_after record_step cursor steps r)
