@@ -10,7 +10,7 @@ use Rattle.rl_line.proofs.Plans.PlanLemmas.{after-replay}
 use Rattle.rl_line.proofs.Records.RecordLemmas.{events-append}
 use Rattle.rl_line.proofs.Records.HeardLemmas.{line_back-ahead}
 use Rattle.rl_line.proofs.Records.UndoLemmas.{line_ahead-replay}
-use Rattle.rl_session.specs.Commands.{Effect, by_steps, puts_begin, puts_ends, puts_end, shortens, takes_back, puts_again, Became, effect, readied, keeps}
+use Rattle.rl_session.specs.Commands.{Effect, by_steps, takes_back, puts_again, Became, effect, readied, keeps}
 use Rattle.rl_session.specs.Run.{Row, Leads, Run, reports, reports_of, steps_done, steps_in}
 use Rattle.rl_session.specs.State.{State}
 use Rattle.rl_session.specs.declared.session.Command.{Command}
@@ -33,10 +33,6 @@ replay-ahead cursor (mark ∷ es) text = replay-ahead cursor es text
 reported : (effect : Effect) (old new : State) (d : Became effect old new) → replay (events_of (steps_done effect old new d)) old.line.text ≡ Some new.line.text
 reported (by_steps course) old new d =
     let h = Heard-Came course old new d in after-replay (steps_in course old new d) old.line h.last h.taken.line ∙ ap (λ t. Some t) (sym h.text_is)
-reported (puts_begin n) old new d = ap (λ (s : State). Some s.line.text) (sym d.1)
-reported (puts_ends a) old new d = ap (λ (s : State). Some s.line.text) (sym d.1)
-reported (puts_end a) old new d = ap (λ (s : State). Some s.line.text) (sym d.1)
-reported (shortens len) old new d = ap (λ (s : State). Some s.line.text) (sym d.1)
 reported (keeps text) old new d = ap (λ (s : State). Some s.line.text) (sym d)
 reported (takes_back n a) old new d =
     let back = last_of n old.pair.changes.recorded in
@@ -44,6 +40,7 @@ reported (takes_back n a) old new d =
     replay-ahead old.line.cursor ahead old.line.text ∙ line_ahead-replay ahead old.line new.line (line_back-ahead back old.line ∙ d.0.line_is)
 reported (puts_again a) old new d =
     let ahead = redo_of old.pair.changes.pending in replay-ahead old.line.cursor ahead old.line.text ∙ line_ahead-replay ahead old.line new.line d.0.line_is
+reported _ old new d = ap (λ (s : State). Some s.line.text) (sym d.1)
 
 -- the ring's resets change no text
 pub reported-row : (row : Row) → replay (reports row) row.before.line.text ≡ Some row.after.line.text

@@ -78,13 +78,9 @@ Came-options (tells false course) old new d = Came-options course (record old { 
 
 Became-options : (effect : Effect) (old new : State) → Became effect old new → new.options ≡ old.options
 Became-options (by_steps course) old new d = Came-options course old new d
-Became-options (puts_begin n) old new d = ap (λ (s : State). s.options) d.1
 Became-options (puts_ends a) old new d = ap (λ (s : State). s.options) d.1
-Became-options (puts_end a) old new d = ap (λ (s : State). s.options) d.1
-Became-options (shortens len) old new d = ap (λ (s : State). s.options) d.1
 Became-options (keeps text) old new d = ap (λ (s : State). s.options) d
-Became-options (takes_back n a) old new d = ap (λ (s : State). s.options) d.1
-Became-options (puts_again a) old new d = ap (λ (s : State). s.options) d.1
+Became-options _ old new d = ap (λ (s : State). s.options) d.1
 
 -- no command changes them, and with no bound among them nothing is forgotten
 pub Step-options : (old new : State) (command : Command) (reply : Reply) → Step old command reply new → new.options ≡ old.options
