@@ -254,12 +254,6 @@ told_whole : (b : Bool) (P : Pair → Pair → Type 0) (old : State) (new : Pair
 told_whole true P old new e t = cc
 told_whole false P old new e t = t
 
-Kill-outcome : (old new : State) (m : Movement) (a : Bool) → IsDirected m → Stands old → Step old (Kill m) (says.Answer a) new → Outcome a old new
-Kill-outcome old new m a directed h s =
-    let told = told_whole (is_by_characters m) _ old s.left.pair (not_by_characters m directed) s.does in
-    subst (Outcome a old) (sym s.settles)
-    (removed old s.left (killed_range old.line m) (side_of old.line m) a h.cursor.0 (killed-side old.line m directed h.utf8 h.cursor) told)
-
 -- of a kill of a range that begins or ends at the cursor
 lies-between : (line : Line) (i j : ℕ) (side : Direction) → i ≤ j → IsDirectedKill line (KillRange i j side) → LiesOn side line.cursor (between i j)
 lies-between line i j Forward le at = at
@@ -272,11 +266,15 @@ range-side line i j side le at = by_test (i == j)
     by_test true = tt
     by_test false = lies-between line i j side le at
 
-KillRange-outcome : (old new : State) (i j : ℕ) (side : Direction) (a : Bool) → IsDirectedKill old.line (KillRange i j side) → Stands old → Step old (KillRange i j side) (says.Answer a) new
-    → Outcome a old new
-KillRange-outcome old new i j side a directed h s =
+Kill-outcome : (old new : State) (command : Command) (a : Bool) → IsDirectedKill old.line command → Stands old → Step old command (says.Answer a) new → Outcome a old new
+Kill-outcome old new (Kill m) a directed h s =
+    let told = told_whole (is_by_characters m) _ old s.left.pair (not_by_characters m directed) s.does in
+    subst (Outcome a old) (sym s.settles)
+    (removed old s.left (killed_range old.line m) (side_of old.line m) a h.cursor.0 (killed-side old.line m directed h.utf8 h.cursor) told)
+Kill-outcome old new (KillRange i j side) a directed h s =
     subst (Outcome a old) (sym s.settles)
     (removed old s.left (unless_empty i j) side a h.cursor.0 (range-side old.line i j side s.does.0.0 directed) s.does.1)
+Kill-outcome old new _ a directed h s = absurd directed
 
 -- ---- the rows of a run: before the first kill that takes a text nothing is missing of the start
 record Ready (start : List ℕ) (now : State) : Type 0 where
@@ -351,24 +349,18 @@ Going-nothing start old new more roomy t g =
 Roomy-Going : (start : List ℕ) (now : State) (replies : List Reply) → Going start now replies → Roomy now
 Roomy-Going start now replies g = elim g [ inl m ↦ m.roomy | inr r ↦ r.0.roomy ]
 
--- a kill that was answered
-Going-on : (start : List ℕ) (old new : State) (command : Command) (a : Bool) (more : List Reply) → Step old command (says.Answer a) new → (Stands old → Outcome a old new)
-    → Going start old (says.Answer a ∷ more) → Going start new more
-Going-on start old new command true more s outcome g =
-    let roomy = Roomy-Going start old (says.Answer true ∷ more) g in Going-took start old new more (Roomy-Step old command _ new roomy.some s) (outcome roomy.stands) g
-Going-on start old new command false more s outcome g =
-    let roomy = Roomy-Going start old (says.Answer false ∷ more) g in Going-nothing start old new more (Roomy-Step old command _ new roomy.some s) (outcome roomy.stands) g
-
 Going-directed : (start : List ℕ) (old new : State) (command : Command) (reply : Reply) (more : List Reply) → IsDirectedKill old.line command → Step old command reply new
     → NoneRefused (reply ∷ more) → Going start old (reply ∷ more) → Going start new more × NoneRefused more
+Going-directed start old new command (says.Answer true) more directed s none g =
+    let roomy = Roomy-Going start old (says.Answer true ∷ more) g in
+    (Going-took start old new more (Roomy-Step old command _ new roomy.some s) (Kill-outcome old new command true directed roomy.stands s) g, none)
+Going-directed start old new command (says.Answer false) more directed s none g =
+    let roomy = Roomy-Going start old (says.Answer false ∷ more) g in
+    (Going-nothing start old new more (Roomy-Step old command _ new roomy.some s) (Kill-outcome old new command false directed roomy.stands s) g, none)
 Going-directed start old new command (says.Refused f) more directed s none g = absurd none
-Going-directed start old new (Kill m) (says.Answer a) more directed s none g =
-    (Going-on start old new (Kill m) a more s (λ stands. Kill-outcome old new m a directed stands s) g, none)
-Going-directed start old new (KillRange i j side) (says.Answer a) more directed s none g =
-    (Going-on start old new (KillRange i j side) a more s (λ stands. KillRange-outcome old new i j side a directed stands s) g, none)
 Going-directed start old new (Kill m) _ more directed s none g = absurd s.does
 Going-directed start old new (KillRange i j side) _ more directed s none g = absurd s.does
-Going-directed start old new _ reply more directed s none g = absurd directed
+Going-directed start old new _ _ more directed s none g = absurd directed
 
 -- ---- the yank: with its slot the text is as long as at the start, so it is not too long
 Missing-length : (start : List ℕ) (now : State) (m : Missing start now) → length now.line.text + length m.slot ≡ length start

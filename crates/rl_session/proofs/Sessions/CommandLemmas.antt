@@ -1,5 +1,5 @@
 -- What is known of each command by itself: that its steps change the text, and what it did if it added one entry to the record.
-use Rattle.std.proofs.Common.{ℕ, List, Option, Some, None, ◌≡◌, ◌+◌, ◌≤◌, Bool, true, false, [], ◌∷◌, ◌++◌, length, length-append, IfSome, refl, sym, ap, subst, ◌∙◌, arith}
+use Rattle.std.proofs.Common.{ℕ, List, Option, Some, None, ◌≡◌, ◌+◌, ◌≤◌, Bool, true, false, [], ◌∷◌, ◌++◌, length, length-append, IfSome, refl, sym, ap, subst, ◌∙◌, arith, rules}
 use Rattle.std.specs.String.{string_bytes}
 use Rattle.rl_base.specs.declared.motion.Movement.TheVariants.{BackwardChar, EndOfLine, EndOfBuffer, BeginningOfLine, BeginningOfBuffer, BackwardWord, ForwardWord, ForwardChar, ViCharSearch}
 use Rattle.rl_base.specs.KillRing.{yank, yank_pop}
@@ -317,30 +317,16 @@ popped-quietly line (Some p) within = Settles-yank_pop line p.0 p.1 within
 other-adds : (old : State) (command : Command) (reply : Reply) (new : State) (e : Entry) → IsUtf8 old.line.text → IsCharBoundary old.line.text old.line.cursor
     → IsEdit old.line command → Came (other_course old command reply) old new → ¬ (WasRefused reply) → new.pair.changes.recorded ≡ old.pair.changes.recorded ++ e ∷ []
     → Adds e old.line new.line new.pair.changes
+other-adds old command (says.Refused f) new e u at i d w adds = absurd (w tt)
 other-adds old (asks.Kill m) (says.Answer a) new e u at i d w adds =
     kill-adds (is_by_characters m) (kill_plan old.line m) old new a e u (λ r. removed old.line r e (killed old.line m) (side_of old.line m)) d adds
-other-adds old (asks.Kill m) (says.Refused f) new e u at i d w adds = absurd (w tt)
 other-adds old (asks.KillRange i j side) (says.Answer a) new e u at c d w adds =
     kill-adds false (kill_range_plan old.line i j side) old new a e u (λ r. removed old.line r e (unless_empty i j) side) d.1 adds
-other-adds old (asks.KillRange i j side) (says.Refused f) new e u at c d w adds = absurd (w tt)
 other-adds old (asks.Yank n) (says.Inserted a) new e u at i d w adds =
     edited-adds (lent_plan old.line (yank old.pair.ring) n) (lent old) new a e u (λ one. lent-quietly old.line (yank old.pair.ring) n) d adds
-other-adds old (asks.Yank n) (says.Refused f) new e u at i d w adds = absurd (w tt)
 other-adds old asks.YankPop (says.Inserted a) new e u at i d w adds =
     edited-adds (popped_plan old.line (yank_pop old.pair.ring)) (popped old) new a e u (λ one. popped-quietly old.line (yank_pop old.pair.ring) at.0) d.1 adds
-other-adds old asks.YankPop (says.Refused f) new e u at i d w adds = absurd (w tt)
-other-adds old (asks.SetPos q) reply new e u at i d w adds = absurd i
-other-adds old (asks.Move m) reply new e u at i d w adds = absurd i
-other-adds old (asks.Copy m) reply new e u at i d w adds = absurd i
-other-adds old asks.Begin reply new e u at i d w adds = absurd i
-other-adds old asks.End reply new e u at i d w adds = absurd i
-other-adds old asks.EndOne reply new e u at i d w adds = absurd i
-other-adds old (asks.Undo n) reply new e u at i d w adds = absurd i
-other-adds old asks.Redo reply new e u at i d w adds = absurd i
-other-adds old (asks.Truncate len) reply new e u at i d w adds = absurd i
-other-adds old (asks.Keep t) reply new e u at i d w adds = absurd i
-other-adds old asks.LinePlace reply new e u at i d w adds = absurd i
-other-adds old command reply new e u at i d w adds = absurd d
+other-adds old _ _ new e u at i d w adds = absurd (search rules)
 
 pub asked-adds : (what : Asked) (old : State) (command : Command) (reply : Reply) (new : State) (e : Entry) → IsUtf8 old.line.text → IsCharBoundary old.line.text old.line.cursor
     → AsksQuietly old.line old.pair.changes e what → IsEdit old.line command → Came (course_of what old command reply) old new → ¬ (WasRefused reply)

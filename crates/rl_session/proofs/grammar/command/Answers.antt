@@ -76,29 +76,18 @@ returns-in_ok-number-in-trunc c = rw c.in-trunc.is (trunc (sym c.in_ok-number-in
 -- none of these words stands there, so only a deletion can be said
 others : (c : After-deletion) (w given : List ℕ) (command : Command) → c.args.word.now ≡ w → holds_text command ≡ false → Says w (Some given) (Do command) → deletes command ≡ true
 others c w given command e even (ins p s) = absurd (c.in_default.not-ins e)
-others c w given command e even (range p s) = refl
 others c w given command e even (pos p) = absurd (c.in_default.not-pos e)
 others c w given command e even (move p) = absurd (c.in_default.not-move e)
 others c w given command e even (yank p) = absurd (c.in_default.not-yank e)
-others c w given command e even (del p) = refl
-others c w given command e even (back p) = refl
-others c w given command e even (prevword p) = refl
-others c w given command e even (nextword p) = refl
-others c w given command e even (to p) = refl
 others c w given command e even (twords p) = absurd (c.in_default.not-twords e)
 others c w given command e even (cased p) = absurd (c.in_default.not-case e)
 others c w given command e even (kill p) = absurd (c.in_default.not-kill e)
-others c w given command e even (killrange p) = refl
-others c w given command e even (keep p) = absurd cc
 others c w given command e even (copy p) = absurd (c.in_default.not-copy e)
 others c w given command e even (indent p) = absurd (c.in_default.not-indent e)
 others c w given command e even (dedent p) = absurd (c.in_default.not-dedent e)
 others c w given command e even (undo p) = absurd (c.in_default.not-undo e)
 others c w given command e even (trunc p) = absurd (c.in_default.not-trunc e)
-others c w given command e even (paste p) = absurd cc
-others c w given command e even (update p) = absurd cc
-others c w given command e even (str p) = absurd cc
-others c w given command e even (rep p) = absurd cc
+others c w given command e even _ = cc
 
 -- so the word says no more than the deletion does
 or_deletion : (c : After-deletion) (said : Option Command) → MatchOption said (SaysNoDeletion c.args.word.now c.args.given.now) (λ command. Says c.args.word.now (Some c.args.given.now) (Do command))

@@ -44,30 +44,14 @@ returns-in_ok-start-in-killrange c = rw c.in-killrange.is (killrange c.in_ok-sta
 
 -- none of these words stands there
 others : (c : In_default) (w given : List ℕ) (command : Command) → c.args.word.now ≡ w → deletes command ≡ true → Says w (Some given) (Do command) → ⊥
-others c w given command e gone (ins p s) = absurd cc
 others c w given command e gone (range p s) = c.in_default.not-range e
-others c w given command e gone (pos p) = absurd cc
-others c w given command e gone (move p) = absurd cc
-others c w given command e gone (yank p) = absurd cc
 others c w given command e gone (del p) = c.in_default.not-del e
 others c w given command e gone (back p) = c.in_default.not-back e
 others c w given command e gone (prevword p) = c.in_default.not-prevword e
 others c w given command e gone (nextword p) = c.in_default.not-nextword e
 others c w given command e gone (to p) = c.in_default.not-to e
-others c w given command e gone (twords p) = absurd cc
-others c w given command e gone (cased p) = absurd cc
-others c w given command e gone (kill p) = absurd cc
 others c w given command e gone (killrange p) = c.in_default.not-killrange e
-others c w given command e gone (keep p) = absurd cc
-others c w given command e gone (copy p) = absurd cc
-others c w given command e gone (indent p) = absurd cc
-others c w given command e gone (dedent p) = absurd cc
-others c w given command e gone (undo p) = absurd cc
-others c w given command e gone (trunc p) = absurd cc
-others c w given command e gone (paste p) = absurd cc
-others c w given command e gone (update p) = absurd cc
-others c w given command e gone (str p) = absurd cc
-others c w given command e gone (rep p) = absurd cc
+others c w given command e gone _ = absurd cc
 
 pub returns-in_default : goal.returns-in_default
 returns-in_default c = λ command gone said. others c c.args.word.now c.args.given.now command refl gone said

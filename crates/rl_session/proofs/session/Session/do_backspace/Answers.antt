@@ -1,4 +1,4 @@
-use Rattle.std.proofs.Common.{refl}
+use Rattle.std.proofs.Common.{rules}
 use Rattle.rl_base.specs.declared.motion.Movement.TheVariants.{BackwardChar}
 use Rattle.rl_line.specs.Kills.{kill_plan}
 use Rattle.rl_session.specs.Commands.{answers}
@@ -13,5 +13,4 @@ invariant_of-self c =
     AtRest-edit nothing_more _ (λ a. a) c.self.inside.pair c.backspace.new.listener c.self.inside.line c.backspace.new.self c.backspace.result (rw (← c.self.view_is) at c.stands.ensures.cursor) (NoneStarts-kill c.self.inside.line (BackwardChar c.args.n)) c.backspace.ensures.done c.backspace.ensures.halted c.self.invariant
 
 pub returns : goal.returns
-returns c =
-    Edits-replied nothing_more answers (λ l. kill_plan l (BackwardChar c.args.n)) c.self.view_is tt c.answered.ensures (record { options = refl; done = c.backspace.ensures.done; halted = c.backspace.ensures.halted })
+returns c = search rules
