@@ -1,8 +1,5 @@
 use Rattle.std.proofs.Common.{rules}
 use Rattle.rl_base.specs.declared.motion.Movement.TheVariants.{BackwardChar}
-use Rattle.rl_line.specs.Kills.{kill_plan}
-use Rattle.rl_session.specs.Commands.{answers}
-use Rattle.rl_session.proofs.Sessions.ReplyLemmas.{Edits-replied}
 use Rattle.rl_session.proofs.Sessions.IdleLemmas.{NoneStarts-kill}
 use Rattle.rl_session.proofs.Sessions.SessionLemmas.{AtRest-edit}
 use Rattle.rl_session.proofs.session.Session.do_backspace.Goals as goal

@@ -1,10 +1,7 @@
 use Rattle.std.specs.Option.{option_map}
 use Rattle.std.specs.String.{string_bytes}
-use Rattle.std.proofs.Common.{refl}
+use Rattle.std.proofs.Common.{rules}
 use Rattle.rl_base.specs.declared.motion.Movement.TheVariants.{ForwardChar}
-use Rattle.rl_line.specs.Kills.{delete_plan}
-use Rattle.rl_session.specs.Commands.{hands_out}
-use Rattle.rl_session.proofs.Sessions.ReplyLemmas.{Edits-replied}
 use Rattle.rl_session.proofs.Sessions.IdleLemmas.{NoneStarts-kill}
 use Rattle.rl_session.proofs.Sessions.SessionLemmas.{AtRest-edit}
 use Rattle.rl_session.proofs.session.Session.do_delete.Goals as goal
@@ -15,5 +12,4 @@ invariant_of-self c =
     AtRest-edit a_copy _ (option_map string_bytes) c.self.inside.pair c.delete.new.listener c.self.inside.line c.delete.new.self c.delete.result (rw (← c.self.view_is) at c.stands.ensures.cursor) (NoneStarts-kill c.self.inside.line (ForwardChar c.args.n)) c.delete.ensures.done c.delete.ensures.halted c.self.invariant
 
 pub returns : goal.returns
-returns c =
-    Edits-replied a_copy hands_out (λ l. delete_plan l c.args.n) c.self.view_is tt c.handed_out.ensures (record { options = refl; done = c.delete.ensures.done; halted = c.delete.ensures.halted })
+returns c = search rules

@@ -1,7 +1,4 @@
-use Rattle.std.proofs.Common.{refl}
-use Rattle.rl_line.specs.Kills.{kill_plan}
-use Rattle.rl_session.specs.Commands.{answers}
-use Rattle.rl_session.proofs.Sessions.ReplyLemmas.{Edits-replied}
+use Rattle.std.proofs.Common.{rules}
 use Rattle.rl_session.proofs.Sessions.IdleLemmas.{NoneStarts-kill}
 use Rattle.rl_session.proofs.Sessions.SessionLemmas.{AtRest-edit}
 use Rattle.rl_session.proofs.session.Session.do_delete_by.Goals as goal
@@ -12,5 +9,4 @@ invariant_of-self c =
     AtRest-edit nothing_more _ (λ a. a) c.self.inside.pair c.delete_by.new.listener c.self.inside.line c.delete_by.new.self c.delete_by.result (rw (← c.self.view_is) at c.stands.ensures.cursor) (NoneStarts-kill c.self.inside.line c.args.movement.now) c.delete_by.ensures.done c.delete_by.ensures.halted c.self.invariant
 
 pub returns : goal.returns
-returns c =
-    Edits-replied nothing_more answers (λ l. kill_plan l c.args.movement.now) c.self.view_is tt c.answered.ensures (record { options = refl; done = c.delete_by.ensures.done; halted = c.delete_by.ensures.halted })
+returns c = search rules

@@ -1,7 +1,3 @@
-use Rattle.std.proofs.Common.{refl, rules}
-use Rattle.rl_line.specs.Edits.{delete_range_plan}
-use Rattle.rl_session.specs.Commands.{is_done}
-use Rattle.rl_session.proofs.Sessions.ReplyLemmas.{Edits-replied}
 use Rattle.rl_session.proofs.Sessions.SessionLemmas.{AtRest-edit}
 use Rattle.rl_session.proofs.session.Session.do_delete_range.Goals as goal
 use Rattle.rl_line.specs.Plan.{nothing_more}
@@ -9,7 +5,3 @@ use Rattle.rl_line.specs.Plan.{nothing_more}
 pub invariant_of-self : goal.invariant_of-self
 invariant_of-self c =
     AtRest-edit nothing_more _ (λ a. a) c.self.inside.pair c.delete_range.new.listener c.self.inside.line c.delete_range.new.self c.delete_range.result (rw (← c.self.view_is) at c.stands.ensures.cursor) (tt, tt) c.delete_range.ensures.done c.delete_range.ensures.halted c.self.invariant
-
-pub returns : goal.returns
-returns c =
-    Edits-replied nothing_more is_done (λ l. delete_range_plan l c.args.from c.args.to) c.self.view_is (search rules) c.done.ensures (record { options = refl; done = c.delete_range.ensures.done; halted = c.delete_range.ensures.halted })

@@ -1,7 +1,4 @@
-use Rattle.std.proofs.Common.{refl}
-use Rattle.rl_line.specs.LetterCase.{edit_word_plan}
-use Rattle.rl_session.specs.Commands.{answers}
-use Rattle.rl_session.proofs.Sessions.ReplyLemmas.{Edits-replied}
+use Rattle.std.proofs.Common.{rules}
 use Rattle.rl_session.proofs.Sessions.IdleLemmas.{NoneStarts-edit_word}
 use Rattle.rl_session.proofs.Sessions.SessionLemmas.{AtRest-edit}
 use Rattle.rl_session.proofs.session.Session.do_edit_word.Goals as goal
@@ -12,5 +9,4 @@ invariant_of-self c =
     AtRest-edit a_copy _ (λ a. a) c.self.inside.pair c.edit_word.new.listener c.self.inside.line c.edit_word.new.self c.edit_word.result (rw (← c.self.view_is) at c.stands.ensures.cursor) (NoneStarts-edit_word c.self.inside.line c.args.action) c.edit_word.ensures.done c.edit_word.ensures.halted c.self.invariant
 
 pub returns : goal.returns
-returns c =
-    Edits-replied a_copy answers (λ l. edit_word_plan l c.args.action) c.self.view_is tt c.answered.ensures (record { options = refl; done = c.edit_word.ensures.done; halted = c.edit_word.ensures.halted })
+returns c = search rules

@@ -1,7 +1,3 @@
-use Rattle.std.proofs.Common.{refl}
-use Rattle.rl_line.specs.Indents.{indent_plan}
-use Rattle.rl_session.specs.Commands.{answers}
-use Rattle.rl_session.proofs.Sessions.ReplyLemmas.{Edits-replied}
 use Rattle.rl_session.proofs.Sessions.IdleLemmas.{NoneStarts-indent}
 use Rattle.rl_session.proofs.Sessions.SessionLemmas.{AtRest-edit}
 use Rattle.rl_session.proofs.session.Session.do_indent.Goals as goal
@@ -10,7 +6,3 @@ use Rattle.rl_line.specs.Plan.{room_by_step}
 pub invariant_of-self : goal.invariant_of-self
 invariant_of-self c =
     AtRest-edit room_by_step _ (λ a. a) c.self.inside.pair c.indent.new.listener c.self.inside.line c.indent.new.self c.indent.result (rw (← c.self.view_is) at c.stands.ensures.cursor) (NoneStarts-indent c.self.inside.line c.args.movement.now c.args.amount c.args.dedent) c.indent.ensures.done c.indent.ensures.halted c.self.invariant
-
-pub returns : goal.returns
-returns c =
-    Edits-replied room_by_step answers (λ l. indent_plan l c.args.movement.now c.args.amount c.args.dedent) c.self.view_is tt c.answered.ensures (record { options = refl; done = c.indent.ensures.done; halted = c.indent.ensures.halted })

@@ -1,7 +1,4 @@
-use Rattle.std.proofs.Common.{refl}
-use Rattle.rl_line.specs.Edits.{insert_plan}
-use Rattle.rl_session.specs.Commands.{inserts}
-use Rattle.rl_session.proofs.Sessions.ReplyLemmas.{Edits-replied}
+use Rattle.std.proofs.Common.{rules}
 use Rattle.rl_session.proofs.Sessions.IdleLemmas.{NoneStarts-insert}
 use Rattle.rl_session.proofs.Sessions.SessionLemmas.{AtRest-edit}
 use Rattle.rl_session.proofs.session.Session.do_insert.Goals as goal
@@ -12,5 +9,4 @@ invariant_of-self c =
     AtRest-edit room_by_step _ (λ a. a) c.self.inside.pair c.insert.new.listener c.self.inside.line c.insert.new.self c.insert.result (rw (← c.self.view_is) at c.stands.ensures.cursor) (NoneStarts-insert c.self.inside.line c.args.c c.args.n) c.insert.ensures.done c.insert.ensures.halted c.self.invariant
 
 pub returns : goal.returns
-returns c =
-    Edits-replied room_by_step inserts (λ l. insert_plan l c.args.c c.args.n) c.self.view_is tt refl (record { options = refl; done = c.insert.ensures.done; halted = c.insert.ensures.halted })
+returns c = search rules

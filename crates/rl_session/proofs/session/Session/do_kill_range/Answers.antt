@@ -1,8 +1,7 @@
-use Rattle.std.proofs.Common.{false, refl, rules}
+use Rattle.std.proofs.Common.{false, rules}
 use Rattle.rl_line.specs.Kills.{kill_range_plan}
 use Rattle.rl_line.specs.Ranges.{unless_empty}
 use Rattle.rl_session.proofs.Sessions.IdleLemmas.{NoneStarts-removal}
-use Rattle.rl_session.proofs.Sessions.ReplyLemmas.{KillRange-replied}
 use Rattle.rl_session.proofs.Sessions.SessionLemmas.{AtRest-told}
 use Rattle.rl_session.proofs.session.Session.do_kill_range.Goals as goal
 
@@ -12,5 +11,4 @@ invariant_of-self c =
     (rw (← c.self.view_is) at c.stands.ensures.cursor) (NoneStarts-removal c.self.inside.line (unless_empty c.args.from c.args.to) c.args.dir) c.kill_range.ensures.done c.kill_range.ensures.halted c.self.invariant
 
 pub returns : goal.returns
-returns c =
-    KillRange-replied c.args.from c.args.to c.args.dir _ _ c.self.view_is (search rules) c.answered.ensures refl c.kill_range.ensures.done c.kill_range.ensures.halted
+returns c = search rules

@@ -1,5 +1,4 @@
-use Rattle.std.proofs.Common.{refl}
-use Rattle.rl_session.proofs.Sessions.ReplyLemmas.{Redo-replied}
+use Rattle.std.proofs.Common.{rules}
 use Rattle.rl_session.proofs.Sessions.SessionLemmas.{Walks-redo}
 use Rattle.rl_line.proofs.Records.MoveLemmas.{redo-fits}
 use Rattle.rl_line.proofs.Records.WalkLemmas.{Walks-ahead}
@@ -14,4 +13,4 @@ redo_telling-requires-clause-follows c =
     (Walks-ahead c.self.inside.pair.changes c.self.inside.line c.self.invariant.walks (rw (← c.self.view_is) at c.stands.ensures.cursor))
 
 pub returns : goal.returns
-returns c = Redo-replied _ _ c.self.view_is c.answered.ensures refl c.redo_telling.ensures.done c.redo_telling.ensures.told c.redo_telling.ensures.err c.redo_telling.ensures.kept
+returns c = search rules

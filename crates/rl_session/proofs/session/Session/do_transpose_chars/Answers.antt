@@ -1,7 +1,3 @@
-use Rattle.std.proofs.Common.{refl}
-use Rattle.rl_line.specs.Transpositions.{transpose_chars_plan}
-use Rattle.rl_session.specs.Commands.{answers}
-use Rattle.rl_session.proofs.Sessions.ReplyLemmas.{Edits-replied}
 use Rattle.rl_session.proofs.Sessions.IdleLemmas.{NoneStarts-transpose_chars}
 use Rattle.rl_session.proofs.Sessions.SessionLemmas.{AtRest-edit}
 use Rattle.rl_session.proofs.session.Session.do_transpose_chars.Goals as goal
@@ -10,7 +6,3 @@ use Rattle.rl_line.specs.Plan.{a_copy}
 pub invariant_of-self : goal.invariant_of-self
 invariant_of-self c =
     AtRest-edit a_copy _ (λ a. a) c.self.inside.pair c.transpose_chars.new.listener c.self.inside.line c.transpose_chars.new.self c.transpose_chars.result (rw (← c.self.view_is) at c.stands.ensures.cursor) (NoneStarts-transpose_chars c.self.inside.line) c.transpose_chars.ensures.done c.transpose_chars.ensures.halted c.self.invariant
-
-pub returns : goal.returns
-returns c =
-    Edits-replied a_copy answers (λ l. transpose_chars_plan l) c.self.view_is tt c.answered.ensures (record { options = refl; done = c.transpose_chars.ensures.done; halted = c.transpose_chars.ensures.halted })

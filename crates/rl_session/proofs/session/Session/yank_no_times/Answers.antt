@@ -21,4 +21,4 @@ returns c =
     let old : State = record { line = c.self.inside.line; pair = c.self.inside.pair; options = c.self.inside.options } in
     let inside : State = record { line = c.self.inside.line; pair = record c.self.inside.pair { ring = c.yanks_some.new.ring }; options = c.self.inside.options } in
     rw (← c.self.view_is) (Yank-replied 0 (yank_plan c.self.inside.line (45 ∷ []) 0) inside old _ c.yank.result (rw c.yanks_some.ensures.ring refl)
-    (lent-no_times c.self.inside.line (45 ∷ []) _ (omega arith) (c.yanks_some.ensures.some c.if-not-yanks_some.false)) c.inserted.ensures (record { options = refl; done = c.yank.ensures.done; halted = c.yank.ensures.halted }))
+    (lent-no_times c.self.inside.line (45 ∷ []) _ (omega arith) (c.yanks_some.ensures.some c.if-not-yanks_some.false)) c.inserted.ensures refl c.yank.ensures.done c.yank.ensures.halted)
