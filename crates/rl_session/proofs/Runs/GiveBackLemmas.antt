@@ -14,7 +14,7 @@ use Rattle.rl_line.proofs.Records.RecordLemmas.{inverse-undoes, then_some}
 use Rattle.rl_line.proofs.Records.UnitLemmas.{last_of-change}
 use Rattle.rl_line.proofs.Records.WalkLemmas.{cursor_told-back}
 use Rattle.rl_session.proofs.Runs.HistoryLemmas.{redo-row, undo-row}
-use Rattle.rl_session.proofs.Runs.RowLemmas.{Leads-split}
+use Rattle.rl_session.proofs.Runs.RowLemmas.{Leads-keeps, Leads-split}
 use Rattle.rl_session.specs.Commands.{asked, readied}
 use Rattle.rl_session.specs.declared.session.Command.{Command}
 use Rattle.rl_session.specs.declared.session.Command.TheVariants as asks
@@ -60,11 +60,6 @@ over-one e line now text cursor makes told h =
 Sound : State → Type 0
 Sound s = IsUtf8 s.line.text × IsCharBoundary s.line.text s.line.cursor
 
-Sound-Leads : (rows : List Row) (old new : State) → Leads old rows new → Sound old → Sound new
-unfolding Sound
-Sound-Leads [] old new l h = subst Sound (sym l) h
-Sound-Leads (row ∷ rows) old new l h = Sound-Leads rows row.after new l.1 (row.step.stands.utf8, row.step.stands.cursor)
-
 -- what a row left whose edit added one entry
 pub record AddedBy (row : Row) (e : Entry) (later : List Row) (new : State) : Type 0 where
   pub adds : Adds e row.before.line row.after.line row.after.pair.changes
@@ -78,7 +73,7 @@ added-by : (old new : State) (commands : List Command) (replies : List Reply)
 unfolding Sound
 added-by old new commands replies earlier later row e b run is i w adds =
     let p = Leads-split earlier (row ∷ later) old new (subst (λ rows. Leads old rows new) is run.leads) in
-    let sound : Sound row.before = subst Sound (sym p.2.0) (Sound-Leads earlier old p.0 p.1 (b.utf8, b.cursor)) in
+    let sound : Sound row.before = subst Sound (sym p.2.0) (Leads-keeps Sound (λ row h. (row.step.stands.utf8, row.step.stands.cursor)) earlier old p.0 p.1 (b.utf8, b.cursor)) in
     record { adds = row-adds row e sound.0 sound.1 i w adds; utf8 = sound.0; goes_on = p.2.1 }
 
 -- an undo right after it, and what waits to be redone then

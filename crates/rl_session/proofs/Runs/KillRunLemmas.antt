@@ -1,7 +1,7 @@
 -- Directed kills of a session take one part of its text, which the newest slot holds, so that a yank gives it back.
 use Rattle.std.proofs.Common.{◌≡◌, ℕ, ◌+◌, ◌*◌, ◌<◌, ◌≤◌, ◌⊎◌, inl, inr, zero, suc, Bool, true, false, not, cond, List, [], ◌∷◌, ◌++◌, map, length, Option, Some, None, refl, sym, ap, subst, ◌∙◌, arith, length-append, append-nil}
 use Rattle.std.proofs.Math.Bool.{and-false}
-use Rattle.std.proofs.lemmas.Bool.{eqb-true, eqb-false, le-ltb}
+use Rattle.std.proofs.lemmas.Bool.{cond_both, eqb-true, eqb-false, le-ltb}
 use Rattle.std.proofs.lemmas.List.{map-append, nil_from_length}
 use Rattle.std.proofs.lemmas.List.Edits.{length-between}
 use Rattle.std.proofs.lemmas.Option.{same_Some}
@@ -41,6 +41,7 @@ use Rattle.rl_session.specs.declared.session.Command.TheVariants.{Yank, Kill, Ki
 use Rattle.rl_session.specs.declared.session.Reply.{Reply}
 use Rattle.rl_session.specs.declared.session.Reply.TheVariants as says
 use Rattle.rl_session.proofs.Sessions.PairLemmas.{Halted-own}
+use Rattle.rl_session.proofs.Runs.RowLemmas.{Leads-keeps}
 use Rattle.rl_line.proofs.Plans.PlanLemmas.{first_step}
 
 -- ---- the newest slot
@@ -152,18 +153,10 @@ Became-size (puts_ends a) old new d = ap (λ (s : State). s.pair.ring.size) d.1
 Became-size (keeps text) old new d = ap (λ (s : State). s.pair.ring.size) d ∙ killed_as-size old.pair.ring.size old.pair.ring.last text Append old.pair.ring
 Became-size _ old new d = ap (λ (s : State). s.pair.ring.size) d.1
 
-reset-size : (b : Bool) (r : Ring) → (cond b (reset r) r).size ≡ r.size
-reset-size true r = refl
-reset-size false r = refl
-
-kept-size : (b : Bool) (r : Ring) → (cond b r (reset r)).size ≡ r.size
-kept-size true r = refl
-kept-size false r = refl
-
 Step-size : (old : State) (command : Command) (reply : Reply) (new : State) → Step old command reply new → new.pair.ring.size ≡ old.pair.ring.size
 Step-size old command reply new s =
-    ap (λ (n : State). n.pair.ring.size) s.settles ∙ reset-size _ s.left.pair.ring
-    ∙ Became-size (effect (readied command old) command reply) (readied command old) s.left s.does ∙ kept-size _ old.pair.ring
+    ap (λ (n : State). n.pair.ring.size) s.settles ∙ cond_both _ _ _ (λ (r : Ring). r.size ≡ s.left.pair.ring.size) (λ e. refl) (λ e. refl)
+    ∙ Became-size (effect (readied command old) command reply) (readied command old) s.left s.does ∙ cond_both _ _ _ (λ (r : Ring). r.size ≡ old.pair.ring.size) (λ e. refl) (λ e. refl)
 
 -- a state of a session whose ring has room
 record Roomy (s : State) : Type 0 where
@@ -174,10 +167,7 @@ Roomy-Step : (old : State) (command : Command) (reply : Reply) (new : State) →
 Roomy-Step old command reply new some s = record { stands = s.stands; some = omega (arith, Step-size old command reply new s) }
 
 Roomy-Leads : (rows : List Row) (old new : State) → Leads old rows new → Roomy old → Roomy new
-Roomy-Leads [] old new l h = subst Roomy (sym l) h
-Roomy-Leads (row ∷ rows) old new l h =
-    let some = subst (λ (s : State). 0 < s.pair.ring.size) (sym l.0) h.some in
-    Roomy-Leads rows row.after new l.1 (Roomy-Step row.before row.command row.reply row.after some row.step)
+Roomy-Leads rows old new l h = Leads-keeps Roomy (λ row r. Roomy-Step row.before row.command row.reply row.after r.some row.step) rows old new l h
 
 -- ---- a kill by a directed movement
 killed-side : (line : Line) (m : Movement) → IsDirected m → IsUtf8 line.text → IsCharBoundary line.text line.cursor → IfSome (killed_range line m) (LiesOn (side_of line m) line.cursor)
@@ -417,10 +407,6 @@ yank-lent : (o : Option (List ℕ)) (r : Ring) → yank (lent o r) ≡ yank r
 yank-lent None r = refl
 yank-lent (Some s) r = refl
 
-yank-reset : (b : Bool) (r : Ring) → yank (cond b (reset r) r) ≡ yank r
-yank-reset true r = refl
-yank-reset false r = refl
-
 back-text : (start : List ℕ) (now : State) (m : Missing start now) (text : List ℕ)
     → (length m.slot ≡ 0) × (text ≡ now.line.text) ⊎ (apply (InsertStr now.line.cursor m.slot) now.line.text ≡ Some text) → text ≡ start
 back-text start now m text (inl e) =
@@ -436,7 +422,7 @@ GivenBack-yanked old now left new m reset_after settles y =
     record {
       text_is = text;
       yanked = m.slot;
-      slot_is = ap (λ (s : State). yank s.pair.ring) settles ∙ yank-reset reset_after left.pair.ring ∙ y.slot_is
+      slot_is = ap (λ (s : State). yank s.pair.ring) settles ∙ cond_both reset_after _ _ (λ (r : Ring). yank r ≡ yank left.pair.ring) (λ e. refl) (λ e. refl) ∙ y.slot_is
           ∙ yank-lent (yank now.pair.ring) now.pair.ring ∙ m.newest.slot_is;
       front = m.swaps.front;
       after = m.swaps.rest;

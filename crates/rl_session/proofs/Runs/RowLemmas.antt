@@ -93,6 +93,11 @@ within_bound-none s none =
     ap (λ (b : Bound). record s { pair = record s.pair { changes = forgotten b.entries b.bytes r } }) none
     ∙ ap (λ (es : List Entry). record s { pair = record s.pair { changes = record r { recorded = es } } }) (fitting-stay unbounded unbounded r.recorded refl)
 
+-- what a row keeps, rows keep
+pub Leads-keeps : (Holds : State → Type 0) → ((row : Row) → Holds row.before → Holds row.after) → (rows : List Row) (old new : State) → Leads old rows new → Holds old → Holds new
+Leads-keeps Holds next [] old new l k = subst Holds (sym l) k
+Leads-keeps Holds next (row ∷ rows) old new l k = Leads-keeps Holds next rows row.after new l.1 (next row (subst Holds (sym l.0) k))
+
 Leads-more : (rows : List Row) (row : Row) (old mid : State) → Leads old rows mid → row.before ≡ mid → Leads old (rows ++ row ∷ []) row.after
 Leads-more [] row old mid l e = (e ∙ l, refl)
 Leads-more (r ∷ rs) row old mid l e = (l.0, Leads-more rs row r.after mid l.1 e)

@@ -1,9 +1,7 @@
 -- How the lines of a script part it, and how what is written for them joins.
-use Rattle.std.proofs.Common.{◌≡◌, ◌≢◌, ℕ, zero, suc, length, take, drop, List, [], ◌∷◌, ◌++◌, Option, Some, None, ◌<◌, arith, refl, sym, ap, subst, ◌∙◌, append_assoc, append-nil, true, false, inl, inr}
-use Rattle.std.specs.Prelude.{◌==◌}
-use Rattle.std.proofs.lemmas.Bool.Decides.{nat_tests}
+use Rattle.std.proofs.Common.{◌≡◌, ℕ, zero, suc, length, take, drop, List, [], ◌∷◌, ◌++◌, Option, Some, None, ◌<◌, arith, refl, sym, ap, subst, ◌∙◌, append_assoc, append-nil, inl, inr}
 use borrow.Author.Tests.{eqb-true}
-use Rattle.std.proofs.lemmas.Bool.{eq-eqb}
+use Rattle.std.proofs.lemmas.Bool.{eq-eqb, ne_eqb}
 use Rattle.memchr.specs.Find.{Nowhere, Passes, is_byte}
 use Rattle.std.proofs.KnownBytes.{Appends-trans, Appends-nil, Consumes-trans}
 use Rattle.std.specs.Io.KnownBytes.{Appends, Consumes, IsAtEnd}
@@ -14,27 +12,24 @@ use Rattle.rl_session.specs.Reads.{meaning_of}
 use Rattle.rl_session.specs.declared.grammar.ScriptLine.{ScriptLine}
 use Rattle.rl_session.specs.declared.script.Interpreter.{Interpreter}
 
-not_ten : (b : ℕ) → b ≢ 10 → (b == 10) ≡ false
-not_ten b h = grind (arith, nat_tests)
-
 -- a line that a newline ends
 pub lines_of-ended : (line rest : List ℕ) → HasNoNewline line → lines_of (line ++ 10 ∷ rest) ≡ line ∷ lines_of rest
 lines_of-ended [] rest h = refl
-lines_of-ended (b ∷ bs) rest h = rw (not_ten b h.0) (ap (onto b) (lines_of-ended bs rest h.1))
+lines_of-ended (b ∷ bs) rest h = rw (ne_eqb b 10 h.0) (ap (onto b) (lines_of-ended bs rest h.1))
 
 -- a line that the end of the script ends
 pub lines_of-last : (b : ℕ) (bs : List ℕ) → HasNoNewline (b ∷ bs) → lines_of (b ∷ bs) ≡ (b ∷ bs) ∷ []
-lines_of-last b [] h = rw (not_ten b h.0) refl
-lines_of-last b (c ∷ cs) h = rw (not_ten b h.0) (ap (onto b) (lines_of-last c cs h.1))
+lines_of-last b [] h = rw (ne_eqb b 10 h.0) refl
+lines_of-last b (c ∷ cs) h = rw (ne_eqb b 10 h.0) (ap (onto b) (lines_of-last c cs h.1))
 
 pub whole_lines-ended : (line rest : List ℕ) → HasNoNewline line → whole_lines (line ++ 10 ∷ rest) ≡ line ∷ whole_lines rest
 whole_lines-ended [] rest h = refl
-whole_lines-ended (b ∷ bs) rest h = rw (not_ten b h.0) (ap (onto_some b) (whole_lines-ended bs rest h.1))
+whole_lines-ended (b ∷ bs) rest h = rw (ne_eqb b 10 h.0) (ap (onto_some b) (whole_lines-ended bs rest h.1))
 
 -- a part of a line is none
 pub whole_lines-part : (part : List ℕ) → HasNoNewline part → whole_lines part ≡ []
 whole_lines-part [] h = refl
-whole_lines-part (b ∷ bs) h = rw (not_ten b h.0) (ap (onto_some b) (whole_lines-part bs h.1))
+whole_lines-part (b ∷ bs) h = rw (ne_eqb b 10 h.0) (ap (onto_some b) (whole_lines-part bs h.1))
 
 pub HasNoNewline-append : (xs ys : List ℕ) → HasNoNewline xs → HasNoNewline ys → HasNoNewline (xs ++ ys)
 HasNoNewline-append [] ys h k = k
@@ -172,15 +167,3 @@ Ran-last left mid leaves held holds now_holds now new (b ∷ bs) h n e r end k =
       outputs = subst (λ ls. Outputs started ls (h.took.out ++ k.out) new) whole
           (Outputs-append h.took.lines k.lines started now new h.took.out k.out h.took.outputs k.outputs);
     }
-
--- what `is_empty` says of the elements
-pub is_nil : (xs : List ℕ) (n : ℕ) → n ≡ length xs → (n == 0) ≡ true → xs ≡ []
-is_nil [] n e h = refl
-is_nil (x ∷ xs) n e h = let none : n ≡ 0 = eqb-true n 0 h in absurd (omega arith)
-
-pub not_nil : (xs : List ℕ) (n : ℕ) → n ≡ length xs → (n == 0) ≡ false → xs ≡ [] → ⊥
-not_nil xs n e h nil = let gone : (0 == 0) ≡ false = subst (λ k. (k == 0) ≡ false) (e ∙ ap length nil) h in cc
-
-pub some_length : (xs : List ℕ) → (xs ≡ [] → ⊥) → 0 < length xs
-some_length [] h = absurd (h refl)
-some_length (x ∷ xs) h = omega arith

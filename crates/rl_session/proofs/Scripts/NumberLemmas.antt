@@ -1,9 +1,10 @@
 -- What is no number, and how a number's digits go on.
-use Rattle.std.proofs.Common.{arith, ◌≡◌, ◌≢◌, ℕ, suc, ◌+◌, ◌-◌, ◌*◌, ◌^◌, ◌<◌, ◌≤◌, Bool, true, false, List, [], ◌∷◌, length, get_or, drop, Option, Some, None, refl, sym, ap, subst, ◌∙◌}
+use Rattle.std.proofs.Common.{arith, ◌≡◌, ◌≢◌, ℕ, ◌+◌, ◌-◌, ◌*◌, ◌^◌, ◌<◌, ◌≤◌, Bool, true, false, List, [], ◌∷◌, length, get_or, drop, Option, Some, None, refl, sym, ap, ◌∙◌}
 use Rattle.std.specs.Prelude.{◌&&◌, ◌==◌, nat_lt, nat_le}
 use native.Mathlib.Nat.{pow-le-pow_right}
+use Rattle.std.proofs.lemmas.Bool.{eqb-true, eqb-false}
 use Rattle.std.proofs.lemmas.Bool.Decides.{nat_tests}
-use Rattle.std.proofs.lemmas.List.{at_drop_more}
+use Rattle.std.proofs.lemmas.List.{at_drop_more, nil_from_length}
 use Rattle.rl_session.specs.Spelling.{are_digits, value_from, number_of}
 
 middle_false : (a b c : Bool) → b ≡ false → (a && (b && c)) ≡ false
@@ -55,16 +56,15 @@ number-whole g v bs some all is fits =
     let some' : nat_lt 0 (length bs) ≡ true = positive _ some in
     rw (some', all, fits') (ap (λ n. Some n) is)
 
-nonzero : (n : ℕ) → (suc n == 0) ≡ true → ⊥
-nonzero n h = grind (arith, nat_tests)
-
+-- what a test of the length tells
 pub is_nil : (xs : List ℕ) → (length xs == 0) ≡ true → xs ≡ []
-is_nil [] h = refl
-is_nil (x ∷ xs) h = absurd (nonzero (length xs) h)
+is_nil xs h = nil_from_length xs (eqb-true (length xs) 0 h)
+
+pub not_nil : (xs : List ℕ) → (length xs == 0) ≡ false → xs ≢ []
+not_nil xs h e = eqb-false (length xs) 0 h (ap length e)
 
 pub some_length : (xs : List ℕ) → (length xs == 0) ≡ false → 0 < length xs
-some_length [] h = absurd cc
-some_length (x ∷ xs) h = omega arith
+some_length xs h = let some = eqb-false (length xs) 0 h in omega (arith, some)
 
 -- what an option holds is one
 pub some_same : {A : Type 0} {x y : A} (o : Option A) → o ≡ Some x → o ≡ Some y → x ≡ y
@@ -77,6 +77,3 @@ none_holds o p q = let both = p ∙ q in absurd cc
 -- the value of six hexadecimal digits at most
 pub hex-small : (k n : ℕ) → k < 6 → n < 16 ^ k → n < 1048576
 hex-small k n h p = let m : 16 ^ k ≤ 16 ^ 5 = (let one : 0 < 16 = omega arith in let le : k ≤ 5 = omega arith in pow-le-pow_right one le) in omega arith
-
-pub not_nil : (xs : List ℕ) → (length xs == 0) ≡ false → xs ≢ []
-not_nil xs h e = let no : true ≡ false = subst (λ l. (length l == 0) ≡ false) e h in absurd cc

@@ -1,8 +1,8 @@
 -- The parts of a line, its one meaning, and where it says nothing.
-use Rattle.std.proofs.Common.{arith, ◌≡◌, ◌≢◌, ℕ, ◌-◌, ◌^◌, List, [], ◌∷◌, ◌++◌, Option, Some, None, false, refl, sym, ap, subst, ◌∙◌}
-use Rattle.std.specs.Prelude.{codes, ◌==◌}
+use Rattle.std.proofs.Common.{◌≡◌, ℕ, ◌-◌, ◌^◌, List, [], ◌∷◌, ◌++◌, Option, Some, None, refl, sym, ap, subst, ◌∙◌}
+use Rattle.std.specs.Prelude.{codes}
 use Rattle.std.specs.String.{string_bytes}
-use Rattle.std.proofs.lemmas.Bool.Decides.{nat_tests}
+use Rattle.std.proofs.lemmas.Bool.{ne_eqb}
 use Rattle.rl_base.specs.declared.motion.WordAction.{WordAction}
 use Rattle.rl_session.specs.declared.session.Command.TheVariants.{SetPos, Move, Yank, Delete, Backspace, TransposeWords, EditWord, Kill, Copy, Undo, Truncate}
 use Rattle.rl_session.specs.declared.settings.Setting.TheVariants.{Limit, RingSize, Mode}
@@ -14,26 +14,23 @@ use Rattle.rl_session.proofs.Scripts.PartLemmas.{Lacks}
 use Rattle.rl_session.proofs.Scripts.SpellingLemmas.{Spells-one, SpellsChar-one}
 use Rattle.rl_session.proofs.Scripts.MovementLemmas.{NamesAction-one, NamesMode-one, Numbered-one, CountWord-one, CountAtWord-one, CountSearch-one, RangeDirection-one, Names-one, AmountMovement-one}
 
-other : (b c : ℕ) → b ≢ c → (b == c) ≡ false
-other b c h = grind (arith, nat_tests)
-
 -- the parts of a line
 
 pub word-before : (xs ys : List ℕ) → Lacks 32 xs → word (xs ++ 32 ∷ ys) ≡ xs
 word-before [] ys h = refl
-word-before (x ∷ xs) ys h = rw (other x 32 h.0) (ap (λ l. x ∷ l) (word-before xs ys h.1))
+word-before (x ∷ xs) ys h = rw (ne_eqb x 32 h.0) (ap (λ l. x ∷ l) (word-before xs ys h.1))
 
 pub rest-after : (xs ys : List ℕ) → Lacks 32 xs → rest (xs ++ 32 ∷ ys) ≡ Some ys
 rest-after [] ys h = refl
-rest-after (x ∷ xs) ys h = rw (other x 32 h.0) (rest-after xs ys h.1)
+rest-after (x ∷ xs) ys h = rw (ne_eqb x 32 h.0) (rest-after xs ys h.1)
 
 pub word-whole : (xs : List ℕ) → Lacks 32 xs → word xs ≡ xs
 word-whole [] h = refl
-word-whole (x ∷ xs) h = rw (other x 32 h.0) (ap (λ l. x ∷ l) (word-whole xs h.1))
+word-whole (x ∷ xs) h = rw (ne_eqb x 32 h.0) (ap (λ l. x ∷ l) (word-whole xs h.1))
 
 pub rest-none : (xs : List ℕ) → Lacks 32 xs → rest xs ≡ None
 rest-none [] h = refl
-rest-none (x ∷ xs) h = rw (other x 32 h.0) (rest-none xs h.1)
+rest-none (x ∷ xs) h = rw (ne_eqb x 32 h.0) (rest-none xs h.1)
 
 -- one text at most stands after a number
 

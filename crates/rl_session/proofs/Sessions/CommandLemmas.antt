@@ -10,7 +10,7 @@ use Rattle.rl_line.proofs.Plans.HearingLemmas.{AreChanges}
 use Rattle.rl_session.specs.Commands.{Asked, edit, other, asked, Course, when, edits, stops, lends, pops, tells, Effect, by_steps, Telling, answers, inserts, hands_out, is_done, course_of, edit_course, effect, lent_plan, popped_plan, other_course, told_as, Came, Does, Edited, lent, popped}
 use Rattle.rl_session.specs.State.{State}
 use Rattle.rl_session.specs.declared.session.Command.{Command}
-use Rattle.rl_session.specs.declared.session.Fault.TheVariants.{NoMemory, BadPlace, BadYankSize, NotReplaying}
+use Rattle.rl_session.specs.declared.session.Fault.TheVariants.{NoMemory, BadPlace}
 use Rattle.rl_session.specs.declared.session.Reply.{Reply}
 use Rattle.rl_session.proofs.Sessions.IdleLemmas.{NoneStarts-edit_word, NoneStarts-indent, NoneStarts-insert, NoneStarts-kill, NoneStarts-removal, NoneStarts-transpose_chars, NoneStarts-transpose_words, NoneStarts-yank, NoneStarts-yank_pop}
 use Rattle.std.proofs.lemmas.Bool.{eqb-true}
@@ -98,28 +98,23 @@ popped-changes line None = tt
 popped-changes line (Some p) = NoneStarts-yank_pop line p.0 p.1
 
 other-changes : (old : State) (command : Command) (reply : Reply) → Changes (other_course old command reply)
-other-changes old (asks.SetPos q) says.Done = tt
 other-changes old (asks.SetPos q) (says.Refused BadPlace) = tt
 other-changes old (asks.Move m) (says.Answer a) = tt
-other-changes old (asks.Copy m) (says.Text t) = tt
 other-changes old (asks.Copy m) (says.Refused NoMemory) = tt
 other-changes old (asks.Kill m) (says.Answer a) = NoneStarts-kill old.line m
 other-changes old (asks.Kill m) (says.Refused NoMemory) = NoneStarts-kill old.line m
 other-changes old (asks.KillRange i j side) (says.Answer a) = NoneStarts-removal old.line (unless_empty i j) side
 other-changes old (asks.KillRange i j side) (says.Refused NoMemory) = NoneStarts-removal old.line (unless_empty i j) side
-other-changes old (asks.KillRange i j side) (says.Refused BadPlace) = tt
 other-changes old (asks.Keep t) (says.Refused NoMemory) = tt
 other-changes old (asks.Yank n) (says.Inserted a) = lent-changes old.line (yank old.pair.ring) n
 other-changes old (asks.Yank n) (says.Refused NoMemory) = lent-changes old.line (yank old.pair.ring) n
 other-changes old asks.YankPop (says.Inserted a) = popped-changes old.line (yank_pop old.pair.ring)
 other-changes old asks.YankPop (says.Refused NoMemory) = popped-changes old.line (yank_pop old.pair.ring)
-other-changes old asks.YankPop (says.Refused BadYankSize) = tt
 other-changes old asks.Begin (says.Refused NoMemory) = tt
 other-changes old asks.End (says.Refused NoMemory) = tt
 other-changes old asks.EndOne (says.Refused NoMemory) = tt
 other-changes old (asks.Undo n) (says.Refused NoMemory) = tt
 other-changes old asks.Redo (says.Refused NoMemory) = tt
-other-changes old (asks.Truncate len) (says.Refused NotReplaying) = tt
 other-changes old (asks.Truncate len) (says.Refused NoMemory) = tt
 other-changes old asks.LinePlace (says.At k columns) = tt
 other-changes old command reply = tt

@@ -1,14 +1,12 @@
 -- No kill is on between the commands of a session: only a kill tells its start, and it tells its end too.
-use Rattle.std.proofs.Common.{◌≡◌, ℕ, ◌+◌, ◌-◌, ◌*◌, ◌==◌, ◌||◌, zero, suc, Bool, true, false, List, [], ◌∷◌, ◌++◌, length, Option, Some, None, refl, ap, subst, ◌∙◌, cond, inl, inr}
+use Rattle.std.proofs.lemmas.Bool.{cond_both}
+use Rattle.std.proofs.Common.{◌≡◌, ℕ, ◌+◌, ◌-◌, ◌*◌, ◌==◌, ◌||◌, Bool, true, false, List, [], ◌∷◌, ◌++◌, length, Option, Some, None, ap, subst, ◌∙◌, inl, inr}
 use Rattle.std.specs.Prelude.{encode_utf8, ℕ}
 use Rattle.std.specs.List.{remove_range}
 use Rattle.std.specs.declared.ops.Range.{Range}
 use Rattle.rl_base.specs.Event.{Event, InsertChar, InsertStr, Delete, Replace, Start, Stop, Cursors}
-use Rattle.rl_base.specs.declared.kill_ring.Action.{Action}
-use Rattle.rl_base.specs.declared.kill_ring.Action.TheVariants as did
-use Rattle.rl_base.specs.declared.kill_ring.Mode.{Mode}
 use Rattle.rl_base.specs.Reports.{IsChange}
-use Rattle.rl_base.specs.KillRing.{Ring, after_deletion, killed_as, lent, popped_ring, ring_step, turned, yank, yank_popped, yank_size, yanked}
+use Rattle.rl_base.specs.KillRing.{Ring, after_deletion, lent, popped_ring, ring_step, turned, yank, yank_popped, yank_size, yanked}
 use Rattle.rl_base.specs.declared.listeners.Direction.{Direction}
 use Rattle.rl_base.specs.declared.listeners.Refusal.{Refusal}
 use Rattle.rl_base.specs.declared.motion.Movement.{Movement}
@@ -79,13 +77,6 @@ pub idle-Told : (b : Bool) (P : Pair → Pair → Type 0) (p q : Pair) → (P p 
 idle-Told true P p q alone t = alone t
 idle-Told false P p q alone t = ap (λ (k : Pair). k.ring.killing) t.ended
 
--- a kill that is no step of a line leaves whether one is on
-pub killed_as-killing : (size : ℕ) (last : Action) (text : List ℕ) (mode : Mode) (r : Ring) → (killed_as size last text mode r).killing ≡ r.killing
-killed_as-killing zero last text mode r = refl
-killed_as-killing (suc n) did.Kill text mode r = refl
-killed_as-killing (suc n) (did.Yank m) text mode r = refl
-killed_as-killing (suc n) did.Other text mode r = refl
-
 -- a ring that lends a text stays idle
 idle-lent : (slot : Option (List ℕ)) (r : Ring) → r.killing ≡ false → (lent slot r).killing ≡ false
 idle-lent None r h = h
@@ -102,20 +93,14 @@ pub idle-popped : (r now : Ring) → now ≡ yank_popped r → r.killing ≡ fal
 idle-popped r now e h = ap (λ (k : Ring). k.killing) e ∙ idle-popped_ring (yank_size r) r h
 
 -- ---- no plan tells the start of a kill: each step is a change
--- one plan or another
-NoneStarts-either : {A : Type 0} (b : Bool) (plan other : Plan A) → NoneStarts plan.steps → NoneStarts other.steps → NoneStarts (cond b plan other).steps
-NoneStarts-either true plan other n m = n
-NoneStarts-either false plan other n m = m
-
-IsChange-insert_event : (once : Bool) (i c : ℕ) (text : List ℕ) → IsChange (cond once (InsertChar i c) (InsertStr i text))
-IsChange-insert_event true i c text = tt
-IsChange-insert_event false i c text = tt
-
 pub NoneStarts-insert : (line : Line) (c n : ℕ) → NoneStarts (insert_plan line c n).steps
-NoneStarts-insert line c n = NoneStarts-either (too_long line (length line.text + length (encode_utf8 c) * n)) _ _ tt (IsChange-insert_event (n == 1) line.cursor c _, tt)
+NoneStarts-insert line c n =
+    cond_both (too_long line (length line.text + length (encode_utf8 c) * n)) _ _ (λ (p : Plan (Option Bool)). NoneStarts p.steps) (λ e. tt)
+    (λ e. (cond_both (n == 1) _ _ IsChange (λ e. tt) (λ e. tt), tt))
 
 pub NoneStarts-yank : (line : Line) (s : List ℕ) (n : ℕ) → NoneStarts (yank_plan line s n).steps
-NoneStarts-yank line s n = NoneStarts-either ((length s == 0) || too_long line (length line.text + length s * n)) _ _ tt (tt, tt)
+NoneStarts-yank line s n =
+    cond_both ((length s == 0) || too_long line (length line.text + length s * n)) _ _ (λ (p : Plan (Option Bool)). NoneStarts p.steps) (λ e. tt) (λ e. (tt, tt))
 
 pub NoneStarts-yank_pop : (line : Line) (z : ℕ) (s : List ℕ) → NoneStarts (yank_pop_plan line z s).steps
 NoneStarts-yank_pop line z s = (tt, NoneStarts-yank (stepped line (remove_range line.text (line.cursor - z) line.cursor) (line.cursor - z)) s 1)
@@ -135,7 +120,8 @@ pub NoneStarts-transpose_chars : (line : Line) → NoneStarts (transpose_chars_p
 NoneStarts-transpose_chars line = NoneStarts-pulled_back line _
 
 pub NoneStarts-transpose_words : (line : Line) (n : ℕ) → NoneStarts (transpose_words_plan line n).steps
-NoneStarts-transpose_words line n = NoneStarts-either (are_two (first_word line n) (second_word line n)) _ _ (tt, (tt, (tt, (tt, tt)))) tt
+NoneStarts-transpose_words line n =
+    cond_both (are_two (first_word line n) (second_word line n)) _ _ (λ (p : Plan Bool). NoneStarts p.steps) (λ e. (tt, (tt, (tt, (tt, tt))))) (λ e. tt)
 
 NoneStarts-respell : (line : Line) (action : WordAction) (word : Option (Range ℕ)) → NoneStarts (respell line action word).steps
 NoneStarts-respell line action None = tt

@@ -21,7 +21,8 @@ use Rattle.rl_session.proofs.Runs.CursorLemmas.{IsLone, Quiet, ends_at}
 use Rattle.rl_line.specs.Line.{Line, between, stepped}
 use Rattle.rl_line.specs.Plan.{Step, Plan, answering, nothing, single}
 use Rattle.rl_line.specs.Ranges.{killed, text_in, to_place}
-use Rattle.rl_line.specs.Record.{Insertion, Deletion, Changed, entries_of, untold}
+use Rattle.rl_line.specs.Record.{Entry, entries_of}
+use Rattle.std.proofs.lemmas.Bool.{cond_both}
 use Rattle.std.proofs.lemmas.List.{length_push, reverse-append, reverse-reverse, length-take-le, length-drop}
 use Rattle.std.proofs.lemmas.List.Elements.{All-head, All-weaker}
 use Rattle.std.proofs.lemmas.Option.{same_Some}
@@ -44,21 +45,16 @@ pub record Settles {A : Type 0} (line : Line) (plan : Plan A) : Type 0 where
   pub ends : (plan.steps ≡ [] → ⊥) → plan.cursor ≡ ends_at line.cursor plan.steps
 
 -- ---- an event that adds no entry is one of an empty text
+none-empty : (s : List ℕ) (e : Entry) → cond (length s == 0) [] (e ∷ []) ≡ [] → length s ≡ 0
+none-empty s e = cond_both (length s == 0) [] (e ∷ []) (λ es. es ≡ [] → length s ≡ 0) (λ yes h. eqb-true (length s) 0 yes) (λ no h. cc)
+
 pub empty-inserted : (i : ℕ) (s : List ℕ) → entries_of (InsertStr i s) ≡ [] → length s ≡ 0
 unfolding entries_of
-empty-inserted i s e = from (length s == 0) refl e
-  where
-    from : (b : Bool) → (length s == 0) ≡ b → cond b [] (Changed Insertion (untold i [] s) ∷ []) ≡ [] → length s ≡ 0
-    from true h k = eqb-true (length s) 0 h
-    from false h k = cc
+empty-inserted i s e = none-empty s _ e
 
 pub empty-deleted : (i : ℕ) (s : List ℕ) (side : Direction) → entries_of (Delete i s side) ≡ [] → length s ≡ 0
 unfolding entries_of
-empty-deleted i s side e = from (length s == 0) refl e
-  where
-    from : (b : Bool) → (length s == 0) ≡ b → cond b [] (Changed Deletion (untold i s []) ∷ []) ≡ [] → length s ≡ 0
-    from true h k = eqb-true (length s) 0 h
-    from false h k = cc
+empty-deleted i s side e = none-empty s _ e
 
 pub never-char : (i c : ℕ) → entries_of (InsertChar i c) ≡ [] → ⊥
 unfolding entries_of
@@ -67,11 +63,6 @@ never-char i c e = cc
 pub never-replaced : (i : ℕ) (s t : List ℕ) → entries_of (Replace i s t) ≡ [] → ⊥
 unfolding entries_of
 never-replaced i s t e = cc
-
--- one plan or another
-Settles-either : {A : Type 0} (line : Line) (b : Bool) (plan other : Plan A) → Settles line plan → Settles line other → Settles line (cond b plan other)
-Settles-either line true plan other n m = n
-Settles-either line false plan other n m = m
 
 pub Settles-nothing : {A : Type 0} (line : Line) (a : A) → Settles line (nothing line a)
 Settles-nothing line a = record { quiet = tt; ends = λ some. absurd (some refl) }
@@ -82,28 +73,22 @@ Settles-single line event cursor a same lone = record { quiet = (same, lone, tt)
 
 -- ---- what is put in
 inserted-still : (i c n cursor : ℕ) → entries_of (insert_event i c n) ≡ [] → cursor + length (encode_utf8 c) * n ≡ cursor
-inserted-still i c n cursor = from (n == 1)
-  where
-    from : (once : Bool) → entries_of (cond once (InsertChar i c) (InsertStr i (repeat n (encode_utf8 c)))) ≡ [] → cursor + length (encode_utf8 c) * n ≡ cursor
-    from true e = absurd (never-char i c e)
-    from false e = omega (arith, length-repeat n (encode_utf8 c), empty-inserted i (repeat n (encode_utf8 c)) e)
-
-inserted-lone : (once : Bool) (i c : ℕ) (s : List ℕ) → IsLone (cond once (InsertChar i c) (InsertStr i s)) []
-inserted-lone true i c s = tt
-inserted-lone false i c s = tt
+inserted-still i c n cursor =
+    cond_both (n == 1) _ _ (λ event. entries_of event ≡ [] → cursor + length (encode_utf8 c) * n ≡ cursor) (λ e none. absurd (never-char i c none))
+    (λ e none. omega (arith, length-repeat n (encode_utf8 c), empty-inserted i (repeat n (encode_utf8 c)) none))
 
 pub Settles-insert : (line : Line) (c n : ℕ) → Settles line (insert_plan line c n)
 Settles-insert line c n =
-    Settles-either line (too_long line (length line.text + length (encode_utf8 c) * n)) _ _ (Settles-nothing line None)
-    (Settles-single line (insert_event line.cursor c n) (line.cursor + length (encode_utf8 c) * n) _ (inserted-still line.cursor c n line.cursor) (inserted-lone (n == 1) line.cursor c (repeat n (encode_utf8 c))))
+    cond_both (too_long line (length line.text + length (encode_utf8 c) * n)) _ _ (Settles line) (λ e. Settles-nothing line None)
+    (λ e. Settles-single line (insert_event line.cursor c n) (line.cursor + length (encode_utf8 c) * n) _ (inserted-still line.cursor c n line.cursor) (cond_both (n == 1) _ _ (λ event. IsLone event []) (λ e. tt) (λ e. tt)))
 
 yanked-still : (i n cursor : ℕ) (s : List ℕ) → entries_of (InsertStr i (repeat n s)) ≡ [] → cursor + length s * n ≡ cursor
 yanked-still i n cursor s e = omega (arith, length-repeat n s, empty-inserted i (repeat n s) e)
 
 pub Settles-yank : (line : Line) (s : List ℕ) (n : ℕ) → Settles line (yank_plan line s n)
 Settles-yank line s n =
-    Settles-either line ((length s == 0) || too_long line (length line.text + length s * n)) _ _ (Settles-nothing line None)
-    (Settles-single line (InsertStr line.cursor (repeat n s)) (line.cursor + length s * n) _ (yanked-still line.cursor n line.cursor s) tt)
+    cond_both ((length s == 0) || too_long line (length line.text + length s * n)) _ _ (Settles line) (λ e. Settles-nothing line None)
+    (λ e. Settles-single line (InsertStr line.cursor (repeat n s)) (line.cursor + length s * n) _ (yanked-still line.cursor n line.cursor s) tt)
 
 pub Settles-insert_str : (line : Line) (i : ℕ) (s : List ℕ) → Settles line (insert_str_plan line i s)
 Settles-insert_str line i s = Settles-single line (InsertStr i s) line.cursor _ (λ e. refl) tt
@@ -144,13 +129,8 @@ Settles-yank_pop line z s within =
       ends = λ some. yank-end (stepped line (remove_range line.text from line.cursor) from) s 1;
     }
   where
-    either-end : {A : Type 0} (line : Line) (b : Bool) (plan other : Plan A) → plan.cursor ≡ ends_at line.cursor plan.steps → other.cursor ≡ ends_at line.cursor other.steps
-        → (cond b plan other).cursor ≡ ends_at line.cursor (cond b plan other).steps
-    either-end line true plan other n m = n
-    either-end line false plan other n m = m
-
     yank-end : (line : Line) (s : List ℕ) (n : ℕ) → (yank_plan line s n).cursor ≡ ends_at line.cursor (yank_plan line s n).steps
-    yank-end line s n = either-end line ((length s == 0) || too_long line (length line.text + length s * n)) _ _ refl refl
+    yank-end line s n = cond_both ((length s == 0) || too_long line (length line.text + length s * n)) _ _ (λ (p : Plan (Option Bool)). p.cursor ≡ ends_at line.cursor p.steps) (λ e. refl) (λ e. refl)
 
 pub Settles-update : (line : Line) (s : List ℕ) (q : ℕ) → line.cursor ≤ length line.text → Settles line (update_plan line s q)
 Settles-update line s q within =

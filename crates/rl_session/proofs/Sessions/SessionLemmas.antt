@@ -12,7 +12,7 @@ use Rattle.rl_base.specs.declared.listeners.Refusal.TheVariants as why
 use Rattle.rl_base.specs.declared.motion.Movement.{Movement}
 use Rattle.rl_line.specs.Line.{Line, stepped}
 use Rattle.rl_line.specs.Motions.{Moved}
-use Rattle.rl_line.specs.Plan.{Plan, nothing, single, Done, Halted, or_no_memory, Takes, nothing_more, room_by_step, a_copy}
+use Rattle.rl_line.specs.Plan.{Plan, nothing, single, Done, Halted, or_no_memory, Takes, nothing_more, a_copy}
 use Rattle.rl_line.specs.Edits.{insert_str_plan, too_long, yank_plan}
 use Rattle.rl_line.specs.Kills.{Told, is_by_characters, kill_plan}
 use Rattle.rl_line.specs.Record.{Record, agree, replays_to, unwind}
@@ -83,10 +83,9 @@ AtRest-same p q old new e f h = subst (λ k. AtRest new k) (sym f) (subst (λ l.
 
 AtRest-stopped : {A : Type 0} (takes : Takes) (plan : Plan A) (p q : Pair) (old new : Line) (w : Refusal) → IsCharBoundary old.text old.cursor → NoneStarts plan.steps → Stopped takes plan old new p q w
     → AtRest old p → AtRest new q
-AtRest-stopped nothing_more plan p q old new w at none h = AtRest-refused plan p q old new w at none (Halted-own nothing_more plan old new p q w h)
-AtRest-stopped room_by_step plan p q old new w at none h = AtRest-refused plan p q old new w at none (Halted-own room_by_step plan old new p q w h)
-AtRest-stopped a_copy plan p q old new w at none (inl h) = AtRest-refused plan p q old new w at none (Halted-own a_copy plan old new p q w h)
 AtRest-stopped a_copy plan p q old new w at none (inr u) = AtRest-same p q old new u.1 u.2
+AtRest-stopped a_copy plan p q old new w at none (inl h) = AtRest-refused plan p q old new w at none (Halted-own a_copy plan old new p q w h)
+AtRest-stopped takes plan p q old new w at none h = AtRest-refused plan p q old new w at none (Halted-own takes plan old new p q w h)
 
 pub AtRest-edit : {A B : Type 0} (takes : Takes) (plan : Plan A) (shown : B → A) (p q : Pair) (old new : Line) (result : Result B Refusal) → IsCharBoundary old.text old.cursor → NoneStarts plan.steps
     → IfOk result (λ b. Done pair_step plan old new p q (shown b)) → IfErr result (λ w. Stopped takes plan old new p q w)

@@ -2,7 +2,7 @@
 use Rattle.std.proofs.Common.{◌≡◌, refl, subst}
 use Rattle.rl_base.specs.KillRing.{reset}
 use Rattle.rl_base.specs.declared.motion.Movement.{Movement}
-use Rattle.rl_base.specs.declared.motion.Movement.TheVariants.{WholeLine, BeginningOfLine, EndOfLine, BackwardWord, ForwardWord, ViCharSearch, ViFirstPrint, FirstNonBlank, BackwardChar, ForwardChar, LineUp, LineDown, WholeBuffer, BeginningOfBuffer, EndOfBuffer}
+use Rattle.rl_base.specs.declared.motion.Movement.TheVariants.{BeginningOfLine, EndOfLine, BackwardWord, ForwardWord, ViCharSearch, BeginningOfBuffer, EndOfBuffer}
 use Rattle.rl_line.specs.Kills.{CanDeleteBy, kill_plan}
 use Rattle.rl_line.specs.Plan.{nothing_more}
 use Rattle.rl_session.specs.Commands.{Came, Does, Step, answers, deletion_of, edit_course, readied, settled}
@@ -33,11 +33,4 @@ step_deletion (ForwardWord n at word) can b d e = step_done (DeleteWord at word 
 step_deletion (ViCharSearch n cs) can b d e = step_done (DeleteTo cs n) _ b d refl e
 step_deletion BeginningOfBuffer can b d e = step_done DiscardBuffer _ b d refl e
 step_deletion EndOfBuffer can b d e = step_done KillBuffer _ b d refl e
-step_deletion WholeLine can b d e = absurd can
-step_deletion ViFirstPrint can b d e = absurd can
-step_deletion FirstNonBlank can b d e = absurd can
-step_deletion (BackwardChar n) can b d e = absurd can
-step_deletion (ForwardChar n) can b d e = absurd can
-step_deletion (LineUp n) can b d e = absurd can
-step_deletion (LineDown n) can b d e = absurd can
-step_deletion WholeBuffer can b d e = absurd can
+step_deletion _ can b d e = absurd can

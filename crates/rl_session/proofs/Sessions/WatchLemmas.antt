@@ -1,5 +1,5 @@
 -- What a watch keeps of a text at each event, it keeps over a command.
-use Rattle.std.proofs.Common.{◌≡◌, ◌∙◌, ℕ, ◌^◌, ◌<◌, arith, true, false, List, [], ◌∷◌, length, Option, Some, None, option_map, ◌≤◌, inl, inr, sym, ap, subst}
+use Rattle.std.proofs.Common.{◌≡◌, ◌∙◌, ℕ, ◌^◌, ◌<◌, arith, true, false, List, length, Option, Some, None, option_map, ◌≤◌, inl, inr, sym, ap, subst}
 use Rattle.std.specs.Prelude.{map, option_and_then, reverse, unwrap_or}
 use Rattle.std.proofs.lemmas.Str.{IsCharBoundary-end}
 use Rattle.std.specs.Str.{IsCharBoundary, IsUtf8}
@@ -20,7 +20,7 @@ use Rattle.rl_line.proofs.Plans.HearingLemmas.{AreChanges, Keeps-after}
 use Rattle.rl_session.specs.Commands.{Effect, by_steps, puts_begin, puts_ends, puts_end, shortens, takes_back, puts_again, Became, Step, effect, readied, Course, never, when, stays, goes, edits, stops, lends, pops, tells, Came, WatchHears, lent, popped, keeps}
 use Rattle.rl_session.specs.Pair.{pair_step}
 use Rattle.rl_session.specs.State.{State, ChangedFrom, IsBounded, ReportedFrom, Stands, restarted, with_watch}
-use Rattle.rl_session.specs.Run.{Row, Leads, Run}
+use Rattle.rl_session.specs.Run.{Row, Run}
 use Rattle.rl_session.specs.declared.session.Command.{Command}
 use Rattle.rl_session.specs.declared.session.Reply.{Reply}
 use Rattle.rl_session.specs.declared.pair.Pair.{Pair}
@@ -29,6 +29,7 @@ use Rattle.rl_session.proofs.Sessions.CourseLemmas.{Moved-text}
 use Rattle.rl_session.proofs.Sessions.IdleLemmas.{NoneStarts-ahead, NoneStarts-first}
 use Rattle.rl_session.proofs.Sessions.PairLemmas.{cause-watch, listener_after-watch, own}
 use Rattle.rl_session.proofs.Sessions.RestartLemmas.{apply-all}
+use Rattle.rl_session.proofs.Runs.RowLemmas.{Leads-keeps}
 
 -- what is known of a line before a command and after it
 pub record Texts (old new : Line) : Type 0 where
@@ -175,16 +176,11 @@ reported_restarted read text pos old new e h b k =
     let kept = Kept-restarted (λ w text. IsLineText read × ReportsLead true w.reports read text) (lead_on read) (lead_over read) text pos old k.stands k.bounded utf8 (omega (arith, ap length is, h.within, b)) (k.text, k.leads) in
     record { stands = h; bounded = b; text = kept.0; leads = subst (λ (s : State). ReportsLead true s.pair.watch.reports read s.line.text) (sym e) kept.1 }
 
--- what a fact keeps at each row it keeps over rows
-over : (Holds : State → Type 0) → ((row : Row) → Holds row.before → Holds row.after) → (rows : List Row) (old new : State) → Leads old rows new → Holds old → Holds new
-over Holds next [] old new l k = subst Holds (sym l) k
-over Holds next (row ∷ rows) old new l k = over Holds next rows row.after new l.1 (next row (subst Holds (sym l.0) k))
-
 pub changed_run : (asked : List ℕ) (old new : State) (commands : List Command) (replies : List Reply) → Run old commands replies new → ChangedFrom asked old → ChangedFrom asked new
-changed_run asked old new commands replies run k = over (ChangedFrom asked) (changed_row asked) run.rows old new run.leads k
+changed_run asked old new commands replies run k = Leads-keeps (ChangedFrom asked) (changed_row asked) run.rows old new run.leads k
 
 pub reported_run : (read : List ℕ) (old new : State) (commands : List Command) (replies : List Reply) → Run old commands replies new → ReportedFrom read old → ReportedFrom read new
-reported_run read old new commands replies run k = over (ReportedFrom read) (reported_row read) run.rows old new run.leads k
+reported_run read old new commands replies run k = Leads-keeps (ReportedFrom read) (reported_row read) run.rows old new run.leads k
 
 -- ---- the oldest report is read and forgotten
 present : (s : State) (read : List ℕ) → ReportedFrom read s → IsLineText s.line.text
