@@ -40,14 +40,14 @@ row-adds row e u at i w adds =
 -- an entry that was told its cursors is a unit of its own
 told-change : (e : Entry) (p : ℕ × ℕ) → cursors_of e ≡ Some p → is_change e ≡ true
 told-change (Changed k s) p c = refl
-told-change mark p c = cc
+told-change _ p c = cc
 
 last-one : (es : List Entry) (e : Entry) (p : ℕ × ℕ) → cursors_of e ≡ Some p → last_of 1 (es ++ e ∷ []) ≡ e ∷ []
 last-one es e p told = last_of-change 1 e es (omega arith) (told-change e p told)
 
 next-one : (e : Entry) (p : ℕ × ℕ) → cursors_of e ≡ Some p → redo_of (e ∷ []) ≡ e ∷ []
 next-one (Changed k s) p c = refl
-next-one mark p c = cc
+next-one _ p c = cc
 
 -- a line that goes over one entry
 over-one : (e : Entry) (line now : Line) (text : List ℕ) (cursor : ℕ) → apply (event_of e) line.text ≡ Some text → cursor_told e ≡ Some cursor → line_after e line ≡ Some now

@@ -55,11 +55,9 @@ get-set (s ∷ ss) zero text h = refl
 get-set (s ∷ ss) (suc i) text h = get-set ss i text (omega arith)
 
 get-put : (slots : List (List ℕ)) (i : ℕ) (text : List ℕ) → i ≤ length slots → slice_get (put_at i text slots) i ≡ Some text
-get-put slots i text h = by_end (i == length slots) refl
-  where
-    by_end : (b : Bool) → (i == length slots) ≡ b → slice_get (cond b (slots ++ text ∷ []) (slice_set slots i text)) i ≡ Some text
-    by_end true e = ap (slice_get (slots ++ text ∷ [])) (eqb-true i (length slots) e) ∙ get-after slots text
-    by_end false e = let n = eqb-false i (length slots) e in get-set slots i text (omega arith)
+get-put slots i text h =
+    cond_both (i == length slots) _ _ (λ now. slice_get now i ≡ Some text) (λ e. ap (slice_get (slots ++ text ∷ [])) (eqb-true i (length slots) e) ∙ get-after slots text)
+    (λ e. let n = eqb-false i (length slots) e in get-set slots i text (omega arith))
 
 get-join : (slots : List (List ℕ)) (i : ℕ) (mode : Mode) (old text : List ℕ) → slice_get slots i ≡ Some old
     → slice_get (join_at i mode text slots) i ≡ Some (joined mode old text)
@@ -250,11 +248,7 @@ lies-between line i j Forward le at = at
 lies-between line i j Backward le at = (at, omega (arith, le, at))
 
 range-side : (line : Line) (i j : ℕ) (side : Direction) → i ≤ j → IsDirectedKill line (KillRange i j side) → IfSome (unless_empty i j) (LiesOn side line.cursor)
-range-side line i j side le at = by_test (i == j)
-  where
-    by_test : (b : Bool) → IfSome (cond b None (Some (between i j))) (LiesOn side line.cursor)
-    by_test true = tt
-    by_test false = lies-between line i j side le at
+range-side line i j side le at = cond_both (i == j) _ _ (λ range. IfSome range (LiesOn side line.cursor)) (λ e. tt) (λ e. lies-between line i j side le at)
 
 Kill-outcome : (old new : State) (command : Command) (a : Bool) → IsDirectedKill old.line command → Stands old → Step old command (says.Answer a) new → Outcome a old new
 Kill-outcome old new (Kill m) a directed h s =

@@ -98,22 +98,6 @@ pub Leads-keeps : (Holds : State → Type 0) → ((row : Row) → Holds row.befo
 Leads-keeps Holds next [] old new l k = subst Holds (sym l) k
 Leads-keeps Holds next (row ∷ rows) old new l k = Leads-keeps Holds next rows row.after new l.1 (next row (subst Holds (sym l.0) k))
 
-Leads-more : (rows : List Row) (row : Row) (old mid : State) → Leads old rows mid → row.before ≡ mid → Leads old (rows ++ row ∷ []) row.after
-Leads-more [] row old mid l e = (e ∙ l, refl)
-Leads-more (r ∷ rs) row old mid l e = (l.0, Leads-more rs row r.after mid l.1 e)
-
--- a run, and then one row more
-pub Run-more : (commands : List Command) (replies : List Reply) (command : Command) (reply : Reply) (old mid new : State)
-    → Run old commands replies mid → Step mid command reply new → Run old (commands ++ command ∷ []) (replies ++ reply ∷ []) new
-Run-more commands replies command reply old mid new run step =
-    let row : Row = record { before = mid; command = command; reply = reply; after = new; step = step } in
-    record {
-      rows = run.rows ++ row ∷ [];
-      leads = Leads-more run.rows row old mid run.leads refl;
-      asked = map-append (λ (r : Row). r.command) run.rows (row ∷ []) ∙ ap (λ cs. cs ++ command ∷ []) run.asked;
-      answered = map-append (λ (r : Row). r.reply) run.rows (row ∷ []) ∙ ap (λ cs. cs ++ reply ∷ []) run.answered;
-    }
-
 Leads-append : (xs ys : List Row) (old mid new : State) → Leads old xs mid → Leads mid ys new → Leads old (xs ++ ys) new
 Leads-append [] ys old mid new l k = subst (λ s. Leads s ys new) l k
 Leads-append (x ∷ xs) ys old mid new l k = (l.0, Leads-append xs ys x.after mid new l.1 k)
@@ -156,6 +140,13 @@ Run-parts old new cs rs run xs ys e =
 -- a row is a run
 pub Run-row : (row : Row) → (t : Run row.before (row.command ∷ []) (row.reply ∷ []) row.after) × (t.rows ≡ row ∷ [])
 Run-row row = (record { rows = row ∷ []; leads = (refl, refl); asked = refl; answered = refl }, refl)
+
+-- a run, and then one row more
+pub Run-more : (commands : List Command) (replies : List Reply) (command : Command) (reply : Reply) (old mid new : State)
+    → Run old commands replies mid → Step mid command reply new → Run old (commands ++ command ∷ []) (replies ++ reply ∷ []) new
+Run-more commands replies command reply old mid new run step =
+    let row : Row = record { before = mid; command = command; reply = reply; after = new; step = step } in
+    (Run-append old mid new commands (command ∷ []) replies (reply ∷ []) run (Run-row row).0).0
 
 Leads-replays : (start : List ℕ) (rows : List Row) (old new : State) → Leads old rows new → Replays start old → AfterEach (Replays start) rows × Replays start new
 Leads-replays start [] old new l h = (tt, subst (λ s. Replays start s) (sym l) h)

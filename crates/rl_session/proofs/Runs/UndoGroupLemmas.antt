@@ -127,30 +127,26 @@ Begin-done old left (says.Mark n) d w = ap (λ (s : State). s.pair.changes) d.1
 Begin-done old left (says.Refused f) d w = absurd (w tt)
 Begin-done old left _ d w = absurd d
 
-begin-row : (row : Row) → row.command ≡ asks.Begin → ¬ (WasRefused row.reply) → row.after.pair.changes ≡ begun row.before.pair.changes
-begin-row row e w = let d = does_as row asks.Begin e in d.3 ∙ Begin-done (readied asks.Begin row.before) d.0 row.reply d.1 w
-
 End-done : (old left : State) (reply : Reply) → Does old asks.End reply left → ¬ (WasRefused reply) → left.pair.changes ≡ ended old.pair.changes
 End-done old left (says.Answer a) d w = ap (λ (s : State). s.pair.changes) d.1
 End-done old left (says.Refused f) d w = absurd (w tt)
 End-done old left _ d w = absurd d
-
-end-row : (row : Row) → row.command ≡ asks.End → ¬ (WasRefused row.reply) → row.after.pair.changes ≡ ended row.before.pair.changes
-end-row row e w = let d = does_as row asks.End e in d.3 ∙ End-done (readied asks.End row.before) d.0 row.reply d.1 w
 
 EndOne-done : (old left : State) (reply : Reply) → Does old asks.EndOne reply left → ¬ (WasRefused reply) → left.pair.changes ≡ ended_one old.pair.changes
 EndOne-done old left (says.Answer a) d w = ap (λ (s : State). s.pair.changes) d.1
 EndOne-done old left (says.Refused f) d w = absurd (w tt)
 EndOne-done old left _ d w = absurd d
 
-end_one-row : (row : Row) → row.command ≡ asks.EndOne → ¬ (WasRefused row.reply) → row.after.pair.changes ≡ ended_one row.before.pair.changes
-end_one-row row e w = let d = does_as row asks.EndOne e in d.3 ∙ EndOne-done (readied asks.EndOne row.before) d.0 row.reply d.1 w
+-- so did a row of theirs
+mark-row : (row : Row) (command : Command) (made : Record → Record) → ((old left : State) (reply : Reply) → Does old command reply left → ¬ (WasRefused reply) → left.pair.changes ≡ made old.pair.changes)
+    → row.command ≡ command → ¬ (WasRefused row.reply) → row.after.pair.changes ≡ made row.before.pair.changes
+mark-row row command made done e w = let d = does_as row command e in d.3 ∙ done (readied command row.before) d.0 row.reply d.1 w
 
 -- the end of a group closes the groups that were not open before its begin
 closing-row : (row : Row) (command : Command) (below : ℕ) → row.command ≡ command → ClosesGroup below (level row.before.pair.changes.recorded) command → ¬ (WasRefused row.reply)
     → (n : ℕ) × (level row.before.pair.changes.recorded ≡ n + below) × (row.after.pair.changes ≡ with_closed n row.before.pair.changes)
-closing-row row asks.End below e c w = (level row.before.pair.changes.recorded, omega (arith, c), end-row row e w)
-closing-row row asks.EndOne below e c w = (min 1 (level row.before.pair.changes.recorded), omega (arith, c), end_one-row row e w)
+closing-row row asks.End below e c w = (level row.before.pair.changes.recorded, omega (arith, c), mark-row row asks.End ended End-done e w)
+closing-row row asks.EndOne below e c w = (min 1 (level row.before.pair.changes.recorded), omega (arith, c), mark-row row asks.EndOne ended_one EndOne-done e w)
 closing-row row _ below e c w = absurd c
 
 -- what an undo keeps right after that
@@ -167,7 +163,7 @@ group-inside : (inside : List Row) (b e : Row) (mid : State) → b.command ≡ a
 group-inside inside b e mid is_begin begins all l to_end =
     let front = b.before.pair.changes.recorded in
     let first : Inside front b.after.pair.changes =
-    subst (λ (r : Record). Inside front r) (sym (begin-row b is_begin begins)) (record { inner = []; is = refl; matched = refl }) in
+    subst (λ (r : Record). Inside front r) (sym (mark-row b asks.Begin begun Begin-done is_begin begins)) (record { inner = []; is = refl; matched = refl }) in
     subst (λ (s : State). Inside front s.pair.changes) (sym to_end) (Inside-Leads front inside b.after mid all l first)
 
 -- where an undo keeps what was recorded before rows, the text before them is the one after it

@@ -153,6 +153,26 @@ run_whole left mid held holds now part h n =
     ∙ append-nil h.took.lines
     )
 
+-- a fault at the line after those
+StoppedBy-next : (fault : ScriptFault) (left mid leaves held holds now_holds : Option (List ℕ)) (now : Interpreter) (part bytes block line : List ℕ)
+    → (h : Runs left mid held holds now part) → HasNoNewline part → (k : Halts fault now part bytes holds now_holds) → Consumes left leaves (h.input ++ block) → length block ≤ 4096
+    → HasNext left (h.took.lines ++ k.lines) line → Cuts fault k.now line k.cut → StoppedBy fault left leaves held now_holds
+StoppedBy-next fault left mid leaves held holds now_holds now part bytes block line h n k read small next cuts = record {
+  before = h.input;
+  block = block;
+  lines = h.took.lines ++ k.lines;
+  out = h.took.out ++ k.out;
+  now = k.now;
+  cut = k.cut;
+  read = read;
+  small = small;
+  in_time = (k.lines, ap (λ l. l ++ k.lines) (run_whole left mid held holds now part h n));
+  outputs = Outputs-append h.took.lines k.lines started now k.now h.took.out k.out h.took.outputs k.outputs;
+  written = subst (λ l. Appends held now_holds l) (sym (append_assoc h.took.out k.out k.cut))
+      (Appends-trans held holds now_holds h.took.out (k.out ++ k.cut) h.took.written k.written);
+  at_fault = Leaves-next fault left (h.input ++ block) (h.took.lines ++ k.lines) line k.now k.cut next cuts;
+}
+
 pub StoppedBy-halts : (fault : ScriptFault) (left mid leaves held holds now_holds : Option (List ℕ)) (now : Interpreter) (part bytes : List ℕ)
     → Runs left mid held holds now part → HasNoNewline part → Consumes mid leaves bytes → length bytes ≤ 4096 → Halts fault now part bytes holds now_holds
     → StoppedBy fault left leaves held now_holds
@@ -160,21 +180,8 @@ unfolding Halts-after
 StoppedBy-halts fault left mid leaves held holds now_holds now part bytes h n r few k =
     let all = Halts-after fault started now [] part h.input bytes held holds now_holds h.took k in
     let read = Consumes-trans left mid leaves h.input bytes h.read r in
-    record {
-      before = h.input;
-      block = bytes;
-      lines = all.lines;
-      out = all.out;
-      now = all.now;
-      cut = all.cut;
-      read = read;
-      small = few;
-      in_time = (k.lines, ap (λ l. l ++ k.lines) (run_whole left mid held holds now part h n));
-      outputs = all.outputs;
-      written = all.written;
-      at_fault = Leaves-next fault left (h.input ++ bytes) all.lines (all.line (known leaves)) all.now all.cut
-          (next_after left leaves (h.input ++ bytes) all.lines all.line all.others read all.split) (all.cuts (known leaves));
-    }
+    StoppedBy-next fault left mid leaves held holds now_holds now part bytes bytes (all.line (known leaves)) h n k read few
+    (next_after left leaves (h.input ++ bytes) all.lines all.line all.others read all.split) (all.cuts (known leaves))
 
 -- the last line of a script that ends within it
 pub StoppedBy-last : (fault : ScriptFault) (left mid leaves held holds now_holds : Option (List ℕ)) (now : Interpreter) (part : List ℕ)
@@ -190,22 +197,8 @@ StoppedBy-last fault left mid leaves held holds now_holds now (b ∷ bs) h n e r
     ∙ ap (λ l. h.took.lines ++ lines_of l) (append-nil part)
     ∙ ap (λ ls. h.took.lines ++ ls) (lines_of-last b bs n ∙ sym (lines_of-ended part [] n) ∙ k.split [])
     ∙ sym (append_assoc h.took.lines k.lines (k.line [] ∷ k.others [])) in
-    record {
-      before = h.input;
-      block = [];
-      lines = lines;
-      out = h.took.out ++ k.out;
-      now = k.now;
-      cut = k.cut;
-      read = read;
-      small = omega arith;
-      in_time = (k.lines, ap (λ l. l ++ k.lines) (run_whole left mid held holds now part h n));
-      outputs = Outputs-append h.took.lines k.lines started now k.now h.took.out k.out h.took.outputs k.outputs;
-      written = subst (λ l. Appends held now_holds l) (sym (append_assoc h.took.out k.out k.cut))
-          (Appends-trans held holds now_holds h.took.out (k.out ++ k.cut) h.took.written k.written);
-      at_fault = Leaves-next fault left (h.input ++ []) lines (k.line []) k.now k.cut
-          (next_at_end left leaves (h.input ++ []) lines (k.line []) (k.others []) read end whole) (k.cuts []);
-    }
+    StoppedBy-next fault left mid leaves held holds now_holds now part (10 ∷ []) [] (k.line []) h n k read (omega arith)
+    (next_at_end left leaves (h.input ++ []) lines (k.line []) (k.others []) read end whole) (k.cuts [])
 
 -- before the first line
 pub StoppedBy-first : (left held : Option (List ℕ)) → StoppedBy NoMemory left left held held
@@ -266,15 +259,9 @@ read_front (Some script) None read lines r e = absurd r
 read_front (Some script) (Some more) read lines r e =
     let found = whole_lines-front read more in (found.0, ap lines_of r ∙ found.1 ∙ ap (λ l. l ++ found.0) (sym e))
 
-front_of : (left : Option (List ℕ)) (lines : List (List ℕ)) (line : List ℕ) → HasNext left lines line
-    → IfSome left (λ script. (others : List (List ℕ)) × (lines_of script ≡ lines ++ others))
-front_of None lines line h = tt
-front_of (Some script) lines line h = (line ∷ h.0, h.1)
-
-front_with : (left : Option (List ℕ)) (lines : List (List ℕ)) (line : List ℕ) → HasNext left lines line
-    → IfSome left (λ script. (others : List (List ℕ)) × (lines_of script ≡ (lines ++ line ∷ []) ++ others))
-front_with None lines line h = tt
-front_with (Some script) lines line h = (h.0, h.1 ∙ sym (append_assoc lines (line ∷ []) h.0))
+of_some : {A : Type 0} (P Q : A → Type 0) (o : Option A) → ((a : A) → P a → Q a) → IfSome o P → IfSome o Q
+of_some P Q None f h = tt
+of_some P Q (Some a) f h = f a h
 
 none_of : (left : Option (List ℕ)) (lines : List (List ℕ)) → lines ≡ []
     → IfSome left (λ script. (others : List (List ℕ)) × (lines_of script ≡ lines ++ others))
@@ -298,13 +285,13 @@ Stopped-by Read left leaves held holds h =
 Stopped-by Write left leaves held holds h = record {
   lines = h.lines ++ h.at_fault.0 ∷ [];
   out = h.out ++ h.cut;
-  front = front_with left h.lines h.at_fault.0 h.at_fault.1;
+  front = of_some _ _ left (λ script next. (next.0, next.1 ∙ sym (append_assoc h.lines (h.at_fault.0 ∷ []) next.0))) h.at_fault.1;
   written = h.written;
   outputs = Cut-last h.lines h.at_fault.0 started h.now h.out h.cut h.outputs h.at_fault.2;
 }
 Stopped-by NoMemory left leaves held holds h =
     stopped_whole NoMemory left leaves held holds h h.at_fault.1
-    (elim h.at_fault.0 [ inl next ↦ front_of left h.lines next.0 next.1 | inr none ↦ none_of left h.lines none.1 ])
+    (elim h.at_fault.0 [ inl next ↦ of_some _ _ left (λ script n. (next.0 ∷ n.0, n.1)) next.1 | inr none ↦ none_of left h.lines none.1 ])
 
 pub Stopped-at : (left leaves held holds : Option (List ℕ)) (r : Result Unit ScriptFault) → IfErr r (λ fault. StoppedBy fault left leaves held holds)
     → OnErr r (Stopped left held holds)

@@ -18,7 +18,7 @@ use Rattle.std.specs.Option.{option_map}
 use Rattle.std.specs.Prelude.{◌==◌}
 use Rattle.std.specs.declared.ops.Range.{Range}
 use Rattle.std.specs.Str.{IsCharBoundary, IsUtf8}
-use Rattle.rl_base.specs.Event.{Event, InsertChar, InsertStr, Delete, Replace, Start, Stop, Cursors}
+use Rattle.rl_base.specs.Event.{Event, InsertChar, InsertStr, Delete, Replace, Start}
 use Rattle.rl_base.specs.declared.listeners.Direction.{Direction}
 use Rattle.rl_base.specs.declared.listeners.Direction.TheVariants.{Forward}
 use Rattle.rl_base.specs.declared.motion.WordAction.{WordAction}
@@ -143,9 +143,7 @@ next-nothing (Delete i s side) es b a lone none =
     let empty = empty-deleted i s side none in
     ap (λ f. entries_told f b a (entries_after (Delete i s side) es)) (fresh-Delete-nothing es i s side empty) ∙ after-Delete-nothing es i s side empty
 next-nothing (Replace i s t) es b a lone none = absurd (never-replaced i s t none)
-next-nothing Start es b a lone none = absurd lone
-next-nothing Stop es b a lone none = absurd lone
-next-nothing (Cursors b' a') es b a lone none = absurd lone
+next-nothing _ es b a lone none = absurd lone
 
 one_longer : (es ks : List Entry) (e : Entry) → ks ≡ es → ks ≡ es ++ e ∷ [] → ⊥
 one_longer es ks e same more = let n = ap length (sym same ∙ more) in let m = length-append es (e ∷ []) in omega (arith, n, m)
@@ -217,9 +215,7 @@ dropped-step b (InsertChar i c) a ss r lone = refl
 dropped-step b (InsertStr i s) a ss r lone = refl
 dropped-step b (Delete i s side) a ss r lone = refl
 dropped-step b (Replace i s t) a ss r lone = refl
-dropped-step b Start a ss r lone = absurd lone
-dropped-step b Stop a ss r lone = absurd lone
-dropped-step b (Cursors b' a') a ss r lone = absurd lone
+dropped-step b _ a ss r lone = absurd lone
 
 dropped-steps : (cursor : ℕ) (steps : List PlanStep) (r : Record) → Quiet cursor steps → r.pending ≡ [] → (listener_after record_step cursor steps r).pending ≡ []
 dropped-steps cursor [] r q h = h

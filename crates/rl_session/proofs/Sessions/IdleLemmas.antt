@@ -4,7 +4,7 @@ use Rattle.std.proofs.Common.{◌≡◌, ℕ, ◌+◌, ◌-◌, ◌*◌, ◌==�
 use Rattle.std.specs.Prelude.{encode_utf8, ℕ}
 use Rattle.std.specs.List.{remove_range}
 use Rattle.std.specs.declared.ops.Range.{Range}
-use Rattle.rl_base.specs.Event.{Event, InsertChar, InsertStr, Delete, Replace, Start, Stop, Cursors}
+use Rattle.rl_base.specs.Event.{Event, InsertChar, InsertStr, Delete, Replace}
 use Rattle.rl_base.specs.Reports.{IsChange}
 use Rattle.rl_base.specs.KillRing.{Ring, after_deletion, lent, popped_ring, ring_step, turned, yank, yank_popped, yank_size, yanked}
 use Rattle.rl_base.specs.declared.listeners.Direction.{Direction}
@@ -36,9 +36,7 @@ idle-step (InsertChar i c) r n h = h
 idle-step (InsertStr i s) r n h = h
 idle-step (Delete i s side) r n h = ap (λ b. (after_deletion b s side r).killing) h ∙ h
 idle-step (Replace i s t) r n h = h
-idle-step Start r n h = absurd n
-idle-step Stop r n h = absurd n
-idle-step (Cursors b a) r n h = absurd n
+idle-step _ r n h = absurd n
 
 idle-steps : (cursor : ℕ) (steps : List Step) (r : Ring) → NoneStarts steps → r.killing ≡ false → (listener_after ring_step cursor steps r).killing ≡ false
 idle-steps cursor [] r n h = h

@@ -10,29 +10,15 @@ pub returns-then-found-eq0-clause-plain : goal.returns-then-found-eq0-clause-pla
 returns-then-found-eq0-clause-plain c =
     none_from_empty_mask (is_special c.args.spaces) c.args.text.now c.args.at 16 0 c.requires (omega (arith, c.specials-found.ensures))
 
-pub returns-clause-within : goal.returns-clause-within
-returns-clause-within c =
+pub returns : goal.returns
+returns c =
     let p = is_special c.args.spaces in
     let v = chunk c.args.at 16 c.args.text.now in
     let found = c.specials-found.ensures in
     let counted : count_trailing_zeros 64 c.specials-found.result ≡ prefix_len (λ x. not (p x)) v =
     ap (count_trailing_zeros 64) found ∙ trailing_mask_l p 64 v (omega (arith, length-chunk c.args.at 16 c.args.text.now c.requires)) (omega (arith, found)) in
-    run_in_chunk_le p c.args.text.now c.args.at 16 _ 0 c.requires counted
-
-pub returns-clause-plain : goal.returns-clause-plain
-returns-clause-plain c =
-    let p = is_special c.args.spaces in
-    let v = chunk c.args.at 16 c.args.text.now in
-    let found = c.specials-found.ensures in
-    let counted : count_trailing_zeros 64 c.specials-found.result ≡ prefix_len (λ x. not (p x)) v =
-    ap (count_trailing_zeros 64) found ∙ trailing_mask_l p 64 v (omega (arith, length-chunk c.args.at 16 c.args.text.now c.requires)) (omega (arith, found)) in
-    run_in_chunk_fails p c.args.text.now c.args.at 16 _ 0 c.requires counted
-
-pub returns-clause-stops : goal.returns-clause-stops
-returns-clause-stops c =
-    let p = is_special c.args.spaces in
-    let v = chunk c.args.at 16 c.args.text.now in
-    let found = c.specials-found.ensures in
-    let counted : count_trailing_zeros 64 c.specials-found.result ≡ prefix_len (λ x. not (p x)) v =
-    ap (count_trailing_zeros 64) found ∙ trailing_mask_l p 64 v (omega (arith, length-chunk c.args.at 16 c.args.text.now c.requires)) (omega (arith, found)) in
-    run_in_chunk_stops p c.args.text.now c.args.at 16 _ 0 c.requires counted
+    record {
+      within = run_in_chunk_le p c.args.text.now c.args.at 16 _ 0 c.requires counted;
+      plain = run_in_chunk_fails p c.args.text.now c.args.at 16 _ 0 c.requires counted;
+      stops = run_in_chunk_stops p c.args.text.now c.args.at 16 _ 0 c.requires counted;
+    }
