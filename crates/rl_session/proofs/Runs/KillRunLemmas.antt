@@ -1,5 +1,5 @@
 -- Directed kills of a session take one part of its text, which the newest slot holds, so that a yank gives it back.
-use Rattle.std.proofs.Common.{◌≡◌, ℕ, ◌+◌, ◌*◌, ◌<◌, ◌≤◌, ◌⊎◌, inl, inr, zero, suc, Bool, true, false, not, cond, List, [], ◌∷◌, ◌++◌, map, length, Option, Some, None, refl, sym, ap, subst, ◌∙◌, arith, length-append, append-nil}
+use Rattle.std.proofs.Common.{◌≡◌, ℕ, ◌+◌, ◌*◌, ◌<◌, ◌≤◌, ◌⊎◌, inl, inr, zero, suc, Bool, true, false, not, cond, List, [], ◌∷◌, ◌++◌, map, length, Option, Some, None, refl, sym, ap, subst, ◌∙◌, arith, rules, length-append, append-nil}
 use Rattle.std.proofs.Math.Bool.{and-false}
 use Rattle.std.proofs.lemmas.Bool.{cond_both, eqb-true, eqb-false, le-ltb}
 use Rattle.std.proofs.lemmas.List.{map-append, nil_from_length}
@@ -180,9 +180,8 @@ killed-side line EndOfBuffer h u at = EndOfBuffer-side line
 killed-side line _ h u at = absurd h
 
 not_by_characters : (m : Movement) → IsDirected m → is_by_characters m ≡ false
-not_by_characters (BackwardChar n) h = absurd h
-not_by_characters (ForwardChar n) h = absurd h
-not_by_characters _ h = refl
+not_by_characters BeginningOfLine h = refl
+not_by_characters _ h = search rules
 
 -- so many bytes went on that side of the cursor
 abbrev Touches : Direction → ℕ → ℕ → ℕ → Type 0

@@ -10,7 +10,7 @@ use Rattle.rl_session.specs.Progress.{HasNoNewline, Cuts, Took, Halts, Runs}
 use Rattle.rl_session.specs.declared.script.Interpreter.{Interpreter}
 use Rattle.rl_session.specs.declared.script.ScriptFault.{ScriptFault}
 use Rattle.rl_session.specs.declared.script.ScriptFault.TheVariants.{Read, Write, NoMemory}
-use Rattle.rl_session.proofs.Scripts.LineLemmas.{lines_of-ended, lines_of-last, whole_lines-part, HasNoNewline-append, Outputs-append, Took-part}
+use Rattle.rl_session.proofs.Scripts.LineLemmas.{cut_on, lines_of-ended, lines_of-last, whole_lines-part, HasNoNewline-append, Outputs-append, Took-part}
 
 Cut-whole : (lines : List (List ℕ)) (old new : Interpreter) (out : List ℕ) → Outputs old lines out new → CutOutputs old lines out
 Cut-whole [] old new out h = h.0
@@ -84,11 +84,7 @@ Halts-after fault old mid part part' bytes bytes' a b c h k = record {
   line = k.line;
   others = k.others;
   cut = k.cut;
-  split = λ more.
-      ap (λ l. lines_of (part ++ l)) (append_assoc bytes bytes' more)
-      ∙ h.split (bytes' ++ more)
-      ∙ ap (λ l. h.lines ++ l) (k.split more)
-      ∙ sym (append_assoc h.lines k.lines (k.line more ∷ k.others more));
+  split = λ more. cut_on lines_of part bytes bytes' more h.lines k.lines _ _ (h.split (bytes' ++ more)) (k.split more);
   outputs = Outputs-append h.lines k.lines old mid k.now h.out k.out h.outputs k.outputs;
   written = subst (λ l. Appends a c l) (sym (append_assoc h.out k.out k.cut)) (Appends-trans a b c h.out (k.out ++ k.cut) h.written k.written);
   cuts = k.cuts;

@@ -81,21 +81,19 @@ Took-part old part bytes held = record {
   written = Appends-nil held;
 }
 
+-- what some bytes are cut into, and then more
+pub cut_on : (cut : List ℕ → List (List ℕ)) (part bytes bytes' more : List ℕ) (xs ys mid rest : List (List ℕ)) → cut (part ++ (bytes ++ (bytes' ++ more))) ≡ xs ++ mid → mid ≡ ys ++ rest
+    → cut (part ++ ((bytes ++ bytes') ++ more)) ≡ (xs ++ ys) ++ rest
+cut_on cut part bytes bytes' more xs ys mid rest p q =
+    ap (λ l. cut (part ++ l)) (append_assoc bytes bytes' more) ∙ p ∙ ap (λ l. xs ++ l) q ∙ sym (append_assoc xs ys rest)
+
 pub Took-trans : (old mid new : Interpreter) (part part' part'' bytes bytes' : List ℕ) (a b c : Option (List ℕ))
     → Took old part bytes a b mid part' → Took mid part' bytes' b c new part'' → Took old part (bytes ++ bytes') a c new part''
 Took-trans old mid new part part' part'' bytes bytes' a b c h k = record {
   lines = h.lines ++ k.lines;
   out = h.out ++ k.out;
-  split = λ more.
-      ap (λ l. lines_of (part ++ l)) (append_assoc bytes bytes' more)
-      ∙ h.split (bytes' ++ more)
-      ∙ ap (λ l. h.lines ++ l) (k.split more)
-      ∙ sym (append_assoc h.lines k.lines (lines_of (part'' ++ more)));
-  ended = λ more.
-      ap (λ l. whole_lines (part ++ l)) (append_assoc bytes bytes' more)
-      ∙ h.ended (bytes' ++ more)
-      ∙ ap (λ l. h.lines ++ l) (k.ended more)
-      ∙ sym (append_assoc h.lines k.lines (whole_lines (part'' ++ more)));
+  split = λ more. cut_on lines_of part bytes bytes' more h.lines k.lines _ _ (h.split (bytes' ++ more)) (k.split more);
+  ended = λ more. cut_on whole_lines part bytes bytes' more h.lines k.lines _ _ (h.ended (bytes' ++ more)) (k.ended more);
   outputs = Outputs-append h.lines k.lines old mid new h.out k.out h.outputs k.outputs;
   written = Appends-trans a b c h.out k.out h.written k.written;
 }

@@ -1,7 +1,7 @@
 -- What is known of each command by itself: that its steps change the text, and what it did if it added one entry to the record.
 use Rattle.std.proofs.Common.{ℕ, List, Option, Some, None, ◌≡◌, ◌+◌, ◌≤◌, Bool, true, false, [], ◌∷◌, ◌++◌, length, length-append, IfSome, refl, sym, ap, subst, ◌∙◌, arith, rules}
 use Rattle.std.specs.String.{string_bytes}
-use Rattle.rl_base.specs.declared.motion.Movement.TheVariants.{BackwardChar, EndOfLine, EndOfBuffer, BeginningOfLine, BeginningOfBuffer, BackwardWord, ForwardWord, ForwardChar, ViCharSearch}
+use Rattle.rl_base.specs.declared.motion.Movement.TheVariants.{BackwardChar, EndOfLine, EndOfBuffer, BeginningOfLine, BeginningOfBuffer, BackwardWord, ForwardWord, ViCharSearch}
 use Rattle.rl_base.specs.KillRing.{yank, yank_pop}
 use Rattle.rl_line.specs.Line.{Line}
 use Rattle.rl_line.specs.Plan.{Plan, Takes, Step as PlanStep, single, listener_after, listener_after_step, Done}
@@ -58,24 +58,11 @@ AsksChanges other = Unit {0}
 asks-changes : (line : Line) (command : Command) → AsksChanges (asked line command)
 asks-changes line (asks.Insert c n) = NoneStarts-insert line c n
 asks-changes line (asks.Paste s n) = NoneStarts-yank line (string_bytes s) n
-asks-changes line (asks.Update s q) = (tt, (tt, tt))
-asks-changes line (asks.InsertStr i s) = (tt, tt)
-asks-changes line (asks.Replace i j s) = (tt, tt)
-asks-changes line (asks.DeleteRange i j) = (tt, tt)
-asks-changes line (asks.Delete n) = NoneStarts-kill line (ForwardChar n)
-asks-changes line (asks.Backspace n) = NoneStarts-kill line (BackwardChar n)
-asks-changes line asks.KillLine = NoneStarts-kill line EndOfLine
-asks-changes line asks.KillBuffer = NoneStarts-kill line EndOfBuffer
-asks-changes line asks.DiscardLine = NoneStarts-kill line BeginningOfLine
-asks-changes line asks.DiscardBuffer = NoneStarts-kill line BeginningOfBuffer
-asks-changes line (asks.DeletePrevWord word n) = NoneStarts-kill line (BackwardWord n word)
-asks-changes line (asks.DeleteWord at word n) = NoneStarts-kill line (ForwardWord n at word)
-asks-changes line (asks.DeleteTo cs n) = NoneStarts-kill line (ViCharSearch n cs)
 asks-changes line asks.TransposeChars = NoneStarts-transpose_chars line
 asks-changes line (asks.TransposeWords n) = NoneStarts-transpose_words line n
 asks-changes line (asks.EditWord action) = NoneStarts-edit_word line action
 asks-changes line (asks.Indent m amount dedent) = NoneStarts-indent line m amount dedent
-asks-changes line _ = tt
+asks-changes line _ = search (rules, NoneStarts-kill)
 
 told-changes : {A : Type 0} (telling : Telling A) (course : A → Course) (reply : Reply) → ((a : A) → Changes (course a)) → Changes (told_as telling course reply)
 told-changes answers course (says.Answer a) each = each a

@@ -45,9 +45,8 @@ cause-watch p q e w h = elim h [ inl c ↦ ap (λ (k : Pair). k.watch) c.1 | inr
 
 -- however the steps of an edit may be refused, it is since memory is out, or by the pair
 pub own : (takes : Takes) (p q : Pair) (e : Event) (w : Refusal) → refusal_of pair_refused takes p e w q → or_no_memory pair_refused p e w q
-own nothing_more p q e w h = inr h
 own room_by_step p q e w h = h
-own a_copy p q e w h = inr h
+own _ p q e w h = inr h
 
 pub Halted-own : {A : Type 0} (takes : Takes) (plan : Plan A) (old new : Line) (p q : Pair) (w : Refusal) → Halted pair_step (refusal_of pair_refused takes) plan old new p q w
     → Halted pair_step (or_no_memory pair_refused) plan old new p q w
@@ -67,13 +66,9 @@ Halted-changes plan old new p q w h = record {
 }
 
 -- whichever refusal it was, memory is out
-pair_memory : (p q : Pair) (e : Event) (w : Refusal) → pair_refused p e w q → pair_refused p e why.NoMemory q
-pair_memory p q e w h = (refl, h.1, h.2, h.3)
-
 cause-memory : (takes : Takes) (p q : Pair) (e : Event) (w : Refusal) → refusal_of pair_refused takes p e w q → refusal_of pair_refused takes p e why.NoMemory q
-cause-memory nothing_more p q e w h = pair_memory p q e w h
-cause-memory room_by_step p q e w h = elim h [ inl c ↦ inl (refl, c.1, c.2) | inr c ↦ inr (pair_memory p q e w c) ]
-cause-memory a_copy p q e w h = pair_memory p q e w h
+cause-memory room_by_step p q e w h = elim h [ inl c ↦ inl (refl, c.1, c.2) | inr c ↦ inr (refl, c.1, c.2, c.3) ]
+cause-memory _ p q e w h = (refl, h.1, h.2, h.3)
 
 pub Halted-pair : {A : Type 0} (takes : Takes) (plan : Plan A) (old new : Line) (p q : Pair) (w : Refusal) → Halted pair_step (refusal_of pair_refused takes) plan old new p q w
     → Halted pair_step (refusal_of pair_refused takes) plan old new p q why.NoMemory

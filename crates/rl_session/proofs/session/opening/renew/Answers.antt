@@ -13,19 +13,12 @@ set_pos-requires c =
     let renewed = Renewed c.args.line.now c.replace.new.self c.args.watch.now c.replace.new.listener c.args.text.now c.len-end.result _ c.len-end.ensures.len c.pos-pos.ensures.utf8 c.utf8.text c.in-Ok.ensures.done in
     subst (λ (l : Line). IsCharBoundary l.text c.args.pos) (sym renewed.0) c.requires
 
-pub returns-in-Ok-clause-line : goal.returns-in-Ok-clause-line
-returns-in-Ok-clause-line c =
+pub returns-in-Ok : goal.returns-in-Ok
+returns-in-Ok c =
     let renewed = Renewed c.args.line.now c.replace.new.self c.args.watch.now c.replace.new.listener c.args.text.now c.len-end.result _ c.len-end.ensures.len c.pos-pos.ensures.utf8 c.utf8.text c.in-Ok.ensures.done in
-    c.set_pos.ensures ∙ ap (λ (l : Line). record l { cursor = c.args.pos }) renewed.0
+    record { line = c.set_pos.ensures ∙ ap (λ (l : Line). record l { cursor = c.args.pos }) renewed.0; told = renewed.1; err = tt; kept = tt }
 
-pub returns-in-Ok-clause-told : goal.returns-in-Ok-clause-told
-returns-in-Ok-clause-told c =
-    (Renewed c.args.line.now c.replace.new.self c.args.watch.now c.replace.new.listener c.args.text.now c.len-end.result _ c.len-end.ensures.len c.pos-pos.ensures.utf8 c.utf8.text c.in-Ok.ensures.done).1
-
-pub returns-in-Err-clause-err : goal.returns-in-Err-clause-err
-returns-in-Err-clause-err c =
-    (refl, (Kept c.args.line.now c.replace.new.self c.args.watch.now c.replace.new.listener c.args.text.now c.len-end.result c.in-Err.field-0 c.len-end.ensures.len c.in-Err.ensures.halted).0)
-
-pub returns-in-Err-clause-kept : goal.returns-in-Err-clause-kept
-returns-in-Err-clause-kept c =
-    let kept = Kept c.args.line.now c.replace.new.self c.args.watch.now c.replace.new.listener c.args.text.now c.len-end.result c.in-Err.field-0 c.len-end.ensures.len c.in-Err.ensures.halted in (kept.1, kept.2)
+pub returns-in-Err : goal.returns-in-Err
+returns-in-Err c =
+    let kept = Kept c.args.line.now c.replace.new.self c.args.watch.now c.replace.new.listener c.args.text.now c.len-end.result c.in-Err.field-0 c.len-end.ensures.len c.in-Err.ensures.halted in
+    record { line = tt; told = tt; err = (refl, kept.0); kept = (kept.1, kept.2) }
