@@ -29,12 +29,8 @@ masked f p v z short fits e all =
 -- a byte that is printed as it is
 lone_by : (p q r t u : Bool) (b : ℕ) → (p || (q || (r || (t || u)))) ≡ false
     → (if p then 92 ∷ 92 ∷ [] else if q then 92 ∷ 110 ∷ [] else if r then 92 ∷ 114 ∷ [] else if t then 92 ∷ 116 ∷ [] else if u then 92 ∷ 115 ∷ [] else b ∷ []) ≡ b ∷ []
-lone_by true q r t u b h = absurd cc
-lone_by false true r t u b h = absurd cc
-lone_by false false true t u b h = absurd cc
-lone_by false false false true u b h = absurd cc
-lone_by false false false false true b h = absurd cc
 lone_by false false false false false b h = refl
+lone_by _ _ _ _ _ b h = absurd cc
 
 lone : (spaces : Bool) (b : ℕ) → is_special spaces b ≡ false → escape spaces b ≡ b ∷ []
 lone spaces b h = lone_by (b == 92) (b == 10) (b == 13) (b == 9) (spaces && (b == 32)) b h

@@ -1,7 +1,6 @@
 -- What is known of each command by itself: that its steps change the text, and what it did if it added one entry to the record.
 use Rattle.std.proofs.Common.{ℕ, List, Option, Some, None, ◌≡◌, ◌+◌, ◌≤◌, Bool, true, false, [], ◌∷◌, ◌++◌, length, length-append, IfSome, refl, sym, ap, subst, ◌∙◌, arith, rules}
 use Rattle.std.specs.String.{string_bytes}
-use Rattle.rl_base.specs.declared.motion.Movement.TheVariants.{BackwardChar, EndOfLine, EndOfBuffer, BeginningOfLine, BeginningOfBuffer, BackwardWord, ForwardWord, ViCharSearch}
 use Rattle.rl_base.specs.KillRing.{yank, yank_pop}
 use Rattle.rl_line.specs.Line.{Line}
 use Rattle.rl_line.specs.Plan.{Plan, Takes, Step as PlanStep, single, listener_after, listener_after_step, Done}
@@ -21,6 +20,7 @@ use Rattle.std.specs.Str.{IsCharBoundary, IsUtf8}
 use Rattle.rl_base.specs.Event.{Event, InsertChar, InsertStr, Delete, Replace, Start}
 use Rattle.rl_base.specs.declared.listeners.Direction.{Direction}
 use Rattle.rl_base.specs.declared.listeners.Direction.TheVariants.{Forward}
+use Rattle.rl_base.specs.declared.motion.Movement.{Movement}
 use Rattle.rl_base.specs.declared.motion.WordAction.{WordAction}
 use Rattle.rl_line.specs.Kills.{is_by_characters, kill_plan, kill_range_plan, removal, side_of}
 use Rattle.rl_line.specs.LetterCase.{respell, respelled, word_ahead}
@@ -248,6 +248,9 @@ edit-adds : {A : Type 0} (takes : Takes) (condition : Type 0) (plan : Plan A) (t
 edit-adds takes condition plan telling old (says.Refused f) new e u settles d w adds = absurd (w tt)
 edit-adds takes condition plan telling old reply new e u settles d w adds = told-adds telling plan old new reply e u settles d.1 adds
 
+killed-quietly : (line : Line) (r : Record) (e : Entry) (m : Movement) → AddsOne line r e (kill_plan line m) → Settles line (kill_plan line m)
+killed-quietly line r e m adds = removed line r e (killed line m) (side_of line m) adds
+
 -- the plan of each edit of the table
 abbrev AsksQuietly : Line → Record → Entry → Asked → Type 0
 AsksQuietly line r e (edit takes condition plan telling) = AddsOne line r e plan → Settles line plan
@@ -261,19 +264,11 @@ asks-quietly line r e (asks.InsertStr i s) u at = λ adds. Settles-insert_str li
 asks-quietly line r e (asks.Replace i j s) u at = λ adds. Settles-replace line i j (string_bytes s)
 asks-quietly line r e (asks.DeleteRange i j) u at = once line r e _ i tt tt
 asks-quietly line r e (asks.Delete n) u at = λ adds. Settles-delete line n
-asks-quietly line r e (asks.Backspace n) u at = removed line r e (killed line (BackwardChar n)) (side_of line (BackwardChar n))
-asks-quietly line r e asks.KillLine u at = removed line r e (killed line EndOfLine) (side_of line EndOfLine)
-asks-quietly line r e asks.KillBuffer u at = removed line r e (killed line EndOfBuffer) (side_of line EndOfBuffer)
-asks-quietly line r e asks.DiscardLine u at = removed line r e (killed line BeginningOfLine) (side_of line BeginningOfLine)
-asks-quietly line r e asks.DiscardBuffer u at = removed line r e (killed line BeginningOfBuffer) (side_of line BeginningOfBuffer)
-asks-quietly line r e (asks.DeletePrevWord word n) u at = removed line r e (killed line (BackwardWord n word)) (side_of line (BackwardWord n word))
-asks-quietly line r e (asks.DeleteWord place word n) u at = removed line r e (killed line (ForwardWord n place word)) (side_of line (ForwardWord n place word))
-asks-quietly line r e (asks.DeleteTo cs n) u at = removed line r e (killed line (ViCharSearch n cs)) (side_of line (ViCharSearch n cs))
 asks-quietly line r e asks.TransposeChars u at = λ adds. Settles-transpose_chars line clusters-some u at
 asks-quietly line r e (asks.TransposeWords n) u at = λ adds. Settles-transpose_words line n places-before_end u at
 asks-quietly line r e (asks.EditWord action) u at = respelled-quietly line r e action (word_ahead line) (IsUtf8-word_ahead line u at)
 asks-quietly line r e (asks.Indent m amount dedent) u at = λ adds. Settles-indent line m amount dedent
-asks-quietly line r e _ u at = tt
+asks-quietly line r e _ u at = search (rules, killed-quietly)
 
 -- a kill, whose start and end the record does not hear
 kill-adds : (b : Bool) (plan : Plan Bool) (old new : State) (a : Bool) (e : Entry) → IsUtf8 old.line.text → ((r : Record) → AddsOne old.line r e plan → Settles old.line plan)
@@ -297,7 +292,7 @@ other-adds : (old : State) (command : Command) (reply : Reply) (new : State) (e 
     → Adds e old.line new.line new.pair.changes
 other-adds old command (says.Refused f) new e u at i d w adds = absurd (w tt)
 other-adds old (asks.Kill m) (says.Answer a) new e u at i d w adds =
-    kill-adds (is_by_characters m) (kill_plan old.line m) old new a e u (λ r. removed old.line r e (killed old.line m) (side_of old.line m)) d adds
+    kill-adds (is_by_characters m) (kill_plan old.line m) old new a e u (λ r. killed-quietly old.line r e m) d adds
 other-adds old (asks.KillRange i j side) (says.Answer a) new e u at c d w adds =
     kill-adds false (kill_range_plan old.line i j side) old new a e u (λ r. removed old.line r e (unless_empty i j) side) d.1 adds
 other-adds old (asks.Yank n) (says.Inserted a) new e u at i d w adds =
@@ -315,10 +310,4 @@ asked-adds other old command reply new e u at quiet i d w adds = other-adds old 
 -- an edit goes by steps
 pub by_course : (old : State) (command : Command) (reply : Reply) (new : State) → IsEdit old.line command → Does old command reply new → Came (course_of (asked old.line command) old command reply) old new
 by_course old asks.Begin reply new i d = absurd i
-by_course old asks.End reply new i d = absurd i
-by_course old asks.EndOne reply new i d = absurd i
-by_course old (asks.Undo n) reply new i d = absurd i
-by_course old asks.Redo reply new i d = absurd i
-by_course old (asks.Truncate len) reply new i d = absurd i
-by_course old (asks.Keep t) reply new i d = absurd i
-by_course old command reply new i d = d
+by_course old _ reply new i d = search rules
