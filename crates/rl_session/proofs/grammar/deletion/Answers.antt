@@ -1,5 +1,5 @@
 use Rattle.std.proofs.Common.{◌≡◌, ℕ, true, List, Some, refl, sym}
-use Rattle.rl_session.specs.Grammar.{Says, Do, pos, move, ins, paste, yank, update, str, rep, range, del, back, prevword, nextword, to, twords, cased, kill, killrange, keep, copy, indent, dedent, undo, trunc}
+use Rattle.rl_session.specs.Grammar.{Says, Do, range, del, back, prevword, nextword, to, killrange}
 use Rattle.rl_session.proofs.Scripts.WordLemmas.{no-del, no-back, no-prevword, no-nextword, no-to, no-killrange}
 use Rattle.rl_session.specs.Reads.{deletes}
 use Rattle.rl_session.specs.declared.session.Command.{Command}
