@@ -1,20 +1,12 @@
 -- What is no number, and how a number's digits go on.
-use Rattle.std.proofs.Common.{arith, ◌≡◌, ◌≢◌, ℕ, ◌+◌, ◌-◌, ◌*◌, ◌^◌, ◌<◌, ◌≤◌, Bool, true, false, List, [], ◌∷◌, length, get_or, drop, Option, Some, None, refl, sym, ap, ◌∙◌}
+use Rattle.std.proofs.Common.{arith, ◌≡◌, ◌≢◌, ℕ, ◌+◌, ◌-◌, ◌*◌, ◌^◌, ◌<◌, ◌≤◌, true, false, List, [], ◌∷◌, length, get_or, drop, Option, Some, None, refl, sym, ap, ◌∙◌}
 use Rattle.std.specs.Prelude.{◌&&◌, ◌==◌, nat_lt, nat_le}
 use native.Mathlib.Nat.{pow-le-pow_right}
+use Rattle.std.proofs.Math.Bool.{and-false}
 use Rattle.std.proofs.lemmas.Bool.{eqb-true, eqb-false}
 use Rattle.std.proofs.lemmas.Bool.Decides.{nat_tests}
 use Rattle.std.proofs.lemmas.List.{at_drop_more, nil_from_length}
 use Rattle.rl_session.specs.Spelling.{are_digits, value_from, number_of}
-
-middle_false : (a b c : Bool) → b ≡ false → (a && (b && c)) ≡ false
-middle_false true b c h = rw h refl
-middle_false false b c h = refl
-
-last_false : (a b c : Bool) → c ≡ false → (a && (b && c)) ≡ false
-last_false true true c h = h
-last_false true false c h = refl
-last_false false b c h = refl
 
 above : (n g : ℕ) → g < n → nat_le n g ≡ false
 above n g h = grind (arith, nat_tests)
@@ -38,7 +30,7 @@ pub number-bad : (g i : ℕ) (bs : List ℕ) → i < length bs → are_digits (d
 unfolding number_of
 number-bad g i bs h all bad =
     let none : are_digits bs ≡ false = sym all ∙ at_drop_more are_digits bs i 0 h ∙ ap (λ t. t && are_digits (drop (i + 1) bs)) bad in
-    rw (middle_false (nat_lt 0 (length bs)) (are_digits bs) (nat_le (value_from 0 bs) g) none) refl
+    rw (none, and-false) refl
 
 pub number-great : (g i v : ℕ) (bs : List ℕ) → i < length bs → value_from v (drop i bs) ≡ value_from 0 bs
     → g < v * 10 + (get_or bs i 0 - 48) → None ≡ number_of g bs
@@ -47,7 +39,7 @@ number-great g i v bs h all great =
     let on : value_from v (drop i bs) ≡ value_from (v * 10 + (get_or bs i 0 - 48)) (drop (i + 1) bs) = at_drop_more (value_from v) bs i 0 h in
     let more : v * 10 + (get_or bs i 0 - 48) ≤ value_from (v * 10 + (get_or bs i 0 - 48)) (drop (i + 1) bs) = grows _ (drop (i + 1) bs) in
     let past : g < value_from 0 bs = omega arith in
-    rw (last_false (nat_lt 0 (length bs)) (are_digits bs) (nat_le (value_from 0 bs) g) (above _ g past)) refl
+    rw (above _ g past, and-false, and-false) refl
 
 pub number-whole : (g v : ℕ) (bs : List ℕ) → 0 < length bs → are_digits bs ≡ true → v ≡ value_from 0 bs → v ≤ g → Some v ≡ number_of g bs
 unfolding number_of
