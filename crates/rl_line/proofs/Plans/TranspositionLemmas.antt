@@ -24,14 +24,20 @@ pub swap-front : (line : Line) (first second : Range ℕ) (x : List ℕ) → x �
 swap-front line first second x e =
     ap (λ t. (Delete second.start (text_in line second) Forward, first.end) ∷ (InsertStr second.start t, first.end) ∷ last_steps line first second) (sym e)
 
-pub swap-halves : (old mid : Line) (first second : Range ℕ) (x y : List ℕ) → x ≡ text_in old first → y ≡ text_in old second
-    → mid.text ≡ replace_range old.text second.start second.end x → second.start ≤ length old.text → first.start ≤ first.end → first.end ≤ second.start
-    → (swap_plan old first second).steps ≡ (exchange_plan old second first.end x first.end).steps ++ (exchange_plan mid first first.start y second.end).steps
-swap-halves old mid first second x y e f is within order apart =
-    let same : text_in mid first ≡ text_in old first =
-    ap (λ t. slice_range t first.start first.end) is ∙ slice-before old.text second.start second.end first.start first.end x within order apart in
-    swap-front old first second x e
-    ∙ ap₂ (λ t u. (exchange_plan old second first.end x first.end).steps ++ ((Delete first.start t Forward, first.start) ∷ (InsertStr first.start u, second.end) ∷ [])) (sym same) (sym f)
+-- The second of two ranges gave way to the text of the first: x is that text, and y the second's own.
+pub record HalfSwapped (old mid : Line) (first second : Range ℕ) (x y : List ℕ) : Type 0 where
+  pub goes : x ≡ text_in old first
+  pub comes : y ≡ text_in old second
+  pub text : mid.text ≡ replace_range old.text second.start second.end x
+  pub utf8 : IsUtf8 old.text
+  pub part_utf8 : IsUtf8 x
+  pub first_order : first.start ≤ first.end
+  pub second_order : second.start ≤ second.end
+  pub apart : first.end ≤ second.start
+  pub first_start : IsCharBoundary old.text first.start
+  pub first_end : IsCharBoundary old.text first.end
+  pub second_start : IsCharBoundary old.text second.start
+  pub second_end : IsCharBoundary old.text second.end
 
 -- the places of the second exchange, in the text after the first
 pub record Places (mid : List ℕ) (first second : Range ℕ) (y : List ℕ) : Type 0 where
@@ -40,24 +46,34 @@ pub record Places (mid : List ℕ) (first second : Range ℕ) (y : List ℕ) : T
   pub gap : IsCharBoundary (remove_range mid first.start first.end) first.start
   pub last : IsCharBoundary (replace_range mid first.start first.end y) second.end
 
-pub places : (old mid : Line) (first second : Range ℕ) (x y : List ℕ) → x ≡ text_in old first → y ≡ text_in old second → mid.text ≡ replace_range old.text second.start second.end x
-    → IsUtf8 old.text → IsUtf8 x → first.start ≤ first.end → second.start ≤ second.end → first.end ≤ second.start
-    → IsCharBoundary old.text first.start → IsCharBoundary old.text first.end → IsCharBoundary old.text second.start → IsCharBoundary old.text second.end → Places mid.text first second y
-places old mid first second x y e f is u v fo so apart fs fe ss se =
-    let text = old.text in
-    let made = replace_range text second.start second.end x in
-    let utf8 = IsUtf8-replaced text second.start second.end x u v ss se in
-    let start : IsCharBoundary made first.start = IsCharBoundary-before text second.start second.end first.start x u v ss se fs (omega arith) in
-    let stop : IsCharBoundary made first.end = IsCharBoundary-before text second.start second.end first.end x u v ss se fe apart in
-    let wide : length x ≡ first.end - first.start = ap length e ∙ length-between text first.start first.end fe.0 in
-    let wide' : length y ≡ second.end - second.start = ap length f ∙ length-between text second.start second.end se.0 in
-    let past = IsCharBoundary-past_replacement text second.start second.end x u so se in
-    subst (λ t. Places t first second y) (sym is) (record {
-      start = start;
-      stop = stop;
-      gap = IsCharBoundary-at_removal made first.start first.end utf8 fo stop;
-      last = IsCharBoundary-after made first.start first.end (second.start + length x) second.end y utf8 start.0 past (omega arith) (omega arith);
-    })
+module _ {old mid : Line} {first second : Range ℕ} {x y : List ℕ} (h : HalfSwapped old mid first second x y) where
+  -- the first range still has its text
+  pub first_stays : text_in mid first ≡ x
+  first_stays =
+      ap (λ t. slice_range t first.start first.end) h.text ∙ slice-before old.text second.start second.end first.start first.end x h.second_start.0 h.first_order h.apart ∙ sym h.goes
+
+  pub swap-halves : (swap_plan old first second).steps ≡ (exchange_plan old second first.end x first.end).steps ++ (exchange_plan mid first first.start y second.end).steps
+  swap-halves =
+      swap-front old first second x h.goes
+      ∙ ap₂ (λ t u. (exchange_plan old second first.end x first.end).steps ++ ((Delete first.start t Forward, first.start) ∷ (InsertStr first.start u, second.end) ∷ [])) (sym (first_stays ∙ h.goes)) (sym h.comes)
+
+  pub places : Places mid.text first second y
+  places =
+      let text = old.text in
+      let made = replace_range text second.start second.end x in
+      let utf8 = IsUtf8-replaced text second.start second.end x h.utf8 h.part_utf8 h.second_start h.second_end in
+      let start : IsCharBoundary made first.start =
+      IsCharBoundary-before text second.start second.end first.start x h.utf8 h.part_utf8 h.second_start h.second_end h.first_start (omega arith) in
+      let stop : IsCharBoundary made first.end = IsCharBoundary-before text second.start second.end first.end x h.utf8 h.part_utf8 h.second_start h.second_end h.first_end h.apart in
+      let wide : length x ≡ first.end - first.start = ap length h.goes ∙ length-between text first.start first.end h.first_end.0 in
+      let wide' : length y ≡ second.end - second.start = ap length h.comes ∙ length-between text second.start second.end h.second_end.0 in
+      let past = IsCharBoundary-past_replacement text second.start second.end x h.utf8 h.second_order h.second_end in
+      subst (λ t. Places t first second y) (sym h.text) (record {
+        start = start;
+        stop = stop;
+        gap = IsCharBoundary-at_removal made first.start first.end utf8 h.first_order stop;
+        last = IsCharBoundary-after made first.start first.end (second.start + length x) second.end y utf8 start.0 past (omega arith) (omega arith);
+      })
 
 pub pull_back_plan-is : (line : Line) (front : ℕ) (after : Range ℕ) (x : List ℕ) (stop : ℕ) → x ≡ text_in line after
     → stop ≡ length x + end_of_cluster (remove_range line.text after.start after.end) front

@@ -3,18 +3,21 @@ use Rattle.std.proofs.lemmas.Result.{err_from_is_err_and}
 use Rattle.std.specs.List.{replace_range}
 use Rattle.std.specs.Str.{IsCharBoundary, IsUtf8}
 use Rattle.std.specs.String.{string_bytes}
-use Rattle.rl_base.proofs.Texts.TextLemmas.{IsCharBoundary-before, slice-before}
+use Rattle.rl_base.proofs.Texts.TextLemmas.{IsCharBoundary-before}
 use Rattle.rl_base.specs.Lines.{is_newline}
 use Rattle.rl_line.specs.Edits.{exchange_plan}
 use Rattle.rl_line.specs.Line.{Line, line_of}
+use Rattle.rl_line.specs.Plan.{Taken}
 use Rattle.rl_line.specs.Ranges.{text_in}
 use Rattle.rl_line.specs.Transpositions.{swap_plan}
 use Rattle.rl_line.proofs.Plans.EditLemmas.{some_part}
 use Rattle.rl_line.proofs.Lines.LineStartLemmas.{length-table, newlines-slice}
 use Rattle.rl_line.proofs.Plans.PlanLemmas.{Done-steps, Taken-append, Halted-front, Halted-back}
 use Rattle.rl_line.proofs.Plans.StepLemmas.{Halted-from, Taken-from}
-use Rattle.rl_line.proofs.Plans.TranspositionLemmas.{last_steps, swap-front, swap-halves, places}
+use Rattle.rl_line.proofs.Plans.TranspositionLemmas.{HalfSwapped, first_stays, last_steps, swap-front, swap-halves, places}
+use Rattle.rl_line.proofs.line_buffer.LineBuffer.swap.Given.{Over}
 use Rattle.rl_line.proofs.line_buffer.LineBuffer.swap.Goals as goal
+use Rattle.rl_line.proofs.line_buffer.LineBuffer.swap.Goals.{After-as_str-3, After-find_room_instead}
 
 pub returns-in_err-first_text-clause-halted : goal.returns-in_err-first_text-clause-halted
 returns-in_err-first_text-clause-halted g c =
@@ -26,168 +29,113 @@ returns-in_err-second_text-clause-halted g c =
     let p = err_from_is_err_and c.from_residual-in_err-second_text.result c.from_residual-in_err-second_text.ensures.1 in
     rw (p.1, p.2) (inr (c.in_err-second_text.ensures.err, refl, refl, omega (arith, c.in_err-second_text.ensures.some)))
 
+-- finding room leaves the line as it is
+kept : (g : Over) (c : After-find_room_instead g)
+    → line_of (string_bytes c.find_room_instead.new.text) c.self.inside.pos c.self.inside.limit c.self.inside.can_growth ≡ c.args.self.now
+kept g c =
+    ap (λ (t : List ℕ). line_of t c.self.inside.pos c.self.inside.limit c.self.inside.can_growth) c.find_room_instead.ensures.text ∙ c.self.view_is
+
 pub returns-in_err-come-clause-halted : goal.returns-in_err-come-clause-halted
 returns-in_err-come-clause-halted g c =
     let p = err_from_is_err_and c.from_residual-in_err-come.result c.from_residual-in_err-come.ensures.1 in
     let e = c.in_err-come.ensures.err in
-    let inside = c.self.inside in
-    let line = c.args.self.now in
-    let first = c.args.first in
-    let second = c.args.second in
-    let same : line_of (string_bytes c.find_room_instead.new.text) inside.pos inside.limit inside.can_growth ≡ line =
-    ap (λ (t : List ℕ). line_of t inside.pos inside.limit inside.can_growth) c.find_room_instead.ensures.text ∙ c.self.view_is in
-    let x : c.as_str.result.now ≡ text_in line first = c.as_str.ensures.value ∙ c.in_ok-first_text.ensures.ok in
-    rw (p.1, p.2) (inr (e.0, same, refl, omega (arith, ap length x, some_part _ c.as_str.result.now e.1)))
-
-pub returns-in_err-exchange_steps-clause-halted : goal.returns-in_err-exchange_steps-clause-halted
-returns-in_err-exchange_steps-clause-halted g c =
-    let p = err_from_is_err_and c.from_residual-in_err-exchange_steps.result c.from_residual-in_err-exchange_steps.ensures.1 in
-    let inside = c.self.inside in
-    let line = c.args.self.now in
-    let first = c.args.first in
-    let second = c.args.second in
-    let same : line_of (string_bytes c.find_room_instead.new.text) inside.pos inside.limit inside.can_growth ≡ line =
-    ap (λ (t : List ℕ). line_of t inside.pos inside.limit inside.can_growth) c.find_room_instead.ensures.text ∙ c.self.view_is in
-    let x = c.as_str-2.result.now in
-    let x_is : x ≡ text_in line first = c.as_str-2.ensures.value ∙ c.in_ok-first_text.ensures.ok in
-    rw (p.1, p.2) (inl (Halted-front _ _ (swap_plan line first second) (exchange_plan line second first.end x first.end) (last_steps line first second) _ _ _ _ _
-    (Halted-from _ _ (λ (l : Line). exchange_plan l second first.end x first.end) _ _ _ _ _ _ same (c.in_err-exchange_steps.ensures.halted inside.can_growth)) (swap-front line first second x x_is)))
-
-pub exchange_steps-requires-2-clause-range : goal.exchange_steps-requires-2-clause-range
-exchange_steps-requires-2-clause-range g c =
-    let inside = c.self.inside in
-    let line = c.args.self.now in
-    let first = c.args.first in
-    let second = c.args.second in
-    let same : line_of (string_bytes c.find_room_instead.new.text) inside.pos inside.limit inside.can_growth ≡ line =
-    ap (λ (t : List ℕ). line_of t inside.pos inside.limit inside.can_growth) c.find_room_instead.ensures.text ∙ c.self.view_is in
-    let x = c.as_str-2.result.now in
-    let x_is : x ≡ text_in line first = c.as_str-2.ensures.value ∙ c.in_ok-first_text.ensures.ok in
-    let y = c.as_str-3.result.now in
-    let y_is : y ≡ text_in line second = c.as_str-3.ensures.value ∙ c.in_ok-second_text.ensures.ok in
-    let e = c.in_ok-exchange_steps.ensures in
-    let mid = line_of (string_bytes c.exchange_steps.new.text) c.exchange_steps.new.pos c.exchange_steps.new.limit inside.can_growth in
-    let is : mid.text ≡ replace_range line.text second.start second.end x = e.text ∙ ap (λ (l : Line). replace_range l.text second.start second.end x) same in
-    let at = places line mid first second x y x_is y_is is (subst IsUtf8 c.as_str-text.ensures c.as_str-text.utf8) c.as_str-2.utf8 c.requires.first c.requires.second c.requires.apart
-    c.requires.first_start c.requires.first_end c.requires.second_start c.requires.second_end in
-    (c.requires.first, at.start, at.stop)
-
-pub exchange_steps-requires-2-clause-between : goal.exchange_steps-requires-2-clause-between
-exchange_steps-requires-2-clause-between g c =
-    let inside = c.self.inside in
-    let line = c.args.self.now in
-    let first = c.args.first in
-    let second = c.args.second in
-    let same : line_of (string_bytes c.find_room_instead.new.text) inside.pos inside.limit inside.can_growth ≡ line =
-    ap (λ (t : List ℕ). line_of t inside.pos inside.limit inside.can_growth) c.find_room_instead.ensures.text ∙ c.self.view_is in
-    let x = c.as_str-2.result.now in
-    let x_is : x ≡ text_in line first = c.as_str-2.ensures.value ∙ c.in_ok-first_text.ensures.ok in
-    let y = c.as_str-3.result.now in
-    let y_is : y ≡ text_in line second = c.as_str-3.ensures.value ∙ c.in_ok-second_text.ensures.ok in
-    let e = c.in_ok-exchange_steps.ensures in
-    let mid = line_of (string_bytes c.exchange_steps.new.text) c.exchange_steps.new.pos c.exchange_steps.new.limit inside.can_growth in
-    let is : mid.text ≡ replace_range line.text second.start second.end x = e.text ∙ ap (λ (l : Line). replace_range l.text second.start second.end x) same in
-    let at = places line mid first second x y x_is y_is is (subst IsUtf8 c.as_str-text.ensures c.as_str-text.utf8) c.as_str-2.utf8 c.requires.first c.requires.second c.requires.apart
-    c.requires.first_start c.requires.first_end c.requires.second_start c.requires.second_end in
-    at.gap
-
-pub exchange_steps-requires-2-clause-boundary : goal.exchange_steps-requires-2-clause-boundary
-exchange_steps-requires-2-clause-boundary g c =
-    let inside = c.self.inside in
-    let line = c.args.self.now in
-    let first = c.args.first in
-    let second = c.args.second in
-    let same : line_of (string_bytes c.find_room_instead.new.text) inside.pos inside.limit inside.can_growth ≡ line =
-    ap (λ (t : List ℕ). line_of t inside.pos inside.limit inside.can_growth) c.find_room_instead.ensures.text ∙ c.self.view_is in
-    let x = c.as_str-2.result.now in
-    let x_is : x ≡ text_in line first = c.as_str-2.ensures.value ∙ c.in_ok-first_text.ensures.ok in
-    let y = c.as_str-3.result.now in
-    let y_is : y ≡ text_in line second = c.as_str-3.ensures.value ∙ c.in_ok-second_text.ensures.ok in
-    let e = c.in_ok-exchange_steps.ensures in
-    let mid = line_of (string_bytes c.exchange_steps.new.text) c.exchange_steps.new.pos c.exchange_steps.new.limit inside.can_growth in
-    let is : mid.text ≡ replace_range line.text second.start second.end x = e.text ∙ ap (λ (l : Line). replace_range l.text second.start second.end x) same in
-    let at = places line mid first second x y x_is y_is is (subst IsUtf8 c.as_str-text.ensures c.as_str-text.utf8) c.as_str-2.utf8 c.requires.first c.requires.second c.requires.apart
-    c.requires.first_start c.requires.first_end c.requires.second_start c.requires.second_end in
-    at.last
-
--- the table is again as long as before the edit
-pub exchange_steps-requires-2-clause-table_room : goal.exchange_steps-requires-2-clause-table_room
-exchange_steps-requires-2-clause-table_room g c =
-    let inside = c.self.inside in
-    let line = c.args.self.now in
-    let first = c.args.first in
-    let second = c.args.second in
-    let same : line_of (string_bytes c.find_room_instead.new.text) inside.pos inside.limit inside.can_growth ≡ line =
-    ap (λ (t : List ℕ). line_of t inside.pos inside.limit inside.can_growth) c.find_room_instead.ensures.text ∙ c.self.view_is in
-    let x = c.as_str-2.result.now in
-    let x_is : x ≡ text_in line first = c.as_str-2.ensures.value ∙ c.in_ok-first_text.ensures.ok in
-    let y = c.as_str-3.result.now in
-    let y_is : y ≡ text_in line second = c.as_str-3.ensures.value ∙ c.in_ok-second_text.ensures.ok in
-    let e = c.in_ok-exchange_steps.ensures in
-    let mid = line_of (string_bytes c.exchange_steps.new.text) c.exchange_steps.new.pos c.exchange_steps.new.limit inside.can_growth in
-    let is : mid.text ≡ replace_range line.text second.start second.end x = e.text ∙ ap (λ (l : Line). replace_range l.text second.start second.end x) same in
-    let text = string_bytes c.find_room_instead.new.text in
-    let goes : text_in mid first ≡ x = ap (λ t. slice_range t first.start first.end) is ∙ slice-before line.text second.start second.end first.start first.end x c.requires.second_start.0 c.requires.first c.requires.apart ∙ sym x_is in
-    let comes : text_in (line_of text inside.pos inside.limit inside.can_growth) second ≡ y = ap (λ (l : Line). text_in l second) same ∙ sym y_is in
-    omega (
-      arith,
-      e.count,
-      e.table_capacity,
-      ap (count_by is_newline) goes,
-      ap (count_by is_newline) comes,
-      newlines-slice text second.start second.end,
-      ap length c.find_room_instead.ensures.starts,
-      length-table _ _ _ c.self.invariant.table,
-      ap (count_by is_newline) c.find_room_instead.ensures.text,
-      c.find_room_instead.new.starts.places.ok.0,
-      c.find_room_instead.new.starts.places.ok.1,
-    )
-
-pub returns-in_err-exchange_steps-2-clause-halted : goal.returns-in_err-exchange_steps-2-clause-halted
-returns-in_err-exchange_steps-2-clause-halted g c =
-    let p = err_from_is_err_and c.from_residual-in_err-exchange_steps-2.result c.from_residual-in_err-exchange_steps-2.ensures.1 in
-    let inside = c.self.inside in
-    let line = c.args.self.now in
-    let first = c.args.first in
-    let second = c.args.second in
-    let same : line_of (string_bytes c.find_room_instead.new.text) inside.pos inside.limit inside.can_growth ≡ line =
-    ap (λ (t : List ℕ). line_of t inside.pos inside.limit inside.can_growth) c.find_room_instead.ensures.text ∙ c.self.view_is in
-    let x = c.as_str-2.result.now in
-    let x_is : x ≡ text_in line first = c.as_str-2.ensures.value ∙ c.in_ok-first_text.ensures.ok in
-    let y = c.as_str-3.result.now in
-    let y_is : y ≡ text_in line second = c.as_str-3.ensures.value ∙ c.in_ok-second_text.ensures.ok in
-    let e = c.in_ok-exchange_steps.ensures in
-    let mid = line_of (string_bytes c.exchange_steps.new.text) c.exchange_steps.new.pos c.exchange_steps.new.limit inside.can_growth in
-    let is : mid.text ≡ replace_range line.text second.start second.end x = e.text ∙ ap (λ (l : Line). replace_range l.text second.start second.end x) same in
-    rw (p.1, p.2) (inl (Halted-back _ _ (swap_plan line first second) (exchange_plan mid first first.start y second.end) (exchange_plan line second first.end x first.end).steps _ mid _ _ _ _ _
-    (Taken-from _ (λ (l : Line). (exchange_plan l second first.end x first.end).steps) _ _ mid _ _ same (e.taken inside.can_growth)) (c.in_err-exchange_steps-2.ensures.halted inside.can_growth)
-    (swap-halves line mid first second x y x_is y_is is c.requires.second_start.0 c.requires.first c.requires.apart)))
-
-pub returns-clause-done : goal.returns-clause-done
-returns-clause-done g c =
-    let inside = c.self.inside in
-    let line = c.args.self.now in
-    let first = c.args.first in
-    let second = c.args.second in
-    let same : line_of (string_bytes c.find_room_instead.new.text) inside.pos inside.limit inside.can_growth ≡ line =
-    ap (λ (t : List ℕ). line_of t inside.pos inside.limit inside.can_growth) c.find_room_instead.ensures.text ∙ c.self.view_is in
-    let x = c.as_str-2.result.now in
-    let x_is : x ≡ text_in line first = c.as_str-2.ensures.value ∙ c.in_ok-first_text.ensures.ok in
-    let y = c.as_str-3.result.now in
-    let y_is : y ≡ text_in line second = c.as_str-3.ensures.value ∙ c.in_ok-second_text.ensures.ok in
-    let e = c.in_ok-exchange_steps.ensures in
-    let mid = line_of (string_bytes c.exchange_steps.new.text) c.exchange_steps.new.pos c.exchange_steps.new.limit inside.can_growth in
-    let is : mid.text ≡ replace_range line.text second.start second.end x = e.text ∙ ap (λ (l : Line). replace_range l.text second.start second.end x) same in
-    Done-steps _ (swap_plan line first second) _ _ _ _ _
-    (Taken-append _ (exchange_plan line second first.end x first.end).steps (exchange_plan mid first first.start y second.end).steps _ mid _ _ _ _ (Taken-from _ (λ (l : Line). (exchange_plan l second first.end x first.end).steps) _ _ mid _ _ same (e.taken inside.can_growth)) (c.in_ok-exchange_steps-2.ensures.taken inside.can_growth))
-    (swap-halves line mid first second x y x_is y_is is c.requires.second_start.0 c.requires.first c.requires.apart) c.in_ok-exchange_steps-2.ensures.cursor
+    let x : c.as_str.result.now ≡ text_in c.args.self.now c.args.first = c.as_str.ensures.value ∙ c.in_ok-first_text.ensures.ok in
+    rw (p.1, p.2) (inr (e.0, kept g (goal.at.returns-in_err-come-clause-halted g c).After-find_room_instead, refl, omega (arith, ap length x, some_part _ c.as_str.result.now e.1)))
 
 pub exchange_steps-requires-clause-boundary : goal.exchange_steps-requires-clause-boundary
 exchange_steps-requires-clause-boundary g c =
     let line = c.args.self.now in
+    let second = c.args.second in
+    let stop = c.args.first.end in
+    let x = c.as_str-2.result.now in
+    subst (λ (l : Line). IsCharBoundary (replace_range l.text second.start second.end x) stop) (sym (kept g (goal.at.exchange_steps-requires-clause-boundary g c).After-find_room_instead))
+    (IsCharBoundary-before line.text second.start second.end stop x (subst IsUtf8 c.as_str-text.ensures c.as_str-text.utf8) c.as_str-2.utf8 c.requires.second_start c.requires.second_end c.requires.first_end c.requires.apart)
+
+pub returns-in_err-exchange_steps-clause-halted : goal.returns-in_err-exchange_steps-clause-halted
+returns-in_err-exchange_steps-clause-halted g c =
+    let p = err_from_is_err_and c.from_residual-in_err-exchange_steps.result c.from_residual-in_err-exchange_steps.ensures.1 in
+    let line = c.args.self.now in
     let first = c.args.first in
     let second = c.args.second in
     let x = c.as_str-2.result.now in
-    let same : string_bytes c.find_room_instead.new.text ≡ line.text = c.find_room_instead.ensures.text ∙ ap (λ (l : Line). l.text) c.self.view_is in
-    subst (λ t. IsCharBoundary (replace_range t second.start second.end x) first.end) (sym same)
-    (IsCharBoundary-before line.text second.start second.end first.end x (subst IsUtf8 c.as_str-text.ensures c.as_str-text.utf8) c.as_str-2.utf8 c.requires.second_start c.requires.second_end c.requires.first_end c.requires.apart)
+    let same = kept g (goal.at.returns-in_err-exchange_steps-clause-halted g c).After-find_room_instead in
+    rw (p.1, p.2) (inl (Halted-front _ _ (swap_plan line first second) (exchange_plan line second first.end x first.end) (last_steps line first second) _ _ _ _ _
+    (Halted-from _ _ (λ (l : Line). exchange_plan l second first.end x first.end) _ _ _ _ _ _ same (c.in_err-exchange_steps.ensures.halted c.self.inside.can_growth))
+    (swap-front line first second x (c.as_str-2.ensures.value ∙ c.in_ok-first_text.ensures.ok))))
+
+-- the line after the first exchange
+abbrev middle : (g : Over) → After-as_str-3 g → Line
+middle g c = line_of (string_bytes c.exchange_steps.new.text) c.exchange_steps.new.pos c.exchange_steps.new.limit c.self.inside.can_growth
+
+half : (g : Over) (c : After-as_str-3 g) → HalfSwapped c.args.self.now (middle g c) c.args.first c.args.second c.as_str-2.result.now c.as_str-3.result.now
+half g c =
+    let second = c.args.second in
+    let x = c.as_str-2.result.now in
+    record {
+      goes = c.as_str-2.ensures.value ∙ c.in_ok-first_text.ensures.ok;
+      comes = c.as_str-3.ensures.value ∙ c.in_ok-second_text.ensures.ok;
+      text = c.in_ok-exchange_steps.ensures.text ∙ ap (λ (l : Line). replace_range l.text second.start second.end x) (kept g (goal.at.After-as_str-3 g c).After-find_room_instead);
+      utf8 = subst IsUtf8 c.as_str-text.ensures c.as_str-text.utf8;
+      part_utf8 = c.as_str-2.utf8;
+      first_order = c.requires.first;
+      second_order = c.requires.second;
+      apart = c.requires.apart;
+      first_start = c.requires.first_start;
+      first_end = c.requires.first_end;
+      second_start = c.requires.second_start;
+      second_end = c.requires.second_end;
+    }
+
+pub exchange_steps-requires-2-clause-range : goal.exchange_steps-requires-2-clause-range
+exchange_steps-requires-2-clause-range g c =
+    let at = places (half g (goal.at.exchange_steps-requires-2-clause-range g c).After-as_str-3) in (c.requires.first, at.start, at.stop)
+
+pub exchange_steps-requires-2-clause-between : goal.exchange_steps-requires-2-clause-between
+exchange_steps-requires-2-clause-between g c = (places (half g (goal.at.exchange_steps-requires-2-clause-between g c).After-as_str-3)).gap
+
+pub exchange_steps-requires-2-clause-boundary : goal.exchange_steps-requires-2-clause-boundary
+exchange_steps-requires-2-clause-boundary g c = (places (half g (goal.at.exchange_steps-requires-2-clause-boundary g c).After-as_str-3)).last
+
+-- the table is again as long as before the edit
+pub exchange_steps-requires-2-clause-table_room : goal.exchange_steps-requires-2-clause-table_room
+exchange_steps-requires-2-clause-table_room g c =
+    let d = goal.at.exchange_steps-requires-2-clause-table_room g c in
+    let h = half g d.After-as_str-3 in
+    let room = c.find_room_instead in
+    let text = string_bytes room.new.text in
+    let second = c.args.second in
+    let comes : slice_range text second.start second.end ≡ c.as_str-3.result.now = ap (λ (l : Line). text_in l second) (kept g d.After-find_room_instead) ∙ sym h.comes in
+    omega (
+      arith,
+      c.in_ok-exchange_steps.ensures.count,
+      c.in_ok-exchange_steps.ensures.table_capacity,
+      ap (count_by is_newline) (first_stays h),
+      ap (count_by is_newline) comes,
+      newlines-slice text second.start second.end,
+      ap length room.ensures.starts,
+      length-table _ _ _ c.self.invariant.table,
+      ap (count_by is_newline) room.ensures.text,
+      room.new.starts.places.ok.0,
+      room.new.starts.places.ok.1,
+    )
+
+-- the steps of the first exchange
+taken : (g : Over) (c : After-as_str-3 g)
+    → Taken g.L.DeleteListener.step (exchange_plan c.args.self.now c.args.second c.args.first.end c.as_str-2.result.now c.args.first.end).steps c.args.self.now (middle g c) c.args.listener.now c.exchange_steps.new.listener
+taken g c =
+    Taken-from _ (λ (l : Line). (exchange_plan l c.args.second c.args.first.end c.as_str-2.result.now c.args.first.end).steps) _ _ (middle g c) _ _
+    (kept g (goal.at.After-as_str-3 g c).After-find_room_instead) (c.in_ok-exchange_steps.ensures.taken c.self.inside.can_growth)
+
+pub returns-in_err-exchange_steps-2-clause-halted : goal.returns-in_err-exchange_steps-2-clause-halted
+returns-in_err-exchange_steps-2-clause-halted g c =
+    let p = err_from_is_err_and c.from_residual-in_err-exchange_steps-2.result c.from_residual-in_err-exchange_steps-2.ensures.1 in
+    let d = (goal.at.returns-in_err-exchange_steps-2-clause-halted g c).After-as_str-3 in
+    rw (p.1, p.2) (inl (Halted-back _ _ (swap_plan c.args.self.now c.args.first c.args.second) _ _ _ (middle g d) _ _ _ _ _
+    (taken g d) (c.in_err-exchange_steps-2.ensures.halted c.self.inside.can_growth) (swap-halves (half g d))))
+
+pub returns-clause-done : goal.returns-clause-done
+returns-clause-done g c =
+    let d = (goal.at.returns-clause-done g c).After-as_str-3 in
+    Done-steps _ (swap_plan c.args.self.now c.args.first c.args.second) _ _ _ _ _
+    (Taken-append _ _ _ _ (middle g d) _ _ _ _ (taken g d) (c.in_ok-exchange_steps-2.ensures.taken c.self.inside.can_growth))
+    (swap-halves (half g d)) c.in_ok-exchange_steps-2.ensures.cursor
