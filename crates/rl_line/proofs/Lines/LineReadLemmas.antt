@@ -1,9 +1,9 @@
 -- What the table of line starts says of the lines of its text.
-use Rattle.std.proofs.Common.{◌≡◌, ℕ, zero, suc, ◌+◌, ◌-◌, ◌<◌, ◌≤◌, Bool, true, false, cond, List, [], ◌∷◌, length, get_or, take, drop, min, All, refl, sym, ap, subst, ◌∙◌, arith, count_by, eqb, eqb-true, ne_eqb, leb, ltb, le_refl, length-append, slice_range, ⊎_elim, Some, None, ap₂}
+use Rattle.std.proofs.Common.{◌≡◌, ℕ, zero, suc, ◌+◌, ◌-◌, ◌<◌, ◌≤◌, Bool, true, false, cond, List, [], ◌∷◌, length, get_or, take, drop, min, refl, sym, ap, subst, ◌∙◌, arith, count_by, eqb, ne_eqb, leb, ltb, le_refl, length-append, slice_range, ⊎_elim, Some, None, ap₂}
 use Rattle.std.proofs.lemmas.Bool.{both_ways, cases_lt, le-leb, lt-leb, le-ltb, lt-ltb}
 use Rattle.std.proofs.lemmas.List.{length-take-le, get_or_append_left, get_or-append_right, get_or-take, get_or_default}
 use Rattle.std.proofs.lemmas.List.Edits.{length-between, get_or-between}
-use Rattle.std.proofs.lemmas.List.Elements.{All-nil, All-cons, All-get_or, All-weaker}
+use Rattle.std.proofs.lemmas.List.Elements.{All-get_or}
 use Rattle.std.proofs.lemmas.Str.{IsCharBoundary-before_ascii, IsCharBoundary-after_ascii}
 use Rattle.std.proofs.lemmas.Option.{same_Some, slice_get_past, slice_get-get_or}
 use Rattle.std.specs.List.{onto_first}
@@ -16,7 +16,7 @@ use Rattle.rl_base.proofs.Texts.LineLemmas.{count-parts, lines_some, count_of_li
 use Rattle.rl_line.specs.Line.{between}
 use Rattle.rl_line.specs.LineRanges.{range_of_line}
 use Rattle.rl_line.specs.LineStarts.{after_newlines, line_starts, from_end, IsTable}
-use Rattle.rl_line.proofs.Lines.LineStartLemmas.{after_newlines-cons, after_newlines-within, length-line_starts, length-table, newlines-take, parts, read-before, read-from, read-within}
+use Rattle.rl_line.proofs.Lines.LineStartLemmas.{IsAfterNewline, after_newlines-cons, all_after_newlines, length-line_starts, length-table, newlines-take, parts, read-before, read-from, read-within}
 
 -- ---- the places where lines begin: the table, with the start of the text before it
 -- where lines begin, the first of which begins at `from`
@@ -48,19 +48,6 @@ get_or-places from (line ∷ more) (suc k) h = get_or-places (from + length line
 start-from_table : (text : List ℕ) (k : ℕ) → k < length (lines text) → get_or (0 ∷ line_starts text) k 0 ≡ start_of_line text k
 start-from_table text k h = ap (λ l. get_or l k 0) (sym (places-lines 0 text)) ∙ get_or-places 0 (lines text) k h ∙ (omega arith)
 
--- a newline stands before each place
-newline-before : (n : ℕ) (text : List ℕ) → All (λ s. (n ≤ s) × (get_or text (s - n) 0 ≡ 10)) (after_newlines n text)
-newline-before n [] = All-nil _
-newline-before n (b ∷ bs) =
-    let P : ℕ → Type 0 = λ s. (n ≤ s) × (get_or (b ∷ bs) (s - n) 0 ≡ 10) in
-    let later : All P (after_newlines (n + 1) bs) =
-    All-weaker (λ s. (n + 1 ≤ s) × (get_or bs (s - (n + 1)) 0 ≡ 10)) P (λ s h. (omega arith, let next : s - n ≡ suc (s - (n + 1)) = omega arith in ap (λ i. get_or (b ∷ bs) i 0) next ∙ h.1)) _ (newline-before (n + 1) bs) in
-    rw (after_newlines-cons n b bs) (one (is_newline b) refl (after_newlines (n + 1) bs) later)
-  where
-    one : (is : Bool) → is_newline b ≡ is → (l : List ℕ) → All (λ s. (n ≤ s) × (get_or (b ∷ bs) (s - n) 0 ≡ 10)) l → All (λ s. (n ≤ s) × (get_or (b ∷ bs) (s - n) 0 ≡ 10)) (cond is (n ∷ l) l)
-    one true e l h = All-cons (λ s. (n ≤ s) × (get_or (b ∷ bs) (s - n) 0 ≡ 10)) n l (omega arith, let here : n - n ≡ 0 = omega arith in ap (λ i. get_or (b ∷ bs) i 0) here ∙ eqb-true b 10 e) h
-    one false e l h = h
-
 -- ---- the place in the table with the number of a line: its newline ends there
 pub record EndsAt (text : List ℕ) (k next : ℕ) : Type 0 where
   pub start : next ≡ start_of_line text (k + 1)
@@ -73,13 +60,12 @@ ends_at text k next small is =
     let some : k < length (line_starts text) = omega (arith, length-line_starts text) in
     let one : suc k ≡ k + 1 = omega arith in
     let start : next ≡ start_of_line text (k + 1) = is ∙ start-from_table text (suc k) (omega (arith, count_of_lines text)) ∙ ap (start_of_line text) one in
-    let here : (1 ≤ next) × (next < 1 + length text) =
-    subst (λ s. (1 ≤ s) × (s < 1 + length text)) (sym is) (All-get_or (λ s. (1 ≤ s) × (s < 1 + length text)) (line_starts text) k 0 some (after_newlines-within 1 text)) in
+    let here : IsAfterNewline 1 text next = subst (IsAfterNewline 1 text) (sym is) (All-get_or (IsAfterNewline 1 text) (line_starts text) k 0 some (all_after_newlines 1 text)) in
     record {
       start = start;
       stop = start ∙ start-next text k (omega (arith, count_of_lines text));
-      within = omega (arith, here.1);
-      newline = (subst (λ s. (1 ≤ s) × (get_or text (s - 1) 0 ≡ 10)) (sym is) (All-get_or (λ s. (1 ≤ s) × (get_or text (s - 1) 0 ≡ 10)) (line_starts text) k 0 some (newline-before 1 text))).1;
+      within = omega (arith, here.within);
+      newline = here.newline;
     }
 
 -- only the last line ends at none
@@ -115,14 +101,13 @@ module _ (text : List ℕ) (pos : ℕ) (within : pos ≤ length text) where
   started k less =
       let early : k < length front = omega (arith, count) in
       let at : get_or (line_starts text) k 0 ≡ get_or front k 0 = ap (λ t. get_or t k 0) (parts text pos within) ∙ get_or_append_left front back 0 k early in
-      omega (arith, at, length-take-le pos text within, All-get_or (λ s. (1 ≤ s) × (s < 1 + length (take pos text))) front k 0 early (after_newlines-within 1 (take pos text)))
+      omega (arith, at, length-take-le pos text within, (All-get_or (IsAfterNewline 1 (take pos text)) front k 0 early (all_after_newlines 1 (take pos text))).within)
 
   pub not_started : (k : ℕ) → line_number text pos ≤ k → k < length (line_starts text) → pos < get_or (line_starts text) k 0
   not_started k past some =
-      let P : ℕ → Type 0 = λ s. (pos + 1 ≤ s) × (s < pos + 1 + length (drop pos text)) in
       let late : length front ≤ k = omega (arith, count) in
       let at : get_or (line_starts text) k 0 ≡ get_or back (k - length front) 0 = ap (λ t. get_or t k 0) (parts text pos within) ∙ get_or-append_right front back (length front) k 0 refl late in
-      omega (arith, at, All-get_or P back (k - length front) 0 (omega (arith, total, late)) (after_newlines-within (pos + 1) (drop pos text)))
+      omega (arith, at, (All-get_or (IsAfterNewline (pos + 1) (drop pos text)) back (k - length front) 0 (omega (arith, total, late)) (all_after_newlines (pos + 1) (drop pos text))).from)
 
   -- a start is at the place or before it where its number is less than that of the place's line
   pub leb-started : (k : ℕ) → k < length (line_starts text) → leb (get_or (line_starts text) k 0) pos ≡ leb (k + 1) (line_number text pos)

@@ -1,7 +1,7 @@
 -- The places right after the newlines of a text: of two joined, how many there are, and where they lie; and the table of them with a border: where it lies between two parts of the text, where it moves, and where a range gives way to a part.
 use borrow.Rule.Slice.PartMut.{put_mid, post_of}
 use Rattle.std.proofs.Common.{◌≡◌, ℕ, zero, suc, ◌+◌, ◌-◌, ◌<◌, ◌≤◌, ◌&&◌, ◌==◌, nat_le, Bool, true, false, cond, List, [], ◌∷◌, ◌++◌, map, filter, length, get_or, set, take, drop, take-add, append_assoc, append-nil, length-append, length-drop, slice_range, All, count_by, refl, sym, ap, ap₂, subst, ◌∙◌, arith, ne_eqb}
-use Rattle.std.proofs.lemmas.Bool.{and_parts, eqb-true, leb-true}
+use Rattle.std.proofs.lemmas.Bool.{and_parts, cond_both, eqb-true, leb-true}
 use Rattle.std.proofs.lemmas.List.{nil_from_length, take-append-drop, length-take, length-take-le, length-map, map-append, map_push, get_or-take, get_or-drop, get_or-map, get_or_append_left, get_or_at, get_or-append_right, take-take, take-append-le, take-map, take_at, drop-drop, drop-map, drop-append-le, drop_at, drop_all, drop_more, set_at}
 use Rattle.std.proofs.lemmas.List.Sums.{sum_by-cons, sum_by-append}
 use Rattle.std.proofs.lemmas.List.Edits.{length-between}
@@ -14,13 +14,12 @@ use Rattle.memchr.specs.Find.{is_byte, places, places_from}
 use Rattle.rl_base.specs.Lines.{is_newline, line_number}
 use Rattle.rl_line.specs.LineStarts.{after_newlines, line_starts, from_end, starts_from_end, kept_starts, IsTable}
 
+map-cond : {A B : Type 0} (f : A → B) (is : Bool) (x : A) (l : List A) → map f (cond is (x ∷ l) l) ≡ cond is (f x ∷ map f l) (map f l)
+map-cond f true x l = refl
+map-cond f false x l = refl
+
 pub after_newlines-cons : (n b : ℕ) (bs : List ℕ) → after_newlines n (b ∷ bs) ≡ cond (is_newline b) (n ∷ after_newlines (n + 1) bs) (after_newlines (n + 1) bs)
-after_newlines-cons n b bs = from (is_newline b)
-  where
-    from : (is : Bool) → map (λ x. x.0) (cond is ((n, b) ∷ filter (λ x. is_newline x.1) (enumerate_from (n + 1) bs)) (filter (λ x. is_newline x.1) (enumerate_from (n + 1) bs)))
-        ≡ cond is (n ∷ after_newlines (n + 1) bs) (after_newlines (n + 1) bs)
-    from true = refl
-    from false = refl
+after_newlines-cons n b bs = map-cond (λ (x : ℕ × ℕ). x.0) (is_newline b) (n, b) (filter (λ x. is_newline x.1) (enumerate_from (n + 1) bs))
 
 pub after_newlines-append : (n : ℕ) (xs ys : List ℕ) → after_newlines n (xs ++ ys) ≡ after_newlines n xs ++ after_newlines (n + length xs) ys
 after_newlines-append n [] ys = let same : n ≡ n + 0 = omega arith in ap (λ k. after_newlines k ys) same
@@ -47,10 +46,6 @@ from_end-moved len c k (b ∷ xs) =
     ∙ ap₂ (λ n l. cond (is_newline b) (n ∷ l) l) here rest
     ∙ sym (map-cond (from_end len) (is_newline b) k (after_newlines (k + 1) xs))
     ∙ sym (ap (map (from_end len)) (after_newlines-cons k b xs))
-  where
-    map-cond : (f : ℕ → ℕ) (is : Bool) (n : ℕ) (l : List ℕ) → map f (cond is (n ∷ l) l) ≡ cond is (f n ∷ map f l) (map f l)
-    map-cond f true n l = refl
-    map-cond f false n l = refl
 
 pub length-after_newlines : (n : ℕ) (xs : List ℕ) → length (after_newlines n xs) ≡ count_by is_newline xs
 length-after_newlines n [] = refl
@@ -62,16 +57,22 @@ length-after_newlines n (b ∷ xs) =
     one true l = omega arith
     one false l = omega arith
 
-pub after_newlines-within : (n : ℕ) (xs : List ℕ) → All (λ s. (n ≤ s) × (s < n + length xs)) (after_newlines n xs)
-after_newlines-within n [] = All-nil _
-after_newlines-within n (b ∷ xs) =
-    let later : All (λ s. (n ≤ s) × (s < n + length (b ∷ xs))) (after_newlines (n + 1) xs) =
-    All-weaker (λ s. (n + 1 ≤ s) × (s < n + 1 + length xs)) (λ s. (n ≤ s) × (s < n + length (b ∷ xs))) (λ s h. (omega arith, omega arith)) _ (after_newlines-within (n + 1) xs) in
-    rw (after_newlines-cons n b xs) (one (is_newline b) (after_newlines (n + 1) xs) later)
-  where
-    one : (is : Bool) (l : List ℕ) → All (λ s. (n ≤ s) × (s < n + length (b ∷ xs))) l → All (λ s. (n ≤ s) × (s < n + length (b ∷ xs))) (cond is (n ∷ l) l)
-    one true l h = All-cons (λ s. (n ≤ s) × (s < n + length (b ∷ xs))) n l (omega arith, omega arith) h
-    one false l h = h
+-- a place right after a newline of a text that begins at n
+pub record IsAfterNewline (n : ℕ) (text : List ℕ) (place : ℕ) : Type 0 where
+  pub from : n ≤ place
+  pub within : place < n + length text
+  pub newline : get_or text (place - n) 0 ≡ 10
+
+pub all_after_newlines : (n : ℕ) (text : List ℕ) → All (IsAfterNewline n text) (after_newlines n text)
+all_after_newlines n [] = All-nil _
+all_after_newlines n (b ∷ bs) =
+    let P : ℕ → Type 0 = IsAfterNewline n (b ∷ bs) in
+    let next : (s : ℕ) → IsAfterNewline (n + 1) bs s → P s =
+    λ s h. let at : s - n ≡ suc (s - (n + 1)) = omega arith in record { from = omega arith; within = omega arith; newline = ap (λ i. get_or (b ∷ bs) i 0) at ∙ h.newline } in
+    let here : is_newline b ≡ true → P n =
+    λ e. let at : n - n ≡ 0 = omega arith in record { from = omega arith; within = omega arith; newline = ap (λ i. get_or (b ∷ bs) i 0) at ∙ eqb-true b 10 e } in
+    let later : All P (after_newlines (n + 1) bs) = All-weaker (IsAfterNewline (n + 1) bs) P next _ (all_after_newlines (n + 1) bs) in
+    rw (after_newlines-cons n b bs) (cond_both (is_newline b) _ _ (All P) (λ e. All-cons P n _ (here e) later) (λ e. later))
 
 -- a table has as many places as the text has newlines, and a part of the text has no more
 pub length-line_starts : (text : List ℕ) → length (line_starts text) ≡ count_by is_newline text
@@ -231,7 +232,7 @@ IsTable-stays places text part from to come border h order within count stay =
 
 -- ---- the border moves, and the starts that it passes are counted from the other end
 starts-within : (text : List ℕ) → All (λ s. s ≤ length text) (line_starts text)
-starts-within text = All-weaker (λ s. (1 ≤ s) × (s < 1 + length text)) (λ s. s ≤ length text) (λ s h. omega (arith, h.1)) _ (after_newlines-within 1 text)
+starts-within text = All-weaker (IsAfterNewline 1 text) (λ s. s ≤ length text) (λ s h. omega arith) _ (all_after_newlines 1 text)
 
 twice : (len : ℕ) (xs : List ℕ) → All (λ s. s ≤ len) xs → map (from_end len) (map (from_end len) xs) ≡ xs
 twice len [] h = refl
@@ -313,23 +314,23 @@ module _ (places now more text : List ℕ) (old border n : ℕ) (h : IsTable pla
   all : n ≡ count_by is_newline text
   all = sym len ∙ length-table places old text h
 
+  -- those that the border passes are turned
+  moved : (low high : ℕ) → low ≤ high → high ≤ n → border ≤ n → now ≡ map (from_end (length text)) (slice_range places low high)
+      → put_mid low (high - low) (kept_starts old text) (map (from_end (length text)) (slice_range (kept_starts old text) low high)) ≡ kept_starts border text
+      → IsTable (take n (put_mid low (high - low) places now ++ more)) border text
+  moved low high order top within is turns =
+      let f = from_end (length text) in
+      let size : length now ≡ high - low = ap length is ∙ length-map (slice_range places low high) f ∙ length-between places low high (omega (arith, len)) in
+      IsTable-from _ border text
+      (written low high n places now more len order top size ∙ ap (put_mid low (high - low) places) is ∙ ap (λ l. put_mid low (high - low) l (map f (slice_range l low high))) h.kept ∙ turns)
+      (omega (arith, all))
+
   pub moved-down : border ≤ old → now ≡ map (from_end (length text)) (slice_range places border old) → IsTable (take n (put_mid border (old - border) places now ++ more)) border text
   moved-down le is =
-      let f = from_end (length text) in
-      let size : length now ≡ old - border = ap length is ∙ length-map (slice_range places border old) f ∙ length-between places border old h.within in
-      IsTable-from _ border text
-      (written border old n places now more len le (omega (arith, len, h.within)) size ∙ ap (put_mid border (old - border) places) is
-      ∙ ap (λ l. put_mid border (old - border) l (map f (slice_range l border old))) h.kept ∙ border-down text border old le (omega (arith, len, h.within, all, length-line_starts text)))
-      (omega (arith, len, h.within, all))
+      moved border old le (omega (arith, len, h.within)) (omega (arith, len, h.within)) is (border-down text border old le (omega (arith, len, h.within, all, length-line_starts text)))
 
   pub moved-up : old ≤ border → border ≤ n → now ≡ map (from_end (length text)) (slice_range places old border) → IsTable (take n (put_mid old (border - old) places now ++ more)) border text
-  moved-up le within is =
-      let f = from_end (length text) in
-      let size : length now ≡ border - old = ap length is ∙ length-map (slice_range places old border) f ∙ length-between places old border (omega (arith, len)) in
-      IsTable-from _ border text
-      (written old border n places now more len le within size ∙ ap (put_mid old (border - old) places) is
-      ∙ ap (λ l. put_mid old (border - old) l (map f (slice_range l old border))) h.kept ∙ border-up text old border le (omega (arith, all, length-line_starts text)))
-      (omega (arith, all))
+  moved-up le within is = moved old border le within within is (border-up text old border le (omega (arith, all, length-line_starts text)))
 
 -- what a table keeps can be counted from the other end
 kept-within : (border : ℕ) (text : List ℕ) → All (λ place. place ≤ length text) (kept_starts border text)
@@ -385,13 +386,9 @@ found-from n (suc m) i text left within =
     let next : n + (i + 1) ≡ n + i + 1 = omega arith in
     let rest : map (λ p. n + p) (places_from (is_byte 10) text (i + 1) m) ≡ after_newlines (n + i + 1) (drop (i + 1) text) =
     found-from n m (i + 1) text (omega (arith, left)) (omega (arith, left)) ∙ ap (λ k. after_newlines k (drop (i + 1) text)) next in
-    one (is_newline b) (places_from (is_byte 10) text (i + 1) m)
+    map-cond (λ p. n + p) (is_newline b) i (places_from (is_byte 10) text (i + 1) m)
     ∙ ap (λ l. cond (is_newline b) ((n + i) ∷ l) l) rest
     ∙ sym (ap (after_newlines (n + i)) (drop_more text i 0 (omega (arith, left))) ∙ after_newlines-cons (n + i) b (drop (i + 1) text))
-  where
-    one : (is : Bool) (l : List ℕ) → map (λ p. n + p) (cond is (i ∷ l) l) ≡ cond is ((n + i) ∷ map (λ p. n + p) l) (map (λ p. n + p) l)
-    one true l = refl
-    one false l = refl
 
 pub found : (n : ℕ) (text : List ℕ) → map (λ p. n + p) (places (is_byte 10) text) ≡ after_newlines n text
 found n text =
@@ -403,14 +400,14 @@ length-found text = sym (length-map (places (is_byte 10) text) (λ p. 0 + p)) �
 
 pub found-within : (text done more : List ℕ) (x : ℕ) → done ++ x ∷ more ≡ places (is_byte 10) text → x < length text
 found-within text done more x split =
-    let P : ℕ → Type 0 = λ s. (0 ≤ s) × (s < 0 + length text) in
-    let all : All P (map (λ p. 0 + p) (places (is_byte 10) text)) = subst (All P) (sym (found 0 text)) (after_newlines-within 0 text) in
+    let P : ℕ → Type 0 = IsAfterNewline 0 text in
+    let all : All P (map (λ p. 0 + p) (places (is_byte 10) text)) = subst (All P) (sym (found 0 text)) (all_after_newlines 0 text) in
     let some : length done < length (places (is_byte 10) text) = omega (arith, ap length split, length-append done (x ∷ more)) in
     let at : get_or (map (λ p. 0 + p) (places (is_byte 10) text)) (length done) 0 ≡ 0 + x =
     get_or-map (λ p. 0 + p) (places (is_byte 10) text) (length done) 0 0 some ∙ ap (λ k. 0 + k) (ap (λ l. get_or l (length done) 0) (sym split) ∙ get_or_at done x more 0 (length done) refl) in
     let here : P (get_or (map (λ p. 0 + p) (places (is_byte 10) text)) (length done) 0) =
     All-get_or P (map (λ p. 0 + p) (places (is_byte 10) text)) (length done) 0 (omega (arith, length-map (places (is_byte 10) text) (λ (p : ℕ). 0 + p))) all in
-    omega (arith, at, here.1)
+    omega (arith, at, here.within)
 
 -- a turn of the loop that puts them: one more stands in the table
 pub put_more : (n i place x : ℕ) (done old now : List ℕ) → i ≡ length done → i < length old → now ≡ map (λ p. n + p) done ++ drop i old → place ≡ n + x

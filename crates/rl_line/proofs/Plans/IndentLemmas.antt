@@ -2,7 +2,7 @@
 -- lines that are left.
 use Rattle.std.proofs.Common.{Some, ◌≡◌, ℕ, zero, suc, ◌+◌, ◌-◌, ◌*◌, sum, length-append, ◌/◌, ◌%◌, ◌<◌, ◌≤◌, Bool, true, false, List, [], ◌∷◌, ◌++◌, length, take, drop, slice_range, min, max, refl, sym, ap, ap₂, subst, ◌∙◌, arith, append_assoc, ltb-true, ltb-false, eqb, eqb-true, ne_eqb, get_or, drop-cons}
 use Rattle.std.specs.Prelude.{◌==◌, nat_lt, if◌then◌else◌}
-use Rattle.std.specs.List.{repeat, insert_slice, remove_range}
+use Rattle.std.specs.List.{repeat, insert_slice, remove_range, replace_range}
 use Rattle.std.specs.Option.{is_some}
 use Rattle.std.specs.Str.{IsAscii, IsCharBoundary, IsUtf8, trim_start}
 use Rattle.std.proofs.lemmas.Bool.Decides.{nat_tests}
@@ -24,7 +24,7 @@ use Rattle.rl_line.specs.Indents.{blanks, line_plan, lines_plan, spaces, parts, 
 use Rattle.rl_line.specs.Plan.{Plan, Step, after, Taken, Completed, Done, Halted, after_steps, single}
 use Rattle.rl_line.specs.Line.{Line, stepped}
 use Rattle.rl_base.proofs.Texts.EventLemmas.{Deletes-from_IsSome, Inserts-from_IsSome}
-use Rattle.rl_line.proofs.Lines.LineStartLemmas.{newlines-append}
+use Rattle.rl_line.proofs.Lines.LineStartLemmas.{newlines-append, newlines-replaced}
 use Rattle.rl_line.proofs.Plans.EditLemmas.{length-repeat}
 use Rattle.rl_line.proofs.Plans.PlanLemmas.{first_step, Halted-back, Halted-front, Taken-append, Taken-nil}
 
@@ -166,32 +166,29 @@ newlines-spaces : (n : ℕ) → last_line (spaces n) ≡ 0
 newlines-spaces zero = refl
 newlines-spaces (suc n) = newlines-append (32 ∷ []) (spaces n) ∙ (omega (arith, newlines-spaces n))
 
+-- a range without newlines gave way to a part without any
+KeepsAfter-replaced : (text part : List ℕ) (i j q k : ℕ) → i ≤ j → j ≤ q → q ≤ length text → last_line (slice_range text i j) ≡ 0 → last_line part ≡ 0 → k ≡ i + length part + (q - j)
+    → KeepsAfter text (replace_range text i j part) q k
+KeepsAfter-replaced text part i j q k order le inside none clean e =
+    record {
+      count = omega (arith, newlines-replaced text part i j order, none, clean);
+      rest = drop-after text i j q k part (omega arith) le (omega (arith, e));
+      within = omega (
+        arith,
+        length-append (take i text ++ part) (drop j text),
+        length-append (take i text) part,
+        length-take-le i text (omega arith),
+        length-drop j text,
+      );
+    }
+
 KeepsAfter-InsertStr : (text after : List ℕ) (i n q : ℕ) → i ≤ q → q ≤ length text → apply (InsertStr i (spaces n)) text ≡ Some after → KeepsAfter text after q (q + n)
 KeepsAfter-InsertStr text after i n q le inside h =
     let s = spaces n in
     let is : insert_slice text i s ≡ after = same_Some _ _ (sym (Inserts-from_IsSome text i s (ap is_some h)).makes ∙ h) in
-    let front = take i text ++ s in
-    record {
-      count = omega (
-        arith,
-        ap last_line (sym is),
-        newlines-append front (drop i text),
-        newlines-append (take i text) s,
-        newlines-spaces n,
-        newlines-append (take i text) (drop i text),
-        ap last_line (take-append-drop i text),
-      );
-      rest = ap (drop (q + n)) (sym is) ∙ drop-after text i i q (q + n) s (omega arith) le (omega (arith, length-spaces n));
-      within = omega (
-        arith,
-        ap length (sym is),
-        length-append front (drop i text),
-        length-append (take i text) s,
-        length-take-le i text (omega arith),
-        length-drop i text,
-        length-spaces n,
-      );
-    }
+    let empty : i - i ≡ 0 = omega arith in
+    subst (λ t. KeepsAfter text t q (q + n)) is
+    (KeepsAfter-replaced text s i i q (q + n) (omega arith) le inside (ap (λ k. last_line (take k (drop i text))) empty) (newlines-spaces n) (omega (arith, length-spaces n)))
 
 KeepsAfter-Delete : (text after : List ℕ) (i q : ℕ) (s : List ℕ) (side : Direction) → i + length s ≤ q → q ≤ length text → last_line s ≡ 0 → apply (Delete i s side) text ≡ Some after
     → KeepsAfter text after q (q - length s)
@@ -199,30 +196,8 @@ KeepsAfter-Delete text after i q s side le inside none h =
     let d = Deletes-from_IsSome text i s side (ap is_some h) in
     let j = i + length s in
     let is : remove_range text i j ≡ after = same_Some _ _ (sym d.makes ∙ h) in
-    let width : j - i ≡ length s = omega arith in
-    let bytes : take (length s) (drop i text) ≡ s = ap (λ n. take n (drop i text)) (sym width) ∙ d.stands.bytes in
-    record {
-      count = omega (
-        arith,
-        ap last_line (sym is),
-        newlines-append (take i text) (drop j text),
-        newlines-append (take i text) (drop i text),
-        ap last_line (take-append-drop i text),
-        newlines-append (take (length s) (drop i text)) (drop (length s) (drop i text)),
-        ap last_line (take-append-drop (length s) (drop i text)),
-        ap last_line bytes,
-        none,
-        ap last_line (drop-drop (length s) i text),
-      );
-      rest = ap (drop (q - length s)) (sym is) ∙ drop-after_removal text i j q (q - length s) (omega arith) le (omega arith);
-      within = omega (
-        arith,
-        ap length (sym is),
-        length-append (take i text) (drop j text),
-        length-take-le i text (omega arith),
-        length-drop j text,
-      );
-    }
+    subst (λ t. KeepsAfter text t q (q - length s)) (sym (removed-is_replaced text i j) ∙ is)
+    (KeepsAfter-replaced text [] i j q (q - length s) (omega arith) le inside (ap last_line d.stands.bytes ∙ none) refl (omega arith))
 
 KeepsAfter-put : (ps : List ℕ) (i q cursor : ℕ) (old new : Line) → i ≤ q → q ≤ length old.text → after (put_spaces ps i cursor) old ≡ Some new → KeepsAfter old.text new.text q (q + sum ps)
 KeepsAfter-put [] i q cursor old new le inside h =
