@@ -1,13 +1,13 @@
 -- What reports lead to.
 use Rattle.std.proofs.Common.{◌≡◌, ℕ, ◌+◌, ◌-◌, ◌^◌, ◌<◌, ◌≤◌, ◌⊎◌, inl, inr, Bool, true, false, min, List, [], ◌∷◌, ◌++◌, length, take, drop, fold, encode_utf8, slice_range, Option, Some, None, if◌then◌else◌, ◌==◌, refl, sym, ap, subst, ◌∙◌, arith, length-append, take_at, drop_at}
-use Rattle.std.proofs.lemmas.Bool.{OnTrue_at, OnTrue_from}
+use Rattle.std.proofs.lemmas.Bool.{OnTrue_at, OnTrue_from, and_parts}
 use Rattle.std.proofs.lemmas.Bool.Decides.{nat_tests}
 use Rattle.std.proofs.lemmas.List.{length-take-le, length-drop}
 use Rattle.std.proofs.lemmas.Str.{IsCharBoundary-start}
 use Rattle.std.specs.Bool.{OnFalse, OnTrue}
 use Rattle.std.specs.List.{replace_range}
 use Rattle.std.specs.Prelude.{nat_lt}
-use Rattle.std.specs.Str.{IsCharBoundary}
+use Rattle.std.specs.Str.{IsCharBoundary, IsUtf8}
 use Rattle.rl_base.specs.declared.listeners.Direction.TheVariants.{Forward, Backward}
 use Rattle.rl_base.specs.declared.reports.Joined.{Joined}
 use Rattle.rl_base.specs.declared.reports.Report.{Report}
@@ -20,7 +20,6 @@ use Rattle.rl_base.specs.Splice.{Covers, Splices, folded, untouched}
 use Rattle.rl_base.proofs.Queue.QueueLemmas.{length-on_last}
 use Rattle.rl_base.proofs.Texts.SpliceLemmas.{Covers-more, Splices-Swaps, Splices-as, Splices-new, came, went}
 use Rattle.rl_base.proofs.Texts.SwapLemmas.{Swaps, Swaps-InsertChar, Swaps-InsertStr, Swaps-Delete, Swaps-Replace, apply-IsUtf8}
-use Rattle.rl_base.proofs.Texts.TextLemmas.{and_left}
 
 -- a note that is put at the end leads one text further
 pub LeadsBy-push : (placed : Bool) (k : ℕ) (n : Noted) (ns : List Noted) (old text new : List ℕ) → LeadsBy placed k ns old text → Tells k n text new → IsLineText new
@@ -85,7 +84,7 @@ Leads-note placed q n old text new l t c u v w = record { leads = leads q.waitin
 
     within_by : (b : Bool) (ns : List Noted) → has_room_in q.room q.text_room (length n.texts) (Whole ns) ≡ b → apart (if b then Whole (ns ++ n ∷ []) else AsOne (taken_in (as_one (Whole ns)) n.report)) ≤ q.room
     within_by true ns h =
-        let left : nat_lt (length ns) q.room ≡ true = and_left (nat_lt (length ns) q.room) _ h in
+        let left : nat_lt (length ns) q.room ≡ true = (and_parts (nat_lt (length ns) q.room) _ h).0 in
         let few : length ns < q.room = grind (arith, nat_tests) in
         omega (arith, few, length-append ns (n ∷ []))
     within_by false ns h = omega arith
@@ -104,18 +103,15 @@ Tells-Swaps k which i gone come text new b f s = record {
   apart = f;
 }
 
+-- nothing gave way to nothing at the start
+Splices-nothing : (text : List ℕ) → IsUtf8 text → Splices (record { from = 0; old_end = 0; new_end = 0 }) text text
+Splices-nothing text u =
+    let start = IsCharBoundary-start text u in
+    record { old_order = omega arith; new_order = omega arith; old_from = start; new_from = start; old_to = start; new_to = start; before = refl; after = refl }
+
 pub Tells-mark : (k : ℕ) (which : ReportKind) (text : List ℕ) → IsLineText text → is_change which ≡ false → Tells k (noted k which 0 [] []) text text
 Tells-mark k which text u b = record {
-  splices = record {
-    old_order = omega arith;
-    new_order = omega arith;
-    old_from = IsCharBoundary-start text u.utf8;
-    new_from = IsCharBoundary-start text u.utf8;
-    old_to = IsCharBoundary-start text u.utf8;
-    new_to = IsCharBoundary-start text u.utf8;
-    before = refl;
-    after = refl;
-  };
+  splices = Splices-nothing text u.utf8;
   texts_are = refl;
   mark = rw b refl;
   apart = λ e. let same : true ≡ false = sym (ap is_change e) ∙ b in absurd cc;
@@ -268,16 +264,7 @@ Splices-told : (all : Joined) (old new : List ℕ) → Covers all.splice old new
 Splices-told all old new c = from c.differ
   where
     from : ((all.splice ≡ untouched) × (new ≡ old)) ⊎ Splices all.splice old new → Splices (splice_of (told_whole all)) old new
-    from (inl same) = rw (same.0, same.1) record {
-      old_order = omega arith;
-      new_order = omega arith;
-      old_from = IsCharBoundary-start old c.utf8;
-      new_from = IsCharBoundary-start old c.utf8;
-      old_to = IsCharBoundary-start old c.utf8;
-      new_to = IsCharBoundary-start old c.utf8;
-      before = refl;
-      after = refl;
-    }
+    from (inl same) = rw (same.0, same.1) (Splices-nothing old c.utf8)
     from (inr s) =
         let order : all.splice.from ≤ all.splice.old_end = s.old_order in
         let order_new : all.splice.from ≤ all.splice.new_end = s.new_order in

@@ -1,5 +1,7 @@
 -- The ring's slots are the latest groups of kills.
-use Rattle.std.proofs.Common.{◌≡◌, ℕ, ◌+◌, ◌<◌, ◌≤◌, zero, suc, Bool, true, false, List, [], ◌∷◌, ◌++◌, length, take, Option, Some, None, refl, sym, ap, subst, ◌∙◌, arith}
+use Rattle.std.proofs.Common.{◌≡◌, ℕ, ◌+◌, ◌<◌, ◌≤◌, zero, suc, Bool, true, false, List, [], ◌∷◌, ◌++◌, length, take, Option, Some, None, inl, inr, refl, sym, ap, subst, ◌∙◌, arith}
+use Rattle.std.proofs.lemmas.Bool.{false_from_ne_true}
+use Rattle.std.proofs.lemmas.Option.{slice_get_cases}
 use Rattle.std.specs.Prelude.{max, slice_get}
 use Rattle.rl_base.specs.declared.listeners.Direction.{Direction}
 use Rattle.rl_base.specs.Event.{Event, InsertChar, InsertStr, Delete, Replace, Start, Stop, Cursors}
@@ -93,20 +95,13 @@ flag-holds b r g h = record {
 
 -- a yank that answers nothing finds no slot, and then no group grows
 get_none : (slots : List (List ℕ)) (i : ℕ) → i < max 1 (length slots) → slice_get slots i ≡ None → length slots ≡ 0
-get_none [] i h e = refl
-get_none (s ∷ ss) zero h e = cc
-get_none (s ∷ ss) (suc i) h e = below ss i (omega arith) e
-  where
-    below : (xs : List (List ℕ)) (k : ℕ) → k < length xs → slice_get xs k ≡ None → suc (length xs) ≡ 0
-    below [] k h e = absurd (omega arith)
-    below (x ∷ xs) zero h e = cc
-    below (x ∷ xs) (suc k) h e = let n = below xs k (omega arith) e in absurd (omega arith)
+get_none slots i h e = elim (slice_get_cases slots i).1 [ inl some ↦ absurd (cc (e, some.2)) | inr past ↦ omega (arith, past.0) ]
 
 lent-holds : (o : Option (List ℕ)) (r : Ring) (g : Groups) → yank r ≡ o → Holds r g → Holds (lent o r) (record g { growing = false })
 lent-holds (Some text) r g e h = closed-holds (Yank (length text)) r g refl h
 lent-holds None r g e h =
     let none = get_none r.slots r.index h.ring.at_slot e in
-    let still : g.growing ≡ false = not_true g.growing (λ k. let any = h.begun k in omega arith) in
+    let still : g.growing ≡ false = false_from_ne_true g.growing (λ k. let any = h.begun k in omega arith) in
     record {
       some = h.some;
       ring = h.ring;
@@ -116,10 +111,6 @@ lent-holds None r g e h =
       filling = h.filling;
       begun = λ k. cc;
     }
-  where
-    not_true : (b : Bool) → (b ≡ true → ⊥) → b ≡ false
-    not_true true k = absurd (k refl)
-    not_true false k = refl
 
 listener_after-holds : (b : Bool) (text : List ℕ) (side : Direction) (r : Ring) (g : Groups) → Holds r g → Holds (after_deletion b text side r) (with_deletion b text side g)
 listener_after-holds false text side r g h = h

@@ -1,5 +1,6 @@
 -- What an event that fits makes of a text.
 use Rattle.std.proofs.Common.{◌≡◌, ℕ, ◌+◌, ◌-◌, ◌≤◌, Bool, true, false, List, length, slice_range, Some, None, refl, ap, arith}
+use Rattle.std.proofs.lemmas.Bool.{and_parts}
 use Rattle.std.proofs.lemmas.List.Edits.{length-between}
 use Rattle.std.proofs.lemmas.Str.{IsUtf8-encode, IsUtf8-from_is_utf8, is_utf8-from_IsUtf8}
 use Rattle.std.specs.Char.{IsScalar}
@@ -53,10 +54,6 @@ some_if : (b : Bool) (x : List ℕ) → IsSome (cond b (Some x) None) → b ≡ 
 some_if true x h = refl
 some_if false x h = cc
 
-both : (a b : Bool) → a && b ≡ true → (a ≡ true) × (b ≡ true)
-both true b h = (refl, h)
-both false b h = cc
-
 pub Deletes-from_IsSome : (text : List ℕ) (i : ℕ) (s : List ℕ) (side : Direction) → IsSome (apply (Delete i s side) text) → Deletes text i s side
 unfolding apply
 Deletes-from_IsSome text i s side h =
@@ -70,7 +67,7 @@ pub Replaces-from_IsSome : (text : List ℕ) (i : ℕ) (s t : List ℕ) → IsSo
 unfolding apply
 Replaces-from_IsSome text i s t h =
     let ok = some_if (stands_at text i s && is_utf8 t) _ h in
-    let parts = both (stands_at text i s) (is_utf8 t) ok in
+    let parts = and_parts (stands_at text i s) (is_utf8 t) ok in
     record { stands = stands_at-means text i s parts.0; utf8 = IsUtf8-from_is_utf8 t parts.1; makes = rw ok refl }
 
 pub ruleset fitting = (apply-InsertStr, apply-InsertChar, apply-Delete, apply-Replace, is_boundary-true)

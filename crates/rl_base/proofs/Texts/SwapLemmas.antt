@@ -2,15 +2,16 @@
 use Rattle.std.proofs.Common.{◌≡◌, ℕ, ◌+◌, ◌-◌, true, List, [], ◌++◌, length, take, drop, slice_range, Option, Some, None, refl, sym, ap, subst, ◌∙◌, arith, append_assoc, length-append, take_at, drop_at}
 use Rattle.std.proofs.lemmas.List.{length-take-le, take-append-drop, nil_from_length}
 use Rattle.std.proofs.lemmas.List.Folds.{drop_split}
+use Rattle.std.proofs.lemmas.Option.{same_Some}
 use Rattle.std.proofs.lemmas.Str.{IsUtf8-nil, IsUtf8-append, IsUtf8-take, IsUtf8-drop, IsCharBoundary-at_seam, is_utf8-from_IsUtf8}
 use Rattle.std.specs.Prelude.{IsSome, encode_utf8}
-use Rattle.std.specs.List.{insert_slice, remove_range, replace_range}
+use Rattle.std.specs.List.{insert_slice, replace_range}
 use Rattle.std.specs.Str.{IsCharBoundary, IsUtf8}
 use Rattle.rl_base.specs.declared.listeners.Direction.{Direction}
 use Rattle.rl_base.specs.Event.{Event, InsertChar, InsertStr, Delete, Replace, Start, Stop, Cursors, apply}
 use Rattle.rl_base.specs.Text.{stands_at}
 use Rattle.rl_base.proofs.Texts.EventLemmas.{Deletes-from_IsSome, Inserts-from_IsSome, Replaces-from_IsSome}
-use Rattle.rl_base.proofs.Texts.TextLemmas.{fits_at-true, stands_at-true}
+use Rattle.rl_base.proofs.Texts.TextLemmas.{StandsAt, fits_at-true, removed-is_replaced, stands_at-true}
 
 -- at i, old gives way to new
 pub record Swaps (text after : List ℕ) (i : ℕ) (old new : List ℕ) : Type 0 where
@@ -79,8 +80,7 @@ some_is (Some b) a h = refl
 pub Swaps-InsertStr : (text after : List ℕ) (i : ℕ) (s : List ℕ) → IsUtf8 text → apply (InsertStr i s) text ≡ Some after → Swaps text after i [] s
 Swaps-InsertStr text after i s u h =
     let d = Inserts-from_IsSome text i s (some_is (apply (InsertStr i s) text) after h) in
-    let e : Some (insert_slice text i s) ≡ Some after = sym d.makes ∙ h in
-    let same : insert_slice text i s ≡ after = cc in
+    let same : insert_slice text i s ≡ after = same_Some _ _ (sym d.makes ∙ h) in
     record {
       front = take i text;
       rest = drop i text;
@@ -97,39 +97,29 @@ split_at : (text : List ℕ) (i : ℕ) (s : List ℕ) → slice_range text i (i 
 split_at text i s e =
     sym (take-append-drop i text) ∙ ap (λ x. take i text ++ x) (drop_split text i (i + length s) (omega arith) ∙ ap (λ x. x ++ drop (i + length s) text) e)
 
+-- a part that stands in a text gave way to another
+Swaps-at : (text after : List ℕ) (i : ℕ) (s t : List ℕ) → IsUtf8 text → StandsAt text i s → IsUtf8 t → replace_range text i (i + length s) t ≡ after → Swaps text after i s t
+Swaps-at text after i s t u d v same = record {
+  front = take i text;
+  rest = drop (i + length s) text;
+  text_is = split_at text i s d.bytes;
+  after_is = sym same ∙ append_assoc (take i text) t (drop (i + length s) text);
+  place = length-take-le i text d.start.0;
+  front_utf8 = IsUtf8-take text i u d.start;
+  rest_utf8 = IsUtf8-drop text (i + length s) u d.end;
+  old_utf8 = d.utf8;
+  new_utf8 = v;
+}
+
 pub Swaps-Delete : (text after : List ℕ) (i : ℕ) (s : List ℕ) (side : Direction) → IsUtf8 text → apply (Delete i s side) text ≡ Some after → Swaps text after i s []
 Swaps-Delete text after i s side u h =
     let d = Deletes-from_IsSome text i s side (some_is (apply (Delete i s side) text) after h) in
-    let e : Some (remove_range text i (i + length s)) ≡ Some after = sym d.makes ∙ h in
-    let same : remove_range text i (i + length s) ≡ after = cc in
-    record {
-      front = take i text;
-      rest = drop (i + length s) text;
-      text_is = split_at text i s d.stands.bytes;
-      after_is = sym same;
-      place = length-take-le i text d.stands.start.0;
-      front_utf8 = IsUtf8-take text i u d.stands.start;
-      rest_utf8 = IsUtf8-drop text (i + length s) u d.stands.end;
-      old_utf8 = d.stands.utf8;
-      new_utf8 = IsUtf8-nil;
-    }
+    Swaps-at text after i s [] u d.stands IsUtf8-nil (sym (removed-is_replaced text i (i + length s)) ∙ same_Some _ _ (sym d.makes ∙ h))
 
 pub Swaps-Replace : (text after : List ℕ) (i : ℕ) (s t : List ℕ) → IsUtf8 text → apply (Replace i s t) text ≡ Some after → Swaps text after i s t
 Swaps-Replace text after i s t u h =
     let d = Replaces-from_IsSome text i s t (some_is (apply (Replace i s t) text) after h) in
-    let e : Some (replace_range text i (i + length s) t) ≡ Some after = sym d.makes ∙ h in
-    let same : replace_range text i (i + length s) t ≡ after = cc in
-    record {
-      front = take i text;
-      rest = drop (i + length s) text;
-      text_is = split_at text i s d.stands.bytes;
-      after_is = sym same ∙ append_assoc (take i text) t (drop (i + length s) text);
-      place = length-take-le i text d.stands.start.0;
-      front_utf8 = IsUtf8-take text i u d.stands.start;
-      rest_utf8 = IsUtf8-drop text (i + length s) u d.stands.end;
-      old_utf8 = d.stands.utf8;
-      new_utf8 = d.utf8;
-    }
+    Swaps-at text after i s t u d.stands d.utf8 (same_Some _ _ (sym d.makes ∙ h))
 
 pub Swaps-InsertChar : (text after : List ℕ) (i c : ℕ) → IsUtf8 text → apply (InsertChar i c) text ≡ Some after → Swaps text after i [] (encode_utf8 c)
 unfolding apply

@@ -7,6 +7,3 @@ pub returns-then-eq-clause-boundary : goal.returns-then-eq-clause-boundary
 returns-then-eq-clause-boundary c =
     let value : Some c.in-Some.place ≡ first_member (placed_clusters c.args.text.now) = search rules in
     IsCharBoundary-member c.args.text.now c.in-Some.place c.utf8.text value
-
-pub returns-then-eq-clause-value : goal.returns-then-eq-clause-value
-returns-then-eq-clause-value c = search rules

@@ -1,4 +1,4 @@
-use Rattle.std.proofs.Common.{◌<◌, sym, ◌∙◌, arith, rules}
+use Rattle.std.proofs.Common.{◌<◌, sym, ◌∙◌, arith}
 use Rattle.rl_base.proofs.Clusters.WordLemmas.{nth-past_stop}
 use Rattle.rl_base.proofs.places.words.nth_stop.Goals as goal
 
@@ -12,12 +12,3 @@ loop-start-preserved-else-left-eq1 c =
       some = omega (arith, i.some);
       found = sym (nth-past_stop c.args.at c.args.word _ _ _ _ _ _ c.in-Some.ensures.steps (c.in-Some-stop_between.ensures _ _ i.class c.class_of-next.ensures) several) ∙ i.found;
     }
-
-pub loop-start-preserved : goal.loop-start-preserved
-loop-start-preserved c = search rules
-
-pub returns-then-left-eq1 : goal.returns-then-left-eq1
-returns-then-left-eq1 c = search rules
-
-pub returns-then-n-eq0 : goal.returns-then-n-eq0
-returns-then-n-eq0 c = search rules
