@@ -1,7 +1,7 @@
 -- Hits of a character, as characters are taken from either end.
 use Rattle.std.proofs.Common.{◌≡◌, ℕ, ◌+◌, ◌-◌, ◌<◌, ◌≤◌, suc, zero, List, [], ◌∷◌, ◌++◌, map, filter, reverse, length, take, drop, slice_range, Option, Some, None, refl, sym, ap, ap₂, subst, ◌∙◌, arith, Bool, true, false, cond, eq-eqb, ne_eqb, eqb, append_assoc, length-append, take_at}
 use Rattle.std.proofs.lemmas.Bool.{eqb-true}
-use Rattle.std.proofs.lemmas.List.{append-nil, drop_at, length-drop, length-take-le, take-append-drop, reverse-append, map-append, nil_from_length}
+use Rattle.std.proofs.lemmas.List.{append-nil, length-drop, length-take-le, take-append-drop, reverse-append, map-append, nil_from_length}
 use Rattle.std.proofs.lemmas.List.Elements.{filter-append, All-nil, All-cons, All-head, All-tail, All-take}
 use Rattle.std.proofs.lemmas.Option.{IfSome_then}
 use Rattle.std.proofs.lemmas.Str.{chars-nil, chars-append, chars_past_char, length-encode, encodes-chars, IsUtf8-append, IsUtf8-drop, IsUtf8-take, IsUtf8-past_char, IsCharBoundary-at_seam, IsCharBoundary-from_rest}
@@ -22,7 +22,7 @@ use Rattle.rl_base.specs.declared.motion.CharSearch.{CharSearch}
 use Rattle.rl_base.specs.declared.motion.CharSearch.TheVariants.{Forward, ForwardBefore, Backward, BackwardAfter}
 use Rattle.rl_base.proofs.Clusters.ClusterLemmas.{bytes_in-clusters}
 use Rattle.rl_base.specs.Text.{stands_at}
-use Rattle.rl_base.proofs.Texts.TextLemmas.{IsCharBoundary-in_front, stands_at-part}
+use Rattle.rl_base.proofs.Texts.TextLemmas.{IsCharBoundary-in_front, slice_range-middle, stands_at-part}
 use Rattle.rl_base.proofs.Clusters.WordLemmas.{All-reverse, last_or-is, last_or-push}
 
 -- ---- one character is taken
@@ -117,11 +117,6 @@ pub record IsHit (text : List ℕ) (least most c place : ℕ) : Type 0 where
   pub from : least ≤ place
   pub to : place + len_utf8 c ≤ most
 
-slice_range-middle : (text front part rest : List ℕ) → text ≡ front ++ (part ++ rest) → slice_range text (length front) (length front + length part) ≡ part
-slice_range-middle text front part rest e =
-    let width : length front + length part - length front ≡ length part = omega arith in
-    ap (λ n. take n (drop (length front) text)) width ∙ ap (take (length part)) (ap (drop (length front)) e ∙ drop_at front (part ++ rest) _ refl) ∙ take_at part rest _ refl
-
 char_places_stand : (text front cs rest : List ℕ) (least most : ℕ) → text ≡ front ++ (encode_utf8_all cs ++ rest) → IsUtf8 (encode_utf8_all cs ++ rest)
     → least ≤ length front → length front + length (encode_utf8_all cs) ≤ most → All (λ x. IsHit text least most x.1 x.0) (char_places (length front) cs)
 char_places_stand text front [] rest least most e u low high = All-nil _
@@ -138,7 +133,7 @@ char_places_stand text front (c ∷ cs) rest least most e u low high =
     (record {
       start = IsCharBoundary-at_seam text front _ e u;
       end = subst (IsCharBoundary text) width (IsCharBoundary-at_seam text (front ++ one) more next v);
-      bytes = slice_range-middle text front one more here;
+      bytes = slice_range-middle text front one more (length front) here refl;
       from = low;
       to = omega arith;
     })

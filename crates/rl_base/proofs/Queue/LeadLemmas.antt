@@ -1,5 +1,5 @@
 -- What reports lead to.
-use Rattle.std.proofs.Common.{◌≡◌, ℕ, ◌+◌, ◌-◌, ◌^◌, ◌<◌, ◌≤◌, ◌⊎◌, inl, inr, Bool, true, false, min, List, [], ◌∷◌, ◌++◌, length, take, drop, fold, encode_utf8, slice_range, Option, Some, None, if◌then◌else◌, ◌==◌, refl, sym, ap, subst, ◌∙◌, arith, length-append, take_at, drop_at}
+use Rattle.std.proofs.Common.{◌≡◌, ℕ, ◌+◌, ◌-◌, ◌^◌, ◌<◌, ◌≤◌, ◌⊎◌, inl, inr, Bool, true, false, min, List, [], ◌∷◌, ◌++◌, length, take, drop, fold, encode_utf8, slice_range, Option, Some, None, if◌then◌else◌, refl, sym, ap, subst, ◌∙◌, arith, length-append, take_at, drop_at}
 use Rattle.std.proofs.lemmas.Bool.{OnTrue_at, OnTrue_from, and_parts}
 use Rattle.std.proofs.lemmas.Bool.Decides.{nat_tests}
 use Rattle.std.proofs.lemmas.List.{length-take-le, length-drop}
@@ -17,7 +17,7 @@ use Rattle.rl_base.specs.declared.splice.Splice.{Splice}
 use Rattle.rl_base.specs.Event.{Event, InsertChar, InsertStr, Delete, Replace, Start, Stop, Cursors, apply}
 use Rattle.rl_base.specs.Reports.{AsOne, HasTexts, IsChange, IsLineText, LacksTexts, Leads, LeadsBy, Noted, Queue, ReadsTexts, ReadsWhole, Stand, Tells, WaitLeads, Waiting, Whole, after_texts, apart, as_one, forgotten, has_room_in, is_change, joined_cursors, kept, new_queue, noted, noting, nothing_joined, oldest, on_last, queue_step, reports_of, splice_of, taken_in, told_cursors, told_whole, with_cursors, with_note}
 use Rattle.rl_base.specs.Splice.{Covers, Splices, folded, untouched}
-use Rattle.rl_base.proofs.Queue.QueueLemmas.{length-on_last}
+use Rattle.rl_base.proofs.Queue.QueueLemmas.{kept-all, length-on_last}
 use Rattle.rl_base.proofs.Texts.SpliceLemmas.{Covers-more, Splices-Swaps, Splices-as, Splices-new, came, went}
 use Rattle.rl_base.proofs.Texts.SwapLemmas.{Swaps, Swaps-InsertChar, Swaps-InsertStr, Swaps-Delete, Swaps-Replace, apply-IsUtf8}
 
@@ -222,10 +222,6 @@ nothing placed q old new l h = from q.waiting l.leads h
     from (Whole (n ∷ ns)) l h = absurd cc
     from (AsOne all) l h = absurd cc
 
--- texts that are kept of a note
-texts-kept : (k : ℕ) (x y : List ℕ) → 0 < k → kept k (x ++ y) ≡ x ++ y
-texts-kept k x y l = let some : (k == 0) ≡ false = grind (arith, nat_tests) in rw some refl
-
 slice-length : (x : List ℕ) (i n : ℕ) → i + n ≤ length x → length (slice_range x i (i + n)) ≡ n
 slice-length x i n le = length-take-le ((i + n) - i) (drop i x) (omega (arith, length-drop i x)) ∙ omega arith
 
@@ -244,7 +240,7 @@ with_texts placed q note old new l u is has = from q.waiting l.leads l.within is
         let r = note.report in
         let gone = slice_range old r.at (r.at + r.old_len) in
         let come = slice_range by.0 r.at (r.at + r.new_len) in
-        let texts : note.texts ≡ gone ++ come = t.texts_are ∙ texts-kept q.text_room gone come has.kept in
+        let texts : note.texts ≡ gone ++ come = t.texts_are ∙ kept-all q.text_room (gone ++ come) has.kept in
         let went : length gone ≡ r.old_len = slice-length old r.at r.old_len t.splices.old_to.0 in
         let after : drop r.old_len note.texts ≡ come = ap (drop r.old_len) texts ∙ drop_at gone come r.old_len went in
         let next : after_texts note old ≡ by.0 = ap (replace_range old r.at (r.at + r.old_len)) after ∙ Splices-new (splice_of r) old by.0 t.splices in

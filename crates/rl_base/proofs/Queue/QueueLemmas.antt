@@ -3,6 +3,7 @@ use Rattle.std.proofs.Common.{◌≡◌, ℕ, zero, suc, ◌+◌, ◌-◌, ◌<�
 use Rattle.std.proofs.Math.Seq.{drop-append_seam, take-append_seam}
 use Rattle.std.proofs.lemmas.List.{length-take-le, length-drop, take-append-drop, take-append-le, drop-append-le, take_all, drop_all}
 use Rattle.std.proofs.lemmas.Str.{IsCharBoundary-at_seam, IsCharBoundary-from_drop, IsCharBoundary-from_take, IsUtf8-nil, IsUtf8-append}
+use Rattle.std.proofs.lemmas.Bool.{and_parts, cond_both, leb-true, ltb-true}
 use Rattle.std.proofs.lemmas.Bool.Decides.{nat_tests}
 use Rattle.std.specs.Prelude.{Err, Ok, OnOk, Result, is_err, nat_le, nat_lt}
 use Rattle.std.specs.Str.{IsCharBoundary, IsUtf8}
@@ -11,7 +12,6 @@ use Rattle.rl_base.specs.declared.reports.Report.{Report}
 use Rattle.rl_base.specs.declared.reports.ReportKind.{ReportKind}
 use Rattle.rl_base.specs.Notes.{Cuts, KeepsRoom, Notes, bytes_kept, notes}
 use Rattle.rl_base.specs.Reports.{IsQueue, Noted, has_room_in, waiting_of, is_change, kept, noted, on_last, reports_of, text_bytes, told_cursors, told_note}
-use Rattle.rl_base.proofs.Texts.TextLemmas.{and_left, and_right}
 
 pub reports_of-notes : (k : ℕ) (rs : List Report) (bytes : List ℕ) → reports_of (notes k rs bytes) ≡ rs
 reports_of-notes k [] bytes = refl
@@ -119,12 +119,8 @@ length-kept-if false gone come = length-append gone come
 pub length-kept : (k : ℕ) (kind : ReportKind) (place : ℕ) (gone come : List ℕ) → length (kept k (gone ++ come)) ≡ bytes_kept k (noted k kind place gone come).report
 length-kept k kind place gone come = length-kept-if (k == 0) gone come
 
-IsUtf8-kept-if : (b : Bool) (gone come : List ℕ) → IsUtf8 gone → IsUtf8 come → IsUtf8 (if b then [] else (gone ++ come))
-IsUtf8-kept-if true gone come u v = IsUtf8-nil
-IsUtf8-kept-if false gone come u v = IsUtf8-append gone come u v
-
 pub IsUtf8-kept : (k : ℕ) (gone come : List ℕ) → IsUtf8 gone → IsUtf8 come → IsUtf8 (kept k (gone ++ come))
-IsUtf8-kept k gone come u v = IsUtf8-kept-if (k == 0) gone come u v
+IsUtf8-kept k gone come u v = cond_both (k == 0) [] (gone ++ come) IsUtf8 (λ _. IsUtf8-nil) (λ _. IsUtf8-append gone come u v)
 
 pub kept-all : (k : ℕ) (texts : List ℕ) → 0 < k → kept k texts ≡ texts
 kept-all k texts some =
@@ -238,9 +234,8 @@ pub record Fits (room k n : ℕ) (ns : List Noted) (whole : Option Joined) : Typ
 -- what room means
 has_room-means : (room k n : ℕ) (ns : List Noted) (whole : Option Joined) → has_room_in room k n (waiting_of whole ns) ≡ true → Fits room k n ns whole
 has_room-means room k n ns None h =
-    let left : nat_lt (length ns) room ≡ true = and_left (nat_lt (length ns) room) (nat_le (text_bytes ns + n) k) h in
-    let right : nat_le (text_bytes ns + n) k ≡ true = and_right (nat_lt (length ns) room) (nat_le (text_bytes ns + n) k) h in
-    record { apart = refl; place = grind (arith, nat_tests); text_place = grind (arith, nat_tests) }
+    let both = and_parts (nat_lt (length ns) room) (nat_le (text_bytes ns + n) k) h in
+    record { apart = refl; place = ltb-true _ _ both.0; text_place = leb-true _ _ both.1 }
 has_room-means room k n ns (Some all) h = absurd cc
 
 text_bytes-push : (ns : List Noted) (n : Noted) → text_bytes (ns ++ n ∷ []) ≡ text_bytes ns + length n.texts

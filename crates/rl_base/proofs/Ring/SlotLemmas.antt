@@ -1,7 +1,7 @@
 -- The slots from the newest back.
-use Rattle.std.proofs.Common.{◌≡◌, ℕ, ◌+◌, ◌<◌, ◌≤◌, zero, suc, Bool, true, false, cond, List, [], ◌∷◌, ◌++◌, length, take, drop, reverse, Some, refl, sym, ap, subst, ◌∙◌, ◌⊎◌, inl, inr, arith, length-append, append-nil, append_assoc, take_at, drop_at}
-use Rattle.std.proofs.lemmas.Bool.{eqb-true, eqb-false}
-use Rattle.std.proofs.lemmas.List.{length-set, reverse-append, length-reverse}
+use Rattle.std.proofs.Common.{◌≡◌, ℕ, ◌+◌, ◌<◌, ◌≤◌, zero, suc, true, List, [], ◌∷◌, ◌++◌, length, take, drop, reverse, Some, refl, sym, ap, subst, ◌∙◌, ◌⊎◌, inl, inr, arith, length-append, append-nil, append_assoc, take_at, drop_at, eq-eqb, ne_eqb}
+use Rattle.std.proofs.lemmas.Bool.{cases_lt, cond-true, cond-false}
+use Rattle.std.proofs.lemmas.List.{length-set, take_all, take-take, reverse-append, length-reverse}
 use Rattle.std.proofs.Math.Seq.{set-append_seam}
 use Rattle.std.specs.Prelude.{max, ◌==◌, slice_set, slice_get}
 use Rattle.rl_base.specs.declared.kill_ring.Mode.{Mode}
@@ -23,18 +23,6 @@ cut-at (s ∷ ss) zero h = record { front = []; slot = s; back = ss; is = refl; 
 cut-at (s ∷ ss) (suc i) h =
     let a = cut-at ss i (omega arith) in
     record { front = s ∷ a.front; slot = a.slot; back = a.back; is = ap (λ l. s ∷ l) a.is; place = ap suc a.place }
-
-take-all : (xs : List (List ℕ)) (n : ℕ) → length xs ≤ n → take n xs ≡ xs
-take-all [] zero h = refl
-take-all [] (suc n) h = refl
-take-all (x ∷ xs) zero h = absurd (omega arith)
-take-all (x ∷ xs) (suc n) h = ap (λ l. x ∷ l) (take-all xs n (omega arith))
-
-take-less : (xs : List (List ℕ)) (n : ℕ) → take n (take (suc n) xs) ≡ take n xs
-take-less [] zero = refl
-take-less [] (suc n) = refl
-take-less (x ∷ xs) zero = refl
-take-less (x ∷ xs) (suc n) = ap (λ l. x ∷ l) (take-less xs n)
 
 reverse-cons : (x : List ℕ) (xs : List (List ℕ)) → reverse (x ∷ xs) ≡ reverse xs ++ x ∷ []
 reverse-cons x xs = reverse-append (x ∷ []) xs
@@ -90,18 +78,10 @@ back-join slots groups i (suc n) text mode at any some h =
         ap (λ x. joined mode x text ∷ rest) one ∙ ap (λ l. joined mode g text ∷ l) two
 
 put-after : (slots : List (List ℕ)) (i : ℕ) (text : List ℕ) → i ≡ length slots → put_at i text slots ≡ slots ++ text ∷ []
-put-after slots i text h = through (i == length slots) refl
-  where
-    through : (b : Bool) → (i == length slots) ≡ b → cond b (slots ++ text ∷ []) (slice_set slots i text) ≡ slots ++ text ∷ []
-    through true e = refl
-    through false e = let n = eqb-false i (length slots) e in absurd (omega arith)
+put-after slots i text h = cond-true (i == length slots) _ _ (eq-eqb i (length slots) h)
 
 pub put-over : (slots : List (List ℕ)) (i : ℕ) (text : List ℕ) → i < length slots → put_at i text slots ≡ slice_set slots i text
-put-over slots i text h = through (i == length slots) refl
-  where
-    through : (b : Bool) → (i == length slots) ≡ b → cond b (slots ++ text ∷ []) (slice_set slots i text) ≡ slice_set slots i text
-    through true e = let n = eqb-true i (length slots) e in absurd (omega arith)
-    through false e = refl
+put-over slots i text h = cond-false (i == length slots) _ _ (ne_eqb i (length slots) (λ e. absurd (omega arith)))
 
 -- what a new slot makes of the slots
 pub record Puts (n index i : ℕ) (text : List ℕ) (slots : List (List ℕ)) : Type 0 where
@@ -117,7 +97,7 @@ puts-after n index i text slots room full at =
     let short : length (reverse slots) ≤ n = rw (length-reverse slots) room in
     record {
       back_is = ap (back_from i) put ∙ back-at slots [] text i (sym at) ∙ ap (λ l. text ∷ l) (append-nil (reverse slots))
-          ∙ ap (λ l. text ∷ l) (sym (take-all (reverse slots) n short)) ∙ ap (λ l. text ∷ take n l) (sym (whole slots full));
+          ∙ ap (λ l. text ∷ l) (sym (take_all n (reverse slots) short)) ∙ ap (λ l. text ∷ take n l) (sym (whole slots full));
       filling = λ _. omega arith;
       any = omega arith;
     }
@@ -164,16 +144,11 @@ pub puts : (n index : ℕ) (text : List ℕ) (slots : List (List ℕ)) → lengt
     → (length slots < suc n → index + 1 ≡ max 1 (length slots)) → Puts n index (next_index (suc n) index slots) text slots
 puts n index text slots within at filling =
     let next = next_index-is (suc n) index slots (omega arith) within at in
-    elim (le-or (length slots) n) [
-      | inl room ↦ puts-after n index (next_index (suc n) index slots) text slots room (filling (omega arith)) (after slots (next_index (suc n) index slots) room (filling (omega arith)) next)
-      | inr over ↦ full (next_index (suc n) index slots) next.turns (omega arith)
+    elim (cases_lt n (length slots)) [
+      | inr room ↦ puts-after n index (next_index (suc n) index slots) text slots room (filling (omega arith)) (after slots (next_index (suc n) index slots) room (filling (omega arith)) next)
+      | inl over ↦ full (next_index (suc n) index slots) next.turns (omega arith)
     ]
   where
-    le-or : (a b : ℕ) → (a ≤ b) ⊎ (b < a)
-    le-or zero b = inl (omega arith)
-    le-or (suc a) zero = inr (omega arith)
-    le-or (suc a) (suc b) = elim (le-or a b) [ inl h ↦ inl (omega arith) | inr h ↦ inr (omega arith) ]
-
     after : (ss : List (List ℕ)) (i : ℕ) → length ss ≤ n → index + 1 ≡ max 1 (length ss) → Next (suc n) index ss i → i ≡ length ss
     after [] i room e next = let b = next.after in omega arith
     after (s ∷ ss) i room e next = elim (next.turns) [ inl t ↦ let u = t.0 in absurd (omega arith) | inr t ↦ let u = t.1 in omega arith ]
@@ -187,4 +162,4 @@ puts n index text slots within at filling =
         rises (s ∷ ss) h = refl
 
 pub take-grown : (groups : List (List ℕ)) (n : ℕ) (text : List ℕ) → text ∷ take n (take (suc n) groups) ≡ take (suc n) (text ∷ groups)
-take-grown groups n text = ap (λ l. text ∷ l) (take-less groups n)
+take-grown groups n text = ap (λ l. text ∷ l) (take-take n (suc n) groups (omega arith))

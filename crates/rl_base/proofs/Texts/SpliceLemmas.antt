@@ -10,6 +10,7 @@ use Rattle.std.specs.Str.{IsCharBoundary, IsUtf8}
 use Rattle.rl_base.specs.declared.splice.Splice.{Splice}
 use Rattle.rl_base.specs.Event.{Event, InsertChar, InsertStr, Delete, Replace, Start, Stop, Cursors, apply}
 use Rattle.rl_base.specs.Splice.{Covers, Splices, capped, folded, spliced, told, untouched}
+use Rattle.rl_base.proofs.Texts.TextLemmas.{slice_range-middle}
 use Rattle.rl_base.proofs.Texts.SwapLemmas.{Swaps, Swaps-Delete, Swaps-InsertChar, Swaps-InsertStr, Swaps-Replace}
 
 -- texts with the same front have the same boundaries in it
@@ -131,16 +132,11 @@ Splices-Swaps text after i old new s = record {
     left x part e = ap (drop (i + length part)) (e ∙ sym (append_assoc s.front part s.rest)) ∙ drop_at (s.front ++ part) s.rest (i + length part) (width part)
 
 -- what stands at the place of a swap
-stands : (x front part rest : List ℕ) (i : ℕ) → x ≡ front ++ (part ++ rest) → length front ≡ i → slice_range x i (i + length part) ≡ part
-stands x front part rest i e n =
-    let width : (i + length part) - i ≡ length part = omega arith in
-    ap (λ k. take k (drop i x)) width ∙ ap (λ y. take (length part) (drop i y)) e ∙ ap (take (length part)) (drop_at front (part ++ rest) i n) ∙ take_at part rest (length part) refl
-
 pub went : (text after : List ℕ) (i : ℕ) (old new : List ℕ) → Swaps text after i old new → slice_range text i (i + length old) ≡ old
-went text after i old new s = stands text s.front old s.rest i s.text_is s.place
+went text after i old new s = slice_range-middle text s.front old s.rest i s.text_is s.place
 
 pub came : (text after : List ℕ) (i : ℕ) (old new : List ℕ) → Swaps text after i old new → slice_range after i (i + length new) ≡ new
-came text after i old new s = stands after s.front new s.rest i s.after_is s.place
+came text after i old new s = slice_range-middle after s.front new s.rest i s.after_is s.place
 
 -- what covers all that changed covers it with one more change
 Covers-Swaps : (s : Splice) (old text new : List ℕ) (i : ℕ) (gone come : List ℕ) → Covers s old text → length text < 2 ^ 64 → length new < 2 ^ 64 → Swaps text new i gone come

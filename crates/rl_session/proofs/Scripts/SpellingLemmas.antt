@@ -1,4 +1,5 @@
 -- One text at most is spelled by given bytes, and by which parts.
+use Rattle.std.proofs.lemmas.Bool.{and_parts}
 use Rattle.std.proofs.Common.{arith, ◌≡◌, ◌≢◌, ℕ, ◌+◌, ◌*◌, ◌<◌, true, List, [], ◌∷◌, ◌++◌, length, get_or, Option, Some, None, refl, sym, ap, subst, ◌∙◌, append_assoc, append-nil, length-append, inl, inr}
 use Rattle.std.specs.Prelude.{encode_utf8, option_and_then, MatchOption}
 use Rattle.std.specs.Borrow.{Bor}
@@ -8,7 +9,6 @@ use Rattle.std.specs.Char.{IsScalar}
 use Rattle.std.proofs.lemmas.Bool.Decides.{eqb_tells}
 use Rattle.std.proofs.lemmas.Str.{encode_same, encode_ascii, inside_one, length-encode, len_utf8_bounds, cons_from_encodes}
 use Rattle.std.proofs.lemmas.List.{append_cancel_left}
-use Rattle.rl_base.proofs.Texts.TextLemmas.{and_left}
 use Rattle.rl_session.proofs.Scripts.PartLemmas.{Lacks, Lacks-by_index, same_parts}
 use Rattle.rl_session.specs.Spelling.{hex_digit, hex_from, letter_of, Escapes, Spells, SpellsChar, letter, braced, nothing, plain, escape}
 use Rattle.rl_session.specs.Reads.{BeginsEscape, BeginsNoEscape, Begins, BeginsChar, SpellsNothing, SpellsNoChar}
@@ -213,7 +213,7 @@ escaped_char bytes after (Some found) e h = subst (λ b. BeginsChar b found.0 fo
 pub IsScalar-first : (bytes rest : List ℕ) (c : ℕ) → IsUtf8 bytes → bytes ≡ encode_utf8 c ++ rest → IsScalar c
 IsScalar-first bytes rest c u e =
     let parts = cons_from_encodes u.0 rest c (u.1.1 ∙ e) in
-    and_left (scalar c) (scalars parts.0) (subst (λ l. scalars l ≡ true) parts.1 u.1.0)
+    (and_parts (scalar c) (scalars parts.0) (subst (λ l. scalars l ≡ true) parts.1 u.1.0)).0
 
 pub not_slash : (bytes rest : List ℕ) (c : ℕ) → bytes ≡ encode_utf8 c ++ rest → ((more : List ℕ) → bytes ≢ 92 ∷ more) → c ≢ 92
 not_slash bytes rest c e n is = n rest (e ∙ ap (λ l. l ++ rest) (ap encode_utf8 is ∙ encode_ascii 92 (omega arith)))
