@@ -112,28 +112,16 @@ pub record Lies (text : List ℕ) (j start stop : ℕ) (line : List ℕ) : Type 
 at_places : (text : List ℕ) (j s t s' t' : ℕ) (line : List ℕ) → s ≡ s' → t ≡ t' → Lies text j s t line → Lies text j s' t' line
 at_places text j s t s' t' line e f h = subst (λ (n : ℕ). Lies text j s' n line) f (subst (λ (n : ℕ). Lies text j n t line) e h)
 
-count-newline : (b : ℕ) (bs : List ℕ) → eqb b 10 ≡ true → count_by is_newline (b ∷ bs) ≡ 1 + count_by is_newline bs
-count-newline b bs e = sum_by-cons (λ c. cond (eqb c 10) 1 0) b bs ∙ ap (λ (v : Bool). cond v 1 0 + count_by is_newline bs) e
+count-next : (is : Bool) (b : ℕ) (bs : List ℕ) → eqb b 10 ≡ is → count_by is_newline (b ∷ bs) ≡ cond is 1 0 + count_by is_newline bs
+count-next is b bs e = sum_by-cons (λ c. cond (eqb c 10) 1 0) b bs ∙ ap (λ (v : Bool). cond v 1 0 + count_by is_newline bs) e
 
-count-other : (b : ℕ) (bs : List ℕ) → eqb b 10 ≡ false → count_by is_newline (b ∷ bs) ≡ count_by is_newline bs
-count-other b bs e = sum_by-cons (λ c. cond (eqb c 10) 1 0) b bs ∙ ap (λ (v : Bool). cond v 1 0 + count_by is_newline bs) e ∙ (omega arith)
-
-lies-after_newline : (b : ℕ) (bs : List ℕ) (j s t : ℕ) (line : List ℕ) → eqb b 10 ≡ true → Lies bs j s t line → Lies (b ∷ bs) (suc j) (suc s) (suc t) line
-lies-after_newline b bs j s t line e h =
+-- with one byte more before it, it has the next number where that is a newline
+lies-after : (is : Bool) (b : ℕ) (bs : List ℕ) (j k s t : ℕ) (line : List ℕ) → eqb b 10 ≡ is → cond is 1 0 + j ≡ k → Lies bs j s t line → Lies (b ∷ bs) k (suc s) (suc t) line
+lies-after is b bs j k s t line e next h =
     record {
       len = omega (arith, h.len);
-      number_start = count-newline b (take s bs) e ∙ (omega (arith, h.number_start));
-      number_stop = count-newline b (take t bs) e ∙ (omega (arith, h.number_stop));
-      is = h.is;
-      within = omega (arith, h.within);
-    }
-
-lies-after : (b : ℕ) (bs : List ℕ) (j s t : ℕ) (line : List ℕ) → eqb b 10 ≡ false → Lies bs j s t line → Lies (b ∷ bs) j (suc s) (suc t) line
-lies-after b bs j s t line e h =
-    record {
-      len = omega (arith, h.len);
-      number_start = count-other b (take s bs) e ∙ h.number_start;
-      number_stop = count-other b (take t bs) e ∙ h.number_stop;
+      number_start = count-next is b (take s bs) e ∙ ap (λ n. cond is 1 0 + n) h.number_start ∙ next;
+      number_stop = count-next is b (take t bs) e ∙ ap (λ n. cond is 1 0 + n) h.number_stop ∙ next;
       is = h.is;
       within = omega (arith, h.within);
     }
@@ -143,7 +131,7 @@ lies-longer b bs t line e h =
     record {
       len = omega (arith, h.len);
       number_start = refl;
-      number_stop = count-other b (take t bs) e ∙ h.number_stop;
+      number_stop = count-next false b (take t bs) e ∙ ap (λ n. 0 + n) h.number_stop;
       is = ap (λ l. b ∷ l) h.is;
       within = omega (arith, h.within);
     }
@@ -172,11 +160,11 @@ lies-in (b ∷ bs) j ls same l =
         (get_or (cond is ([] ∷ (line ∷ more)) (onto_first b (line ∷ more))) j [])
     from rest true e zero line more f l = lies-empty (b ∷ bs)
     from rest true e (suc j) line more f l =
-        at_places (b ∷ bs) (suc j) _ _ _ _ (get_or (line ∷ more) j []) (omega arith) (omega arith) (lies-after_newline b bs j _ _ _ e (rest j (line ∷ more) f (omega arith)))
+        at_places (b ∷ bs) (suc j) _ _ _ _ (get_or (line ∷ more) j []) (omega arith) (omega arith) (lies-after true b bs j (suc j) _ _ _ e (omega arith) (rest j (line ∷ more) f (omega arith)))
     from rest false e zero line more f l =
         at_places (b ∷ bs) 0 _ _ _ _ (b ∷ line) refl (omega arith) (lies-longer b bs _ line e (rest 0 (line ∷ more) f (omega arith)))
     from rest false e (suc j) line more f l =
-        at_places (b ∷ bs) (suc j) _ _ _ _ (get_or more j []) (omega arith) (omega arith) (lies-after b bs (suc j) _ _ _ e (rest (suc j) (line ∷ more) f l))
+        at_places (b ∷ bs) (suc j) _ _ _ _ (get_or more j []) (omega arith) (omega arith) (lies-after false b bs (suc j) (suc j) _ _ _ e (omega arith) (rest (suc j) (line ∷ more) f l))
 
 pub lies : (text : List ℕ) (j : ℕ) → j < length (lines text) → Lies text j (start_of_line text j) (end_of_line text j) (text_of_line text j)
 lies text j l = lies-in text j (lines text) refl l
