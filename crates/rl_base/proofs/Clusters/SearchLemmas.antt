@@ -1,6 +1,7 @@
 -- Hits of a character, as characters are taken from either end.
-use Rattle.std.proofs.Common.{◌≡◌, ℕ, ◌+◌, ◌-◌, ◌<◌, ◌≤◌, suc, zero, List, [], ◌∷◌, ◌++◌, map, filter, reverse, length, take, drop, slice_range, Option, Some, None, refl, sym, ap, ap₂, subst, ◌∙◌, arith, Bool, true, false, cond, eq-eqb, ne_eqb, eqb, append_assoc, length-append, take_at}
+use Rattle.std.proofs.Common.{◌≡◌, ℕ, ◌+◌, ◌-◌, ◌<◌, ◌≤◌, suc, List, [], ◌∷◌, ◌++◌, map, filter, reverse, length, take, drop, slice_range, Option, Some, None, refl, sym, ap, ap₂, subst, ◌∙◌, arith, Bool, true, false, cond, eq-eqb, ne_eqb, eqb, append_assoc, length-append, take_at}
 use Rattle.std.proofs.lemmas.Bool.{eqb-true}
+use Rattle.std.proofs.Math.Seq.{take-nil}
 use Rattle.std.proofs.lemmas.List.{append-nil, length-drop, length-take-le, take-append-drop, reverse-append, map-append, nil_from_length}
 use Rattle.std.proofs.lemmas.List.Elements.{filter-append, All-nil, All-cons, All-head, All-tail, All-take}
 use Rattle.std.proofs.lemmas.Option.{IfSome_then}
@@ -63,15 +64,11 @@ char_places-last_at text rest from after place c u v e same at =
 none_among : (wanted from : ℕ) (text : List ℕ) → length text ≡ 0 → places_of wanted (char_places from (chars text)) ≡ []
 none_among wanted from text e = ap (λ cs. places_of wanted (char_places from cs)) (ap chars (nil_from_length text e) ∙ chars-nil)
 
-take-none : (hit : Option ℕ) (n : ℕ) → last_or hit (take n []) ≡ hit
-take-none hit zero = refl
-take-none hit (suc n) = refl
-
 pub nothing_left : (wanted : ℕ) (hit : Option ℕ) (n from : ℕ) (text : List ℕ) → length text ≡ 0 → last_or hit (take n (places_of wanted (char_places from (chars text)))) ≡ hit
-nothing_left wanted hit n from text e = ap (λ l. last_or hit (take n l)) (none_among wanted from text e) ∙ take-none hit n
+nothing_left wanted hit n from text e = ap (λ l. last_or hit (take n l)) (none_among wanted from text e) ∙ ap (last_or hit) (take-nil n)
 
 pub nothing_left_back : (wanted : ℕ) (hit : Option ℕ) (n from : ℕ) (text : List ℕ) → length text ≡ 0 → last_or hit (take n (reverse (places_of wanted (char_places from (chars text))))) ≡ hit
-nothing_left_back wanted hit n from text e = ap (λ l. last_or hit (take n (reverse l))) (none_among wanted from text e) ∙ take-none hit n
+nothing_left_back wanted hit n from text e = ap (λ l. last_or hit (take n (reverse l))) (none_among wanted from text e) ∙ ap (last_or hit) (take-nil n)
 
 -- ---- the search over what is left
 module _ (wanted place c : ℕ) (hit : Option ℕ) where

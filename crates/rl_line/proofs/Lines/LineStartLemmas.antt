@@ -98,25 +98,18 @@ length-table places border text h = ap length h.kept ∙ length-kept border text
 pub newlines-append : (xs ys : List ℕ) → count_by is_newline (xs ++ ys) ≡ count_by is_newline xs + count_by is_newline ys
 newlines-append xs ys = sum_by-append (λ b. cond (is_newline b) 1 0) xs ys
 
+pub newlines-take : (text : List ℕ) (n : ℕ) → count_by is_newline (take n text) ≤ count_by is_newline text
+newlines-take text n = omega (arith, newlines-append (take n text) (drop n text), ap (count_by is_newline) (take-append-drop n text))
+
 pub newlines-slice : (text : List ℕ) (from to : ℕ) → count_by is_newline (slice_range text from to) ≤ count_by is_newline text
 newlines-slice text from to =
-    let back = drop from text in
-    omega (
-      arith,
-      newlines-append (take from text) back,
-      ap (count_by is_newline) (take-append-drop from text),
-      newlines-append (take (to - from) back) (drop (to - from) back),
-      ap (count_by is_newline) (take-append-drop (to - from) back),
-    )
+    omega (arith, newlines-take (drop from text) (to - from), newlines-append (take from text) (drop from text), ap (count_by is_newline) (take-append-drop from text))
 
 -- ---- a range of a text gives way to a part
 pub newlines-front : (text : List ℕ) (from to : ℕ) → from ≤ to → count_by is_newline (take to text) ≡ count_by is_newline (take from text) + count_by is_newline (slice_range text from to)
 newlines-front text from to le =
     ap (λ n. count_by is_newline (take n text)) (omega arith) ∙ ap (count_by is_newline) (take-add from (to - from) text)
     ∙ newlines-append (take from text) (slice_range text from to)
-
-pub newlines-take : (text : List ℕ) (n : ℕ) → count_by is_newline (take n text) ≤ count_by is_newline text
-newlines-take text n = omega (arith, newlines-append (take n text) (drop n text), ap (count_by is_newline) (take-append-drop n text))
 
 pub newlines-replaced : (text part : List ℕ) (from to : ℕ) → from ≤ to
     → count_by is_newline (replace_range text from to part) ≡ count_by is_newline text - count_by is_newline (slice_range text from to) + count_by is_newline part
