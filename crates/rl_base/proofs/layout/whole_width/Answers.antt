@@ -1,5 +1,0 @@
-use Rattle.std.proofs.Common.{rules}
-use Rattle.rl_base.proofs.layout.whole_width.Goals as goal
-
-pub returns : goal.returns
-returns c = search rules
