@@ -1,4 +1,4 @@
 mod CellLemmas
 mod HandleSteps
-mod HeardLemmas
+mod ReportLogLemmas
 mod PartsSteps

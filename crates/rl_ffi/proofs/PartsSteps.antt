@@ -14,7 +14,7 @@ use Rattle.std.proofs.alloc.Calls.{token, handle_tells, Fits}
 use Rattle.std.proofs.BoxSteps.Form.{Bx, D, R, P, B, word}
 use Rattle.std.proofs.BoxSteps.Steps.{box_out, box_in}
 use Rattle.std.specs.Box.Ownership.{box_owns}
-use Rattle.rl_ffi.specs.contracts.parts.Parts as parts
+use Rattle.rl_ffi.specs.contracts.split_box.Parts as parts
 
 module _ (E : Bx) where
   abbrev pub Apart : RattleType

@@ -4,7 +4,7 @@ use Rattle.std.specs.declared.alloc.Global.{Global}
 use Rattle.rl_base.specs.KillRing.{Ring, yank, yank_pop, yank_size}
 use Rattle.rl_base.specs.declared.motion.Movement.{Movement}
 use Rattle.rl_line.specs.Edits.{CanYankPop, too_long}
-use Rattle.rl_line.specs.Kills.{CanDeleteBy, copied}
+use Rattle.rl_line.specs.Deletions.{CanDeleteBy, copied}
 use Rattle.rl_line.specs.Line.{Line}
 use Rattle.rl_session.specs.Commands.{Step, StepWith, deletion_of}
 use Rattle.rl_session.specs.Forgetting.{within_bound}

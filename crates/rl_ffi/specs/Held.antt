@@ -5,14 +5,14 @@ use Rattle.rl_line.specs.Record.{Record}
 use Rattle.rl_session.specs.State.{State}
 use Rattle.rl_ffi.specs.declared.held.Held.{Held}
 use Rattle.rl_ffi.specs.declared.held.Held.TheVariants as held
-use Rattle.rl_ffi.specs.declared.held.HeldLine.{HeldLine}
+use Rattle.rl_ffi.specs.declared.held.LineAndListeners.{LineAndListeners}
 
 -- the session that a handle holds, and so on, if that is what it holds
 abbrev pub session_of : Option Held → Option State
 session_of (Some (held.Session s)) = Some s
 session_of _ = None
 
-abbrev pub line_of : Option Held → Option HeldLine
+abbrev pub line_of : Option Held → Option LineAndListeners
 line_of (Some (held.Line l)) = Some l
 line_of _ = None
 
@@ -32,7 +32,7 @@ pub record Kind (A : Type 0) : Type 0 where
 abbrev pub a_session : Kind State
 a_session = record { hold = held.Session; part = session_of }
 
-abbrev pub a_line : Kind HeldLine
+abbrev pub a_line : Kind LineAndListeners
 a_line = record { hold = held.Line; part = line_of }
 
 abbrev pub a_record : Kind Record

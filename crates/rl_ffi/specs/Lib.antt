@@ -2,12 +2,10 @@ pub mod Answers
 pub mod Buffers
 pub mod Calls
 pub mod Cells
-pub mod Changes
 pub mod Commands
 pub mod Handle
-pub mod Heard
 pub mod Held
-pub mod Killring
+pub mod KillRing
 pub mod LineEdits
 pub mod LineReads
 pub mod Listeners
@@ -16,4 +14,6 @@ pub mod Opening
 pub mod Reads
 pub mod Record
 pub mod RecordLines
+pub mod ReportLog
+pub mod Reports
 pub mod Texts

@@ -7,9 +7,9 @@ use Rattle.rl_line.specs.Line.{Line}
 use Rattle.rl_line.specs.Motions.{destination}
 use Rattle.rl_ffi.specs.Answers.{truth}
 use Rattle.rl_ffi.specs.Calls.{Effect, Telling, Writes, becomes, told_named}
-use Rattle.rl_ffi.specs.Heard.{Heard}
+use Rattle.rl_ffi.specs.ReportLog.{ReportLog}
 use Rattle.rl_ffi.specs.Numbers.{mode_of, movement_of}
-use Rattle.rl_ffi.specs.declared.held.HeldLine.{HeldLine}
+use Rattle.rl_ffi.specs.declared.held.LineAndListeners.{LineAndListeners}
 use Rattle.rl_ffi.specs.declared.shapes.CMovement.{CMovement}
 
 -- the layout by which a line's motions over lines go: the prompt ends at a column
@@ -22,9 +22,9 @@ LeadsTo movement mode prompt = told_named (movement_of movement) (λ m. told_nam
     Writes (destination (prompted_at columns prompt) line m)))
 
 -- whether reports are made from now on
-abbrev pub sets_reports : Bool → Effect HeldLine
+abbrev pub sets_reports : Bool → Effect LineAndListeners
 sets_reports on = becomes (λ held. record held { to = record held.to { reports = on } })
 
 -- reports are forgotten, if any wait
-abbrev pub forgets : (Heard → Heard) → Effect HeldLine
+abbrev pub forgets : (ReportLog → ReportLog) → Effect LineAndListeners
 forgets left old n new = (n ≡ truth (nat_lt 0 (length old.to.heard.waiting))) × (new ≡ record old { to = record old.to { heard = left old.to.heard } })

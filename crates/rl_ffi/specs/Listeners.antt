@@ -9,14 +9,14 @@ use Rattle.rl_line.specs.declared.change.Freshness.TheVariants.{Stale}
 use Rattle.rl_line.specs.Record.{IsRecorded, Record, record_step}
 use Rattle.rl_ffi.specs.Answers.{number}
 use Rattle.rl_ffi.specs.Calls.{Effect}
-use Rattle.rl_ffi.specs.Heard.{Heard, heard_step, nothing_heard}
+use Rattle.rl_ffi.specs.ReportLog.{ReportLog, heard_step, nothing_heard}
 use Rattle.rl_ffi.specs.Held.{line_of, record_of, ring_of}
 use Rattle.rl_ffi.specs.declared.answers.Answer.{Answer}
 use Rattle.rl_ffi.specs.declared.answers.Answer.TheVariants.{Closed}
 use Rattle.rl_ffi.specs.declared.handle.Handle.{Handle}
 use Rattle.rl_ffi.specs.declared.held.Held.{Held}
 use Rattle.rl_ffi.specs.declared.held.Held.TheVariants as holds
-use Rattle.rl_ffi.specs.declared.held.HeldLine.{HeldLine}
+use Rattle.rl_ffi.specs.declared.held.LineAndListeners.{LineAndListeners}
 use Rattle.rl_ffi.specs.declared.listeners.Listeners.{Listeners}
 use Rattle.rl_ffi.specs.declared.listeners.CListeners.{CListeners}
 
@@ -32,7 +32,7 @@ fresh_listeners = record {
 }
 
 -- the reports, where they are made
-abbrev pub reported : (Heard → Heard) → Listeners → Listeners
+abbrev pub reported : (ReportLog → ReportLog) → Listeners → Listeners
 reported change t = record t { heard = if t.reports then change t.heard else t.heard }
 
 -- the ring, where it is told
@@ -91,9 +91,9 @@ handed_back (r, (g, _)) = (r.now.value, g.now.value)
 
 -- A call changes the line that a handle holds. The record and the ring of two others stand in the line meanwhile, and hear of it;
 -- then they change places again.
-abbrev pub ThroughTold : Effect HeldLine → Option Held × (Option Held × Option Held) → ℤ → Option Held × (Option Held × Option Held) → Type 0
+abbrev pub ThroughTold : Effect LineAndListeners → Option Held × (Option Held × Option Held) → ℤ → Option Held × (Option Held × Option Held) → Type 0
 ThroughTold Does old n new =
     MatchOption (line_of old.0) ((n ≡ number Closed) × (new.0 ≡ old.0) × (new.1 ≡ old.1))
-    (λ held. (answer : Answer) × (left : HeldLine) × Does (record held { to = exchanged old.1 held.to }) answer left × (n ≡ number answer)
+    (λ held. (answer : Answer) × (left : LineAndListeners) × Does (record held { to = exchanged old.1 held.to }) answer left × (n ≡ number answer)
     × (new.0 ≡ Some (holds.Line (record left { to = exchanged (handles_exchanged held.to old.1) left.to })))
     × (new.1 ≡ handles_exchanged left.to (handles_exchanged held.to old.1)))

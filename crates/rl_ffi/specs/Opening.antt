@@ -10,7 +10,7 @@ use Rattle.rl_ffi.specs.Numbers.{mode_number, mode_of}
 use Rattle.rl_ffi.specs.declared.answers.Answer.TheVariants.{Done, NoMemory, NoSuchNumber}
 use Rattle.rl_ffi.specs.declared.held.Held.{Held}
 use Rattle.rl_ffi.specs.declared.held.Held.TheVariants as holds
-use Rattle.rl_ffi.specs.declared.held.HeldLine.{HeldLine}
+use Rattle.rl_ffi.specs.declared.held.LineAndListeners.{LineAndListeners}
 use Rattle.rl_ffi.specs.declared.shapes.COptions.{COptions}
 
 -- what is opened takes the place of what the handle held, or memory is out
@@ -27,7 +27,7 @@ OpensSession o text =
     of_named (mode_of o.mode) (λ mode. of_text text (Opens (holds.Session (chosen mode o (fresh text (length text) o.limit o.ring_size mode)))))
 
 -- a line of a text, with the cursor at its end, which makes reports, of which none waits
-abbrev pub fresh_line : List ℕ → ℕ → Bool → HeldLine
+abbrev pub fresh_line : List ℕ → ℕ → Bool → LineAndListeners
 fresh_line text limit can_grow =
     record { line = record { text = text; cursor = length text; limit = max limit (length text); grow = can_grow }; to = fresh_listeners }
 

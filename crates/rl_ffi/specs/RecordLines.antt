@@ -5,7 +5,7 @@ use Rattle.rl_line.specs.Record.{Record, replays_to}
 use Rattle.rl_line.specs.Undo.{CopiesBack, Redone, TriesAhead, TriesBack, Undone, line_ahead, line_back, steps_ahead, steps_back}
 use Rattle.rl_line.specs.Units.{has_change, last_of, redo_of}
 use Rattle.rl_ffi.specs.Answers.{number, truth}
-use Rattle.rl_ffi.specs.Heard.{heard_step}
+use Rattle.rl_ffi.specs.ReportLog.{heard_step}
 use Rattle.rl_ffi.specs.Held.{line_of, record_of}
 use Rattle.rl_ffi.specs.Listeners.{reported}
 use Rattle.rl_ffi.specs.Numbers.{count_of}
@@ -13,36 +13,36 @@ use Rattle.rl_ffi.specs.declared.answers.Answer.{Answer}
 use Rattle.rl_ffi.specs.declared.answers.Answer.TheVariants.{Closed, NoMemory, NotReplaying}
 use Rattle.rl_ffi.specs.declared.held.Held.{Held}
 use Rattle.rl_ffi.specs.declared.held.Held.TheVariants as holds
-use Rattle.rl_ffi.specs.declared.held.HeldLine.{HeldLine}
+use Rattle.rl_ffi.specs.declared.held.LineAndListeners.{LineAndListeners}
 
 -- a question that is tried on a copy of the text, where there is memory for that
 abbrev pub Asked : Bool → Type 0 → Answer → Type 0
 Asked answer Copies n = (n ≡ truth answer) ⊎ ((n ≡ NoMemory) × Copies)
 
 -- whether the line can go back over all that is recorded
-abbrev pub AsksBack : Record → HeldLine → Answer → Type 0
+abbrev pub AsksBack : Record → LineAndListeners → Answer → Type 0
 AsksBack r held n = Asked (is_some (line_back r.recorded held.line)) (TriesBack r.recorded held.line.text) n
 
 -- whether it can go ahead over all that was undone
-abbrev pub AsksAhead : Record → HeldLine → Answer → Type 0
+abbrev pub AsksAhead : Record → LineAndListeners → Answer → Type 0
 AsksAhead r held n = Asked (is_some (line_ahead r.pending held.line)) (TriesAhead r.pending held.line.text) n
 
 -- whether so many entries lead to its text as all do
-abbrev pub AsksFirst : ℕ → Record → HeldLine → Answer → Type 0
+abbrev pub AsksFirst : ℕ → Record → LineAndListeners → Answer → Type 0
 AsksFirst entries r held n = Asked (replays_to entries r held.line.text) (CopiesBack r.recorded held.line.text) n
 
 -- a question through both handles
-abbrev pub AsksBoth : (Record → HeldLine → Answer → Type 0) → Option Held → Option Held → ℤ → Type 0
+abbrev pub AsksBoth : (Record → LineAndListeners → Answer → Type 0) → Option Held → Option Held → ℤ → Type 0
 AsksBoth Asks old line n =
     MatchOption (record_of old) (n ≡ number Closed) (λ r. MatchOption (line_of line) (n ≡ number Closed) (λ held. (answer : Answer) × Asks r held answer × (n ≡ number answer)))
 
 -- the steps are reported, where reports are made
-abbrev pub HearsOf : List Step → HeldLine → HeldLine → Type 0
+abbrev pub HearsOf : List Step → LineAndListeners → LineAndListeners → Type 0
 HearsOf steps old new = new.to ≡ reported (listener_after heard_step old.line.cursor steps) old.to
 
 -- record and line, the answer, and both after
 abbrev pub EffectOnBoth : Type 1
-EffectOnBoth = Record → HeldLine → Answer → Record → HeldLine → Type 0
+EffectOnBoth = Record → LineAndListeners → Answer → Record → LineAndListeners → Type 0
 
 -- both are as they were
 abbrev pub stay : Answer → EffectOnBoth
@@ -78,4 +78,4 @@ abbrev pub ThroughBoth : EffectOnBoth → Option Held → Option Held → ℤ �
 ThroughBoth Does old line n new now =
     MatchOption (record_of old) (BothStay old line n new now)
     (λ r. MatchOption (line_of line) (BothStay old line n new now)
-    (λ held. (answer : Answer) × (left : Record) × (after : HeldLine) × Does r held answer left after × (n ≡ number answer) × (new ≡ Some (holds.Record left)) × (now ≡ Some (holds.Line after))))
+    (λ held. (answer : Answer) × (left : Record) × (after : LineAndListeners) × Does r held answer left after × (n ≡ number answer) × (new ≡ Some (holds.Record left)) × (now ≡ Some (holds.Line after))))

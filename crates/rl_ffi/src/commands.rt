@@ -3,7 +3,7 @@ ghost use Rattle.std.specs.Prelude.{◌≡◌, String, true, false};
 ghost use Rattle.std.specs.String.{string_bytes};
 ghost use Rattle.std.specs.declared.alloc.Global.{Global};
 ghost use Rattle.rl_base.specs.KillRing.{yank, yank_size};
-ghost use Rattle.rl_line.specs.Kills.{copied};
+ghost use Rattle.rl_line.specs.Deletions.{copied};
 ghost use Rattle.rl_session.specs.Commands.{Step};
 ghost use Rattle.rl_session.specs.Options.{no_bound};
 ghost use Rattle.rl_session.specs.State.{State};

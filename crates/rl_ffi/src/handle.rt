@@ -4,7 +4,7 @@ ghost use Rattle.rl_ffi.specs.declared.held.Held.{Held};
 ghost use Rattle.rl_ffi.specs.Handle.{kept, value_coded};
 
 use crate::held::Held;
-use crate::parts::Parts;
+use crate::split_box::Parts;
 use std::alloc::Global;
 use std::marker::Model;
 use std::mem::replace;

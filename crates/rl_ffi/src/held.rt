@@ -10,7 +10,7 @@ pub enum Held {
     /// A session.
     Session(Session),
     /// A line by itself.
-    Line(HeldLine),
+    Line(LineAndListeners),
     /// A record by itself.
     Record(Changeset),
     /// A kill ring by itself.
@@ -19,7 +19,7 @@ pub enum Held {
 
 /// A line by itself, with its listeners.
 #[derive(Drop)]
-pub struct HeldLine {
+pub struct LineAndListeners {
     /// The line.
     pub line: LineBuffer,
     /// Hear of every change of the line.

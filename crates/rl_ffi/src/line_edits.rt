@@ -2,7 +2,7 @@
 ghost use Rattle.std.specs.Prelude.{◌≡◌, false, true, IfErr, OnOk};
 ghost use Rattle.rl_base.specs.declared.motion.Movement.{Movement};
 ghost use Rattle.rl_line.specs.LineRanges.{IsRange};
-ghost use Rattle.rl_line.specs.Kills.{is_by_characters, kill_plan, kill_range_plan};
+ghost use Rattle.rl_line.specs.Deletions.{is_by_characters, kill_plan, kill_range_plan};
 ghost use Rattle.rl_line.specs.LetterCase.{edit_word_plan};
 ghost use Rattle.rl_line.specs.Plan.{a_copy, nothing_more};
 ghost use Rattle.rl_line.specs.Transpositions.{transpose_words_plan};
@@ -19,7 +19,7 @@ ghost use Rattle.rl_ffi.specs.declared.answers.Answer.TheVariants.{NoMemory};
 use crate::answers::{Answer, Outcome, inserted, merged, placed, tried, truth};
 use crate::commands::{has_room_for, room_for};
 use crate::handle::{Handle, of};
-use crate::held::{Held, HeldLine};
+use crate::held::{Held, LineAndListeners};
 use crate::line_reads::prompted_at;
 use crate::listeners::{CListeners, Listeners, exchange, told};
 use crate::numbers::{case_of, char_of, count_of, dedents_of, direction_of, mode_of, movement_of};
@@ -42,7 +42,7 @@ fn ready(to: &mut Listeners, by_characters: bool) -> Result<(), Answer>
     tried(to.heard.ready())
 }
 
-fn set_can_grow(alloc: Global, held: &mut HeldLine, can_grow: bool) -> Outcome
+fn set_can_grow(alloc: Global, held: &mut LineAndListeners, can_grow: bool) -> Outcome
     ensures { may_grow can_grow held.old (merged result) held.new }
 {
     let line = put_in_place(&mut held.line, LineBuffer::with_limit(alloc, 0));
@@ -59,7 +59,7 @@ pub extern "C" fn lodvarn_line_set_can_grow(alloc: Global, l: &mut Handle, can_g
 }
 
 #[tactic(auto, unfolding(crate::specs::Calls::only_where, crate::specs::LineEdits::sets_pos))]
-fn set_pos(held: &mut HeldLine, pos: usize) -> Outcome
+fn set_pos(held: &mut LineAndListeners, pos: usize) -> Outcome
     ensures { sets_pos pos held.old (merged result) held.new }
 {
     if !held.line.as_str().is_char_boundary(pos) {
@@ -77,7 +77,7 @@ pub extern "C" fn lodvarn_line_set_pos(alloc: Global, l: &mut Handle, pos: usize
     of!(l, alloc, Held::Line(held) => set_pos(held, pos))
 }
 
-fn move_by(held: &mut HeldLine, movement: CMovement, mode: u32, prompt: u16) -> Outcome
+fn move_by(held: &mut LineAndListeners, movement: CMovement, mode: u32, prompt: u16) -> Outcome
     ensures { moves movement mode prompt held.old (merged result) held.new }
 {
     let movement = movement_of(movement)?;
@@ -99,7 +99,7 @@ pub extern "C" fn lodvarn_line_move(
     of!(l, alloc, Held::Line(held) => move_by(held, movement, mode, prompt))
 }
 
-fn insert(held: &mut HeldLine, c: u32, n: usize) -> Outcome
+fn insert(held: &mut LineAndListeners, c: u32, n: usize) -> Outcome
     ensures { inserts c n held.old (merged result) held.new }
 {
     let c = char_of(c)?;
@@ -123,7 +123,7 @@ pub extern "C" fn lodvarn_line_insert(
 }
 
 #[tactic(auto, unfolding(crate::specs::LineEdits::pastes))]
-fn paste(held: &mut HeldLine, text: &[u8], n: usize) -> Outcome
+fn paste(held: &mut LineAndListeners, text: &[u8], n: usize) -> Outcome
     ensures { pastes text.now n held.old (merged result) held.new }
 {
     let n = count_of(n)?;
@@ -147,7 +147,7 @@ pub extern "C" fn lodvarn_line_paste(
 }
 
 #[tactic(auto, unfolding(crate::specs::Calls::only_where, crate::specs::LineEdits::pops))]
-fn yank_pop(held: &mut HeldLine, size: usize, text: &[u8]) -> Outcome
+fn yank_pop(held: &mut LineAndListeners, size: usize, text: &[u8]) -> Outcome
     ensures { pops size text.now held.old (merged result) held.new }
 {
     let text = text_of(text)?;
@@ -176,7 +176,7 @@ pub extern "C" fn lodvarn_line_yank_pop(
 }
 
 #[tactic(auto, unfolding(crate::specs::Calls::only_where, crate::specs::LineEdits::sets_text))]
-fn set_text(held: &mut HeldLine, pos: usize, text: &[u8]) -> Outcome
+fn set_text(held: &mut LineAndListeners, pos: usize, text: &[u8]) -> Outcome
     ensures { sets_text pos text.now held.old (merged result) held.new }
 {
     let text = text_of(text)?;
@@ -202,7 +202,7 @@ pub extern "C" fn lodvarn_line_set_text(
 }
 
 #[tactic(auto, unfolding(crate::specs::Calls::only_where, crate::specs::LineEdits::puts_in))]
-fn insert_at(held: &mut HeldLine, place: usize, text: &[u8]) -> Outcome
+fn insert_at(held: &mut LineAndListeners, place: usize, text: &[u8]) -> Outcome
     ensures { puts_in place text.now held.old (merged result) held.new }
 {
     let text = text_of(text)?;
@@ -228,7 +228,7 @@ pub extern "C" fn lodvarn_line_insert_at(
 }
 
 #[tactic(auto, unfolding(crate::specs::Calls::only_where, crate::specs::LineEdits::replaces))]
-fn replace(held: &mut HeldLine, range: CRange, text: &[u8]) -> Outcome
+fn replace(held: &mut LineAndListeners, range: CRange, text: &[u8]) -> Outcome
     ensures { replaces range text.now held.old (merged result) held.new }
 {
     let text = text_of(text)?;
@@ -255,7 +255,7 @@ pub extern "C" fn lodvarn_line_replace(
 }
 
 #[tactic(auto, unfolding(crate::specs::Calls::only_where))]
-fn delete_range(held: &mut HeldLine, range: CRange) -> Outcome
+fn delete_range(held: &mut LineAndListeners, range: CRange) -> Outcome
     ensures { deletes range held.old (merged result) held.new }
 {
     if !held.line.is_range(range.from, range.to) {
@@ -279,7 +279,7 @@ pub extern "C" fn lodvarn_line_delete_range(
     told!(l, to, alloc, held => delete_range(held, range))
 }
 
-fn delete(held: &mut HeldLine, n: usize) -> Outcome
+fn delete(held: &mut LineAndListeners, n: usize) -> Outcome
     ensures { of_named (count_of n) (λ k. edits nothing_more (λ line. kill_plan line (Movement.ForwardChar k)) truth) held.old (merged result) held.new }
 {
     let n = count_of(n)?;
@@ -301,7 +301,7 @@ pub extern "C" fn lodvarn_line_delete(
     told!(l, to, alloc, held => delete(held, n))
 }
 
-fn backspace(held: &mut HeldLine, n: usize) -> Outcome
+fn backspace(held: &mut LineAndListeners, n: usize) -> Outcome
     ensures { of_named (count_of n) (λ k. edits nothing_more (λ line. kill_plan line (Movement.BackwardChar k)) truth) held.old (merged result) held.new }
 {
     let n = count_of(n)?;
@@ -323,7 +323,7 @@ pub extern "C" fn lodvarn_line_backspace(
 }
 
 #[tactic(auto, unfolding(crate::specs::Calls::only_where))]
-fn delete_by(held: &mut HeldLine, movement: CMovement) -> Outcome
+fn delete_by(held: &mut LineAndListeners, movement: CMovement) -> Outcome
     ensures { deletes_by movement held.old (merged result) held.new }
 {
     let movement = movement_of(movement)?;
@@ -348,7 +348,7 @@ pub extern "C" fn lodvarn_line_delete_by(
 }
 
 #[tactic(auto, unfolding(crate::specs::LineEdits::kills))]
-fn kill(held: &mut HeldLine, movement: CMovement) -> Outcome
+fn kill(held: &mut LineAndListeners, movement: CMovement) -> Outcome
     ensures { kills_by movement held.old (merged result) held.new }
 {
     let movement = movement_of(movement)?;
@@ -372,7 +372,7 @@ pub extern "C" fn lodvarn_line_kill(
 
 // Kills what stands in a range of the text.
 #[tactic(auto, unfolding(crate::specs::LineEdits::kills))]
-fn kill_in(held: &mut HeldLine, range: CRange, side: Direction) -> Outcome
+fn kill_in(held: &mut LineAndListeners, range: CRange, side: Direction) -> Outcome
     requires { IsRange held.old.line.text range.from range.to }
     ensures { kills false (λ line. kill_range_plan line range.from range.to side) held.old (merged result) held.new }
 {
@@ -383,7 +383,7 @@ fn kill_in(held: &mut HeldLine, range: CRange, side: Direction) -> Outcome
 }
 
 #[tactic(auto, unfolding(crate::specs::Calls::only_where))]
-fn kill_range(held: &mut HeldLine, range: CRange, direction: u32) -> Outcome
+fn kill_range(held: &mut LineAndListeners, range: CRange, direction: u32) -> Outcome
     ensures { kills_range range direction held.old (merged result) held.new }
 {
     let side = direction_of(direction)?;
@@ -408,7 +408,7 @@ pub extern "C" fn lodvarn_line_kill_range(
 }
 
 #[tactic(auto, unfolding(crate::specs::LineEdits::swaps_chars))]
-fn transpose_chars(held: &mut HeldLine) -> Outcome
+fn transpose_chars(held: &mut LineAndListeners) -> Outcome
     ensures { swaps_chars held.old (merged result) held.new }
 {
     let answer = tried(held.line.transpose_chars(&mut held.to))?;
@@ -423,7 +423,7 @@ pub extern "C" fn lodvarn_line_transpose_chars(alloc: Global, l: &mut Handle, to
     told!(l, to, alloc, held => transpose_chars(held))
 }
 
-fn transpose_words(held: &mut HeldLine, n: usize) -> Outcome
+fn transpose_words(held: &mut LineAndListeners, n: usize) -> Outcome
     ensures { of_named (count_of n) (λ k. edits a_copy (λ line. transpose_words_plan line k) truth) held.old (merged result) held.new }
 {
     let n = count_of(n)?;
@@ -444,7 +444,7 @@ pub extern "C" fn lodvarn_line_transpose_words(
     told!(l, to, alloc, held => transpose_words(held, n))
 }
 
-fn change_case(held: &mut HeldLine, case: u32) -> Outcome
+fn change_case(held: &mut LineAndListeners, case: u32) -> Outcome
     ensures { of_named (case_of case) (λ action. edits a_copy (λ line. edit_word_plan line action) truth) held.old (merged result) held.new }
 {
     let action = case_of(case)?;
@@ -465,7 +465,7 @@ pub extern "C" fn lodvarn_line_change_case(
     told!(l, to, alloc, held => change_case(held, case))
 }
 
-fn indent(held: &mut HeldLine, movement: CMovement, amount: u8, indentation: u32) -> Outcome
+fn indent(held: &mut LineAndListeners, movement: CMovement, amount: u8, indentation: u32) -> Outcome
     ensures { indents movement amount indentation held.old (merged result) held.new }
 {
     let movement = movement_of(movement)?;

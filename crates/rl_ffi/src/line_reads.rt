@@ -3,17 +3,17 @@ ghost use Rattle.std.specs.Prelude.{◌≡◌, false, length};
 ghost use Rattle.std.specs.Option.{option_map_or};
 ghost use Rattle.rl_ffi.specs.Answers.{merged};
 ghost use Rattle.rl_ffi.specs.Calls.{Tells, Through};
-ghost use Rattle.rl_ffi.specs.Changes.{TellsNote};
-ghost use Rattle.rl_ffi.specs.Heard.{all_forgotten, next_of, past_oldest};
+ghost use Rattle.rl_ffi.specs.Reports.{TellsNote};
+ghost use Rattle.rl_ffi.specs.ReportLog.{all_forgotten, next_of, past_oldest};
 ghost use Rattle.rl_ffi.specs.Held.{a_line, line_of};
 ghost use Rattle.rl_ffi.specs.LineReads.{LeadsTo, forgets, prompted_at, sets_reports};
 ghost use Rattle.rl_ffi.specs.Reads.{TellsCovers, TellsSlice, TellsText};
-ghost use Rattle.rl_ffi.specs.declared.held.HeldLine.{HeldLine};
+ghost use Rattle.rl_ffi.specs.declared.held.LineAndListeners.{LineAndListeners};
 
 use crate::answers::{Answer, Outcome, merged, truth};
-use crate::changes::write_report;
+use crate::reports::write_report;
 use crate::handle::{Handle, of};
-use crate::held::{Held, HeldLine};
+use crate::held::{Held, LineAndListeners};
 use crate::numbers::{mode_of, movement_of};
 use crate::reads::{covers, lend, slice, write_place};
 use crate::shapes::{CMovement, CRange, CReport};
@@ -48,7 +48,7 @@ pub extern "C" fn lodvarn_line_slice(
 /// `lodvarn_line_pos`.
 #[unsafe(no_mangle)]
 pub extern "C" fn lodvarn_line_pos(alloc: Global, l: &mut Handle) -> usize
-    ensures value { result ≡ option_map_or (λ (held : HeldLine). held.line.cursor) (line_of l.old.value) 0 }
+    ensures value { result ≡ option_map_or (λ (held : LineAndListeners). held.line.cursor) (line_of l.old.value) 0 }
     ensures kept { l.new.value ≡ l.old.value }
 {
     of!(l, alloc, Held::Line(held) => held.line.pos(), 0)
@@ -57,7 +57,7 @@ pub extern "C" fn lodvarn_line_pos(alloc: Global, l: &mut Handle) -> usize
 /// `lodvarn_line_limit`.
 #[unsafe(no_mangle)]
 pub extern "C" fn lodvarn_line_limit(alloc: Global, l: &mut Handle) -> usize
-    ensures value { result ≡ option_map_or (λ (held : HeldLine). held.line.limit) (line_of l.old.value) 0 }
+    ensures value { result ≡ option_map_or (λ (held : LineAndListeners). held.line.limit) (line_of l.old.value) 0 }
     ensures kept { l.new.value ≡ l.old.value }
 {
     of!(l, alloc, Held::Line(held) => held.line.limit(), 0)
@@ -130,7 +130,7 @@ pub extern "C" fn lodvarn_line_set_reports(alloc: Global, l: &mut Handle, on: bo
 /// `lodvarn_line_makes_reports`.
 #[unsafe(no_mangle)]
 pub extern "C" fn lodvarn_line_makes_reports(alloc: Global, l: &mut Handle) -> bool
-    ensures value { result ≡ option_map_or (λ (held : HeldLine). held.to.reports) (line_of l.old.value) false }
+    ensures value { result ≡ option_map_or (λ (held : LineAndListeners). held.to.reports) (line_of l.old.value) false }
     ensures kept { l.new.value ≡ l.old.value }
 {
     of!(l, alloc, Held::Line(held) => held.to.reports, false)
@@ -151,13 +151,13 @@ pub extern "C" fn lodvarn_line_next_report(alloc: Global, l: &mut Handle, out: &
 /// `lodvarn_line_count_reports`.
 #[unsafe(no_mangle)]
 pub extern "C" fn lodvarn_line_count_reports(alloc: Global, l: &mut Handle) -> usize
-    ensures value { result ≡ option_map_or (λ (held : HeldLine). length held.to.heard.waiting) (line_of l.old.value) 0 }
+    ensures value { result ≡ option_map_or (λ (held : LineAndListeners). length held.to.heard.waiting) (line_of l.old.value) 0 }
     ensures kept { l.new.value ≡ l.old.value }
 {
     of!(l, alloc, Held::Line(held) => held.to.heard.len(), 0)
 }
 
-fn forget(held: &mut HeldLine) -> Outcome
+fn forget(held: &mut LineAndListeners) -> Outcome
     ensures { forgets past_oldest held.old (merged result) held.new }
 {
     let waits = held.to.heard.len() > 0;
@@ -173,7 +173,7 @@ pub extern "C" fn lodvarn_line_forget_report(alloc: Global, l: &mut Handle) -> i
     of!(l, alloc, Held::Line(held) => forget(held))
 }
 
-fn forget_all(held: &mut HeldLine) -> Outcome
+fn forget_all(held: &mut LineAndListeners) -> Outcome
     ensures { forgets all_forgotten held.old (merged result) held.new }
 {
     let waits = held.to.heard.len() > 0;

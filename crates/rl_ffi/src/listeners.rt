@@ -2,11 +2,11 @@
 ghost use Rattle.std.specs.Prelude.{◌≡◌, ◌⊎◌, IfErr, OnErr, OnOk};
 ghost use Rattle.rl_base.specs.Event.{Delete};
 ghost use Rattle.rl_base.specs.declared.listeners.Refusal.TheVariants.{NoMemory};
-ghost use Rattle.rl_ffi.specs.Heard.{first_kept};
+ghost use Rattle.rl_ffi.specs.ReportLog.{first_kept};
 ghost use Rattle.rl_ffi.specs.Listeners.{KeptBy, exchanged, fresh_listeners, handles_exchanged, kept, ringed};
 
 use crate::handle::{Handle, of};
-use crate::heard::Heard;
+use crate::report_log::ReportLog;
 use crate::held::Held;
 use rl_base::{ChangeListener, DeleteListener, Direction, KillRing, Refusal};
 use rl_line::Changeset;
@@ -18,7 +18,7 @@ use std::mem::swap;
 #[derive(Drop)]
 pub struct Listeners {
     /// Keeps the reports.
-    pub heard: Heard,
+    pub heard: ReportLog,
     /// Whether reports are made.
     pub reports: bool,
     /// Hears of every change, if it is told.
@@ -37,7 +37,7 @@ impl Listeners {
         ensures { result ≡ fresh_listeners }
     {
         Listeners {
-            heard: Heard::new(alloc),
+            heard: ReportLog::new(alloc),
             reports: true,
             changes: Changeset::new(alloc),
             tells_record: false,

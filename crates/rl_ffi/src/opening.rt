@@ -14,7 +14,7 @@ ghost use Rattle.rl_ffi.specs.declared.held.Held.{Held};
 
 use crate::answers::{Answer, Outcome, merged};
 use crate::handle::{Handle, of};
-use crate::held::{Held, HeldLine};
+use crate::held::{Held, LineAndListeners};
 use crate::listeners::Listeners;
 use crate::numbers::{mode_number, mode_of};
 use crate::shapes::COptions;
@@ -116,7 +116,7 @@ fn open_line(
     let Ok(line) = filled(LineBuffer::with_limit(alloc, limit), text, text.len()) else {
         return Err(Answer::NoMemory);
     };
-    let held = HeldLine {
+    let held = LineAndListeners {
         line: line.can_growth(can_grow),
         to: Listeners::new(alloc),
     };

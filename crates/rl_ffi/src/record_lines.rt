@@ -8,7 +8,7 @@ ghost use Rattle.rl_ffi.specs.RecordLines.{AsksAhead, AsksBack, AsksBoth, AsksFi
 
 use crate::answers::{Answer, Outcome, merged, tried, truth};
 use crate::handle::{Handle, of};
-use crate::held::{Held, HeldLine};
+use crate::held::{Held, LineAndListeners};
 use crate::numbers::count_of;
 use rl_base::RepeatCount;
 use rl_line::{Changeset, LineBuffer};
@@ -26,7 +26,7 @@ fn undo_untold(changes: &mut Changeset, line: &mut LineBuffer, n: RepeatCount) -
     }
 }
 
-fn undo(changes: &mut Changeset, held: &mut HeldLine, n: RepeatCount) -> Outcome
+fn undo(changes: &mut Changeset, held: &mut LineAndListeners, n: RepeatCount) -> Outcome
     ensures { Undoes n changes.old held.old (merged result) changes.new held.new }
 {
     match changes.can_undo_last(&held.line, n) {
@@ -55,7 +55,7 @@ fn undo(changes: &mut Changeset, held: &mut HeldLine, n: RepeatCount) -> Outcome
     }
 }
 
-fn undo_counted(changes: &mut Changeset, held: &mut HeldLine, n: usize) -> Outcome
+fn undo_counted(changes: &mut Changeset, held: &mut LineAndListeners, n: usize) -> Outcome
     ensures { UndoesCounted n changes.old held.old (merged result) changes.new held.new }
 {
     undo(changes, held, count_of(n)?)
@@ -86,7 +86,7 @@ fn redo_untold(changes: &mut Changeset, line: &mut LineBuffer) -> Outcome
     }
 }
 
-fn redo(changes: &mut Changeset, held: &mut HeldLine) -> Outcome
+fn redo(changes: &mut Changeset, held: &mut LineAndListeners) -> Outcome
     ensures { Redoes changes.old held.old (merged result) changes.new held.new }
 {
     match changes.can_redo_next(&held.line) {
@@ -122,7 +122,7 @@ pub extern "C" fn lodvarn_record_redo(alloc: Global, r: &mut Handle, l: &mut Han
     of!(r, alloc, Held::Record(changes) => of!(l, alloc, Held::Line(held) => redo(changes, held)), Answer::Closed.number())
 }
 
-fn can_undo(changes: &Changeset, held: &HeldLine) -> Outcome
+fn can_undo(changes: &Changeset, held: &LineAndListeners) -> Outcome
     ensures { AsksBack changes.now held.now (merged result) }
 {
     let answer = tried(changes.can_undo(&held.line))?;
@@ -138,7 +138,7 @@ pub extern "C" fn lodvarn_record_can_undo(alloc: Global, r: &mut Handle, l: &mut
     of!(r, alloc, Held::Record(changes) => of!(l, alloc, Held::Line(held) => can_undo(changes, held)), Answer::Closed.number())
 }
 
-fn can_redo(changes: &Changeset, held: &HeldLine) -> Outcome
+fn can_redo(changes: &Changeset, held: &LineAndListeners) -> Outcome
     ensures { AsksAhead changes.now held.now (merged result) }
 {
     let answer = tried(changes.can_redo(&held.line))?;
@@ -154,7 +154,7 @@ pub extern "C" fn lodvarn_record_can_redo(alloc: Global, r: &mut Handle, l: &mut
     of!(r, alloc, Held::Record(changes) => of!(l, alloc, Held::Line(held) => can_redo(changes, held)), Answer::Closed.number())
 }
 
-fn replays_to(changes: &Changeset, held: &HeldLine, entries: usize) -> Outcome
+fn replays_to(changes: &Changeset, held: &LineAndListeners, entries: usize) -> Outcome
     ensures { AsksFirst entries changes.now held.now (merged result) }
 {
     let answer = tried(changes.replays_to(entries, &held.line))?;

@@ -6,7 +6,7 @@ pub mod Motions
 pub mod LineMotions
 pub mod Ranges
 pub mod Edits
-pub mod Kills
+pub mod Deletions
 pub mod Transpositions
 pub mod LetterCase
 pub mod Indents

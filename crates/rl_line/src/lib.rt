@@ -2,15 +2,16 @@
 #![tactic(auto)]
 
 mod change;
+pub mod changeset;
 mod entries;
 mod forgetting;
+pub mod laws;
 pub mod line_buffer;
 mod line_starts;
 mod patched;
 mod steps;
 mod swap;
 mod tails;
-pub mod undo;
 
+pub use changeset::Changeset;
 pub use line_buffer::{LineBuffer, MAX_LINE, can_delete_by, is_by_characters};
-pub use undo::Changeset;

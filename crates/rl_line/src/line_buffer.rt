@@ -15,7 +15,7 @@ ghost use Rattle.rl_line.specs.LineRanges.{IsRange};
 
 mod edits;
 mod indents;
-mod kills;
+mod deletions;
 mod letter_case;
 mod line_motions;
 mod lines;
@@ -27,7 +27,7 @@ use crate::change::{Change, Way, find_room_over, go_over, nth_on, tell_over, tel
 use crate::line_starts::{LineStarts, newlines, newlines_of};
 use crate::steps::{deletion_step, insertion_step};
 use crate::swap::{find_room, find_room_instead, swap_in, swap_in_char};
-pub use kills::{can_delete_by, is_by_characters, kill_agrees_with_copy};
+pub use deletions::{can_delete_by, is_by_characters, kill_agrees_with_copy};
 use rl_base::{ChangeListener, DeleteListener, Direction, Refusal};
 use std::alloc::Global;
 use std::fmt;

@@ -19,7 +19,7 @@ use Rattle.rl_line.specs.Motions.{Moved, destination as destination_in}
 use Rattle.rl_line.specs.Plan.{Step as PlanStep, Plan, nothing, Done, Halted, Takes, nothing_more, room_by_step, a_copy, refusal_of, unbegun, listener_after}
 use Rattle.rl_line.specs.Edits.{CanInsertStr, CanYankPop, insert_plan, insert_str_plan, yank_plan, yank_pop_plan, update_plan, replace_plan, delete_range_plan}
 use Rattle.rl_line.specs.Indents.{indent_plan}
-use Rattle.rl_line.specs.Kills.{copied, delete_plan, kill_plan, kill_range_plan, is_by_characters, Told}
+use Rattle.rl_line.specs.Deletions.{copied, delete_plan, kill_plan, kill_range_plan, is_by_characters, Told}
 use Rattle.rl_line.specs.LetterCase.{edit_word_plan}
 use Rattle.rl_line.specs.Record.{Record, replays_to}
 use Rattle.rl_line.specs.Transpositions.{transpose_chars_plan, transpose_words_plan}

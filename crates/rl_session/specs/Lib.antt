@@ -10,7 +10,7 @@ pub mod KillRuns
 pub mod History
 pub mod Spelling
 pub mod Grammar
-pub mod Reads
+pub mod Parsing
 pub mod Lines
 pub mod Print
 pub mod Writes

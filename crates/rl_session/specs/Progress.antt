@@ -4,7 +4,7 @@ use Rattle.std.specs.Io.KnownBytes.{Consumes, Appends}
 use Rattle.rl_session.specs.Grammar.{Means, MeansNothing}
 use Rattle.rl_session.specs.Lines.{lines_of, whole_lines}
 use Rattle.rl_session.specs.Print.{bad_line}
-use Rattle.rl_session.specs.Reads.{meaning_of}
+use Rattle.rl_session.specs.Parsing.{meaning_of}
 use Rattle.rl_session.specs.Script.{MeaningOut, Outputs, IsCut, started}
 use Rattle.rl_session.specs.declared.grammar.ScriptLine.{ScriptLine}
 use Rattle.rl_session.specs.declared.script.Interpreter.{Interpreter}

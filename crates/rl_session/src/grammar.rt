@@ -11,7 +11,7 @@
 //! One function with all words is more than the prover goes through.
 ghost use Rattle.std.specs.Prelude.{◌≡◌, ℕ, Some, None, IfOk, OnErr, MatchOption, codes};
 ghost use Rattle.rl_session.specs.Grammar.{Set, Do, NamesWord, NamesAt, NamesSearch, NamesDirection, NamesAction, NamesMode, CountWord, CountAtWord, CountSearch, RangeDirection, Names, NamesMovement, AmountMovement, Says, Means, MeansNothing};
-ghost use Rattle.rl_session.specs.Reads.{HoldsText, LineHoldsText, HasNoWord, HasNoAt, HasNoSearch, HasNoDirection, HasNoMovement, NamesNothing, NamesNoMovement, SaysNothing, SaysNoTextCommand, SaysNoDeletion, SaysNoCommand, SaysNoSetting, SaysNoneWithoutText, SaysNoLoneCommand, meaning_of};
+ghost use Rattle.rl_session.specs.Parsing.{HoldsText, LineHoldsText, HasNoWord, HasNoAt, HasNoSearch, HasNoDirection, HasNoMovement, NamesNothing, NamesNoMovement, SaysNothing, SaysNoTextCommand, SaysNoDeletion, SaysNoCommand, SaysNoSetting, SaysNoneWithoutText, SaysNoLoneCommand, meaning_of};
 ghost use Rattle.rl_base.specs.declared.layout.GraphemeClusterMode.{GraphemeClusterMode};
 ghost use Rattle.rl_base.specs.declared.listeners.Direction.{Direction};
 ghost use Rattle.rl_base.specs.declared.motion.At.{At};

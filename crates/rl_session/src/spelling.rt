@@ -2,7 +2,7 @@
 ghost use Rattle.std.specs.Prelude.{◌≡◌, ◌<◌, ◌≤◌, ℕ, Some, None, IfSome, IfOk, OnErr, MatchBool, MatchOption, ◌∷◌, length};
 ghost use Rattle.std.specs.Str.{IsUtf8};
 ghost use Rattle.std.specs.String.{string_bytes};
-ghost use Rattle.rl_session.specs.Reads.{BeginsEscape, BeginsNoEscape, BeginsChar, SpellsNothing, SpellsSome, SpellsSomeText, SpellsNoChar, HasNoNumber, HasNoText, HasSomeText};
+ghost use Rattle.rl_session.specs.Parsing.{BeginsEscape, BeginsNoEscape, BeginsChar, SpellsNothing, SpellsSome, SpellsSomeText, SpellsNoChar, HasNoNumber, HasNoText, HasSomeText};
 ghost use Rattle.rl_session.specs.Spelling.{number_of, letter_of, hex_digit, NamesChar, Spells, SpellsChar, word, rest, Numbered, NumberedText};
 
 use std::alloc::{AllocError, Global};

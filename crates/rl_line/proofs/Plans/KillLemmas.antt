@@ -13,7 +13,7 @@ use Rattle.rl_base.specs.declared.motion.Movement.TheVariants.{WholeLine, Beginn
 use Rattle.rl_line.specs.Line.{Line}
 use Rattle.rl_line.specs.Plan.{nothing, single, answering}
 use Rattle.rl_line.specs.Ranges.{covered, killed, text_in}
-use Rattle.rl_line.specs.Kills.{Told, delete_plan, is_exact, removal}
+use Rattle.rl_line.specs.Deletions.{Told, delete_plan, is_exact, removal}
 
 pub removal-nothing : (line : Line) (o : Option (Range ℕ)) (side : Direction) → None ≡ o → removal line o side ≡ nothing line false
 removal-nothing line o side e = rw (← e) refl

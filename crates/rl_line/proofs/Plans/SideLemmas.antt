@@ -18,7 +18,7 @@ use Rattle.rl_base.specs.declared.motion.Word.{Word}
 use Rattle.rl_base.proofs.Texts.LineLemmas.{start-before}
 use Rattle.rl_base.proofs.Clusters.SearchLemmas.{IsHitOf, chosen_hit-is}
 use Rattle.rl_base.proofs.Clusters.WordLemmas.{IsBefore-start_before}
-use Rattle.rl_line.specs.Kills.{side_of_place, side_of_search}
+use Rattle.rl_line.specs.Deletions.{side_of_place, side_of_search}
 use Rattle.rl_line.specs.Line.{Line, between}
 use Rattle.rl_line.specs.LineMotions.{first_nonblank, home, line_end}
 use Rattle.rl_line.specs.Ranges.{either_way, from_place, killed, newline_at, to_hit, to_place, unless_empty}

@@ -26,7 +26,7 @@ use Rattle.rl_base.proofs.Texts.SwapLemmas.{Swaps, Swaps-back, Swaps-Delete, Swa
 use Rattle.rl_line.specs.Line.{Line, between, stepped}
 use Rattle.rl_line.specs.Plan.{Step as PlanStep, Plan, nothing, single, listener_after as heard_steps, listener_after_step, Taken, Done, Halted, or_no_memory}
 use Rattle.rl_line.specs.Edits.{too_long, yank_plan}
-use Rattle.rl_line.specs.Kills.{Between, Told, removal, side_of, is_by_characters}
+use Rattle.rl_line.specs.Deletions.{Between, Told, removal, side_of, is_by_characters}
 use Rattle.rl_line.specs.Ranges.{killed as killed_range, text_in, unless_empty}
 use Rattle.rl_line.proofs.Plans.EditLemmas.{yank_plan-nothing, yank_plan-some}
 use Rattle.rl_line.proofs.Plans.SideLemmas.{LiesOn, BeginningOfLine-side, EndOfLine-side, FirstNonBlank-side, BackwardWord-side, ForwardWord-side, ViCharSearch-side, BeginningOfBuffer-side, EndOfBuffer-side}

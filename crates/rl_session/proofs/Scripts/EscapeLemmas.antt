@@ -3,7 +3,7 @@ use Rattle.std.proofs.Common.{arith, ◌≡◌, ◌≢◌, ℕ, ◌<◌, List, [
 use Rattle.std.specs.Prelude.{encode_utf8, codes}
 use Rattle.std.proofs.lemmas.Str.{encode_same, encode_ascii}
 use Rattle.rl_session.specs.Spelling.{letter_of, NamesChar, Escapes, letter, braced}
-use Rattle.rl_session.specs.Reads.{BeginsEscape, BeginsNoEscape}
+use Rattle.rl_session.specs.Parsing.{BeginsEscape, BeginsNoEscape}
 use Rattle.rl_session.proofs.Scripts.PartLemmas.{Lacks, Lacks-none, same_parts}
 use Rattle.rl_session.proofs.Scripts.SpellingLemmas.{digits-Lacks, letter-ascii}
 

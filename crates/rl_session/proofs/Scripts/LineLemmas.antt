@@ -8,7 +8,7 @@ use Rattle.std.specs.Io.KnownBytes.{Appends, Consumes, IsAtEnd}
 use Rattle.rl_session.specs.Lines.{lines_of, whole_lines, onto, onto_some}
 use Rattle.rl_session.specs.Script.{LineOut, started, Outputs, Ran}
 use Rattle.rl_session.specs.Progress.{HasNoNewline, IsSaid, SaidOut, Took, Runs}
-use Rattle.rl_session.specs.Reads.{meaning_of}
+use Rattle.rl_session.specs.Parsing.{meaning_of}
 use Rattle.rl_session.specs.declared.grammar.ScriptLine.{ScriptLine}
 use Rattle.rl_session.specs.declared.script.Interpreter.{Interpreter}
 

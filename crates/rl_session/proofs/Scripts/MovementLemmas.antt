@@ -11,7 +11,7 @@ use Rattle.rl_base.specs.declared.motion.Word.{Word}
 use Rattle.rl_base.specs.declared.motion.WordAction.{WordAction}
 use Rattle.rl_session.specs.Grammar.{NamesWord, big, emacs, vi, NamesAt, start, before, after, NamesSearch, onto, till, back_onto, back_till, NamesAction, cap, low, upper, NamesMode, unicode, wcwidth, nozwj, CountWord, CountAtWord, CountSearch, Names, whole, home, eol, bword, fword, find, first, nonblank, bchar, fchar, up, down, buf, bob, eob, AmountMovement, NamesDirection, ahead, backward, RangeDirection}
 use Rattle.rl_session.specs.Spelling.{word, rest, SpellsChar, Numbered}
-use Rattle.rl_session.specs.Reads.{HasNoWord, HasNoAt, HasNoSearch, NamesNothing}
+use Rattle.rl_session.specs.Parsing.{HasNoWord, HasNoAt, HasNoSearch, NamesNothing}
 use Rattle.rl_session.proofs.Scripts.NumberLemmas.{some_same}
 use Rattle.rl_session.proofs.Scripts.SpellingLemmas.{SpellsChar-one}
 

@@ -11,7 +11,7 @@ use Rattle.std.proofs.lemmas.Str.{encode_same, encode_ascii, inside_one, length-
 use Rattle.std.proofs.lemmas.List.{append_cancel_left}
 use Rattle.rl_session.proofs.Scripts.PartLemmas.{Lacks, Lacks-by_index, same_parts}
 use Rattle.rl_session.specs.Spelling.{hex_digit, hex_from, letter_of, Escapes, Spells, SpellsChar, letter, braced, nothing, plain, escape}
-use Rattle.rl_session.specs.Reads.{BeginsEscape, BeginsNoEscape, Begins, BeginsChar, SpellsNothing, SpellsNoChar}
+use Rattle.rl_session.specs.Parsing.{BeginsEscape, BeginsNoEscape, Begins, BeginsChar, SpellsNothing, SpellsNoChar}
 
 -- parts that follow each other
 

@@ -8,7 +8,7 @@ use Rattle.rl_session.specs.declared.session.Command.TheVariants.{SetPos, Move, 
 use Rattle.rl_session.specs.declared.settings.Setting.TheVariants.{Limit, RingSize, Mode}
 use Rattle.rl_session.specs.Grammar.{NamesAction, Meaning, NewText, Set, Do, RangeText, Says, no_text, text, pos, move, ins, paste, yank, yankpop, update, str, rep, range, del, back, killline, killbuf, discline, discbuf, prevword, nextword, to, tchars, twords, cased, kill, copy, indent, dedent, begin, end, endone, undo, redo, trunc, limit, ring, mode, Means, Same, same, pastes, updates, puts_in, replaces, line_place, killrange, keep, keeps}
 use Rattle.rl_session.specs.Spelling.{number_of, word, rest, SpellsChar, Numbered, SpellsRest, NumberedText}
-use Rattle.rl_session.specs.Reads.{SpellsNoChar, HasNoNumber, HasNoWord, HasNoAt, HasNoSearch, HasNoDirection, HasNoMovement, NamesNoMovement, SaysNoDeletion, SaysNoCommand}
+use Rattle.rl_session.specs.Parsing.{SpellsNoChar, HasNoNumber, HasNoWord, HasNoAt, HasNoSearch, HasNoDirection, HasNoMovement, NamesNoMovement, SaysNoDeletion, SaysNoCommand}
 use Rattle.rl_session.proofs.Scripts.NumberLemmas.{some_same, none_holds}
 use Rattle.rl_session.proofs.Scripts.PartLemmas.{Lacks}
 use Rattle.rl_session.proofs.Scripts.SpellingLemmas.{Spells-one, SpellsChar-one}

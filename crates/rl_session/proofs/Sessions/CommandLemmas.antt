@@ -22,7 +22,7 @@ use Rattle.rl_base.specs.declared.listeners.Direction.{Direction}
 use Rattle.rl_base.specs.declared.listeners.Direction.TheVariants.{Forward}
 use Rattle.rl_base.specs.declared.motion.Movement.{Movement}
 use Rattle.rl_base.specs.declared.motion.WordAction.{WordAction}
-use Rattle.rl_line.specs.Kills.{is_by_characters, kill_plan, kill_range_plan, removal, side_of}
+use Rattle.rl_line.specs.Deletions.{is_by_characters, kill_plan, kill_range_plan, removal, side_of}
 use Rattle.rl_line.specs.LetterCase.{respell, respelled, word_ahead}
 use Rattle.rl_line.specs.Record.{Entry, Record, entries_after, entries_of, entries_told, record_step}
 use Rattle.rl_line.proofs.Records.JoinLemmas.{after-Delete-nothing, after-InsertStr-nothing, fresh-Delete-nothing, fresh-InsertStr-nothing}

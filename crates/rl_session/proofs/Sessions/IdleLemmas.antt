@@ -12,7 +12,7 @@ use Rattle.rl_base.specs.declared.listeners.Refusal.{Refusal}
 use Rattle.rl_base.specs.declared.motion.Movement.{Movement}
 use Rattle.rl_line.specs.Edits.{insert_plan, too_long, yank_plan, yank_pop_plan}
 use Rattle.rl_line.specs.Indents.{indent_plan, line_plan, lines_plan, parts, pushed, put_spaces}
-use Rattle.rl_line.specs.Kills.{Told, kill_plan, removal, side_of}
+use Rattle.rl_line.specs.Deletions.{Told, kill_plan, removal, side_of}
 use Rattle.rl_base.specs.declared.motion.WordAction.{WordAction}
 use Rattle.rl_line.specs.LetterCase.{edit_word_plan, respell, word_ahead}
 use Rattle.rl_line.specs.Line.{Line, stepped}

@@ -16,7 +16,7 @@ use Rattle.rl_line.proofs.Plans.EditLemmas.{length-repeat}
 use Rattle.rl_line.specs.Edits.{cut_to_limit, insert_event, insert_plan, insert_str_plan, replace_plan, too_long, update_plan, yank_plan, yank_pop_plan}
 use Rattle.rl_line.specs.Indents.{blanks, indent_plan, line_plan, lines_plan, parts, pulled, pushed, put_spaces, spaces}
 use Rattle.rl_line.specs.LetterCase.{word_ahead}
-use Rattle.rl_line.specs.Kills.{delete_plan, kill_plan, removal, side_of}
+use Rattle.rl_line.specs.Deletions.{delete_plan, kill_plan, removal, side_of}
 use Rattle.rl_session.proofs.Runs.CursorLemmas.{IsLone, Quiet, ends_at}
 use Rattle.rl_line.specs.Line.{Line, between, stepped}
 use Rattle.rl_line.specs.Plan.{Step, Plan, answering, nothing, single}

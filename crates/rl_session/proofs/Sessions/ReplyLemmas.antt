@@ -8,7 +8,7 @@ use Rattle.rl_base.specs.declared.listeners.Refusal.TheVariants as why
 use Rattle.rl_base.specs.declared.motion.Movement.{Movement}
 use Rattle.rl_line.specs.Line.{Line, NeedsRoom}
 use Rattle.rl_line.specs.Plan.{Plan, Done, Halted, Takes, nothing_more, room_by_step, refusal_of}
-use Rattle.rl_line.specs.Kills.{Told, is_by_characters, kill_plan}
+use Rattle.rl_line.specs.Deletions.{Told, is_by_characters, kill_plan}
 use Rattle.rl_line.specs.Record.{Record}
 use Rattle.rl_line.specs.Undo.{Undone, steps_back, texts_back}
 use Rattle.rl_line.specs.Units.{last_of}

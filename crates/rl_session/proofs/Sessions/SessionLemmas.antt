@@ -14,7 +14,7 @@ use Rattle.rl_line.specs.Line.{Line, stepped}
 use Rattle.rl_line.specs.Motions.{Moved}
 use Rattle.rl_line.specs.Plan.{Plan, nothing, single, Done, Halted, or_no_memory, Takes, nothing_more, a_copy}
 use Rattle.rl_line.specs.Edits.{insert_str_plan, too_long, yank_plan}
-use Rattle.rl_line.specs.Kills.{Told, is_by_characters, kill_plan}
+use Rattle.rl_line.specs.Deletions.{Told, is_by_characters, kill_plan}
 use Rattle.rl_line.specs.Record.{Record, agree, replays_to, unwind}
 use Rattle.rl_line.proofs.Records.JoinLemmas.{record_step-Start, record_step-Stop}
 use Rattle.rl_line.specs.Undo.{Redone, Undone}

@@ -3,7 +3,7 @@ use Rattle.std.proofs.Common.{◌≡◌, refl, subst}
 use Rattle.rl_base.specs.KillRing.{reset}
 use Rattle.rl_base.specs.declared.motion.Movement.{Movement}
 use Rattle.rl_base.specs.declared.motion.Movement.TheVariants.{BeginningOfLine, EndOfLine, BackwardWord, ForwardWord, ViCharSearch, BeginningOfBuffer, EndOfBuffer}
-use Rattle.rl_line.specs.Kills.{CanDeleteBy, kill_plan}
+use Rattle.rl_line.specs.Deletions.{CanDeleteBy, kill_plan}
 use Rattle.rl_line.specs.Plan.{nothing_more}
 use Rattle.rl_session.specs.Commands.{Came, Does, Step, answers, deletion_of, edit_course, readied, settled}
 use Rattle.rl_session.specs.State.{State, Ends, with_ring}

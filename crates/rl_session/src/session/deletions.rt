@@ -1,5 +1,5 @@
 //! Deletions. What they take out does not go to the ring.
-ghost use Rattle.rl_line.specs.Kills.{kill_plan};
+ghost use Rattle.rl_line.specs.Deletions.{kill_plan};
 ghost use Rattle.rl_line.specs.Plan.{nothing_more};
 ghost use Rattle.rl_session.specs.Commands.{Came, Does, answers, edit_course};
 ghost use Rattle.rl_session.specs.declared.session.Command.{Command};

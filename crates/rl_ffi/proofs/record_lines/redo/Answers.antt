@@ -4,8 +4,8 @@ use Rattle.rl_line.specs.Line.{Line}
 use Rattle.rl_line.specs.Plan.{listener_after}
 use Rattle.rl_line.specs.Undo.{steps_ahead}
 use Rattle.rl_line.specs.Units.{redo_of}
-use Rattle.rl_ffi.specs.Heard.{Heard, first_kept, heard_step, joined, nothing_heard}
-use Rattle.rl_ffi.proofs.HeardLemmas.{apart, first-joined, from_err, from_ok, reported-on, waits-told}
+use Rattle.rl_ffi.specs.ReportLog.{ReportLog, first_kept, heard_step, joined, nothing_heard}
+use Rattle.rl_ffi.proofs.ReportLogLemmas.{apart, first-joined, from_err, from_ok, reported-on, waits-told}
 use Rattle.rl_ffi.proofs.record_lines.redo.Goals as goal
 
 pub returns-in-Ok : goal.returns-in-Ok
@@ -35,7 +35,7 @@ returns-then-is_err-2 c =
     let told : c.foretell_redo.new.listener ≡ listener_after heard_step cursor (steps_ahead cursor es) nothing_heard =
     from_ok c.foretell_redo.result _ c.foretell_redo.ensures.done (sym c.if-is_err.ensures.value) ∙ ap (listener_after heard_step cursor (steps_ahead cursor es)) c.apart-told.ensures.new in
     let h = (from_err c.join.result _ c.join.ensures.err (sym c.if-is_err-2.ensures.value)).1 in
-    let some = waits-told (steps_ahead cursor es) cursor (subst (λ (x : Heard). 0 < length x.waiting) told h.2) in
+    let some = waits-told (steps_ahead cursor es) cursor (subst (λ (x : ReportLog). 0 < length x.waiting) told h.2) in
     inr (inr (refl, told-change es cursor some, refl, ap (λ x. record held { to = record held.to { heard = x } }) (h.1 ∙ c.apart-told.ensures.kept)))
 
 pub returns-in-Err-redo : goal.returns-in-Err-redo
@@ -44,4 +44,4 @@ returns-in-Err-redo c =
     let e = c.in-Err-redo.ensures.err in
     let heard = c.keep.ensures ∙ ap (first_kept c.len-waiting.result) (from_ok c.join.result _ c.join.ensures.done (sym c.if-is_err-2.ensures.value))
     ∙ first-joined c.foretell_redo.new.listener c.apart-told.new.self c.len-waiting.result c.len-waiting.ensures ∙ c.apart-told.ensures.kept in
-    inr (inr (refl, room_ahead-change (redo_of c.args.changes.now.pending) held.line.text e.3, e.1, ap₂ (λ (l : Line) (x : Heard). record held { line = l; to = record held.to { heard = x } }) e.2 heard))
+    inr (inr (refl, room_ahead-change (redo_of c.args.changes.now.pending) held.line.text e.3, e.1, ap₂ (λ (l : Line) (x : ReportLog). record held { line = l; to = record held.to { heard = x } }) e.2 heard))

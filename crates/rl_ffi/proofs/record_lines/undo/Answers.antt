@@ -5,8 +5,8 @@ use Rattle.rl_line.specs.Plan.{listener_after}
 use Rattle.rl_line.specs.Record.{inverse}
 use Rattle.rl_line.specs.Undo.{steps_back}
 use Rattle.rl_line.specs.Units.{last_of}
-use Rattle.rl_ffi.specs.Heard.{Heard, first_kept, heard_step, joined, nothing_heard}
-use Rattle.rl_ffi.proofs.HeardLemmas.{apart, first-joined, from_err, from_ok, reported-on, waits-told}
+use Rattle.rl_ffi.specs.ReportLog.{ReportLog, first_kept, heard_step, joined, nothing_heard}
+use Rattle.rl_ffi.proofs.ReportLogLemmas.{apart, first-joined, from_err, from_ok, reported-on, waits-told}
 use Rattle.rl_ffi.proofs.record_lines.undo.Goals as goal
 
 pub returns-in-Ok : goal.returns-in-Ok
@@ -36,7 +36,7 @@ returns-then-is_err-2 c =
     let told : c.foretell_undo.new.listener ≡ listener_after heard_step cursor (steps_back cursor es) nothing_heard =
     from_ok c.foretell_undo.result _ c.foretell_undo.ensures.done (sym c.if-is_err.ensures.value) ∙ ap (listener_after heard_step cursor (steps_back cursor es)) c.apart-told.ensures.new in
     let h = (from_err c.join.result _ c.join.ensures.err (sym c.if-is_err-2.ensures.value)).1 in
-    let some = waits-told (steps_back cursor es) cursor (subst (λ (x : Heard). 0 < length x.waiting) told h.2) in
+    let some = waits-told (steps_back cursor es) cursor (subst (λ (x : ReportLog). 0 < length x.waiting) told h.2) in
     inr (inr (refl, told_back-change es cursor some, refl, ap (λ x. record held { to = record held.to { heard = x } }) (h.1 ∙ c.apart-told.ensures.kept)))
 
 pub returns-in-Err-undo : goal.returns-in-Err-undo
@@ -45,4 +45,4 @@ returns-in-Err-undo c =
     let e = c.in-Err-undo.ensures.err in
     let heard = c.keep.ensures ∙ ap (first_kept c.len-waiting.result) (from_ok c.join.result _ c.join.ensures.done (sym c.if-is_err-2.ensures.value))
     ∙ first-joined c.foretell_undo.new.listener c.apart-told.new.self c.len-waiting.result c.len-waiting.ensures ∙ c.apart-told.ensures.kept in
-    inr (inr (refl, room_back-change (last_of c.args.n c.args.changes.now.recorded) held.line.text e.3, e.1, ap₂ (λ (l : Line) (x : Heard). record held { line = l; to = record held.to { heard = x } }) e.2 heard))
+    inr (inr (refl, room_back-change (last_of c.args.n c.args.changes.now.recorded) held.line.text e.3, e.1, ap₂ (λ (l : Line) (x : ReportLog). record held { line = l; to = record held.to { heard = x } }) e.2 heard))

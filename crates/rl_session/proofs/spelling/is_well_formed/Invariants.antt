@@ -1,6 +1,6 @@
 use Rattle.std.proofs.Common.{List, ℕ, length}
 use Rattle.std.specs.Str.{IsUtf8}
-use Rattle.rl_session.specs.Reads.{Begins}
+use Rattle.rl_session.specs.Parsing.{Begins}
 use Rattle.rl_session.proofs.spelling.is_well_formed.Given as goal
 
 abbrev pub invariant-loop-after : goal.invariant-loop-after

@@ -1,4 +1,4 @@
-use Rattle.rl_line.specs.Kills.{is_by_characters}
+use Rattle.rl_line.specs.Deletions.{is_by_characters}
 use Rattle.rl_line.proofs.Plans.KillLemmas.{Told-never}
 use Rattle.rl_tests.proofs.kills.kill_unheard.Goals as goal
 

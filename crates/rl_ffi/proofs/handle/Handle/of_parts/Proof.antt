@@ -23,7 +23,7 @@ use Rattle.std.specs.declared.option.Option.TheVariants.{Some}
 use Rattle.rl_ffi.specs.Handle.{kept}
 use Rattle.rl_ffi.proofs.HandleSteps.{Z, both, owned, S, E, handle_in}
 use Rattle.rl_ffi.proofs.PartsSteps.{Apart, apart_out}
-use Rattle.rl_ffi.specs.contracts.parts.Parts as parts
+use Rattle.rl_ffi.specs.contracts.split_box.Parts as parts
 use Rattle.rl_ffi.specs.contracts.handle.Handle.of_parts as f
 use Rattle.rl_ffi.specs.contracts.handle.Handle.of_parts.Key.{name as #self}
 use Rattle.rl_ffi.proofs.handle.Handle.of_parts.Statement.{statement}

@@ -1,5 +1,5 @@
 use Rattle.std.proofs.Common.{false, rules}
-use Rattle.rl_line.specs.Kills.{kill_range_plan}
+use Rattle.rl_line.specs.Deletions.{kill_range_plan}
 use Rattle.rl_line.specs.Ranges.{unless_empty}
 use Rattle.rl_session.proofs.Sessions.IdleLemmas.{NoneStarts-removal}
 use Rattle.rl_session.proofs.Sessions.SessionLemmas.{AtRest-told}

@@ -1,0 +1,5 @@
+use Rattle.std.proofs.Common.{rules}
+use Rattle.rl_line.proofs.changeset.Changeset.new.Goals as goal
+
+pub returns : goal.returns
+returns c = search rules

@@ -1,0 +1,494 @@
+//! The record of the changes of a line, which undoes them, in groups where they were made in groups, and redoes them.
+ghost use Rattle.std.specs.Prelude.{◌≡◌, ◌<◌, ◌≤◌, ℕ, [], min, true, false, drop, is_some, length, All, Any, IsSome, Some, IfOk, IfErr, OnOk, OnErr};
+ghost use Rattle.std.specs.Option.{option_map};
+ghost use Rattle.std.specs.String.{string_bytes};
+ghost use Rattle.rl_base.specs.Event.{InsertChar, InsertStr, Delete, Replace};
+ghost use Rattle.rl_base.specs.Text.{HasText};
+ghost use Rattle.rl_base.specs.declared.listeners.Direction.TheVariants.{Forward};
+ghost use Rattle.rl_base.specs.declared.listeners.Refusal.TheVariants.{NoMemory};
+ghost use Rattle.rl_line.specs.declared.change.Freshness.TheVariants.{Stale};
+ghost use Rattle.rl_line.specs.Forgetting.{fits, forgotten};
+ghost use Rattle.rl_line.specs.Line.{NeedsRoom};
+ghost use Rattle.rl_line.specs.Plan.{NeverRefuses, after, listener_after};
+ghost use Rattle.rl_line.specs.Record.{Begin, IsOfKind, Record, last_insert, record_step, replays_to};
+ghost use Rattle.rl_line.specs.Undo.{CopiesBack, Redone, TriesAhead, TriesBack, Undone, line_ahead, line_back, steps_ahead, steps_back, texts_ahead, texts_back};
+ghost use Rattle.rl_line.specs.Units.{BothMatched, adds_end, begun, ended, ended_one, has_change, last_of, level, redo_of, truncated, with_closed};
+
+mod foretelling;
+
+use crate::change::{Change, Freshness, Way, text_over};
+use crate::line_buffer::LineBuffer;
+use crate::{entries, forgetting};
+use rl_base::{ChangeListener, DeleteListener, Direction, NoListener, Refusal, RepeatCount};
+use std::alloc::Global;
+use std::marker::Model;
+
+/// The changes of a line in the order in which they were made, with the marks of their groups, and those that
+/// were undone and may be redone. It is a listener of the line, and a refused call leaves it as it was.
+///
+/// Every call that records a change, also an empty one, and every `begin`, `end` and `truncate` drops what was
+/// undone; the start and the stop of a kill and the telling of cursors do not.
+///
+/// With a change it keeps the cursor before it and after it, if it is told them right after the change. Where changes
+/// join, it keeps the first cursor before and the last one after.
+#[derive(Drop)]
+pub struct Changeset {
+    // What is recorded, and after it what was undone, the entry that is redone next first: an undo and a redo move no entry.
+    entries: Vec<Change>,
+    // How many of them are recorded.
+    recorded: usize,
+    // Whether the last recorded change may still be told its cursors.
+    fresh: Freshness,
+    // How many groups are open, so that no call has to count them over the whole record.
+    level: usize,
+}
+
+impl Model for Changeset {
+    ghost use Rattle.std.specs.Prelude.{map};
+    ghost use Rattle.rl_line.specs.Record.{Record, entry_of};
+    ghost use Rattle.rl_line.specs.Entries.{IsCutAt, cut_at};
+
+    ghost Value = { Record };
+
+    ghost view = { λ c. cut_at c.recorded (map entry_of c.entries.items) c.fresh };
+
+    ghost invariant = { λ c. IsCutAt c.recorded c.level (map entry_of c.entries.items) c.fresh };
+}
+
+impl Changeset {
+    /// An empty record.
+    pub fn new(alloc: Global) -> Self
+        ensures { result ≡ record { recorded = []; pending = []; fresh = Stale } }
+    {
+        Changeset {
+            entries: Vec::new(alloc),
+            recorded: 0,
+            fresh: Freshness::Stale,
+            level: 0,
+        }
+    }
+
+    /// How many entries are recorded: changes, and begins and ends of groups.
+    pub fn len(&self) -> usize
+        ensures { result ≡ length self.now.recorded }
+    {
+        self.recorded
+    }
+
+    /// How many groups are open. In the record every end of a group has its begin, in the same list, and every
+    /// closed group holds a change. An insertion takes nothing out, and a deletion puts nothing in.
+    pub fn level(&self) -> usize
+        ensures level { result ≡ level self.now.recorded }
+        ensures matched { BothMatched self.now }
+        ensures kinds { All IsOfKind self.now.recorded × All IsOfKind self.now.pending }
+    {
+        self.level
+    }
+
+    /// Whether an undo of one unit would find a change: something is recorded, and the last entry is not the begin of an
+    /// open group. It looks at that entry alone.
+    pub fn has_undo(&self) -> bool
+        ensures { result ≡ has_change (last_of 1 self.now.recorded) }
+    {
+        entries::last_has_change(&self.entries[..self.recorded])
+    }
+
+    /// Whether a redo would find a change: one waits to be redone. It looks at the begins of groups that wait before
+    /// that change, and at no other entry.
+    pub fn has_redo(&self) -> bool
+        ensures { result ≡ has_change (redo_of self.now.pending) }
+    {
+        entries::has_change(&self.entries[self.recorded..])
+    }
+
+    /// Opens a group, whose changes are undone and redone together once it is closed. Answers how many entries
+    /// stand before it, a mark that `truncate` takes.
+    pub fn begin(&mut self) -> Result<usize, Refusal>
+        ensures done { IfOk result (λ answer. (answer ≡ length self.old.recorded) × (self.new ≡ begun self.old)) }
+        ensures err { IfErr result (λ r. (r ≡ NoMemory) × (self.new ≡ self.old) × (self.old.pending ≡ [])) }
+    {
+        let before = self.recorded;
+        entries::add(&mut self.entries, self.recorded, Change::Begin)?;
+        self.recorded += 1;
+        self.fresh = Freshness::Stale;
+        self.level += 1;
+        Ok(before)
+    }
+
+    /// Closes every open group, the last one first; an empty one is removed from the record. Answers whether one
+    /// of them holds something.
+    pub fn end(&mut self) -> Result<bool, Refusal>
+        ensures done { IfOk result (λ answer. (answer ≡ adds_end (level self.old.recorded) self.old.recorded) × (self.new ≡ ended self.old)) }
+        ensures err { IfErr result (λ r. (r ≡ NoMemory) × (self.new ≡ self.old) × (adds_end (level self.old.recorded) self.old.recorded ≡ true)) }
+    {
+        let open = self.level();
+        self.close(open)
+    }
+
+    /// Closes the group that was opened last, and leaves the others open; one that holds nothing is removed from the
+    /// record. Answers whether it holds something, and false if no group is open.
+    pub fn end_one(&mut self) -> Result<bool, Refusal>
+        ensures done { IfOk result (λ answer. (answer ≡ adds_end (min 1 (level self.old.recorded)) self.old.recorded) × (self.new ≡ ended_one self.old)) }
+        ensures err { IfErr result (λ r. (r ≡ NoMemory) × (self.new ≡ self.old) × (adds_end (min 1 (level self.old.recorded)) self.old.recorded ≡ true)) }
+    {
+        let open = self.level();
+        self.close(open.min(1))
+    }
+
+    // Closes so many groups, the one that was opened last first. Answers whether one of them holds something.
+    fn close(&mut self, count: usize) -> Result<bool, Refusal>
+        requires { count ≤ level self.old.recorded }
+        ensures done { IfOk result (λ answer. (answer ≡ adds_end count self.old.recorded) × (self.new ≡ with_closed count self.old)) }
+        ensures err { IfErr result (λ r. (r ≡ NoMemory) × (self.new ≡ self.old) × (adds_end count self.old.recorded ≡ true)) }
+    {
+        let added = entries::adds_end(&self.entries[..self.recorded], count);
+        entries::find_ends(&mut self.entries, added, count)?;
+        entries::keep(&mut self.entries, self.recorded);
+        entries::close_groups(&mut self.entries, count);
+        self.recorded = self.entries.len();
+        self.fresh = Freshness::Stale;
+        self.level -= count;
+        Ok(added)
+    }
+
+    /// Records that `c` was inserted at the byte place `idx`: an alphanumeric character joins the last entry, where
+    /// that is an insertion that ends there. Refused, it changes nothing, like every call that records.
+    #[inline(always)]
+    pub fn insert(&mut self, idx: usize, c: char) -> Result<(), Refusal>
+        ensures done { OnOk result (self.new ≡ record_step self.old (InsertChar idx c)) }
+        ensures err { IfErr result (λ r. (r ≡ NoMemory) × (self.new ≡ self.old)) }
+    {
+        self.fresh = entries::insert_char(&mut self.entries, self.recorded, idx, c)?;
+        self.recorded = self.entries.len();
+        Ok(())
+    }
+
+    /// Records that `string` was inserted at the byte place `idx`. An empty one is no entry.
+    pub fn insert_str(&mut self, idx: usize, string: &str) -> Result<(), Refusal>
+        ensures done { OnOk result (self.new ≡ record_step self.old (InsertStr idx string.now)) }
+        ensures err { IfErr result (λ r. (r ≡ NoMemory) × (self.new ≡ self.old) × (0 < length string.now)) }
+    {
+        self.fresh = entries::insert_str(&mut self.entries, self.recorded, idx, string)?;
+        self.recorded = self.entries.len();
+        Ok(())
+    }
+
+    /// Records that `string` was deleted from the byte place `idx`, from whichever side of the cursor: an
+    /// alphanumeric grapheme cluster joins the last entry, if that is a deletion that it stood right after, or
+    /// right before. An empty one is no entry.
+    pub fn delete(&mut self, idx: usize, string: &str) -> Result<(), Refusal>
+        ensures done { OnOk result (self.new ≡ record_step self.old (Delete idx string.now Forward)) }
+        ensures err { IfErr result (λ r. (r ≡ NoMemory) × (self.new ≡ self.old) × (0 < length string.now)) }
+    {
+        self.fresh = entries::delete(&mut self.entries, self.recorded, idx, string)?;
+        self.recorded = self.entries.len();
+        Ok(())
+    }
+
+    /// Records that `old`, which stood at the byte place `idx`, was replaced by `new`: it joins the last entry, where
+    /// that is a replacement that ends there.
+    pub fn replace(&mut self, idx: usize, old: &str, new: &str) -> Result<(), Refusal>
+        ensures done { OnOk result (self.new ≡ record_step self.old (Replace idx old.now new.now)) }
+        ensures err { IfErr result (λ r. (r ≡ NoMemory) × (self.new ≡ self.old)) }
+    {
+        self.fresh = entries::replace(&mut self.entries, self.recorded, idx, old, new)?;
+        self.recorded = self.entries.len();
+        Ok(())
+    }
+
+    /// Undoes the last `n` units, or one if `n` is 0, or all if there are fewer (GNU readline: undo). A
+    /// unit is a change, a closed group, or the begin of an open one. Answers whether there was a change.
+    /// The cursor goes back to where it was before the last change that is undone, or, if the record was not
+    /// told that, to the place of that change, past what it puts back.
+    /// `can_undo_last` tells whether these units can be taken back from the line's text, and `can_undo` whether all can.
+    /// It finds all room first, so refused it changes nothing.
+    pub fn undo(&mut self, line: &mut LineBuffer, n: RepeatCount) -> Result<bool, Refusal>
+        requires { IsSome (line_back (last_of n self.old.recorded) line.old) }
+        ensures done { IfOk result (λ answer. Undone n self.old self.new line.old line.new answer) }
+        ensures unmoved { IfOk result (λ answer. answer ≡ false → (line.new.text ≡ line.old.text) × (line.new.cursor ≡ line.old.cursor)) }
+        ensures err { IfErr result (λ r. (r ≡ NoMemory) × (self.new ≡ self.old) × (line.new ≡ line.old) × Any (NeedsRoom line.old.text) (texts_back (last_of n self.old.recorded) line.old.text)) }
+    {
+        self.undo_telling(line, n, &mut NoListener)
+    }
+
+    /// Undoes as `undo` does, and tells a listener that refuses nothing. It hears of each change that is taken back, the
+    /// last first and right after it was: that what the change had put in gave way to what stood there before
+    /// (`replace`), and where the cursor was and went (`cursors`). It hears nothing of the marks of groups, and nothing
+    /// of a refused call.
+    // Inlined, so that an undo that tells no one is one function.
+    #[inline(always)]
+    pub fn undo_telling<L: ChangeListener>(
+        &mut self,
+        line: &mut LineBuffer,
+        n: RepeatCount,
+        listener: &mut L,
+    ) -> Result<bool, Refusal>
+        requires follows { IsSome (line_back (last_of n self.old.recorded) line.old) }
+        requires hears { NeverRefuses L.refused }
+        ensures done { IfOk result (λ answer. Undone n self.old self.new line.old line.new answer) }
+        ensures unmoved { IfOk result (λ answer. answer ≡ false → (line.new.text ≡ line.old.text) × (line.new.cursor ≡ line.old.cursor)) }
+        ensures told { OnOk result (listener.new ≡ listener_after L.step line.old.cursor (steps_back line.old.cursor (last_of n self.old.recorded)) listener.old) }
+        ensures err { IfErr result (λ r. (r ≡ NoMemory) × (self.new ≡ self.old) × (line.new ≡ line.old) × Any (NeedsRoom line.old.text) (texts_back (last_of n self.old.recorded) line.old.text)) }
+        ensures kept { OnErr result (listener.new ≡ listener.old) }
+    {
+        if let Some(change) = entries::last_alone(&self.entries[..self.recorded], n) {
+            line.go_over_one(change, Way::Back, listener)?;
+            self.recorded -= 1;
+            self.fresh = Freshness::Stale;
+            return Ok(true);
+        }
+        self.undo_units(line, n, listener)
+    }
+
+    // Undoes any units. It stands apart, since mostly one change alone is undone.
+    #[inline(never)]
+    fn undo_units<L: ChangeListener>(
+        &mut self,
+        line: &mut LineBuffer,
+        n: RepeatCount,
+        listener: &mut L,
+    ) -> Result<bool, Refusal>
+        requires follows { IsSome (line_back (last_of n self.old.recorded) line.old) }
+        requires hears { NeverRefuses L.refused }
+        ensures done { IfOk result (λ answer. Undone n self.old self.new line.old line.new answer) }
+        ensures unmoved { IfOk result (λ answer. answer ≡ false → (line.new.text ≡ line.old.text) × (line.new.cursor ≡ line.old.cursor)) }
+        ensures told { OnOk result (listener.new ≡ listener_after L.step line.old.cursor (steps_back line.old.cursor (last_of n self.old.recorded)) listener.old) }
+        ensures err { IfErr result (λ r. (r ≡ NoMemory) × (self.new ≡ self.old) × (line.new ≡ line.old) × Any (NeedsRoom line.old.text) (texts_back (last_of n self.old.recorded) line.old.text)) }
+        ensures kept { OnErr result (listener.new ≡ listener.old) }
+    {
+        let count = entries::last_len(&self.entries[..self.recorded], n);
+        let first = self.recorded - count;
+        let unit = &self.entries[first..self.recorded];
+        line.go_over_all(unit, Way::Back, listener)?;
+        let changed = entries::has_change(unit);
+        let opened = entries::level(unit);
+        self.level -= opened;
+        self.recorded = first;
+        self.fresh = Freshness::Stale;
+        Ok(changed)
+    }
+
+    /// Redoes what was undone: the next change, or the next group, or all that is left if its group was
+    /// never closed. Answers whether there was a change. The cursor goes to where it went with the last change that
+    /// is redone, or, if the record was not told that, to the place of that change, past what it puts in.
+    /// `can_redo_next` tells whether these changes fit the line, and `can_redo` whether all that were undone do. It finds
+    /// all room first, so refused it changes nothing.
+    pub fn redo(&mut self, line: &mut LineBuffer) -> Result<bool, Refusal>
+        requires { IsSome (line_ahead (redo_of self.old.pending) line.old) }
+        ensures done { IfOk result (λ answer. Redone self.old self.new line.old line.new answer) }
+        ensures unmoved { IfOk result (λ answer. answer ≡ false → (line.new.text ≡ line.old.text) × (line.new.cursor ≡ line.old.cursor)) }
+        ensures err { IfErr result (λ r. (r ≡ NoMemory) × (self.new ≡ self.old) × (line.new ≡ line.old) × Any (NeedsRoom line.old.text) (texts_ahead (redo_of self.old.pending) line.old.text)) }
+    {
+        self.redo_telling(line, &mut NoListener)
+    }
+
+    /// Redoes as `redo` does, and tells a listener that refuses nothing. It hears of each change that is made again, the
+    /// first first and right after it was: that what stood there gave way to what the change puts in (`replace`), and
+    /// where the cursor was and went (`cursors`). It hears nothing of the marks of groups, and nothing of a refused call.
+    // Inlined as well.
+    #[inline(always)]
+    pub fn redo_telling<L: ChangeListener>(
+        &mut self,
+        line: &mut LineBuffer,
+        listener: &mut L,
+    ) -> Result<bool, Refusal>
+        requires follows { IsSome (line_ahead (redo_of self.old.pending) line.old) }
+        requires hears { NeverRefuses L.refused }
+        ensures done { IfOk result (λ answer. Redone self.old self.new line.old line.new answer) }
+        ensures unmoved { IfOk result (λ answer. answer ≡ false → (line.new.text ≡ line.old.text) × (line.new.cursor ≡ line.old.cursor)) }
+        ensures told { OnOk result (listener.new ≡ listener_after L.step line.old.cursor (steps_ahead line.old.cursor (redo_of self.old.pending)) listener.old) }
+        ensures err { IfErr result (λ r. (r ≡ NoMemory) × (self.new ≡ self.old) × (line.new ≡ line.old) × Any (NeedsRoom line.old.text) (texts_ahead (redo_of self.old.pending) line.old.text)) }
+        ensures kept { OnErr result (listener.new ≡ listener.old) }
+    {
+        if let Some(change) = entries::next_alone(&self.entries[self.recorded..]) {
+            line.go_over_one(change, Way::Ahead, listener)?;
+            self.recorded += 1;
+            self.fresh = Freshness::Stale;
+            return Ok(true);
+        }
+        self.redo_unit(line, listener)
+    }
+
+    // Redoes any unit, apart as well.
+    #[inline(never)]
+    fn redo_unit<L: ChangeListener>(
+        &mut self,
+        line: &mut LineBuffer,
+        listener: &mut L,
+    ) -> Result<bool, Refusal>
+        requires follows { IsSome (line_ahead (redo_of self.old.pending) line.old) }
+        requires hears { NeverRefuses L.refused }
+        ensures done { IfOk result (λ answer. Redone self.old self.new line.old line.new answer) }
+        ensures unmoved { IfOk result (λ answer. answer ≡ false → (line.new.text ≡ line.old.text) × (line.new.cursor ≡ line.old.cursor)) }
+        ensures told { OnOk result (listener.new ≡ listener_after L.step line.old.cursor (steps_ahead line.old.cursor (redo_of self.old.pending)) listener.old) }
+        ensures err { IfErr result (λ r. (r ≡ NoMemory) × (self.new ≡ self.old) × (line.new ≡ line.old) × Any (NeedsRoom line.old.text) (texts_ahead (redo_of self.old.pending) line.old.text)) }
+        ensures kept { OnErr result (listener.new ≡ listener.old) }
+    {
+        let count = entries::next_len(&self.entries[self.recorded..]);
+        let end = self.recorded + count;
+        let unit = &self.entries[self.recorded..end];
+        line.go_over_all(unit, Way::Ahead, listener)?;
+        let changed = entries::has_change(unit);
+        let opened = entries::level(unit);
+        self.level += opened;
+        self.recorded = end;
+        self.fresh = Freshness::Stale;
+        Ok(changed)
+    }
+
+    /// Keeps the first `len` entries, all if there are fewer, and drops the others and what was undone. A
+    /// group that loses its end is open again.
+    pub fn truncate(&mut self, len: usize)
+        ensures { self.new ≡ truncated len self.old }
+    {
+        self.level = entries::level_at(&self.entries[..self.recorded], len, self.level);
+        entries::keep(&mut self.entries, len.min(self.recorded));
+        self.recorded = self.entries.len();
+        self.fresh = Freshness::Stale;
+    }
+
+    /// Forgets the oldest changes and closed groups, one after another, as long as more than `entries` entries are
+    /// recorded, or as their texts, old and new, have more than `bytes` bytes; `usize::MAX` is no bound. It never forgets
+    /// a part of a group: it stops at the begin of an open one. What was undone stays, and an undo goes back to the text
+    /// with which the rest begins. It takes no memory. With no bound on bytes it costs nothing if so few are recorded.
+    // Inlined, so that it is a comparison then. If nothing is left recorded, the next change joins nothing, and
+    // cursors that are told go to none, whatever `fresh` says.
+    #[inline(always)]
+    pub fn forget(&mut self, entries: usize, bytes: usize)
+        ensures { self.new ≡ forgotten entries bytes self.old }
+    {
+        if self.recorded > entries {
+            self.forget_oldest(entries, bytes);
+            return;
+        }
+        if bytes < usize::MAX {
+            self.forget_oldest(entries, bytes);
+        }
+    }
+
+    // Forgets what is beyond the bound, if anything is.
+    #[inline(never)]
+    fn forget_oldest(&mut self, entries: usize, bytes: usize)
+        ensures { self.new ≡ forgotten entries bytes self.old }
+    {
+        let count = forgetting::oldest_len(&self.entries[..self.recorded], entries, bytes);
+        forgetting::drop_first(&mut self.entries, count);
+        self.recorded -= count;
+    }
+
+    /// A copy of what the last change put in, if it is an insertion or a replacement; ends of groups after
+    /// it are passed over.
+    pub fn last_insert(&self) -> Result<Option<String>, Refusal>
+        ensures ok { IfOk result (λ text. option_map string_bytes text ≡ last_insert self.now.recorded) }
+        ensures err { IfErr result (λ r. (r ≡ NoMemory) × HasText (last_insert self.now.recorded)) }
+    {
+        entries::last_insert(&self.entries[..self.recorded], *self.entries.allocator())
+    }
+
+    /// Whether all recorded changes can be taken back from the line's text, the last first, and each cursor that was
+    /// told stands between two characters then. So an undo of any number of units can.
+    pub fn can_undo(&self, line: &LineBuffer) -> Result<bool, Refusal>
+        ensures ok { IfOk result (λ answer. answer ≡ is_some (line_back self.now.recorded line.now)) }
+        ensures units { IfOk result (λ answer. answer ≡ true → (n : ℕ) → IsSome (line_back (last_of n self.now.recorded) line.now)) }
+        ensures err { IfErr result (λ r. (r ≡ NoMemory) × TriesBack self.now.recorded line.now.text) }
+    {
+        let alloc = *self.entries.allocator();
+        entries::lead(alloc, line, &self.entries[..self.recorded], Way::Back)
+    }
+
+    /// Whether an undo of `n` fits the line: whether its units can be taken back as `can_undo` asks it of all. It takes
+    /// time of these units, however long the text is: one change is compared with it, several are tried on a copy of the
+    /// part between the places that they touch.
+    pub fn can_undo_last(&self, line: &LineBuffer, n: RepeatCount) -> Result<bool, Refusal>
+        ensures ok { IfOk result (λ answer. answer ≡ is_some (line_back (last_of n self.now.recorded) line.now)) }
+        ensures err { IfErr result (λ r. (r ≡ NoMemory) × TriesBack (last_of n self.now.recorded) line.now.text) }
+    {
+        let taken = entries::last_len(&self.entries[..self.recorded], n);
+        let first = self.recorded - taken;
+        let alloc = *self.entries.allocator();
+        entries::lead(alloc, line, &self.entries[first..self.recorded], Way::Back)
+    }
+
+    /// Whether all undone changes can be made again on the line's text, the last undone first, and each cursor that
+    /// was told stands between two characters then. So a redo can.
+    pub fn can_redo(&self, line: &LineBuffer) -> Result<bool, Refusal>
+        ensures ok { IfOk result (λ answer. answer ≡ is_some (line_ahead self.now.pending line.now)) }
+        ensures unit { IfOk result (λ answer. answer ≡ true → IsSome (line_ahead (redo_of self.now.pending) line.now)) }
+        ensures err { IfErr result (λ r. (r ≡ NoMemory) × TriesAhead self.now.pending line.now.text) }
+    {
+        let alloc = *self.entries.allocator();
+        entries::lead(alloc, line, &self.entries[self.recorded..], Way::Ahead)
+    }
+
+    /// Whether a redo fits the line: whether what it makes again can be made as `can_redo` asks it of all. It takes time
+    /// of that unit, as `can_undo_last` does.
+    pub fn can_redo_next(&self, line: &LineBuffer) -> Result<bool, Refusal>
+        ensures ok { IfOk result (λ answer. answer ≡ is_some (line_ahead (redo_of self.now.pending) line.now)) }
+        ensures err { IfErr result (λ r. (r ≡ NoMemory) × TriesAhead (redo_of self.now.pending) line.now.text) }
+    {
+        let coming = entries::next_len(&self.entries[self.recorded..]);
+        let end = self.recorded + coming;
+        let alloc = *self.entries.allocator();
+        entries::lead(alloc, line, &self.entries[self.recorded..end], Way::Ahead)
+    }
+
+    /// Whether the first `len` entries lead to the line's text by themselves, so that `truncate` may drop the
+    /// others: both they and all entries can be taken back from it, to the same text.
+    pub fn replays_to(&self, len: usize, line: &LineBuffer) -> Result<bool, Refusal>
+        ensures ok { IfOk result (λ answer. answer ≡ replays_to len self.now line.now.text) }
+        ensures err { IfErr result (λ r. (r ≡ NoMemory) × CopiesBack self.now.recorded line.now.text) }
+    {
+        let alloc = *self.entries.allocator();
+        let text = line.as_str();
+        let recorded = &self.entries[..self.recorded];
+        if !entries::has_change(recorded) {
+            return Ok(true);
+        }
+        let Some(all) = text_over(alloc, text, recorded, Way::Back)? else {
+            return Ok(false);
+        };
+        let first = entries::first(recorded, len);
+        match text_over(alloc, text, first, Way::Back)? {
+            Some(some) => Ok(all.as_str() == some.as_str()),
+            None => Ok(false),
+        }
+    }
+}
+
+#[tactic(auto, using(crate::proofs::Records::JoinLemmas::alone))]
+impl DeleteListener for Changeset {
+    ghost use Rattle.rl_line.specs.Record.{record_refused, record_step};
+
+    ghost step = { record_step };
+
+    ghost refused = { record_refused };
+
+    fn start_killing(&mut self) {}
+
+    fn delete(&mut self, idx: usize, string: &str, _dir: Direction) -> Result<(), Refusal> {
+        Changeset::delete(self, idx, string)
+    }
+
+    fn stop_killing(&mut self) {}
+
+    #[inline(always)]
+    fn cursors(&mut self, before: usize, after: usize) {
+        entries::tell(&mut self.entries, self.recorded, self.fresh, before, after);
+        self.fresh = Freshness::Stale;
+    }
+}
+
+impl ChangeListener for Changeset {
+    #[inline(always)]
+    fn insert_char(&mut self, idx: usize, c: char) -> Result<(), Refusal> {
+        self.insert(idx, c)
+    }
+
+    fn insert_str(&mut self, idx: usize, string: &str) -> Result<(), Refusal> {
+        Changeset::insert_str(self, idx, string)
+    }
+
+    fn replace(&mut self, idx: usize, old: &str, new: &str) -> Result<(), Refusal> {
+        Changeset::replace(self, idx, old, new)
+    }
+}

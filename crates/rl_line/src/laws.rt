@@ -1,0 +1,101 @@
+//! The laws of the record: what undo, redo, groups and forgetting come to, over any entries.
+ghost use Rattle.std.specs.Prelude.{◌≡◌, ◌≤◌, ◌↔◌, ℕ, List, Bool, [], ◌∷◌, ◌++◌, min, suc, true, false, drop, length, IsSome, Some};
+ghost use Rattle.std.specs.Str.{IsCharBoundary, IsUtf8};
+ghost use Rattle.rl_base.specs.Event.{Event};
+ghost use Rattle.rl_line.specs.Forgetting.{fits, gone_within, kept_within};
+ghost use Rattle.rl_line.specs.Line.{Line};
+ghost use Rattle.rl_line.specs.Plan.{after};
+ghost use Rattle.rl_line.specs.Record.{Begin, Entry, End, Record, replay_entries, unwind};
+ghost use Rattle.rl_line.specs.Undo.{Redone, Redos, StandAfter, StandBefore, Undone, line_ahead, line_back, steps_ahead, steps_back};
+ghost use Rattle.rl_line.specs.Units.{BothMatched, GroupAt, InGroup, IsMatched, adds_end, after_in_group, begun, ended, ended_one, has_change, in_group, kept_of, last_of, last_units, level, opens, redo_of};
+
+/// Where entries lead from one text to another, unwinding them leads back from that to the first, and conversely.
+pub fn unwinding_is_replaying()
+    ensures unwound { (es : List Entry) (before after : List ℕ) → IsUtf8 before → replay_entries es before ≡ Some after → unwind es after ≡ Some before }
+    ensures replayed { (es : List Entry) (before after : List ℕ) → IsUtf8 after → unwind es after ≡ Some before → replay_entries es before ≡ Some after }
+{}
+
+/// What an undo asks of a line, in terms of its text: that the changes can be taken back from it, the last first, and that each cursor
+/// that was told stands between two characters of the text from before its change. A redo asks the same of the way ahead.
+pub fn conditions_are_of_the_text()
+    ensures back { (es : List Entry) (line : Line) → IsUtf8 line.text → IsCharBoundary line.text line.cursor
+        → IsSome (line_back es line) ↔ (IsSome (unwind es line.text) × StandBefore es line.text) }
+    ensures ahead { (es : List Entry) (line : Line) → IsUtf8 line.text → IsCharBoundary line.text line.cursor
+        → IsSome (line_ahead es line) ↔ (IsSome (replay_entries es line.text) × StandAfter es line.text) }
+{}
+
+/// What an undo leaves is the text unwound over the units that it took off the record, and what a redo leaves is the replay of
+/// the unit that it recorded again.
+pub fn undo_unwinds_and_redo_replays()
+    ensures undone { (n : ℕ) (old new : Record) (line line' : Line) (answer : Bool) → Undone n old new line line' answer
+        → unwind (last_of n old.recorded) line.text ≡ Some line'.text }
+    ensures redone { (old new : Record) (line line' : Line) (answer : Bool) → Redone old new line line' answer
+        → replay_entries (redo_of old.pending) line.text ≡ Some line'.text }
+{}
+
+/// What a listener hears of an undo or of a redo are steps that lead the old line to the new one. So `steps_are_a_replay`
+/// holds of them: a mirror that held the old text and makes each change that it hears of holds the new text. What is
+/// asked of the line's cursor and length holds of every `LineBuffer` (`pos`, `limit`).
+pub fn undo_and_redo_are_steps()
+    ensures back { (es : List Entry) (line now : Line) → IsCharBoundary line.text line.cursor → length line.text ≤ line.limit
+        → line_back es line ≡ Some now → after (steps_back line.cursor es) line ≡ Some now }
+    ensures ahead { (es : List Entry) (line now : Line) → IsCharBoundary line.text line.cursor → length line.text ≤ line.limit
+        → line_ahead es line ≡ Some now → after (steps_ahead line.cursor es) line ≡ Some now }
+{}
+
+/// Where an End stands in matched entries, its group stands before it, and holds a change.
+pub fn ends_close_groups()
+    ensures { (xs ys : List Entry) → IsMatched (xs ++ End ∷ ys) → GroupAt xs }
+{}
+
+/// Ending a group that was opened if none was open, and in which no change was recorded, restores what was
+/// recorded before its begin, and adds nothing.
+pub fn empty_group_leaves_the_record()
+    ensures recorded { (r : Record) (steps : List InGroup) → level r.recorded ≡ 0
+        → has_change (drop (suc (length r.recorded)) (after_in_group steps (begun r)).recorded) ≡ false
+        → (ended (after_in_group steps (begun r))).recorded ≡ r.recorded }
+    ensures answer { (r : Record) (steps : List InGroup) → level r.recorded ≡ 0
+        → has_change (drop (suc (length r.recorded)) (after_in_group steps (begun r)).recorded) ≡ false
+        → adds_end (level (after_in_group steps (begun r)).recorded) (after_in_group steps (begun r)).recorded ≡ false }
+{}
+
+/// Whatever groups are open, if a group is begun in them, and these events are recorded, `end_one` closes that group
+/// alone. It answers whether a change was recorded in it. Where one was, all from its begin on is one unit, so that an
+/// undo of one keeps what was recorded before; otherwise the group leaves no trace.
+pub fn group_is_closed_alone()
+    ensures answer { (r : Record) (events : List Event) → IsMatched r.recorded
+        → adds_end (min 1 (level (in_group events r).recorded)) (in_group events r).recorded ≡ has_change (drop (length r.recorded) (in_group events r).recorded) }
+    ensures unit { (r : Record) (events : List Event) → IsMatched r.recorded
+        → has_change (drop (length r.recorded) (in_group events r).recorded) ≡ true
+        → (last_of 1 (ended_one (in_group events r)).recorded ≡ drop (length r.recorded) (in_group events r).recorded ++ End ∷ [])
+        × (kept_of 1 (ended_one (in_group events r)).recorded ≡ r.recorded) }
+    ensures nothing { (r : Record) (events : List Event) → IsMatched r.recorded
+        → has_change (drop (length r.recorded) (in_group events r).recorded) ≡ false
+        → (ended_one (in_group events r)).recorded ≡ r.recorded }
+    ensures level { (r : Record) (events : List Event) → IsMatched r.recorded
+        → level (ended_one (in_group events r)).recorded ≡ level r.recorded }
+{}
+
+/// One redo for each unit that an undo took gives back the text, what was recorded and what was undone before, unless
+/// the undo took the begin of an open group.
+pub fn redos_of_a_line_give_back()
+    ensures { (n : ℕ) (r mid now : Record) (line back ahead : Line) (answer : Bool) → IsUtf8 line.text → BothMatched r
+        → opens (last_units n r.recorded) ≡ 0 → Undone n r mid line back answer
+        → Redos (length (last_units n r.recorded)) mid now back ahead
+        → (now.recorded ≡ r.recorded) × (now.pending ≡ r.pending) × (ahead.text ≡ line.text) }
+{}
+
+/// Forgetting takes whole changes and closed groups off the front of a record: what goes and what is left are the record,
+/// and what goes has matched marks and leaves no group open. So what was recorded, from the text with which it began, leads
+/// to a text with which what is left begins, and that leads on to the same end. What is left fits the bound, unless a group
+/// is open; and entries that fit it all stay. From the begin of an open group on, all stay.
+pub fn what_is_left_replays()
+    ensures parts { (most bytes : ℕ) (es : List Entry) → gone_within most bytes es ++ kept_within most bytes es ≡ es }
+    ensures whole { (most bytes : ℕ) (es : List Entry) → IsMatched es → IsMatched (gone_within most bytes es) × (level (gone_within most bytes es) ≡ 0) }
+    ensures replays { (most bytes : ℕ) (es : List Entry) (start text : List ℕ) → replay_entries es start ≡ Some text
+        → (begin : List ℕ) × (replay_entries (gone_within most bytes es) start ≡ Some begin) × (replay_entries (kept_within most bytes es) begin ≡ Some text) }
+    ensures bound { (most bytes : ℕ) (es : List Entry) → level es ≡ 0 → fits most bytes (kept_within most bytes es) ≡ true }
+    ensures stays { (most bytes : ℕ) (es : List Entry) → fits most bytes es ≡ true → kept_within most bytes es ≡ es }
+    ensures group { (most bytes : ℕ) (front inside : List Entry) → IsMatched inside
+        → (stay : List Entry) × (kept_within most bytes (front ++ Begin ∷ inside) ≡ stay ++ Begin ∷ inside) }
+{}
