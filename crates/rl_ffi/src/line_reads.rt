@@ -11,11 +11,11 @@ ghost use Rattle.rl_ffi.specs.Reads.{TellsCovers, TellsSlice, TellsText};
 ghost use Rattle.rl_ffi.specs.declared.held.LineAndListeners.{LineAndListeners};
 
 use crate::answers::{Answer, Outcome, merged, truth};
-use crate::reports::write_report;
 use crate::handle::{Handle, of};
 use crate::held::{Held, LineAndListeners};
 use crate::numbers::{mode_of, movement_of};
 use crate::reads::{covers, lend, slice, write_place};
+use crate::reports::write_report;
 use crate::shapes::{CMovement, CRange, CReport};
 use crate::view::View;
 use rl_base::{GraphemeClusterMode, Layout};

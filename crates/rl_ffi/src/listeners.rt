@@ -6,8 +6,8 @@ ghost use Rattle.rl_ffi.specs.ReportLog.{first_kept};
 ghost use Rattle.rl_ffi.specs.Listeners.{KeptBy, exchanged, fresh_listeners, handles_exchanged, kept, ringed};
 
 use crate::handle::{Handle, of};
-use crate::report_log::ReportLog;
 use crate::held::Held;
+use crate::report_log::ReportLog;
 use rl_base::{ChangeListener, DeleteListener, Direction, KillRing, Refusal};
 use rl_line::Changeset;
 use std::alloc::Global;

@@ -13,9 +13,9 @@ ghost use Rattle.rl_line.specs.Record.{entry_of};
 ghost use Rattle.rl_line.specs.Units.{is_change};
 ghost use Rattle.rl_line.specs.LineRanges.{IsRange};
 
+mod deletions;
 mod edits;
 mod indents;
-mod deletions;
 mod letter_case;
 mod line_motions;
 mod lines;

@@ -1,23 +1,11 @@
 -- Classes of characters and of clusters.
-use Rattle.std.proofs.Common.{◌≡◌, ℕ, ◌<◌, ◌||◌, List, [], ◌∷◌, ◌∙◌, length, get_or, ap, arith, refl, sym}
-use Rattle.std.proofs.Math.Bool.{or-false, and-true}
-use Rattle.std.proofs.lemmas.List.{nil_from_length}
-use Rattle.std.proofs.lemmas.Str.{chars-IsAscii}
-use Rattle.std.proofs.lemmas.Str.Ascii.{IsAscii-nil, IsAscii-cons}
-use Rattle.std.specs.Char.{is_ascii_alphanumeric}
-use Rattle.std.specs.Bool.{beq}
-use Rattle.std.specs.List.{list_all, list_any}
-use Rattle.std.specs.Str.{chars}
-use Rattle.ucd_props.specs.Binary.{is_white_space}
+use Rattle.rl_base.proofs.Common.{◌≡◌, ℕ, ◌<◌, ◌||◌, List, [], ◌∷◌, ◌∙◌, length, get_or, ap, arith, refl, sym, or-false, and-true, nil_from_length, chars-IsAscii, IsAscii-nil, IsAscii-cons, is_ascii_alphanumeric, beq, list_all, list_any, chars, is_white_space, general_category, is_alphabetic, is_number, is_alphanumeric, all_alphanumeric, has_blank}
 use Rattle.ucd_table.proofs.Facts.{Stepped-below, same_from_beq}
 use Rattle.ucd_table.proofs.Stepped.{zip_stepped}
-use Rattle.ucd_category.specs.GeneralCategory.{general_category}
 use Rattle.ucd_category.proofs.Computing.{ucd_category}
 use Rattle.ucd_category.proofs.GeneralCategoryLemmas.{general_category_stepped}
 use Rattle.ucd_derived.proofs.Computing.{ucd_derived}
 use Rattle.ucd_derived.proofs.BinaryLemmas.{is_alphabetic_stepped}
-use Rattle.ucd_derived.specs.Binary.{is_alphabetic}
-use Rattle.rl_base.specs.Classes.{is_number, is_alphanumeric, all_alphanumeric, has_blank}
 
 pub is_alphanumeric-ascii : (c : ℕ) → c < 128 → is_ascii_alphanumeric c ≡ is_alphanumeric c
 unfolding ucd_category ucd_derived

@@ -1,16 +1,6 @@
 -- Steps of an iterator that shows what it has left, and the bytes of lists of pieces.
-use Rattle.std.proofs.Common.{true, ◌≡◌, ℕ, ◌+◌, ◌-◌, ◌≤◌, List, [], ◌∷◌, ◌++◌, map, reverse, length, take, drop, slice_range, Option, Some, None, refl, sym, ap, subst, ◌∙◌, arith, append_assoc, length-append}
-use Rattle.std.proofs.lemmas.Bool.Decides.{nat_tests}
-use Rattle.std.proofs.lemmas.List.{reverse-append, reverse-reverse, take-append-drop, drop_at, drop_all, length-map, length_push}
-use Rattle.std.proofs.lemmas.Str.{IsCharBoundary-at_seam, IsCharBoundary-from_rest}
-use Rattle.std.proofs.lemmas.List.Folds.{concat-append}
-use Rattle.std.specs.Iterator.{Yields, SkipsThenYields, YieldsFirstBy}
-use Rattle.std.specs.List.{concat}
-use Rattle.std.specs.Str.{IsCharBoundary, IsUtf8}
-use Rattle.unicode_segmentation.specs.Grapheme.{is_grapheme_break}
-use Rattle.unicode_segmentation.specs.Segments.{GivesLast}
+use Rattle.rl_base.proofs.Common.{true, ◌≡◌, ℕ, ◌+◌, ◌-◌, ◌≤◌, List, [], ◌∷◌, ◌++◌, map, reverse, length, take, drop, slice_range, Option, Some, None, refl, sym, ap, subst, ◌∙◌, arith, append_assoc, length-append, nat_tests, reverse-append, reverse-reverse, take-append-drop, drop_at, drop_all, length-map, length_push, IsCharBoundary-at_seam, IsCharBoundary-from_rest, concat-append, Yields, SkipsThenYields, YieldsFirstBy, concat, IsCharBoundary, IsUtf8, is_grapheme_break, GivesLast, clusters, bytes_in, next_pos, prev_pos}
 use Rattle.unicode_segmentation.proofs.SegmentsLemmas.{concat-segments}
-use Rattle.rl_base.specs.Clusters.{clusters, bytes_in, next_pos, prev_pos}
 
 -- an iterator whose steps take from the front of the list that `shown` reads of its state
 module _ {S A B : Type 0} (steps : S → Option A → S → Type 0) (view : A → B) (shown : S → List B) (gives : (s t : S) (r : Option A) → steps s r t → YieldsFirstBy view shown s r t) where

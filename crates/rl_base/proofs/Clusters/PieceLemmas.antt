@@ -1,13 +1,7 @@
 -- No cluster of a text is empty, each stands before the text's end, and a text of one byte is one.
-use Rattle.std.proofs.Common.{◌≡◌, ℕ, ◌+◌, ◌<◌, ◌≤◌, true, List, [], ◌∷◌, length, arith, length-append}
-use Rattle.std.proofs.lemmas.List.Elements.{All-nil, All-cons, All-weaker}
-use Rattle.std.specs.List.{All, concat}
-use Rattle.std.specs.Str.{IsUtf8}
-use Rattle.unicode_segmentation.specs.Grapheme.{is_grapheme_break}
+use Rattle.rl_base.proofs.Common.{◌≡◌, ℕ, ◌+◌, ◌<◌, ◌≤◌, true, List, [], ◌∷◌, length, arith, length-append, All-nil, All-cons, All-weaker, All, concat, IsUtf8, is_grapheme_break, clusters, bytes_in, PlacedCluster, placed_clusters}
 use Rattle.unicode_segmentation.specs.Segments.{with_offsets}
 use Rattle.unicode_segmentation.proofs.SegmentsLemmas.{AllPieces, segments_nonempty}
-use Rattle.rl_base.specs.Clusters.{clusters, bytes_in}
-use Rattle.rl_base.specs.Words.{PlacedCluster, placed_clusters}
 use Rattle.rl_base.proofs.Clusters.ClusterLemmas.{bytes_in-clusters}
 
 All-pieces : (ps : List (List ℕ)) → AllPieces (λ p. 0 < length p) ps → All (λ (p : List ℕ). 0 < length p) ps

@@ -1,28 +1,10 @@
 -- Hits of a character, as characters are taken from either end.
-use Rattle.std.proofs.Common.{◌≡◌, ℕ, ◌+◌, ◌-◌, ◌<◌, ◌≤◌, suc, List, [], ◌∷◌, ◌++◌, map, filter, reverse, length, take, drop, slice_range, Option, Some, None, refl, sym, ap, ap₂, subst, ◌∙◌, arith, Bool, true, false, cond, eq-eqb, ne_eqb, eqb, append_assoc, length-append, take_at}
-use Rattle.std.proofs.lemmas.Bool.{eqb-true}
-use Rattle.std.proofs.Math.Seq.{take-nil}
-use Rattle.std.proofs.lemmas.List.{append-nil, length-drop, length-take-le, take-append-drop, reverse-append, map-append, nil_from_length}
-use Rattle.std.proofs.lemmas.List.Elements.{filter-append, All-nil, All-cons, All-head, All-tail, All-take}
-use Rattle.std.proofs.lemmas.Option.{IfSome_then}
-use Rattle.std.proofs.lemmas.Str.{chars-nil, chars-append, chars_past_char, length-encode, encodes-chars, IsUtf8-append, IsUtf8-drop, IsUtf8-take, IsUtf8-past_char, IsCharBoundary-at_seam, IsCharBoundary-from_rest}
-use Rattle.std.specs.Bool.{IsTrue}
-use Rattle.std.specs.Char.{len_utf8}
-use Rattle.std.specs.List.{All, last_or}
-use Rattle.std.specs.Option.{IfSome, option_and_then}
-use Rattle.std.specs.Prelude.{encode_utf8, encode_utf8_all, unwrap_or}
-use Rattle.std.specs.Str.{chars, IsUtf8, IsCharBoundary}
-use Rattle.unicode_segmentation.specs.Grapheme.{is_grapheme_break}
+use Rattle.rl_base.proofs.Common.{◌≡◌, ℕ, ◌+◌, ◌-◌, ◌<◌, ◌≤◌, suc, List, [], ◌∷◌, ◌++◌, map, filter, reverse, length, take, drop, slice_range, Option, Some, None, refl, sym, ap, ap₂, subst, ◌∙◌, arith, Bool, true, false, cond, eq-eqb, ne_eqb, eqb, append_assoc, length-append, take_at, eqb-true, take-nil, append-nil, length-drop, length-take-le, take-append-drop, reverse-append, map-append, nil_from_length, filter-append, All-nil, All-cons, All-head, All-tail, All-take, IfSome_then, chars-nil, chars-append, chars_past_char, length-encode, encodes-chars, IsUtf8-append, IsUtf8-drop, IsUtf8-take, IsUtf8-past_char, IsCharBoundary-at_seam, IsCharBoundary-from_rest, IsTrue, len_utf8, All, last_or, IfSome, option_and_then, encode_utf8, encode_utf8_all, unwrap_or, chars, IsUtf8, IsCharBoundary, is_grapheme_break, clusters, bytes_in, next_pos, PlacedCluster, char_places, places_of, hits, nth_or_last, hit_back, hit_ahead, chosen_hit, sought, HitLies, place_of_last, CharSearch, ForwardBefore, BackwardAfter, stands_at}
 use Rattle.unicode_segmentation.specs.Segments.{with_offsets}
 use Rattle.unicode_segmentation.proofs.SegmentsLemmas.{AllPieces, IsPieceOf, All-IsPieceOf, segments_nonempty}
 use Rattle.unicode_segmentation.proofs.TextLemmas.{chars-encode_utf8, IsUtf8-before, take_split}
-use Rattle.rl_base.specs.Clusters.{clusters, bytes_in, next_pos}
-use Rattle.rl_base.specs.Words.{PlacedCluster}
-use Rattle.rl_base.specs.Search.{char_places, places_of, hits, nth_or_last, hit_back, hit_ahead, chosen_hit, sought, HitLies, place_of_last}
-use Rattle.rl_base.specs.declared.motion.CharSearch.{CharSearch}
-use Rattle.rl_base.specs.declared.motion.CharSearch.TheVariants.{Forward, ForwardBefore, Backward, BackwardAfter}
+use Rattle.rl_base.specs.declared.motion.CharSearch.TheVariants.{Forward, Backward}
 use Rattle.rl_base.proofs.Clusters.ClusterLemmas.{bytes_in-clusters}
-use Rattle.rl_base.specs.Text.{stands_at}
 use Rattle.rl_base.proofs.Texts.TextLemmas.{IsCharBoundary-in_front, slice_range-middle, stands_at-part}
 use Rattle.rl_base.proofs.Clusters.WordLemmas.{All-reverse, last_or-is, last_or-push}
 

@@ -1,17 +1,6 @@
 -- Sums of widths that are cut at the largest `u16`.
-use Rattle.std.proofs.Common.{◌≡◌, ℕ, ◌+◌, false, List, [], ◌∷◌, ◌++◌, length, drop, min, None, All, sum_by, refl, sym, ap, subst, ◌∙◌, arith}
-use Rattle.std.proofs.lemmas.List.{take-append-drop, nil_from_length}
-use Rattle.std.proofs.lemmas.List.Elements.{All-nil, All-cons}
-use Rattle.std.proofs.lemmas.List.Splits.{slice_split_none, slice_split_at}
-use Rattle.std.proofs.lemmas.List.Sums.{sum_by-cons}
-use Rattle.std.proofs.lemmas.Str.{chars-nil, chars-append, chars_past_char, chars_from_encodes}
-use Rattle.std.specs.List.{slice_split}
-use Rattle.std.specs.Prelude.{encode_utf8}
-use Rattle.std.specs.Str.{chars, IsUtf8, NoCharPasses, NonePass}
-use Rattle.std.specs.Str.Pattern.{FindsChar, SplitsAroundMatch}
+use Rattle.rl_base.proofs.Common.{◌≡◌, ℕ, ◌+◌, false, List, [], ◌∷◌, ◌++◌, length, drop, min, None, All, sum_by, refl, sym, ap, subst, ◌∙◌, arith, take-append-drop, nil_from_length, All-nil, All-cons, slice_split_none, slice_split_at, sum_by-cons, chars-nil, chars-append, chars_past_char, chars_from_encodes, slice_split, encode_utf8, chars, IsUtf8, NoCharPasses, NonePass, FindsChar, SplitsAroundMatch, str_width, char_columns, is_joiner}
 use Rattle.unicode_segmentation.proofs.TextLemmas.{IsUtf8-after}
-use Rattle.unicode_width.specs.Width.{str_width}
-use Rattle.rl_base.specs.Widths.{char_columns, is_joiner}
 
 pub columns-char : (text rest : List ℕ) (c total : ℕ) → IsUtf8 text → text ≡ encode_utf8 c ++ rest
     → min (min (total + char_columns c) 65535 + sum_by char_columns (chars rest)) 65535 ≡ min (total + sum_by char_columns (chars text)) 65535

@@ -1,26 +1,9 @@
 -- The stops of word motions, as clusters are taken from the back.
-use Rattle.std.proofs.Common.{◌≡◌, ℕ, ◌-◌, ◌<◌, zero, suc, Bool, true, false, List, [], ◌∷◌, ◌++◌, map, reverse, length, take, Option, Some, None, refl, sym, ap, subst, ◌∙◌, arith, slice_get, ◌≤◌}
-use Rattle.std.proofs.lemmas.List.{append-nil, length_push, reverse-append, length-reverse, get_or-reverse, length-take-le}
-use Rattle.std.proofs.lemmas.Str.{IsUtf8-take, IsCharBoundary-start}
-use Rattle.std.proofs.lemmas.List.Elements.{filter_map-append}
-use Rattle.std.proofs.lemmas.List.Elements.{All-nil, All-cons, All-head, All-tail, All-weaker, All-drop, All-map}
-use Rattle.std.proofs.lemmas.Option.{slice_get_within, get_or_from_slice_get}
-use Rattle.std.specs.List.{All, find, last_or, filter_map, cons_option}
-use Rattle.std.specs.Option.{IfSome, option_map}
-use Rattle.std.specs.Prelude.{unwrap_or, cond, if◌then◌else◌}
-use Rattle.rl_base.specs.declared.motion.At.{At}
-use Rattle.rl_base.specs.declared.motion.At.TheVariants.{Start, BeforeEnd, AfterEnd}
-use Rattle.rl_base.specs.declared.motion.Word.{Word}
-use Rattle.rl_base.specs.declared.motion.Word.TheVariants.{Big, Emacs, Vi}
-use Rattle.std.proofs.lemmas.Bool.Decides.{nat_tests}
-use Rattle.std.specs.Str.{IsUtf8, IsCharBoundary}
-use Rattle.unicode_segmentation.specs.Grapheme.{is_grapheme_break}
+use Rattle.rl_base.proofs.Common.{◌≡◌, ℕ, ◌-◌, ◌<◌, zero, suc, Bool, true, false, List, [], ◌∷◌, ◌++◌, map, reverse, length, take, Option, Some, None, refl, sym, ap, subst, ◌∙◌, arith, slice_get, ◌≤◌, append-nil, length_push, reverse-append, length-reverse, get_or-reverse, length-take-le, IsUtf8-take, IsCharBoundary-start, filter_map-append, All-nil, All-cons, All-head, All-tail, All-weaker, All-drop, All-map, slice_get_within, get_or_from_slice_get, All, find, last_or, filter_map, cons_option, IfSome, option_map, unwrap_or, cond, if◌then◌else◌, At, BeforeEnd, AfterEnd, Word, Big, Emacs, Vi, nat_tests, IsUtf8, IsCharBoundary, is_grapheme_break, clusters, bytes_in, is_word, starts, ends, PlacedCluster, placed_clusters, prev_word, looked_at, last_place, neighbours, stop_between, stops, nth, first_member}
+use Rattle.rl_base.specs.declared.motion.At.TheVariants.{Start}
 use Rattle.unicode_segmentation.proofs.SegmentsLemmas.{IsPieceOf, All-IsPieceOf, length-segments, length-with_offsets, nil_from-with_offsets}
-use Rattle.rl_base.specs.Clusters.{clusters, bytes_in}
 use Rattle.rl_base.proofs.Clusters.ClusterLemmas.{bytes_in-clusters}
 use Rattle.rl_base.proofs.Texts.TextLemmas.{IsCharBoundary-in_front}
-use Rattle.rl_base.specs.Classes.{is_word, starts, ends}
-use Rattle.rl_base.specs.Words.{PlacedCluster, placed_clusters, prev_word, looked_at, last_place, neighbours, stop_between, stops, nth, first_member}
 
 -- one more element at the end is one more pair at the end
 pub neighbours_push : {X : Type 0} (xs : List X) (x y : X) → neighbours ((xs ++ x ∷ []) ++ y ∷ []) ≡ neighbours (xs ++ x ∷ []) ++ (x, y) ∷ []

@@ -1,17 +1,5 @@
 -- Reports whose texts stand in one text, one after another, after those of reports that are forgotten.
-use Rattle.std.proofs.Common.{◌≡◌, ℕ, zero, suc, ◌+◌, ◌-◌, ◌<◌, ◌≤◌, Bool, true, false, List, [], ◌∷◌, ◌++◌, length, take, drop, get_or, slice_set, ◌==◌, Option, Some, None, if◌then◌else◌, refl, sym, ap, subst, ◌∙◌, arith, append_assoc, length-append}
-use Rattle.std.proofs.Math.Seq.{drop-append_seam, take-append_seam}
-use Rattle.std.proofs.lemmas.List.{length-take-le, length-drop, take-append-drop, take-append-le, drop-append-le, take_all, drop_all}
-use Rattle.std.proofs.lemmas.Str.{IsCharBoundary-at_seam, IsCharBoundary-from_drop, IsCharBoundary-from_take, IsUtf8-nil, IsUtf8-append}
-use Rattle.std.proofs.lemmas.Bool.{and_parts, cond_both, leb-true, ltb-true}
-use Rattle.std.proofs.lemmas.Bool.Decides.{nat_tests}
-use Rattle.std.specs.Prelude.{Err, Ok, OnOk, Result, is_err, nat_le, nat_lt}
-use Rattle.std.specs.Str.{IsCharBoundary, IsUtf8}
-use Rattle.rl_base.specs.declared.reports.Joined.{Joined}
-use Rattle.rl_base.specs.declared.reports.Report.{Report}
-use Rattle.rl_base.specs.declared.reports.ReportKind.{ReportKind}
-use Rattle.rl_base.specs.Notes.{Cuts, KeepsRoom, Notes, bytes_kept, notes}
-use Rattle.rl_base.specs.Reports.{IsQueue, Noted, has_room_in, waiting_of, is_change, kept, noted, on_last, reports_of, text_bytes, told_cursors, told_note}
+use Rattle.rl_base.proofs.Common.{◌≡◌, ℕ, zero, suc, ◌+◌, ◌-◌, ◌<◌, ◌≤◌, Bool, true, false, List, [], ◌∷◌, ◌++◌, length, take, drop, get_or, slice_set, ◌==◌, Option, Some, None, if◌then◌else◌, refl, sym, ap, subst, ◌∙◌, arith, append_assoc, length-append, drop-append_seam, take-append_seam, length-take-le, length-drop, take-append-drop, take-append-le, drop-append-le, take_all, drop_all, IsCharBoundary-at_seam, IsCharBoundary-from_drop, IsCharBoundary-from_take, IsUtf8-nil, IsUtf8-append, and_parts, cond_both, leb-true, ltb-true, nat_tests, Err, Ok, OnOk, Result, is_err, nat_le, nat_lt, IsCharBoundary, IsUtf8, Joined, Report, ReportKind, Cuts, KeepsRoom, Notes, bytes_kept, notes, IsQueue, Noted, has_room_in, waiting_of, is_change, kept, noted, on_last, reports_of, text_bytes, told_cursors, told_note}
 
 pub reports_of-notes : (k : ℕ) (rs : List Report) (bytes : List ℕ) → reports_of (notes k rs bytes) ≡ rs
 reports_of-notes k [] bytes = refl

@@ -1,11 +1,5 @@
 -- The slots from the current one back, by their numbers.
-use Rattle.std.proofs.Common.{◌≡◌, ℕ, ◌+◌, ◌-◌, ◌<◌, ◌≤◌, ◌⊎◌, inl, inr, zero, suc, List, [], ◌++◌, length, take, drop, reverse, get_or, Option, Some, None, refl, sym, ap, ◌∙◌, arith, length-append}
-use Rattle.std.proofs.Math.ListN.{get_or-append}
-use Rattle.std.proofs.lemmas.Bool.{cases_lt}
-use Rattle.std.proofs.lemmas.List.{get_or-append-add, get_or-drop, get_or-reverse, get_or-take, length-drop, length-reverse, length-take-le, take-append-drop}
-use Rattle.std.proofs.lemmas.Option.{slice_get-get_or, slice_get_past}
-use Rattle.std.specs.Prelude.{slice_get}
-use Rattle.rl_base.specs.KillRing.{Ring, IsRing, back_from, index_before, lent, text_back, turned, yank, yank_popped, yank_size, popped_ring}
+use Rattle.rl_base.proofs.Common.{◌≡◌, ℕ, ◌+◌, ◌-◌, ◌<◌, ◌≤◌, ◌⊎◌, inl, inr, zero, suc, List, [], ◌++◌, length, take, drop, reverse, get_or, Option, Some, None, refl, sym, ap, ◌∙◌, arith, length-append, get_or-append, cases_lt, get_or-append-add, get_or-drop, get_or-reverse, get_or-take, length-drop, length-reverse, length-take-le, take-append-drop, slice_get-get_or, slice_get_past, slice_get, Ring, IsRing, back_from, index_before, lent, text_back, turned, yank, yank_popped, yank_size, popped_ring}
 use Rattle.rl_base.proofs.Ring.SlotLemmas.{back-first}
 
 module _ (slots : List (List ℕ)) (i back : ℕ) where

@@ -1,15 +1,7 @@
 -- The ring's slots are the latest groups of kills.
-use Rattle.std.proofs.Common.{◌≡◌, ℕ, ◌+◌, ◌<◌, ◌≤◌, zero, suc, Bool, true, false, List, [], ◌∷◌, ◌++◌, length, take, Option, Some, None, inl, inr, refl, sym, ap, subst, ◌∙◌, arith}
-use Rattle.std.proofs.lemmas.Bool.{false_from_ne_true}
-use Rattle.std.proofs.lemmas.Option.{slice_get_cases}
-use Rattle.std.specs.Prelude.{max, slice_get}
-use Rattle.rl_base.specs.declared.listeners.Direction.{Direction}
-use Rattle.rl_base.specs.Event.{Event, InsertChar, InsertStr, Delete, Replace, Start, Stop, Cursors}
-use Rattle.rl_base.specs.declared.kill_ring.Action.{Action}
-use Rattle.rl_base.specs.declared.kill_ring.Action.TheVariants.{Kill, Yank, Other}
-use Rattle.rl_base.specs.declared.kill_ring.Mode.{Mode}
-use Rattle.rl_base.specs.KillRing.{Ring, in_new_slot, joined, new_ring, side_mode, next_index, put_at, killed_as, killed, yank, lent, after_deletion, back_from, newest_first, ring_step, IsRing}
-use Rattle.rl_base.specs.KillGroups.{Doing, Kills, Resets, Yanks, Hears, ring_do, ring_done, Groups, no_groups, grown, with_kill, with_deletion, group_step, group_do, group_done, groups_of, AllKills, all_joined}
+use Rattle.rl_base.proofs.Common.{◌≡◌, ℕ, ◌+◌, ◌<◌, ◌≤◌, zero, suc, Bool, true, false, List, [], ◌∷◌, ◌++◌, length, take, Option, Some, None, inl, inr, refl, sym, ap, subst, ◌∙◌, arith, false_from_ne_true, slice_get_cases, max, slice_get, Direction, Event, InsertChar, InsertStr, Delete, Replace, Stop, Cursors, Action, Kill, Yank, Other, Mode, Ring, in_new_slot, new_ring, side_mode, next_index, put_at, killed_as, killed, yank, lent, after_deletion, back_from, newest_first, ring_step, IsRing, Doing, Kills, Resets, Yanks, Hears, ring_do, ring_done, Groups, no_groups, grown, with_kill, with_deletion, group_step, group_do, group_done, groups_of, AllKills, all_joined}
+use Rattle.rl_base.specs.Event.{Start}
+use Rattle.rl_base.specs.KillRing.{joined}
 use Rattle.rl_base.proofs.Ring.RingLemmas.{IsRing-killed, length-join}
 use Rattle.rl_base.proofs.Ring.SlotLemmas.{Puts, puts, take-grown, back-join, back-first}
 

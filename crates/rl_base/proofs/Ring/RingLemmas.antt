@@ -1,15 +1,6 @@
 -- What a kill makes of a ring.
-use Rattle.std.proofs.Common.{◌≡◌, ℕ, ◌+◌, ◌<◌, ◌≤◌, zero, suc, Bool, true, false, cond, List, [], ◌∷◌, ◌++◌, length, set, get_or, Result, Ok, Err, OnOk, IfErr, Some, option_map, refl, ap, ◌∙◌, ◌⊎◌, inl, inr, arith, length-append}
-use Rattle.std.proofs.lemmas.Bool.{eqb-true, eqb-false}
-use Rattle.std.proofs.lemmas.List.{length-set}
-use Rattle.std.specs.Prelude.{max, ◌==◌, slice_get, slice_set}
-use Rattle.rl_base.specs.declared.kill_ring.Action.{Action}
-use Rattle.rl_base.specs.declared.kill_ring.Action.TheVariants.{Kill, Yank, Other}
-use Rattle.rl_base.specs.declared.kill_ring.Mode.{Mode}
-use Rattle.rl_base.specs.declared.listeners.Refusal.{Refusal}
-use Rattle.rl_base.specs.declared.listeners.Refusal.TheVariants.{NoMemory}
-use Rattle.rl_base.specs.Gathered.{Gathering, IsPackedAt, texts}
-use Rattle.rl_base.specs.KillRing.{Ring, joined, raised, next_index, put_at, join_at, in_new_slot, killed_as, killed, IsRing}
+use Rattle.rl_base.proofs.Common.{◌≡◌, ℕ, ◌+◌, ◌<◌, ◌≤◌, zero, suc, Bool, true, false, cond, List, [], ◌∷◌, ◌++◌, length, set, get_or, Result, Ok, Err, OnOk, IfErr, Some, option_map, refl, ap, ◌∙◌, ◌⊎◌, inl, inr, arith, length-append, eqb-true, eqb-false, length-set, max, ◌==◌, slice_get, slice_set, Action, Kill, Yank, Other, Mode, Refusal, NoMemory, Gathering, IsPackedAt, texts, Ring, raised, next_index, put_at, join_at, in_new_slot, killed_as, killed, IsRing}
+use Rattle.rl_base.specs.KillRing.{joined}
 
 -- joining leaves as many slots
 pub length-join : (slots : List (List ℕ)) (i : ℕ) (mode : Mode) (text : List ℕ) → length (join_at i mode text slots) ≡ length slots

@@ -1,12 +1,6 @@
 -- The slots from the newest back.
-use Rattle.std.proofs.Common.{◌≡◌, ℕ, ◌+◌, ◌<◌, ◌≤◌, zero, suc, true, List, [], ◌∷◌, ◌++◌, length, take, drop, reverse, Some, refl, sym, ap, subst, ◌∙◌, ◌⊎◌, inl, inr, arith, length-append, append-nil, append_assoc, take_at, drop_at, eq-eqb, ne_eqb}
-use Rattle.std.proofs.lemmas.Bool.{cases_lt, cond-true, cond-false}
-use Rattle.std.proofs.lemmas.List.{length-set, take_all, take-take, reverse-append, length-reverse}
-use Rattle.std.proofs.Math.Seq.{set-append_seam}
-use Rattle.std.specs.Prelude.{max, ◌==◌, slice_set, slice_get}
-use Rattle.rl_base.specs.declared.kill_ring.Mode.{Mode}
-use Rattle.rl_base.specs.KillRing.{back_from, joined, raised, next_index, put_at, join_at}
-use Rattle.rl_base.specs.KillGroups.{grown}
+use Rattle.rl_base.proofs.Common.{◌≡◌, ℕ, ◌+◌, ◌<◌, ◌≤◌, zero, suc, true, List, [], ◌∷◌, ◌++◌, length, take, drop, reverse, Some, refl, sym, ap, subst, ◌∙◌, ◌⊎◌, inl, inr, arith, length-append, append-nil, append_assoc, take_at, drop_at, eq-eqb, ne_eqb, cases_lt, cond-true, cond-false, length-set, take_all, take-take, reverse-append, length-reverse, set-append_seam, max, ◌==◌, slice_set, slice_get, Mode, back_from, raised, next_index, put_at, join_at, grown}
+use Rattle.rl_base.specs.KillRing.{joined}
 use Rattle.rl_base.proofs.Ring.RingLemmas.{Next, next_index-is}
 
 -- a list, cut at a slot

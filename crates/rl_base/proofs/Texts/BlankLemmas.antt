@@ -1,12 +1,7 @@
 -- The blanks of the standard library are White_Space.
-use Rattle.std.proofs.Common.{◌≡◌, ℕ, Bool, true, false, List, [], ◌∷◌, ◌++◌, reverse, length, refl, sym, ap, ◌∙◌, arith}
-use Rattle.std.proofs.lemmas.Bool.Decides.{nat_tests}
-use Rattle.std.proofs.lemmas.List.{reverse-append, length-reverse}
-use Rattle.std.specs.Prelude.{cond, ◌&&◌, ◌==◌}
-use Rattle.std.specs.Str.{chars, encode_utf8_all, skip_leading_whitespace, drop_trailing_whitespace, trim_start, trim_end}
-use Rattle.ucd_props.specs.Binary.{is_white_space}
+use Rattle.rl_base.proofs.Common.{◌≡◌, ℕ, Bool, true, false, List, [], ◌∷◌, ◌++◌, reverse, length, refl, sym, ap, ◌∙◌, arith, nat_tests, reverse-append, length-reverse, cond, ◌&&◌, ◌==◌, chars, encode_utf8_all, skip_leading_whitespace, drop_trailing_whitespace, is_white_space, past_blanks, without_leading_blanks, without_trailing_blanks}
+use Rattle.std.specs.Str.{trim_start, trim_end}
 use Rattle.ucd_props.proofs.StdLemmas.{is_white_space-std}
-use Rattle.rl_base.specs.Blanks.{past_blanks, without_leading_blanks, without_trailing_blanks}
 
 skip-leading : (cs : List ℕ) → skip_leading_whitespace cs ≡ past_blanks cs
 skip-leading [] = refl

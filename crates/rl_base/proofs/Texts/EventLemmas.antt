@@ -1,15 +1,6 @@
 -- What an event that fits makes of a text.
-use Rattle.std.proofs.Common.{◌≡◌, ℕ, ◌+◌, ◌-◌, ◌≤◌, Bool, true, false, List, length, slice_range, Some, None, refl, ap, arith}
-use Rattle.std.proofs.lemmas.Bool.{and_parts}
-use Rattle.std.proofs.lemmas.List.Edits.{length-between}
-use Rattle.std.proofs.lemmas.Str.{IsUtf8-encode, IsUtf8-from_is_utf8, is_utf8-from_IsUtf8}
-use Rattle.std.specs.Char.{IsScalar}
-use Rattle.std.specs.Prelude.{encode_utf8, cond, IsSome, ◌&&◌}
-use Rattle.std.specs.List.{insert_slice, remove_range, replace_range}
-use Rattle.std.specs.Str.{IsCharBoundary, IsUtf8, is_utf8}
-use Rattle.rl_base.specs.declared.listeners.Direction.{Direction}
-use Rattle.rl_base.specs.Event.{InsertChar, InsertStr, Delete, Replace, apply}
-use Rattle.rl_base.specs.Text.{fits_at, stands_at}
+use Rattle.rl_base.proofs.Common.{◌≡◌, ℕ, ◌+◌, ◌-◌, ◌≤◌, Bool, true, false, List, length, slice_range, Some, None, refl, ap, arith, and_parts, length-between, IsUtf8-encode, IsUtf8-from_is_utf8, is_utf8-from_IsUtf8, IsScalar, encode_utf8, cond, IsSome, ◌&&◌, insert_slice, remove_range, replace_range, IsCharBoundary, IsUtf8, is_utf8, Direction, InsertChar, InsertStr, Delete, Replace, fits_at, stands_at}
+use Rattle.rl_base.specs.Event.{apply}
 use Rattle.rl_base.proofs.Texts.TextLemmas.{is_boundary-true, FitsAt, StandsAt, fits_at-true, fits_at-means, stands_at-part, stands_at-means}
 
 pub apply-InsertStr : (text : List ℕ) (i : ℕ) (s : List ℕ) → IsUtf8 s → IsCharBoundary text i → apply (InsertStr i s) text ≡ Some (insert_slice text i s)

@@ -1,10 +1,5 @@
 -- Blanks before a text.
-use Rattle.std.proofs.Common.{◌≡◌, ℕ, ◌+◌, ◌<◌, ◌≤◌, zero, suc, List, [], ◌∷◌, ◌++◌, length, take, drop, replicate, get_or, IsUtf8, IsCharBoundary, String, Global, string_bytes, refl, sym, ap, subst, ◌∙◌, arith, append_assoc, take_at, drop_at}
-use Rattle.std.proofs.lemmas.List.{length-replicate, replicate-append-replicate}
-use Rattle.std.proofs.lemmas.Str.{IsCharBoundary-start, IsCharBoundary-after_ascii, IsUtf8-string_bytes}
-use Rattle.std.proofs.Math.Seq.{take-append-add, drop-append-add}
-use Rattle.std.specs.List.{repeat, replace_range, insert_slice}
-use Rattle.rl_base.specs.Gathered.{BeginsBlank}
+use Rattle.rl_base.proofs.Common.{◌≡◌, ℕ, ◌+◌, ◌<◌, ◌≤◌, zero, suc, List, [], ◌∷◌, ◌++◌, length, take, drop, replicate, get_or, IsUtf8, IsCharBoundary, String, Global, string_bytes, refl, sym, ap, subst, ◌∙◌, arith, append_assoc, take_at, drop_at, length-replicate, replicate-append-replicate, IsCharBoundary-start, IsCharBoundary-after_ascii, IsUtf8-string_bytes, take-append-add, drop-append-add, repeat, replace_range, insert_slice, BeginsBlank}
 
 -- each of the first n bytes is a blank
 blank-at : (text : List ℕ) (n i : ℕ) → BeginsBlank n text → i < n → (i < length text) × (get_or text i 0 ≡ 32)

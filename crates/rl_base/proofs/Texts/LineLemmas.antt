@@ -1,17 +1,7 @@
 -- The line that a place lies in, where a line begins and ends, and what stands after a place.
-use Rattle.std.proofs.Common.{take-add, Some, None, slice_get, slice_range, ◌≡◌, ℕ, zero, suc, ◌+◌, ◌-◌, ◌<◌, ◌≤◌, Bool, true, false, cond, List, [], ◌∷◌, ◌++◌, length, get_or, take, drop, All, count_by, refl, sym, ap, ap₂, subst, ◌∙◌, arith, eqb, append-nil, length-append}
-use Rattle.std.proofs.lemmas.List.{drop-drop, take_at, get_or_at, length-take-le, take-append-drop, drop_at, take_all}
-use Rattle.std.proofs.lemmas.List.Splits.{slice_split-cons_yes, slice_split-cons_no, slice_split_none, length-slice_split}
-use Rattle.std.proofs.lemmas.List.Sums.{sum_by-cons, sum_by-append}
-use Rattle.std.proofs.lemmas.List.Elements.{All-nil, All-cons, recursion_from_All}
-use Rattle.std.proofs.lemmas.Option.{same_Some, get_or_from_slice_get, slice_get_within}
-use Rattle.std.specs.List.{AllByRecursion, concat, onto_first}
-use Rattle.std.specs.Str.{IsCharBoundary, IsUtf8}
+use Rattle.rl_base.proofs.Common.{take-add, Some, None, slice_get, slice_range, ◌≡◌, ℕ, zero, suc, ◌+◌, ◌-◌, ◌<◌, ◌≤◌, Bool, true, false, cond, List, [], ◌∷◌, ◌++◌, length, get_or, take, drop, All, count_by, refl, sym, ap, ap₂, subst, ◌∙◌, arith, eqb, append-nil, length-append, drop-drop, take_at, get_or_at, length-take-le, take-append-drop, drop_at, take_all, slice_split-cons_yes, slice_split-cons_no, slice_split_none, length-slice_split, sum_by-cons, sum_by-append, All-nil, All-cons, recursion_from_All, same_Some, get_or_from_slice_get, slice_get_within, AllByRecursion, concat, onto_first, IsCharBoundary, IsUtf8, bytes_in, placed_clusters, is_newline, lines, bytes_of, start_of_line, text_of_line, end_of_line, last_line, line_number}
 use Rattle.unicode_segmentation.specs.Segments.{with_offsets}
-use Rattle.rl_base.specs.Clusters.{bytes_in}
-use Rattle.rl_base.specs.Words.{placed_clusters}
 use Rattle.rl_base.proofs.Clusters.WordLemmas.{All-places}
-use Rattle.rl_base.specs.Lines.{is_newline, lines, bytes_of, start_of_line, text_of_line, end_of_line, last_line, line_number}
 
 -- ---- a text cut at a newline
 pub lines_some : (text : List ℕ) → (line : List ℕ) × (more : List (List ℕ)) × (lines text ≡ line ∷ more)

@@ -1,15 +1,6 @@
 -- Splices of texts, one after another.
-use Rattle.std.proofs.Common.{◌≡◌, ℕ, ◌+◌, ◌-◌, ◌^◌, ◌<◌, ◌≤◌, ◌⊎◌, inl, inr, min, max, Bool, true, false, cond, List, [], ◌++◌, length, take, drop, get_or, slice_range, Some, None, MatchOption, refl, sym, ap, subst, ◌∙◌, arith, append_assoc, length-append, take_at, drop_at}
-use Rattle.std.proofs.lemmas.Bool.{cases_lt, ltb-true, ltb-false}
-use Rattle.std.proofs.lemmas.List.{length-take, length-take-le, length-drop, take-take, drop-drop, get_or-take, get_or-drop, take-append-drop}
-use Rattle.std.proofs.lemmas.List.Folds.{drop_split}
-use Rattle.std.proofs.lemmas.Option.{same_Some}
-use Rattle.std.proofs.lemmas.Str.{IsUtf8-append, IsCharBoundary-at_seam}
-use Rattle.std.specs.Prelude.{encode_utf8, nat_lt}
-use Rattle.std.specs.Str.{IsCharBoundary, IsUtf8}
-use Rattle.rl_base.specs.declared.splice.Splice.{Splice}
-use Rattle.rl_base.specs.Event.{Event, InsertChar, InsertStr, Delete, Replace, Start, Stop, Cursors, apply}
-use Rattle.rl_base.specs.Splice.{Covers, Splices, capped, folded, spliced, told, untouched}
+use Rattle.rl_base.proofs.Common.{◌≡◌, ℕ, ◌+◌, ◌-◌, ◌^◌, ◌<◌, ◌≤◌, ◌⊎◌, inl, inr, min, max, Bool, true, false, cond, List, [], ◌++◌, length, take, drop, get_or, slice_range, Some, None, MatchOption, refl, sym, ap, subst, ◌∙◌, arith, append_assoc, length-append, take_at, drop_at, cases_lt, ltb-true, ltb-false, length-take, length-take-le, length-drop, take-take, drop-drop, get_or-take, get_or-drop, take-append-drop, drop_split, same_Some, IsUtf8-append, IsCharBoundary-at_seam, encode_utf8, nat_lt, IsCharBoundary, IsUtf8, Splice, Event, InsertChar, InsertStr, Delete, Replace, Stop, Cursors, Covers, Splices, capped, folded, spliced, told, untouched}
+use Rattle.rl_base.specs.Event.{Start, apply}
 use Rattle.rl_base.proofs.Texts.TextLemmas.{slice_range-middle}
 use Rattle.rl_base.proofs.Texts.SwapLemmas.{Swaps, Swaps-Delete, Swaps-InsertChar, Swaps-InsertStr, Swaps-Replace}
 

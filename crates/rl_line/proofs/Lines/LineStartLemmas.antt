@@ -1,18 +1,7 @@
 -- The places right after the newlines of a text: of two joined, how many there are, and where they lie; and the table of them with a border: where it lies between two parts of the text, where it moves, and where a range gives way to a part.
 use borrow.Rule.Slice.PartMut.{put_mid, post_of}
-use Rattle.std.proofs.Common.{◌≡◌, ℕ, zero, suc, ◌+◌, ◌-◌, ◌<◌, ◌≤◌, ◌&&◌, ◌==◌, nat_le, Bool, true, false, cond, List, [], ◌∷◌, ◌++◌, map, filter, length, get_or, set, take, drop, take-add, append_assoc, append-nil, length-append, length-drop, slice_range, All, count_by, refl, sym, ap, ap₂, subst, ◌∙◌, arith, ne_eqb}
-use Rattle.std.proofs.lemmas.Bool.{and_parts, cond_both, eqb-true, leb-true}
-use Rattle.std.proofs.lemmas.List.{nil_from_length, take-append-drop, length-take, length-take-le, length-map, map-append, map_push, get_or-take, get_or-drop, get_or-map, get_or_append_left, get_or_at, get_or-append_right, take-take, take-append-le, take-map, take_at, drop-drop, drop-map, drop-append-le, drop_at, drop_all, drop_more, set_at}
-use Rattle.std.proofs.lemmas.List.Sums.{sum_by-cons, sum_by-append}
-use Rattle.std.proofs.lemmas.List.Edits.{length-between}
-use Rattle.std.proofs.lemmas.List.Elements.{All-nil, All-cons, All-head, All-tail, All-get_or, All-weaker, All-append, All-map, All-take, All-drop}
-use Rattle.std.proofs.lemmas.Slice.{take-put_mid}
-use Rattle.std.proofs.lemmas.Str.{encode_ascii, inside_one}
-use Rattle.std.specs.List.{enumerate_from, replace_range, copy_within, insert, remove}
-use Rattle.std.specs.Prelude.{encode_utf8}
-use Rattle.memchr.specs.Find.{is_byte, places, places_from}
-use Rattle.rl_base.specs.Lines.{is_newline, line_number}
-use Rattle.rl_line.specs.LineStarts.{after_newlines, line_starts, from_end, starts_from_end, kept_starts, IsTable}
+use Rattle.rl_line.proofs.Common.{◌≡◌, ℕ, zero, suc, ◌+◌, ◌-◌, ◌<◌, ◌≤◌, ◌&&◌, ◌==◌, nat_le, Bool, true, false, cond, List, [], ◌∷◌, ◌++◌, map, filter, length, get_or, set, take, drop, take-add, append_assoc, append-nil, length-append, length-drop, slice_range, All, count_by, refl, sym, ap, ap₂, subst, ◌∙◌, arith, ne_eqb, and_parts, cond_both, eqb-true, leb-true, nil_from_length, take-append-drop, length-take, length-take-le, length-map, map-append, map_push, get_or-take, get_or-drop, get_or-map, get_or_append_left, get_or_at, get_or-append_right, take-take, take-append-le, take-map, take_at, drop-drop, drop-map, drop-append-le, drop_at, drop_all, drop_more, set_at, sum_by-cons, sum_by-append, length-between, All-nil, All-cons, All-head, All-tail, All-get_or, All-weaker, All-append, All-map, All-take, All-drop, take-put_mid, encode_ascii, inside_one, enumerate_from, replace_range, copy_within, insert, remove, encode_utf8, is_byte, places, is_newline, line_number, after_newlines, line_starts, from_end, starts_from_end, kept_starts, IsTable}
+use Rattle.memchr.specs.Find.{places_from}
 
 map-cond : {A B : Type 0} (f : A → B) (is : Bool) (x : A) (l : List A) → map f (cond is (x ∷ l) l) ≡ cond is (f x ∷ map f l) (map f l)
 map-cond f true x l = refl

@@ -1,8 +1,5 @@
 -- What the two moves of a tail leave of the whole list.
-use Rattle.std.proofs.Common.{ℕ, List, [], ◌≡◌, ◌+◌, ◌-◌, ◌≤◌, ◌++◌, ◌∙◌, ap, sym, arith, length, take, drop, length-append, length-take, length-drop}
-use Rattle.std.specs.List.{copy_within, replace_range}
-use Rattle.std.proofs.lemmas.List.{append_assoc, append-nil, take_all, take_at, take-take, drop-drop, drop_at, drop_all}
-use Rattle.std.proofs.lemmas.Slice.{between_is, take-put_mid, take-put_mid_below, drop-put_mid}
+use Rattle.rl_line.proofs.Common.{ℕ, List, [], ◌≡◌, ◌+◌, ◌-◌, ◌≤◌, ◌++◌, ◌∙◌, ap, sym, arith, length, take, drop, length-append, length-take, length-drop, copy_within, replace_range, append_assoc, append-nil, take_all, take_at, take-take, drop-drop, drop_at, drop_all, between_is, take-put_mid, take-put_mid_below, drop-put_mid}
 use borrow.Rule.Slice.PartMut.{put_mid}
 
 from_front : (n : ℕ) → 0 + n ≡ n

@@ -1,16 +1,6 @@
 -- The plans of the edits, by their cases. The lemmas name each number of the code by a variable and an
 -- equation, so that they fit what the code computed.
-use Rattle.std.proofs.Common.{◌≡◌, ◌⊎◌, inl, inr, ℕ, ◌+◌, ◌-◌, ◌*◌, ◌<◌, Bool, true, false, List, zero, suc, count_by, length, length-append, min, take, slice_range, Some, None, refl, arith, lt-ltb}
-use Rattle.std.proofs.lemmas.List.Sums.{count_by-le-length}
-use Rattle.std.specs.List.{repeat, remove_range}
-use Rattle.std.specs.Prelude.{encode_utf8, ◌==◌, ◌||◌}
-use Rattle.rl_base.specs.Event.{InsertStr, Delete}
-use Rattle.rl_base.specs.declared.listeners.Direction.TheVariants.{Forward}
-use Rattle.rl_base.specs.Lines.{is_newline}
-use Rattle.rl_base.specs.Text.{greatest_boundary}
-use Rattle.rl_line.specs.Line.{Line, stepped}
-use Rattle.rl_line.specs.Plan.{nothing, single, followed_by}
-use Rattle.rl_line.specs.Edits.{too_long, cut_to_limit, insert_event, insert_plan, update_plan, yank_plan, yank_pop_plan}
+use Rattle.rl_line.proofs.Common.{◌≡◌, ◌⊎◌, inl, inr, ℕ, ◌+◌, ◌-◌, ◌*◌, ◌<◌, Bool, true, false, List, zero, suc, count_by, length, length-append, min, take, slice_range, Some, None, refl, arith, lt-ltb, count_by-le-length, repeat, remove_range, encode_utf8, ◌==◌, ◌||◌, InsertStr, Delete, Forward, is_newline, greatest_boundary, Line, stepped, nothing, single, followed_by, too_long, cut_to_limit, insert_event, insert_plan, update_plan, yank_plan, yank_pop_plan}
 
 pub too_long-past : (line : Line) (n : ℕ) → line.grow ≡ false → line.limit < n → too_long line n ≡ true
 too_long-past line n e h = rw (e, lt-ltb line.limit n h) refl

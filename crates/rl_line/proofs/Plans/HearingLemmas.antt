@@ -1,11 +1,6 @@
 -- What a listener keeps of a text at each change and its cursors, it keeps over the steps of a line.
-use Rattle.std.proofs.Common.{◌≡◌, ℕ, ◌^◌, ◌<◌, ◌≤◌, List, [], ◌∷◌, length, Some, ap, subst, arith}
-use Rattle.std.specs.Str.{IsCharBoundary, IsUtf8}
-use Rattle.rl_base.specs.Event.{Event, Cursors, apply}
-use Rattle.rl_base.specs.Reports.{IsChange}
+use Rattle.rl_line.proofs.Common.{◌≡◌, ℕ, ◌^◌, ◌<◌, ◌≤◌, List, [], ◌∷◌, length, Some, ap, subst, arith, IsCharBoundary, IsUtf8, Event, Cursors, apply, IsChange, Line, stepped, Step, after, listener_after, listener_after_step}
 use Rattle.rl_base.proofs.Texts.SwapLemmas.{apply-IsUtf8}
-use Rattle.rl_line.specs.Line.{Line, stepped}
-use Rattle.rl_line.specs.Plan.{Step, after, listener_after, listener_after_step}
 use Rattle.rl_line.proofs.Plans.PlanLemmas.{first_step}
 
 -- no step lowers the limit

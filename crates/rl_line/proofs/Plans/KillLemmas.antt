@@ -1,19 +1,5 @@
 -- The plans of killing and deleting by a movement, by their cases.
-use Rattle.std.proofs.Common.{◌≡◌, ◌∷◌, [], ℕ, Bool, true, false, List, Some, None, refl, sym, ap, subst, ◌∙◌}
-use Rattle.std.proofs.lemmas.Option.{same_Some}
-use Rattle.std.proofs.lemmas.Result.{IfOk-weaker, IfErr-weaker}
-use Rattle.std.specs.Prelude.{Option, Result, IfOk, IfErr}
-use Rattle.std.specs.Option.{option_map}
-use Rattle.std.specs.declared.ops.Range.{Range}
-use Rattle.rl_base.specs.Event.{Event, Delete, Start, Stop}
-use Rattle.rl_base.specs.declared.listeners.Direction.{Direction}
-use Rattle.rl_base.specs.declared.listeners.Direction.TheVariants.{Forward}
-use Rattle.rl_base.specs.declared.motion.Movement.{Movement}
-use Rattle.rl_base.specs.declared.motion.Movement.TheVariants.{WholeLine, BeginningOfLine, EndOfLine, BackwardWord, ForwardWord, ViCharSearch, ViFirstPrint, FirstNonBlank, BackwardChar, ForwardChar, LineUp, LineDown, WholeBuffer, BeginningOfBuffer, EndOfBuffer}
-use Rattle.rl_line.specs.Line.{Line}
-use Rattle.rl_line.specs.Plan.{nothing, single, answering}
-use Rattle.rl_line.specs.Ranges.{covered, killed, text_in}
-use Rattle.rl_line.specs.Deletions.{Told, delete_plan, is_exact, removal}
+use Rattle.rl_line.proofs.Common.{◌≡◌, ◌∷◌, [], ℕ, Bool, true, false, List, Some, None, refl, sym, ap, subst, ◌∙◌, same_Some, IfOk-weaker, IfErr-weaker, Option, Result, IfOk, IfErr, option_map, Range, Event, Delete, Start, Stop, Direction, Forward, Movement, WholeLine, BeginningOfLine, EndOfLine, BackwardWord, ForwardWord, ViCharSearch, ViFirstPrint, FirstNonBlank, BackwardChar, ForwardChar, LineUp, LineDown, WholeBuffer, BeginningOfBuffer, EndOfBuffer, Line, nothing, single, answering, covered, killed, text_in, Told, delete_plan, is_exact, removal}
 
 pub removal-nothing : (line : Line) (o : Option (Range ℕ)) (side : Direction) → None ≡ o → removal line o side ≡ nothing line false
 removal-nothing line o side e = rw (← e) refl

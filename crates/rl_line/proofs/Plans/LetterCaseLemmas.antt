@@ -1,33 +1,13 @@
 -- The plan of an edit of a word, by its cases.
-use Rattle.std.proofs.Common.{◌≡◌, ℕ, ◌+◌, ◌<◌, ◌&&◌, ◌==◌, Bool, not, cond, All, Decides, List, [], ◌∷◌, ◌++◌, drop, length, length-append, map, flat_map, min, take, take-append-drop, true, false, Some, None, chars, encode_utf8_all, IsUtf8, IsCharBoundary, arith, refl, sym, ap, ap₂, subst, ◌∙◌, suc}
-use Rattle.std.specs.Char.Unicode.Rows.{Row, by_runs, by_strings}
-use Rattle.std.specs.Char.Unicode.ToLowercase.{lowercase_runs, lowercase_strings, to_lowercase}
-use Rattle.std.specs.Char.Unicode.ToUppercase.{to_uppercase, uppercase_runs, uppercase_strings}
-use Rattle.std.proofs.lemmas.List.{length-map, nil_from_length}
-use Rattle.std.proofs.lemmas.List.Elements.{All-head}
-use Rattle.std.proofs.lemmas.Str.{IsCharBoundary-start, IsUtf8-drop, IsUtf8-take, encodes-chars, length-le-encodes}
-use Rattle.std.specs.Prelude.{unwrap_or}
-use Rattle.std.specs.StrCase.Lower.{is_in_word_after, lowercase_before, lowercase_chars, starts_with_cased, str_to_lowercase}
+use Rattle.rl_line.proofs.Common.{◌≡◌, ℕ, ◌+◌, ◌<◌, ◌&&◌, ◌==◌, Bool, not, cond, All, Decides, List, [], ◌∷◌, ◌++◌, drop, length, length-append, map, flat_map, min, take, take-append-drop, true, false, Some, None, chars, encode_utf8_all, IsUtf8, IsCharBoundary, arith, refl, sym, ap, ap₂, subst, ◌∙◌, suc, Row, by_runs, lowercase_runs, lowercase_strings, uppercase_runs, uppercase_strings, length-map, nil_from_length, All-head, IsCharBoundary-start, IsUtf8-drop, IsUtf8-take, encodes-chars, length-le-encodes, unwrap_or, is_in_word_after, lowercase_before, lowercase_chars, starts_with_cased, is_grapheme_break, bytes_in, clusters, end_of_cluster, nat_tests, IsAscii-drop, IsAscii-take, IsAscii-cons, IsAscii-nil, is_ascii, to_ascii_lowercase, to_ascii_uppercase, list_all, IsAscii, Range, WordAction, Capitalize, Lowercase, Uppercase, Line, nothing, answering, exchange_plan, edit_word_plan, mapped, recased, respell, respelled, word_ahead, text_in}
+use Rattle.std.specs.Char.Unicode.Rows.{by_strings}
+use Rattle.std.specs.Char.Unicode.ToLowercase.{to_lowercase}
+use Rattle.std.specs.Char.Unicode.ToUppercase.{to_uppercase}
+use Rattle.std.specs.StrCase.Lower.{str_to_lowercase}
 use Rattle.std.specs.StrCase.Upper.{str_to_uppercase}
 use Rattle.unicode_segmentation.proofs.SegmentsLemmas.{All-IsPieceOf, IsPieceOf}
-use Rattle.unicode_segmentation.specs.Grapheme.{is_grapheme_break}
 use Rattle.unicode_segmentation.specs.Segments.{with_offsets}
-use Rattle.rl_base.specs.Clusters.{bytes_in, clusters}
-use Rattle.rl_line.specs.Transpositions.{end_of_cluster}
-use Rattle.std.proofs.lemmas.Bool.Decides.{nat_tests}
-use Rattle.std.proofs.lemmas.Str.{IsAscii-drop, IsAscii-take}
-use Rattle.std.proofs.lemmas.Str.Ascii.{IsAscii-cons, IsAscii-nil}
-use Rattle.std.specs.Char.{is_ascii, to_ascii_lowercase, to_ascii_uppercase}
-use Rattle.std.specs.List.{list_all}
-use Rattle.std.specs.Prelude.{IsAscii}
-use Rattle.std.specs.declared.ops.Range.{Range}
-use Rattle.rl_base.specs.declared.motion.WordAction.{WordAction}
-use Rattle.rl_base.specs.declared.motion.WordAction.TheVariants.{Capitalize, Lowercase, Uppercase}
-use Rattle.rl_line.specs.Line.{Line}
-use Rattle.rl_line.specs.Plan.{nothing, answering, bytes_of}
-use Rattle.rl_line.specs.Edits.{exchange_plan}
-use Rattle.rl_line.specs.LetterCase.{edit_word_plan, mapped, recased, respell, respelled, word_ahead}
-use Rattle.rl_line.specs.Ranges.{text_in}
+use Rattle.rl_line.specs.Plan.{bytes_of}
 
 pub edit_word_plan-nothing : (line : Line) (action : WordAction) → None ≡ word_ahead line → edit_word_plan line action ≡ nothing line false
 edit_word_plan-nothing line action e = ap (respell line action) (sym e)

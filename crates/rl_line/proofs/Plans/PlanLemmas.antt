@@ -1,13 +1,7 @@
 -- How the steps of a plan are put together.
-use Rattle.std.proofs.Common.{◌≡◌, ◌<◌, ◌⊎◌, inl, inr, ℕ, List, [], ◌∷◌, ◌++◌, Some, refl, sym, ap, subst, append_assoc, append-nil, ◌∙◌}
-use Rattle.std.specs.Prelude.{option_and_then}
-use Rattle.rl_base.specs.Event.{Event, apply, replay}
-use Rattle.rl_base.specs.declared.listeners.Refusal.{Refusal}
-use Rattle.std.specs.Str.{IsCharBoundary}
-use Rattle.rl_base.specs.Text.{is_boundary}
+use Rattle.rl_line.proofs.Common.{◌≡◌, ◌<◌, ◌⊎◌, inl, inr, ℕ, List, [], ◌∷◌, ◌++◌, Some, refl, sym, ap, subst, append_assoc, append-nil, ◌∙◌, option_and_then, Event, apply, replay, Refusal, IsCharBoundary, is_boundary, Line, stepped, if_standing, after_step, Step, Plan, nothing, single, followed_by, after, events_of, listener_after, listener_after_step, Taken, Completed, Done, Halted, Uncopied}
 use Rattle.rl_base.proofs.Texts.TextLemmas.{is_boundary-true, is_boundary-means}
-use Rattle.rl_line.specs.Line.{Line, stepped, if_standing, after_step}
-use Rattle.rl_line.specs.Plan.{Step, Plan, nothing, single, followed_by, after, events_of, listener_after, listener_after_step, bytes_of, Taken, Completed, Done, Halted, Uncopied}
+use Rattle.rl_line.specs.Plan.{bytes_of}
 use Rattle.rl_line.proofs.Records.RecordLemmas.{if_some, through}
 
 -- a line that stands is what the test lets through

@@ -1,27 +1,9 @@
 -- What a kill by a movement takes begins at the cursor, or ends there.
-use Rattle.std.proofs.Common.{◌≡◌, ℕ, ◌+◌, ◌<◌, ◌≤◌, min, max, Bool, true, false, cond, length, Option, Some, None, refl, sym, arith, ltb-true, ltb-false}
-use Rattle.std.proofs.lemmas.Bool.{eqb-true}
-use Rattle.std.specs.Option.{option_map, option_or}
-use Rattle.std.specs.Prelude.{IfSome, List, ◌==◌, nat_lt}
-use Rattle.std.specs.Str.{IsCharBoundary, IsUtf8}
-use Rattle.std.specs.declared.ops.Range.{Range}
-use Rattle.rl_base.specs.Clusters.{prev_pos}
-use Rattle.rl_base.specs.Search.{HitLies, chosen_hit}
-use Rattle.rl_base.specs.Words.{prev_word}
-use Rattle.rl_base.specs.declared.listeners.Direction.{Direction}
-use Rattle.rl_base.specs.declared.listeners.Direction.TheVariants.{Forward, Backward}
-use Rattle.rl_base.specs.declared.motion.At.{At}
-use Rattle.rl_base.specs.declared.motion.CharSearch.{CharSearch}
+use Rattle.rl_line.proofs.Common.{◌≡◌, ℕ, ◌+◌, ◌<◌, ◌≤◌, min, max, Bool, true, false, cond, length, Option, Some, None, refl, sym, arith, ltb-true, ltb-false, eqb-true, option_map, option_or, IfSome, List, ◌==◌, nat_lt, IsCharBoundary, IsUtf8, Range, prev_pos, HitLies, chosen_hit, prev_word, Direction, Forward, Backward, At, CharSearch, BeginningOfLine, EndOfLine, FirstNonBlank, BackwardWord, ForwardWord, ViCharSearch, BeginningOfBuffer, EndOfBuffer, Word, side_of_place, side_of_search, Line, between, first_nonblank, home, line_end, either_way, from_place, killed, newline_at, to_hit, to_place, unless_empty}
 use Rattle.rl_base.specs.declared.motion.CharSearch.TheVariants as to
-use Rattle.rl_base.specs.declared.motion.Movement.TheVariants.{BeginningOfLine, EndOfLine, FirstNonBlank, BackwardWord, ForwardWord, ViCharSearch, BeginningOfBuffer, EndOfBuffer}
-use Rattle.rl_base.specs.declared.motion.Word.{Word}
 use Rattle.rl_base.proofs.Texts.LineLemmas.{start-before}
 use Rattle.rl_base.proofs.Clusters.SearchLemmas.{IsHitOf, chosen_hit-is}
 use Rattle.rl_base.proofs.Clusters.WordLemmas.{IsBefore-start_before}
-use Rattle.rl_line.specs.Deletions.{side_of_place, side_of_search}
-use Rattle.rl_line.specs.Line.{Line, between}
-use Rattle.rl_line.specs.LineMotions.{first_nonblank, home, line_end}
-use Rattle.rl_line.specs.Ranges.{either_way, from_place, killed, newline_at, to_hit, to_place, unless_empty}
 
 -- the range lies on that side of the place, and touches it
 abbrev pub LiesOn : Direction → ℕ → Range ℕ → Type 0

@@ -1,14 +1,6 @@
 -- The steps over the parts of a line, as steps of the line that they make.
-use Rattle.std.proofs.Common.{◌≡◌, ℕ, ◌≤◌, List, [], ◌∷◌, Bool, length, max, slice_range, refl, sym, subst}
-use Rattle.std.proofs.Math.Nat.{max-eq_left}
-use Rattle.std.specs.List.{insert_slice, remove_range}
-use Rattle.std.specs.Str.{IsCharBoundary, IsUtf8}
+use Rattle.rl_line.proofs.Common.{◌≡◌, ℕ, ◌≤◌, List, [], ◌∷◌, Bool, length, max, slice_range, refl, sym, subst, max-eq_left, insert_slice, remove_range, IsCharBoundary, IsUtf8, Direction, Refusal, Event, InsertStr, Delete, Line, line_of, stepped, Plan, Step, Taken, Done, Halted, listener_after_step}
 use Rattle.rl_base.proofs.Texts.EventLemmas.{apply-Delete, apply-InsertStr}
-use Rattle.rl_base.specs.declared.listeners.Direction.{Direction}
-use Rattle.rl_base.specs.declared.listeners.Refusal.{Refusal}
-use Rattle.rl_base.specs.Event.{Event, InsertStr, Delete}
-use Rattle.rl_line.specs.Line.{Line, line_of, stepped}
-use Rattle.rl_line.specs.Plan.{Plan, Step, Taken, Done, Halted, listener_after_step}
 use Rattle.rl_line.proofs.Plans.PlanLemmas.{Taken-one}
 
 pub line_of-kept : (text made : List ℕ) (cursor place limit bound : ℕ) (grow : Bool) → made ≡ text → place ≡ cursor → bound ≡ limit

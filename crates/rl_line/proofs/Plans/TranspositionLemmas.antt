@@ -1,19 +1,6 @@
 -- Exchanging two ranges: the plan by its halves, and the places between them.
-use Rattle.std.proofs.Common.{◌≡◌, ℕ, ◌+◌, ◌-◌, ◌≤◌, [], ◌∷◌, ◌++◌, List, length, take, drop, append_assoc, None, Bool, cond, true, false, slice_range, sym, ap, ap₂, subst, ◌∙◌, arith}
-use Rattle.std.proofs.lemmas.List.Edits.{length-between}
-use Rattle.std.specs.Prelude.{option_and_then}
-use Rattle.std.proofs.lemmas.List.{length-take-le, drop-take, drop-append-le}
-use Rattle.std.specs.List.{insert_slice, remove_range, replace_range}
-use Rattle.std.specs.Str.{IsCharBoundary, IsUtf8}
-use Rattle.std.specs.declared.ops.Range.{Range}
+use Rattle.rl_line.proofs.Common.{◌≡◌, ℕ, ◌+◌, ◌-◌, ◌≤◌, [], ◌∷◌, ◌++◌, List, length, take, drop, append_assoc, None, Bool, cond, true, false, slice_range, sym, ap, ap₂, subst, ◌∙◌, arith, length-between, option_and_then, length-take-le, drop-take, drop-append-le, insert_slice, remove_range, replace_range, IsCharBoundary, IsUtf8, Range, Forward, InsertStr, Delete, Line, Plan, Step, nothing, single, followed_by, answering, exchange_plan, text_in, are_two, clusters_around, end_of_cluster, exchanged_text, first_word, meeting_place, second_word, only_move, pull_back_plan, pulled_back, swap_plan, transpose_chars_plan, transpose_words_plan}
 use Rattle.rl_base.proofs.Texts.TextLemmas.{slice-before, take-before, removed-is_replaced, IsCharBoundary-before, IsCharBoundary-at_removal, IsCharBoundary-past_replacement, IsCharBoundary-after, IsUtf8-replaced}
-use Rattle.rl_base.specs.declared.listeners.Direction.TheVariants.{Forward}
-use Rattle.rl_base.specs.Event.{InsertStr, Delete}
-use Rattle.rl_line.specs.Line.{Line}
-use Rattle.rl_line.specs.Plan.{Plan, Step, nothing, single, followed_by, answering}
-use Rattle.rl_line.specs.Edits.{exchange_plan}
-use Rattle.rl_line.specs.Ranges.{text_in}
-use Rattle.rl_line.specs.Transpositions.{are_two, clusters_around, end_of_cluster, exchanged_text, first_word, meeting_place, second_word, only_move, pull_back_plan, pulled_back, swap_plan, transpose_chars_plan, transpose_words_plan}
 
 -- the steps of the second exchange
 abbrev pub last_steps : Line → Range ℕ → Range ℕ → List Step

@@ -1,26 +1,12 @@
 -- What stands in a text where it can go over an entry.
-use Rattle.std.proofs.Common.{◌≡◌, ℕ, ◌+◌, ◌<◌, ◌≤◌, Bool, true, false, List, [], ◌∷◌, ◌++◌, length, take, get_or, map, reverse, slice_range, Option, Some, None, refl, sym, ap, subst, ◌∙◌, arith}
-use Rattle.std.proofs.lemmas.List.{length-reverse}
-use Rattle.std.proofs.lemmas.Str.{is_utf8-from_IsUtf8}
-use Rattle.std.specs.Prelude.{◌&&◌, IfOk, IsSome, Result, Ok, Err, cond, is_some, option_and_then}
-use Rattle.std.specs.List.{replace_range}
-use Rattle.std.specs.Option.{option_map_or}
-use Rattle.std.specs.Str.{IsCharBoundary, IsUtf8, bytes_eq, is_utf8}
+use Rattle.rl_line.proofs.Common.{◌≡◌, ℕ, ◌+◌, ◌<◌, ◌≤◌, Bool, true, false, List, [], ◌∷◌, ◌++◌, length, take, get_or, map, reverse, slice_range, Option, Some, None, refl, sym, ap, subst, ◌∙◌, arith, length-reverse, is_utf8-from_IsUtf8, ◌&&◌, IfOk, IsSome, Result, Ok, Err, cond, is_some, option_and_then, replace_range, option_map_or, IsCharBoundary, IsUtf8, bytes_eq, is_utf8, is_boundary, Change, Way, Back, Ahead, Entry, Begin, End, Changed, entry_of, event_of, inverse, new_text, old_text, unwind, cursor_told, place_after, cursor_stands, Refusal, same_Some, entry_to_undo, order, place, text_after, text_back}
 use Rattle.rl_base.specs.Event.{apply}
-use Rattle.rl_base.specs.Text.{fits_at, is_boundary, stands_at}
+use Rattle.rl_base.specs.Text.{fits_at, stands_at}
 use Rattle.rl_base.proofs.Texts.TextLemmas.{is_boundary-true, stands_at-means}
 use Rattle.rl_base.proofs.Texts.EventLemmas.{Replaces-from_IsSome}
-use Rattle.rl_line.specs.declared.change.Change.{Change}
-use Rattle.rl_line.specs.declared.change.Way.{Way}
-use Rattle.rl_line.specs.declared.change.Way.TheVariants.{Back, Ahead}
-use Rattle.rl_line.specs.Record.{Entry, Begin, End, Changed, entry_of, event_of, inverse, new_text, old_text, unwind}
-use Rattle.rl_line.specs.Undo.{cursor_told, place_after, cursor_stands}
 use Rattle.rl_line.proofs.Records.LastLemmas.{map-reverse, read-last}
 use Rattle.rl_line.proofs.Records.RecordLemmas.{then_both, then_some}
-use Rattle.rl_base.specs.declared.listeners.Refusal.{Refusal}
-use Rattle.std.proofs.lemmas.Option.{same_Some}
 use Rattle.rl_line.proofs.Records.PatchLemmas.{length-replaced}
-use Rattle.rl_line.specs.Change.{entry_to_undo, order, place, text_after, text_back}
 
 -- an entry's new text stands at its place, and the old one may take its place
 pub record StandsNew (e : Entry) (text : List ℕ) (at : ℕ) : Type 0 where

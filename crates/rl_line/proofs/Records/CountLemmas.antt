@@ -1,10 +1,5 @@
 -- Counting marks from the end finds the last units, and from the front the first.
-use Rattle.std.proofs.Common.{◌≡◌, ℕ, ◌+◌, ◌-◌, suc, arith, Bool, true, false, List, [], ◌∷◌, length, length-append, take, reverse, Some, refl, sym, ap, subst, ◌∙◌}
-use Rattle.std.proofs.lemmas.List.{reverse-append, reverse-reverse}
-use Rattle.std.specs.Prelude.{zero, max}
-use Rattle.rl_line.specs.Record.{Entry, Begin, End, Changed}
-use Rattle.rl_line.specs.Units.{UndoUnit, Open, Whole, units, together, level, last_of, redo_from, redo_of, touched, marks, IsMatched}
-use Rattle.rl_line.specs.Entries.{deep}
+use Rattle.rl_line.proofs.Common.{◌≡◌, ℕ, ◌+◌, ◌-◌, suc, arith, Bool, true, false, List, [], ◌∷◌, length, length-append, take, reverse, Some, refl, sym, ap, subst, ◌∙◌, reverse-append, reverse-reverse, zero, max, Entry, Begin, End, Changed, UndoUnit, Open, Whole, units, together, level, last_of, redo_from, redo_of, touched, marks, IsMatched, deep}
 use Rattle.rl_line.proofs.Records.Counts.{back_len, ahead_len}
 use Rattle.rl_line.proofs.Records.RecordLemmas.{value_of}
 use Rattle.rl_line.proofs.Records.UnitLemmas.{AllGood, units-good, together-units, on, together-reverse, AllGood-reverse}

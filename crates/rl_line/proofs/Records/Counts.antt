@@ -1,7 +1,5 @@
 -- How many entries the last units have, and the first, and how many groups are open, by counting marks.
-use Rattle.std.proofs.Common.{ℕ, suc, List, [], ◌∷◌}
-use Rattle.std.specs.Prelude.{zero}
-use Rattle.rl_line.specs.Record.{Entry, Begin, End}
+use Rattle.rl_line.proofs.Common.{ℕ, suc, List, [], ◌∷◌, zero, Entry, Begin, End}
 
 -- the entries, the last first: d groups are entered from their End, and k units are left to take
 abbrev pub back_len : ℕ → ℕ → List Entry → ℕ

@@ -1,19 +1,10 @@
 -- Entries in the list of the code: counting them, and closing groups.
-use Rattle.std.proofs.Common.{◌≡◌, ℕ, ◌+◌, ◌-◌, ◌<◌, ◌≤◌, arith, suc, List, [], ◌∷◌, ◌++◌, length, take, drop, get_or, map, reverse, refl, sym, ap, ◌∙◌, ◌⊎◌, inl, inr}
-use Rattle.std.proofs.Math.Bool.{or-true}
-use Rattle.std.proofs.lemmas.List.{append-nil, map-append, reverse-append, drop_all}
-use Rattle.std.specs.Prelude.{zero, max, slice_get, cond, IsSome, Bool, true, false, not, ◌||◌, Option, Some, None}
-use Rattle.std.specs.Option.{option_to_list}
-use Rattle.rl_line.specs.declared.change.Change.{Change}
-use Rattle.rl_line.specs.Record.{Entry, Begin, End, Changed, entry_of}
-use Rattle.rl_line.specs.Units.{last_of, redo_of, adds_end, end_one, end_times, ends_in_begin, is_begin, is_change, IsMatched}
-use Rattle.rl_line.specs.Entries.{deep}
+use Rattle.rl_line.proofs.Common.{◌≡◌, ℕ, ◌+◌, ◌-◌, ◌<◌, ◌≤◌, arith, suc, List, [], ◌∷◌, ◌++◌, length, take, drop, get_or, map, reverse, refl, sym, ap, ◌∙◌, ◌⊎◌, inl, inr, or-true, append-nil, map-append, reverse-append, drop_all, zero, max, slice_get, cond, IsSome, Bool, true, false, not, ◌||◌, Option, Some, None, option_to_list, Change, Entry, Begin, End, Changed, entry_of, last_of, redo_of, adds_end, end_one, end_times, ends_in_begin, is_begin, is_change, IsMatched, deep, same_Some}
 use Rattle.rl_line.proofs.Records.Counts.{ahead_len, back_len}
 use Rattle.rl_line.proofs.Records.CountLemmas.{last-counted, redo-counted}
 use Rattle.rl_line.proofs.Records.LastLemmas.{end_one-cases, end_one-past, ends-past, read-first, read-last}
 use Rattle.rl_line.proofs.Records.RecordLemmas.{value_of}
 use Rattle.rl_line.proofs.Records.UnitLemmas.{last_of-change, redo_of-change}
-use Rattle.std.proofs.lemmas.Option.{same_Some}
 
 -- the entries before a place, the last first, with one entry more
 back-read : (xs : List Change) (m : ℕ) (z x : Change) → m < length xs → get_or xs m z ≡ x

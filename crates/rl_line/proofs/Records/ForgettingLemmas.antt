@@ -1,19 +1,7 @@
 -- Forgetting the oldest units: where entries fit a bound, which units go, and what is left.
-use Rattle.std.proofs.Common.{◌≡◌, ℕ, Some, zero, suc, ◌+◌, ◌-◌, ◌≤◌, ◌<◌, ◌⊎◌, inl, inr, leb, cond, arith, Bool, true, false, List, [], ◌∷◌, ◌++◌, length, length-append, take, drop, take_at, drop-cons, get_or, map, append-nil, append_assoc, reverse, refl, sym, ap, subst, ◌∙◌}
-use Rattle.std.proofs.Math.Bool.{and-false, or-true}
-use Rattle.std.proofs.lemmas.Bool.{le-leb, leb-false, leb-true, lt-leb}
-use Rattle.std.proofs.lemmas.List.{drop-drop, drop-map, drop-take, length-drop, length-map, length-take-le, reverse-append, reverse-reverse, take-map}
-use Rattle.std.specs.Prelude.{nat_le}
-use Rattle.rl_line.specs.declared.change.Change.{Change}
-use Rattle.rl_line.specs.Record.{Begin, Entry, Record, entry_of, new_text, old_text, replay_entries}
-use Rattle.rl_line.specs.Walk.{Walk, Walks}
+use Rattle.rl_line.proofs.Common.{◌≡◌, ℕ, Some, zero, suc, ◌+◌, ◌-◌, ◌≤◌, ◌<◌, ◌⊎◌, inl, inr, leb, cond, arith, Bool, true, false, List, [], ◌∷◌, ◌++◌, length, length-append, take, drop, take_at, drop-cons, get_or, map, append-nil, append_assoc, reverse, refl, sym, ap, subst, ◌∙◌, and-false, or-true, le-leb, leb-false, leb-true, lt-leb, drop-drop, drop-map, drop-take, length-drop, length-map, length-take-le, reverse-append, reverse-reverse, take-map, nat_le, Change, Begin, Entry, Record, entry_of, new_text, old_text, replay_entries, Walk, Walks, AtLevel, IsMatched, Open, UndoUnit, Whole, level, opens, redo_from, redo_of, together, units, Freshness, cut_at, remove_range, FitsFrom, ForgetsFirst, bytes_held, fits, forgotten, gone_within, is_within, kept_within, unbounded, units_kept}
 use Rattle.rl_line.proofs.Records.WalkLemmas.{Walk-IsUtf8, Walk-split}
 use Rattle.rl_line.proofs.Records.RecordLemmas.{replay-append, through}
-use Rattle.rl_line.specs.Units.{AtLevel, IsMatched, Open, UndoUnit, Whole, level, opens, redo_from, redo_of, together, units}
-use Rattle.rl_line.specs.declared.change.Freshness.{Freshness}
-use Rattle.rl_line.specs.Entries.{cut_at}
-use Rattle.std.specs.List.{remove_range}
-use Rattle.rl_line.specs.Forgetting.{FitsFrom, ForgetsFirst, bytes_held, fits, forgotten, gone_within, is_within, kept_within, unbounded, units_kept}
 use Rattle.rl_line.proofs.Records.MatchLemmas.{Redoes-of}
 use Rattle.rl_line.proofs.Records.UnitLemmas.{oldest, oldest-first, AllGood, AllGood-left, AllGood-reverse, AllGood-right, IsMatched-together, Settles, good_cuts, opens-reverse, together-append, together-units, units-append, units-good}
 

@@ -1,20 +1,6 @@
 -- What a listener hears of a line that goes over its record.
-use Rattle.std.proofs.Common.{◌≡◌, ℕ, ◌^◌, ◌<◌, ◌≤◌, ◌⊎◌, inl, inr, zero, suc, true, max, List, [], ◌∷◌, ◌++◌, length, map, reverse, Some, refl, sym, ap, subst, append_assoc, ◌∙◌, arith}
-use Rattle.std.proofs.lemmas.List.{map-append, reverse-append}
-use Rattle.std.proofs.lemmas.Simd.{map-map}
-use Rattle.std.proofs.lemmas.Option.{same_Some}
-use Rattle.std.specs.Prelude.{Any, get_or, option_and_then}
-use Rattle.std.specs.Str.{IsCharBoundary}
-use Rattle.rl_base.specs.Event.{Event, Replace, apply}
-use Rattle.rl_base.specs.declared.listeners.Refusal.{Refusal}
-use Rattle.rl_base.specs.declared.listeners.Refusal.TheVariants.{NoMemory}
-use Rattle.rl_line.specs.Foretelling.{HeardInPart}
-use Rattle.rl_line.specs.Line.{Line, NeedsRoom, stepped}
-use Rattle.rl_line.specs.Plan.{Step, after, listener_after, listener_after_step}
-use Rattle.rl_line.specs.Record.{Entry, Changed, event_of, inverse, new_text, old_text}
-use Rattle.rl_line.specs.Change.{place}
-use Rattle.rl_line.specs.Undo.{cursor_after, line_after, line_ahead, line_back, steps_ahead, steps_back, texts_after, texts_ahead, texts_back}
-use Rattle.rl_line.specs.Units.{has_change}
+use Rattle.rl_line.proofs.Common.{◌≡◌, ℕ, ◌^◌, ◌<◌, ◌≤◌, ◌⊎◌, inl, inr, zero, suc, true, max, List, [], ◌∷◌, ◌++◌, length, map, reverse, Some, refl, sym, ap, subst, append_assoc, ◌∙◌, arith, map-append, reverse-append, map-map, same_Some, Any, get_or, option_and_then, IsCharBoundary, Event, Replace, Refusal, NoMemory, HeardInPart, Line, NeedsRoom, stepped, Step, after, listener_after, listener_after_step, Entry, Changed, event_of, inverse, new_text, old_text, place, cursor_after, line_after, line_ahead, line_back, steps_ahead, steps_back, texts_after, texts_ahead, texts_back, has_change}
+use Rattle.rl_base.specs.Event.{apply}
 use Rattle.rl_line.proofs.Plans.PlanLemmas.{Fits-from, standing-is}
 use Rattle.rl_line.proofs.Records.RecordLemmas.{through}
 use Rattle.rl_line.proofs.Records.TurnLemmas.{has_change-turned, turned-cons, turned-turned}

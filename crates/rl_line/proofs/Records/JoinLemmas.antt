@@ -1,23 +1,9 @@
 -- The last recorded entry, where an event joins it and where it does not.
-use Rattle.std.proofs.Common.{◌≡◌, ℕ, ◌+◌, ◌-◌, ◌<◌, ◌≤◌, List, [], ◌∷◌, ◌++◌, length, take, drop, get_or, set, map, Some, None, refl, sym, ap, subst, ◌∙◌, arith}
-use Rattle.std.proofs.lemmas.Grind.{take_at_read}
-use Rattle.std.proofs.lemmas.List.{append-nil, drop-map, drop-set-lt, map-append, nil_from_length, take-map, take_more_set}
-use Rattle.std.proofs.Math.Seq.{map-set_same}
-use Rattle.std.proofs.lemmas.Result.{IfErr-weaker, IfOk-weaker}
-use Rattle.std.specs.Prelude.{IfErr, IfOk, Option, Result}
+use Rattle.rl_line.proofs.Common.{◌≡◌, ℕ, ◌+◌, ◌-◌, ◌<◌, ◌≤◌, List, [], ◌∷◌, ◌++◌, length, take, drop, get_or, set, map, Some, None, refl, sym, ap, subst, ◌∙◌, arith, take_at_read, append-nil, drop-map, drop-set-lt, map-append, nil_from_length, take-map, take_more_set, map-set_same, IfErr-weaker, IfOk-weaker, IfErr, IfOk, Option, Result, Event, InsertStr, Delete, Start, Stop, Cursors, Direction, Forward, Refusal, NoMemory, Change, Deletion, Entry, Changed, Record, entries_after, entry_of, freshness_added, freshness_of, joined, last_told, with_cursors, Freshness, Stale, TakesIn, JoinsLast}
 use Rattle.std.specs.Str.{chars}
 use Rattle.unicode_segmentation.specs.Segments.{cut, segments}
-use Rattle.rl_base.specs.Event.{Event, InsertStr, Delete, Start, Stop, Cursors, apply}
-use Rattle.rl_base.specs.declared.listeners.Direction.{Direction}
-use Rattle.rl_base.specs.declared.listeners.Direction.TheVariants.{Forward}
-use Rattle.rl_base.specs.declared.listeners.Refusal.{Refusal}
-use Rattle.rl_base.specs.declared.listeners.Refusal.TheVariants.{NoMemory}
-use Rattle.rl_line.specs.declared.change.Change.{Change}
-use Rattle.rl_line.specs.Record.{Deletion, Entry, Changed, Record, entries_after, entries_of, entry_of, freshness_added, freshness_of, joined, last_told, record_step, with_cursors}
-use Rattle.rl_line.specs.declared.change.Freshness.{Freshness}
-use Rattle.rl_line.specs.declared.change.Freshness.TheVariants.{Stale}
-use Rattle.rl_line.specs.Change.{TakesIn}
-use Rattle.rl_line.specs.Entries.{JoinsLast}
+use Rattle.rl_base.specs.Event.{apply}
+use Rattle.rl_line.specs.Record.{entries_of, record_step}
 use Rattle.rl_line.proofs.Records.LastLemmas.{IsApart, after-cases, ends_in, last_told-past}
 
 -- the entry that stands last among the first n of a list, and the list with another in its place

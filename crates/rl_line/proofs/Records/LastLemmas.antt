@@ -1,13 +1,6 @@
 -- The last entry of a list: what an event, the end of a group and cursors that are told make of it. All before it stays.
-use Rattle.std.proofs.lemmas.Grind.{take_at_read}
-use Rattle.std.proofs.lemmas.List.{map-append, reverse-append}
-use Rattle.std.proofs.Common.{zero, reverse, suc, ◌+◌, ◌<◌, length, map, take, drop, get_or, drop-cons, add-one, ◌≡◌, ℕ, ◌⊎◌, inl, inr, false, List, [], ◌∷◌, ◌++◌, append-nil, append_assoc, Option, Some, None, refl, sym, ap, subst, ◌∙◌}
-use Rattle.std.specs.Option.{option_map_or}
-use Rattle.rl_base.specs.Event.{Event}
-use Rattle.rl_line.specs.declared.change.Freshness.{Freshness}
+use Rattle.rl_line.proofs.Common.{take_at_read, map-append, reverse-append, zero, reverse, suc, ◌+◌, ◌<◌, length, map, take, drop, get_or, drop-cons, add-one, ◌≡◌, ℕ, ◌⊎◌, inl, inr, false, List, [], ◌∷◌, ◌++◌, append-nil, append_assoc, Option, Some, None, refl, sym, ap, subst, ◌∙◌, option_map_or, Event, Freshness, Entry, Begin, End, cursors_of, entries_after, entries_of, entries_told, freshness_added, freshness_joined, freshness_of, joined, last_told, end_one, end_times, ends_in_begin}
 use Rattle.rl_line.specs.declared.change.Freshness.TheVariants as is
-use Rattle.rl_line.specs.Record.{Entry, Begin, End, cursors_of, entries_after, entries_of, entries_told, freshness_added, freshness_joined, freshness_of, joined, last_told}
-use Rattle.rl_line.specs.Units.{end_one, end_times, ends_in_begin}
 
 -- what holds of no elements, and of any that end with one, holds of all lists
 pub by_last : {A : Type 0} (P : List A → Type 0) → P [] → ((front : List A) (x : A) → P (front ++ x ∷ [])) → (xs : List A) → P xs

@@ -1,17 +1,5 @@
 -- What a question about a record answers, once it was found on a copy of the text whether a line can go over the entries.
-use Rattle.std.proofs.Common.{◌≡◌, ℕ, ◌+◌, ◌<◌, Bool, true, List, [], ◌∷◌, get_or, length, map, refl, sym, ap, subst, arith, ◌∙◌}
-use Rattle.std.proofs.lemmas.List.{length-map}
-use Rattle.std.specs.Prelude.{IfErr, IfOk, IsSome, Result, Ok, Err, is_some}
-use Rattle.rl_base.specs.declared.listeners.Refusal.{Refusal}
-use Rattle.rl_base.specs.declared.listeners.Refusal.TheVariants.{NoMemory}
-use Rattle.rl_line.specs.declared.change.Change.{Change}
-use Rattle.rl_line.specs.declared.change.Way.{Way}
-use Rattle.rl_line.specs.declared.change.Way.TheVariants.{Ahead, Back}
-use Rattle.rl_line.specs.Change.{entries_to_undo, entry_to_undo}
-use Rattle.rl_line.specs.Line.{Line}
-use Rattle.rl_line.specs.Record.{Entry, bytes_ahead, bytes_back, entry_of}
-use Rattle.rl_line.specs.Undo.{TriesAhead, TriesBack, line_ahead, line_back}
-use Rattle.rl_line.specs.Units.{has_change, last_of, redo_of}
+use Rattle.rl_line.proofs.Common.{◌≡◌, ℕ, ◌+◌, ◌<◌, Bool, true, List, [], ◌∷◌, get_or, length, map, refl, sym, ap, subst, arith, ◌∙◌, length-map, IfErr, IfOk, IsSome, Result, Ok, Err, is_some, Refusal, NoMemory, Change, Way, Ahead, Back, entries_to_undo, entry_to_undo, Line, Entry, bytes_ahead, bytes_back, entry_of, TriesAhead, TriesBack, line_ahead, line_back, has_change, last_of, redo_of}
 use Rattle.rl_line.proofs.Records.ChangeLemmas.{ahead-inverse}
 use Rattle.rl_line.proofs.Records.MoveLemmas.{ahead-line, redo-fits, undo-fits}
 use Rattle.rl_line.proofs.Records.RoomLemmas.{bytes_ahead-back}

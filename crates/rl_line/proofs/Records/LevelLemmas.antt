@@ -1,12 +1,6 @@
 -- The level: how many groups are open after each call, counted over the entries that it moves or drops alone.
-use Rattle.std.proofs.Common.{◌≡◌, ℕ, ◌+◌, ◌-◌, ◌<◌, ◌≤◌, suc, arith, Bool, true, false, List, [], ◌∷◌, ◌++◌, length, take, drop, get_or, map, Some, sym, ap, subst, ◌∙◌, inl, inr, length-take}
-use Rattle.std.proofs.lemmas.List.{length-map, map-append, take-append-drop}
-use Rattle.std.specs.Prelude.{max}
-use Rattle.rl_base.specs.Event.{Event}
-use Rattle.rl_line.specs.declared.change.Change.{Change}
-use Rattle.rl_line.specs.Record.{Entry, Begin, End, Changed, Record, entries_after, entries_of, entry_of, joined, record_step, recorded_after}
-use Rattle.rl_line.specs.Units.{AtLevel, IsMatched, begun, is_change, kept_of, last_of, level, mark, marks, opens, redo_of, redone, touched, truncated, undone, units, with_closed}
-use Rattle.rl_line.specs.Entries.{deep}
+use Rattle.rl_line.proofs.Common.{◌≡◌, ℕ, ◌+◌, ◌-◌, ◌<◌, ◌≤◌, suc, arith, Bool, true, false, List, [], ◌∷◌, ◌++◌, length, take, drop, get_or, map, Some, sym, ap, subst, ◌∙◌, inl, inr, length-take, length-map, map-append, take-append-drop, max, Event, Change, Entry, Begin, End, Changed, Record, entries_after, entries_of, entry_of, joined, recorded_after, AtLevel, IsMatched, begun, is_change, kept_of, last_of, level, mark, marks, opens, redo_of, redone, touched, truncated, undone, units, with_closed, deep}
+use Rattle.rl_line.specs.Record.{record_step}
 use Rattle.rl_line.proofs.Records.CountLemmas.{level-counted}
 use Rattle.rl_line.proofs.Records.EntryLemmas.{deep-append}
 use Rattle.rl_line.proofs.Records.LastLemmas.{after-cases, read-last}

@@ -1,13 +1,6 @@
 -- The record after a begin, an end, a redo and a truncation leads back to the same text.
-use Rattle.std.proofs.Common.{◌≡◌, ℕ, Bool, true, List, [], ◌∷◌, take, Option, Some, None, refl, sym, ap, ◌∙◌}
-use Rattle.std.specs.Cmp.Lexicographic.{same_text}
-use Rattle.std.specs.Prelude.{option_and_then}
-use Rattle.std.specs.Str.{IsUtf8}
+use Rattle.rl_line.proofs.Common.{◌≡◌, ℕ, Bool, true, List, [], ◌∷◌, take, Option, Some, None, refl, sym, ap, ◌∙◌, same_text, option_and_then, IsUtf8, Line, Entry, Begin, Record, event_of, inverse, agree, replays_to, unwind, Redone, begun, end_one, redo_of, truncated, with_closed}
 use Rattle.rl_base.specs.Event.{apply}
-use Rattle.rl_line.specs.Line.{Line}
-use Rattle.rl_line.specs.Record.{Entry, Begin, Record, event_of, inverse, agree, replays_to, unwind}
-use Rattle.rl_line.specs.Undo.{Redone}
-use Rattle.rl_line.specs.Units.{begun, end_one, redo_of, truncated, with_closed}
 use Rattle.rl_line.proofs.Records.LastLemmas.{end_times-keeps}
 use Rattle.rl_line.proofs.Records.OriginLemmas.{Kept}
 use Rattle.rl_line.proofs.Records.RecordLemmas.{replay-IsUtf8, unwind-append, unwind-replay}

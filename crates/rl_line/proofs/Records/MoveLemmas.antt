@@ -1,28 +1,12 @@
 -- The record that the code's list of entries stands for, and what an event, an undo and a redo make of it.
-use Rattle.std.proofs.Common.{◌≡◌, ℕ, zero, suc, ◌+◌, ◌-◌, ◌≤◌, min, arith, take_all, List, [], ◌∷◌, ◌++◌, append_assoc, length, length-append, take, drop, take_at, drop_at, map, reverse, false, refl, sym, ap, subst, ◌∙◌}
-use Rattle.std.proofs.lemmas.List.Elements.{All-drop, All-map, All-take}
-use Rattle.std.proofs.lemmas.List.{drop-map, drop_all, length-map, length-take-le, take-map, take-append-drop, take_min, take_rest}
-use Rattle.std.specs.Prelude.{All, IsSome, get_or}
-use Rattle.std.specs.Str.{IsCharBoundary}
-use Rattle.rl_base.specs.Event.{Event, InsertChar, InsertStr, Delete, Replace, Cursors}
-use Rattle.rl_line.specs.declared.change.Change.{Change}
+use Rattle.rl_line.proofs.Common.{◌≡◌, ℕ, zero, suc, ◌+◌, ◌-◌, ◌≤◌, min, arith, take_all, List, [], ◌∷◌, ◌++◌, append_assoc, length, length-append, take, drop, take_at, drop_at, map, reverse, false, refl, sym, ap, subst, ◌∙◌, All-drop, All-map, All-take, drop-map, drop_all, length-map, length-take-le, take-map, take-append-drop, take_min, take_rest, All, IsSome, get_or, IsCharBoundary, Event, InsertChar, InsertStr, Delete, Replace, Cursors, Change, Ahead, Back, Way, Line, Entry, IsOfKind, Record, entries_after, entry_of, inverse, entries_told, freshness_of, line_ahead, line_back, AtLevel, IsMatched, has_change, kept_of, last_of, redo_of, redone, undone, entries_to_undo, entry_to_undo, order, IsCutAt, cut_at, Stale, Freshness, Direction}
 use Rattle.rl_line.specs.declared.change.Change.TheVariants as made
-use Rattle.rl_line.specs.declared.change.Way.TheVariants.{Ahead, Back}
-use Rattle.rl_line.specs.declared.change.Way.{Way}
-use Rattle.rl_line.specs.Line.{Line}
-use Rattle.rl_line.specs.Record.{Entry, IsOfKind, Record, entries_after, entry_of, inverse, record_step, entries_told, freshness_of}
-use Rattle.rl_line.specs.Undo.{line_ahead, line_back}
-use Rattle.rl_line.specs.Units.{AtLevel, IsMatched, has_change, kept_of, last_of, redo_of, redone, undone}
-use Rattle.rl_line.specs.Change.{entries_to_undo, entry_to_undo, order}
-use Rattle.rl_line.specs.Entries.{IsCutAt, cut_at}
+use Rattle.rl_line.specs.Record.{record_step}
 use Rattle.rl_line.proofs.Records.ChangeLemmas.{ahead-inverse}
 use Rattle.rl_line.proofs.Records.MatchLemmas.{Redoes-of, redo-front}
 use Rattle.rl_line.proofs.Records.RecordLemmas.{IsSome-through}
 use Rattle.rl_line.proofs.Records.UndoLemmas.{line_ahead-append, line_ahead-back, line_back-append, marks-ahead, marks-back}
 use Rattle.rl_line.proofs.Records.UnitLemmas.{kept-last}
-use Rattle.rl_line.specs.declared.change.Freshness.TheVariants.{Stale}
-use Rattle.rl_line.specs.declared.change.Freshness.{Freshness}
-use Rattle.rl_base.specs.declared.listeners.Direction.{Direction}
 
 abbrev lists : List Entry → List Entry → Freshness → Record
 lists recorded pending fresh = record { recorded = recorded; pending = pending; fresh = fresh }

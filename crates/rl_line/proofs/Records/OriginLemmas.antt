@@ -1,14 +1,6 @@
 -- The record of a line leads back to the same text, whatever was done.
-use Rattle.std.proofs.Common.{◌≡◌, ℕ, Bool, List, [], ◌∷◌, Option, Some, sym, ap, subst, ◌∙◌}
-use Rattle.std.specs.Prelude.{option_and_then}
-use Rattle.std.specs.Str.{IsUtf8}
-use Rattle.rl_base.specs.Event.{Cursors}
+use Rattle.rl_line.proofs.Common.{◌≡◌, ℕ, Bool, List, [], ◌∷◌, Option, Some, sym, ap, subst, ◌∙◌, option_and_then, IsUtf8, Cursors, Line, stepped, Step, after, listener_after, listener_after_step, Taken, Record, record_step, unwind, Undone, kept_of, last_of}
 use Rattle.rl_base.proofs.Texts.SwapLemmas.{apply-IsUtf8}
-use Rattle.rl_line.specs.Line.{Line, stepped}
-use Rattle.rl_line.specs.Plan.{Step, after, listener_after, listener_after_step, Taken}
-use Rattle.rl_line.specs.Record.{Record, record_step, unwind}
-use Rattle.rl_line.specs.Undo.{Undone}
-use Rattle.rl_line.specs.Units.{kept_of, last_of}
 use Rattle.rl_line.proofs.Records.ToldLemmas.{apply-Cursors}
 use Rattle.rl_line.proofs.Plans.PlanLemmas.{first_step}
 use Rattle.rl_line.proofs.Records.RecordLemmas.{record_step-unwind, unwind-append, unwind-IsUtf8}

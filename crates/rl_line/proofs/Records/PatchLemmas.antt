@@ -1,13 +1,5 @@
 -- Where the characters begin in a text in which a part gave way to another.
-use Rattle.std.proofs.Common.{◌≡◌, ℕ, ◌+◌, ◌-◌, ◌<◌, ◌≤◌, ◌⊎◌, inl, inr, Bool, true, false, List, ◌++◌, length, length-append, append_assoc, take, drop, slice_range, refl, sym, ap, subst, ◌∙◌, arith}
-use Rattle.std.proofs.Math.Nat.{eq-or-lt_of_le}
-use Rattle.std.proofs.lemmas.Bool.Decides.{nat_tests}
-use Rattle.std.proofs.Math.Seq.{drop-append-add, take-add, take-append-add}
-use Rattle.std.proofs.lemmas.List.{drop-append-le, get_or-append_right, get_or_append_left, length-drop, length-take, length-take-le, take-append-drop, take-append-le}
-use Rattle.std.proofs.lemmas.List.Folds.{drop_split}
-use Rattle.std.proofs.lemmas.Str.{IsCharBoundary-at_seam, IsCharBoundary-end, IsUtf8-append, IsUtf8-drop}
-use Rattle.std.specs.List.{replace_range}
-use Rattle.std.specs.Str.{IsCharBoundary, IsUtf8}
+use Rattle.rl_line.proofs.Common.{◌≡◌, ℕ, ◌+◌, ◌-◌, ◌<◌, ◌≤◌, ◌⊎◌, inl, inr, Bool, true, false, List, ◌++◌, length, length-append, append_assoc, take, drop, slice_range, refl, sym, ap, subst, ◌∙◌, arith, eq-or-lt_of_le, nat_tests, drop-append-add, take-add, take-append-add, drop-append-le, get_or-append_right, get_or_append_left, length-drop, length-take, length-take-le, take-append-drop, take-append-le, drop_split, IsCharBoundary-at_seam, IsCharBoundary-end, IsUtf8-append, IsUtf8-drop, replace_range, IsCharBoundary, IsUtf8}
 use Rattle.rl_base.specs.Text.{is_boundary, stands_at}
 use Rattle.rl_base.proofs.Texts.TextLemmas.{is_boundary-means, is_boundary-true}
 

@@ -1,15 +1,9 @@
 -- The entries of a record lead from text to text and back.
-use Rattle.std.proofs.Common.{◌≡◌, ℕ, Bool, true, false, List, [], ◌∷◌, ◌++◌, length, Option, Some, None, refl, sym, ap, subst, ◌∙◌, ◌+◌, ◌⊎◌, inl, inr}
-use Rattle.std.proofs.lemmas.Bool.{eqb-true}
-use Rattle.std.proofs.lemmas.List.{map-append}
-use Rattle.std.specs.Prelude.{option_and_then, encode_utf8, IsSome, ◌==◌, ◌&&◌, cond, not}
-use Rattle.std.specs.Str.{IsUtf8}
+use Rattle.rl_line.proofs.Common.{◌≡◌, ℕ, Bool, true, false, List, [], ◌∷◌, ◌++◌, length, Option, Some, None, refl, sym, ap, subst, ◌∙◌, ◌+◌, ◌⊎◌, inl, inr, eqb-true, map-append, option_and_then, encode_utf8, IsSome, ◌==◌, ◌&&◌, cond, not, IsUtf8, Direction, Event, InsertChar, InsertStr, Delete, Replace, replay, is_alphanumeric, is_word_cluster, Kind, Insertion, Deletion, Replacement, Swap, Entry, Changed, Record, entries_after, joined, event_of, inverse, replay_entries, unwind, swapped, followed, opposite, past, untold, events_ahead}
 use Rattle.rl_base.proofs.Texts.TextLemmas.{and_right}
-use Rattle.rl_base.specs.declared.listeners.Direction.{Direction}
-use Rattle.rl_base.specs.Event.{Event, InsertChar, InsertStr, Delete, Replace, apply, replay}
+use Rattle.rl_base.specs.Event.{apply}
 use Rattle.rl_base.proofs.Texts.SwapLemmas.{Swaps, Swaps-back, Swaps-nothing, Swaps-after, Swaps-before, Swaps-InsertStr, Swaps-InsertChar, Swaps-Delete, Swaps-Replace, apply-Replace-Swaps, apply-IsUtf8}
-use Rattle.rl_base.specs.Classes.{is_alphanumeric, is_word_cluster}
-use Rattle.rl_line.specs.Record.{Kind, Insertion, Deletion, Replacement, Swap, Entry, Changed, Record, entries_after, entries_of, joined, record_step, event_of, inverse, replay_entries, unwind, swapped, followed, opposite, past, untold, events_ahead}
+use Rattle.rl_line.specs.Record.{entries_of, record_step}
 use Rattle.rl_line.proofs.Records.LastLemmas.{after-cases}
 use Rattle.rl_line.proofs.Records.ToldLemmas.{recorded-cases, last_told-unwind}
 

@@ -1,18 +1,10 @@
 -- As many redos as an undo took units give back the record and the text.
-use Rattle.std.proofs.Common.{◌≡◌, ℕ, suc, Bool, List, [], ◌∷◌, ◌++◌, length, drop, reverse, Some, refl, sym, ap, subst, ◌∙◌, arith, append-nil, append_assoc, drop_at}
-use Rattle.std.proofs.lemmas.List.{reverse-append, reverse-reverse, length-reverse}
-use Rattle.std.specs.Prelude.{option_and_then, zero, max}
-use Rattle.std.specs.Str.{IsUtf8}
-use Rattle.rl_line.specs.Line.{Line}
-use Rattle.rl_line.specs.Record.{Entry, Record, replay_entries}
-use Rattle.rl_line.specs.Units.{UndoUnit, Open, Whole, units, together, opens, last_of, kept_of, last_units, redo_from, redo_of, undone, redone, marks, IsMatched, BothMatched}
-use Rattle.rl_line.specs.Undo.{line_ahead, Undone, Redos}
+use Rattle.rl_line.proofs.Common.{◌≡◌, ℕ, suc, Bool, List, [], ◌∷◌, ◌++◌, length, drop, reverse, Some, refl, sym, ap, subst, ◌∙◌, arith, append-nil, append_assoc, drop_at, reverse-append, reverse-reverse, length-reverse, option_and_then, zero, max, IsUtf8, Line, Entry, Record, replay_entries, UndoUnit, Open, Whole, units, together, opens, last_of, kept_of, last_units, redo_from, redo_of, undone, redone, marks, IsMatched, BothMatched, line_ahead, Undone, Redos, Stale}
 use Rattle.rl_line.proofs.Records.RecordLemmas.{replay-append, replay-unwind}
 use Rattle.rl_line.proofs.Records.UndoLemmas.{line_ahead-replay, line_back-unwind}
 use Rattle.rl_line.proofs.Records.UnitLemmas.{AllGood, Settles, kept-last, opens-reverse, units-good, units-append, IsMatched-append, on, together-reverse, AllGood-reverse}
 use Rattle.rl_base.proofs.Texts.SwapLemmas.{some_is}
 use Rattle.rl_line.proofs.Records.MatchLemmas.{AllGood-take}
-use Rattle.rl_line.specs.declared.change.Freshness.TheVariants.{Stale}
 
 IsMatched-on : (vs : List UndoUnit) → AllGood vs → opens vs ≡ 0 → IsMatched (on vs)
 IsMatched-on [] g o = refl

@@ -1,23 +1,7 @@
 -- Going over a record needs room only where a text on the way needs more than the first.
-use Rattle.std.proofs.Common.{◌≡◌, ℕ, ◌+◌, ◌-◌, ◌^◌, ◌<◌, ◌≤◌, Bool, true, false, zero, suc, max, List, [], ◌∷◌, ◌++◌, length, length-append, count_by, map, drop, take, reverse, Option, Some, None, ◌⊎◌, inl, inr, refl, sym, ap, subst, ◌∙◌, arith}
-use Rattle.std.proofs.lemmas.Bool.Decides.{nat_tests}
-use Rattle.std.proofs.Math.ListN.{get_or-append}
-use Rattle.std.proofs.lemmas.List.{drop-map, map-append, reverse-append}
-use Rattle.std.proofs.lemmas.List.Quantifiers.{Any-push}
-use Rattle.std.proofs.lemmas.Simd.{map-map}
-use Rattle.std.specs.Prelude.{Any, IsSome, get_or, nat_lt, option_and_then}
-use Rattle.std.specs.Str.{IsUtf8}
+use Rattle.rl_line.proofs.Common.{◌≡◌, ℕ, ◌+◌, ◌-◌, ◌^◌, ◌<◌, ◌≤◌, Bool, true, false, zero, suc, max, List, [], ◌∷◌, ◌++◌, length, length-append, count_by, map, drop, take, reverse, Option, Some, None, ◌⊎◌, inl, inr, refl, sym, ap, subst, ◌∙◌, arith, nat_tests, get_or-append, drop-map, map-append, reverse-append, Any-push, map-map, Any, IsSome, get_or, nat_lt, option_and_then, IsUtf8, Event, replay, is_newline, Change, Measure, Bytes, Newlines, Way, entry_to_undo, greatest_back_over, size_back, size_back_over, size_of, Line, NeedsRoom, Entry, Changed, bytes_ahead, bytes_back, event_of, inverse, new_text, old_text, unwind, line_back, texts_after, texts_ahead, texts_back}
 use Rattle.rl_base.proofs.Texts.SwapLemmas.{Swaps, Swaps-Replace}
-use Rattle.rl_base.specs.Event.{Event, apply, replay}
-use Rattle.rl_base.specs.Lines.{is_newline}
-use Rattle.rl_line.specs.declared.change.Change.{Change}
-use Rattle.rl_line.specs.declared.change.Measure.{Measure}
-use Rattle.rl_line.specs.declared.change.Measure.TheVariants.{Bytes, Newlines}
-use Rattle.rl_line.specs.declared.change.Way.{Way}
-use Rattle.rl_line.specs.Change.{entry_to_undo, greatest_back_over, size_back, size_back_over, size_of}
-use Rattle.rl_line.specs.Line.{Line, NeedsRoom}
-use Rattle.rl_line.specs.Record.{Entry, Changed, bytes_ahead, bytes_back, event_of, inverse, new_text, old_text, unwind}
-use Rattle.rl_line.specs.Undo.{line_back, texts_after, texts_ahead, texts_back}
+use Rattle.rl_base.specs.Event.{apply}
 use Rattle.rl_line.proofs.Lines.LineStartLemmas.{newlines-append}
 use Rattle.rl_line.proofs.Records.RecordLemmas.{through, unwind-IsUtf8, value_of}
 use Rattle.rl_line.proofs.Records.TurnLemmas.{turned-cons, turned-turned}

@@ -1,12 +1,8 @@
 -- Entries of which the last is told its cursors: they change nothing but where a cursor goes.
-use Rattle.std.proofs.Common.{◌≡◌, ℕ, Bool, List, [], ◌∷◌, ◌++◌, Option, Some, None, refl, ap, subst}
-use Rattle.std.specs.Prelude.{option_and_then}
-use Rattle.rl_base.specs.Event.{Event, Cursors, apply}
-use Rattle.rl_line.specs.declared.change.Freshness.{Freshness}
+use Rattle.rl_line.proofs.Common.{◌≡◌, ℕ, Bool, List, [], ◌∷◌, ◌++◌, Option, Some, None, refl, ap, subst, option_and_then, Event, Cursors, Freshness, Entry, Begin, End, Changed, Record, entries_after, entries_told, event_of, inverse, last_told, recorded_after, unwind, with_cursors, mark, marks, deep}
+use Rattle.rl_base.specs.Event.{apply}
 use Rattle.rl_line.specs.declared.change.Freshness.TheVariants as is
-use Rattle.rl_line.specs.Record.{Entry, Begin, End, Changed, Record, entries_after, entries_of, entries_told, event_of, inverse, last_told, recorded_after, unwind, with_cursors}
-use Rattle.rl_line.specs.Units.{mark, marks}
-use Rattle.rl_line.specs.Entries.{deep}
+use Rattle.rl_line.specs.Record.{entries_of}
 use Rattle.rl_line.proofs.Records.LastLemmas.{last_told-past}
 
 pub apply-Cursors : (before after : ℕ) (text : List ℕ) → apply (Cursors before after) text ≡ Some text

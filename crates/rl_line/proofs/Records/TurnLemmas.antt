@@ -1,10 +1,5 @@
 -- Entries turned round, as a redo takes them: the inverses, the last first.
-use Rattle.std.proofs.Common.{◌≡◌, List, [], ◌∷◌, ◌++◌, map, reverse, refl, ap, ◌∙◌}
-use Rattle.std.proofs.Math.Bool.{or-false, or-true}
-use Rattle.std.proofs.lemmas.List.{map-append, reverse-append}
-use Rattle.std.specs.Prelude.{◌||◌}
-use Rattle.rl_line.specs.Record.{Entry, Changed, inverse}
-use Rattle.rl_line.specs.Units.{has_change}
+use Rattle.rl_line.proofs.Common.{◌≡◌, List, [], ◌∷◌, ◌++◌, map, reverse, refl, ap, ◌∙◌, or-false, or-true, map-append, reverse-append, ◌||◌, Entry, Changed, inverse, has_change}
 use Rattle.rl_line.proofs.Records.GroupLemmas.{has_change-append}
 use Rattle.rl_line.proofs.Records.RecordLemmas.{inverse-inverse}
 

@@ -1,24 +1,8 @@
 -- A line that goes over changes of its record, back or ahead.
-use Rattle.std.proofs.Common.{le_refl, ◌≡◌, ℕ, ◌+◌, ◌<◌, ◌≤◌, zero, suc, List, [], ◌∷◌, ◌++◌, length, take, drop, get_or, map, reverse, Option, Some, None, false, refl, sym, ap, subst, ◌∙◌, arith, append_assoc, true, length-append}
-use Rattle.std.proofs.lemmas.Slice.Eq.{bytes_eq-Decides}
-use Rattle.std.proofs.lemmas.List.{drop_all, take_all, map-append, reverse-append}
-use Rattle.std.proofs.lemmas.Str.{IsCharBoundary-at_seam}
-use Rattle.std.specs.Prelude.{option_and_then, IsSome, is_some, cond, unwrap_or}
-use Rattle.std.specs.Option.{option_map_or}
-use Rattle.std.proofs.lemmas.Option.{same_Some}
-use Rattle.std.specs.Str.{IsCharBoundary, IsUtf8}
+use Rattle.rl_line.proofs.Common.{le_refl, ◌≡◌, ℕ, ◌+◌, ◌<◌, ◌≤◌, zero, suc, List, [], ◌∷◌, ◌++◌, length, take, drop, get_or, map, reverse, Option, Some, None, false, refl, sym, ap, subst, ◌∙◌, arith, append_assoc, true, length-append, bytes_eq-Decides, drop_all, take_all, map-append, reverse-append, IsCharBoundary-at_seam, option_and_then, IsSome, is_some, cond, unwrap_or, option_map_or, same_Some, IsCharBoundary, IsUtf8, is_boundary, Change, Line, stepped, if_standing, Entry, Changed, agree, event_of, inverse, replay_entries, unwind, Way, has_change, cursor_after, cursor_told, place_after, line_after, line_ahead, line_back, cursor_stands, Measure, entry_to_undo, text_after, text_back, size_back_over, greatest_back_over}
 use Rattle.rl_base.proofs.Texts.SwapLemmas.{apply-IsUtf8, Swaps, Swaps-Replace}
 use Rattle.rl_base.specs.Event.{apply}
-use Rattle.rl_base.specs.Text.{is_boundary}
 use Rattle.rl_base.proofs.Texts.TextLemmas.{is_boundary-means, is_boundary-true}
-use Rattle.rl_line.specs.declared.change.Change.{Change}
-use Rattle.rl_line.specs.Line.{Line, stepped, if_standing}
-use Rattle.rl_line.specs.Record.{Entry, Changed, agree, event_of, inverse, replay_entries, unwind}
-use Rattle.rl_line.specs.declared.change.Way.{Way}
-use Rattle.rl_line.specs.Units.{has_change}
-use Rattle.rl_line.specs.Undo.{cursor_after, cursor_told, place_after, line_after, line_ahead, line_back, cursor_stands}
-use Rattle.rl_line.specs.declared.change.Measure.{Measure}
-use Rattle.rl_line.specs.Change.{entry_to_undo, text_after, text_back, size_back_over, greatest_back_over}
 use Rattle.rl_line.proofs.Plans.PlanLemmas.{Fits-from, after_step-is, standing, standing-is}
 use Rattle.rl_line.proofs.Records.LastLemmas.{read-first, read-last}
 use Rattle.rl_line.proofs.Records.TurnLemmas.{has_change-turned}

@@ -1,21 +1,9 @@
 -- Entries that lead from a text to another, with their cursors: what keeps that, and where a line goes over them.
-use Rattle.std.proofs.Common.{◌≡◌, ℕ, ◌⊎◌, inl, inr, Bool, true, List, [], ◌∷◌, ◌++◌, length, take, drop, take-append-drop, Option, Some, None, refl, sym, ap, subst, ◌∙◌}
-use Rattle.std.proofs.lemmas.Option.{same_Some}
-use Rattle.std.specs.Option.{option_map_or}
-use Rattle.std.specs.Prelude.{cond, IsSome, option_and_then}
-use Rattle.std.specs.Str.{IsCharBoundary, IsUtf8}
-use Rattle.rl_base.specs.declared.listeners.Refusal.{Refusal}
-use Rattle.rl_base.specs.Event.{Event, Cursors, apply}
-use Rattle.rl_base.specs.Text.{is_boundary}
+use Rattle.rl_line.proofs.Common.{◌≡◌, ℕ, ◌⊎◌, inl, inr, Bool, true, List, [], ◌∷◌, ◌++◌, length, take, drop, take-append-drop, Option, Some, None, refl, sym, ap, subst, ◌∙◌, same_Some, option_map_or, cond, IsSome, option_and_then, IsCharBoundary, IsUtf8, Refusal, Event, Cursors, is_boundary, text_after, text_back, Line, stepped, Step, Plan, after, listener_after, listener_after_step, Taken, Done, Halted, Kind, Swap, Entry, Begin, End, Changed, Record, cursors_of, entries_after, entries_of, entries_told, event_of, freshness_added, freshness_joined, freshness_of, inverse, joined, replay_entries, replays_to, unwind, with_cursors, cursor_after, cursor_told, line_ahead, line_back, Redone, Undone, cursor_stands, begun, end_one, kept_of, last_of, redo_of, truncated, with_closed, LeadsTo, Walk, Walks}
+use Rattle.rl_base.specs.Event.{apply}
 use Rattle.rl_base.proofs.Texts.SwapLemmas.{apply-IsUtf8}
 use Rattle.rl_base.proofs.Texts.TextLemmas.{is_boundary-means, is_boundary-true}
-use Rattle.rl_line.specs.Change.{text_after, text_back}
-use Rattle.rl_line.specs.Line.{Line, stepped}
-use Rattle.rl_line.specs.Plan.{Step, Plan, after, listener_after, listener_after_step, Taken, Done, Halted}
-use Rattle.rl_line.specs.Record.{Kind, Swap, Entry, Begin, End, Changed, Record, cursors_of, entries_after, entries_of, entries_told, event_of, freshness_added, freshness_joined, freshness_of, inverse, joined, record_step, replay_entries, replays_to, unwind, with_cursors}
-use Rattle.rl_line.specs.Undo.{cursor_after, cursor_told, line_ahead, line_back, Redone, Undone, cursor_stands}
-use Rattle.rl_line.specs.Units.{begun, end_one, kept_of, last_of, redo_of, truncated, with_closed}
-use Rattle.rl_line.specs.Walk.{LeadsTo, Walk, Walks}
+use Rattle.rl_line.specs.Record.{record_step}
 use Rattle.rl_line.proofs.Records.JoinLemmas.{step-cases}
 use Rattle.rl_line.proofs.Records.LastLemmas.{after-cases, end_times-keeps, told-added, told-past}
 use Rattle.rl_line.proofs.Records.MarkLemmas.{unwind-truncated}

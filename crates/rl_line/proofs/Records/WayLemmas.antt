@@ -1,17 +1,7 @@
 -- A line has a way over entries exactly where its text has one, and each cursor that was told stands on the way.
-use Rattle.std.proofs.Common.{◌≡◌, ℕ, true, List, [], ◌∷◌, ◌++◌, Option, Some, None, refl, sym, ap, subst, ◌∙◌}
-use Rattle.std.proofs.lemmas.Option.{same_Some}
-use Rattle.std.specs.Prelude.{◌↔◌, IsSome, option_and_then, unwrap_or}
-use Rattle.std.specs.Option.{option_map_or}
-use Rattle.std.specs.Str.{IsCharBoundary, IsUtf8}
+use Rattle.rl_line.proofs.Common.{◌≡◌, ℕ, true, List, [], ◌∷◌, ◌++◌, Option, Some, None, refl, sym, ap, subst, ◌∙◌, same_Some, ◌↔◌, IsSome, option_and_then, unwrap_or, option_map_or, IsCharBoundary, IsUtf8, apply, is_boundary, text_after, text_back, Line, stepped, Entry, event_of, inverse, replay_entries, unwind, StandAfter, StandBefore, cursor_after, cursor_told, line_after, line_ahead, line_back, place_after, cursor_stands}
 use Rattle.rl_base.proofs.Texts.SwapLemmas.{apply-IsUtf8}
 use Rattle.rl_base.proofs.Texts.TextLemmas.{is_boundary-true}
-use Rattle.rl_base.specs.Event.{apply}
-use Rattle.rl_base.specs.Text.{is_boundary}
-use Rattle.rl_line.specs.Change.{text_after, text_back}
-use Rattle.rl_line.specs.Line.{Line, stepped}
-use Rattle.rl_line.specs.Record.{Entry, event_of, inverse, replay_entries, unwind}
-use Rattle.rl_line.specs.Undo.{StandAfter, StandBefore, cursor_after, cursor_told, line_after, line_ahead, line_back, place_after, cursor_stands}
 use Rattle.rl_line.proofs.Plans.PlanLemmas.{Fits-from}
 use Rattle.rl_line.proofs.Records.RecordLemmas.{IsSome-through, replay-append, then_some, through, value_of}
 use Rattle.rl_line.proofs.Records.UndoLemmas.{line_after-is, line_ahead-append, line_ahead-replay, line_back-append, line_back-IsSome, line_back-unwind}

@@ -8,9 +8,9 @@ ghost use Rattle.rl_line.specs.Undo.{cursor_after, steps_ahead, steps_back};
 ghost use Rattle.rl_line.specs.Units.{last_of, redo_of};
 
 use crate::change::{Change, Way, nth_on};
+use crate::changeset::Changeset;
 use crate::entries;
 use crate::line_buffer::LineBuffer;
-use crate::changeset::Changeset;
 use rl_base::{ChangeListener, Refusal, RepeatCount};
 
 impl Changeset {

@@ -1,18 +1,10 @@
 -- An edit that adds one entry: its cursors are where the cursor was before the edit, and where its last step left it.
-use Rattle.std.proofs.Common.{◌≡◌, ℕ, ◌+◌, ◌<◌, ◌≤◌, ◌⊎◌, inl, inr, List, [], ◌∷◌, ◌++◌, length, length-append, append-nil, Option, Some, None, refl, sym, ap, subst, ◌∙◌, arith}
-use Rattle.std.proofs.lemmas.Option.{same_Some}
-use Rattle.std.proofs.lemmas.Str.{length-encode, len_utf8_bounds}
-use Rattle.std.specs.Option.{option_map_or}
-use Rattle.std.specs.Prelude.{encode_utf8}
-use Rattle.std.specs.Str.{IsUtf8}
-use Rattle.rl_base.specs.declared.listeners.Direction.{Direction}
-use Rattle.rl_base.specs.Event.{Event, InsertChar, InsertStr, Delete, Replace, Start, Stop, Cursors, apply}
+use Rattle.rl_session.proofs.Common.{◌≡◌, ℕ, ◌+◌, ◌<◌, ◌≤◌, ◌⊎◌, inl, inr, List, [], ◌∷◌, ◌++◌, length, length-append, append-nil, Option, Some, None, refl, sym, ap, subst, ◌∙◌, arith, same_Some, length-encode, len_utf8_bounds, option_map_or, encode_utf8, IsUtf8, Direction, Event, InsertChar, InsertStr, Replace, Start, Stop, Cursors, apply, Freshness, Line, stepped, listener_after, listener_after_step, Insertion, Deletion, Replacement, Swap, Entry, Begin, End, Changed, Record, cursors_of, entries_after, entries_of, entries_told, event_of, freshness_added, freshness_joined, freshness_of, last_told, unwind, with_cursors}
+use Rattle.rl_base.specs.Event.{Delete}
 use Rattle.rl_base.proofs.Texts.SwapLemmas.{apply-IsUtf8}
-use Rattle.rl_line.specs.declared.change.Freshness.{Freshness}
 use Rattle.rl_line.specs.declared.change.Freshness.TheVariants as is
-use Rattle.rl_line.specs.Line.{Line, stepped}
-use Rattle.rl_line.specs.Plan.{Step, after, listener_after, listener_after_step}
-use Rattle.rl_line.specs.Record.{Insertion, Deletion, Replacement, Swap, Entry, Begin, End, Changed, Record, cursors_of, entries_after, entries_of, entries_told, event_of, freshness_added, freshness_joined, freshness_of, joined, last_told, record_step, unwind, with_cursors}
+use Rattle.rl_line.specs.Plan.{Step, after}
+use Rattle.rl_line.specs.Record.{joined, record_step}
 use Rattle.rl_line.proofs.Records.JoinLemmas.{fresh-Delete-nothing}
 use Rattle.rl_line.proofs.Plans.PlanLemmas.{first_step}
 use Rattle.rl_line.proofs.Records.RecordLemmas.{char-joined, deletion-joined, entries_of-undo, joins, none_or_one, redone-joined, replacement-joined, undoes-inverse}

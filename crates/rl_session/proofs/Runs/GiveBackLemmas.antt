@@ -1,27 +1,12 @@
 -- An undo right after an edit that added one entry gives back text and cursor from before the edit, and a redo those from after it.
-use Rattle.std.proofs.Common.{◌≡◌, ℕ, true, List, [], ◌∷◌, ◌++◌, Some, refl, sym, ap, subst, ◌∙◌, arith}
-use Rattle.std.proofs.lemmas.Option.{same_Some}
-use Rattle.std.specs.Option.{option_map}
-use Rattle.std.specs.Prelude.{unwrap_or}
-use Rattle.std.specs.Str.{IsCharBoundary, IsUtf8}
-use Rattle.rl_base.specs.Event.{apply}
-use Rattle.rl_line.specs.Line.{Line}
-use Rattle.rl_line.specs.Record.{Entry, Changed, Record, cursors_of, event_of, inverse}
-use Rattle.rl_line.specs.Undo.{cursor_after, cursor_told, line_after, line_ahead, line_back, place_after, Redone, Undone}
-use Rattle.rl_line.specs.Units.{is_change, last_of, redo_of}
+use Rattle.rl_session.proofs.Common.{◌≡◌, ℕ, true, List, [], ◌∷◌, ◌++◌, Some, refl, sym, ap, subst, ◌∙◌, arith, same_Some, option_map, unwrap_or, IsCharBoundary, IsUtf8, apply, Line, Entry, Changed, Record, cursors_of, event_of, inverse, cursor_after, cursor_told, line_after, line_ahead, line_back, place_after, Redone, Undone, is_change, last_of, redo_of, asked, readied, Command, Reply, IsEdit, WasRefused, Leads, Row, Run, Stands, State}
 use Rattle.rl_line.proofs.Plans.PlanLemmas.{Fits-from}
 use Rattle.rl_line.proofs.Records.RecordLemmas.{inverse-undoes, then_some}
 use Rattle.rl_line.proofs.Records.UnitLemmas.{last_of-change}
 use Rattle.rl_line.proofs.Records.WalkLemmas.{cursor_told-back}
 use Rattle.rl_session.proofs.Runs.HistoryLemmas.{redo-row, undo-row}
 use Rattle.rl_session.proofs.Runs.RowLemmas.{Leads-keeps, Leads-split}
-use Rattle.rl_session.specs.Commands.{asked, readied}
-use Rattle.rl_session.specs.declared.session.Command.{Command}
 use Rattle.rl_session.specs.declared.session.Command.TheVariants as asks
-use Rattle.rl_session.specs.declared.session.Reply.{Reply}
-use Rattle.rl_session.specs.History.{IsEdit, WasRefused}
-use Rattle.rl_session.specs.Run.{Leads, Row, Run}
-use Rattle.rl_session.specs.State.{Stands, State}
 use Rattle.rl_session.proofs.Sessions.CommandLemmas.{Adds, asked-adds, by_course, asks-quietly}
 
 -- an edit of a session, in a row

@@ -1,25 +1,14 @@
 -- Rows of a session: what they make of its history, and what undos and redos among them do.
-use Rattle.std.proofs.Common.{◌≡◌, ℕ, Bool, suc, List, [], ◌∷◌, ◌++◌, length, min, arith, take, refl, sym, ap, subst, ◌∙◌, append-nil, append_assoc}
-use Rattle.std.specs.Str.{IsUtf8}
-use Rattle.rl_line.specs.Line.{Line}
-use Rattle.rl_line.specs.Plan.{Step as PlanStep, listener_after}
-use Rattle.rl_line.specs.Record.{Record, record_step, unwind}
-use Rattle.rl_line.specs.Undo.{Undone, Redone, Redos}
-use Rattle.rl_line.specs.Units.{begun, ended, ended_one, level, last_of, last_units, opens, redo_of, truncated, undone}
+use Rattle.rl_session.proofs.Common.{◌≡◌, ℕ, Bool, suc, List, [], ◌∷◌, ◌++◌, length, min, arith, take, refl, sym, ap, subst, ◌∙◌, append-nil, append_assoc, IsUtf8, Line, listener_after, Record, record_step, unwind, Undone, Redone, Redos, begun, ended, ended_one, level, last_of, last_units, opens, redo_of, truncated, undone, Effect, by_steps, puts_begin, puts_ends, puts_end, shortens, takes_back, puts_again, Became, effect, Does, readied, with_changes, AllRedone, History, Holds, WasHeld, WasRefused, Row, Leads, Run, held, held_by, held_of, steps_in, texts_of_steps, State, with_ring, reset, Append, Command, Undo, Redo, Reply}
+use Rattle.rl_line.specs.Plan.{Step as PlanStep}
 use Rattle.rl_line.proofs.Records.MarkLemmas.{agree-same}
 use Rattle.rl_line.proofs.Records.RecordLemmas.{replay-IsUtf8}
 use Rattle.rl_line.proofs.Records.RedoLemmas.{redos-give-back}
 use Rattle.rl_line.proofs.Records.UndoLemmas.{line_ahead-replay, line_back-unwind}
 use Rattle.rl_line.proofs.Records.UnitLemmas.{kept-last}
-use Rattle.rl_session.specs.Commands.{Effect, by_steps, puts_begin, puts_ends, puts_end, shortens, takes_back, puts_again, Became, effect, Step, Does, readied, with_changes, keeps}
-use Rattle.rl_session.specs.History.{AllRedone, History, Holds, WasHeld, WasRefused}
-use Rattle.rl_session.specs.Run.{Row, Leads, Run, held, held_by, held_of, steps_in, texts_of_steps}
-use Rattle.rl_session.specs.State.{Begins, State, with_ring}
-use Rattle.rl_base.specs.KillRing.{killed, reset}
-use Rattle.rl_base.specs.declared.kill_ring.Mode.TheVariants.{Append}
-use Rattle.rl_session.specs.declared.session.Command.{Command}
-use Rattle.rl_session.specs.declared.session.Command.TheVariants.{Undo, Redo}
-use Rattle.rl_session.specs.declared.session.Reply.{Reply}
+use Rattle.rl_session.specs.Commands.{Step, keeps}
+use Rattle.rl_session.specs.State.{Begins}
+use Rattle.rl_base.specs.KillRing.{killed}
 use Rattle.rl_session.specs.declared.session.Reply.TheVariants as says
 use Rattle.rl_session.proofs.Sessions.CourseLemmas.{Heard, Heard-Came}
 use Rattle.rl_session.proofs.Runs.RowLemmas.{Leads-split}

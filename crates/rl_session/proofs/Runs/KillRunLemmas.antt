@@ -1,44 +1,17 @@
 -- Directed kills of a session take one part of its text, which the newest slot holds, so that a yank gives it back.
-use Rattle.std.proofs.Common.{◌≡◌, ℕ, ◌+◌, ◌*◌, ◌<◌, ◌≤◌, ◌⊎◌, inl, inr, zero, suc, Bool, true, false, not, cond, List, [], ◌∷◌, ◌++◌, map, length, Option, Some, None, refl, sym, ap, subst, ◌∙◌, arith, rules, length-append, append-nil}
-use Rattle.std.proofs.Math.Bool.{and-false}
-use Rattle.std.proofs.lemmas.Bool.{cond_both, eqb-true, eqb-false, le-ltb}
-use Rattle.std.proofs.lemmas.List.{map-append, nil_from_length}
-use Rattle.std.proofs.lemmas.List.Edits.{length-between}
-use Rattle.std.proofs.lemmas.Option.{same_Some}
-use Rattle.std.specs.Prelude.{max, ◌==◌, slice_get, slice_set, slice_range, IfSome}
-use Rattle.std.specs.List.{repeat}
-use Rattle.std.specs.Str.{IsCharBoundary, IsUtf8}
-use Rattle.std.specs.declared.ops.Range.{Range}
-use Rattle.rl_base.specs.Event.{Event, InsertStr, Delete, Start, Stop, apply}
-use Rattle.rl_base.specs.KillRing.{Ring, IsRing, joined, next_index, put_at, join_at, in_new_slot, killed_as, killed, reset, yank, lent, yanked, yank_size, turned, popped_ring, side_mode, ring_step}
-use Rattle.rl_base.specs.declared.kill_ring.Action.{Action}
+use Rattle.rl_session.proofs.Common.{◌≡◌, ℕ, ◌+◌, ◌*◌, ◌<◌, ◌≤◌, ◌⊎◌, inl, inr, zero, suc, Bool, true, false, not, cond, List, [], ◌∷◌, ◌++◌, map, length, Option, Some, None, refl, sym, ap, subst, ◌∙◌, arith, rules, length-append, append-nil, and-false, cond_both, eqb-true, eqb-false, le-ltb, map-append, nil_from_length, length-between, same_Some, max, ◌==◌, slice_get, slice_set, slice_range, IfSome, repeat, IsCharBoundary, IsUtf8, Range, Event, InsertStr, Start, Stop, apply, Ring, IsRing, next_index, put_at, join_at, in_new_slot, killed_as, reset, yanked, yank_size, turned, popped_ring, side_mode, ring_step, Action, Append, Direction, Forward, Backward, Refusal, Movement, BackwardChar, ForwardChar, BeginningOfLine, EndOfLine, FirstNonBlank, BackwardWord, ForwardWord, ViCharSearch, BeginningOfBuffer, EndOfBuffer, Line, between, stepped, Plan, single, listener_after_step, Taken, Done, Halted, or_no_memory, too_long, yank_plan, Between, Told, removal, side_of, is_by_characters, text_in, unless_empty, pair_step, pair_refused, State, Stands, with_ring, Course, never, when, stays, goes, edits, lends, pops, tells, Came, Effect, by_steps, puts_ends, Became, effect, Edited, is_vain_yank, lent_plan, popped, readied, IsDirected, AllDirected, IsNoKill, AnyTook, NoneRefused, GivenBack, IsDirectedKill, AllKill, Row, Leads, Run, before_last, commands_of, replies_of, Pair, Command, Yank, Kill, KillRange, Reply}
+use Rattle.rl_base.specs.Event.{Delete}
+use Rattle.rl_base.specs.KillRing.{joined, killed, yank, lent}
 use Rattle.rl_base.specs.declared.kill_ring.Action.TheVariants as did
 use Rattle.rl_base.specs.declared.kill_ring.Mode.{Mode}
-use Rattle.rl_base.specs.declared.kill_ring.Mode.TheVariants.{Append}
-use Rattle.rl_base.specs.declared.listeners.Direction.{Direction}
-use Rattle.rl_base.specs.declared.listeners.Direction.TheVariants.{Forward, Backward}
-use Rattle.rl_base.specs.declared.listeners.Refusal.{Refusal}
-use Rattle.rl_base.specs.declared.motion.Movement.{Movement}
-use Rattle.rl_base.specs.declared.motion.Movement.TheVariants.{BackwardChar, ForwardChar, BeginningOfLine, EndOfLine, FirstNonBlank, BackwardWord, ForwardWord, ViCharSearch, BeginningOfBuffer, EndOfBuffer}
 use Rattle.rl_base.proofs.Ring.KillGroupLemmas.{lent-size, ring_step-size, killed_as-size}
 use Rattle.rl_base.proofs.Ring.RingLemmas.{next_index-is}
 use Rattle.rl_base.proofs.Texts.SwapLemmas.{Swaps, Swaps-back, Swaps-Delete, Swaps-after, Swaps-before, apply-InsertStr-Swaps}
-use Rattle.rl_line.specs.Line.{Line, between, stepped}
-use Rattle.rl_line.specs.Plan.{Step as PlanStep, Plan, nothing, single, listener_after as heard_steps, listener_after_step, Taken, Done, Halted, or_no_memory}
-use Rattle.rl_line.specs.Edits.{too_long, yank_plan}
-use Rattle.rl_line.specs.Deletions.{Between, Told, removal, side_of, is_by_characters}
-use Rattle.rl_line.specs.Ranges.{killed as killed_range, text_in, unless_empty}
+use Rattle.rl_line.specs.Plan.{Step as PlanStep, nothing, listener_after as heard_steps}
+use Rattle.rl_line.specs.Ranges.{killed as killed_range}
 use Rattle.rl_line.proofs.Plans.EditLemmas.{yank_plan-nothing, yank_plan-some}
 use Rattle.rl_line.proofs.Plans.SideLemmas.{LiesOn, BeginningOfLine-side, EndOfLine-side, FirstNonBlank-side, BackwardWord-side, ForwardWord-side, ViCharSearch-side, BeginningOfBuffer-side, EndOfBuffer-side}
-use Rattle.rl_session.specs.Pair.{pair_step, pair_refused}
-use Rattle.rl_session.specs.State.{State, Stands, with_ring}
-use Rattle.rl_session.specs.Commands.{Course, never, when, stays, goes, edits, stops, lends, pops, tells, Came, Effect, by_steps, puts_ends, Became, effect, Edited, Step, is_vain_yank, lent as lent_state, lent_plan, popped, readied, keeps}
-use Rattle.rl_session.specs.KillRuns.{IsDirected, AllDirected, IsNoKill, AnyTook, NoneRefused, GivenBack, IsDirectedKill, AllKill}
-use Rattle.rl_session.specs.Run.{Row, Leads, Run, before_last, commands_of, replies_of}
-use Rattle.rl_session.specs.declared.pair.Pair.{Pair}
-use Rattle.rl_session.specs.declared.session.Command.{Command}
-use Rattle.rl_session.specs.declared.session.Command.TheVariants.{Yank, Kill, KillRange}
-use Rattle.rl_session.specs.declared.session.Reply.{Reply}
+use Rattle.rl_session.specs.Commands.{stops, Step, lent as lent_state, keeps}
 use Rattle.rl_session.specs.declared.session.Reply.TheVariants as says
 use Rattle.rl_session.proofs.Sessions.PairLemmas.{Halted-own}
 use Rattle.rl_session.proofs.Runs.RowLemmas.{Leads-keeps}

@@ -1,20 +1,11 @@
 -- What rows report, applied to the text before them, gives the text after them.
-use Rattle.std.proofs.Common.{◌≡◌, ℕ, List, [], ◌∷◌, Option, Some, None, refl, sym, ap, ◌∙◌}
-use Rattle.std.specs.Prelude.{map, option_and_then, reverse}
-use Rattle.rl_base.specs.Event.{Event, Replace, apply, replay}
-use Rattle.rl_line.specs.Record.{Entry, Changed, events_ahead, inverse}
-use Rattle.rl_line.specs.Plan.{events_of}
-use Rattle.rl_line.specs.Undo.{cursor_after, steps_ahead}
-use Rattle.rl_line.specs.Units.{last_of, redo_of}
+use Rattle.rl_session.proofs.Common.{◌≡◌, ℕ, List, [], ◌∷◌, Option, Some, None, refl, sym, ap, ◌∙◌, map, option_and_then, reverse, Event, Replace, replay, Entry, Changed, events_ahead, inverse, events_of, cursor_after, steps_ahead, last_of, redo_of, Effect, by_steps, takes_back, puts_again, Became, effect, readied, Row, Leads, Run, reports, reports_of, steps_done, steps_in, State, Command, Reply}
+use Rattle.rl_base.specs.Event.{apply}
 use Rattle.rl_line.proofs.Plans.PlanLemmas.{after-replay}
 use Rattle.rl_line.proofs.Records.RecordLemmas.{events-append}
 use Rattle.rl_line.proofs.Records.HeardLemmas.{line_back-ahead}
 use Rattle.rl_line.proofs.Records.UndoLemmas.{line_ahead-replay}
-use Rattle.rl_session.specs.Commands.{Effect, by_steps, takes_back, puts_again, Became, effect, readied, keeps}
-use Rattle.rl_session.specs.Run.{Row, Leads, Run, reports, reports_of, steps_done, steps_in}
-use Rattle.rl_session.specs.State.{State}
-use Rattle.rl_session.specs.declared.session.Command.{Command}
-use Rattle.rl_session.specs.declared.session.Reply.{Reply}
+use Rattle.rl_session.specs.Commands.{keeps}
 use Rattle.rl_session.proofs.Sessions.CourseLemmas.{Heard-Came}
 
 then_same : (xs ys : List Event) (o : Option (List ℕ)) → ((t : List ℕ) → replay xs t ≡ replay ys t) → option_and_then (replay xs) o ≡ option_and_then (replay ys) o

@@ -1,26 +1,12 @@
 -- What each row of a session keeps, and how a run goes on.
-use Rattle.std.proofs.Common.{List, [], ◌∷◌, ◌++◌, ◌≡◌, ◌∙◌, ap, true, false, inl, inr, refl, subst, sym, append_assoc}
-use Rattle.std.proofs.lemmas.List.{map-append}
-use Rattle.std.specs.Prelude.{ℕ, IsSome, min}
-use Rattle.std.specs.Str.{IsUtf8}
+use Rattle.rl_session.proofs.Common.{List, [], ◌∷◌, ◌++◌, ◌≡◌, ◌∙◌, ap, true, false, inl, inr, refl, subst, sym, append_assoc, map-append, ℕ, IsSome, min, IsUtf8, unbounded, Entry, unwind, level, Command, Reply, State, Replays, origin, Start, Course, never, when, stays, goes, edits, lends, pops, tells, Came, popped, Effect, by_steps, puts_begin, puts_ends, puts_end, shortens, takes_back, puts_again, Became, effect, readied, within_bound, no_bound, pair_step, Bound, Row, held, held_of, Leads, Run, AfterEach, commands_of, replies_of, steps_in}
 use Rattle.rl_line.specs.Plan.{Step as PlanStep}
-use Rattle.rl_line.specs.Forgetting.{forgotten, unbounded}
-use Rattle.rl_line.specs.Record.{Entry, unwind}
-use Rattle.rl_line.specs.Units.{level}
+use Rattle.rl_line.specs.Forgetting.{forgotten}
 use Rattle.rl_line.proofs.Records.ForgettingLemmas.{fitting-stay}
 use Rattle.rl_line.proofs.Records.MarkLemmas.{Kept-begun, Kept-closed, Kept-Redone, Kept-truncated}
 use Rattle.rl_line.proofs.Records.OriginLemmas.{Kept, Kept-Taken, Kept-Undone}
 use Rattle.rl_line.proofs.Records.RecordLemmas.{unwind-replay, replay-unwind, replay-IsUtf8, value_of}
-use Rattle.rl_session.specs.declared.session.Command.{Command}
-use Rattle.rl_session.specs.declared.session.Reply.{Reply}
-use Rattle.rl_session.specs.State.{State, Replays, origin}
-use Rattle.rl_base.specs.Event.{Start}
-use Rattle.rl_session.specs.Commands.{Course, never, when, stays, goes, edits, stops, lends, pops, tells, Came, lent, popped, Effect, by_steps, puts_begin, puts_ends, puts_end, shortens, takes_back, puts_again, Became, effect, Step, readied, keeps}
-use Rattle.rl_session.specs.Forgetting.{within_bound}
-use Rattle.rl_session.specs.Options.{no_bound}
-use Rattle.rl_session.specs.Pair.{pair_step}
-use Rattle.rl_session.specs.declared.options.Bound.{Bound}
-use Rattle.rl_session.specs.Run.{Row, held, held_of, Leads, Run, AfterEach, commands_of, replies_of, steps_in}
+use Rattle.rl_session.specs.Commands.{stops, lent, Step, keeps}
 use Rattle.rl_session.proofs.Sessions.CourseLemmas.{Heard, Heard-Came}
 
 -- the record leads back to the same text

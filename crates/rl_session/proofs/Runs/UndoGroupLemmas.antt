@@ -1,30 +1,19 @@
 -- A group that was closed is one unit, whatever happened inside, so that one undo takes it off.
-use Rattle.std.proofs.Common.{◌≡◌, ◌<◌, ◌+◌, ℕ, inl, inr, zero, suc, true, List, [], ◌∷◌, ◌++◌, length, drop, Some, refl, sym, ap, subst, ◌∙◌, arith}
-use Rattle.std.proofs.Math.Bool.{or-false}
-use Rattle.std.specs.Prelude.{min}
-use Rattle.rl_line.specs.Plan.{Step, listener_after, listener_after_step}
-use Rattle.rl_line.specs.Record.{Begin, End, Entry, Record, record_step, replay_entries}
-use Rattle.rl_line.specs.Units.{IsMatched, begun, end_one, end_times, ended, ended_one, has_change, kept_of, last_of, level, opens, with_closed}
+use Rattle.rl_session.proofs.Common.{◌≡◌, ◌<◌, ◌+◌, ℕ, inl, inr, zero, suc, true, List, [], ◌∷◌, ◌++◌, length, drop, Some, refl, sym, ap, subst, ◌∙◌, arith, or-false, min, listener_after, listener_after_step, Begin, End, Entry, Record, record_step, replay_entries, IsMatched, begun, end_one, end_times, ended, ended_one, has_change, kept_of, last_of, level, opens, with_closed, Effect, by_steps, puts_begin, puts_end, Became, effect, Does, readied, with_changes, AllStandInGroup, ClosesGroup, Holds, MayStandInGroup, WasRefused, Leads, Row, Run, held, held_of, steps_in, State, with_ring, reset, Append, Command, Reply, Cursors}
+use Rattle.rl_line.specs.Plan.{Step}
 use Rattle.rl_line.proofs.Records.GroupLemmas.{has_change-append, Inside, InsideOf, Inside-event, Inside-begun, past_begin}
 use Rattle.rl_line.proofs.Records.LastLemmas.{end_one-begin, end_one-cases, end_one-past, end_times-keeps}
 use Rattle.rl_line.proofs.Records.EndLemmas.{closed_alone, closed_group, level-group}
 use Rattle.rl_line.proofs.Records.MatchLemmas.{Lower-end_one, Lower-end_times}
 use Rattle.rl_line.proofs.Records.UndoLemmas.{line_back-unwind}
-use Rattle.rl_session.specs.Commands.{Effect, by_steps, puts_begin, puts_end, Became, effect, Does, readied, with_changes, keeps}
-use Rattle.rl_session.specs.History.{AllStandInGroup, ClosesGroup, Holds, MayStandInGroup, WasRefused}
-use Rattle.rl_session.specs.Run.{Leads, Row, Run, held, held_of, steps_in}
-use Rattle.rl_session.specs.State.{State, with_ring}
-use Rattle.rl_base.specs.KillRing.{killed, reset}
-use Rattle.rl_base.specs.declared.kill_ring.Mode.TheVariants.{Append}
-use Rattle.rl_session.specs.declared.session.Command.{Command}
+use Rattle.rl_session.specs.Commands.{keeps}
+use Rattle.rl_base.specs.KillRing.{killed}
 use Rattle.rl_session.specs.declared.session.Command.TheVariants as asks
-use Rattle.rl_session.specs.declared.session.Reply.{Reply}
 use Rattle.rl_session.specs.declared.session.Reply.TheVariants as says
 use Rattle.rl_session.proofs.Runs.RowLemmas.{Leads-split}
 use Rattle.rl_session.proofs.Sessions.CourseLemmas.{Heard-Came}
 use Rattle.rl_session.proofs.Runs.HistoryLemmas.{Holds-Leads, Holds-row, does_as, row_at, undo-row}
 use Rattle.rl_session.proofs.Runs.PlaceLemmas.{kept-leads}
-use Rattle.rl_base.specs.Event.{Cursors}
 
 -- ---- the end of a group
 -- the ends of the groups inside, then the end of the group itself

@@ -1,15 +1,7 @@
 -- What is left where a script stops at a fault.
-use Rattle.std.proofs.Common.{arith, ◌≡◌, ◌≤◌, ◌<◌, ℕ, length, List, [], ◌∷◌, ◌++◌, Option, Some, None, Result, Ok, Err, refl, sym, ap, subst, ◌∙◌, append_assoc, append-nil, inl, inr, Bool, false, true}
-use Rattle.std.proofs.lemmas.List.{take_all}
-use Rattle.std.proofs.KnownBytes.{Appends-trans, Appends-nil, Consumes-trans, Consumes-nil, Consumes-kept}
-use Rattle.std.specs.Io.KnownBytes.{Appends, Consumes, Keeps, IsAtEnd}
-use Rattle.std.specs.Prelude.{IfSome, IfErr, OnErr, ◌==◌}
-use Rattle.rl_session.specs.Lines.{lines_of, whole_lines, onto, onto_some}
-use Rattle.rl_session.specs.Script.{LineOut, IsCut, HasNext, Leaves, started, Outputs, CutOutputs, Stopped, StoppedBy}
-use Rattle.rl_session.specs.Progress.{HasNoNewline, Cuts, Took, Halts, Runs}
-use Rattle.rl_session.specs.declared.script.Interpreter.{Interpreter}
-use Rattle.rl_session.specs.declared.script.ScriptFault.{ScriptFault}
-use Rattle.rl_session.specs.declared.script.ScriptFault.TheVariants.{Read, Write, NoMemory}
+use Rattle.rl_session.proofs.Common.{arith, ◌≡◌, ◌≤◌, ◌<◌, ℕ, length, List, [], ◌∷◌, ◌++◌, Option, Some, None, Result, Ok, Err, refl, sym, ap, subst, ◌∙◌, append_assoc, append-nil, inl, inr, Bool, false, true, take_all, Appends-trans, Appends-nil, Consumes-trans, Consumes-nil, Consumes-kept, Appends, Consumes, Keeps, IsAtEnd, IfSome, IfErr, OnErr, ◌==◌, lines_of, whole_lines, onto_some, LineOut, IsCut, HasNext, Leaves, started, Outputs, CutOutputs, Stopped, StoppedBy, HasNoNewline, Cuts, Took, Halts, Runs, Interpreter, ScriptFault, Read, Write}
+use Rattle.rl_session.specs.Lines.{onto}
+use Rattle.rl_session.specs.declared.script.ScriptFault.TheVariants.{NoMemory}
 use Rattle.rl_session.proofs.Scripts.LineLemmas.{cut_on, lines_of-ended, lines_of-last, whole_lines-part, HasNoNewline-append, Outputs-append, Took-part}
 
 Cut-whole : (lines : List (List ℕ)) (old new : Interpreter) (out : List ℕ) → Outputs old lines out new → CutOutputs old lines out

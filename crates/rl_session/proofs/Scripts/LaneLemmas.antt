@@ -1,13 +1,8 @@
 -- What a mask of some bytes says of each.
-use Rattle.std.proofs.Common.{◌≡◌, ℕ, ◌+◌, ◌≤◌, ◌%◌, ◌^◌, Bool, true, false, cond, eqb, ◌||◌, ◌∷◌, ◌++◌, [], List, map, length, take, drop, zero, suc, slice_index, refl, ap, ap₂, ◌∙◌, arith, w8, Fits, inl, inr, subst}
-use Rattle.std.proofs.lemmas.Simd.{mask_l-mod, zip2_of_maps}
-use Rattle.std.proofs.lemmas.List.{length-map}
-use Rattle.std.proofs.lemmas.Bool.{agree_below, agree_below_at, cases_lt}
-use Rattle.std.specs.Prelude.{◌==◌, ◌&&◌, if◌then◌else◌}
+use Rattle.rl_session.proofs.Common.{◌≡◌, ℕ, ◌+◌, ◌≤◌, ◌%◌, ◌^◌, Bool, true, false, cond, eqb, ◌||◌, ◌∷◌, ◌++◌, [], List, map, length, take, drop, zero, suc, slice_index, refl, ap, ap₂, ◌∙◌, arith, w8, Fits, inl, inr, subst, mask_l-mod, zip2_of_maps, length-map, agree_below, agree_below_at, cases_lt, ◌==◌, ◌&&◌, if◌then◌else◌, escaped, is_special, ArePlain}
 use lib.Bits.{bit_or}
 use lib.Lanes.{zip2, mask_l, top, Each1}
-use Rattle.rl_session.specs.Print.{escape, escaped}
-use Rattle.rl_session.specs.Writes.{is_special, ArePlain}
+use Rattle.rl_session.specs.Print.{escape}
 
 -- a comparison of two bytes
 abbrev pub hit : ℕ → ℕ → ℕ

@@ -1,16 +1,8 @@
 -- How the lines of a script part it, and how what is written for them joins.
-use Rattle.std.proofs.Common.{◌≡◌, ℕ, zero, suc, length, take, drop, List, [], ◌∷◌, ◌++◌, Option, Some, None, ◌<◌, arith, refl, sym, ap, subst, ◌∙◌, append_assoc, append-nil, inl, inr}
+use Rattle.rl_session.proofs.Common.{◌≡◌, ℕ, zero, suc, length, take, drop, List, [], ◌∷◌, ◌++◌, Option, Some, None, ◌<◌, arith, refl, sym, ap, subst, ◌∙◌, append_assoc, append-nil, inl, inr, eq-eqb, ne_eqb, Nowhere, Passes, is_byte, Appends-trans, Appends-nil, Consumes-trans, Appends, Consumes, IsAtEnd, lines_of, whole_lines, onto_some, started, Outputs, Ran, HasNoNewline, IsSaid, SaidOut, Took, Runs, meaning_of, ScriptLine, Interpreter}
 use borrow.Author.Tests.{eqb-true}
-use Rattle.std.proofs.lemmas.Bool.{eq-eqb, ne_eqb}
-use Rattle.memchr.specs.Find.{Nowhere, Passes, is_byte}
-use Rattle.std.proofs.KnownBytes.{Appends-trans, Appends-nil, Consumes-trans}
-use Rattle.std.specs.Io.KnownBytes.{Appends, Consumes, IsAtEnd}
-use Rattle.rl_session.specs.Lines.{lines_of, whole_lines, onto, onto_some}
-use Rattle.rl_session.specs.Script.{LineOut, started, Outputs, Ran}
-use Rattle.rl_session.specs.Progress.{HasNoNewline, IsSaid, SaidOut, Took, Runs}
-use Rattle.rl_session.specs.Parsing.{meaning_of}
-use Rattle.rl_session.specs.declared.grammar.ScriptLine.{ScriptLine}
-use Rattle.rl_session.specs.declared.script.Interpreter.{Interpreter}
+use Rattle.rl_session.specs.Lines.{onto}
+use Rattle.rl_session.specs.Script.{LineOut}
 
 -- a line that a newline ends
 pub lines_of-ended : (line rest : List ℕ) → HasNoNewline line → lines_of (line ++ 10 ∷ rest) ≡ line ∷ lines_of rest

@@ -1,17 +1,6 @@
 -- One movement at most is named, by what stands after its word.
-use Rattle.std.proofs.Common.{◌≡◌, ℕ, ◌-◌, ◌^◌, List, Option, Some, refl, sym, ap, subst, ◌∙◌}
-use Rattle.std.specs.Prelude.{codes}
-use Rattle.rl_base.specs.declared.layout.GraphemeClusterMode.{GraphemeClusterMode}
-use Rattle.rl_base.specs.declared.listeners.Direction.{Direction}
-use Rattle.rl_base.specs.declared.motion.At.{At}
-use Rattle.rl_base.specs.declared.motion.CharSearch.{CharSearch}
-use Rattle.rl_base.specs.declared.motion.Movement.{Movement}
-use Rattle.rl_base.specs.declared.motion.Movement.TheVariants.{BackwardChar, ForwardChar, LineUp, LineDown}
-use Rattle.rl_base.specs.declared.motion.Word.{Word}
-use Rattle.rl_base.specs.declared.motion.WordAction.{WordAction}
-use Rattle.rl_session.specs.Grammar.{NamesWord, big, emacs, vi, NamesAt, start, before, after, NamesSearch, onto, till, back_onto, back_till, NamesAction, cap, low, upper, NamesMode, unicode, wcwidth, nozwj, CountWord, CountAtWord, CountSearch, Names, whole, home, eol, bword, fword, find, first, nonblank, bchar, fchar, up, down, buf, bob, eob, AmountMovement, NamesDirection, ahead, backward, RangeDirection}
-use Rattle.rl_session.specs.Spelling.{word, rest, SpellsChar, Numbered}
-use Rattle.rl_session.specs.Parsing.{HasNoWord, HasNoAt, HasNoSearch, NamesNothing}
+use Rattle.rl_session.proofs.Common.{◌≡◌, ℕ, ◌-◌, ◌^◌, List, Option, Some, refl, sym, ap, subst, ◌∙◌, codes, GraphemeClusterMode, Direction, At, CharSearch, Movement, BackwardChar, ForwardChar, LineUp, LineDown, Word, WordAction, NamesWord, big, emacs, vi, NamesAt, start, before, NamesSearch, till, back_onto, back_till, NamesAction, cap, low, upper, NamesMode, unicode, wcwidth, nozwj, CountWord, CountAtWord, CountSearch, Names, whole, home, eol, bword, fword, find, first, nonblank, bchar, fchar, up, down, buf, bob, eob, AmountMovement, NamesDirection, ahead, backward, RangeDirection, word, rest, SpellsChar, Numbered, HasNoWord, HasNoAt, HasNoSearch, NamesNothing}
+use Rattle.rl_session.specs.Grammar.{after, onto}
 use Rattle.rl_session.proofs.Scripts.NumberLemmas.{some_same}
 use Rattle.rl_session.proofs.Scripts.SpellingLemmas.{SpellsChar-one}
 

@@ -1,12 +1,7 @@
 -- What is no number, and how a number's digits go on.
-use Rattle.std.proofs.Common.{arith, ◌≡◌, ◌≢◌, ℕ, ◌+◌, ◌-◌, ◌*◌, ◌^◌, ◌<◌, ◌≤◌, true, false, List, [], ◌∷◌, length, get_or, drop, Option, Some, None, refl, sym, ap, ◌∙◌}
-use Rattle.std.specs.Prelude.{◌&&◌, ◌==◌, nat_lt, nat_le}
+use Rattle.rl_session.proofs.Common.{arith, ◌≡◌, ◌≢◌, ℕ, ◌+◌, ◌-◌, ◌*◌, ◌^◌, ◌<◌, ◌≤◌, true, false, List, [], ◌∷◌, length, get_or, drop, Option, Some, None, refl, sym, ap, ◌∙◌, ◌&&◌, ◌==◌, nat_lt, nat_le, and-false, eqb-true, eqb-false, nat_tests, at_drop_more, nil_from_length, are_digits, value_from}
 use native.Mathlib.Nat.{pow-le-pow_right}
-use Rattle.std.proofs.Math.Bool.{and-false}
-use Rattle.std.proofs.lemmas.Bool.{eqb-true, eqb-false}
-use Rattle.std.proofs.lemmas.Bool.Decides.{nat_tests}
-use Rattle.std.proofs.lemmas.List.{at_drop_more, nil_from_length}
-use Rattle.rl_session.specs.Spelling.{are_digits, value_from, number_of}
+use Rattle.rl_session.specs.Spelling.{number_of}
 
 above : (n g : ℕ) → g < n → nat_le n g ≡ false
 above n g h = grind (arith, nat_tests)

@@ -1,6 +1,5 @@
 -- Where the first byte of a kind parts a list.
-use Rattle.std.proofs.Common.{arith, ◌≡◌, ◌≢◌, ℕ, suc, ◌<◌, List, [], ◌∷◌, ◌++◌, length, get_or, refl}
-use Rattle.std.specs.List.{AllByRecursion}
+use Rattle.rl_session.proofs.Common.{arith, ◌≡◌, ◌≢◌, ℕ, suc, ◌<◌, List, [], ◌∷◌, ◌++◌, length, get_or, refl, AllByRecursion}
 
 -- no byte is c
 abbrev pub Lacks : ℕ → List ℕ → Type 0

@@ -1,10 +1,7 @@
 -- What is written for a text is read as that text.
-use Rattle.std.specs.Prelude.{◌==◌, ◌&&◌, if◌then◌else◌}
-use Rattle.std.proofs.Common.{arith, ◌≡◌, ◌≢◌, ℕ, Bool, true, false, List, ◌<◌, [], ◌∷◌, ◌++◌, Some, refl, subst, inl, inr}
-use Rattle.std.proofs.lemmas.Bool.Decides.{eqb_tells}
-use Rattle.std.proofs.lemmas.Str.{encode_ascii}
-use Rattle.rl_session.specs.Spelling.{letter_of, Spells, letter, nothing, plain, escape}
-use Rattle.rl_session.specs.Print.{escape as escape_of, escaped}
+use Rattle.rl_session.proofs.Common.{◌==◌, ◌&&◌, if◌then◌else◌, arith, ◌≡◌, ◌≢◌, ℕ, Bool, true, false, List, ◌<◌, [], ◌∷◌, ◌++◌, Some, refl, subst, inl, inr, eqb_tells, encode_ascii, letter_of, Spells, letter, plain, escaped}
+use Rattle.rl_session.specs.Spelling.{nothing, escape}
+use Rattle.rl_session.specs.Print.{escape as escape_of}
 
 by_letter : (b c : ℕ) (bytes text : List ℕ) → c < 128 → letter_of b ≡ Some c → Spells bytes text → Spells (92 ∷ b ∷ bytes) (c ∷ text)
 by_letter b c bytes text small is s = subst (λ l. Spells (92 ∷ b ∷ bytes) (l ++ text)) (encode_ascii c small) (escape (letter is) s)

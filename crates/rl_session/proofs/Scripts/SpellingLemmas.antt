@@ -1,17 +1,9 @@
 -- One text at most is spelled by given bytes, and by which parts.
-use Rattle.std.proofs.lemmas.Bool.{and_parts}
-use Rattle.std.proofs.Common.{arith, ◌≡◌, ◌≢◌, ℕ, ◌+◌, ◌*◌, ◌<◌, true, List, [], ◌∷◌, ◌++◌, length, get_or, Option, Some, None, refl, sym, ap, subst, ◌∙◌, append_assoc, append-nil, length-append, inl, inr}
-use Rattle.std.specs.Prelude.{encode_utf8, option_and_then, MatchOption}
-use Rattle.std.specs.Borrow.{Bor}
-use Rattle.std.specs.Str.{IsUtf8}
+use Rattle.rl_session.proofs.Common.{and_parts, arith, ◌≡◌, ◌≢◌, ℕ, ◌+◌, ◌*◌, ◌<◌, true, List, [], ◌∷◌, ◌++◌, length, get_or, Option, Some, None, refl, sym, ap, subst, ◌∙◌, append_assoc, append-nil, length-append, inl, inr, encode_utf8, option_and_then, MatchOption, Bor, IsUtf8, IsScalar, eqb_tells, encode_same, encode_ascii, inside_one, length-encode, len_utf8_bounds, cons_from_encodes, append_cancel_left, hex_digit, hex_from, letter_of, Escapes, Spells, SpellsChar, letter, braced, plain, BeginsEscape, BeginsNoEscape, BeginsChar, SpellsNothing, SpellsNoChar}
 use lib.Utf8.{scalar, scalars}
-use Rattle.std.specs.Char.{IsScalar}
-use Rattle.std.proofs.lemmas.Bool.Decides.{eqb_tells}
-use Rattle.std.proofs.lemmas.Str.{encode_same, encode_ascii, inside_one, length-encode, len_utf8_bounds, cons_from_encodes}
-use Rattle.std.proofs.lemmas.List.{append_cancel_left}
 use Rattle.rl_session.proofs.Scripts.PartLemmas.{Lacks, Lacks-by_index, same_parts}
-use Rattle.rl_session.specs.Spelling.{hex_digit, hex_from, letter_of, Escapes, Spells, SpellsChar, letter, braced, nothing, plain, escape}
-use Rattle.rl_session.specs.Parsing.{BeginsEscape, BeginsNoEscape, Begins, BeginsChar, SpellsNothing, SpellsNoChar}
+use Rattle.rl_session.specs.Spelling.{nothing, escape}
+use Rattle.rl_session.specs.Parsing.{Begins}
 
 -- parts that follow each other
 

@@ -1,14 +1,8 @@
 -- The parts of a line, its one meaning, and where it says nothing.
-use Rattle.std.proofs.Common.{◌≡◌, ℕ, ◌-◌, ◌^◌, List, [], ◌∷◌, ◌++◌, Option, Some, None, refl, sym, ap, subst, ◌∙◌}
-use Rattle.std.specs.Prelude.{codes}
-use Rattle.std.specs.String.{string_bytes}
-use Rattle.std.proofs.lemmas.Bool.{ne_eqb}
-use Rattle.rl_base.specs.declared.motion.WordAction.{WordAction}
-use Rattle.rl_session.specs.declared.session.Command.TheVariants.{SetPos, Move, Yank, Delete, Backspace, TransposeWords, EditWord, Kill, Copy, Undo, Truncate}
-use Rattle.rl_session.specs.declared.settings.Setting.TheVariants.{Limit, RingSize, Mode}
-use Rattle.rl_session.specs.Grammar.{NamesAction, Meaning, NewText, Set, Do, RangeText, Says, no_text, text, pos, move, ins, paste, yank, yankpop, update, str, rep, range, del, back, killline, killbuf, discline, discbuf, prevword, nextword, to, tchars, twords, cased, kill, copy, indent, dedent, begin, end, endone, undo, redo, trunc, limit, ring, mode, Means, Same, same, pastes, updates, puts_in, replaces, line_place, killrange, keep, keeps}
-use Rattle.rl_session.specs.Spelling.{number_of, word, rest, SpellsChar, Numbered, SpellsRest, NumberedText}
-use Rattle.rl_session.specs.Parsing.{SpellsNoChar, HasNoNumber, HasNoWord, HasNoAt, HasNoSearch, HasNoDirection, HasNoMovement, NamesNoMovement, SaysNoDeletion, SaysNoCommand}
+use Rattle.rl_session.proofs.Common.{◌≡◌, ℕ, ◌-◌, ◌^◌, List, [], ◌∷◌, ◌++◌, Option, Some, None, refl, sym, ap, subst, ◌∙◌, codes, string_bytes, ne_eqb, WordAction, SetPos, Move, Yank, Backspace, TransposeWords, EditWord, Kill, Copy, Undo, Truncate, Limit, RingSize, NamesAction, Meaning, NewText, Set, Do, RangeText, Says, no_text, text, pos, move, ins, paste, yankpop, update, str, rep, range, del, back, killline, killbuf, discline, discbuf, prevword, nextword, to, tchars, twords, cased, kill, copy, indent, dedent, begin, end, endone, undo, redo, trunc, limit, ring, mode, Means, Same, same, pastes, updates, puts_in, replaces, line_place, killrange, keep, number_of, word, rest, SpellsChar, Numbered, SpellsRest, NumberedText, SpellsNoChar, HasNoNumber, HasNoWord, HasNoAt, HasNoSearch, HasNoDirection, HasNoMovement, NamesNoMovement, SaysNoDeletion, SaysNoCommand}
+use Rattle.rl_session.specs.declared.session.Command.TheVariants.{Delete}
+use Rattle.rl_session.specs.declared.settings.Setting.TheVariants.{Mode}
+use Rattle.rl_session.specs.Grammar.{yank, keeps}
 use Rattle.rl_session.proofs.Scripts.NumberLemmas.{some_same, none_holds}
 use Rattle.rl_session.proofs.Scripts.PartLemmas.{Lacks}
 use Rattle.rl_session.proofs.Scripts.SpellingLemmas.{Spells-one, SpellsChar-one}

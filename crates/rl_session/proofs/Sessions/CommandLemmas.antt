@@ -1,30 +1,14 @@
 -- What is known of each command by itself: that its steps change the text, and what it did if it added one entry to the record.
-use Rattle.std.proofs.Common.{ℕ, List, Option, Some, None, ◌≡◌, ◌+◌, ◌≤◌, Bool, true, false, [], ◌∷◌, ◌++◌, length, length-append, IfSome, refl, sym, ap, subst, ◌∙◌, arith, rules}
-use Rattle.std.specs.String.{string_bytes}
-use Rattle.rl_base.specs.KillRing.{yank, yank_pop}
-use Rattle.rl_line.specs.Line.{Line}
-use Rattle.rl_line.specs.Plan.{Plan, Takes, Step as PlanStep, single, listener_after, listener_after_step, Done}
-use Rattle.rl_line.specs.Ranges.{unless_empty, killed, text_in}
+use Rattle.rl_session.proofs.Common.{ℕ, List, Option, Some, None, ◌≡◌, ◌+◌, ◌≤◌, Bool, true, false, [], ◌∷◌, ◌++◌, length, length-append, IfSome, refl, sym, ap, subst, ◌∙◌, arith, rules, string_bytes, yank_pop, Line, Plan, Takes, single, listener_after, listener_after_step, Done, unless_empty, text_in, Asked, edit, other, asked, Course, when, edits, lends, pops, tells, Effect, by_steps, Telling, answers, inserts, hands_out, is_done, course_of, edit_course, effect, lent_plan, popped_plan, other_course, told_as, Came, Does, Edited, popped, State, Command, BadPlace, Reply, eqb-true, option_map, ◌==◌, Range, IsCharBoundary, IsUtf8, Event, InsertChar, InsertStr, Replace, Start, Direction, Forward, Movement, WordAction, is_by_characters, kill_plan, kill_range_plan, removal, side_of, respell, respelled, word_ahead, Entry, Record, entries_after, entries_of, entries_told, IsEdit, WasRefused, pair_step}
+use Rattle.rl_base.specs.KillRing.{yank}
+use Rattle.rl_line.specs.Plan.{Step as PlanStep}
+use Rattle.rl_line.specs.Ranges.{killed}
 use Rattle.rl_line.proofs.Plans.HearingLemmas.{AreChanges}
-use Rattle.rl_session.specs.Commands.{Asked, edit, other, asked, Course, when, edits, stops, lends, pops, tells, Effect, by_steps, Telling, answers, inserts, hands_out, is_done, course_of, edit_course, effect, lent_plan, popped_plan, other_course, told_as, Came, Does, Edited, lent, popped}
-use Rattle.rl_session.specs.State.{State}
-use Rattle.rl_session.specs.declared.session.Command.{Command}
-use Rattle.rl_session.specs.declared.session.Fault.TheVariants.{NoMemory, BadPlace}
-use Rattle.rl_session.specs.declared.session.Reply.{Reply}
+use Rattle.rl_session.specs.Commands.{stops, lent}
+use Rattle.rl_session.specs.declared.session.Fault.TheVariants.{NoMemory}
 use Rattle.rl_session.proofs.Sessions.IdleLemmas.{NoneStarts-edit_word, NoneStarts-indent, NoneStarts-insert, NoneStarts-kill, NoneStarts-removal, NoneStarts-transpose_chars, NoneStarts-transpose_words, NoneStarts-yank, NoneStarts-yank_pop}
-use Rattle.std.proofs.lemmas.Bool.{eqb-true}
-use Rattle.std.specs.Option.{option_map}
-use Rattle.std.specs.Prelude.{◌==◌}
-use Rattle.std.specs.declared.ops.Range.{Range}
-use Rattle.std.specs.Str.{IsCharBoundary, IsUtf8}
-use Rattle.rl_base.specs.Event.{Event, InsertChar, InsertStr, Delete, Replace, Start}
-use Rattle.rl_base.specs.declared.listeners.Direction.{Direction}
-use Rattle.rl_base.specs.declared.listeners.Direction.TheVariants.{Forward}
-use Rattle.rl_base.specs.declared.motion.Movement.{Movement}
-use Rattle.rl_base.specs.declared.motion.WordAction.{WordAction}
-use Rattle.rl_line.specs.Deletions.{is_by_characters, kill_plan, kill_range_plan, removal, side_of}
-use Rattle.rl_line.specs.LetterCase.{respell, respelled, word_ahead}
-use Rattle.rl_line.specs.Record.{Entry, Record, entries_after, entries_of, entries_told, record_step}
+use Rattle.rl_base.specs.Event.{Delete}
+use Rattle.rl_line.specs.Record.{record_step}
 use Rattle.rl_line.proofs.Records.JoinLemmas.{after-Delete-nothing, after-InsertStr-nothing, fresh-Delete-nothing, fresh-InsertStr-nothing}
 use Rattle.rl_line.proofs.Plans.LetterCaseLemmas.{respelled-none}
 use Rattle.rl_session.proofs.Runs.CursorLemmas.{AddedAlone, IsLone, Quiet, added-alone, ends_at, next, recorded-next}
@@ -32,8 +16,6 @@ use Rattle.rl_session.proofs.Sessions.PairLemmas.{Done-changes}
 use Rattle.rl_base.proofs.Clusters.PieceLemmas.{clusters-some, places-before_end}
 use Rattle.rl_session.proofs.Sessions.QuietLemmas.{IsUtf8-word_ahead, Settles, Settles-delete, Settles-indent, Settles-insert, Settles-insert_str, Settles-nothing, Settles-replace, Settles-transpose_chars, Settles-transpose_words, Settles-update, Settles-yank, Settles-yank_pop, empty-deleted, empty-inserted, never-char, never-replaced}
 use Rattle.rl_session.proofs.Sessions.SessionLemmas.{past_telling}
-use Rattle.rl_session.specs.History.{IsEdit, WasRefused}
-use Rattle.rl_session.specs.Pair.{pair_step}
 use Rattle.rl_session.specs.declared.session.Command.TheVariants as asks
 use Rattle.rl_session.specs.declared.session.Reply.TheVariants as says
 

@@ -1,15 +1,8 @@
 -- What a course by steps makes of the line and the record.
-use Rattle.std.proofs.Common.{◌≡◌, ℕ, Bool, true, false, Option, Some, None, List, [], inl, inr, refl, ap, ◌∙◌}
-use Rattle.rl_base.specs.Event.{Start}
+use Rattle.rl_session.proofs.Common.{◌≡◌, ℕ, Bool, true, false, Option, Some, None, List, [], inl, inr, refl, ap, ◌∙◌, Start, Line, Moved, Taken, Record, record_step, Course, never, when, stays, goes, edits, lends, pops, tells, Came, popped, pair_step, steps_in, State}
 use Rattle.rl_base.specs.declared.listeners.Refusal.TheVariants as why
-use Rattle.rl_line.specs.Line.{Line}
-use Rattle.rl_line.specs.Motions.{Moved}
-use Rattle.rl_line.specs.Plan.{Step as PlanStep, Taken}
-use Rattle.rl_line.specs.Record.{Record, record_step}
-use Rattle.rl_session.specs.Commands.{Course, never, when, stays, goes, edits, stops, lends, pops, tells, Came, lent, popped}
-use Rattle.rl_session.specs.Pair.{pair_step}
-use Rattle.rl_session.specs.Run.{steps_in}
-use Rattle.rl_session.specs.State.{State}
+use Rattle.rl_line.specs.Plan.{Step as PlanStep}
+use Rattle.rl_session.specs.Commands.{stops, lent}
 use Rattle.rl_session.proofs.Sessions.PairLemmas.{Done-changes, Taken-changes, cause-changes, own}
 use Rattle.rl_session.proofs.Sessions.SessionLemmas.{past_telling}
 

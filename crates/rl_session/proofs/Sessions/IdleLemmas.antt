@@ -1,29 +1,10 @@
 -- No kill is on between the commands of a session: only a kill tells its start, and it tells its end too.
-use Rattle.std.proofs.lemmas.Bool.{cond_both}
-use Rattle.std.proofs.Common.{◌≡◌, ℕ, ◌+◌, ◌-◌, ◌*◌, ◌==◌, ◌||◌, Bool, true, false, List, [], ◌∷◌, ◌++◌, length, Option, Some, None, ap, subst, ◌∙◌, inl, inr}
-use Rattle.std.specs.Prelude.{encode_utf8, ℕ}
-use Rattle.std.specs.List.{remove_range}
-use Rattle.std.specs.declared.ops.Range.{Range}
-use Rattle.rl_base.specs.Event.{Event, InsertChar, InsertStr, Delete, Replace}
-use Rattle.rl_base.specs.Reports.{IsChange}
-use Rattle.rl_base.specs.KillRing.{Ring, after_deletion, lent, popped_ring, ring_step, turned, yank, yank_popped, yank_size, yanked}
-use Rattle.rl_base.specs.declared.listeners.Direction.{Direction}
-use Rattle.rl_base.specs.declared.listeners.Refusal.{Refusal}
-use Rattle.rl_base.specs.declared.motion.Movement.{Movement}
-use Rattle.rl_line.specs.Edits.{insert_plan, too_long, yank_plan, yank_pop_plan}
-use Rattle.rl_line.specs.Indents.{indent_plan, line_plan, lines_plan, parts, pushed, put_spaces}
-use Rattle.rl_line.specs.Deletions.{Told, kill_plan, removal, side_of}
-use Rattle.rl_base.specs.declared.motion.WordAction.{WordAction}
-use Rattle.rl_line.specs.LetterCase.{edit_word_plan, respell, word_ahead}
-use Rattle.rl_line.specs.Line.{Line, stepped}
-use Rattle.rl_line.specs.Plan.{Step, Plan, listener_after, Done, Halted, or_no_memory}
+use Rattle.rl_session.proofs.Common.{cond_both, ◌≡◌, ℕ, ◌+◌, ◌-◌, ◌*◌, ◌==◌, ◌||◌, Bool, true, false, List, [], ◌∷◌, ◌++◌, length, Option, Some, None, ap, subst, ◌∙◌, inl, inr, encode_utf8, remove_range, Range, Event, InsertChar, InsertStr, Replace, IsChange, Ring, after_deletion, popped_ring, ring_step, turned, yank_popped, yank_size, yanked, Direction, Refusal, Movement, insert_plan, too_long, yank_plan, yank_pop_plan, indent_plan, line_plan, lines_plan, parts, pushed, put_spaces, Told, kill_plan, removal, side_of, WordAction, edit_word_plan, respell, word_ahead, Line, stepped, Plan, listener_after, Done, Halted, or_no_memory, Entry, Begin, End, Changed, cursor_after, steps_ahead, are_two, first_word, pulled_back, second_word, transpose_chars_plan, transpose_words_plan, pair_step, pair_refused, Pair}
+use Rattle.rl_base.specs.Event.{Delete}
+use Rattle.rl_base.specs.KillRing.{lent, yank}
+use Rattle.rl_line.specs.Plan.{Step}
 use Rattle.rl_line.specs.Ranges.{killed}
-use Rattle.rl_line.specs.Record.{Entry, Begin, End, Changed}
-use Rattle.rl_line.specs.Undo.{cursor_after, steps_ahead}
-use Rattle.rl_line.specs.Transpositions.{are_two, first_word, pulled_back, second_word, transpose_chars_plan, transpose_words_plan}
 use Rattle.rl_line.proofs.Plans.HearingLemmas.{AreChanges}
-use Rattle.rl_session.specs.Pair.{pair_step, pair_refused}
-use Rattle.rl_session.specs.declared.pair.Pair.{Pair}
 use Rattle.rl_session.proofs.Sessions.PairLemmas.{listener_after-ring}
 
 -- each step changes the text, so none tells the start of a kill

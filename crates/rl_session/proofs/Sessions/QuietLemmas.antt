@@ -1,43 +1,18 @@
 -- What the plans of the edits do with the cursor: a step that adds no entry leaves it, and a plan ends where its last step leaves it.
-use Rattle.std.proofs.Common.{◌≡◌, ℕ, ◌+◌, ◌-◌, ◌*◌, ◌==◌, ◌||◌, ◌≤◌, ◌<◌, Bool, true, false, zero, suc, List, [], ◌∷◌, ◌++◌, length, slice_range, take, drop, take_at, false-eqb, slice_get, take_all, reverse, length-append, eq-eqb, leb-true, ap₂, Option, Some, None, refl, sym, ap, subst, ◌∙◌, cond, eqb-true, arith, sum}
-use Rattle.std.proofs.lemmas.List.Edits.{length-between}
-use Rattle.std.proofs.lemmas.Bool.Decides.{nat_tests}
+use Rattle.rl_session.proofs.Common.{◌≡◌, ℕ, ◌+◌, ◌-◌, ◌*◌, ◌==◌, ◌||◌, ◌≤◌, ◌<◌, Bool, true, false, zero, suc, List, [], ◌∷◌, ◌++◌, length, slice_range, take, drop, take_at, false-eqb, slice_get, take_all, reverse, length-append, eq-eqb, leb-true, ap₂, Option, Some, None, refl, sym, ap, subst, ◌∙◌, cond, eqb-true, arith, sum, length-between, nat_tests, sum_by-cons, encode_utf8, nat_lt, nat_le, not, ◌&&◌, option_and_then, unwrap_or, All, remove_range, repeat, Range, Event, InsertChar, InsertStr, Replace, Direction, Forward, Movement, ForwardChar, cut_to_limit, insert_event, insert_plan, insert_str_plan, replace_plan, too_long, update_plan, yank_plan, yank_pop_plan, blanks, indent_plan, line_plan, lines_plan, parts, pulled, pushed, put_spaces, spaces, word_ahead, delete_plan, kill_plan, removal, side_of, Line, between, stepped, Plan, answering, single, text_in, to_place, Entry, cond_both, length_push, reverse-append, reverse-reverse, length-take-le, length-drop, All-head, All-weaker, same_Some, IsUtf8-nil, IsUtf8-take, IsUtf8-drop, IsCharBoundary-end, IsCharBoundary-from_rest, IfSome, option_map, option_or, IsCharBoundary, IsUtf8, clusters, bytes_in, next_pos, prev_pos, PlacedCluster, first_member, next_stop, nth, placed_clusters, Emacs, are_two, clusters_around, first_word, meeting_place, only_move, pulled_back, second_word, swap_plan, transpose_chars_plan, transpose_words_plan, word_end, word_start}
 use Rattle.rl_line.proofs.Plans.IndentLemmas.{length-spaces, pushed-none, pushed-pushed, sum-parts}
-use Rattle.std.proofs.lemmas.List.Sums.{sum_by-cons}
-use Rattle.std.specs.Prelude.{encode_utf8, nat_lt, nat_le, not, ◌&&◌, option_and_then, unwrap_or}
-use Rattle.std.specs.List.{All, remove_range, repeat}
-use Rattle.std.specs.declared.ops.Range.{Range}
-use Rattle.rl_base.specs.Event.{Event, InsertChar, InsertStr, Delete, Replace}
-use Rattle.rl_base.specs.declared.listeners.Direction.{Direction}
-use Rattle.rl_base.specs.declared.listeners.Direction.TheVariants.{Forward}
-use Rattle.rl_base.specs.declared.motion.Movement.{Movement}
-use Rattle.rl_base.specs.declared.motion.Movement.TheVariants.{ForwardChar}
+use Rattle.rl_base.specs.Event.{Delete}
 use Rattle.rl_line.proofs.Plans.EditLemmas.{length-repeat}
-use Rattle.rl_line.specs.Edits.{cut_to_limit, insert_event, insert_plan, insert_str_plan, replace_plan, too_long, update_plan, yank_plan, yank_pop_plan}
-use Rattle.rl_line.specs.Indents.{blanks, indent_plan, line_plan, lines_plan, parts, pulled, pushed, put_spaces, spaces}
-use Rattle.rl_line.specs.LetterCase.{word_ahead}
-use Rattle.rl_line.specs.Deletions.{delete_plan, kill_plan, removal, side_of}
 use Rattle.rl_session.proofs.Runs.CursorLemmas.{IsLone, Quiet, ends_at}
-use Rattle.rl_line.specs.Line.{Line, between, stepped}
-use Rattle.rl_line.specs.Plan.{Step, Plan, answering, nothing, single}
-use Rattle.rl_line.specs.Ranges.{killed, text_in, to_place}
-use Rattle.rl_line.specs.Record.{Entry, entries_of}
-use Rattle.std.proofs.lemmas.Bool.{cond_both}
-use Rattle.std.proofs.lemmas.List.{length_push, reverse-append, reverse-reverse, length-take-le, length-drop}
-use Rattle.std.proofs.lemmas.List.Elements.{All-head, All-weaker}
-use Rattle.std.proofs.lemmas.Option.{same_Some}
-use Rattle.std.proofs.lemmas.Str.{IsUtf8-nil, IsUtf8-take, IsUtf8-drop, IsCharBoundary-end, IsCharBoundary-from_rest}
-use Rattle.std.specs.Option.{IfSome, option_map, option_or}
-use Rattle.std.specs.Str.{IsCharBoundary, IsUtf8}
-use Rattle.rl_base.specs.Clusters.{clusters, bytes_in, next_pos, prev_pos}
-use Rattle.rl_base.specs.Words.{PlacedCluster, first_member, next_stop, nth, placed_clusters, stops}
+use Rattle.rl_line.specs.Plan.{Step, nothing}
+use Rattle.rl_line.specs.Ranges.{killed}
+use Rattle.rl_line.specs.Record.{entries_of}
+use Rattle.rl_base.specs.Words.{stops}
 use Rattle.rl_base.specs.declared.motion.At.TheVariants as stop_at
-use Rattle.rl_base.specs.declared.motion.Word.TheVariants.{Emacs}
 use Rattle.rl_base.proofs.Texts.LineLemmas.{few-from_none, IsCharBoundary-nth, place-of_nth}
 use Rattle.rl_base.proofs.Clusters.ClusterLemmas.{bytes_in-append, bytes_in-clusters}
 use Rattle.rl_base.proofs.Clusters.WordLemmas.{All-reverse, All-stops, IsCharBoundary-member, IsCharBoundary-stop, nth-is_or, prev_word-some, start_before}
 use Rattle.rl_line.proofs.Records.RecordLemmas.{through}
-use Rattle.rl_line.specs.Transpositions.{are_two, clusters_around, first_word, meeting_place, only_move, pulled_back, second_word, swap_plan, transpose_chars_plan, transpose_words_plan, word_end, word_start}
 
 -- the plan's steps are quiet, and it ends where its last step leaves the cursor
 pub record Settles {A : Type 0} (line : Line) (plan : Plan A) : Type 0 where

@@ -1,25 +1,8 @@
 -- What a command did, by what is replied to the outcome of its call.
-use Rattle.std.proofs.Common.{Bool, true, false, inr, ◌≡◌, ◌∙◌, ap, subst, sym, Result, Ok, Err}
-use Rattle.std.specs.Prelude.{ℕ, Any, Bool, Option, IfOk, IfErr, OnOk, OnErr}
-use Rattle.rl_base.specs.Event.{Start}
+use Rattle.rl_session.proofs.Common.{Bool, true, false, inr, ◌≡◌, ◌∙◌, ap, subst, sym, Result, Ok, Err, ℕ, Any, Option, IfOk, IfErr, OnOk, OnErr, Start, Refusal, Movement, Line, NeedsRoom, Plan, Done, Halted, Takes, nothing_more, room_by_step, refusal_of, Told, is_by_characters, kill_plan, Record, Undone, steps_back, texts_back, last_of, Watched, Does, Edited, lent_plan, CutShort, KeepsRing, WatchHears, pair_step, pair_refused, Pair, replied, State, Kill, Undo, Yank, Reply}
 use Rattle.rl_base.specs.KillRing.{yank}
-use Rattle.rl_base.specs.declared.listeners.Refusal.{Refusal}
 use Rattle.rl_base.specs.declared.listeners.Refusal.TheVariants as why
-use Rattle.rl_base.specs.declared.motion.Movement.{Movement}
-use Rattle.rl_line.specs.Line.{Line, NeedsRoom}
-use Rattle.rl_line.specs.Plan.{Plan, Done, Halted, Takes, nothing_more, room_by_step, refusal_of}
-use Rattle.rl_line.specs.Deletions.{Told, is_by_characters, kill_plan}
-use Rattle.rl_line.specs.Record.{Record}
-use Rattle.rl_line.specs.Undo.{Undone, steps_back, texts_back}
-use Rattle.rl_line.specs.Units.{last_of}
-use Rattle.rl_base.specs.Watch.{Watched}
-use Rattle.rl_session.specs.Commands.{Does, Edited, lent, lent_plan, CutShort, KeepsRing, WatchHears}
-use Rattle.rl_session.specs.Pair.{pair_step, pair_refused}
-use Rattle.rl_session.specs.declared.pair.Pair.{Pair}
-use Rattle.rl_session.specs.Replies.{replied}
-use Rattle.rl_session.specs.State.{State}
-use Rattle.rl_session.specs.declared.session.Command.TheVariants.{Kill, Undo, Yank}
-use Rattle.rl_session.specs.declared.session.Reply.{Reply}
+use Rattle.rl_session.specs.Commands.{lent}
 use Rattle.rl_session.specs.declared.session.Reply.TheVariants as says
 use Rattle.rl_session.proofs.Sessions.PairLemmas.{Stopped, Halted-pair}
 

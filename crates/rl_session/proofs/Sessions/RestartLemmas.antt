@@ -1,20 +1,8 @@
 -- A text that takes the place of a whole line's.
-use Rattle.std.proofs.Common.{◌≡◌, ◌∙◌, ℕ, ◌+◌, ◌-◌, inl, inr, List, [], ◌∷◌, ◌++◌, length, max, Some, refl, sym, ap, subst, arith, append-nil, length-append}
-use Rattle.std.proofs.lemmas.List.{take_all}
-use Rattle.std.proofs.lemmas.Str.{IsUtf8-nil}
-use Rattle.std.specs.Prelude.{slice_range}
-use Rattle.std.specs.Str.{IsUtf8}
-use Rattle.rl_base.specs.Event.{Cursors, Replace, apply}
-use Rattle.rl_base.specs.Watch.{Watched, watch_step}
-use Rattle.rl_base.specs.declared.listeners.Refusal.{Refusal}
+use Rattle.rl_session.proofs.Common.{◌≡◌, ◌∙◌, ℕ, ◌+◌, ◌-◌, inl, inr, List, [], ◌∷◌, ◌++◌, length, max, Some, refl, sym, ap, subst, arith, append-nil, length-append, take_all, IsUtf8-nil, slice_range, IsUtf8, Cursors, Replace, apply, Watched, watch_step, Refusal, replace_plan, Line, NeedsRoom, stepped, Done, Grows, Halted, Taken, or_no_memory, Record, Walks, no_changes}
 use Rattle.rl_base.proofs.Texts.SwapLemmas.{apply-Replace-Swaps}
-use Rattle.rl_line.specs.Edits.{replace_plan}
-use Rattle.rl_line.specs.Line.{Line, NeedsRoom, stepped}
-use Rattle.rl_line.specs.Plan.{Done, Grows, Halted, Step, Taken, or_no_memory}
-use Rattle.rl_line.specs.Record.{Record}
-use Rattle.rl_line.specs.Walk.{Walks}
+use Rattle.rl_line.specs.Plan.{Step}
 use Rattle.rl_line.proofs.Plans.PlanLemmas.{first_step}
-use Rattle.rl_session.specs.State.{no_changes}
 
 -- all of a text gives way to another
 pub apply-all : (old new : List ℕ) → IsUtf8 old → IsUtf8 new → apply (Replace 0 old new) old ≡ Some new

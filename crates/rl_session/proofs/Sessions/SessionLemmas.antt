@@ -1,39 +1,16 @@
 -- What holds whatever a call answered.
-use Rattle.std.proofs.Common.{Bool, false, true, inr, List, [], ◌∷◌, ◌*◌, ◌+◌, ◌<◌, ◌==◌, ◌||◌, cond, Result, Ok, Err, ◌≡◌, ◌∙◌, ap, ap₂, arith, refl, subst, sym, append-nil, inl, ◌≤◌, ℕ, length, take_all}
-use Rattle.std.proofs.lemmas.Bool.Decides.{nat_tests}
-use Rattle.std.proofs.lemmas.Str.{IsCharBoundary-start, IsUtf8-nil}
-use Rattle.std.specs.Prelude.{ℕ, Bool, true, Option, None, false, max, length, IsSome, Some, IfOk, IfErr}
-use Rattle.std.specs.Str.{IsUtf8}
-use Rattle.rl_base.specs.Event.{Event, InsertStr, Start, apply, Stop}
-use Rattle.rl_base.specs.Text.{HasText}
+use Rattle.rl_session.proofs.Common.{Bool, false, true, inr, List, [], ◌∷◌, ◌*◌, ◌+◌, ◌<◌, ◌==◌, ◌||◌, cond, Result, Ok, Err, ◌≡◌, ◌∙◌, ap, ap₂, arith, refl, subst, sym, append-nil, inl, ◌≤◌, ℕ, length, take_all, nat_tests, IsCharBoundary-start, IsUtf8-nil, Option, None, max, IsSome, Some, IfOk, IfErr, IsUtf8, Event, InsertStr, Start, apply, Stop, HasText, Refusal, Movement, Line, stepped, Moved, Plan, single, Done, Halted, or_no_memory, Takes, nothing_more, a_copy, insert_str_plan, too_long, yank_plan, Told, is_by_characters, kill_plan, Record, agree, replays_to, unwind, Redone, Undone, adds_end, begun, with_closed, State, AtRest, Follows, Edited, lent_plan, popped, popped_plan, pair_step, pair_refused, Pair, IsCharBoundary, Walks, line_back, bytes_eq-Decides, same_Some}
 use Rattle.rl_base.proofs.Texts.EventLemmas.{apply-InsertStr}
-use Rattle.rl_base.specs.declared.listeners.Refusal.{Refusal}
 use Rattle.rl_base.specs.declared.listeners.Refusal.TheVariants as why
-use Rattle.rl_base.specs.declared.motion.Movement.{Movement}
-use Rattle.rl_line.specs.Line.{Line, stepped}
-use Rattle.rl_line.specs.Motions.{Moved}
-use Rattle.rl_line.specs.Plan.{Plan, nothing, single, Done, Halted, or_no_memory, Takes, nothing_more, a_copy}
-use Rattle.rl_line.specs.Edits.{insert_str_plan, too_long, yank_plan}
-use Rattle.rl_line.specs.Deletions.{Told, is_by_characters, kill_plan}
-use Rattle.rl_line.specs.Record.{Record, agree, replays_to, unwind}
+use Rattle.rl_line.specs.Plan.{nothing}
 use Rattle.rl_line.proofs.Records.JoinLemmas.{record_step-Start, record_step-Stop}
-use Rattle.rl_line.specs.Undo.{Redone, Undone}
-use Rattle.rl_line.specs.Units.{adds_end, begun, with_closed}
-use Rattle.rl_session.specs.State.{State, AtRest, Follows}
 use Rattle.rl_line.proofs.Plans.PlanLemmas.{first_step}
-use Rattle.rl_session.specs.Commands.{Edited, lent, lent_plan, popped, popped_plan}
-use Rattle.rl_session.specs.Pair.{pair_step, pair_refused}
-use Rattle.rl_session.specs.declared.pair.Pair.{Pair}
+use Rattle.rl_session.specs.Commands.{lent}
 use Rattle.rl_session.proofs.Sessions.IdleLemmas.{NoneStarts, NoneStarts-kill, idle-Done, idle-Halted, idle-Told}
 use Rattle.rl_session.proofs.Sessions.PairLemmas.{Halted-own, Stopped, Done-changes, Halted-changes, keeps_changes}
-use Rattle.std.specs.Str.{IsCharBoundary}
-use Rattle.rl_line.specs.Walk.{Walks}
-use Rattle.rl_line.specs.Undo.{line_back}
-use Rattle.std.proofs.lemmas.Slice.Eq.{bytes_eq-Decides}
 use Rattle.rl_line.proofs.Records.RecordLemmas.{value_of}
 use Rattle.rl_line.proofs.Records.UndoLemmas.{line_back-unwind}
 use Rattle.rl_line.proofs.Records.WalkLemmas.{Walks-Done, Walks-Halted, Walks-Redone, Walks-Undone, Walks-ahead, Walks-back, Walks-begun, Walks-closed}
-use Rattle.std.proofs.lemmas.Option.{same_Some}
 
 -- a text that goes into an empty line
 pub put_first : {L : Type 0} (step : L → Event → L) (line new : Line) (limit : ℕ) (text : List ℕ) (b n : L) (a : Bool) → IsUtf8 text

@@ -1,15 +1,6 @@
 -- How what a command does becomes a step of a session.
-use Rattle.std.proofs.Common.{◌≡◌, refl, subst}
-use Rattle.rl_base.specs.KillRing.{reset}
-use Rattle.rl_base.specs.declared.motion.Movement.{Movement}
-use Rattle.rl_base.specs.declared.motion.Movement.TheVariants.{BeginningOfLine, EndOfLine, BackwardWord, ForwardWord, ViCharSearch, BeginningOfBuffer, EndOfBuffer}
-use Rattle.rl_line.specs.Deletions.{CanDeleteBy, kill_plan}
-use Rattle.rl_line.specs.Plan.{nothing_more}
-use Rattle.rl_session.specs.Commands.{Came, Does, Step, answers, deletion_of, edit_course, readied, settled}
-use Rattle.rl_session.specs.State.{State, Ends, with_ring}
-use Rattle.rl_session.specs.declared.session.Command.{Command}
-use Rattle.rl_session.specs.declared.session.Command.TheVariants.{KillLine, KillBuffer, DiscardLine, DiscardBuffer, DeletePrevWord, DeleteWord, DeleteTo}
-use Rattle.rl_session.specs.declared.session.Reply.{Reply}
+use Rattle.rl_session.proofs.Common.{◌≡◌, refl, subst, reset, Movement, BeginningOfLine, EndOfLine, BackwardWord, ForwardWord, ViCharSearch, BeginningOfBuffer, EndOfBuffer, CanDeleteBy, kill_plan, nothing_more, Came, Does, answers, deletion_of, edit_course, readied, settled, State, Ends, with_ring, Command, KillLine, KillBuffer, DiscardLine, DiscardBuffer, DeletePrevWord, DeleteWord, DeleteTo, Reply}
+use Rattle.rl_session.specs.Commands.{Step}
 
 -- a command that began where the ring was readied, and ended as it does
 pub step_done : (command : Command) {old begun new : State} (left : State) {reply : Reply} → begun ≡ readied command old → Does begun command reply left → new ≡ settled command reply left → Ends new

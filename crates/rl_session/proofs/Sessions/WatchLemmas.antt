@@ -1,29 +1,13 @@
 -- What a watch keeps of a text at each event, it keeps over a command.
-use Rattle.std.proofs.Common.{◌≡◌, ◌∙◌, ℕ, ◌^◌, ◌<◌, arith, true, false, List, length, Option, Some, None, option_map, ◌≤◌, inl, inr, sym, ap, subst}
-use Rattle.std.specs.Prelude.{map, option_and_then, reverse, unwrap_or}
-use Rattle.std.proofs.lemmas.Str.{IsCharBoundary-end}
-use Rattle.std.specs.Str.{IsCharBoundary, IsUtf8}
-use Rattle.rl_base.specs.Event.{Event, Replace, Start, Stop, Cursors, apply}
-use Rattle.rl_base.specs.Reports.{HasTexts, IsChange, IsLineText, LacksTexts, Noted, Queue, Stand, TellsByTexts, after_numbers, after_texts, forgotten, oldest, queue_step}
-use Rattle.rl_base.specs.Splice.{Covers, spliced}
-use Rattle.rl_base.specs.Watch.{Watched, ReportsLead, next_note, past_next, text_room, watch_step}
+use Rattle.rl_session.proofs.Common.{◌≡◌, ◌∙◌, ℕ, ◌^◌, ◌<◌, arith, true, false, List, length, Option, Some, None, option_map, ◌≤◌, inl, inr, sym, ap, subst, map, option_and_then, reverse, unwrap_or, IsCharBoundary-end, IsCharBoundary, IsUtf8, Event, Replace, Start, Stop, Cursors, apply, HasTexts, IsChange, IsLineText, LacksTexts, Noted, Queue, Stand, TellsByTexts, after_numbers, after_texts, oldest, queue_step, Covers, spliced, Watched, ReportsLead, next_note, past_next, text_room, watch_step, Line, Taken, steps_ahead, steps_back, last_of, redo_of, inverse, Effect, by_steps, puts_begin, puts_ends, puts_end, shortens, takes_back, puts_again, Became, effect, readied, Course, never, when, stays, goes, edits, lends, pops, tells, Came, WatchHears, popped, pair_step, State, ChangedFrom, IsBounded, ReportedFrom, Stands, restarted, with_watch, Row, Run, Command, Reply, Pair}
+use Rattle.rl_base.specs.Reports.{forgotten}
 use Rattle.rl_base.proofs.Queue.LeadLemmas.{marked, nothing, placed, whole, with_texts}
 use Rattle.rl_base.specs.declared.listeners.Refusal.TheVariants as why
 use Rattle.rl_base.proofs.Texts.SpliceLemmas.{Covers-apply}
-use Rattle.rl_line.specs.Line.{Line}
-use Rattle.rl_line.specs.Plan.{Step as PlanStep, Taken, after}
-use Rattle.rl_line.specs.Undo.{steps_ahead, steps_back}
-use Rattle.rl_line.specs.Units.{last_of, redo_of}
+use Rattle.rl_line.specs.Plan.{Step as PlanStep, after}
 use Rattle.rl_line.proofs.Records.HeardLemmas.{after-steps_ahead, after-steps_back}
-use Rattle.rl_line.specs.Record.{inverse}
 use Rattle.rl_line.proofs.Plans.HearingLemmas.{AreChanges, Keeps-after}
-use Rattle.rl_session.specs.Commands.{Effect, by_steps, puts_begin, puts_ends, puts_end, shortens, takes_back, puts_again, Became, Step, effect, readied, Course, never, when, stays, goes, edits, stops, lends, pops, tells, Came, WatchHears, lent, popped, keeps}
-use Rattle.rl_session.specs.Pair.{pair_step}
-use Rattle.rl_session.specs.State.{State, ChangedFrom, IsBounded, ReportedFrom, Stands, restarted, with_watch}
-use Rattle.rl_session.specs.Run.{Row, Run}
-use Rattle.rl_session.specs.declared.session.Command.{Command}
-use Rattle.rl_session.specs.declared.session.Reply.{Reply}
-use Rattle.rl_session.specs.declared.pair.Pair.{Pair}
+use Rattle.rl_session.specs.Commands.{Step, stops, lent, keeps}
 use Rattle.rl_session.proofs.Sessions.CommandLemmas.{Changes, EffectChanges, effect-changes}
 use Rattle.rl_session.proofs.Sessions.CourseLemmas.{Moved-text}
 use Rattle.rl_session.proofs.Sessions.IdleLemmas.{NoneStarts-ahead, NoneStarts-first}

@@ -1,5 +1,4 @@
-use Rattle.std.proofs.Common.{◌≡◌, [], ◌∷◌, ap, ◌∙◌, string_bytes}
-use Rattle.std.specs.List.{repeat, insert_slice}
+use Rattle.rl_base.proofs.Common.{◌≡◌, [], ◌∷◌, ap, ◌∙◌, string_bytes, repeat, insert_slice}
 use Rattle.rl_base.proofs.Texts.GatheredLemmas.{blanker}
 use Rattle.rl_base.proofs.gathered.find_blanks.Goals as goal
 

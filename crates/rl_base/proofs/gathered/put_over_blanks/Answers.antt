@@ -1,6 +1,4 @@
-use Rattle.std.proofs.Common.{arith, length, ◌-◌, subst, sym}
-use Rattle.std.specs.String.{string_bytes}
-use Rattle.rl_base.specs.Gathered.{BeginsBlank}
+use Rattle.rl_base.proofs.Common.{arith, length, ◌-◌, subst, sym, string_bytes, BeginsBlank}
 use Rattle.rl_base.proofs.Texts.GatheredLemmas.{fronted, may_cut}
 use Rattle.rl_base.proofs.gathered.put_over_blanks.Goals as goal
 

@@ -1,6 +1,4 @@
-use Rattle.std.proofs.Common.{◌<◌, length, refl, arith}
-use Rattle.std.proofs.lemmas.List.{length-map}
-use Rattle.rl_base.specs.Gathered.{Gathering, texts}
+use Rattle.rl_base.proofs.Common.{◌<◌, length, refl, arith, length-map, Gathering, texts}
 use Rattle.rl_base.proofs.Ring.RingLemmas.{join-past, joins-err, joins-ok}
 use Rattle.rl_base.proofs.kill_ring.join.Goals as goal
 

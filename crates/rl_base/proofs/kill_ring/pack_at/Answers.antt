@@ -1,4 +1,4 @@
-use Rattle.std.proofs.Common.{◌<◌, length, Some, ap, ◌∙◌, refl, arith}
+use Rattle.rl_base.proofs.Common.{◌<◌, length, Some, ap, ◌∙◌, refl, arith}
 use Rattle.rl_base.proofs.Ring.RingLemmas.{packed-set, same-set, size-at}
 use Rattle.rl_base.proofs.kill_ring.pack_at.Goals as goal
 

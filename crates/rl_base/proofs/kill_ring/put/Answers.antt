@@ -1,6 +1,4 @@
-use Rattle.std.proofs.Common.{◌<◌, List, ℕ, length, ap, sym, ◌∙◌, arith, slice_set}
-use Rattle.std.proofs.lemmas.List.{length-map, map-set}
-use Rattle.rl_base.specs.Gathered.{Gathering, texts}
+use Rattle.rl_base.proofs.Common.{◌<◌, List, ℕ, length, ap, sym, ◌∙◌, arith, slice_set, length-map, map-set, Gathering, texts}
 use Rattle.rl_base.proofs.Ring.SlotLemmas.{put-over}
 use Rattle.rl_base.proofs.kill_ring.put.Goals as goal
 

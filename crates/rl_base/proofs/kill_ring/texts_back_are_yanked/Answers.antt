@@ -1,5 +1,5 @@
 use Rattle.rl_base.proofs.Ring.BackLemmas.{back-none, yank-back, yank_pop-back}
-use Rattle.rl_base.specs.KillRing.{Ring}
+use Rattle.rl_base.proofs.Common.{Ring}
 use Rattle.rl_base.proofs.kill_ring.texts_back_are_yanked.Goals as goal
 
 pub returns-clause-yank : goal.returns-clause-yank

@@ -1,5 +1,4 @@
-use Rattle.std.proofs.Common.{arith}
-use Rattle.std.proofs.lemmas.Str.{IsUtf8-past_char}
+use Rattle.rl_base.proofs.Common.{arith, IsUtf8-past_char}
 use Rattle.rl_base.proofs.Clusters.WidthLemmas.{columns-char, columns-none}
 use Rattle.rl_base.proofs.layout.width_of_chars.Goals as goal
 

@@ -1,8 +1,4 @@
-use Rattle.std.proofs.Common.{◌≡◌, ◌≤◌, ◌+◌, min, sum_by}
-use Rattle.std.specs.Str.{IsUtf8, chars}
-use Rattle.std.specs.Str.Iter.{chars_rest}
-use Rattle.rl_base.specs.declared.layout.GraphemeClusterMode.TheVariants.{WcWidth}
-use Rattle.rl_base.specs.Widths.{char_columns, width}
+use Rattle.rl_base.proofs.Common.{◌≡◌, ◌≤◌, ◌+◌, min, sum_by, IsUtf8, chars, chars_rest, WcWidth, char_columns, width}
 use Rattle.rl_base.proofs.layout.width_of_chars.Given as goal
 
 -- the columns so far and those of what is left

@@ -1,5 +1,4 @@
-use Rattle.std.proofs.Common.{arith, rules}
-use Rattle.std.specs.Str.{IsUtf8}
+use Rattle.rl_base.proofs.Common.{arith, rules, IsUtf8}
 use Rattle.rl_base.proofs.Clusters.WidthLemmas.{columns-part, columns-first_part}
 use Rattle.rl_base.proofs.layout.width_of_parts.Goals as goal
 

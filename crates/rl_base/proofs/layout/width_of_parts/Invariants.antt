@@ -1,11 +1,6 @@
-use Rattle.std.proofs.Common.{◌≡◌, ◌+◌, min, sum_by, false, length}
+use Rattle.rl_base.proofs.Common.{◌≡◌, ◌+◌, min, sum_by, false, length, slice_split, chars, str_width, NoZwj, is_joiner, width}
 use denote.Text.{Utf8}
 use denote.Shadow.{shadow}
-use Rattle.std.specs.List.{slice_split}
-use Rattle.std.specs.Str.{chars}
-use Rattle.unicode_width.specs.Width.{str_width}
-use Rattle.rl_base.specs.declared.layout.GraphemeClusterMode.TheVariants.{NoZwj}
-use Rattle.rl_base.specs.Widths.{is_joiner, width}
 use Rattle.rl_base.proofs.layout.width_of_parts.Given as goal
 
 -- the columns so far and those of what is left

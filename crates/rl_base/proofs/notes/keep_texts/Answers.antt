@@ -1,6 +1,4 @@
-use Rattle.std.proofs.Common.{◌≡◌, ◌++◌, ◌∙◌, length, refl}
-use Rattle.std.proofs.lemmas.Str.{IsCharBoundary-at_seam}
-use Rattle.std.specs.String.{string_bytes}
+use Rattle.rl_base.proofs.Common.{◌≡◌, ◌++◌, ◌∙◌, length, refl, IsCharBoundary-at_seam, string_bytes}
 use Rattle.rl_base.proofs.notes.keep_texts.Goals as goal
 
 pub truncate-requires : goal.truncate-requires

@@ -1,5 +1,4 @@
-use Rattle.std.proofs.Common.{if◌then◌else◌, Some, arith, ap, refl}
-use Rattle.rl_base.specs.Reports.{told_cursors}
+use Rattle.rl_base.proofs.Common.{if◌then◌else◌, Some, arith, ap, refl, told_cursors}
 use Rattle.rl_base.proofs.Queue.QueueLemmas.{on_last-set}
 use Rattle.rl_base.proofs.notes.tell_last.Goals as goal
 

@@ -1,8 +1,4 @@
-use Rattle.std.proofs.Common.{◌≡◌, ◌+◌, ◌-◌, ◌++◌, length, drop, take, Some, ap, sym, ◌∙◌, arith, length-append}
-use Rattle.std.proofs.lemmas.List.Folds.{concat-append}
-use Rattle.std.specs.List.{concat}
-use Rattle.unicode_segmentation.specs.Iter.{graphemes_left}
-use Rattle.rl_base.specs.Clusters.{clusters, bytes_in}
+use Rattle.rl_base.proofs.Common.{◌≡◌, ◌+◌, ◌-◌, ◌++◌, length, drop, take, Some, ap, sym, ◌∙◌, arith, length-append, concat-append, concat, graphemes_left, clusters, bytes_in}
 use Rattle.rl_base.proofs.Clusters.ClusterLemmas.{shown_after_nth, pieces_past, concat-clusters, next_pos-some, IsCharBoundary-before_rest}
 use Rattle.rl_base.proofs.places.next_pos.Goals as goal
 

@@ -1,10 +1,4 @@
-use Rattle.std.proofs.Common.{◌≡◌, ◌+◌, ◌-◌, ◌++◌, length, drop, take, reverse, refl, Some, ap, sym, subst, ◌∙◌, arith, length-append, take_at}
-use Rattle.std.proofs.lemmas.List.{length-take-le}
-use Rattle.std.proofs.lemmas.List.Folds.{concat-append}
-use Rattle.std.specs.List.{concat}
-use Rattle.std.specs.Str.{IsUtf8}
-use Rattle.unicode_segmentation.specs.Iter.{graphemes_left}
-use Rattle.rl_base.specs.Clusters.{clusters, bytes_in}
+use Rattle.rl_base.proofs.Common.{◌≡◌, ◌+◌, ◌-◌, ◌++◌, length, drop, take, reverse, refl, Some, ap, sym, subst, ◌∙◌, arith, length-append, take_at, length-take-le, concat-append, concat, IsUtf8, graphemes_left, clusters, bytes_in}
 use Rattle.rl_base.proofs.Clusters.ClusterLemmas.{shown_after_nth, first_from_last, front_of_pieces, bytes_in-reverse, concat-clusters, prev_pos-some, slice_range-front}
 use Rattle.rl_base.proofs.Texts.TextLemmas.{IsCharBoundary-in_front}
 use Rattle.rl_base.proofs.places.prev_pos.Goals as goal

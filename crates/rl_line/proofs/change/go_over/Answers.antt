@@ -1,11 +1,4 @@
-use Rattle.std.proofs.Common.{◌≡◌, ◌+◌, ℕ, List, Some, arith, ◌∙◌, length, refl, subst, sym, ap}
-use Rattle.std.specs.String.{string_bytes}
-use Rattle.std.specs.Prelude.{unwrap_or}
-use Rattle.std.specs.Str.{IsCharBoundary}
-use Rattle.rl_base.specs.Event.{apply}
-use Rattle.rl_line.specs.Record.{event_of, inverse}
-use Rattle.rl_line.specs.Undo.{cursor_after, cursor_told, place_after}
-use Rattle.rl_line.specs.Change.{entry_to_undo, place}
+use Rattle.rl_line.proofs.Common.{◌≡◌, ◌+◌, ℕ, List, Some, arith, ◌∙◌, length, refl, subst, sym, ap, string_bytes, unwrap_or, IsCharBoundary, apply, event_of, inverse, cursor_after, cursor_told, place_after, entry_to_undo, place}
 use Rattle.rl_line.proofs.Records.ChangeLemmas.{StandsNew, StandsNew-from_IsSome, mark-leaves, place-entry_to_undo, place_after-is}
 use Rattle.rl_line.proofs.change.go_over.Goals as goal
 use Rattle.rl_line.proofs.change.go_over.Goals.{After-unwrap_or, In-Some}

@@ -1,7 +1,4 @@
-use Rattle.std.proofs.Common.{arith, inl, inr, refl, ◌-◌, ◌≤◌, ◌<◌, ◌≡◌, ◌+◌, ◌^◌, ap, ◌∙◌, drop, length, map, ℕ}
-use Rattle.rl_line.specs.Change.{entry_to_undo, order, size_back, size_back_over, size_of}
-use Rattle.rl_line.specs.declared.change.Measure.{Measure}
-use Rattle.rl_line.specs.declared.change.Measure.TheVariants.{Bytes, Newlines}
+use Rattle.rl_line.proofs.Common.{arith, inl, inr, refl, ◌-◌, ◌≤◌, ◌<◌, ◌≡◌, ◌+◌, ◌^◌, ap, ◌∙◌, drop, length, map, ℕ, entry_to_undo, order, size_back, size_back_over, size_of, Measure, Bytes, Newlines}
 use Rattle.rl_line.proofs.Records.ChangeLemmas.{length-order}
 use Rattle.rl_line.proofs.Records.RoomLemmas.{past_a_usize}
 use Rattle.rl_line.proofs.change.growth_over.Goals as goal

@@ -1,6 +1,4 @@
-use Rattle.std.proofs.Common.{◌≡◌, ◌≤◌, length, map, drop}
-use Rattle.rl_line.specs.declared.change.Measure.TheVariants.{Bytes, Newlines}
-use Rattle.rl_line.specs.Change.{entry_to_undo, size_back_over, greatest_back_over, order}
+use Rattle.rl_line.proofs.Common.{◌≡◌, ◌≤◌, length, map, drop, Bytes, Newlines, entry_to_undo, size_back_over, greatest_back_over, order}
 use Rattle.rl_line.proofs.change.growth_over.Given as goal
 
 abbrev pub invariant-loop-left : goal.invariant-loop-left

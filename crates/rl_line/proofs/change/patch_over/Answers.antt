@@ -1,7 +1,4 @@
-use Rattle.std.proofs.Common.{arith, zero, suc, ◌≡◌, ℕ, ◌+◌, ◌-◌, ◌<◌, length, map, subst, sym, ◌∙◌}
-use Rattle.std.proofs.lemmas.Result.{err_from_is_err_and}
-use Rattle.rl_line.specs.Record.{bytes_back, old_text}
-use Rattle.rl_line.specs.Change.{entry_to_undo, order}
+use Rattle.rl_line.proofs.Common.{arith, zero, suc, ◌≡◌, ℕ, ◌+◌, ◌-◌, ◌<◌, length, map, subst, sym, ◌∙◌, err_from_is_err_and, bytes_back, old_text, entry_to_undo, order}
 use Rattle.rl_line.proofs.Records.ChangeLemmas.{GoesOver, GoesOver-astray, GoesOver-next, GoesOver-not, longer-by}
 use Rattle.rl_line.proofs.Records.RoomLemmas.{bytes_back-one}
 use Rattle.rl_line.proofs.change.patch_over.Goals as goal

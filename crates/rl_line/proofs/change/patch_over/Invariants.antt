@@ -1,8 +1,4 @@
-use Rattle.std.specs.Prelude.{◌<◌, ◌+◌, ℕ, Bool, List, length, map}
-use Rattle.rl_line.specs.Change.{entry_to_undo, order}
-use Rattle.rl_line.specs.Record.{bytes_back}
-use Rattle.rl_line.specs.declared.change.Change.{Change}
-use Rattle.rl_line.specs.declared.change.Way.{Way}
+use Rattle.rl_line.proofs.Common.{◌<◌, ◌+◌, ℕ, Bool, List, length, map, entry_to_undo, order, bytes_back, Change, Way}
 use Rattle.rl_line.proofs.Records.ChangeLemmas.{GoesOver}
 use Rattle.rl_line.proofs.change.patch_over.Given as goal
 

@@ -1,6 +1,4 @@
-use Rattle.std.proofs.Common.{ap, sym, ◌∙◌, ◌++◌, [], ◌∷◌, map}
-use Rattle.std.proofs.lemmas.List.{map-append, take-map}
-use Rattle.rl_line.specs.Record.{entry_of}
+use Rattle.rl_line.proofs.Common.{ap, sym, ◌∙◌, ◌++◌, [], ◌∷◌, map, map-append, take-map, entry_of}
 use Rattle.rl_line.proofs.entries.add.Goals as goal
 
 pub returns-in-Ok-clause-ok : goal.returns-in-Ok-clause-ok

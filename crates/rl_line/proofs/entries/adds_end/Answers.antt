@@ -1,6 +1,4 @@
-use Rattle.std.proofs.Common.{arith, ap, sym, refl, [], ◌-◌, ◌+◌, ◌<◌, ◌≡◌, ◌∙◌, length, take, map}
-use Rattle.rl_line.specs.Record.{entry_of}
-use Rattle.rl_line.specs.Units.{adds_end}
+use Rattle.rl_line.proofs.Common.{arith, ap, sym, refl, [], ◌-◌, ◌+◌, ◌<◌, ◌≡◌, ◌∙◌, length, take, map, entry_of, adds_end}
 use Rattle.rl_line.proofs.Records.EntryLemmas.{adds-before, adds-here, adds-off}
 use Rattle.rl_line.proofs.entries.adds_end.Goals as goal
 use Rattle.rl_line.proofs.entries.adds_end.Goals.{After-is_begin}

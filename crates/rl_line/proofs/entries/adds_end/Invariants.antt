@@ -1,6 +1,4 @@
-use Rattle.std.proofs.Common.{◌≡◌, ◌≤◌, length, take, map}
-use Rattle.rl_line.specs.Record.{entry_of}
-use Rattle.rl_line.specs.Units.{adds_end}
+use Rattle.rl_line.proofs.Common.{◌≡◌, ◌≤◌, length, take, map, entry_of, adds_end}
 use Rattle.rl_line.proofs.entries.adds_end.Given as goal
 
 abbrev pub invariant-loop-left : goal.invariant-loop-left

@@ -1,5 +1,4 @@
-use Rattle.std.proofs.Common.{arith, map}
-use Rattle.rl_line.specs.Record.{entry_of}
+use Rattle.rl_line.proofs.Common.{arith, map, entry_of}
 use Rattle.rl_line.proofs.Records.EntryLemmas.{adds-here, adds-more, closes-next}
 use Rattle.rl_line.proofs.entries.close_groups.Goals as goal
 

@@ -1,7 +1,4 @@
-use Rattle.std.proofs.Common.{◌≡◌, ◌+◌, ◌-◌, ◌≤◌, true, map}
-use Rattle.std.specs.Vec.{vec_len, vec_capacity}
-use Rattle.rl_line.specs.Record.{entry_of}
-use Rattle.rl_line.specs.Units.{adds_end, end_times}
+use Rattle.rl_line.proofs.Common.{◌≡◌, ◌+◌, ◌-◌, ◌≤◌, true, map, vec_len, vec_capacity, entry_of, adds_end, end_times}
 use Rattle.rl_line.proofs.entries.close_groups.Given as goal
 
 abbrev pub invariant-loop : goal.invariant-loop

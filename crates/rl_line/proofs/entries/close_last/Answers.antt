@@ -1,6 +1,4 @@
-use Rattle.std.proofs.Common.{arith, refl, ap, sym, ◌∙◌, map}
-use Rattle.rl_line.specs.Record.{entry_of}
-use Rattle.rl_line.specs.Units.{ends_in_begin}
+use Rattle.rl_line.proofs.Common.{arith, refl, ap, sym, ◌∙◌, map, entry_of, ends_in_begin}
 use Rattle.rl_line.proofs.Records.EntryLemmas.{end_one-popped, end_one-pushed}
 use Rattle.rl_line.proofs.entries.close_last.Goals as goal
 

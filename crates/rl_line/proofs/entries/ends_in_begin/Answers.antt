@@ -1,5 +1,4 @@
-use Rattle.std.proofs.Common.{ap, sym, ◌∙◌, Some, None}
-use Rattle.std.specs.Option.{option_copied}
+use Rattle.rl_line.proofs.Common.{ap, sym, ◌∙◌, Some, None, option_copied}
 use Rattle.rl_line.proofs.Records.EntryLemmas.{ends-at}
 use Rattle.rl_line.proofs.entries.ends_in_begin.Goals as goal
 

@@ -1,6 +1,4 @@
-use Rattle.std.proofs.Common.{◌≡◌, drop, map}
-use Rattle.rl_line.specs.Record.{entry_of}
-use Rattle.rl_line.specs.Units.{has_change}
+use Rattle.rl_line.proofs.Common.{◌≡◌, drop, map, entry_of, has_change}
 use Rattle.rl_line.proofs.entries.has_change.Given as goal
 
 abbrev pub invariant-loop-entry : goal.invariant-loop-entry

@@ -1,5 +1,4 @@
-use Rattle.std.proofs.Common.{arith}
-use Rattle.rl_base.specs.Event.{InsertChar}
+use Rattle.rl_line.proofs.Common.{arith, InsertChar}
 use Rattle.rl_line.proofs.Records.JoinLemmas.{joins_last-err, joins_last-nothing, joins_last-ok}
 use Rattle.rl_line.proofs.entries.join_char.Goals as goal
 

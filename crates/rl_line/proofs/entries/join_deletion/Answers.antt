@@ -1,6 +1,4 @@
-use Rattle.std.proofs.Common.{arith}
-use Rattle.rl_base.specs.Event.{Delete}
-use Rattle.rl_base.specs.declared.listeners.Direction.TheVariants.{Forward}
+use Rattle.rl_line.proofs.Common.{arith, Delete, Forward}
 use Rattle.rl_line.proofs.Records.JoinLemmas.{joins_last-err, joins_last-nothing, joins_last-ok}
 use Rattle.rl_line.proofs.entries.join_deletion.Goals as goal
 

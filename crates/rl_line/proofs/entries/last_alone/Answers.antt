@@ -1,4 +1,4 @@
-use Rattle.std.proofs.Common.{arith, sym, ◌∙◌}
+use Rattle.rl_line.proofs.Common.{arith, sym, ◌∙◌}
 use Rattle.rl_line.proofs.Records.EntryLemmas.{last-alone}
 use Rattle.rl_line.proofs.entries.last_alone.Goals as goal
 

@@ -1,6 +1,4 @@
-use Rattle.std.proofs.Common.{ap, sym, ◌∙◌}
-use Rattle.std.specs.Option.{option_copied}
-use Rattle.std.specs.Prelude.{not}
+use Rattle.rl_line.proofs.Common.{ap, sym, ◌∙◌, option_copied, not}
 use Rattle.rl_line.proofs.Records.EndLemmas.{last-entry-holds, no-entry-holds}
 use Rattle.rl_line.proofs.entries.last_has_change.Goals as goal
 

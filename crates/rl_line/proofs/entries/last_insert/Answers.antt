@@ -1,5 +1,4 @@
-use Rattle.std.proofs.Common.{arith}
-use Rattle.std.proofs.lemmas.Grind.{common_steps}
+use Rattle.rl_line.proofs.Common.{arith, common_steps}
 use Rattle.rl_line.proofs.entries.last_insert.Goals as goal
 
 pub loop-left-preserved : goal.loop-left-preserved

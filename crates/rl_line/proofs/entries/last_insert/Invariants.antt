@@ -1,5 +1,4 @@
-use Rattle.std.proofs.Common.{◌≡◌, ◌≤◌, length, map, take, reverse}
-use Rattle.rl_line.specs.Record.{entry_of, last_insert, put_in_first}
+use Rattle.rl_line.proofs.Common.{◌≡◌, ◌≤◌, length, map, take, reverse, entry_of, last_insert, put_in_first}
 use Rattle.rl_line.proofs.entries.last_insert.Given as goal
 
 abbrev pub invariant-loop-left : goal.invariant-loop-left

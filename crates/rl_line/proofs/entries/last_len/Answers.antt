@@ -1,4 +1,4 @@
-use Rattle.std.proofs.Common.{◌≡◌, ◌<◌, arith, inl, inr}
+use Rattle.rl_line.proofs.Common.{◌≡◌, ◌<◌, arith, inl, inr}
 use Rattle.rl_line.proofs.Records.EntryLemmas.{count-step, step-end0, step-end, step-begin, count-end}
 use Rattle.rl_line.proofs.entries.last_len.Goals as goal
 use Rattle.rl_line.proofs.entries.last_len.Goals.{then-depth-eq0, else-depth-eq0, then-loop-at-test+else-depth-gt0, then-units-gt0, else-units-gt0, else-loop-at-test}

@@ -1,7 +1,5 @@
-use Rattle.std.proofs.Common.{◌≡◌, ◌+◌, ◌-◌, ◌≤◌, length, take, map, reverse}
-use Rattle.std.specs.Prelude.{max}
+use Rattle.rl_line.proofs.Common.{◌≡◌, ◌+◌, ◌-◌, ◌≤◌, length, take, map, reverse, max, entry_of}
 use Rattle.rl_line.proofs.Records.Counts.{back_len}
-use Rattle.rl_line.specs.Record.{entry_of}
 use Rattle.rl_line.proofs.entries.last_len.Given as goal
 
 abbrev pub invariant-loop-at : goal.invariant-loop-at

@@ -1,10 +1,4 @@
-use Rattle.std.proofs.lemmas.Result.{err_from_is_err_and}
-use Rattle.std.proofs.Common.{[], ◌∷◌, arith, ap, length, sym, true, subst, ◌∙◌}
-use Rattle.std.specs.Prelude.{is_some}
-use Rattle.std.specs.Str.{IsCharBoundary}
-use Rattle.rl_line.specs.Change.{entries_to_undo, entry_to_undo, text_after, text_back}
-use Rattle.rl_line.specs.Record.{inverse}
-use Rattle.rl_line.specs.Undo.{line_back}
+use Rattle.rl_line.proofs.Common.{err_from_is_err_and, [], ◌∷◌, arith, ap, length, sym, true, subst, ◌∙◌, is_some, IsCharBoundary, entries_to_undo, entry_to_undo, text_after, text_back, inverse, line_back}
 use Rattle.rl_line.proofs.Records.LeadLemmas.{lone, several}
 use Rattle.rl_line.proofs.Records.MoveLemmas.{marks-lead}
 use Rattle.rl_line.proofs.Records.UndoLemmas.{line_back-is_some}

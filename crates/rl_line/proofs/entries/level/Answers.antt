@@ -1,6 +1,4 @@
-use Rattle.std.proofs.Common.{arith, ap, map, sym, take_all, ◌∙◌}
-use Rattle.rl_line.specs.Record.{entry_of}
-use Rattle.rl_line.specs.Entries.{deep}
+use Rattle.rl_line.proofs.Common.{arith, ap, map, sym, take_all, ◌∙◌, entry_of, deep}
 use Rattle.rl_line.proofs.Records.CountLemmas.{level-counted}
 use Rattle.rl_line.proofs.Records.EntryLemmas.{deep-next}
 use Rattle.rl_line.proofs.entries.level.Goals as goal

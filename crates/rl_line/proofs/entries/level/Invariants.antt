@@ -1,6 +1,4 @@
-use Rattle.std.proofs.Common.{◌≡◌, ◌≤◌, map, take}
-use Rattle.rl_line.specs.Record.{entry_of}
-use Rattle.rl_line.specs.Entries.{deep}
+use Rattle.rl_line.proofs.Common.{◌≡◌, ◌≤◌, map, take, entry_of, deep}
 use Rattle.rl_line.proofs.entries.level.Given as goal
 
 abbrev pub invariant-loop-entry : goal.invariant-loop-entry

@@ -1,4 +1,4 @@
-use Rattle.std.proofs.Common.{rules}
+use Rattle.rl_line.proofs.Common.{rules}
 use Rattle.rl_line.proofs.entries.level_after.Goals as goal
 
 pub returns-in-End-clause-level : goal.returns-in-End-clause-level

@@ -1,4 +1,4 @@
-use Rattle.std.proofs.Common.{arith, inl, inr, refl}
+use Rattle.rl_line.proofs.Common.{arith, inl, inr, refl}
 use Rattle.rl_line.proofs.Records.LevelLemmas.{LevelAt-begin, LevelAt-change, LevelAt-done, LevelAt-end, LevelAt-small, opened-before}
 use Rattle.rl_line.proofs.entries.level_at.Goals as goal
 

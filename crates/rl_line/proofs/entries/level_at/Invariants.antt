@@ -1,4 +1,4 @@
-use Rattle.std.proofs.Common.{◌-◌}
+use Rattle.rl_line.proofs.Common.{◌-◌}
 use Rattle.rl_line.proofs.Records.LevelLemmas.{LevelAt}
 use Rattle.rl_line.proofs.entries.level_at.Given as goal
 

@@ -1,4 +1,4 @@
-use Rattle.std.proofs.Common.{sym, ◌∙◌}
+use Rattle.rl_line.proofs.Common.{sym, ◌∙◌}
 use Rattle.rl_line.proofs.Records.EntryLemmas.{next-alone}
 use Rattle.rl_line.proofs.entries.next_alone.Goals as goal
 

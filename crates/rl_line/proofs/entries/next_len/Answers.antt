@@ -1,4 +1,4 @@
-use Rattle.std.proofs.Common.{arith, sym, ◌∙◌}
+use Rattle.rl_line.proofs.Common.{arith, sym, ◌∙◌}
 use Rattle.rl_line.proofs.Records.EntryLemmas.{Counted-all, Counted-end, Counted-next}
 use Rattle.rl_line.proofs.entries.next_len.Goals as goal
 

@@ -1,5 +1,5 @@
 use Rattle.rl_line.proofs.Records.EntryLemmas.{Counted}
-use Rattle.std.proofs.Common.{length, ◌-◌}
+use Rattle.rl_line.proofs.Common.{length, ◌-◌}
 use Rattle.rl_line.proofs.entries.next_len.Given as goal
 
 abbrev pub invariant-loop-at : goal.invariant-loop-at

@@ -1,5 +1,4 @@
-use Rattle.std.proofs.Common.{◌≡◌, ◌∙◌, ap, sym, map, take}
-use Rattle.rl_line.specs.Record.{entries_told, entry_of, last_told}
+use Rattle.rl_line.proofs.Common.{◌≡◌, ◌∙◌, ap, sym, map, take, entries_told, entry_of, last_told}
 use Rattle.rl_line.proofs.Records.JoinLemmas.{told-last-of, told-others}
 use Rattle.rl_line.proofs.entries.tell.Goals as goal
 use Rattle.rl_line.proofs.entries.tell.Goals.{in-Added, in-Joined}

@@ -1,4 +1,4 @@
-use Rattle.std.proofs.Common.{rules}
+use Rattle.rl_line.proofs.Common.{rules}
 use Rattle.rl_line.proofs.Records.ForgettingLemmas.{removed-front}
 use Rattle.rl_line.proofs.forgetting.drop_first.Goals as goal
 

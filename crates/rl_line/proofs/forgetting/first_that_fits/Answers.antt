@@ -1,4 +1,4 @@
-use Rattle.std.proofs.Common.{arith, sym}
+use Rattle.rl_line.proofs.Common.{arith, sym}
 use Rattle.rl_line.proofs.Records.ForgettingLemmas.{Counted-next, FitsFrom-any, FitsFrom-counted, FitsFrom-stopped}
 use Rattle.rl_line.proofs.forgetting.first_that_fits.Goals as goal
 

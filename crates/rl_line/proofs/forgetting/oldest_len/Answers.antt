@@ -1,8 +1,4 @@
-use Rattle.std.proofs.Common.{◌≡◌, ◌+◌, ◌-◌, ◌<◌, ◌≤◌, ℕ, List, arith, length, take, drop, map, refl, sym, ap, subst, ◌∙◌}
-use Rattle.std.proofs.lemmas.List.{length-take-le, take_rest}
-use Rattle.rl_line.specs.declared.change.Change.{Change}
-use Rattle.rl_line.specs.Record.{entry_of}
-use Rattle.rl_line.specs.Units.{IsMatched, level, redo_of}
+use Rattle.rl_line.proofs.Common.{◌≡◌, ◌+◌, ◌-◌, ◌<◌, ◌≤◌, ℕ, List, arith, length, take, drop, map, refl, sym, ap, subst, ◌∙◌, length-take-le, take_rest, Change, entry_of, IsMatched, level, redo_of}
 use Rattle.rl_line.proofs.Records.ForgettingLemmas.{Forgetting, Forgetting-fits, Forgetting-next, Forgetting-stops, open-stays, unit-is, unit-within}
 use Rattle.rl_line.proofs.Records.MatchLemmas.{Redoes-of}
 use Rattle.rl_line.proofs.forgetting.oldest_len.Goals as goal

@@ -1,4 +1,4 @@
-use Rattle.std.proofs.Common.{◌-◌}
+use Rattle.rl_line.proofs.Common.{◌-◌}
 use Rattle.rl_line.proofs.Records.ForgettingLemmas.{Forgetting}
 use Rattle.rl_line.proofs.forgetting.oldest_len.Given as goal
 

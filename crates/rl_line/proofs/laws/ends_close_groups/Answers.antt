@@ -1,6 +1,4 @@
-use Rattle.std.proofs.Common.{[], ◌∷◌, ◌++◌, append_assoc, sym, subst}
-use Rattle.rl_line.specs.Record.{End}
-use Rattle.rl_line.specs.Units.{IsMatched}
+use Rattle.rl_line.proofs.Common.{[], ◌∷◌, ◌++◌, append_assoc, sym, subst, End, IsMatched}
 use Rattle.rl_line.proofs.Records.UnitLemmas.{IsMatched-front}
 use Rattle.rl_line.proofs.Records.GroupLemmas.{group_at}
 use Rattle.rl_line.proofs.laws.ends_close_groups.Goals as goal

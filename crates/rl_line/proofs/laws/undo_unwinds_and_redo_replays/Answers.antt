@@ -1,4 +1,4 @@
-use Rattle.rl_line.specs.Units.{last_of, redo_of}
+use Rattle.rl_line.proofs.Common.{last_of, redo_of}
 use Rattle.rl_line.proofs.Records.UndoLemmas.{line_ahead-replay, line_back-unwind}
 use Rattle.rl_line.proofs.laws.undo_unwinds_and_redo_replays.Goals as goal
 

@@ -1,8 +1,4 @@
-use Rattle.std.proofs.Common.{◌≡◌, ◌≤◌, ◌+◌, ◌-◌, ◌++◌, length, take, drop, count_by, slice_range, vec_len, sym, ap, ap₂, subst, ◌∙◌, arith}
-use Rattle.std.proofs.lemmas.List.{take_rest, length-drop, drop-drop}
-use Rattle.rl_base.specs.Lines.{is_newline}
-use Rattle.std.specs.List.{replace_range}
-use Rattle.rl_line.specs.LineStarts.{after_newlines, IsTable}
+use Rattle.rl_line.proofs.Common.{◌≡◌, ◌≤◌, ◌+◌, ◌-◌, ◌++◌, length, take, drop, count_by, slice_range, vec_len, sym, ap, ap₂, subst, ◌∙◌, arith, take_rest, length-drop, drop-drop, is_newline, replace_range, after_newlines, IsTable}
 use Rattle.rl_line.proofs.Lines.LineStartLemmas.{IsTable-replaced, IsTable-stays, length-table, IsTable-written, newlines-front, newlines-replaced, newlines-take}
 use Rattle.rl_line.proofs.line_starts.exchange_starts.Goals as goal
 use Rattle.rl_line.proofs.line_starts.exchange_starts.Goals.{After-line_number, Then-stays}

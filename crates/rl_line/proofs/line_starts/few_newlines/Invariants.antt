@@ -1,5 +1,4 @@
-use Rattle.std.proofs.Common.{◌≡◌, take, count_by}
-use Rattle.rl_base.specs.Lines.{is_newline}
+use Rattle.rl_line.proofs.Common.{◌≡◌, take, count_by, is_newline}
 use Rattle.rl_line.proofs.line_starts.few_newlines.Given as goal
 
 abbrev pub invariant-loop-b : goal.invariant-loop-b

@@ -1,6 +1,4 @@
-use Rattle.std.proofs.Common.{◌+◌, length, count_by, slice_range, ap, le_refl, arith}
-use Rattle.std.proofs.lemmas.List.{take_all}
-use Rattle.rl_base.specs.Lines.{is_newline}
+use Rattle.rl_line.proofs.Common.{◌+◌, length, count_by, slice_range, ap, le_refl, arith, take_all, is_newline}
 use Rattle.rl_line.proofs.Lines.LineStartLemmas.{newlines-front}
 use Rattle.rl_line.proofs.line_starts.newlines.Goals as goal
 

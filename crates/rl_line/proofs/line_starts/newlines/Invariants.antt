@@ -1,5 +1,4 @@
-use Rattle.std.proofs.Common.{◌≡◌, ◌-◌, ◌≤◌, take, length, count_by}
-use Rattle.rl_base.specs.Lines.{is_newline}
+use Rattle.rl_line.proofs.Common.{◌≡◌, ◌-◌, ◌≤◌, take, length, count_by, is_newline}
 use Rattle.rl_line.proofs.line_starts.newlines.Given as goal
 
 abbrev pub invariant-loop-at : goal.invariant-loop-at

@@ -1,8 +1,5 @@
 use mir.Val.{bool_byte}
-use Rattle.std.proofs.Common.{◌≡◌, Bool, true, false, eqb, count_by, refl, sym, ◌∙◌}
-use Rattle.std.proofs.lemmas.Bool.{eqb-true, eqb-false}
-use Rattle.std.specs.Prelude.{encode_utf8}
-use Rattle.rl_base.specs.Lines.{is_newline}
+use Rattle.rl_line.proofs.Common.{◌≡◌, Bool, true, false, eqb, count_by, refl, sym, ◌∙◌, eqb-true, eqb-false, encode_utf8, is_newline}
 use Rattle.rl_line.proofs.Lines.LineStartLemmas.{newlines-one, newlines-other}
 use Rattle.rl_line.proofs.line_starts.newlines_of.Goals as goal
 

@@ -1,6 +1,4 @@
-use Rattle.std.proofs.Common.{◌≡◌, ◌+◌, ◌-◌, ◌++◌, List, ℕ, length, replicate, take, drop, vec_len, ap, ◌∙◌, arith}
-use Rattle.std.proofs.lemmas.List.{length-replicate, take_all}
-use Rattle.std.specs.List.{copy_within}
+use Rattle.rl_line.proofs.Common.{◌≡◌, ◌+◌, ◌-◌, ◌++◌, List, ℕ, length, replicate, take, drop, vec_len, ap, ◌∙◌, arith, length-replicate, take_all, copy_within}
 use Rattle.rl_line.proofs.Lines.LineStartLemmas.{gap-less, gap-more, gap-up}
 use Rattle.rl_line.proofs.line_starts.open_gap.Goals as goal
 use Rattle.rl_line.proofs.line_starts.open_gap.Goals.{After-copy_within-2}

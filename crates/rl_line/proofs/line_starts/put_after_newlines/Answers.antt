@@ -1,6 +1,4 @@
-use Rattle.std.proofs.Common.{◌≡◌, ◌<◌, ◌+◌, ◌++◌, ◌∷◌, [], map, drop, length, length-append, ap, ap₂, sym, ◌∙◌, arith}
-use Rattle.std.proofs.lemmas.List.{append_assoc, append-nil, length_push}
-use Rattle.memchr.specs.Find.{is_byte, places}
+use Rattle.rl_line.proofs.Common.{◌≡◌, ◌<◌, ◌+◌, ◌++◌, ◌∷◌, [], map, drop, length, length-append, ap, ap₂, sym, ◌∙◌, arith, append_assoc, append-nil, length_push, is_byte, places}
 use Rattle.rl_line.proofs.Lines.LineStartLemmas.{found, found-within, length-found, put_more}
 use Rattle.rl_line.proofs.line_starts.put_after_newlines.Goals as goal
 use Rattle.rl_line.proofs.line_starts.put_after_newlines.Goals.{In-Some}

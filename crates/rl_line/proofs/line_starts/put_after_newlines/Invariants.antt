@@ -1,5 +1,4 @@
-use Rattle.std.proofs.Common.{◌≡◌, ◌+◌, ◌++◌, map, drop, length}
-use Rattle.memchr.specs.Find.{is_byte, places}
+use Rattle.rl_line.proofs.Common.{◌≡◌, ◌+◌, ◌++◌, map, drop, length, is_byte, places}
 use Rattle.rl_line.proofs.line_starts.put_after_newlines.Given as goal
 
 abbrev pub invariant-loop-newline : goal.invariant-loop-newline

@@ -1,7 +1,5 @@
-use Rattle.std.proofs.Common.{◌∙◌, sym, arith}
-use Rattle.std.specs.List.{replace_range}
+use Rattle.rl_line.proofs.Common.{◌∙◌, sym, arith, replace_range, IsTable}
 use Rattle.rl_line.proofs.Lines.LineStartLemmas.{IsTable-stays, length-table, newlines-replaced}
-use Rattle.rl_line.specs.LineStarts.{IsTable}
 use Rattle.rl_line.proofs.line_starts.swap_starts.Goals as goal
 
 -- the table is that of the new text too, where the function returns at once

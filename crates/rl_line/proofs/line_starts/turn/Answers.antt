@@ -1,8 +1,4 @@
-use Rattle.std.proofs.Common.{rules, arith}
-use Rattle.std.proofs.lemmas.List.{get_or_default}
-use Rattle.std.proofs.lemmas.List.Edits.{map_over_more}
-use Rattle.std.proofs.lemmas.Grind.{common_steps}
-use Rattle.rl_line.specs.LineStarts.{from_end}
+use Rattle.rl_line.proofs.Common.{rules, arith, get_or_default, map_over_more, common_steps, from_end}
 use Rattle.rl_line.proofs.line_starts.turn.Goals as goal
 
 pub loop-place-preserved : goal.loop-place-preserved

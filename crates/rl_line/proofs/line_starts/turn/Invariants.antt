@@ -1,5 +1,4 @@
-use Rattle.std.proofs.Common.{◌≡◌, ◌++◌, take, drop, map}
-use Rattle.rl_line.specs.LineStarts.{from_end}
+use Rattle.rl_line.proofs.Common.{◌≡◌, ◌++◌, take, drop, map, from_end}
 use Rattle.rl_line.proofs.line_starts.turn.Given as goal
 
 abbrev pub invariant-loop-place : goal.invariant-loop-place

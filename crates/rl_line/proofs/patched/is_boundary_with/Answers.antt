@@ -1,5 +1,4 @@
-use Rattle.std.proofs.Common.{arith, ◌+◌, ◌-◌, ap, length, sym, ◌∙◌}
-use Rattle.rl_base.specs.Text.{is_boundary}
+use Rattle.rl_line.proofs.Common.{arith, ◌+◌, ◌-◌, ap, length, sym, ◌∙◌, is_boundary}
 use Rattle.rl_line.proofs.Records.PatchLemmas.{boundary-beyond, is_boundary-tested, patched-after, patched-before, patched-within}
 use Rattle.rl_line.proofs.patched.is_boundary_with.Goals as goal
 

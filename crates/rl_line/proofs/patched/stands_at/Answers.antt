@@ -1,5 +1,4 @@
-use Rattle.std.proofs.Common.{arith, ◌≡◌, ◌+◌, ◌∙◌, ap, bytes_eq, length, refl, slice_range, subst, sym}
-use Rattle.std.specs.Str.{IsCharBoundary}
+use Rattle.rl_line.proofs.Common.{arith, ◌≡◌, ◌+◌, ◌∙◌, ap, bytes_eq, length, refl, slice_range, subst, sym, IsCharBoundary}
 use Rattle.rl_line.proofs.Records.ChangeLemmas.{stands_at-is, stands_at-not}
 use Rattle.rl_line.proofs.patched.stands_at.Goals as goal
 

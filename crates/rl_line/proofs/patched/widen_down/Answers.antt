@@ -1,6 +1,4 @@
-use Rattle.std.proofs.Common.{arith, ◌++◌, ap, ◌∙◌}
-use Rattle.std.specs.List.{replace_range}
-use Rattle.std.specs.String.{string_bytes}
+use Rattle.rl_line.proofs.Common.{arith, ◌++◌, ap, ◌∙◌, replace_range, string_bytes}
 use Rattle.rl_line.proofs.Records.PatchLemmas.{widened-down}
 use Rattle.rl_line.proofs.patched.widen_down.Goals as goal
 

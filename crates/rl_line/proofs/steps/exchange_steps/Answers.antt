@@ -1,12 +1,5 @@
-use Rattle.std.proofs.Common.{rules, arith, [], ◌∷◌, refl, sym, subst}
-use Rattle.std.proofs.lemmas.Result.{err_from_is_err_and}
-use Rattle.std.proofs.lemmas.Str.{IsUtf8-string_bytes}
-use Rattle.std.specs.Str.{IsCharBoundary}
-use Rattle.std.specs.String.{string_bytes}
+use Rattle.rl_line.proofs.Common.{rules, arith, [], ◌∷◌, refl, sym, subst, err_from_is_err_and, IsUtf8-string_bytes, IsCharBoundary, string_bytes, Forward, exchange_plan, line_of}
 use Rattle.rl_base.proofs.Texts.TextLemmas.{IsCharBoundary-at_removal}
-use Rattle.rl_base.specs.declared.listeners.Direction.TheVariants.{Forward}
-use Rattle.rl_line.specs.Edits.{exchange_plan}
-use Rattle.rl_line.specs.Line.{line_of}
 use Rattle.rl_line.proofs.Plans.PlanLemmas.{Halted-after, Halted-at_first, Taken-append}
 use Rattle.rl_line.proofs.Plans.StepLemmas.{line_of-kept, Taken-deletion, Taken-insertion}
 use Rattle.rl_line.proofs.steps.exchange_steps.Goals as goal

@@ -1,8 +1,4 @@
-use Rattle.std.proofs.Common.{arith, count_by, slice_range, ap}
-use Rattle.std.proofs.lemmas.List.Edits.{length-between}
-use Rattle.std.proofs.lemmas.Result.{err_from_is_err_and}
-use Rattle.std.specs.String.{string_bytes}
-use Rattle.rl_base.specs.Lines.{is_newline}
+use Rattle.rl_line.proofs.Common.{arith, count_by, slice_range, ap, length-between, err_from_is_err_and, string_bytes, is_newline}
 use Rattle.rl_line.proofs.Plans.EditLemmas.{longer_or_more}
 use Rattle.rl_line.proofs.Lines.LineStartLemmas.{length-table, newlines-slice}
 use Rattle.rl_line.proofs.swap.find_room_instead.Goals as goal

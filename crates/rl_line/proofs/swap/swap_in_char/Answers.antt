@@ -1,8 +1,4 @@
-use Rattle.std.proofs.Common.{◌∙◌, ap, subst, sym, arith}
-use Rattle.std.specs.List.{insert_slice}
-use Rattle.std.specs.Prelude.{encode_utf8}
-use Rattle.std.specs.Str.{IsCharBoundary}
-use Rattle.rl_line.specs.LineStarts.{IsTable}
+use Rattle.rl_line.proofs.Common.{◌∙◌, ap, subst, sym, arith, insert_slice, encode_utf8, IsCharBoundary, IsTable}
 use Rattle.rl_line.proofs.Lines.LineStartLemmas.{IsTable-stays}
 use Rattle.rl_line.proofs.swap.swap_in_char.Goals as goal
 use Rattle.rl_line.proofs.swap.swap_in_char.Goals.{then-not-stays, else-not-stays}

@@ -1,8 +1,4 @@
-use Rattle.std.proofs.Common.{ℕ, List, ◌≡◌, ◌∙◌, ap, subst, sym}
-use Rattle.std.proofs.lemmas.Str.{IsUtf8-string_bytes}
-use Rattle.std.specs.List.{replace_range}
-use Rattle.std.specs.Str.{IsUtf8}
-use Rattle.std.specs.String.{string_bytes}
+use Rattle.rl_line.proofs.Common.{ℕ, List, ◌≡◌, ◌∙◌, ap, subst, sym, IsUtf8-string_bytes, replace_range, IsUtf8, string_bytes}
 use Rattle.rl_base.proofs.Texts.TextLemmas.{IsUtf8-replaced}
 use Rattle.rl_line.proofs.swap.swap_within.Goals as goal
 

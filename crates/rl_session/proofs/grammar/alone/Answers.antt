@@ -1,4 +1,4 @@
-use Rattle.rl_session.specs.Grammar.{no_text}
+use Rattle.rl_session.proofs.Common.{no_text}
 use Rattle.rl_session.proofs.grammar.alone.Goals as goal
 
 pub returns-in-text : goal.returns-in-text

@@ -1,9 +1,6 @@
-use Rattle.std.proofs.Common.{◌≡◌, ℕ, true, false, List, Option, None, Some, refl, sym}
-use Rattle.std.specs.Prelude.{MatchOption}
-use Rattle.rl_session.specs.Grammar.{Says, Do, pos, move, ins, yank, twords, cased, kill, copy, indent, dedent, undo, trunc}
+use Rattle.rl_session.proofs.Common.{◌≡◌, ℕ, true, false, List, Option, None, Some, refl, sym, MatchOption, Says, Do, pos, move, ins, twords, cased, kill, copy, indent, dedent, undo, trunc, holds_text, deletes, SaysNoDeletion, SaysNoCommand, Command}
+use Rattle.rl_session.specs.Grammar.{yank}
 use Rattle.rl_session.proofs.Scripts.WordLemmas.{no-pos, no-move, no-yank, no-twords, no-case, no-kill, no-copy, no-indent, no-dedent, no-undo, no-trunc}
-use Rattle.rl_session.specs.Parsing.{holds_text, deletes, SaysNoDeletion, SaysNoCommand}
-use Rattle.rl_session.specs.declared.session.Command.{Command}
 use Rattle.rl_session.proofs.grammar.command.Goals as goal
 use Rattle.rl_session.proofs.grammar.command.Goals.{After-deletion}
 

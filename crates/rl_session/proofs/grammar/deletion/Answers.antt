@@ -1,8 +1,5 @@
-use Rattle.std.proofs.Common.{◌≡◌, ℕ, true, List, Some, refl, sym}
-use Rattle.rl_session.specs.Grammar.{Says, Do, range, del, back, prevword, nextword, to, killrange}
+use Rattle.rl_session.proofs.Common.{◌≡◌, ℕ, true, List, Some, refl, sym, Says, Do, range, del, back, prevword, nextword, to, killrange, deletes, Command}
 use Rattle.rl_session.proofs.Scripts.WordLemmas.{no-del, no-back, no-prevword, no-nextword, no-to, no-killrange}
-use Rattle.rl_session.specs.Parsing.{deletes}
-use Rattle.rl_session.specs.declared.session.Command.{Command}
 use Rattle.rl_session.proofs.grammar.deletion.Goals as goal
 use Rattle.rl_session.proofs.grammar.deletion.Goals.{In_default}
 

@@ -1,4 +1,4 @@
-use Rattle.rl_session.specs.Grammar.{yankpop, killline, killbuf, discline, discbuf, tchars, begin, end, endone, redo, line_place, keep}
+use Rattle.rl_session.proofs.Common.{yankpop, killline, killbuf, discline, discbuf, tchars, begin, end, endone, redo, line_place, keep}
 use Rattle.rl_session.proofs.grammar.lone_command.Goals as goal
 
 pub returns-in-yankpop : goal.returns-in-yankpop

@@ -1,4 +1,4 @@
-use Rattle.rl_session.specs.Grammar.{whole, home, eol, first, nonblank, buf, bob, eob}
+use Rattle.rl_session.proofs.Common.{whole, home, eol, first, nonblank, buf, bob, eob}
 use Rattle.rl_session.proofs.grammar.lone_movement.Goals as goal
 
 pub returns-in-line : goal.returns-in-line

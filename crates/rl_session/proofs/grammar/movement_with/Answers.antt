@@ -1,5 +1,4 @@
-use Rattle.std.proofs.Common.{sym}
-use Rattle.rl_session.specs.Grammar.{bword, fword, find, bchar, fchar, up, down}
+use Rattle.rl_session.proofs.Common.{sym, bword, fword, find, bchar, fchar, up, down}
 use Rattle.rl_session.proofs.Scripts.MovementLemmas.{no-bword, no-fword, no-find}
 use Rattle.rl_session.proofs.grammar.movement_with.Goals as goal
 

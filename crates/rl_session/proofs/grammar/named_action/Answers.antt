@@ -1,4 +1,4 @@
-use Rattle.rl_session.specs.Grammar.{cap, low, upper}
+use Rattle.rl_session.proofs.Common.{cap, low, upper}
 use Rattle.rl_session.proofs.grammar.named_action.Goals as goal
 
 pub returns-in-cap : goal.returns-in-cap

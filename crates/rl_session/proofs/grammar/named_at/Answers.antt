@@ -1,4 +1,5 @@
-use Rattle.rl_session.specs.Grammar.{start, before, after}
+use Rattle.rl_session.proofs.Common.{start, before}
+use Rattle.rl_session.specs.Grammar.{after}
 use Rattle.rl_session.proofs.grammar.named_at.Goals as goal
 
 pub returns-in-start : goal.returns-in-start

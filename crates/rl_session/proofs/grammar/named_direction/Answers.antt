@@ -1,4 +1,4 @@
-use Rattle.rl_session.specs.Grammar.{ahead, backward}
+use Rattle.rl_session.proofs.Common.{ahead, backward}
 use Rattle.rl_session.proofs.grammar.named_direction.Goals as goal
 
 pub returns-in-f : goal.returns-in-f

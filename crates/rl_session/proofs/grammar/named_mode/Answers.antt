@@ -1,4 +1,4 @@
-use Rattle.rl_session.specs.Grammar.{unicode, wcwidth, nozwj}
+use Rattle.rl_session.proofs.Common.{unicode, wcwidth, nozwj}
 use Rattle.rl_session.proofs.grammar.named_mode.Goals as goal
 
 pub returns-in-unicode : goal.returns-in-unicode

@@ -1,4 +1,5 @@
-use Rattle.rl_session.specs.Grammar.{onto, till, back_onto, back_till}
+use Rattle.rl_session.proofs.Common.{till, back_onto, back_till}
+use Rattle.rl_session.specs.Grammar.{onto}
 use Rattle.rl_session.proofs.grammar.named_search.Goals as goal
 
 pub returns-in-f : goal.returns-in-f

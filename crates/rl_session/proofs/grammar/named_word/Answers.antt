@@ -1,4 +1,4 @@
-use Rattle.rl_session.specs.Grammar.{big, emacs, vi}
+use Rattle.rl_session.proofs.Common.{big, emacs, vi}
 use Rattle.rl_session.proofs.grammar.named_word.Goals as goal
 
 pub returns-in-big : goal.returns-in-big

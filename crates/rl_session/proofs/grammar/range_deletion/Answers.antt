@@ -1,5 +1,4 @@
-use Rattle.std.proofs.Common.{sym}
-use Rattle.rl_session.specs.Grammar.{range}
+use Rattle.rl_session.proofs.Common.{sym, range}
 use Rattle.rl_session.proofs.Scripts.WordLemmas.{range-no_start, range-no_end}
 use Rattle.rl_session.proofs.grammar.range_deletion.Goals as goal
 

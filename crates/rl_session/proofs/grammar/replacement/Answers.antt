@@ -1,6 +1,4 @@
-use Rattle.rl_session.specs.Grammar.{rep}
-use Rattle.std.proofs.lemmas.Result.{err_from_is_err_and}
-use Rattle.rl_session.specs.Parsing.{replaced}
+use Rattle.rl_session.proofs.Common.{rep, err_from_is_err_and, replaced}
 use Rattle.rl_session.proofs.grammar.replacement.Goals as goal
 
 pub returns-in-Some-2-clause-ok : goal.returns-in-Some-2-clause-ok

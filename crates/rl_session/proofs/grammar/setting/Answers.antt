@@ -1,5 +1,4 @@
-use Rattle.std.proofs.Common.{sym}
-use Rattle.rl_session.specs.Grammar.{limit, ring, mode}
+use Rattle.rl_session.proofs.Common.{sym, limit, ring, mode}
 use Rattle.rl_session.proofs.grammar.setting.Goals as goal
 
 pub returns-in_ok-number-in-limit : goal.returns-in_ok-number-in-limit

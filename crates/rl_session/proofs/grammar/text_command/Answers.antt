@@ -1,6 +1,4 @@
-use Rattle.rl_session.specs.Grammar.{paste, update, str, keep}
-use Rattle.std.proofs.lemmas.Result.{err_from_is_err_and}
-use Rattle.rl_session.specs.Parsing.{pasted, updated, put_in, kept}
+use Rattle.rl_session.proofs.Common.{paste, update, str, keep, err_from_is_err_and, pasted, updated, put_in, kept}
 use Rattle.rl_session.proofs.grammar.text_command.Goals as goal
 
 pub returns-in-Some-clause-ok : goal.returns-in-Some-clause-ok

@@ -1,6 +1,4 @@
-use Rattle.rl_session.specs.Grammar.{text}
-use Rattle.std.proofs.lemmas.Result.{err_from_is_err_and}
-use Rattle.rl_session.specs.Parsing.{new_text}
+use Rattle.rl_session.proofs.Common.{text, err_from_is_err_and, new_text}
 use Rattle.rl_session.proofs.grammar.with_given.Goals as goal
 
 pub returns-in-Some-clause-ok : goal.returns-in-Some-clause-ok

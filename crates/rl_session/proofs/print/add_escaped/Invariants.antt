@@ -1,5 +1,4 @@
-use Rattle.std.proofs.Common.{◌≡◌, ◌++◌, length}
-use Rattle.rl_session.specs.Print.{escaped}
+use Rattle.rl_session.proofs.Common.{◌≡◌, ◌++◌, length, escaped}
 use Rattle.rl_session.proofs.print.add_escaped.Given as goal
 
 abbrev pub invariant-loop-rest : goal.invariant-loop-rest

@@ -1,4 +1,4 @@
-use Rattle.std.proofs.Common.{rules}
+use Rattle.rl_session.proofs.Common.{rules}
 use Rattle.rl_session.proofs.print.is_special.Goals as goal
 
 pub returns-then-spaces : goal.returns-then-spaces

@@ -1,9 +1,6 @@
-use Rattle.std.proofs.Common.{◌≡◌, not, ap, ◌∙◌, arith}
-use Rattle.std.proofs.lemmas.Simd.{length-chunk, trailing_mask_l, none_from_empty_mask, run_in_chunk_le, run_in_chunk_fails, run_in_chunk_stops}
-use Rattle.std.specs.List.{prefix_len}
+use Rattle.rl_session.proofs.Common.{◌≡◌, not, ap, ◌∙◌, arith, length-chunk, trailing_mask_l, none_from_empty_mask, run_in_chunk_le, run_in_chunk_fails, run_in_chunk_stops, prefix_len, is_special}
 use lib.Count.{count_trailing_zeros}
 use lib.Lanes.{chunk}
-use Rattle.rl_session.specs.Writes.{is_special}
 use Rattle.rl_session.proofs.print.plain_lanes.Goals as goal
 
 pub returns-then-found-eq0-clause-plain : goal.returns-then-found-eq0-clause-plain

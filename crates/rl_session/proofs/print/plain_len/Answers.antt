@@ -1,4 +1,4 @@
-use Rattle.std.proofs.Common.{◌≤◌, arith}
+use Rattle.rl_session.proofs.Common.{◌≤◌, arith}
 use Rattle.rl_session.proofs.Scripts.LaneLemmas.{plain-front, ArePlain-both}
 use Rattle.rl_session.proofs.print.plain_len.Goals as goal
 

@@ -1,5 +1,4 @@
-use Rattle.std.proofs.Common.{◌-◌, ◌≤◌, length}
-use Rattle.rl_session.specs.Writes.{ArePlain}
+use Rattle.rl_session.proofs.Common.{◌-◌, ◌≤◌, length, ArePlain}
 use Rattle.rl_session.proofs.print.plain_len.Given as goal
 
 abbrev pub invariant-loop-i : goal.invariant-loop-i

@@ -1,4 +1,4 @@
-use Rattle.std.proofs.Common.{sym, ◌∙◌}
+use Rattle.rl_session.proofs.Common.{sym, ◌∙◌}
 use Rattle.rl_session.proofs.Scripts.LaneLemmas.{ArePlain-more}
 use Rattle.rl_session.proofs.print.plain_len_of_few.Goals as goal
 

@@ -1,4 +1,4 @@
-use Rattle.rl_session.specs.Writes.{ArePlain}
+use Rattle.rl_session.proofs.Common.{ArePlain}
 use Rattle.rl_session.proofs.print.plain_len_of_few.Given as goal
 
 abbrev pub invariant-loop-i : goal.invariant-loop-i

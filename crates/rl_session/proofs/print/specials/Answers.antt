@@ -1,6 +1,4 @@
-use Rattle.std.proofs.Common.{true, false, refl, arith}
-use Rattle.std.proofs.lemmas.Simd.{zip2_splat}
-use Rattle.rl_session.specs.Writes.{is_special}
+use Rattle.rl_session.proofs.Common.{true, false, refl, arith, zip2_splat, is_special}
 use Rattle.rl_session.proofs.Scripts.LaneLemmas.{hit, either, masked}
 use Rattle.rl_session.proofs.print.specials.Goals as goal
 

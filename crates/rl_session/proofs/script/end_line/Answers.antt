@@ -1,6 +1,4 @@
-use Rattle.std.proofs.Common.{arith, refl, ◌∷◌, [], length-append}
-use Rattle.std.proofs.lemmas.Result.{err_from_is_err_and, on_ok_weaker}
-use Rattle.rl_session.specs.declared.script.ScriptFault.TheVariants.{Write}
+use Rattle.rl_session.proofs.Common.{arith, refl, ◌∷◌, [], length-append, err_from_is_err_and, on_ok_weaker, Write}
 use Rattle.rl_session.proofs.Scripts.LineLemmas.{LineOut-said, Took-ended}
 use Rattle.rl_session.proofs.Scripts.FaultLemmas.{Halts-none, Halts-ended, IfErr-only}
 use Rattle.rl_session.proofs.script.end_line.Goals as goal

@@ -1,8 +1,4 @@
-use Rattle.std.proofs.Common.{arith, ◌≡◌, ◌-◌, take, drop, length, sym, subst}
-use Rattle.std.proofs.KnownBytes.{Appends-trans}
-use Rattle.std.proofs.Math.Seq.{take-add}
-use Rattle.std.proofs.lemmas.List.{take_all, length-drop}
-use Rattle.std.specs.Io.KnownBytes.{Appends}
+use Rattle.rl_session.proofs.Common.{arith, ◌≡◌, ◌-◌, take, drop, length, sym, subst, Appends-trans, take-add, take_all, length-drop, Appends}
 use Rattle.rl_session.proofs.script.put_line.Goals as goal
 
 pub loop-done-preserved : goal.loop-done-preserved

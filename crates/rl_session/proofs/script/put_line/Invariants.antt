@@ -1,5 +1,4 @@
-use Rattle.std.proofs.Common.{◌-◌, ◌≤◌, length, take}
-use Rattle.std.specs.Io.KnownBytes.{Appends}
+use Rattle.rl_session.proofs.Common.{◌-◌, ◌≤◌, length, take, Appends}
 use Rattle.rl_session.proofs.script.put_line.Given as goal
 
 abbrev pub invariant-loop-done : goal.invariant-loop-done

@@ -1,9 +1,6 @@
-use Rattle.std.specs.Prelude.{◌==◌}
-use Rattle.std.proofs.Common.{ap, arith, ◌≤◌, length, take, length-take, refl, sym, ◌∙◌}
-use Rattle.std.proofs.lemmas.Result.{on_ok_weaker, err_from_is_err_and, IfErr-weaker}
+use Rattle.rl_session.proofs.Common.{◌==◌, ap, arith, ◌≤◌, length, take, length-take, refl, sym, ◌∙◌, on_ok_weaker, err_from_is_err_and, IfErr-weaker, Keeps-refl}
 use Rattle.rl_session.proofs.Scripts.LineLemmas.{Runs-more, Ran-end, Ran-last}
 use Rattle.rl_session.proofs.Scripts.NumberLemmas.{is_nil, not_nil}
-use Rattle.std.proofs.KnownBytes.{Keeps-refl}
 use Rattle.rl_session.proofs.Scripts.FaultLemmas.{StoppedBy-halts, StoppedBy-last, StoppedBy-read, Stopped-by, Stopped-at}
 use Rattle.rl_session.proofs.script.run_blocks.Goals as goal
 

@@ -1,6 +1,4 @@
-use Rattle.std.proofs.Common.{◌≡◌, length}
-use Rattle.rl_session.specs.Progress.{HasNoNewline}
-use Rattle.rl_session.specs.Progress.{Runs}
+use Rattle.rl_session.proofs.Common.{◌≡◌, length, HasNoNewline, Runs}
 use Rattle.rl_session.proofs.script.run_blocks.Given as goal
 
 abbrev pub invariant-loop : goal.invariant-loop

@@ -1,4 +1,4 @@
-use Rattle.std.proofs.lemmas.Result.{err_from_is_err_and}
+use Rattle.rl_session.proofs.Common.{err_from_is_err_and}
 use Rattle.rl_session.proofs.Scripts.FaultLemmas.{StoppedBy-first, Stopped-by}
 use Rattle.rl_session.proofs.script.run_script.Goals as goal
 

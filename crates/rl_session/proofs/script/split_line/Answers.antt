@@ -1,5 +1,4 @@
-use Rattle.std.proofs.Common.{add-one}
-use Rattle.std.proofs.lemmas.List.{take_rest}
+use Rattle.rl_session.proofs.Common.{add-one, take_rest}
 use Rattle.rl_session.proofs.Scripts.LineLemmas.{HasNoNewline-nowhere, parted}
 use Rattle.rl_session.proofs.script.split_line.Goals as goal
 

@@ -1,5 +1,4 @@
-use Rattle.std.proofs.Common.{◌<◌, ◌++◌, ◌∷◌, [], arith, length}
-use Rattle.std.proofs.lemmas.Result.{err_from_is_err_and}
+use Rattle.rl_session.proofs.Common.{◌<◌, ◌++◌, ◌∷◌, [], arith, length, err_from_is_err_and}
 use Rattle.rl_session.proofs.Scripts.LineLemmas.{longer_front, HasNoNewline-append, Took-trans, Took-part}
 use Rattle.rl_session.proofs.Scripts.FaultLemmas.{Halts-none, Halts-after, Halts-longer}
 use Rattle.rl_session.proofs.script.take_block.Goals as goal

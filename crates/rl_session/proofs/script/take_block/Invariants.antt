@@ -1,5 +1,4 @@
-use Rattle.std.proofs.Common.{◌≡◌, ◌++◌, List, ℕ, length}
-use Rattle.rl_session.specs.Progress.{HasNoNewline, Took}
+use Rattle.rl_session.proofs.Common.{◌≡◌, ◌++◌, List, ℕ, length, HasNoNewline, Took}
 use Rattle.rl_session.proofs.script.take_block.Given as goal
 
 abbrev pub invariant-loop-end : goal.invariant-loop-end

@@ -1,6 +1,4 @@
-use Rattle.std.proofs.Common.{refl, subst, sym}
-use Rattle.std.specs.Prelude.{IsSome}
-use Rattle.rl_line.specs.Undo.{line_ahead}
+use Rattle.rl_session.proofs.Common.{refl, subst, sym, IsSome, line_ahead}
 use Rattle.rl_line.proofs.Records.RecordLemmas.{value_of}
 use Rattle.rl_line.proofs.Records.UndoLemmas.{line_ahead-replay}
 use Rattle.rl_session.proofs.Sessions.SessionLemmas.{Follows-unwind}

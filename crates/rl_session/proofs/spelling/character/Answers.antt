@@ -1,4 +1,4 @@
-use Rattle.std.proofs.Common.{sym}
+use Rattle.rl_session.proofs.Common.{sym}
 use Rattle.rl_session.proofs.Scripts.NumberLemmas.{is_nil, not_nil}
 use Rattle.rl_session.proofs.Scripts.SpellingLemmas.{char-whole, char-more}
 use Rattle.rl_session.proofs.spelling.character.Goals as goal

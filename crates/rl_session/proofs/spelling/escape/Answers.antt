@@ -1,4 +1,4 @@
-use Rattle.std.proofs.Common.{sym, ◌∙◌}
+use Rattle.rl_session.proofs.Common.{sym, ◌∙◌}
 use Rattle.rl_session.proofs.Scripts.EscapeLemmas.{after_u, by_letter, no_letter}
 use Rattle.rl_session.proofs.spelling.escape.Goals as goal
 

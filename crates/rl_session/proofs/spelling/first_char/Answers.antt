@@ -1,6 +1,4 @@
-use Rattle.std.proofs.Common.{arith, sym, ◌∙◌}
-use Rattle.std.proofs.lemmas.List.{nil_from_length}
-use Rattle.std.proofs.lemmas.Str.Pattern.{strip_prefix_char}
+use Rattle.rl_session.proofs.Common.{arith, sym, ◌∙◌, nil_from_length, strip_prefix_char}
 use Rattle.rl_session.proofs.Scripts.SpellingLemmas.{Begins-char, no_char, escaped_char, not_slash, IsScalar-first}
 use Rattle.rl_session.proofs.spelling.first_char.Goals as goal
 

@@ -1,6 +1,4 @@
-use Rattle.std.proofs.Common.{arith, sym, ◌∙◌, ap}
-use Rattle.std.proofs.lemmas.Str.Pattern.{split_parts}
-use Rattle.rl_session.specs.Spelling.{word, rest}
+use Rattle.rl_session.proofs.Common.{arith, sym, ◌∙◌, ap, split_parts, word, rest}
 use Rattle.rl_session.proofs.Scripts.PartLemmas.{Lacks-by_index}
 use Rattle.rl_session.proofs.Scripts.WordLemmas.{word-before, rest-after, word-whole, rest-none}
 use Rattle.rl_session.proofs.spelling.first_word.Goals as goal

@@ -1,5 +1,4 @@
-use Rattle.std.proofs.Common.{List, ℕ, length}
-use Rattle.std.specs.Str.{IsUtf8}
+use Rattle.rl_session.proofs.Common.{List, ℕ, length, IsUtf8}
 use Rattle.rl_session.specs.Parsing.{Begins}
 use Rattle.rl_session.proofs.spelling.is_well_formed.Given as goal
 

@@ -1,4 +1,4 @@
-use Rattle.std.proofs.Common.{arith, ap, ◌<◌, length}
+use Rattle.rl_session.proofs.Common.{arith, ap, ◌<◌, length}
 use Rattle.rl_session.proofs.Scripts.NumberLemmas.{hex-small}
 use Rattle.rl_session.proofs.spelling.named_char.Goals as goal
 

@@ -1,5 +1,4 @@
-use Rattle.std.proofs.Common.{◌≡◌, ◌<◌, ◌^◌, drop}
-use Rattle.rl_session.specs.Spelling.{hex_from}
+use Rattle.rl_session.proofs.Common.{◌≡◌, ◌<◌, ◌^◌, drop, hex_from}
 use Rattle.rl_session.proofs.spelling.named_char.Given as goal
 
 abbrev pub invariant-loop-b : goal.invariant-loop-b

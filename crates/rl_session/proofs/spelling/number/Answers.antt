@@ -1,6 +1,4 @@
-use Rattle.std.proofs.Common.{arith, sym, ◌∙◌}
-use Rattle.std.proofs.lemmas.List.{at_drop_all}
-use Rattle.rl_session.specs.Spelling.{are_digits, value_from}
+use Rattle.rl_session.proofs.Common.{arith, sym, ◌∙◌, at_drop_all, are_digits, value_from}
 use Rattle.rl_session.proofs.Scripts.NumberLemmas.{number-nothing, number-bad, number-great, number-whole, is_nil, some_length}
 use Rattle.rl_session.proofs.spelling.number.Goals as goal
 

@@ -1,5 +1,4 @@
-use Rattle.std.proofs.Common.{◌≡◌, ◌≤◌, drop}
-use Rattle.rl_session.specs.Spelling.{value_from, are_digits}
+use Rattle.rl_session.proofs.Common.{◌≡◌, ◌≤◌, drop, value_from, are_digits}
 use Rattle.rl_session.proofs.spelling.number.Given as goal
 
 abbrev pub invariant-loop-b : goal.invariant-loop-b

@@ -1,6 +1,4 @@
-use Rattle.std.proofs.Common.{length}
-use Rattle.std.specs.Str.{IsUtf8}
-use Rattle.std.specs.String.{string_bytes}
+use Rattle.rl_session.proofs.Common.{length, IsUtf8, string_bytes}
 use Rattle.rl_session.specs.Parsing.{Begins}
 use Rattle.rl_session.proofs.spelling.read_text.Given as goal
 

@@ -1,4 +1,4 @@
-use Rattle.std.proofs.Common.{arith}
+use Rattle.rl_base.proofs.Common.{arith}
 use Rattle.rl_base.proofs.Texts.GatheredLemmas.{may_cut}
 use Rattle.rl_base.proofs.gathered.Gathered.as_str.Goals as goal
 

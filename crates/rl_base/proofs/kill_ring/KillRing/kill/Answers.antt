@@ -1,5 +1,4 @@
-use Rattle.std.proofs.Common.{◌≡◌, List, ℕ, length, ap, ◌∙◌}
-use Rattle.rl_base.specs.Gathered.{texts}
+use Rattle.rl_base.proofs.Common.{◌≡◌, List, ℕ, length, ap, ◌∙◌, texts}
 use Rattle.rl_base.proofs.Ring.RingLemmas.{length-join}
 use Rattle.rl_base.proofs.kill_ring.KillRing.kill.Goals as goal
 

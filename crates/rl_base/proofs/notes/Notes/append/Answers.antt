@@ -1,8 +1,4 @@
-use Rattle.std.proofs.Common.{◌≡◌, ℕ, zero, suc, ◌+◌, ◌⊎◌, ◌<◌, ◌++◌, ◌∙◌, ap, ap₂, arith, drop, false, true, if◌then◌else◌, inl, inr, length, length-append, refl, subst, sym}
-use Rattle.std.proofs.lemmas.Result.{err_from_is_err_and}
-use Rattle.std.specs.Prelude.{Result, Ok, Err, is_err, is_ok}
-use Rattle.std.specs.String.{string_bytes}
-use Rattle.rl_base.specs.Notes.{Cuts, notes}
+use Rattle.rl_base.proofs.Common.{◌≡◌, ℕ, zero, suc, ◌+◌, ◌⊎◌, ◌<◌, ◌++◌, ◌∙◌, ap, ap₂, arith, drop, false, true, if◌then◌else◌, inl, inr, length, length-append, refl, subst, sym, err_from_is_err_and, Result, Ok, Err, is_err, is_ok, string_bytes, Cuts, notes}
 use Rattle.rl_base.proofs.Queue.QueueLemmas.{Cuts-some, Joins, at_spent, joins, length-notes}
 use Rattle.rl_base.proofs.notes.Notes.append.Goals as goal
 

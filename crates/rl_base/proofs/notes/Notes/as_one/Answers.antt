@@ -1,7 +1,5 @@
-use Rattle.std.proofs.Common.{◌∙◌, ap, drop, fold, sym}
-use Rattle.std.proofs.lemmas.List.Sums.{fold-append}
-use Rattle.std.specs.String.{string_bytes}
-use Rattle.rl_base.specs.Reports.{joined, nothing_joined, taken_in}
+use Rattle.rl_base.proofs.Common.{◌∙◌, ap, drop, fold, sym, fold-append, string_bytes, nothing_joined, taken_in}
+use Rattle.rl_base.specs.Reports.{joined}
 use Rattle.rl_base.proofs.Queue.QueueLemmas.{reports_of-notes}
 use Rattle.rl_base.proofs.notes.Notes.as_one.Goals as goal
 

@@ -1,6 +1,4 @@
-use Rattle.std.proofs.Common.{◌<◌, arith, drop, length}
-use Rattle.std.proofs.lemmas.Str.{IsCharBoundary-from_rest}
-use Rattle.std.specs.String.{string_bytes}
+use Rattle.rl_base.proofs.Common.{◌<◌, arith, drop, length, IsCharBoundary-from_rest, string_bytes}
 use Rattle.rl_base.proofs.Queue.QueueLemmas.{ends}
 use Rattle.rl_base.proofs.notes.Notes.forget.Goals as goal
 

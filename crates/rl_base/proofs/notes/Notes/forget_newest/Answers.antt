@@ -1,6 +1,4 @@
-use Rattle.std.proofs.Common.{◌≡◌, ◌-◌, ◌∙◌, length, take, ap, arith}
-use Rattle.std.specs.String.{string_bytes}
-use Rattle.rl_base.specs.Notes.{bytes_kept}
+use Rattle.rl_base.proofs.Common.{◌≡◌, ◌-◌, ◌∙◌, length, take, ap, arith, string_bytes, bytes_kept}
 use Rattle.rl_base.proofs.Queue.QueueLemmas.{Off, at_spent, off}
 use Rattle.rl_base.proofs.notes.Notes.forget_newest.Goals as goal
 

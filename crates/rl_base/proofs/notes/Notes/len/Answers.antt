@@ -1,5 +1,4 @@
-use Rattle.std.proofs.Common.{drop, sym, ◌∙◌}
-use Rattle.std.specs.String.{string_bytes}
+use Rattle.rl_base.proofs.Common.{drop, sym, ◌∙◌, string_bytes}
 use Rattle.rl_base.proofs.Queue.QueueLemmas.{length-notes}
 use Rattle.rl_base.proofs.notes.Notes.len.Goals as goal
 

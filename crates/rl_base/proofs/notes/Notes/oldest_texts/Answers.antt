@@ -1,5 +1,4 @@
-use Rattle.std.proofs.Common.{◌<◌, arith, drop, length, refl}
-use Rattle.std.specs.String.{string_bytes}
+use Rattle.rl_base.proofs.Common.{◌<◌, arith, drop, length, refl, string_bytes}
 use Rattle.rl_base.proofs.Queue.QueueLemmas.{at_spent, ends}
 use Rattle.rl_base.proofs.notes.Notes.oldest_texts.Goals as goal
 

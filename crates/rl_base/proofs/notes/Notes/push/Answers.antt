@@ -1,9 +1,4 @@
-use Rattle.std.proofs.Common.{◌++◌, ◌∷◌, [], ◌∙◌, ap, arith, drop, length, length-append}
-use Rattle.std.proofs.lemmas.List.{length-drop}
-use Rattle.std.proofs.lemmas.Result.{err_from_is_err_and}
-use Rattle.std.specs.String.{string_bytes}
-use Rattle.rl_base.specs.Notes.{notes}
-use Rattle.rl_base.specs.Reports.{kept, noted}
+use Rattle.rl_base.proofs.Common.{◌++◌, ◌∷◌, [], ◌∙◌, ap, arith, drop, length, length-append, length-drop, err_from_is_err_and, string_bytes, notes, kept, noted}
 use Rattle.rl_base.proofs.Queue.QueueLemmas.{IsUtf8-kept, Longer, length-kept, length-notes, longer, text_bytes-notes}
 use Rattle.rl_base.proofs.notes.Notes.push.Goals as goal
 

@@ -1,10 +1,4 @@
-use Rattle.std.proofs.Common.{◌<◌, ◌++◌, ◌∷◌, [], ◌∙◌, None, ap, arith, drop, encode_utf8, length, length-append, refl, rules, sym}
-use Rattle.std.proofs.lemmas.List.{length-drop}
-use Rattle.std.proofs.lemmas.Result.{err_from_is_err_and}
-use Rattle.std.proofs.lemmas.Str.{IsUtf8-nil, IsUtf8-encode}
-use Rattle.std.specs.String.{string_bytes}
-use Rattle.rl_base.specs.Notes.{notes}
-use Rattle.rl_base.specs.Reports.{noted}
+use Rattle.rl_base.proofs.Common.{◌<◌, ◌++◌, ◌∷◌, [], ◌∙◌, None, ap, arith, drop, encode_utf8, length, length-append, refl, rules, sym, length-drop, err_from_is_err_and, IsUtf8-nil, IsUtf8-encode, string_bytes, notes, noted}
 use Rattle.rl_base.specs.declared.reports.ReportKind.TheVariants as kind
 use Rattle.rl_base.proofs.Queue.QueueLemmas.{IsUtf8-kept, Longer, kept-all, length-kept, length-notes, longer, text_bytes-notes}
 use Rattle.rl_base.proofs.notes.Notes.push_char.Goals as goal

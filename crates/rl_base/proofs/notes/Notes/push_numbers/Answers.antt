@@ -1,7 +1,4 @@
-use Rattle.std.proofs.Common.{[], ap, append-nil, arith, drop, refl, sym}
-use Rattle.std.proofs.lemmas.Str.{IsUtf8-nil}
-use Rattle.std.specs.String.{string_bytes, string_capacity}
-use Rattle.std.specs.VecDeque.{deque_capacity}
+use Rattle.rl_base.proofs.Common.{[], ap, append-nil, arith, drop, refl, sym, IsUtf8-nil, string_bytes, string_capacity, deque_capacity}
 use Rattle.rl_base.proofs.Queue.QueueLemmas.{Longer, length-notes, longer}
 use Rattle.rl_base.proofs.notes.Notes.push_numbers.Goals as goal
 

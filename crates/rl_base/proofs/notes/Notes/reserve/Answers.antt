@@ -1,6 +1,4 @@
-use Rattle.std.proofs.Common.{arith, drop, refl}
-use Rattle.std.proofs.lemmas.Result.{err_from_is_err_and}
-use Rattle.std.specs.String.{string_bytes}
+use Rattle.rl_base.proofs.Common.{arith, drop, refl, err_from_is_err_and, string_bytes}
 use Rattle.rl_base.proofs.Queue.QueueLemmas.{length-notes}
 use Rattle.rl_base.proofs.notes.Notes.reserve.Goals as goal
 

@@ -1,6 +1,4 @@
-use Rattle.std.proofs.Common.{ap, drop}
-use Rattle.std.specs.String.{string_bytes, string_capacity}
-use Rattle.std.specs.VecDeque.{deque_capacity}
+use Rattle.rl_base.proofs.Common.{ap, drop, string_bytes, string_capacity, deque_capacity}
 use Rattle.rl_base.proofs.Queue.QueueLemmas.{Cuts-told, notes-told}
 use Rattle.rl_base.proofs.notes.Notes.tell_last.Goals as goal
 

@@ -1,6 +1,4 @@
-use Rattle.std.proofs.Common.{drop, arith}
-use Rattle.std.proofs.lemmas.List.{length-drop}
-use Rattle.std.specs.String.{string_bytes}
+use Rattle.rl_base.proofs.Common.{drop, arith, length-drop, string_bytes}
 use Rattle.rl_base.proofs.Queue.QueueLemmas.{text_bytes-notes}
 use Rattle.rl_base.proofs.notes.Notes.text_len.Goals as goal
 

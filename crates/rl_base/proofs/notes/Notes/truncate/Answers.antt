@@ -1,5 +1,4 @@
-use Rattle.std.proofs.Common.{◌-◌, ◌≤◌, ◌∙◌, length, take, ap, arith, sym}
-use Rattle.std.proofs.lemmas.List.{length-take-le, take-take, take_all}
+use Rattle.rl_base.proofs.Common.{◌-◌, ◌≤◌, ◌∙◌, length, take, ap, arith, sym, length-take-le, take-take, take_all}
 use Rattle.rl_base.proofs.notes.Notes.truncate.Goals as goal
 
 pub loop-self-smaller : goal.loop-self-smaller

@@ -1,5 +1,4 @@
-use Rattle.std.proofs.Common.{◌≡◌, length, take}
-use Rattle.rl_base.specs.Notes.{KeepsRoom}
+use Rattle.rl_base.proofs.Common.{◌≡◌, length, take, KeepsRoom}
 use Rattle.rl_base.proofs.notes.Notes.truncate.Given as goal
 
 -- the first so many reports are those of the beginning

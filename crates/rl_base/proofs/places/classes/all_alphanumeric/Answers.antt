@@ -1,5 +1,4 @@
-use Rattle.std.proofs.Common.{◌∙◌, arith, sym, ap, ltb-true}
-use Rattle.rl_base.specs.Classes.{all_alphanumeric}
+use Rattle.rl_base.proofs.Common.{◌∙◌, arith, sym, ap, ltb-true, all_alphanumeric}
 use Rattle.rl_base.proofs.Clusters.ClassLemmas.{all_alphanumeric-lone}
 use Rattle.rl_base.proofs.places.classes.all_alphanumeric.Goals as goal
 

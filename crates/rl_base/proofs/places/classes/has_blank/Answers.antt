@@ -1,6 +1,4 @@
-use Rattle.std.proofs.Common.{◌∙◌, arith, sym, ap, ltb-true, rules}
-use Rattle.ucd_props.specs.Binary.{is_white_space}
-use Rattle.rl_base.specs.Classes.{has_blank}
+use Rattle.rl_base.proofs.Common.{◌∙◌, arith, sym, ap, ltb-true, rules, is_white_space, has_blank}
 use Rattle.rl_base.proofs.Clusters.ClassLemmas.{has_blank-lone}
 use Rattle.rl_base.proofs.places.classes.has_blank.Goals as goal
 

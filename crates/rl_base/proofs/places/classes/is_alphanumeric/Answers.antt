@@ -1,4 +1,4 @@
-use Rattle.std.proofs.Common.{sym, ◌∙◌, ltb-true}
+use Rattle.rl_base.proofs.Common.{sym, ◌∙◌, ltb-true}
 use Rattle.rl_base.proofs.Clusters.ClassLemmas.{is_alphanumeric-ascii}
 use Rattle.rl_base.proofs.places.classes.is_alphanumeric.Goals as goal
 

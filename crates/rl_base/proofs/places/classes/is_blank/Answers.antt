@@ -1,4 +1,4 @@
-use Rattle.std.proofs.Common.{◌∙◌}
+use Rattle.rl_base.proofs.Common.{◌∙◌}
 use Rattle.ucd_props.proofs.StdLemmas.{is_white_space-std}
 use Rattle.rl_base.proofs.places.classes.is_blank.Goals as goal
 

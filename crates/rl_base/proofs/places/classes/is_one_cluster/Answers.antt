@@ -1,4 +1,4 @@
-use Rattle.std.proofs.Common.{arith, eq-eqb, sym}
+use Rattle.rl_base.proofs.Common.{arith, eq-eqb, sym}
 use Rattle.rl_base.proofs.Clusters.PieceLemmas.{clusters-lone}
 use Rattle.rl_base.proofs.places.classes.is_one_cluster.Goals as goal
 

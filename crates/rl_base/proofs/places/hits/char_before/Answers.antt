@@ -1,7 +1,4 @@
-use Rattle.std.proofs.Common.{◌+◌, ◌∙◌, sym, subst, arith, rules}
-use Rattle.std.proofs.lemmas.Str.{IsUtf8-encode}
-use Rattle.std.specs.Prelude.{encode_utf8}
-use Rattle.std.specs.Str.{IsUtf8}
+use Rattle.rl_base.proofs.Common.{◌+◌, ◌∙◌, sym, subst, arith, rules, IsUtf8-encode, encode_utf8, IsUtf8}
 use Rattle.rl_base.proofs.Clusters.SearchLemmas.{IsLastPlace, last_place-is}
 use Rattle.rl_base.proofs.places.hits.char_before.Goals as goal
 

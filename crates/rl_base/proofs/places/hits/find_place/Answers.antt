@@ -1,4 +1,4 @@
-use Rattle.std.proofs.Common.{rules}
+use Rattle.rl_base.proofs.Common.{rules}
 use Rattle.rl_base.proofs.places.hits.find_place.Goals as goal
 
 pub returns-in-Forward-clause-value : goal.returns-in-Forward-clause-value

@@ -1,9 +1,4 @@
-use Rattle.std.proofs.Common.{◌≡◌, reverse, take}
-use Rattle.std.specs.Iterator.Adapters.{rev_source}
-use Rattle.std.specs.List.{last_or}
-use Rattle.std.specs.Str.{IsUtf8, chars}
-use Rattle.std.specs.Str.Iter.{char_indices_rest, char_indices_offset}
-use Rattle.rl_base.specs.Search.{places_of, char_places, hits, nth_or_last}
+use Rattle.rl_base.proofs.Common.{◌≡◌, reverse, take, rev_source, last_or, IsUtf8, chars, char_indices_rest, char_indices_offset, places_of, char_places, hits, nth_or_last}
 use Rattle.rl_base.proofs.places.hits.nth_hit_back.Given as goal
 
 -- the search over what is left gives the hit that was asked for

@@ -1,5 +1,4 @@
-use Rattle.std.proofs.Common.{◌≡◌, rules}
-use Rattle.rl_base.specs.Search.{chosen_hit}
+use Rattle.rl_base.proofs.Common.{◌≡◌, rules, chosen_hit}
 use Rattle.rl_base.proofs.Clusters.SearchLemmas.{IsFound, IsFound-chosen}
 use Rattle.rl_base.proofs.places.hits.search.Goals as goal
 

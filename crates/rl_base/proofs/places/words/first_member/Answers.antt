@@ -1,5 +1,4 @@
-use Rattle.std.proofs.Common.{rules, ◌≡◌, Some}
-use Rattle.rl_base.specs.Words.{first_member, placed_clusters}
+use Rattle.rl_base.proofs.Common.{rules, ◌≡◌, Some, first_member, placed_clusters}
 use Rattle.rl_base.proofs.Clusters.WordLemmas.{IsCharBoundary-member}
 use Rattle.rl_base.proofs.places.words.first_member.Goals as goal
 

@@ -1,9 +1,4 @@
-use Rattle.std.proofs.Common.{map, drop, ap, None, sym, subst, ◌∙◌}
-use Rattle.std.specs.List.{last_or}
-use Rattle.std.specs.Option.{IfSome}
-use Rattle.std.specs.Str.{IsCharBoundary}
-use Rattle.unicode_segmentation.specs.Iter.{grapheme_indices_left}
-use Rattle.rl_base.specs.Words.{PlacedCluster}
+use Rattle.rl_base.proofs.Common.{map, drop, ap, None, sym, subst, ◌∙◌, last_or, IfSome, IsCharBoundary, grapheme_indices_left, PlacedCluster}
 use Rattle.rl_base.proofs.Clusters.ClusterLemmas.{shown_past_first}
 use Rattle.rl_base.proofs.Clusters.WordLemmas.{last_or-push, IsCharBoundary-last_place}
 use Rattle.rl_base.proofs.places.words.last_place.Goals as goal

@@ -1,8 +1,4 @@
-use Rattle.std.proofs.Common.{◌≡◌, ℕ, List, Option, Some, sym, ap, ◌∙◌}
-use Rattle.std.specs.Option.{option_or}
-use Rattle.rl_base.specs.declared.motion.At.{At}
-use Rattle.rl_base.specs.declared.motion.Word.{Word}
-use Rattle.rl_base.specs.Words.{PlacedCluster, nth, stops, looked_at, placed_clusters, last_stop}
+use Rattle.rl_base.proofs.Common.{◌≡◌, ℕ, List, Option, Some, sym, ap, ◌∙◌, option_or, At, Word, PlacedCluster, nth, stops, looked_at, placed_clusters, last_stop}
 use Rattle.rl_base.proofs.Clusters.WordLemmas.{IsCharBoundary-stop}
 use Rattle.rl_base.proofs.places.words.next_stop.Goals as goal
 

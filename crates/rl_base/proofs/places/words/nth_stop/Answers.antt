@@ -1,4 +1,4 @@
-use Rattle.std.proofs.Common.{◌<◌, sym, ◌∙◌, arith}
+use Rattle.rl_base.proofs.Common.{◌<◌, sym, ◌∙◌, arith}
 use Rattle.rl_base.proofs.Clusters.WordLemmas.{nth-past_stop}
 use Rattle.rl_base.proofs.places.words.nth_stop.Goals as goal
 

@@ -1,7 +1,4 @@
-use Rattle.std.proofs.Common.{◌≡◌, ℕ, ◌<◌, List, ◌∷◌}
-use Rattle.rl_base.specs.ClusterClass.{class_of}
-use Rattle.unicode_segmentation.specs.Iter.{grapheme_indices_left}
-use Rattle.rl_base.specs.Words.{stops, nth}
+use Rattle.rl_base.proofs.Common.{◌≡◌, ℕ, ◌<◌, List, ◌∷◌, class_of, grapheme_indices_left, stops, nth}
 use Rattle.rl_base.proofs.places.words.nth_stop.Given as goal
 
 -- the stop that is left among the clusters that are left is the one that was asked for

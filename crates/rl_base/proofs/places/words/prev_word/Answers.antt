@@ -1,8 +1,4 @@
-use Rattle.std.proofs.Common.{◌≡◌, ◌<◌, true, take, subst, Some, ap, sym, ◌∙◌, arith}
-use Rattle.std.proofs.lemmas.Str.{IsCharBoundary-start}
-use Rattle.unicode_segmentation.specs.Iter.{grapheme_indices_left}
-use Rattle.rl_base.specs.Classes.{starts}
-use Rattle.rl_base.specs.Words.{placed_clusters}
+use Rattle.rl_base.proofs.Common.{◌≡◌, ◌<◌, true, take, subst, Some, ap, sym, ◌∙◌, arith, IsCharBoundary-start, grapheme_indices_left, starts, placed_clusters}
 use Rattle.rl_base.proofs.Clusters.ClusterLemmas.{slice_range-front}
 use Rattle.rl_base.proofs.Clusters.WordLemmas.{start_before, IsBefore, IsBefore-start_before, start_before-hit, start_before-more, start_before-miss, clusters_some, prev_word-some, prev_word-none}
 use Rattle.rl_base.proofs.places.words.prev_word.Goals as goal

@@ -1,8 +1,4 @@
-use Rattle.std.proofs.Common.{◌≡◌, ℕ, ◌<◌, List, ◌++◌, ◌∷◌, [], take}
-use Rattle.std.specs.Iterator.Adapters.{rev_source}
-use Rattle.rl_base.specs.ClusterClass.{class_of}
-use Rattle.unicode_segmentation.specs.Iter.{grapheme_indices_left}
-use Rattle.rl_base.specs.Words.{placed_clusters}
+use Rattle.rl_base.proofs.Common.{◌≡◌, ℕ, ◌<◌, List, ◌++◌, ◌∷◌, [], take, rev_source, class_of, grapheme_indices_left, placed_clusters}
 use Rattle.rl_base.proofs.Clusters.WordLemmas.{start_before}
 use Rattle.rl_base.proofs.places.words.prev_word.Given as goal
 

@@ -1,5 +1,4 @@
-use Rattle.std.proofs.Common.{rules, ap, ◌∙◌}
-use Rattle.std.specs.Bool.{then_some}
+use Rattle.rl_base.proofs.Common.{rules, ap, ◌∙◌, then_some}
 use Rattle.rl_base.proofs.places.words.stop_between.Goals as goal
 
 pub returns-in-BeforeEnd-Big : goal.returns-in-BeforeEnd-Big

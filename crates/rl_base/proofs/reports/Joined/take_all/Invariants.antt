@@ -1,5 +1,4 @@
-use Rattle.std.proofs.Common.{◌≡◌, fold, take}
-use Rattle.rl_base.specs.Reports.{taken_in}
+use Rattle.rl_base.proofs.Common.{◌≡◌, fold, take, taken_in}
 use Rattle.rl_base.proofs.reports.Joined.take_all.Given as goal
 
 abbrev pub invariant-loop-report : goal.invariant-loop-report

@@ -1,6 +1,4 @@
-use Rattle.std.proofs.Common.{◌∙◌, ap₂, sym}
-use Rattle.rl_base.specs.Notes.{bytes_kept}
-use Rattle.rl_base.specs.Reports.{noted}
+use Rattle.rl_base.proofs.Common.{◌∙◌, ap₂, sym, bytes_kept, noted}
 use Rattle.rl_base.proofs.Queue.QueueLemmas.{IsQueue-push, from_ok, length-kept}
 use Rattle.rl_base.proofs.reports.Reports.note.Goals as goal
 

@@ -1,5 +1,4 @@
-use Rattle.std.proofs.Common.{◌<◌, [], ◌∙◌, ap, encode_utf8, length, sym}
-use Rattle.rl_base.specs.Reports.{noted}
+use Rattle.rl_base.proofs.Common.{◌<◌, [], ◌∙◌, ap, encode_utf8, length, sym, noted}
 use Rattle.rl_base.specs.declared.reports.ReportKind.TheVariants as kind
 use Rattle.rl_base.proofs.Queue.QueueLemmas.{IsQueue-push, from_ok, kept-all}
 use Rattle.rl_base.proofs.reports.Reports.note_char.Goals as goal

@@ -1,4 +1,4 @@
-use Rattle.std.proofs.Common.{[], refl, sym, arith}
+use Rattle.rl_base.proofs.Common.{[], refl, sym, arith}
 use Rattle.rl_base.proofs.Queue.QueueLemmas.{IsQueue-push}
 use Rattle.rl_base.proofs.reports.Reports.note_numbers.Goals as goal
 

@@ -1,5 +1,4 @@
-use Rattle.std.proofs.Common.{◌≡◌, ◌+◌, ◌-◌, min, max, refl, ◌∙◌, arith}
-use Rattle.rl_base.specs.Splice.{capped}
+use Rattle.rl_base.proofs.Common.{◌≡◌, ◌+◌, ◌-◌, min, max, refl, ◌∙◌, arith, capped}
 use Rattle.rl_base.proofs.splice.Splice.fold.Goals.{then-self-end, else-self-end, then-place-self, else-place-self}
 use Rattle.rl_base.proofs.splice.Splice.fold.Goals as goal
 

@@ -1,7 +1,4 @@
-use Rattle.std.proofs.Common.{sym, ap, ◌∙◌}
-use Rattle.std.specs.Prelude.{is_some}
-use Rattle.rl_base.specs.Text.{stands_at}
-use Rattle.rl_line.specs.Change.{entry_to_undo}
+use Rattle.rl_line.proofs.Common.{sym, ap, ◌∙◌, is_some, stands_at, entry_to_undo}
 use Rattle.rl_line.proofs.Records.ChangeLemmas.{fits-is, mark-leaves, place-entry_to_undo}
 use Rattle.rl_line.proofs.change.Change.fits.Goals as goal
 

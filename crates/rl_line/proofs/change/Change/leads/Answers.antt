@@ -1,6 +1,4 @@
-use Rattle.std.proofs.Common.{arith, length, sym, ap, ◌∙◌}
-use Rattle.rl_line.specs.Change.{entry_to_undo}
-use Rattle.rl_line.specs.Record.{inverse}
+use Rattle.rl_line.proofs.Common.{arith, length, sym, ap, ◌∙◌, entry_to_undo, inverse}
 use Rattle.rl_line.proofs.Records.ChangeLemmas.{StandsNew, StandsNew-from_IsSome, leads-told, place-entry_to_undo}
 use Rattle.rl_line.proofs.change.Change.leads.Goals as goal
 use Rattle.rl_line.proofs.change.Change.leads.Goals.{In-Some-cursor_over}

@@ -1,8 +1,4 @@
-use Rattle.std.proofs.Common.{◌≡◌, Some, None, ap, subst, sym, ◌∙◌}
-use Rattle.std.specs.Prelude.{IfOk, is_some}
-use Rattle.std.specs.Str.{IsUtf8}
-use Rattle.rl_base.specs.Text.{stands_at}
-use Rattle.rl_line.specs.Change.{entry_to_undo, place}
+use Rattle.rl_line.proofs.Common.{◌≡◌, Some, None, ap, subst, sym, ◌∙◌, IfOk, is_some, IsUtf8, stands_at, entry_to_undo, place}
 use Rattle.rl_line.proofs.Records.ChangeLemmas.{fits-is, mark-leaves, patch-makes, place-entry_to_undo}
 use Rattle.rl_line.proofs.change.Change.patch.Goals as goal
 use Rattle.rl_line.proofs.change.Change.patch.Goals.{After-swap, In-None}

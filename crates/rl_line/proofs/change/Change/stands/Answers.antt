@@ -1,6 +1,4 @@
-use Rattle.std.proofs.Common.{sym, ◌∙◌}
-use Rattle.rl_line.specs.Change.{entry_to_undo}
-use Rattle.rl_line.specs.Record.{inverse}
+use Rattle.rl_line.proofs.Common.{sym, ◌∙◌, entry_to_undo, inverse}
 use Rattle.rl_line.proofs.Records.ChangeLemmas.{cursor_stands-told}
 use Rattle.rl_line.proofs.change.Change.stands.Goals as goal
 

@@ -1,9 +1,4 @@
-use Rattle.std.proofs.Common.{ap, arith, ◌≡◌, subst, ◌+◌, ◌++◌, [], ◌∷◌, length, length-append, map, take}
-use Rattle.std.proofs.lemmas.List.{length-take-le}
-use Rattle.rl_line.specs.Record.{Begin, entry_of}
-use Rattle.rl_line.specs.declared.change.Freshness.TheVariants.{Stale}
-use Rattle.rl_line.specs.Entries.{cut_at}
-use Rattle.rl_line.specs.Units.{AtLevel, begun}
+use Rattle.rl_line.proofs.Common.{ap, arith, ◌≡◌, subst, ◌+◌, ◌++◌, [], ◌∷◌, length, length-append, map, take, length-take-le, Begin, entry_of, Stale, cut_at, AtLevel, begun}
 use Rattle.rl_line.proofs.Records.LevelLemmas.{AtLevel-begun, level-within}
 use Rattle.rl_line.proofs.Records.MoveLemmas.{IsCutAt-of, count-is, dropped-view, within-list}
 use Rattle.rl_line.proofs.changeset.Changeset.begin.Goals as goal

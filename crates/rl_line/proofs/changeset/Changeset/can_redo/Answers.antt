@@ -1,5 +1,4 @@
-use Rattle.std.proofs.Common.{◌≡◌, ◌-◌, ap, drop, length, map, take, ◌∙◌}
-use Rattle.rl_line.specs.Record.{Record, entry_of}
+use Rattle.rl_line.proofs.Common.{◌≡◌, ◌-◌, ap, drop, length, map, take, ◌∙◌, Record, entry_of}
 use Rattle.rl_line.proofs.Records.LeadLemmas.{copies-ahead, lead-ahead, next-unit}
 use Rattle.rl_line.proofs.Records.MoveLemmas.{pending-part}
 use Rattle.rl_line.proofs.changeset.Changeset.can_redo.Goals as goal

@@ -1,7 +1,4 @@
-use Rattle.std.proofs.Common.{◌≡◌, ◌+◌, ◌-◌, ap, arith, drop, length, map, refl, subst, sym, take, ◌∙◌}
-use Rattle.std.proofs.lemmas.List.{length-map}
-use Rattle.rl_line.specs.Record.{Record, entry_of}
-use Rattle.rl_line.specs.Units.{IsMatched, redo_of}
+use Rattle.rl_line.proofs.Common.{◌≡◌, ◌+◌, ◌-◌, ap, arith, drop, length, map, refl, subst, sym, take, ◌∙◌, length-map, Record, entry_of, IsMatched, redo_of}
 use Rattle.rl_line.proofs.Records.LeadLemmas.{copies-ahead, lead-ahead}
 use Rattle.rl_line.proofs.Records.MoveLemmas.{RedoesTo, RedoesTo-of, pending-part, unit-part}
 use Rattle.rl_line.proofs.changeset.Changeset.can_redo_next.Goals as goal

@@ -1,5 +1,4 @@
-use Rattle.std.proofs.Common.{◌≡◌, ap, map, take, ◌∙◌}
-use Rattle.rl_line.specs.Record.{Record, entry_of}
+use Rattle.rl_line.proofs.Common.{◌≡◌, ap, map, take, ◌∙◌, Record, entry_of}
 use Rattle.rl_line.proofs.Records.LeadLemmas.{all-units, copies-back, lead-back}
 use Rattle.rl_line.proofs.Records.MoveLemmas.{recorded-part}
 use Rattle.rl_line.proofs.changeset.Changeset.can_undo.Goals as goal

@@ -1,6 +1,4 @@
-use Rattle.std.proofs.Common.{◌≡◌, ◌-◌, ap, drop, length, map, refl, subst, sym, take, ◌∙◌}
-use Rattle.rl_line.specs.Record.{Record, entry_of}
-use Rattle.rl_line.specs.Units.{IsMatched, last_of}
+use Rattle.rl_line.proofs.Common.{◌≡◌, ◌-◌, ap, drop, length, map, refl, subst, sym, take, ◌∙◌, Record, entry_of, IsMatched, last_of}
 use Rattle.rl_line.proofs.Records.LeadLemmas.{copies-back, lead-back}
 use Rattle.rl_line.proofs.Records.MoveLemmas.{Undoes-of, recorded-part, undo-count, unit-part}
 use Rattle.rl_line.proofs.changeset.Changeset.can_undo_last.Goals as goal

@@ -1,10 +1,4 @@
-use Rattle.std.proofs.lemmas.Result.{err_from_is_err_and}
-use Rattle.std.proofs.Common.{arith, rules, sym, ◌≡◌, subst, ap, ◌∙◌, ◌-◌, length, map, take}
-use Rattle.std.proofs.lemmas.List.{length-map}
-use Rattle.rl_line.specs.Record.{Record, entry_of}
-use Rattle.rl_line.specs.declared.change.Freshness.TheVariants.{Stale}
-use Rattle.rl_line.specs.Entries.{cut_at}
-use Rattle.rl_line.specs.Units.{AtLevel, adds_end, end_times, with_closed}
+use Rattle.rl_line.proofs.Common.{err_from_is_err_and, arith, rules, sym, ◌≡◌, subst, ap, ◌∙◌, ◌-◌, length, map, take, length-map, Record, entry_of, Stale, cut_at, AtLevel, adds_end, end_times, with_closed}
 use Rattle.rl_line.proofs.Records.LevelLemmas.{AtLevel-closed}
 use Rattle.rl_line.proofs.Records.MoveLemmas.{IsCutAt-of, dropped-view, recorded-part}
 use Rattle.rl_line.proofs.changeset.Changeset.close.Goals as goal

@@ -1,10 +1,4 @@
-use Rattle.std.proofs.Common.{arith, length, map, ◌≡◌, subst}
-use Rattle.std.proofs.lemmas.List.{length-map}
-use Rattle.rl_base.specs.Event.{Delete}
-use Rattle.rl_base.specs.declared.listeners.Direction.TheVariants.{Forward}
-use Rattle.rl_line.specs.Record.{entry_of, record_step}
-use Rattle.rl_line.specs.Entries.{cut_at}
-use Rattle.rl_line.specs.Units.{AtLevel}
+use Rattle.rl_line.proofs.Common.{arith, length, map, ◌≡◌, subst, length-map, Delete, Forward, entry_of, record_step, cut_at, AtLevel}
 use Rattle.rl_line.proofs.Records.LevelLemmas.{AtLevel-step}
 use Rattle.rl_line.proofs.Records.MoveLemmas.{IsCutAt-of, hears, step-Delete, within-list}
 use Rattle.rl_line.proofs.changeset.Changeset.delete.Goals as goal

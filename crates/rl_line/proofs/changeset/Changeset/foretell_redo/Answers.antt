@@ -1,15 +1,6 @@
-use Rattle.std.proofs.Common.{◌≡◌, ℕ, ◌+◌, ◌-◌, List, ap, arith, drop, length, map, refl, subst, sym, take, ◌∙◌}
-use Rattle.std.proofs.lemmas.List.{length-map}
-use Rattle.rl_line.specs.Change.{entries_to_undo}
-use Rattle.rl_line.specs.declared.change.Way.TheVariants.{Ahead}
-use Rattle.rl_line.specs.Foretelling.{HeardInPart}
-use Rattle.rl_line.specs.Plan.{Step, listener_after}
-use Rattle.rl_line.specs.Record.{Record, entry_of, inverse}
-use Rattle.rl_line.specs.Undo.{steps_ahead, steps_back}
+use Rattle.rl_line.proofs.Common.{◌≡◌, ℕ, ◌+◌, ◌-◌, List, ap, arith, drop, length, map, refl, subst, sym, take, ◌∙◌, length-map, entries_to_undo, Ahead, HeardInPart, Step, listener_after, Record, entry_of, inverse, steps_ahead, steps_back, IfErr, OnOk, reverse, IsMatched, redo_of}
 use Rattle.rl_line.proofs.Records.ChangeLemmas.{ahead-inverse}
 use Rattle.rl_line.proofs.Records.HeardLemmas.{steps_ahead-back}
-use Rattle.std.specs.Prelude.{IfErr, OnOk, reverse}
-use Rattle.rl_line.specs.Units.{IsMatched, redo_of}
 use Rattle.rl_line.proofs.Records.MoveLemmas.{RedoesTo, RedoesTo-of, pending-part, unit-part}
 use Rattle.rl_line.proofs.changeset.Changeset.foretell_redo.Given.{Over}
 use Rattle.rl_line.proofs.changeset.Changeset.foretell_redo.Goals as goal

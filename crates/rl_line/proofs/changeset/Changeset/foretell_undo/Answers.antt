@@ -1,10 +1,4 @@
-use Rattle.std.proofs.Common.{◌≡◌, ℕ, ◌-◌, List, ap, drop, length, map, refl, subst, sym, take, ◌∙◌}
-use Rattle.rl_line.specs.Foretelling.{HeardInPart}
-use Rattle.rl_line.specs.Plan.{listener_after}
-use Rattle.rl_line.specs.Record.{Entry, Record, entry_of}
-use Rattle.rl_line.specs.Undo.{steps_back}
-use Rattle.std.specs.Prelude.{IfErr, OnOk}
-use Rattle.rl_line.specs.Units.{IsMatched, last_of}
+use Rattle.rl_line.proofs.Common.{◌≡◌, ℕ, ◌-◌, List, ap, drop, length, map, refl, subst, sym, take, ◌∙◌, HeardInPart, listener_after, Entry, Record, entry_of, steps_back, IfErr, OnOk, IsMatched, last_of}
 use Rattle.rl_line.proofs.Records.MoveLemmas.{Undoes-of, recorded-part, undo-count, unit-part}
 use Rattle.rl_line.proofs.changeset.Changeset.foretell_undo.Given.{Over}
 use Rattle.rl_line.proofs.changeset.Changeset.foretell_undo.Goals as goal

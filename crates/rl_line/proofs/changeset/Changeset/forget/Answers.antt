@@ -1,4 +1,4 @@
-use Rattle.std.proofs.Common.{arith, sym}
+use Rattle.rl_line.proofs.Common.{arith, sym}
 use Rattle.rl_line.proofs.Records.MoveLemmas.{count-is}
 use Rattle.rl_line.proofs.Records.ForgettingLemmas.{forgotten-same}
 use Rattle.rl_line.proofs.changeset.Changeset.forget.Goals as goal

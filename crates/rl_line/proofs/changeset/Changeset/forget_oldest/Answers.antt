@@ -1,9 +1,4 @@
-use Rattle.std.proofs.Common.{◌≡◌, ◌-◌, ◌≤◌, arith, length, map, take, refl, sym, subst}
-use Rattle.std.proofs.lemmas.List.{length-map, length-take-le}
-use Rattle.rl_line.specs.Record.{entry_of}
-use Rattle.rl_line.specs.Entries.{cut_at}
-use Rattle.rl_line.specs.Forgetting.{ForgetsFirst, forgotten}
-use Rattle.rl_line.specs.Units.{AtLevel, IsMatched}
+use Rattle.rl_line.proofs.Common.{◌≡◌, ◌-◌, ◌≤◌, arith, length, map, take, refl, sym, subst, length-map, length-take-le, entry_of, cut_at, ForgetsFirst, forgotten, AtLevel, IsMatched}
 use Rattle.rl_line.proofs.Records.ForgettingLemmas.{AtLevel-forgotten, forgotten-view}
 use Rattle.rl_line.proofs.Records.MoveLemmas.{IsCutAt-of, recorded-part}
 use Rattle.rl_line.proofs.changeset.Changeset.forget_oldest.Goals as goal

@@ -1,6 +1,4 @@
-use Rattle.std.proofs.Common.{ap, sym, ◌∙◌, drop, map}
-use Rattle.rl_line.specs.Record.{Record, entry_of}
-use Rattle.rl_line.specs.Units.{has_change, redo_of}
+use Rattle.rl_line.proofs.Common.{ap, sym, ◌∙◌, drop, map, Record, entry_of, has_change, redo_of}
 use Rattle.rl_line.proofs.Records.EndLemmas.{next-holds}
 use Rattle.rl_line.proofs.Records.MoveLemmas.{pending-part}
 use Rattle.rl_line.proofs.changeset.Changeset.has_redo.Goals as goal

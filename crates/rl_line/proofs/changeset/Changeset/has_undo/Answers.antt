@@ -1,6 +1,4 @@
-use Rattle.std.proofs.Common.{◌≡◌, ap, subst, sym, ◌∙◌, map, take}
-use Rattle.rl_line.specs.Record.{Record, entry_of}
-use Rattle.rl_line.specs.Units.{IsMatched, has_change, last_of}
+use Rattle.rl_line.proofs.Common.{◌≡◌, ap, subst, sym, ◌∙◌, map, take, Record, entry_of, IsMatched, has_change, last_of}
 use Rattle.rl_line.proofs.Records.MoveLemmas.{recorded-part}
 use Rattle.rl_line.proofs.changeset.Changeset.has_undo.Goals as goal
 use Rattle.rl_line.proofs.changeset.Changeset.has_undo.Goals.{After-deref}

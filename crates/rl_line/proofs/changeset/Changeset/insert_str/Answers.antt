@@ -1,9 +1,4 @@
-use Rattle.std.proofs.Common.{arith, length, map, ◌≡◌, subst}
-use Rattle.std.proofs.lemmas.List.{length-map}
-use Rattle.rl_base.specs.Event.{InsertStr}
-use Rattle.rl_line.specs.Record.{entry_of, record_step}
-use Rattle.rl_line.specs.Entries.{cut_at}
-use Rattle.rl_line.specs.Units.{AtLevel}
+use Rattle.rl_line.proofs.Common.{arith, length, map, ◌≡◌, subst, length-map, InsertStr, entry_of, record_step, cut_at, AtLevel}
 use Rattle.rl_line.proofs.Records.LevelLemmas.{AtLevel-step}
 use Rattle.rl_line.proofs.Records.MoveLemmas.{IsCutAt-of, hears, step-InsertStr, within-list}
 use Rattle.rl_line.proofs.changeset.Changeset.insert_str.Goals as goal

@@ -1,10 +1,4 @@
-use Rattle.std.proofs.Common.{◌≡◌, ap, map, subst, take, ◌∙◌}
-use Rattle.std.specs.Option.{option_map}
-use Rattle.std.specs.Prelude.{IfErr, IfOk}
-use Rattle.std.specs.String.{string_bytes}
-use Rattle.rl_base.specs.Text.{HasText}
-use Rattle.rl_base.specs.declared.listeners.Refusal.TheVariants.{NoMemory}
-use Rattle.rl_line.specs.Record.{Record, entry_of, last_insert}
+use Rattle.rl_line.proofs.Common.{◌≡◌, ap, map, subst, take, ◌∙◌, option_map, IfErr, IfOk, string_bytes, HasText, NoMemory, Record, entry_of, last_insert}
 use Rattle.rl_line.proofs.Records.MoveLemmas.{recorded-part}
 use Rattle.rl_line.proofs.changeset.Changeset.last_insert.Goals as goal
 use Rattle.rl_line.proofs.changeset.Changeset.last_insert.Goals.{After-deref}

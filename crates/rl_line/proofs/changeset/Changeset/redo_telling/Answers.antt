@@ -1,13 +1,4 @@
-use Rattle.std.proofs.Common.{◌≡◌, ◌+◌, [], ◌∷◌, ap, arith, drop, length, map, refl, subst, sym, ◌∙◌}
-use Rattle.std.proofs.lemmas.Result.{err_from_is_err_and}
-use Rattle.std.specs.Prelude.{Any, IsSome, false, ◌||◌}
-use Rattle.rl_line.specs.Entries.{cut_at}
-use Rattle.rl_line.specs.Line.{NeedsRoom}
-use Rattle.rl_line.specs.Plan.{listener_after}
-use Rattle.rl_line.specs.Record.{Record, entry_of}
-use Rattle.rl_line.specs.Undo.{steps_ahead, texts_ahead}
-use Rattle.rl_line.specs.Units.{AtLevel, IsMatched, has_change, level, redo_of, redone}
-use Rattle.rl_line.specs.declared.change.Freshness.TheVariants.{Stale}
+use Rattle.rl_line.proofs.Common.{◌≡◌, ◌+◌, [], ◌∷◌, ap, arith, drop, length, map, refl, subst, sym, ◌∙◌, err_from_is_err_and, Any, IsSome, false, ◌||◌, cut_at, NeedsRoom, listener_after, Record, entry_of, steps_ahead, texts_ahead, AtLevel, IsMatched, has_change, level, redo_of, redone, Stale}
 use Rattle.rl_line.proofs.Records.HeardLemmas.{steps_ahead-back}
 use Rattle.rl_line.proofs.Records.LevelLemmas.{AtLevel-redone, level-change}
 use Rattle.rl_line.proofs.Records.MoveLemmas.{IsCutAt-of, RedoesTo, RedoesTo-of, ahead-line, pending-part, redone-view}

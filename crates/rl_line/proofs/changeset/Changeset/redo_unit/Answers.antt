@@ -1,14 +1,4 @@
-use Rattle.std.proofs.Common.{◌≡◌, ◌+◌, ◌-◌, ap, arith, drop, length, map, refl, subst, sym, take, ◌∙◌}
-use Rattle.std.proofs.lemmas.List.{length-map, length-take-le}
-use Rattle.std.proofs.lemmas.Result.{err_from_is_err_and}
-use Rattle.std.specs.Prelude.{IsSome, Any, reverse}
-use Rattle.rl_line.specs.Entries.{cut_at}
-use Rattle.rl_line.specs.Line.{NeedsRoom}
-use Rattle.rl_line.specs.Plan.{listener_after}
-use Rattle.rl_line.specs.Record.{Record, entry_of, inverse}
-use Rattle.rl_line.specs.Undo.{steps_back, Redone, texts_back}
-use Rattle.rl_line.specs.Units.{AtLevel, IsMatched, has_change, level, redo_of, redone}
-use Rattle.rl_line.specs.declared.change.Freshness.TheVariants.{Stale}
+use Rattle.rl_line.proofs.Common.{◌≡◌, ◌+◌, ◌-◌, ap, arith, drop, length, map, refl, subst, sym, take, ◌∙◌, length-map, length-take-le, err_from_is_err_and, IsSome, Any, reverse, cut_at, NeedsRoom, listener_after, Record, entry_of, inverse, steps_back, Redone, texts_back, AtLevel, IsMatched, has_change, level, redo_of, redone, Stale}
 use Rattle.rl_line.proofs.Records.ChangeLemmas.{ahead-inverse}
 use Rattle.rl_line.proofs.Records.HeardLemmas.{steps_ahead-back}
 use Rattle.rl_line.proofs.Records.LevelLemmas.{AtLevel-redone, level-within}

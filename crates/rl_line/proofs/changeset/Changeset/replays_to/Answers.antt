@@ -1,7 +1,4 @@
-use Rattle.std.proofs.lemmas.Result.{err_from_is_err_and}
-use Rattle.std.proofs.Common.{arith, length, ◌≡◌, None, ap, bytes_eq, map, option_map, string_bytes, sym, take, Some, ◌∙◌}
-use Rattle.rl_line.specs.Record.{Record, agree, bytes_back, entry_of, unwind}
-use Rattle.rl_line.specs.Units.{has_change}
+use Rattle.rl_line.proofs.Common.{err_from_is_err_and, arith, length, ◌≡◌, None, ap, bytes_eq, map, option_map, string_bytes, sym, take, Some, ◌∙◌, Record, agree, bytes_back, entry_of, unwind, has_change}
 use Rattle.rl_line.proofs.Records.ChangeLemmas.{text_back-unwind}
 use Rattle.rl_line.proofs.Records.MoveLemmas.{recorded-part}
 use Rattle.rl_line.proofs.Records.RoomLemmas.{bytes_back-first}

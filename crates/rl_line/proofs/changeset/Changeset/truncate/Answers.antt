@@ -1,9 +1,4 @@
-use Rattle.std.proofs.Common.{arith, length, ◌≡◌, subst, ap, sym, ◌∙◌, map, take}
-use Rattle.std.proofs.lemmas.List.{length-map}
-use Rattle.rl_line.specs.Record.{Record, entry_of}
-use Rattle.rl_line.specs.declared.change.Freshness.TheVariants.{Stale}
-use Rattle.rl_line.specs.Entries.{cut_at}
-use Rattle.rl_line.specs.Units.{AtLevel, IsMatched, level, truncated}
+use Rattle.rl_line.proofs.Common.{arith, length, ◌≡◌, subst, ap, sym, ◌∙◌, map, take, length-map, Record, entry_of, Stale, cut_at, AtLevel, IsMatched, level, truncated}
 use Rattle.rl_line.proofs.Records.LevelLemmas.{AtLevel-truncated}
 use Rattle.rl_line.proofs.Records.MoveLemmas.{IsCutAt-of, dropped-view, recorded-part, take-both}
 use Rattle.rl_line.proofs.changeset.Changeset.truncate.Goals as goal

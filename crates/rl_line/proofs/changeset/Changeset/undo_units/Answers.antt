@@ -1,13 +1,4 @@
-use Rattle.std.proofs.Common.{◌≡◌, ◌-◌, ap, arith, drop, length, map, refl, subst, sym, take, ◌∙◌}
-use Rattle.std.proofs.lemmas.Result.{err_from_is_err_and}
-use Rattle.std.specs.Prelude.{IsSome, Any}
-use Rattle.rl_line.specs.Entries.{cut_at}
-use Rattle.rl_line.specs.Line.{NeedsRoom}
-use Rattle.rl_line.specs.Plan.{listener_after}
-use Rattle.rl_line.specs.Record.{Record, entry_of}
-use Rattle.rl_line.specs.Undo.{steps_back, Undone, line_back, texts_back}
-use Rattle.rl_line.specs.Units.{AtLevel, IsMatched, has_change, last_of, level, undone}
-use Rattle.rl_line.specs.declared.change.Freshness.TheVariants.{Stale}
+use Rattle.rl_line.proofs.Common.{◌≡◌, ◌-◌, ap, arith, drop, length, map, refl, subst, sym, take, ◌∙◌, err_from_is_err_and, IsSome, Any, cut_at, NeedsRoom, listener_after, Record, entry_of, steps_back, Undone, line_back, texts_back, AtLevel, IsMatched, has_change, last_of, level, undone, Stale}
 use Rattle.rl_line.proofs.Records.LevelLemmas.{AtLevel-undone, IsMatched-last, undone-within}
 use Rattle.rl_line.proofs.Records.MoveLemmas.{IsCutAt-of, Undoes, Undoes-of, recorded-part, undo-count, undone-view, unit-part}
 use Rattle.rl_line.proofs.Records.UndoLemmas.{line_back-marks}

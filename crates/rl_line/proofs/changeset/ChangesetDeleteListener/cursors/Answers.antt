@@ -1,10 +1,4 @@
-use Rattle.std.proofs.Common.{arith, ◌≡◌, map, subst}
-use Rattle.std.proofs.lemmas.List.{length-map}
-use Rattle.rl_base.specs.Event.{Cursors}
-use Rattle.rl_line.specs.declared.change.Freshness.TheVariants.{Stale}
-use Rattle.rl_line.specs.Record.{entry_of, record_step}
-use Rattle.rl_line.specs.Entries.{cut_at}
-use Rattle.rl_line.specs.Units.{AtLevel}
+use Rattle.rl_line.proofs.Common.{arith, ◌≡◌, map, subst, length-map, Cursors, Stale, entry_of, record_step, cut_at, AtLevel}
 use Rattle.rl_line.proofs.Records.LevelLemmas.{AtLevel-step}
 use Rattle.rl_line.proofs.Records.MoveLemmas.{IsCutAt-of, hears-Cursors, within-list}
 use Rattle.rl_line.proofs.changeset.ChangesetDeleteListener.cursors.Goals as goal

@@ -1,4 +1,4 @@
-use Rattle.std.proofs.Common.{sym}
+use Rattle.rl_line.proofs.Common.{sym}
 use Rattle.rl_line.proofs.Records.JoinLemmas.{record_step-Start}
 use Rattle.rl_line.proofs.changeset.ChangesetDeleteListener.start_killing.Goals as goal
 

@@ -1,4 +1,4 @@
-use Rattle.std.proofs.Common.{sym}
+use Rattle.rl_line.proofs.Common.{sym}
 use Rattle.rl_line.proofs.Records.JoinLemmas.{record_step-Stop}
 use Rattle.rl_line.proofs.changeset.ChangesetDeleteListener.stop_killing.Goals as goal
 

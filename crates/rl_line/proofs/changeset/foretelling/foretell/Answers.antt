@@ -1,11 +1,4 @@
-use Rattle.std.proofs.Common.{arith, ◌≡◌, ◌+◌, ◌-◌, ◌<◌, [], ◌∷◌, ◌++◌, length, map, drop, take, subst, sym, ap, ◌∙◌}
-use Rattle.std.proofs.lemmas.List.{drop_all, map-append, take-append-drop}
-use Rattle.std.proofs.lemmas.Result.{err_from_is_err_and}
-use Rattle.rl_line.specs.Foretelling.{HeardInPart}
-use Rattle.rl_line.specs.Change.{entry_to_undo, order}
-use Rattle.rl_line.specs.Plan.{listener_after}
-use Rattle.rl_line.specs.Record.{inverse}
-use Rattle.rl_line.specs.Undo.{cursor_after, steps_ahead, steps_back}
+use Rattle.rl_line.proofs.Common.{arith, ◌≡◌, ◌+◌, ◌-◌, ◌<◌, [], ◌∷◌, ◌++◌, length, map, drop, take, subst, sym, ap, ◌∙◌, drop_all, map-append, take-append-drop, err_from_is_err_and, HeardInPart, entry_to_undo, order, listener_after, inverse, cursor_after, steps_ahead, steps_back}
 use Rattle.rl_line.proofs.Records.ChangeLemmas.{length-order}
 use Rattle.rl_line.proofs.Records.HeardLemmas.{HeardInPart-back, back-past, cursor_past_back, cursor_past_back-one_more}
 use Rattle.rl_line.proofs.Records.UndoLemmas.{entries_from}

@@ -1,7 +1,4 @@
-use Rattle.std.proofs.Common.{◌≡◌, ◌≤◌, length, map, drop}
-use Rattle.rl_line.specs.Plan.{listener_after}
-use Rattle.rl_line.specs.Undo.{steps_back}
-use Rattle.rl_line.specs.Change.{entry_to_undo, order}
+use Rattle.rl_line.proofs.Common.{◌≡◌, ◌≤◌, length, map, drop, listener_after, steps_back, entry_to_undo, order}
 use Rattle.rl_line.proofs.Records.HeardLemmas.{cursor_past_back}
 use Rattle.rl_line.proofs.changeset.foretelling.foretell.Given as goal
 

@@ -1,10 +1,4 @@
-use Rattle.std.proofs.Common.{◌≡◌, ◌+◌, ◌^◌, ◌≤◌, Some, ap, ap₂, arith, inl, inr, length, refl, subst, sym, ◌∙◌}
-use Rattle.std.specs.Prelude.{unwrap_or}
-use Rattle.rl_base.specs.Event.{Replace}
-use Rattle.rl_base.specs.declared.listeners.Refusal.TheVariants.{NoMemory}
-use Rattle.rl_line.specs.Change.{entry_to_undo, place}
-use Rattle.rl_line.specs.Record.{inverse, old_text}
-use Rattle.rl_line.specs.Undo.{cursor_after, place_after}
+use Rattle.rl_line.proofs.Common.{◌≡◌, ◌+◌, ◌^◌, ◌≤◌, Some, ap, ap₂, arith, inl, inr, length, refl, subst, sym, ◌∙◌, unwrap_or, Replace, NoMemory, entry_to_undo, place, inverse, old_text, cursor_after, place_after}
 use Rattle.rl_line.proofs.Records.ChangeLemmas.{place-entry_to_undo, place_after-is}
 use Rattle.rl_line.proofs.Records.HeardLemmas.{HeardInPart-one}
 use Rattle.rl_line.proofs.changeset.foretelling.foretell_one.Given.{Over}

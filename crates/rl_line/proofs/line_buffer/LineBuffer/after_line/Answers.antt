@@ -1,5 +1,4 @@
-use Rattle.std.proofs.Common.{◌≡◌, arith}
-use Rattle.rl_base.specs.Lines.{last_line}
+use Rattle.rl_line.proofs.Common.{◌≡◌, arith, last_line}
 use Rattle.rl_line.proofs.Lines.LineReadLemmas.{EndsAt, ends_at, last-ends, EndsAt-start, EndsAt-after}
 use Rattle.rl_line.proofs.line_buffer.LineBuffer.after_line.Goals as goal
 use Rattle.rl_line.proofs.line_buffer.LineBuffer.after_line.Goals.{After-start}

@@ -1,4 +1,4 @@
-use Rattle.std.proofs.Common.{refl}
+use Rattle.rl_line.proofs.Common.{refl}
 use Rattle.rl_base.proofs.Texts.TextLemmas.{IsCharBoundary-before}
 use Rattle.rl_line.proofs.line_buffer.LineBuffer.can_insert_str.Goals as goal
 

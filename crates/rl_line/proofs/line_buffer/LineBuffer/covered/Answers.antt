@@ -1,5 +1,4 @@
-use Rattle.std.proofs.Common.{rules}
-use Rattle.std.proofs.lemmas.Str.{IsCharBoundary-start}
+use Rattle.rl_line.proofs.Common.{rules, IsCharBoundary-start}
 use Rattle.rl_line.proofs.line_buffer.LineBuffer.covered.Goals as goal
 
 pub unless_empty-requires-in-WholeBuffer-clause-start :

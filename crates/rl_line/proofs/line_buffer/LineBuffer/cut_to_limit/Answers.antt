@@ -1,4 +1,4 @@
-use Rattle.std.proofs.Common.{rules, sym, ◌∙◌}
+use Rattle.rl_line.proofs.Common.{rules, sym, ◌∙◌}
 use Rattle.rl_base.proofs.Clusters.ClusterLemmas.{slice_range-front}
 use Rattle.rl_base.proofs.Texts.TextLemmas.{greatest_boundary-is}
 use Rattle.rl_line.proofs.Plans.EditLemmas.{cut_to_limit-past}

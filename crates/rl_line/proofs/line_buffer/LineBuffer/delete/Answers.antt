@@ -1,8 +1,6 @@
-use Rattle.std.proofs.Common.{rules, ◌<◌, arith, refl, sym, subst, inl, inr}
-use Rattle.std.proofs.lemmas.Result.{err_from_is_err_and}
+use Rattle.rl_line.proofs.Common.{rules, ◌<◌, arith, refl, sym, subst, inl, inr, err_from_is_err_and, delete_plan, Plan}
 use Rattle.rl_line.proofs.Plans.KillLemmas.{delete_plan-nothing, delete_plan-some}
-use Rattle.rl_line.specs.Deletions.{delete_plan}
-use Rattle.rl_line.specs.Plan.{Plan, bytes_of}
+use Rattle.rl_line.specs.Plan.{bytes_of}
 use Rattle.rl_line.proofs.Plans.PlanLemmas.{Done-nothing, Done-single, Halted-single}
 use Rattle.rl_line.proofs.line_buffer.LineBuffer.delete.Goals as goal
 

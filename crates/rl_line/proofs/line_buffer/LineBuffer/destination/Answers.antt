@@ -1,4 +1,4 @@
-use Rattle.std.proofs.lemmas.Str.{IsCharBoundary-start}
+use Rattle.rl_line.proofs.Common.{IsCharBoundary-start}
 use Rattle.rl_line.proofs.line_buffer.LineBuffer.destination.Goals as goal
 
 pub unless_there-requires-in-BeginningOfBuffer : goal.unless_there-requires-in-BeginningOfBuffer

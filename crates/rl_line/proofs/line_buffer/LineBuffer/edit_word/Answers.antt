@@ -1,11 +1,5 @@
-use Rattle.std.proofs.Common.{arith, rules, ◌+◌, inr, true, slice_range, refl, ap, subst, ◌∙◌}
-use Rattle.std.specs.List.{replace_range}
-use Rattle.std.specs.Str.{IsCharBoundary}
-use Rattle.std.proofs.lemmas.Result.{err_from_is_err_and}
+use Rattle.rl_line.proofs.Common.{arith, rules, ◌+◌, inr, true, slice_range, refl, ap, subst, ◌∙◌, replace_range, IsCharBoundary, err_from_is_err_and, exchange_plan, edit_word_plan, Plan, answering}
 use Rattle.rl_base.proofs.Texts.TextLemmas.{IsCharBoundary-before_removal, IsCharBoundary-past_replacement}
-use Rattle.rl_line.specs.Edits.{exchange_plan}
-use Rattle.rl_line.specs.LetterCase.{edit_word_plan}
-use Rattle.rl_line.specs.Plan.{Plan, answering}
 use Rattle.rl_line.proofs.Plans.LetterCaseLemmas.{edit_word_plan-nothing, edit_word_plan-some, edit_word_plan-tells}
 use Rattle.rl_line.proofs.Plans.PlanLemmas.{Done-as, Done-nothing, Done-steps, Stopped-as}
 use Rattle.rl_line.proofs.line_buffer.LineBuffer.edit_word.Goals as goal

@@ -1,5 +1,4 @@
-use Rattle.std.proofs.Common.{sym, ◌∙◌, ◌≡◌, arith}
-use Rattle.rl_base.specs.Lines.{last_line}
+use Rattle.rl_line.proofs.Common.{sym, ◌∙◌, ◌≡◌, arith, last_line}
 use Rattle.rl_line.proofs.Lines.LineReadLemmas.{EndsAt, ends_at, last-ends, EndsAt-stop}
 use Rattle.rl_line.proofs.line_buffer.LineBuffer.end_of_line.Goals as goal
 use Rattle.rl_line.proofs.line_buffer.LineBuffer.end_of_line.Goals.{After-start}

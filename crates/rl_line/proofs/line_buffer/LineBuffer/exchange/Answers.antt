@@ -1,8 +1,4 @@
-use Rattle.std.proofs.Common.{arith, ◌≡◌, List, ℕ, ap, refl, inl, inr, ◌∙◌}
-use Rattle.std.proofs.lemmas.Result.{err_from_is_err_and}
-use Rattle.std.specs.String.{string_bytes}
-use Rattle.rl_line.specs.Edits.{exchange_plan}
-use Rattle.rl_line.specs.Line.{Line, line_of}
+use Rattle.rl_line.proofs.Common.{arith, ◌≡◌, List, ℕ, ap, refl, inl, inr, ◌∙◌, err_from_is_err_and, string_bytes, exchange_plan, Line, line_of}
 use Rattle.rl_line.proofs.Plans.EditLemmas.{some_part}
 use Rattle.rl_line.proofs.Plans.StepLemmas.{Halted-from, Taken-from}
 use Rattle.rl_line.proofs.line_buffer.LineBuffer.exchange.Goals as goal

@@ -1,7 +1,4 @@
-use Rattle.std.proofs.Common.{◌≡◌, ◌+◌, ◌-◌, length, slice_range, ap, ap₂, subst, ◌∙◌, arith}
-use Rattle.std.specs.Str.{IsCharBoundary}
-use Rattle.rl_base.specs.Blanks.{without_leading_blanks}
-use Rattle.rl_base.specs.Lines.{line_number, start_of_line, text_of_line}
+use Rattle.rl_line.proofs.Common.{◌≡◌, ◌+◌, ◌-◌, length, slice_range, ap, ap₂, subst, ◌∙◌, arith, IsCharBoundary, without_leading_blanks, line_number, start_of_line, text_of_line}
 use Rattle.rl_base.proofs.Texts.BlankLemmas.{trim_start-blanks}
 use Rattle.rl_base.proofs.Texts.LineLemmas.{count_of_lines, text-between}
 use Rattle.rl_line.proofs.Plans.IndentLemmas.{IsCharBoundary-from_part, IsCharBoundary-trimmed}

@@ -1,21 +1,8 @@
-use Rattle.std.proofs.Common.{arith, rules, ◌⊎◌, ◌≡◌, ◌+◌, ◌-◌, ◌<◌, ◌≤◌, ℕ, List, [], ◌∷◌, length, map, drop, count_by, vec_len, vec_capacity, refl, sym, ap, subst, ◌∙◌}
-use Rattle.std.specs.Str.{IsCharBoundary, IsUtf8}
-use Rattle.std.specs.String.{string_bytes, string_len}
-use Rattle.rl_base.specs.Lines.{is_newline}
-use Rattle.rl_line.specs.Line.{Line}
-use Rattle.rl_line.specs.Plan.{listener_after}
-use Rattle.rl_line.specs.Record.{inverse}
-use Rattle.rl_line.specs.Undo.{line_back, steps_ahead, steps_back}
-use Rattle.std.specs.Prelude.{IsSome}
-use Rattle.rl_line.specs.declared.change.Measure.{Measure}
-use Rattle.rl_line.specs.declared.change.Measure.TheVariants.{Bytes, Newlines}
-use Rattle.rl_line.specs.Change.{entry_to_undo, size_back, size_back_over, greatest_back_over, order}
-use Rattle.std.proofs.lemmas.List.{drop-map, drop_all}
+use Rattle.rl_line.proofs.Common.{arith, rules, ◌⊎◌, ◌≡◌, ◌+◌, ◌-◌, ◌<◌, ◌≤◌, ℕ, List, [], ◌∷◌, length, map, drop, count_by, vec_len, vec_capacity, refl, sym, ap, subst, ◌∙◌, IsCharBoundary, IsUtf8, string_bytes, string_len, is_newline, Line, listener_after, inverse, line_back, steps_ahead, steps_back, IsSome, Measure, Bytes, Newlines, entry_to_undo, size_back, size_back_over, greatest_back_over, order, drop-map, drop_all, err_from_is_err_and}
 use Rattle.rl_line.proofs.Records.ChangeLemmas.{length-order}
 use Rattle.rl_line.proofs.Lines.LineStartLemmas.{IsTable-same, length-table}
 use Rattle.rl_line.proofs.Records.HeardLemmas.{back-one_more}
 use Rattle.rl_line.proofs.Records.UndoLemmas.{IsBack, IsBack-none, IsBack-fits, IsBack-next, entries_from, one-fits, one-stands, size_back_over-within}
-use Rattle.std.proofs.lemmas.Result.{err_from_is_err_and}
 use Rattle.rl_line.proofs.Records.RoomLemmas.{NeedsRoom-line}
 use Rattle.rl_line.proofs.line_buffer.LineBuffer.go_over_all.Given.{Over}
 use Rattle.rl_line.proofs.line_buffer.LineBuffer.go_over_all.Goals as goal

@@ -1,11 +1,4 @@
-use Rattle.std.proofs.Common.{◌≡◌, ◌≤◌, length, map, drop, count_by, vec_len, vec_capacity}
-use Rattle.std.specs.String.{string_bytes, string_len, string_capacity}
-use Rattle.rl_base.specs.Lines.{is_newline}
-use Rattle.rl_line.specs.Line.{IsLine}
-use Rattle.rl_line.specs.Plan.{listener_after}
-use Rattle.rl_line.specs.Undo.{steps_back}
-use Rattle.rl_line.specs.declared.change.Measure.TheVariants.{Bytes, Newlines}
-use Rattle.rl_line.specs.Change.{entry_to_undo, size_back_over, greatest_back_over, order}
+use Rattle.rl_line.proofs.Common.{◌≡◌, ◌≤◌, length, map, drop, count_by, vec_len, vec_capacity, string_bytes, string_len, string_capacity, is_newline, IsLine, listener_after, steps_back, Bytes, Newlines, entry_to_undo, size_back_over, greatest_back_over, order}
 use Rattle.rl_line.proofs.Records.UndoLemmas.{IsBack}
 use Rattle.rl_line.proofs.line_buffer.LineBuffer.go_over_all.Given as goal
 

@@ -1,14 +1,4 @@
-use Rattle.std.proofs.Common.{arith, rules, ◌≡◌, ◌+◌, [], ◌∷◌, Some, List, ℕ, length, slice_range, refl, sym, ap, subst, ◌∙◌}
-use Rattle.std.proofs.lemmas.Result.{err_from_is_err_and}
-use Rattle.std.specs.Prelude.{Any, IsSome, unwrap_or}
-use Rattle.std.specs.Str.{IsCharBoundary, IsUtf8}
-use Rattle.std.specs.String.{string_bytes}
-use Rattle.rl_base.specs.Event.{Replace, apply}
-use Rattle.rl_line.specs.Change.{entry_to_undo, place}
-use Rattle.rl_line.specs.Line.{Line, NeedsRoom}
-use Rattle.rl_line.specs.Plan.{listener_after}
-use Rattle.rl_line.specs.Record.{event_of, inverse, new_text, old_text}
-use Rattle.rl_line.specs.Undo.{cursor_after, cursor_told, line_back, place_after, steps_back, texts_back}
+use Rattle.rl_line.proofs.Common.{arith, rules, ◌≡◌, ◌+◌, [], ◌∷◌, Some, List, ℕ, length, slice_range, refl, sym, ap, subst, ◌∙◌, err_from_is_err_and, Any, IsSome, unwrap_or, IsCharBoundary, IsUtf8, string_bytes, Replace, apply, entry_to_undo, place, Line, NeedsRoom, listener_after, event_of, inverse, new_text, old_text, cursor_after, cursor_told, line_back, place_after, steps_back, texts_back}
 use Rattle.rl_line.proofs.Records.ChangeLemmas.{StandsNew, StandsNew-from_IsSome, place-entry_to_undo, place_after-is}
 use Rattle.rl_line.proofs.Records.HeardLemmas.{told-one}
 use Rattle.rl_line.proofs.Records.RecordLemmas.{value_of}

@@ -1,5 +1,4 @@
-use Rattle.std.proofs.Common.{rules, ◌≡◌, arith}
-use Rattle.rl_line.specs.LineMotions.{home}
+use Rattle.rl_line.proofs.Common.{rules, ◌≡◌, arith, home}
 use Rattle.rl_base.proofs.Texts.LineLemmas.{start-before}
 use Rattle.rl_line.proofs.line_buffer.LineBuffer.home_of.Goals as goal
 

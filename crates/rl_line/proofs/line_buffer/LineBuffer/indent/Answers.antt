@@ -1,6 +1,4 @@
-use Rattle.std.proofs.Common.{rules, ◌<◌, length, arith}
-use Rattle.std.proofs.lemmas.Result.{err_from_is_err_and}
-use Rattle.rl_base.specs.Lines.{lines}
+use Rattle.rl_line.proofs.Common.{rules, ◌<◌, length, arith, err_from_is_err_and, lines}
 use Rattle.rl_base.proofs.Texts.LineLemmas.{count_of_lines}
 use Rattle.rl_line.proofs.Plans.IndentLemmas.{LinesDone-all, LinesDone-halted, LinesDone-more, LinesDone-none}
 use Rattle.rl_line.proofs.line_buffer.LineBuffer.indent.Goals as goal

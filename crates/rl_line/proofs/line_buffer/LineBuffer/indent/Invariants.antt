@@ -1,4 +1,4 @@
-use Rattle.rl_line.specs.Indents.{indent_plan}
+use Rattle.rl_line.proofs.Common.{indent_plan}
 use Rattle.rl_line.proofs.Plans.IndentLemmas.{LinesDone}
 use Rattle.rl_line.proofs.line_buffer.LineBuffer.indent.Given as goal
 

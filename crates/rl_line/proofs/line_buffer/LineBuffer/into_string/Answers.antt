@@ -1,5 +1,4 @@
-use Rattle.std.proofs.Common.{ap}
-use Rattle.rl_line.specs.Line.{Line}
+use Rattle.rl_line.proofs.Common.{ap, Line}
 use Rattle.rl_line.proofs.line_buffer.LineBuffer.into_string.Goals as goal
 
 pub returns : goal.returns

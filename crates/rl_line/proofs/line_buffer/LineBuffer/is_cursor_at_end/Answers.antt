@@ -1,4 +1,4 @@
-use Rattle.std.proofs.Common.{rules}
+use Rattle.rl_line.proofs.Common.{rules}
 use Rattle.rl_line.proofs.line_buffer.LineBuffer.is_cursor_at_end.Goals as goal
 
 pub returns : goal.returns

@@ -1,5 +1,4 @@
-use Rattle.std.proofs.Common.{arith}
-use Rattle.std.proofs.lemmas.Grind.{common_steps}
+use Rattle.rl_line.proofs.Common.{arith, common_steps}
 use Rattle.rl_line.proofs.line_buffer.LineBuffer.is_empty.Goals as goal
 
 pub returns : goal.returns

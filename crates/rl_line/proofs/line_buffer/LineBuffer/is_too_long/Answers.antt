@@ -1,4 +1,4 @@
-use Rattle.std.proofs.Common.{rules, sym}
+use Rattle.rl_line.proofs.Common.{rules, sym}
 use Rattle.rl_line.proofs.Plans.EditLemmas.{too_long-past}
 use Rattle.rl_line.proofs.line_buffer.LineBuffer.is_too_long.Goals as goal
 

@@ -1,4 +1,4 @@
-use Rattle.std.proofs.Common.{false, refl}
+use Rattle.rl_line.proofs.Common.{false, refl}
 use Rattle.rl_line.proofs.Plans.KillLemmas.{Told-ok, Told-err}
 use Rattle.rl_line.proofs.line_buffer.LineBuffer.kill_some.Goals as goal
 

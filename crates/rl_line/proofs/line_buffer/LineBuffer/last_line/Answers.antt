@@ -1,6 +1,4 @@
-use Rattle.std.proofs.Common.{ap, ◌∙◌}
-use Rattle.rl_base.specs.Lines.{last_line}
-use Rattle.rl_line.specs.Line.{Line}
+use Rattle.rl_line.proofs.Common.{ap, ◌∙◌, last_line, Line}
 use Rattle.rl_line.proofs.Lines.LineStartLemmas.{length-table}
 use Rattle.rl_line.proofs.line_buffer.LineBuffer.last_line.Goals as goal
 

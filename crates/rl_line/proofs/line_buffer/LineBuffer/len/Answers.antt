@@ -1,4 +1,4 @@
-use Rattle.std.proofs.Common.{arith}
+use Rattle.rl_line.proofs.Common.{arith}
 use Rattle.rl_line.proofs.line_buffer.LineBuffer.len.Goals as goal
 
 pub returns-clause-len : goal.returns-clause-len

@@ -1,6 +1,4 @@
-use Rattle.std.proofs.Common.{ap, arith, ◌≡◌, ◌∙◌}
-use Rattle.rl_base.specs.Lines.{line_number}
-use Rattle.rl_line.specs.Line.{Line}
+use Rattle.rl_line.proofs.Common.{ap, arith, ◌≡◌, ◌∙◌, line_number, Line}
 use Rattle.rl_line.proofs.Lines.LineStartLemmas.{newlines-take}
 use Rattle.rl_line.proofs.line_buffer.LineBuffer.line_at.Goals as goal
 use Rattle.rl_line.proofs.line_buffer.LineBuffer.line_at.Goals.{After-line_number}

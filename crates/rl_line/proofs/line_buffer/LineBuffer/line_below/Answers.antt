@@ -1,5 +1,4 @@
-use Rattle.std.proofs.Common.{refl, ◌≡◌, ◌+◌, min, max, Some, ap, arith}
-use Rattle.rl_base.specs.Lines.{last_line, line_number}
+use Rattle.rl_line.proofs.Common.{refl, ◌≡◌, ◌+◌, min, max, Some, ap, arith, last_line, line_number}
 use Rattle.rl_line.proofs.Lines.LineReadLemmas.{none_below, some_below}
 use Rattle.rl_line.proofs.line_buffer.LineBuffer.line_below.Goals as goal
 

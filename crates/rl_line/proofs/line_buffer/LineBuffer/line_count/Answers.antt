@@ -1,7 +1,5 @@
-use Rattle.std.proofs.Common.{ap, arith, count_by}
+use Rattle.rl_line.proofs.Common.{ap, arith, count_by, is_newline, Line}
 use Rattle.rl_base.proofs.Texts.LineLemmas.{count_of_lines}
-use Rattle.rl_base.specs.Lines.{is_newline}
-use Rattle.rl_line.specs.Line.{Line}
 use Rattle.rl_line.proofs.Lines.LineStartLemmas.{length-table}
 use Rattle.rl_line.proofs.line_buffer.LineBuffer.line_count.Goals as goal
 

@@ -1,5 +1,4 @@
-use Rattle.std.proofs.Common.{rules, ◌≡◌, arith}
-use Rattle.rl_line.specs.LineMotions.{line_end}
+use Rattle.rl_line.proofs.Common.{rules, ◌≡◌, arith, line_end}
 use Rattle.rl_base.proofs.Texts.LineLemmas.{end-after}
 use Rattle.rl_line.proofs.line_buffer.LineBuffer.line_end.Goals as goal
 

@@ -1,4 +1,4 @@
-use Rattle.std.proofs.Common.{arith}
+use Rattle.rl_line.proofs.Common.{arith}
 use Rattle.rl_base.proofs.Texts.LineLemmas.{count_of_lines, text-between}
 use Rattle.rl_line.proofs.Lines.LineReadLemmas.{range-is, range-past}
 use Rattle.rl_line.proofs.line_buffer.LineBuffer.line_range.Goals as goal

@@ -1,5 +1,4 @@
-use Rattle.std.proofs.Common.{rules, refl, ◌≡◌, arith}
-use Rattle.rl_base.specs.Lines.{line_number}
+use Rattle.rl_line.proofs.Common.{rules, refl, ◌≡◌, arith, line_number}
 use Rattle.rl_base.proofs.Texts.LineLemmas.{start-mono}
 use Rattle.rl_line.proofs.Lines.LineReadLemmas.{none_below, some_below}
 use Rattle.rl_line.proofs.line_buffer.LineBuffer.lines_down.Goals as goal

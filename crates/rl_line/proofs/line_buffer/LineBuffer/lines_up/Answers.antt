@@ -1,4 +1,4 @@
-use Rattle.std.proofs.Common.{arith}
+use Rattle.rl_line.proofs.Common.{arith}
 use Rattle.rl_base.proofs.Texts.LineLemmas.{start-mono}
 use Rattle.rl_line.proofs.line_buffer.LineBuffer.lines_up.Goals as goal
 

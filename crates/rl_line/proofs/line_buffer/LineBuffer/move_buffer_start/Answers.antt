@@ -1,5 +1,4 @@
-use Rattle.std.proofs.Common.{rules}
-use Rattle.std.proofs.lemmas.Str.{IsCharBoundary-start}
+use Rattle.rl_line.proofs.Common.{rules, IsCharBoundary-start}
 use Rattle.rl_line.proofs.line_buffer.LineBuffer.move_buffer_start.Goals as goal
 
 pub move_elsewhere-requires : goal.move_elsewhere-requires

@@ -1,4 +1,4 @@
-use Rattle.std.proofs.Common.{rules}
+use Rattle.rl_line.proofs.Common.{rules}
 use Rattle.rl_line.proofs.line_buffer.LineBuffer.move_to_place.Goals as goal
 
 pub returns-in-Some : goal.returns-in-Some

@@ -1,6 +1,4 @@
-use Rattle.std.proofs.Common.{◌≡◌, ◌+◌, slice_range, ap, ap₂, subst, ◌∙◌, arith}
-use Rattle.std.specs.Str.{IsCharBoundary}
-use Rattle.rl_base.specs.Lines.{place_of_column, text_of_line}
+use Rattle.rl_line.proofs.Common.{◌≡◌, ◌+◌, slice_range, ap, ap₂, subst, ◌∙◌, arith, IsCharBoundary, place_of_column, text_of_line}
 use Rattle.rl_base.proofs.Texts.LineLemmas.{count_of_lines, text-between}
 use Rattle.rl_line.proofs.Plans.IndentLemmas.{IsCharBoundary-from_part}
 use Rattle.rl_line.proofs.line_buffer.LineBuffer.place_in_line.Goals as goal

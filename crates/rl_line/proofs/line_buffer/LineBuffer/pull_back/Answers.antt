@@ -1,17 +1,5 @@
-use Rattle.std.proofs.Common.{rules, arith, refl, inl, inr, [], ◌∷◌, ℕ, ◌+◌, ◌≡◌, ap, ap₂, count_by, length, sym, subst, ◌∙◌}
-use Rattle.std.proofs.lemmas.Result.{err_from_is_err_and}
-use Rattle.std.proofs.lemmas.Str.{IsUtf8-string_bytes}
-use Rattle.std.specs.List.{insert_slice, remove_range}
-use Rattle.std.specs.Str.{IsCharBoundary}
-use Rattle.std.specs.String.{string_bytes}
+use Rattle.rl_line.proofs.Common.{rules, arith, refl, inl, inr, [], ◌∷◌, ℕ, ◌+◌, ◌≡◌, ap, ap₂, count_by, length, sym, subst, ◌∙◌, err_from_is_err_and, IsUtf8-string_bytes, insert_slice, remove_range, IsCharBoundary, string_bytes, InsertStr, is_newline, Forward, Line, line_of, text_in, Plan, end_of_cluster, pull_back_plan}
 use Rattle.rl_base.proofs.Texts.TextLemmas.{IsCharBoundary-at_removal, IsCharBoundary-before_removal, IsCharBoundary-after}
-use Rattle.rl_base.specs.Event.{InsertStr}
-use Rattle.rl_base.specs.Lines.{is_newline}
-use Rattle.rl_base.specs.declared.listeners.Direction.TheVariants.{Forward}
-use Rattle.rl_line.specs.Line.{Line, line_of}
-use Rattle.rl_line.specs.Ranges.{text_in}
-use Rattle.rl_line.specs.Plan.{Plan}
-use Rattle.rl_line.specs.Transpositions.{end_of_cluster, pull_back_plan}
 use Rattle.rl_line.proofs.Lines.LineStartLemmas.{length-table, newlines-slice}
 use Rattle.rl_line.proofs.Plans.PlanLemmas.{Done-followed, Done-single, Halted-after, Halted-at_first}
 use Rattle.rl_line.proofs.Plans.StepLemmas.{line_of-kept, Done-from, Halted-from, Taken-deletion, Taken-insertion}

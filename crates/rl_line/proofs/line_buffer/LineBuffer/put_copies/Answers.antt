@@ -1,7 +1,4 @@
-use Rattle.std.proofs.Common.{inl, refl, rules, ◌+◌, arith, subst}
-use Rattle.std.proofs.lemmas.Result.{err_from_is_err_and}
-use Rattle.std.specs.List.{insert_slice}
-use Rattle.std.specs.Str.{IsCharBoundary}
+use Rattle.rl_line.proofs.Common.{inl, refl, rules, ◌+◌, arith, subst, err_from_is_err_and, insert_slice, IsCharBoundary}
 use Rattle.rl_base.proofs.Texts.TextLemmas.{IsCharBoundary-past_replacement}
 use Rattle.rl_line.proofs.Plans.EditLemmas.{some_copies}
 use Rattle.rl_line.proofs.line_buffer.LineBuffer.put_copies.Goals as goal

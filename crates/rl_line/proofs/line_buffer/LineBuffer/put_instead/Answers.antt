@@ -1,4 +1,4 @@
-use Rattle.std.proofs.Common.{rules, arith}
+use Rattle.rl_line.proofs.Common.{rules, arith}
 use Rattle.rl_base.proofs.Texts.EventLemmas.{fitting}
 use Rattle.rl_line.proofs.line_buffer.LineBuffer.put_instead.Goals as goal
 

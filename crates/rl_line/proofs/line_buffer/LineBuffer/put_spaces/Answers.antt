@@ -1,14 +1,6 @@
-use Rattle.std.proofs.Common.{rules, ℕ, ◌≡◌, ◌-◌, ◌++◌, ◌∷◌, [], List, min, length, ap, sym, subst, ◌∙◌, arith, append_assoc, append-nil}
-use Rattle.std.specs.List.{insert_slice}
-use Rattle.std.specs.Str.{IsCharBoundary}
-use Rattle.std.proofs.lemmas.Result.{err_from_is_err_and}
-use Rattle.std.proofs.lemmas.Str.{IsCharBoundary-from_ascii}
+use Rattle.rl_line.proofs.Common.{rules, ℕ, ◌≡◌, ◌-◌, ◌++◌, ◌∷◌, [], List, min, length, ap, sym, subst, ◌∙◌, arith, append_assoc, append-nil, insert_slice, IsCharBoundary, err_from_is_err_and, IsCharBoundary-from_ascii, InsertStr, parts, pushed, put_spaces, spaces, Line, Step, Taken}
 use Rattle.rl_base.proofs.Clusters.ClusterLemmas.{slice_range-front}
 use Rattle.rl_base.proofs.Texts.TextLemmas.{IsCharBoundary-before}
-use Rattle.rl_base.specs.Event.{InsertStr}
-use Rattle.rl_line.specs.Indents.{parts, pushed, put_spaces, spaces}
-use Rattle.rl_line.specs.Line.{Line}
-use Rattle.rl_line.specs.Plan.{Step, Taken}
 use Rattle.rl_line.proofs.Plans.IndentLemmas.{IsAscii-spaces, IsCharBoundary-pushed, length-spaces, pushed-none, pushed-pushed, put_spaces-next, take-spaces}
 use Rattle.rl_line.proofs.Plans.PlanLemmas.{Halted-after, Taken-append}
 use Rattle.rl_line.proofs.line_buffer.LineBuffer.put_spaces.Goals as goal

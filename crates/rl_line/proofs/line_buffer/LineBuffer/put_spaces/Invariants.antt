@@ -1,7 +1,4 @@
-use Rattle.std.proofs.Common.{◌≡◌, ◌≤◌, List, ◌++◌}
-use Rattle.std.specs.Str.{IsCharBoundary}
-use Rattle.rl_line.specs.Indents.{parts, pushed, put_spaces}
-use Rattle.rl_line.specs.Plan.{Step, Taken}
+use Rattle.rl_line.proofs.Common.{◌≡◌, ◌≤◌, List, ◌++◌, IsCharBoundary, parts, pushed, put_spaces, Step, Taken}
 use Rattle.rl_line.proofs.line_buffer.LineBuffer.put_spaces.Given as goal
 
 -- the steps so far with those that are left are the whole plan's

@@ -1,7 +1,4 @@
-use Rattle.std.proofs.Common.{arith, refl, inl}
-use Rattle.std.proofs.lemmas.List.Sums.{count_by-le-length}
-use Rattle.std.proofs.lemmas.Result.{err_from_is_err_and}
-use Rattle.rl_base.specs.Lines.{is_newline}
+use Rattle.rl_line.proofs.Common.{arith, refl, inl, count_by-le-length, err_from_is_err_and, is_newline}
 use Rattle.rl_line.proofs.line_buffer.LineBuffer.put_str.Goals as goal
 
 pub returns-in_err-find_room-clause-cause : goal.returns-in_err-find_room-clause-cause

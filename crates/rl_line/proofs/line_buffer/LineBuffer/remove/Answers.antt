@@ -1,5 +1,4 @@
-use Rattle.std.proofs.Common.{rules}
-use Rattle.std.proofs.lemmas.Result.{err_from_is_err_and}
+use Rattle.rl_line.proofs.Common.{rules, err_from_is_err_and}
 use Rattle.rl_line.proofs.Plans.KillLemmas.{removal-nothing, removal-some}
 use Rattle.rl_line.proofs.Plans.PlanLemmas.{Done-nothing, Done-single, Halted-single}
 use Rattle.rl_line.proofs.line_buffer.LineBuffer.remove.Goals as goal

@@ -1,4 +1,4 @@
-use Rattle.std.proofs.Common.{rules}
+use Rattle.rl_line.proofs.Common.{rules}
 use Rattle.rl_line.proofs.Plans.PlanLemmas.{Halted-at_first}
 use Rattle.rl_line.proofs.line_buffer.LineBuffer.replace.Goals as goal
 

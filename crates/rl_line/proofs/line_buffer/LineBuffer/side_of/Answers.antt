@@ -1,4 +1,4 @@
-use Rattle.std.proofs.Common.{rules}
+use Rattle.rl_line.proofs.Common.{rules}
 use Rattle.rl_line.proofs.line_buffer.LineBuffer.side_of.Goals as goal
 
 pub returns-in-BeginningOfLine : goal.returns-in-BeginningOfLine

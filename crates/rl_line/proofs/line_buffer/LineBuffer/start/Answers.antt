@@ -1,9 +1,4 @@
-use Rattle.std.proofs.Common.{ap, arith, subst, sym, ◌∙◌, get_or, count_by}
-use Rattle.std.proofs.lemmas.Str.{IsUtf8-string_bytes}
-use Rattle.std.specs.Str.{IsUtf8}
-use Rattle.rl_base.specs.Lines.{is_newline}
-use Rattle.rl_line.specs.Line.{Line}
-use Rattle.rl_line.specs.LineStarts.{line_starts, IsTable}
+use Rattle.rl_line.proofs.Common.{ap, arith, subst, sym, ◌∙◌, get_or, count_by, IsUtf8-string_bytes, IsUtf8, is_newline, Line, line_starts, IsTable}
 use Rattle.rl_line.proofs.Lines.LineStartLemmas.{length-table}
 use Rattle.rl_line.proofs.line_buffer.LineBuffer.start.Goals as goal
 

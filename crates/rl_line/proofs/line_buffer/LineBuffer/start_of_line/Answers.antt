@@ -1,6 +1,4 @@
-use Rattle.std.proofs.Common.{◌≡◌, ◌-◌, ◌+◌, ap, ◌∙◌, arith}
-use Rattle.std.proofs.lemmas.Str.{IsCharBoundary-start}
-use Rattle.rl_base.specs.Lines.{start_of_line}
+use Rattle.rl_line.proofs.Common.{◌≡◌, ◌-◌, ◌+◌, ap, ◌∙◌, arith, IsCharBoundary-start, start_of_line}
 use Rattle.rl_line.proofs.Lines.LineReadLemmas.{EndsAt, ends_at, EndsAt-start, EndsAt-stop}
 use Rattle.rl_line.proofs.line_buffer.LineBuffer.start_of_line.Goals as goal
 use Rattle.rl_line.proofs.line_buffer.LineBuffer.start_of_line.Goals.{After-start}

@@ -1,15 +1,5 @@
-use Rattle.std.proofs.Common.{arith, ◌≡◌, List, ℕ, refl, inl, inr, ap, count_by, length, slice_range, subst, sym, ◌∙◌}
-use Rattle.std.proofs.lemmas.Result.{err_from_is_err_and}
-use Rattle.std.specs.List.{replace_range}
-use Rattle.std.specs.Str.{IsCharBoundary, IsUtf8}
-use Rattle.std.specs.String.{string_bytes}
+use Rattle.rl_line.proofs.Common.{arith, ◌≡◌, List, ℕ, refl, inl, inr, ap, count_by, length, slice_range, subst, sym, ◌∙◌, err_from_is_err_and, replace_range, IsCharBoundary, IsUtf8, string_bytes, is_newline, exchange_plan, Line, line_of, Taken, text_in, swap_plan}
 use Rattle.rl_base.proofs.Texts.TextLemmas.{IsCharBoundary-before}
-use Rattle.rl_base.specs.Lines.{is_newline}
-use Rattle.rl_line.specs.Edits.{exchange_plan}
-use Rattle.rl_line.specs.Line.{Line, line_of}
-use Rattle.rl_line.specs.Plan.{Taken}
-use Rattle.rl_line.specs.Ranges.{text_in}
-use Rattle.rl_line.specs.Transpositions.{swap_plan}
 use Rattle.rl_line.proofs.Plans.EditLemmas.{some_part}
 use Rattle.rl_line.proofs.Lines.LineStartLemmas.{length-table, newlines-slice}
 use Rattle.rl_line.proofs.Plans.PlanLemmas.{Done-steps, Taken-append, Halted-front, Halted-back}

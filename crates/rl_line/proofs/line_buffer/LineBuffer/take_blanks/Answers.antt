@@ -1,8 +1,4 @@
-use Rattle.std.proofs.Common.{rules, inr, ◌+◌, slice_range, ap, subst, sym, ◌∙◌, arith}
-use Rattle.std.proofs.lemmas.Result.{err_from_is_err_and}
-use Rattle.std.specs.List.{remove_range}
-use Rattle.std.specs.Str.{IsCharBoundary}
-use Rattle.rl_line.specs.Line.{Line}
+use Rattle.rl_line.proofs.Common.{rules, inr, ◌+◌, slice_range, ap, subst, sym, ◌∙◌, arith, err_from_is_err_and, remove_range, IsCharBoundary, Line}
 use Rattle.rl_line.proofs.Plans.IndentLemmas.{line_plan-dedent, IsCharBoundary-from_part, IsCharBoundary-pulled}
 use Rattle.rl_line.proofs.Plans.PlanLemmas.{Completed-single, Halted-single}
 use Rattle.rl_line.proofs.line_buffer.LineBuffer.take_blanks.Goals as goal

@@ -1,4 +1,4 @@
-use Rattle.std.proofs.Common.{rules}
+use Rattle.rl_line.proofs.Common.{rules}
 use Rattle.rl_line.proofs.Plans.PlanLemmas.{Done-moved}
 use Rattle.rl_line.proofs.Plans.TranspositionLemmas.{transpose-stays}
 use Rattle.rl_line.proofs.line_buffer.LineBuffer.transpose_words.Goals as goal

@@ -1,7 +1,4 @@
-use Rattle.std.proofs.Common.{arith, rules, refl, inr, ap, length}
-use Rattle.std.proofs.lemmas.Result.{err_from_is_err_and}
-use Rattle.std.proofs.lemmas.Str.{IsCharBoundary-start}
-use Rattle.rl_line.specs.Line.{Line}
+use Rattle.rl_line.proofs.Common.{arith, rules, refl, inr, ap, length, err_from_is_err_and, IsCharBoundary-start, Line}
 use Rattle.rl_line.proofs.Plans.EditLemmas.{update_plan-is}
 use Rattle.rl_line.proofs.Plans.PlanLemmas.{Done-followed, Done-single, Halted-before, Halted-followed, Halted-single}
 use Rattle.rl_line.proofs.line_buffer.LineBuffer.update.Goals as goal

@@ -1,6 +1,4 @@
-use Rattle.std.proofs.Common.{rules, arith, refl}
-use Rattle.std.proofs.lemmas.Bool.Decides.{nat_tests}
-use Rattle.std.proofs.lemmas.Result.{err_from_is_err_and}
+use Rattle.rl_line.proofs.Common.{rules, arith, refl, nat_tests, err_from_is_err_and}
 use Rattle.rl_line.proofs.Plans.EditLemmas.{yank_plan-nothing, yank_plan-some}
 use Rattle.rl_line.proofs.Plans.PlanLemmas.{Done-nothing, Done-single, Halted-single}
 use Rattle.rl_line.proofs.line_buffer.LineBuffer.yank.Goals as goal

@@ -1,5 +1,4 @@
-use Rattle.std.proofs.Common.{rules, refl, inr}
-use Rattle.std.proofs.lemmas.Result.{err_from_is_err_and, IfErr-weaker}
+use Rattle.rl_line.proofs.Common.{rules, refl, inr, err_from_is_err_and, IfErr-weaker}
 use Rattle.rl_line.proofs.Plans.EditLemmas.{yank_pop_plan-is}
 use Rattle.rl_line.proofs.Plans.PlanLemmas.{Halted-followed, Halted-before}
 use Rattle.rl_line.proofs.line_buffer.LineBuffer.yank_pop.Goals as goal

@@ -1,6 +1,5 @@
 use Rattle.rl_line.proofs.Plans.KillLemmas.{killed-exact, removal-text}
-use Rattle.rl_line.specs.Ranges.{covered}
-use Rattle.rl_line.specs.Deletions.{side_of}
+use Rattle.rl_line.proofs.Common.{covered, side_of}
 use Rattle.rl_line.proofs.line_buffer.deletions.kill_agrees_with_copy.Goals as goal
 
 pub returns-clause-text : goal.returns-clause-text

@@ -1,4 +1,4 @@
-use Rattle.std.proofs.lemmas.Str.{IsCharBoundary-start}
+use Rattle.rl_line.proofs.Common.{IsCharBoundary-start}
 use Rattle.rl_line.proofs.line_buffer.letter_case.first_len.Goals as goal
 
 pub end_of_cluster-requires : goal.end_of_cluster-requires

@@ -1,4 +1,4 @@
-use Rattle.std.proofs.Common.{rules}
+use Rattle.rl_line.proofs.Common.{rules}
 use Rattle.rl_line.proofs.line_buffer.line_motions.column_below.Goals as goal
 
 pub returns-then-k-eq0 : goal.returns-then-k-eq0

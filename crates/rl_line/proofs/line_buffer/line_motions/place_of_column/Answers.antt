@@ -1,8 +1,5 @@
-use Rattle.std.proofs.Common.{Some, None, slice_get, sym, ap, ◌∙◌, arith}
-use Rattle.std.proofs.lemmas.Iterator.Consumers.{nth_from_yields_List}
-use Rattle.std.proofs.lemmas.List.{take_all}
+use Rattle.rl_line.proofs.Common.{Some, None, slice_get, sym, ap, ◌∙◌, arith, nth_from_yields_List, take_all, clusters, bytes_in}
 use Rattle.unicode_segmentation.proofs.SegmentsLemmas.{YieldsList-from_gives}
-use Rattle.rl_base.specs.Clusters.{clusters, bytes_in}
 use Rattle.rl_base.proofs.Clusters.ClusterLemmas.{bytes_in-clusters}
 use Rattle.rl_base.proofs.Texts.LineLemmas.{place-of_nth, few-from_none, IsCharBoundary-nth}
 use Rattle.rl_line.proofs.line_buffer.line_motions.place_of_column.Goals as goal

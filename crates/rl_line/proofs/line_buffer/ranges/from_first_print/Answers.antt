@@ -1,4 +1,4 @@
-use Rattle.std.proofs.lemmas.Str.{IsCharBoundary-start}
+use Rattle.rl_line.proofs.Common.{IsCharBoundary-start}
 use Rattle.rl_line.proofs.line_buffer.ranges.from_first_print.Goals as goal
 
 pub next_word-requires : goal.next_word-requires

@@ -1,6 +1,4 @@
-use Rattle.std.proofs.Common.{◌<◌, nat_lt, length, ap, sym, ◌∙◌, arith}
-use Rattle.std.proofs.lemmas.Bool.{le-leb}
-use Rattle.rl_line.specs.LineStarts.{line_starts}
+use Rattle.rl_line.proofs.Common.{◌<◌, nat_lt, length, ap, sym, ◌∙◌, arith, le-leb, line_starts}
 use Rattle.rl_line.proofs.Lines.LineReadLemmas.{ltb-not_started}
 use Rattle.rl_line.proofs.Lines.LineStartLemmas.{length-line_starts, length-table, newlines-take}
 use Rattle.rl_line.proofs.line_starts.LineStarts.border_after.Goals as goal

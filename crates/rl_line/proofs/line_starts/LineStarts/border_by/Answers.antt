@@ -1,6 +1,4 @@
-use Rattle.std.proofs.Common.{◌≡◌, ◌<◌, ◌+◌, ◌-◌, nat_le, length, ap, ◌∙◌, arith}
-use Rattle.rl_base.specs.Lines.{line_number}
-use Rattle.rl_line.specs.LineStarts.{line_starts}
+use Rattle.rl_line.proofs.Common.{◌≡◌, ◌<◌, ◌+◌, ◌-◌, nat_le, length, ap, ◌∙◌, arith, line_number, line_starts}
 use Rattle.rl_line.proofs.Lines.LineReadLemmas.{leb-started}
 use Rattle.rl_line.proofs.Lines.LineStartLemmas.{length-line_starts, length-table}
 use Rattle.rl_line.proofs.line_starts.LineStarts.border_by.Goals as goal

@@ -1,6 +1,4 @@
-use Rattle.std.proofs.Common.{◌-◌, length, leb, leb-true, leb-false, subst, sym, ◌∙◌, rules}
-use Rattle.std.proofs.lemmas.List.Sorted.{IsPartitionPoint-from_clause}
-use Rattle.rl_line.specs.LineStarts.{IsTable}
+use Rattle.rl_line.proofs.Common.{◌-◌, length, leb, leb-true, leb-false, subst, sym, ◌∙◌, rules, IsPartitionPoint-from_clause, IsTable}
 use Rattle.rl_line.proofs.Lines.LineReadLemmas.{IsPartitionedBy-before, IsPartitionedBy-from, number-before, number-from}
 use Rattle.rl_line.proofs.line_starts.LineStarts.line_number.Goals as goal
 

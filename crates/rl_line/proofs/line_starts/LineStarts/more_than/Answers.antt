@@ -1,4 +1,4 @@
-use Rattle.std.proofs.Common.{arith}
+use Rattle.rl_line.proofs.Common.{arith}
 use Rattle.rl_line.proofs.Lines.LineStartLemmas.{newlines-front}
 use Rattle.rl_line.proofs.line_starts.LineStarts.more_than.Goals as goal
 

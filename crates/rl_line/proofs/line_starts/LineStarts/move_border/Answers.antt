@@ -1,5 +1,4 @@
-use Rattle.std.proofs.Common.{subst, sym, arith}
-use Rattle.rl_line.specs.LineStarts.{IsTable}
+use Rattle.rl_line.proofs.Common.{subst, sym, arith, IsTable}
 use Rattle.rl_line.proofs.Lines.LineStartLemmas.{moved-down, moved-up, slice-within}
 use Rattle.rl_line.proofs.line_starts.LineStarts.move_border.Goals as goal
 

@@ -1,5 +1,4 @@
-use Rattle.std.proofs.Common.{◌<◌, length, arith}
-use Rattle.std.proofs.lemmas.List.{get_or_read}
+use Rattle.rl_line.proofs.Common.{◌<◌, length, arith, get_or_read}
 use Rattle.rl_line.proofs.Lines.LineStartLemmas.{read-from, read-within}
 use Rattle.rl_line.proofs.line_starts.LineStarts.start.Goals as goal
 

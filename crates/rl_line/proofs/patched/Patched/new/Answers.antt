@@ -1,5 +1,4 @@
-use Rattle.std.proofs.Common.{arith}
-use Rattle.std.proofs.lemmas.Str.{IsCharBoundary-start}
+use Rattle.rl_line.proofs.Common.{arith, IsCharBoundary-start}
 use Rattle.rl_line.proofs.patched.Patched.new.Goals as goal
 
 pub invariant_of-result : goal.invariant_of-result

@@ -1,10 +1,5 @@
-use Rattle.std.proofs.Common.{arith, ◌≡◌, ◌≤◌, ◌+◌, ◌-◌, ap, length, subst, sym, ◌∙◌}
-use Rattle.std.proofs.lemmas.Result.{err_from_is_err_and}
-use Rattle.std.specs.List.{replace_range}
-use Rattle.std.specs.Str.{IsCharBoundary, IsUtf8}
-use Rattle.std.specs.String.{string_bytes}
+use Rattle.rl_line.proofs.Common.{arith, ◌≡◌, ◌≤◌, ◌+◌, ◌-◌, ap, length, subst, sym, ◌∙◌, err_from_is_err_and, replace_range, IsCharBoundary, IsUtf8, string_bytes, is_boundary, stands_at}
 use Rattle.rl_base.proofs.Texts.TextLemmas.{is_boundary-means, is_boundary-true, stands_at-means}
-use Rattle.rl_base.specs.Text.{is_boundary, stands_at}
 use Rattle.rl_line.proofs.Records.ChangeLemmas.{stands_at-not}
 use Rattle.rl_line.proofs.Records.PatchLemmas.{length-replaced, patched-stands, patched-swap}
 use Rattle.rl_line.proofs.patched.Patched.swap.Goals as goal

@@ -1,4 +1,4 @@
-use Rattle.std.proofs.Common.{refl}
+use Rattle.rl_session.proofs.Common.{refl}
 use Rattle.rl_line.proofs.Records.JoinLemmas.{record_step-Start}
 use Rattle.rl_session.proofs.pair.PairDeleteListener.start_killing.Goals as goal
 

@@ -1,6 +1,5 @@
-use Rattle.std.proofs.Common.{ap}
+use Rattle.rl_session.proofs.Common.{ap, State}
 use Rattle.rl_base.proofs.Texts.SpliceLemmas.{told-means}
-use Rattle.rl_session.specs.State.{State}
 use Rattle.rl_session.proofs.session.Session.changed.Goals as goal
 
 pub returns-clause-splices : goal.returns-clause-splices

@@ -1,4 +1,4 @@
-use Rattle.std.proofs.Common.{rules}
+use Rattle.rl_session.proofs.Common.{rules}
 use Rattle.rl_session.proofs.Sessions.SessionLemmas.{Walks-begin}
 use Rattle.rl_session.proofs.session.Session.do_begin.Goals as goal
 

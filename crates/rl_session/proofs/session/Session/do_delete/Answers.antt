@@ -1,11 +1,7 @@
-use Rattle.std.specs.Option.{option_map}
-use Rattle.std.specs.String.{string_bytes}
-use Rattle.std.proofs.Common.{rules}
-use Rattle.rl_base.specs.declared.motion.Movement.TheVariants.{ForwardChar}
+use Rattle.rl_session.proofs.Common.{option_map, string_bytes, rules, ForwardChar, a_copy}
 use Rattle.rl_session.proofs.Sessions.IdleLemmas.{NoneStarts-kill}
 use Rattle.rl_session.proofs.Sessions.SessionLemmas.{AtRest-edit}
 use Rattle.rl_session.proofs.session.Session.do_delete.Goals as goal
-use Rattle.rl_line.specs.Plan.{a_copy}
 
 pub invariant_of-self : goal.invariant_of-self
 invariant_of-self c =

@@ -1,8 +1,7 @@
-use Rattle.std.proofs.Common.{rules}
+use Rattle.rl_session.proofs.Common.{rules, nothing_more}
 use Rattle.rl_session.proofs.Sessions.IdleLemmas.{NoneStarts-kill}
 use Rattle.rl_session.proofs.Sessions.SessionLemmas.{AtRest-edit}
 use Rattle.rl_session.proofs.session.Session.do_delete_by.Goals as goal
-use Rattle.rl_line.specs.Plan.{nothing_more}
 
 pub invariant_of-self : goal.invariant_of-self
 invariant_of-self c =

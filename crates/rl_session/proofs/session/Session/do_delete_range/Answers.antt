@@ -1,6 +1,6 @@
 use Rattle.rl_session.proofs.Sessions.SessionLemmas.{AtRest-edit}
 use Rattle.rl_session.proofs.session.Session.do_delete_range.Goals as goal
-use Rattle.rl_line.specs.Plan.{nothing_more}
+use Rattle.rl_session.proofs.Common.{nothing_more}
 
 pub invariant_of-self : goal.invariant_of-self
 invariant_of-self c =

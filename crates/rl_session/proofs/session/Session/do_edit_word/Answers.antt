@@ -1,8 +1,7 @@
-use Rattle.std.proofs.Common.{rules}
+use Rattle.rl_session.proofs.Common.{rules, a_copy}
 use Rattle.rl_session.proofs.Sessions.IdleLemmas.{NoneStarts-edit_word}
 use Rattle.rl_session.proofs.Sessions.SessionLemmas.{AtRest-edit}
 use Rattle.rl_session.proofs.session.Session.do_edit_word.Goals as goal
-use Rattle.rl_line.specs.Plan.{a_copy}
 
 pub invariant_of-self : goal.invariant_of-self
 invariant_of-self c =

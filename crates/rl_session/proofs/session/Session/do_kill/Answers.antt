@@ -1,4 +1,4 @@
-use Rattle.std.proofs.Common.{refl}
+use Rattle.rl_session.proofs.Common.{refl}
 use Rattle.rl_session.proofs.Sessions.ReplyLemmas.{Kill-replied}
 use Rattle.rl_session.proofs.Sessions.SessionLemmas.{AtRest-kill}
 use Rattle.rl_session.proofs.session.Session.do_kill.Goals as goal

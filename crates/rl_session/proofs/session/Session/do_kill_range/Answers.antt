@@ -1,6 +1,4 @@
-use Rattle.std.proofs.Common.{false, rules}
-use Rattle.rl_line.specs.Deletions.{kill_range_plan}
-use Rattle.rl_line.specs.Ranges.{unless_empty}
+use Rattle.rl_session.proofs.Common.{false, rules, kill_range_plan, unless_empty}
 use Rattle.rl_session.proofs.Sessions.IdleLemmas.{NoneStarts-removal}
 use Rattle.rl_session.proofs.Sessions.SessionLemmas.{AtRest-told}
 use Rattle.rl_session.proofs.session.Session.do_kill_range.Goals as goal

@@ -1,7 +1,7 @@
 use Rattle.rl_session.proofs.Sessions.IdleLemmas.{NoneStarts-yank}
 use Rattle.rl_session.proofs.Sessions.SessionLemmas.{AtRest-edit}
 use Rattle.rl_session.proofs.session.Session.do_paste.Goals as goal
-use Rattle.rl_line.specs.Plan.{room_by_step}
+use Rattle.rl_session.proofs.Common.{room_by_step}
 
 pub invariant_of-self : goal.invariant_of-self
 invariant_of-self c =

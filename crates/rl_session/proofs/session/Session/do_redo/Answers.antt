@@ -1,4 +1,4 @@
-use Rattle.std.proofs.Common.{rules}
+use Rattle.rl_session.proofs.Common.{rules}
 use Rattle.rl_session.proofs.Sessions.SessionLemmas.{Walks-redo}
 use Rattle.rl_line.proofs.Records.MoveLemmas.{redo-fits}
 use Rattle.rl_line.proofs.Records.WalkLemmas.{Walks-ahead}

@@ -1,7 +1,6 @@
-use Rattle.std.proofs.Common.{rules}
+use Rattle.rl_session.proofs.Common.{rules, room_by_step}
 use Rattle.rl_session.proofs.Sessions.SessionLemmas.{AtRest-edit}
 use Rattle.rl_session.proofs.session.Session.do_replace.Goals as goal
-use Rattle.rl_line.specs.Plan.{room_by_step}
 
 pub invariant_of-self : goal.invariant_of-self
 invariant_of-self c =

@@ -1,7 +1,7 @@
 use Rattle.rl_session.proofs.Sessions.IdleLemmas.{NoneStarts-transpose_chars}
 use Rattle.rl_session.proofs.Sessions.SessionLemmas.{AtRest-edit}
 use Rattle.rl_session.proofs.session.Session.do_transpose_chars.Goals as goal
-use Rattle.rl_line.specs.Plan.{a_copy}
+use Rattle.rl_session.proofs.Common.{a_copy}
 
 pub invariant_of-self : goal.invariant_of-self
 invariant_of-self c =

@@ -1,13 +1,4 @@
-use Rattle.std.proofs.Common.{◌≡◌, Bool, Result, refl, rules}
-use Rattle.std.specs.Prelude.{IfOk, IfErr}
-use Rattle.rl_base.specs.declared.listeners.Refusal.{Refusal}
-use Rattle.rl_line.specs.Plan.{Plan, Done, a_copy}
-use Rattle.rl_line.specs.Transpositions.{transpose_words_plan}
-use Rattle.rl_session.specs.Commands.{Came, answers, edit_course}
-use Rattle.rl_session.specs.Pair.{pair_step}
-use Rattle.rl_session.specs.Replies.{replied}
-use Rattle.rl_session.specs.State.{State}
-use Rattle.rl_session.specs.declared.session.Reply.{Reply}
+use Rattle.rl_session.proofs.Common.{◌≡◌, Bool, Result, refl, rules, IfOk, IfErr, Refusal, Plan, Done, a_copy, transpose_words_plan, Came, answers, edit_course, pair_step, replied, State, Reply}
 use Rattle.rl_session.specs.declared.session.Reply.TheVariants as says
 use Rattle.rl_session.proofs.Sessions.IdleLemmas.{NoneStarts-transpose_words}
 use Rattle.rl_session.proofs.Sessions.PairLemmas.{Stopped}

@@ -1,6 +1,4 @@
-use Rattle.std.proofs.Common.{arith, rules, true, ◌≡◌, subst, sym, ◌∙◌}
-use Rattle.rl_line.specs.Record.{Record, replays_to}
-use Rattle.rl_line.specs.Walk.{Walks}
+use Rattle.rl_session.proofs.Common.{arith, rules, true, ◌≡◌, subst, sym, ◌∙◌, Record, replays_to, Walks}
 use Rattle.rl_line.proofs.Records.WalkLemmas.{Walks-truncated}
 use Rattle.rl_session.proofs.Sessions.SessionLemmas.{replays-all}
 use Rattle.rl_session.proofs.session.Session.do_truncate.Goals as goal

@@ -1,4 +1,4 @@
-use Rattle.std.proofs.Common.{refl}
+use Rattle.rl_session.proofs.Common.{refl}
 use Rattle.rl_session.proofs.Sessions.ReplyLemmas.{Undo-replied}
 use Rattle.rl_session.proofs.Sessions.SessionLemmas.{Walks-undo}
 use Rattle.rl_line.proofs.Records.MoveLemmas.{undo-fits}

@@ -1,9 +1,7 @@
-use Rattle.std.proofs.Common.{arith, rules, inl, refl, subst, sym}
-use Rattle.rl_base.specs.Text.{HasText}
+use Rattle.rl_session.proofs.Common.{arith, rules, inl, refl, subst, sym, HasText, room_by_step}
 use Rattle.rl_session.proofs.Sessions.IdleLemmas.{NoneStarts-yank, idle-yanked}
 use Rattle.rl_session.proofs.Sessions.SessionLemmas.{AtRest-edit, nothing_lent}
 use Rattle.rl_session.proofs.session.Session.do_yank.Goals as goal
-use Rattle.rl_line.specs.Plan.{room_by_step}
 
 pub returns-in-Ok-None : goal.returns-in-Ok-None
 returns-in-Ok-None c = rw (← c.self.view_is) (nothing_lent _ (record { line = c.self.inside.line; pair = c.self.inside.pair; options = c.self.inside.options }) _ (subst HasText (sym (rw c.in-Ok-None.field-0-is at c.in-Ok-None.ensures.text))) _ (rw c.in-Ok-None.ensures.ring refl))

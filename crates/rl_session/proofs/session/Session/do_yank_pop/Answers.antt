@@ -1,8 +1,7 @@
-use Rattle.std.proofs.Common.{rules, inl, refl, sym}
+use Rattle.rl_session.proofs.Common.{rules, inl, refl, sym, room_by_step}
 use Rattle.rl_session.proofs.Sessions.IdleLemmas.{NoneStarts-yank_pop, idle-popped}
 use Rattle.rl_session.proofs.Sessions.SessionLemmas.{AtRest-edit, nothing_popped}
 use Rattle.rl_session.proofs.session.Session.do_yank_pop.Goals as goal
-use Rattle.rl_line.specs.Plan.{room_by_step}
 
 pub returns-in-Ok-None : goal.returns-in-Ok-None
 returns-in-Ok-None c = (c.stands_yanked.ensures.yes c.if-not-stands_yanked.false, rw (← c.self.view_is) (nothing_popped (record { line = c.self.inside.line; pair = c.self.inside.pair; options = c.self.inside.options }) _ (sym (rw c.in-Ok-None.field-0-is at c.in-Ok-None.ensures.text)) _ (rw c.in-Ok-None.ensures.ring refl)))

@@ -1,5 +1,4 @@
-use Rattle.std.proofs.Common.{subst}
-use Rattle.std.specs.Str.{IsCharBoundary}
+use Rattle.rl_session.proofs.Common.{subst, IsCharBoundary}
 use Rattle.rl_session.proofs.Sessions.SessionLemmas.{Follows-Walks}
 use Rattle.rl_session.proofs.session.Session.follows.Goals as goal
 

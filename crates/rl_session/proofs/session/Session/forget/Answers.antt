@@ -1,6 +1,4 @@
-use Rattle.std.proofs.Common.{subst, sym}
-use Rattle.rl_line.specs.Record.{Record}
-use Rattle.rl_line.specs.Walk.{Walks}
+use Rattle.rl_session.proofs.Common.{subst, sym, Record, Walks}
 use Rattle.rl_line.proofs.Records.ForgettingLemmas.{Walks-forgotten}
 use Rattle.rl_session.proofs.session.Session.forget.Goals as goal
 

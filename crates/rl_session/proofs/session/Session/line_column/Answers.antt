@@ -1,4 +1,4 @@
-use Rattle.std.proofs.Common.{sym, ◌∙◌, rules}
+use Rattle.rl_session.proofs.Common.{sym, ◌∙◌, rules}
 use Rattle.rl_line.proofs.Lines.LineReadLemmas.{range-before, range-some}
 use Rattle.rl_session.proofs.session.Session.line_column.Goals as goal
 

@@ -1,4 +1,4 @@
-use Rattle.std.proofs.Common.{refl}
+use Rattle.rl_session.proofs.Common.{refl}
 use Rattle.rl_session.proofs.Sessions.StepLemmas.{step_done}
 use Rattle.rl_session.proofs.session.Session.replace.Goals as goal
 

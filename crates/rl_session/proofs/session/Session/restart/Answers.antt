@@ -1,7 +1,4 @@
-use Rattle.std.proofs.Common.{◌∙◌, ap, sym, subst, refl}
-use Rattle.std.specs.Str.{IsUtf8}
-use Rattle.rl_base.specs.KillRing.{Ring}
-use Rattle.rl_line.specs.Line.{Line}
+use Rattle.rl_session.proofs.Common.{◌∙◌, ap, sym, subst, refl, IsUtf8, Ring, Line}
 use Rattle.rl_session.proofs.Sessions.RestartLemmas.{Walks-nothing}
 use Rattle.rl_session.proofs.Sessions.WatchLemmas.{changed_restarted, reported_restarted}
 use Rattle.rl_session.proofs.session.Session.restart.Goals as goal

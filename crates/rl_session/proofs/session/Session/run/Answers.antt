@@ -1,6 +1,4 @@
-use Rattle.std.proofs.Common.{arith, ◌≡◌, ◌+◌, ◌∙◌, ◌++◌, ◌∷◌, [], true, ap, sym, take}
-use Rattle.std.proofs.lemmas.Grind.{take_at_read}
-use Rattle.std.specs.Prelude.{is_ok}
+use Rattle.rl_session.proofs.Common.{arith, ◌≡◌, ◌+◌, ◌∙◌, ◌++◌, ◌∷◌, [], true, ap, sym, take, take_at_read, is_ok}
 use Rattle.rl_session.proofs.Runs.RowLemmas.{Run-more, run_replays}
 use Rattle.rl_session.proofs.session.Session.run.Goals as goal
 

@@ -1,6 +1,4 @@
-use Rattle.std.proofs.Common.{◌≡◌, ◌≤◌, take, length, vec_len, vec_capacity}
-use Rattle.rl_session.specs.Run.{Run}
-use Rattle.rl_session.specs.State.{origin}
+use Rattle.rl_session.proofs.Common.{◌≡◌, ◌≤◌, take, length, vec_len, vec_capacity, Run, origin}
 use Rattle.rl_session.proofs.session.Session.run.Given as goal
 
 abbrev pub invariant-loop-command : goal.invariant-loop-command

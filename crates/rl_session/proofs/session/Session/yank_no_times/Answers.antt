@@ -1,11 +1,8 @@
-use Rattle.std.proofs.Common.{[], ◌∷◌, arith, refl}
-use Rattle.rl_line.specs.Edits.{yank_plan}
+use Rattle.rl_session.proofs.Common.{[], ◌∷◌, arith, refl, yank_plan, State, room_by_step}
 use Rattle.rl_session.proofs.Sessions.IdleLemmas.{NoneStarts-yank, idle-yanked}
 use Rattle.rl_session.proofs.Sessions.ReplyLemmas.{Yank-replied}
 use Rattle.rl_session.proofs.Sessions.SessionLemmas.{AtRest-edit, lent-no_times, nothing_lent}
-use Rattle.rl_session.specs.State.{State}
 use Rattle.rl_session.proofs.session.Session.yank_no_times.Goals as goal
-use Rattle.rl_line.specs.Plan.{room_by_step}
 
 pub returns-then-not-yanks_some : goal.returns-then-not-yanks_some
 returns-then-not-yanks_some c =

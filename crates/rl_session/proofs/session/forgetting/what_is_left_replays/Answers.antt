@@ -1,7 +1,6 @@
 use Rattle.rl_line.proofs.Records.ForgettingLemmas.{left-replays}
 use Rattle.rl_line.proofs.Records.RecordLemmas.{replay-IsUtf8}
-use Rattle.rl_session.specs.Forgetting.{gone, within_bound}
-use Rattle.rl_session.specs.State.{State, Stands}
+use Rattle.rl_session.proofs.Common.{gone, within_bound, State, Stands}
 use Rattle.rl_session.proofs.Runs.PlaceLemmas.{Holds-forgotten}
 use Rattle.rl_session.proofs.session.forgetting.what_is_left_replays.Goals as goal
 

@@ -1,8 +1,4 @@
-use Rattle.std.proofs.Common.{sym, ap, subst, append-nil, ◌∙◌}
-use Rattle.std.specs.List.{insert_slice}
-use Rattle.std.specs.Str.{IsCharBoundary}
-use Rattle.std.proofs.lemmas.Str.{IsCharBoundary-start}
-use Rattle.rl_line.specs.Line.{Line}
+use Rattle.rl_session.proofs.Common.{sym, ap, subst, append-nil, ◌∙◌, insert_slice, IsCharBoundary, IsCharBoundary-start, Line}
 use Rattle.rl_session.proofs.Sessions.SessionLemmas.{put_first}
 use Rattle.rl_session.proofs.session.opening.filled.Goals as goal
 

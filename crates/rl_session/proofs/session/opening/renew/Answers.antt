@@ -1,7 +1,4 @@
-use Rattle.std.proofs.Common.{◌∙◌, ap, sym, subst, refl}
-use Rattle.std.proofs.lemmas.Str.{IsCharBoundary-start}
-use Rattle.std.specs.Str.{IsCharBoundary}
-use Rattle.rl_line.specs.Line.{Line}
+use Rattle.rl_session.proofs.Common.{◌∙◌, ap, sym, subst, refl, IsCharBoundary-start, IsCharBoundary, Line}
 use Rattle.rl_session.proofs.Sessions.RestartLemmas.{Kept, Renewed}
 use Rattle.rl_session.proofs.session.opening.renew.Goals as goal
 
