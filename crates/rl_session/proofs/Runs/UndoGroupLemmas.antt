@@ -30,7 +30,7 @@ has_change-end_one : (es : List Entry) → has_change (end_one es) ≡ has_chang
 has_change-end_one es =
     elim (end_one-cases es) [
       | inl c ↦ ap has_change c.after_is ∙ sym (or-false (has_change c.front)) ∙ sym (has_change-append c.front (Begin ∷ [])) ∙ ap has_change (sym c.list_is)
-      | inr c ↦ ap has_change c ∙ has_change-append es (End ∷ []) ∙ or-false (has_change es)
+      | inr c ↦ ap has_change c.after_is ∙ has_change-append es (End ∷ []) ∙ or-false (has_change es)
     ]
 
 -- once a group and those that are open in it are closed, an undo of one unit keeps what was recorded before its begin
