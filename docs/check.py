@@ -33,20 +33,20 @@ SPAN = re.compile(r"(`+)(.+?)\1", re.S)
 CALL = re.compile(r"\b(?:lodvarn_[a-z0-9_]*[a-z0-9]|LODVARN_[A-Z0-9_]*[A-Z0-9])\b(?!_)")
 # What the clients for Python and Rust read of the environment.
 VARIABLES = {"LODVARN_LIB"}
-CRATE = re.compile(r"\brl_[a-z]+\b")
+CRATE = re.compile(r"\brl_[a-z_]+\b")
 
 
 # --- the tables of wrong bodies ---
 
 
 def has_name(name):
-    """Whether a file, a test of rl_tests as module::name, or an edit that must fail has that name."""
+    """Whether a file, a test as module::name, or an edit that must fail has that name."""
     if "/" in name:
         return (TOP / name).is_file()
     if "::" in name:
         module, test = name.split("::")
-        source = TOP / f"crates/rl_tests/src/{module}.rt"
-        return source.is_file() and f"#[test]\nfn {test}(" in source.read_text()
+        sources = TOP.glob(f"crates/rl_*tests/src/{module}.rt")
+        return any(f"#[test]\nfn {test}(" in source.read_text() for source in sources)
     return any(TOP.glob(f"crates/*/must-fail/{name}.edit"))
 
 

@@ -1,8 +1,6 @@
-//! What places, widths, the ring, lines, records, sessions and scripts do, as any caller sees it. Each file is named
-//! for the module that it is of; `broken` is of scripts whose reader or writer fails, `cursors` of the cursors that undo
-//! and redo give back, `halts` of edits that are refused halfway, `told` reads what their listener heard, `mirror` is a
-//! listener that holds the text, `joins` is of changes that join in the record, and `quotas` of great and rare input.
-//! Tests stand alone, so that no other crate is proved again for them.
+//! What sessions and scripts do, as any caller sees it, and by scripts what lines do. Each file is named for the module that
+//! it is of; `broken` is of scripts whose reader or writer fails, `cursors` of the cursors that undo and redo give back, and
+//! `quotas` of great and rare input. Tests stand alone, so that no other crate is proved again for them.
 #![tactic(auto)]
 
 #[cfg(test)]
@@ -10,39 +8,17 @@ mod broken;
 #[cfg(test)]
 mod cursors;
 #[cfg(test)]
-mod edits;
-#[cfg(test)]
 mod forgetting;
-#[cfg(test)]
-mod gathered;
-#[cfg(test)]
-mod halts;
 #[cfg(test)]
 mod indents;
 #[cfg(test)]
-mod joins;
-#[cfg(test)]
-mod kill_ring;
-#[cfg(test)]
 mod kills;
 #[cfg(test)]
-mod layout;
-#[cfg(test)]
 mod letter_case;
-#[cfg(test)]
-mod line_buffer;
-#[cfg(test)]
-mod line_motions;
-#[cfg(test)]
-mod listeners;
-#[cfg(test)]
-mod mirror;
 #[cfg(test)]
 mod motions;
 #[cfg(test)]
 mod pair;
-#[cfg(test)]
-mod places;
 #[cfg(test)]
 mod quotas;
 #[cfg(test)]
@@ -50,10 +26,6 @@ mod script;
 #[cfg(test)]
 mod session;
 #[cfg(test)]
-mod told;
-#[cfg(test)]
 mod transpositions;
-#[cfg(test)]
-mod undo;
 #[cfg(test)]
 mod watch;

@@ -1,5 +1,4 @@
 //! Motions with places that were worked out by hand, as lines of scripts.
-use crate::line_buffer::{holds, line_of};
 use crate::script::{Lines, print_each, prints_on};
 use std::alloc::Global;
 use std::process::Abort;
@@ -105,29 +104,6 @@ fn motions_once(rt: HostRuntime) -> Result<(), Fail> {
         ("ag\u{308}", 1, "move fchar 1", "true 4 ag\u{308}"),
     ];
     print_each(&rt, rt.alloc(), ROWS)
-}
-
-// Whether there is only space after the cursor.
-fn ends(rt: &impl Abort, alloc: Global, text: &str, pos: usize, want: bool) -> Result<(), Fail> {
-    let line = line_of(rt, alloc, text, pos)?;
-    let answer = line.is_end_of_input();
-    holds(rt, answer == want, "the answer", text, pos);
-    Ok(())
-}
-
-#[test]
-fn ends_of_input(rt: HostRuntime) -> Result<(), Fail> {
-    const ROWS: &[(&str, usize, bool)] = &[
-        ("ab \u{3000}", 1, false),
-        ("ab \u{3000}", 2, true),
-        ("ab \u{3000}", 6, true),
-        ("", 0, true),
-        (" ", 0, true),
-    ];
-    for (text, pos, want) in ROWS {
-        ends(&rt, rt.alloc(), text, *pos, *want)?;
-    }
-    Ok(())
 }
 
 #[test]

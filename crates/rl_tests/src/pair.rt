@@ -1,6 +1,5 @@
 //! What a pair hears of the edits of a line.
-use crate::line_buffer::line_of;
-use rl_base::{ChangeListener, DeleteListener, KillRing, Movement, Watch};
+use rl_base::{ChangeListener, DeleteListener, KillRing, Movement, NoListener, Watch};
 use rl_line::{Changeset, LineBuffer};
 use rl_session::Pair;
 use std::process::Abort;
@@ -83,7 +82,9 @@ fn a_pair_tells_its_record_the_cursors(rt: HostRuntime) -> Result<(), Fail> {
         changes: Changeset::new(alloc),
         watch: Watch::new(),
     };
-    let mut line = line_of(&rt, alloc, "abc", 2)?;
+    let mut line = LineBuffer::with_capacity(alloc, 9)?;
+    line.yank("abc", 1, &mut NoListener)?;
+    line.move_backward(1);
     ChangeListener::insert_str(&mut pair, 1, "b")?;
     pair.cursors(0, 3);
     goes_to(&rt, &mut line, &mut pair.changes, 0, 3)

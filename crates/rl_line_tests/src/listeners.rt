@@ -1,5 +1,4 @@
 //! What no clause says: that a call comes back with its answer, and printed text.
-use crate::script::is_so;
 use rl_base::testing::RefuseAt;
 use rl_base::{ChangeListener, DeleteListener, Direction, NoListener, Refusal, WatchFault};
 use std::alloc::{AllocError, Global};
@@ -75,6 +74,6 @@ fn refusals_are_printed(rt: HostRuntime) -> Result<(), Fail> {
     )?;
     let wanted =
         "out of memory, the report queue must have room for at least one report, there is a queue of reports already";
-    is_so(&rt, said.as_str() == wanted, "why there is no queue");
+    assert!(rt; said.as_str() == wanted, "why there is no queue");
     Ok(())
 }

@@ -1,0 +1,42 @@
+//! What places, widths, the ring, lines and records do, as any caller sees it. Each file is named for the module that it is
+//! of; `cursors` is of the cursors that undo and redo give back, `halts` of edits that are refused halfway, `told` reads what
+//! their listener heard, `mirror` is a listener that holds the text, and `joins` is of changes that join in the record. Tests
+//! stand alone, so that no other crate is proved again for them.
+#![tactic(auto)]
+
+#[cfg(test)]
+mod cursors;
+#[cfg(test)]
+mod edits;
+#[cfg(test)]
+mod forgetting;
+#[cfg(test)]
+mod gathered;
+#[cfg(test)]
+mod halts;
+#[cfg(test)]
+mod indents;
+#[cfg(test)]
+mod joins;
+#[cfg(test)]
+mod kill_ring;
+#[cfg(test)]
+mod kills;
+#[cfg(test)]
+mod layout;
+#[cfg(test)]
+mod line_buffer;
+#[cfg(test)]
+mod line_motions;
+#[cfg(test)]
+mod listeners;
+#[cfg(test)]
+mod mirror;
+#[cfg(test)]
+mod motions;
+#[cfg(test)]
+mod places;
+#[cfg(test)]
+mod told;
+#[cfg(test)]
+mod undo;
