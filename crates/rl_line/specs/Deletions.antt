@@ -1,9 +1,13 @@
 -- What copying, deleting and killing by a movement do.
-use Rattle.std.specs.Prelude.{◌≡◌, ℕ, nat_lt, Bool, true, false, List, Option, Some, None, if◌then◌else◌}
+use Rattle.std.specs.Prelude.{◌≡◌, ℕ, nat_lt, Bool, true, false, List, Option, Some, None, Result, String, if◌then◌else◌}
 use Rattle.std.specs.Option.{option_map}
+use Rattle.std.specs.Result.{result_map_both}
+use Rattle.std.specs.String.{string_bytes}
+use Rattle.std.specs.declared.alloc.Global.{Global}
 use Rattle.std.specs.declared.ops.Range.{Range}
 use Rattle.rl_base.specs.Event.{Event, Delete, Start, Stop}
 use Rattle.rl_base.specs.declared.listeners.Direction.{Direction}
+use Rattle.rl_base.specs.declared.listeners.Refusal.{Refusal}
 use Rattle.rl_base.specs.declared.listeners.Direction.TheVariants.{Forward, Backward}
 use Rattle.rl_base.specs.declared.motion.CharSearch.{CharSearch}
 use Rattle.rl_base.specs.declared.motion.CharSearch.TheVariants as to
@@ -11,7 +15,7 @@ use Rattle.rl_base.specs.declared.motion.Movement.{Movement}
 use Rattle.rl_base.specs.declared.motion.Movement.TheVariants.{WholeLine, BeginningOfLine, EndOfLine, BackwardWord, ForwardWord, ViCharSearch, ViFirstPrint, FirstNonBlank, BackwardChar, ForwardChar, BeginningOfBuffer, EndOfBuffer}
 use Rattle.rl_line.specs.Line.{Line}
 use Rattle.rl_line.specs.LineMotions.{first_nonblank}
-use Rattle.rl_line.specs.Plan.{Plan, nothing, single, answering}
+use Rattle.rl_line.specs.Plan.{Plan, nothing, nothing_more, single, answering, Outcome}
 use Rattle.rl_line.specs.Ranges.{covered, killed, text_in, unless_empty}
 
 -- what a movement copies
@@ -89,3 +93,12 @@ pub record Between {L : Type 0} (step : L → Event → L) (P : L → L → Type
 abbrev pub Told : {L : Type 0} → (L → Event → L) → Bool → (L → L → Type 0) → L → L → Type 0
 Told step true P = P
 Told step false P = Between step P
+
+-- what a kill comes to, of which the listener is told that way
+abbrev pub ToldOutcome : {L A : Type 0} → (L → Event → L) → (L → Event → Refusal → L → Type 0) → Bool → Plan A → Line → Line → L → L → Result A Refusal → Type 0
+ToldOutcome step refused by_characters plan old new before now result =
+    Told step by_characters (λ b n. Outcome step refused nothing_more plan old new b n result) before now
+
+-- what a deletion that hands out its text answers, in bytes
+abbrev pub texts_of : Result (Option (String Global)) Refusal → Result (Option (List ℕ)) Refusal
+texts_of result = result_map_both (option_map string_bytes) (λ r. r) result

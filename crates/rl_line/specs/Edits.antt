@@ -5,10 +5,11 @@ use Rattle.std.specs.Str.{IsCharBoundary}
 use Rattle.std.specs.declared.ops.Range.{Range}
 use Rattle.rl_base.specs.Event.{Event, InsertChar, InsertStr, Delete, Replace}
 use Rattle.rl_base.specs.Text.{greatest_boundary}
+use Rattle.rl_base.specs.declared.listeners.Direction.{Direction}
 use Rattle.rl_base.specs.declared.listeners.Direction.TheVariants.{Forward}
 use Rattle.rl_line.specs.Line.{Line, stepped, between}
 use Rattle.rl_line.specs.Ranges.{text_in}
-use Rattle.rl_line.specs.Plan.{Plan, nothing, single, followed_by}
+use Rattle.rl_line.specs.Plan.{Step, Plan, nothing, single, followed_by}
 
 -- a length that the line may not have: it may not grow, and the length is past its limit
 abbrev pub too_long : Line → ℕ → Bool
@@ -18,6 +19,14 @@ too_long line n = not line.grow && nat_lt line.limit n
 abbrev pub insert_event : ℕ → ℕ → ℕ → Event
 insert_event i c n = if n == 1 then InsertChar i c else InsertStr i (repeat n (encode_utf8 c))
 
+-- the step by which c goes in n times at the cursor
+abbrev pub insert_step : Line → ℕ → ℕ → Step
+insert_step line c n = (insert_event line.cursor c n, line.cursor + length (encode_utf8 c) * n)
+
+-- the step by which s goes in n times at the cursor
+abbrev pub yank_step : Line → List ℕ → ℕ → Step
+yank_step line s n = (InsertStr line.cursor (repeat n s), line.cursor + length s * n)
+
 -- c goes in n times at the cursor, which goes past it, unless that is too long. The answer: was the cursor at the end?
 abbrev pub insert_plan : Line → ℕ → ℕ → Plan (Option Bool)
 insert_plan line c n =
@@ -25,6 +34,14 @@ insert_plan line c n =
     if too_long line (length line.text + more)
     then nothing line None
     else single (insert_event line.cursor c n) (line.cursor + more) (Some (line.cursor == length line.text))
+
+-- the step by which a range goes, with a cursor after it
+abbrev pub delete_step : Line → Range ℕ → Direction → ℕ → Step
+delete_step line r side cursor = (Delete r.start (text_in line r) side, cursor)
+
+-- the step by which s replaces a range; the cursor is after s
+abbrev pub replace_step : Line → Range ℕ → List ℕ → Step
+replace_step line r s = (Replace r.start (text_in line r) s, r.start + length s)
 
 -- s can go in at i, and the cursor stays at its place: both stand between two characters, the cursor also once s is in
 abbrev pub CanInsertStr : Line → ℕ → List ℕ → Type 0

@@ -10,7 +10,7 @@ use Rattle.rl_base.specs.declared.listeners.Direction.TheVariants.{Forward}
 use Rattle.rl_base.specs.declared.motion.Movement.{Movement}
 use Rattle.rl_line.specs.Line.{Line}
 use Rattle.rl_line.specs.Plan.{Step, Plan, after_steps, single}
-use Rattle.rl_line.specs.Ranges.{indented}
+use Rattle.rl_line.specs.Ranges.{indented, text_in}
 
 -- the first line that holds a byte of a range, and the last; an empty range counts as a byte of the line that it lies in
 abbrev pub first_line : List ℕ → Range ℕ → ℕ
@@ -55,6 +55,10 @@ lines_plan dedent n [] i cursor = record { steps = []; cursor = cursor; answer =
 lines_plan dedent n (text ∷ more) i cursor =
     let one = line_plan dedent n text i cursor in
     after_steps one.steps (lines_plan dedent n more (one.answer + 1) one.cursor)
+
+-- the same for the line in that range
+abbrev pub shift_plan : Line → Range ℕ → Bool → ℕ → Plan ℕ
+shift_plan line r dedent n = line_plan dedent n (text_in line r) r.start line.cursor
 
 -- the lines that hold a byte of what the movement covers, from the first to the last
 abbrev pub indent_plan : Line → Movement → ℕ → Bool → Plan Bool

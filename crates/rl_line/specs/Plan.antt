@@ -1,5 +1,5 @@
 -- What an edit does: its steps, each one event and the cursor after it, the cursor at the end, and its answer.
-use Rattle.std.specs.Prelude.{◌≡◌, ℕ, ◌<◌, map, List, [], ◌∷◌, ◌++◌, length, encode_utf8, ◌+◌, Option, Some, option_and_then, ◌⊎◌}
+use Rattle.std.specs.Prelude.{◌≡◌, ℕ, ◌<◌, map, List, [], ◌∷◌, ◌++◌, length, encode_utf8, ◌+◌, Option, Some, option_and_then, ◌⊎◌, Result, MatchResult}
 use Rattle.rl_base.specs.Event.{Event, InsertChar, InsertStr, Delete, Replace, Cursors}
 use Rattle.rl_base.specs.declared.listeners.Refusal.{Refusal}
 use Rattle.rl_base.specs.declared.listeners.Refusal.TheVariants.{NoMemory}
@@ -130,6 +130,25 @@ module _ {L : Type 0} (step : L → Event → L) where
     pub taken : Taken first old new before middle
     pub cause : refused middle next.0 r now
 
-  -- the plan was halted, or not begun
-  abbrev pub Stopped : {A : Type 0} → (L → Event → Refusal → L → Type 0) → Plan A → Line → Line → L → L → Refusal → Type 0
-  Stopped refused plan old new before now r = Halted refused plan old new before now r ⊎ Uncopied plan old new before now r
+  -- the plan was cut short, by the memory that it takes: it was halted, or, if it makes a copy first, not begun
+  abbrev pub Cut : {A : Type 0} → (L → Event → Refusal → L → Type 0) → Takes → Plan A → Line → Line → L → L → Refusal → Type 0
+  Cut refused a_copy plan old new before now r = Halted refused plan old new before now r ⊎ Uncopied plan old new before now r
+  Cut refused takes plan old new before now r = Halted (refusal_of refused takes) plan old new before now r
+
+  -- a step was refused, and the line is as it was
+  pub record Untaken (refused : L → Event → Refusal → L → Type 0) (event : Event) (old new : Line) (before now : L) (r : Refusal) : Type 0 where
+    pub kept : new ≡ old
+    pub cause : refused before event r now
+
+  -- what an edit comes to, with the refusals of its listener and by the memory that it takes: its plan is done, or cut short
+  abbrev pub Outcome : {A : Type 0} → (L → Event → Refusal → L → Type 0) → Takes → Plan A → Line → Line → L → L → Result A Refusal → Type 0
+  Outcome refused takes plan old new before now result = MatchResult result (Done plan old new before now) (Cut refused takes plan old new before now)
+
+  -- the same of an edit that does not answer what its plan does
+  abbrev pub Completion : {A B : Type 0} → (L → Event → Refusal → L → Type 0) → Takes → Plan A → Line → Line → L → L → Result B Refusal → Type 0
+  Completion refused takes plan old new before now result = MatchResult result (λ _. Completed plan old new before now) (Cut refused takes plan old new before now)
+
+  -- the same of one step
+  abbrev pub StepOutcome : {B : Type 0} → (L → Event → Refusal → L → Type 0) → Takes → Step → Line → Line → L → L → Result B Refusal → Type 0
+  StepOutcome refused takes s old new before now result =
+      MatchResult result (λ _. Completed (single s.0 s.1 (tt {0})) old new before now) (Untaken (refusal_of refused takes) s.0 old new before now)

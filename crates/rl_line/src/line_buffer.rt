@@ -6,11 +6,12 @@ ghost use Rattle.std.specs.List.{insert_slice, remove_range, replace_range};
 ghost use Rattle.rl_base.specs.Event.{InsertChar, InsertStr, Delete, Replace, replay};
 ghost use Rattle.rl_base.specs.declared.listeners.Refusal.TheVariants.{NoMemory};
 ghost use Rattle.rl_line.specs.Line.{Line, NeedsRoom, stepped};
-ghost use Rattle.rl_line.specs.Plan.{NeverRefuses, Step, Taken, after, events_of, listener_after, or_no_memory};
+ghost use Rattle.rl_line.specs.Plan.{NeverRefuses, Step, StepOutcome, Taken, after, events_of, listener_after, nothing_more, room_by_step};
 ghost use Rattle.rl_line.specs.Undo.{line_back, steps_back, texts_back};
 ghost use Rattle.rl_line.specs.Change.{entry_to_undo, entries_to_undo};
 ghost use Rattle.rl_line.specs.Record.{entry_of};
 ghost use Rattle.rl_line.specs.Units.{is_change};
+ghost use Rattle.rl_line.specs.Edits.{delete_step, replace_step};
 ghost use Rattle.rl_line.specs.LineRanges.{IsRange};
 
 mod deletions;
@@ -206,10 +207,8 @@ impl LineBuffer {
     ) -> Result<(), Refusal>
         requires place { IsCharBoundary self.old.text idx }
         requires boundary { IsCharBoundary (insert_slice self.old.text idx text.now) cursor }
-        ensures taken { OnOk result (Taken L.step ((InsertStr idx text.now, cursor) ∷ []) self.old self.new listener.old listener.new) }
+        ensures step { StepOutcome L.step L.refused room_by_step (InsertStr idx text.now, cursor) self.old self.new listener.old listener.new result }
         ensures line { OnOk result (self.new ≡ stepped self.old (insert_slice self.old.text idx text.now) cursor) }
-        ensures kept { OnErr result (self.new ≡ self.old) }
-        ensures cause { IfErr result (λ r. or_no_memory L.refused listener.old (InsertStr idx text.now) r listener.new) }
     {
         let come = newlines(text);
         find_room(&mut self.buf, &mut self.starts, text.len(), come)?;
@@ -239,10 +238,8 @@ impl LineBuffer {
     ) -> Result<(), Refusal>
         requires place { IsCharBoundary self.old.text idx }
         requires boundary { IsCharBoundary (insert_slice self.old.text idx (encode_utf8 c)) cursor }
-        ensures taken { OnOk result (Taken L.step ((InsertChar idx c, cursor) ∷ []) self.old self.new listener.old listener.new) }
+        ensures step { StepOutcome L.step L.refused room_by_step (InsertChar idx c, cursor) self.old self.new listener.old listener.new result }
         ensures line { OnOk result (self.new ≡ stepped self.old (insert_slice self.old.text idx (encode_utf8 c)) cursor) }
-        ensures kept { OnErr result (self.new ≡ self.old) }
-        ensures cause { IfErr result (λ r. or_no_memory L.refused listener.old (InsertChar idx c) r listener.new) }
     {
         let bytes = c.len_utf8();
         find_room(&mut self.buf, &mut self.starts, bytes, newlines_of(c))?;
@@ -263,10 +260,8 @@ impl LineBuffer {
         listener: &mut L,
     ) -> Result<(), Refusal>
         requires { IsRange self.old.text range.start range.end }
-        ensures taken { OnOk result (Taken L.step ((Replace range.start (slice_range self.old.text range.start range.end) text.now, range.start + length text.now) ∷ []) self.old self.new listener.old listener.new) }
+        ensures step { StepOutcome L.step L.refused room_by_step (replace_step self.old range text.now) self.old self.new listener.old listener.new result }
         ensures line { OnOk result (self.new ≡ stepped self.old (replace_range self.old.text range.start range.end text.now) (range.start + length text.now)) }
-        ensures kept { OnErr result (self.new ≡ self.old) }
-        ensures cause { IfErr result (λ r. or_no_memory L.refused listener.old (Replace range.start (slice_range self.old.text range.start range.end) text.now) r listener.new) }
     {
         let (from, to) = (range.start, range.end);
         let come = find_room_instead(&mut self.buf, &mut self.starts, from, to, text)?;
@@ -285,10 +280,8 @@ impl LineBuffer {
         listener: &mut L,
     ) -> Result<(), Refusal>
         requires { IsRange self.old.text range.start range.end }
-        ensures taken { OnOk result (Taken L.step ((Delete range.start (slice_range self.old.text range.start range.end) dir, range.start) ∷ []) self.old self.new listener.old listener.new) }
+        ensures step { StepOutcome L.step L.refused nothing_more (delete_step self.old range dir range.start) self.old self.new listener.old listener.new result }
         ensures line { OnOk result (self.new ≡ stepped self.old (remove_range self.old.text range.start range.end) range.start) }
-        ensures kept { OnErr result (self.new ≡ self.old) }
-        ensures cause { IfErr result (λ r. L.refused listener.old (Delete range.start (slice_range self.old.text range.start range.end) dir) r listener.new) }
     {
         let start = range.start;
         self.take_out_before(range, dir, start, listener)
@@ -306,10 +299,8 @@ impl LineBuffer {
     ) -> Result<(), Refusal>
         requires range { IsRange self.old.text range.start range.end }
         requires boundary { IsCharBoundary (remove_range self.old.text range.start range.end) cursor }
-        ensures taken { OnOk result (Taken L.step ((Delete range.start (slice_range self.old.text range.start range.end) dir, cursor) ∷ []) self.old self.new listener.old listener.new) }
+        ensures step { StepOutcome L.step L.refused nothing_more (delete_step self.old range dir cursor) self.old self.new listener.old listener.new result }
         ensures line { OnOk result (self.new ≡ stepped self.old (remove_range self.old.text range.start range.end) cursor) }
-        ensures kept { OnErr result (self.new ≡ self.old) }
-        ensures cause { IfErr result (λ r. L.refused listener.old (Delete range.start (slice_range self.old.text range.start range.end) dir) r listener.new) }
     {
         deletion_step(
             &mut self.buf,

@@ -17,16 +17,8 @@ delete_plan-some line n r gone e f =
     ∙ ap (λ (t : List ℕ). single (Delete r.start (text_in line r) Forward) r.start (Some t)) (sym f)
 
 module _ {L : Type 0} (step : L → Event → L) (before first last now : L) (start : first ≡ step before Start) (stop : now ≡ step last Stop) where
-  Told-between : (by_characters : Bool) (P : L → L → Type 0) → by_characters ≡ false → P first last → Told step by_characters P before now
+  pub Told-between : (by_characters : Bool) (P : L → L → Type 0) → by_characters ≡ false → P first last → Told step by_characters P before now
   Told-between by_characters P e h = rw e record { last = last; inside = subst (λ (l : L). P l last) start h; ended = stop }
-
-  pub Told-ok : {A E : Type 0} (by_characters : Bool) (r : Result A E) (P : L → L → A → Type 0) → by_characters ≡ false
-      → IfOk r (λ a. P first last a) → IfOk r (λ a. Told step by_characters (λ b n. P b n a) before now)
-  Told-ok by_characters r P e = IfOk-weaker r _ _ (λ a. Told-between by_characters (λ b n. P b n a) e)
-
-  pub Told-err : {A E : Type 0} (by_characters : Bool) (r : Result A E) (P : L → L → E → Type 0) → by_characters ≡ false
-      → IfErr r (λ x. P first last x) → IfErr r (λ x. Told step by_characters (λ b n. P b n x) before now)
-  Told-err by_characters r P e = IfErr-weaker r _ _ (λ x. Told-between by_characters (λ b n. P b n x) e)
 
 -- what can't be inside can't be told
 pub Told-never : {L : Type 0} (step : L → Event → L) (by_characters : Bool) (P : L → L → Type 0) (before now : L) → ((b n : L) → P b n → ⊥) → Told step by_characters P before now → ⊥

@@ -1,5 +1,5 @@
 -- How the steps of a plan are put together.
-use Rattle.rl_line.proofs.Common.{◌≡◌, ◌<◌, ◌⊎◌, inl, inr, ℕ, List, [], ◌∷◌, ◌++◌, Some, refl, sym, ap, subst, append_assoc, append-nil, ◌∙◌, option_and_then, Event, apply, replay, Refusal, IsCharBoundary, is_boundary, Line, stepped, if_standing, after_step, Step, Plan, nothing, single, followed_by, after, events_of, listener_after, listener_after_step, Taken, Completed, Done, Halted, Uncopied}
+use Rattle.rl_line.proofs.Common.{◌≡◌, ◌<◌, ◌⊎◌, inl, inr, ℕ, List, [], ◌∷◌, ◌++◌, Some, refl, sym, ap, subst, append_assoc, append-nil, ◌∙◌, option_and_then, Event, apply, replay, Refusal, IsCharBoundary, is_boundary, Line, stepped, if_standing, after_step, Step, Plan, nothing, single, followed_by, after, events_of, listener_after, listener_after_step, Taken, Completed, Done, Halted, Uncopied, Outcome, StepOutcome, Takes, nothing_more, room_by_step, a_copy, or_no_memory, Result, Ok, Err}
 use Rattle.rl_base.proofs.Texts.TextLemmas.{is_boundary-true, is_boundary-means}
 use Rattle.rl_line.specs.Plan.{bytes_of}
 use Rattle.rl_line.proofs.Records.RecordLemmas.{if_some, through}
@@ -204,6 +204,20 @@ module _ {L : Type 0} (step : L → Event → L) where
       taken = Taken-append first h.first old mid new b m h.middle t h.taken;
       cause = h.cause;
     }
+
+  -- an edit of one step, with its answer
+  pub Outcome-single : (refused : L → Event → Refusal → L → Type 0) (takes : Takes) (plan : Plan (Unit {0})) (s : Step) (old new : Line) (b n : L) (result : Result (Unit {0}) Refusal)
+      → plan ≡ single s.0 s.1 tt → StepOutcome step refused takes s old new b n result → Outcome step refused takes plan old new b n result
+  Outcome-single refused takes plan s old new b n (Ok a) e d = Done-single plan s.0 s.1 old new b n tt d.taken d.cursor e
+  Outcome-single refused nothing_more plan s old new b n (Err r) e u = Halted-single refused plan s.0 s.1 old new b n tt r u.cause u.kept e
+  Outcome-single refused room_by_step plan s old new b n (Err r) e u = Halted-single (or_no_memory refused) plan s.0 s.1 old new b n tt r u.cause u.kept e
+  Outcome-single refused a_copy plan s old new b n (Err r) e u = inl (Halted-single refused plan s.0 s.1 old new b n tt r u.cause u.kept e)
+
+  -- a step, and then what a plan comes to
+  pub Outcome-followed : {A : Type 0} (refused : L → Event → Refusal → L → Type 0) (whole plan : Plan A) (s : Step) (old mid new : Line) (b m n : L) (result : Result A Refusal)
+      → Taken step (s ∷ []) old mid b m → whole ≡ followed_by s.0 s.1 plan → Outcome step refused room_by_step plan mid new m n result → Outcome step refused room_by_step whole old new b n result
+  Outcome-followed refused whole plan s old mid new b m n (Ok a) t e d = Done-followed whole plan s.0 s.1 old mid new b m n a t d e
+  Outcome-followed refused whole plan s old mid new b m n (Err r) t e h = Halted-followed (or_no_memory refused) whole plan s.0 s.1 old mid new b m n r t h e
 
   -- an edit that was halted, or not begun, as another with the same steps
   pub Stopped-as : {A B : Type 0} (refused : L → Event → Refusal → L → Type 0) (plan : Plan A) (other : Plan B) (old new : Line) (b n : L) (r : Refusal) → plan.steps ≡ other.steps

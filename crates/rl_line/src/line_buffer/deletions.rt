@@ -8,8 +8,8 @@ ghost use Rattle.rl_base.specs.declared.listeners.Refusal.TheVariants.{NoMemory}
 ghost use Rattle.rl_base.specs.declared.motion.Movement.{Movement};
 ghost use Rattle.rl_base.specs.declared.motion.Movement.TheVariants.{BeginningOfLine, EndOfLine, BackwardWord, ForwardWord, ViCharSearch, BackwardChar, BeginningOfBuffer, EndOfBuffer};
 ghost use Rattle.rl_line.specs.Line.{Line};
-ghost use Rattle.rl_line.specs.Plan.{Done, Halted, Stopped};
-ghost use Rattle.rl_line.specs.Deletions.{CanDeleteBy, Told, copied, delete_plan, is_by_characters, is_exact, kill_plan, kill_range_plan, removal, side_of, side_of_place};
+ghost use Rattle.rl_line.specs.Plan.{Outcome, nothing_more, a_copy};
+ghost use Rattle.rl_line.specs.Deletions.{CanDeleteBy, ToldOutcome, copied, delete_plan, is_by_characters, is_exact, kill_plan, kill_range_plan, removal, side_of, side_of_place, texts_of};
 ghost use Rattle.rl_line.specs.Ranges.{text_in};
 ghost use Rattle.rl_line.specs.LineRanges.{IsRange};
 
@@ -49,8 +49,7 @@ impl LineBuffer {
         n: RepeatCount,
         listener: &mut L,
     ) -> Result<Option<String>, Refusal>
-        ensures done { IfOk result (λ answer. Done L.step (delete_plan self.old n) self.old self.new listener.old listener.new (option_map string_bytes answer)) }
-        ensures halted { IfErr result (λ r. Stopped L.step L.refused (delete_plan self.old n) self.old self.new listener.old listener.new r) }
+        ensures { Outcome L.step L.refused a_copy (delete_plan self.old n) self.old self.new listener.old listener.new (texts_of result) }
     {
         match self.covered(&Movement::ForwardChar(n)) {
             Some(range) => {
@@ -104,8 +103,7 @@ impl LineBuffer {
         listener: &mut L,
     ) -> Result<bool, Refusal>
         requires { IfSome range (λ r. IsRange self.old.text r.start r.end) }
-        ensures done { IfOk result (λ answer. Done L.step (removal self.old range side) self.old self.new listener.old listener.new answer) }
-        ensures halted { IfErr result (λ r. Halted L.step L.refused (removal self.old range side) self.old self.new listener.old listener.new r) }
+        ensures { Outcome L.step L.refused nothing_more (removal self.old range side) self.old self.new listener.old listener.new result }
     {
         match range {
             Some(range) => {
@@ -124,8 +122,7 @@ impl LineBuffer {
         listener: &mut L,
     ) -> Result<bool, Refusal>
         requires { IfSome range (λ r. IsRange self.old.text r.start r.end) }
-        ensures done { IfOk result (λ answer. Told L.step false (λ before now. Done L.step (removal self.old range side) self.old self.new before now answer) listener.old listener.new) }
-        ensures halted { IfErr result (λ r. Told L.step false (λ before now. Halted L.step L.refused (removal self.old range side) self.old self.new before now r) listener.old listener.new) }
+        ensures { ToldOutcome L.step L.refused false (removal self.old range side) self.old self.new listener.old listener.new result }
     {
         listener.start_killing();
         let answer = self.remove(range, side, listener);
@@ -140,8 +137,7 @@ impl LineBuffer {
         mvt: &Movement,
         listener: &mut L,
     ) -> Result<bool, Refusal>
-        ensures done { IfOk result (λ answer. Done L.step (kill_plan self.old mvt.now) self.old self.new listener.old listener.new answer) }
-        ensures halted { IfErr result (λ r. Halted L.step L.refused (kill_plan self.old mvt.now) self.old self.new listener.old listener.new r) }
+        ensures { Outcome L.step L.refused nothing_more (kill_plan self.old mvt.now) self.old self.new listener.old listener.new result }
     {
         let side = self.side_of(mvt);
         let range = self.killed(mvt);
@@ -158,8 +154,7 @@ impl LineBuffer {
         mvt: &Movement,
         listener: &mut L,
     ) -> Result<bool, Refusal>
-        ensures done { IfOk result (λ answer. Told L.step (is_by_characters mvt.now) (λ before now. Done L.step (kill_plan self.old mvt.now) self.old self.new before now answer) listener.old listener.new) }
-        ensures halted { IfErr result (λ r. Told L.step (is_by_characters mvt.now) (λ before now. Halted L.step L.refused (kill_plan self.old mvt.now) self.old self.new before now r) listener.old listener.new) }
+        ensures { ToldOutcome L.step L.refused (is_by_characters mvt.now) (kill_plan self.old mvt.now) self.old self.new listener.old listener.new result }
     {
         if is_by_characters(mvt) {
             return self.delete_by(mvt, listener);
@@ -180,8 +175,7 @@ impl LineBuffer {
         listener: &mut L,
     ) -> Result<bool, Refusal>
         requires { IsRange self.old.text range.start range.end }
-        ensures done { IfOk result (λ answer. Told L.step false (λ before now. Done L.step (kill_range_plan self.old range.start range.end dir) self.old self.new before now answer) listener.old listener.new) }
-        ensures halted { IfErr result (λ r. Told L.step false (λ before now. Halted L.step L.refused (kill_range_plan self.old range.start range.end dir) self.old self.new before now r) listener.old listener.new) }
+        ensures { ToldOutcome L.step L.refused false (kill_range_plan self.old range.start range.end dir) self.old self.new listener.old listener.new result }
     {
         let some = self.unless_empty(range.start, range.end);
         self.kill_some(some, dir, listener)
@@ -195,8 +189,7 @@ impl LineBuffer {
         n: RepeatCount,
         listener: &mut L,
     ) -> Result<bool, Refusal>
-        ensures done { IfOk result (λ answer. Done L.step (kill_plan self.old (BackwardChar n)) self.old self.new listener.old listener.new answer) }
-        ensures halted { IfErr result (λ r. Halted L.step L.refused (kill_plan self.old (BackwardChar n)) self.old self.new listener.old listener.new r) }
+        ensures { Outcome L.step L.refused nothing_more (kill_plan self.old (BackwardChar n)) self.old self.new listener.old listener.new result }
     {
         self.delete_by(&Movement::BackwardChar(n), listener)
     }
@@ -205,8 +198,7 @@ impl LineBuffer {
     /// readline: kill-line). Answers whether the cursor was before the end of the text. It takes no memory;
     /// if its listener refuses, the line stays as it was.
     pub fn kill_line<L: DeleteListener>(&mut self, listener: &mut L) -> Result<bool, Refusal>
-        ensures done { IfOk result (λ answer. Done L.step (kill_plan self.old EndOfLine) self.old self.new listener.old listener.new answer) }
-        ensures halted { IfErr result (λ r. Halted L.step L.refused (kill_plan self.old EndOfLine) self.old self.new listener.old listener.new r) }
+        ensures { Outcome L.step L.refused nothing_more (kill_plan self.old EndOfLine) self.old self.new listener.old listener.new result }
     {
         self.delete_by(&Movement::EndOfLine, listener)
     }
@@ -214,8 +206,7 @@ impl LineBuffer {
     /// Deletes from the cursor to the end of the text. Answers whether the cursor was before the end. It takes
     /// no memory; if its listener refuses, the line stays as it was.
     pub fn kill_buffer<L: DeleteListener>(&mut self, listener: &mut L) -> Result<bool, Refusal>
-        ensures done { IfOk result (λ answer. Done L.step (kill_plan self.old EndOfBuffer) self.old self.new listener.old listener.new answer) }
-        ensures halted { IfErr result (λ r. Halted L.step L.refused (kill_plan self.old EndOfBuffer) self.old self.new listener.old listener.new r) }
+        ensures { Outcome L.step L.refused nothing_more (kill_plan self.old EndOfBuffer) self.old self.new listener.old listener.new result }
     {
         self.delete_by(&Movement::EndOfBuffer, listener)
     }
@@ -224,8 +215,7 @@ impl LineBuffer {
     /// is there (GNU readline: unix-line-discard). Answers whether the cursor was past the start of the
     /// text. It takes no memory; if its listener refuses, the line stays as it was.
     pub fn discard_line<L: DeleteListener>(&mut self, listener: &mut L) -> Result<bool, Refusal>
-        ensures done { IfOk result (λ answer. Done L.step (kill_plan self.old BeginningOfLine) self.old self.new listener.old listener.new answer) }
-        ensures halted { IfErr result (λ r. Halted L.step L.refused (kill_plan self.old BeginningOfLine) self.old self.new listener.old listener.new r) }
+        ensures { Outcome L.step L.refused nothing_more (kill_plan self.old BeginningOfLine) self.old self.new listener.old listener.new result }
     {
         self.delete_by(&Movement::BeginningOfLine, listener)
     }
@@ -233,8 +223,7 @@ impl LineBuffer {
     /// Deletes from the start of the text to the cursor. Answers whether the cursor was past the start. It takes
     /// no memory; if its listener refuses, the line stays as it was.
     pub fn discard_buffer<L: DeleteListener>(&mut self, listener: &mut L) -> Result<bool, Refusal>
-        ensures done { IfOk result (λ answer. Done L.step (kill_plan self.old BeginningOfBuffer) self.old self.new listener.old listener.new answer) }
-        ensures halted { IfErr result (λ r. Halted L.step L.refused (kill_plan self.old BeginningOfBuffer) self.old self.new listener.old listener.new r) }
+        ensures { Outcome L.step L.refused nothing_more (kill_plan self.old BeginningOfBuffer) self.old self.new listener.old listener.new result }
     {
         self.delete_by(&Movement::BeginningOfBuffer, listener)
     }
@@ -248,8 +237,7 @@ impl LineBuffer {
         n: RepeatCount,
         listener: &mut L,
     ) -> Result<bool, Refusal>
-        ensures done { IfOk result (λ answer. Done L.step (kill_plan self.old (BackwardWord n word)) self.old self.new listener.old listener.new answer) }
-        ensures halted { IfErr result (λ r. Halted L.step L.refused (kill_plan self.old (BackwardWord n word)) self.old self.new listener.old listener.new r) }
+        ensures { Outcome L.step L.refused nothing_more (kill_plan self.old (BackwardWord n word)) self.old self.new listener.old listener.new result }
     {
         self.delete_by(&Movement::BackwardWord(n, word), listener)
     }
@@ -263,8 +251,7 @@ impl LineBuffer {
         n: RepeatCount,
         listener: &mut L,
     ) -> Result<bool, Refusal>
-        ensures done { IfOk result (λ answer. Done L.step (kill_plan self.old (ForwardWord n at word)) self.old self.new listener.old listener.new answer) }
-        ensures halted { IfErr result (λ r. Halted L.step L.refused (kill_plan self.old (ForwardWord n at word)) self.old self.new listener.old listener.new r) }
+        ensures { Outcome L.step L.refused nothing_more (kill_plan self.old (ForwardWord n at word)) self.old self.new listener.old listener.new result }
     {
         self.delete_by(&Movement::ForwardWord(n, at, word), listener)
     }
@@ -278,8 +265,7 @@ impl LineBuffer {
         n: RepeatCount,
         listener: &mut L,
     ) -> Result<bool, Refusal>
-        ensures done { IfOk result (λ answer. Done L.step (kill_plan self.old (ViCharSearch n cs)) self.old self.new listener.old listener.new answer) }
-        ensures halted { IfErr result (λ r. Halted L.step L.refused (kill_plan self.old (ViCharSearch n cs)) self.old self.new listener.old listener.new r) }
+        ensures { Outcome L.step L.refused nothing_more (kill_plan self.old (ViCharSearch n cs)) self.old self.new listener.old listener.new result }
     {
         self.delete_by(&Movement::ViCharSearch(n, cs), listener)
     }

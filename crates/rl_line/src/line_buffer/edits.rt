@@ -3,8 +3,8 @@ ghost use Rattle.std.specs.Prelude.{◌≡◌, ◌+◌, ◌*◌, ◌-◌, ◌<�
 ghost use Rattle.std.specs.Str.{IsCharBoundary};
 ghost use Rattle.std.specs.List.{insert_slice, remove_range, replace_range, repeat};
 ghost use Rattle.rl_base.specs.Event.{InsertStr};
-ghost use Rattle.rl_line.specs.Plan.{Taken, Done, Halted, Stopped, or_no_memory};
-ghost use Rattle.rl_line.specs.Edits.{CanInsertStr, CanYankPop, too_long, insert_event, insert_plan, insert_str_plan, yank_plan, yank_pop_plan, exchange_plan, cut_to_limit, update_plan, replace_plan, delete_range_plan};
+ghost use Rattle.rl_line.specs.Plan.{Completion, Outcome, StepOutcome, nothing_more, room_by_step, a_copy};
+ghost use Rattle.rl_line.specs.Edits.{CanInsertStr, CanYankPop, too_long, insert_plan, insert_step, insert_str_plan, yank_plan, yank_step, yank_pop_plan, exchange_plan, cut_to_limit, update_plan, replace_plan, delete_range_plan};
 ghost use Rattle.rl_line.specs.LineRanges.{IsRange};
 
 use crate::line_buffer::LineBuffer;
@@ -36,10 +36,7 @@ impl LineBuffer {
         listener: &mut L,
     ) -> Result<(), Refusal>
         requires { 0 < length text.now }
-        ensures taken { OnOk result (Taken L.step ((InsertStr self.old.cursor (repeat n text.now), self.old.cursor + length text.now * n) ∷ []) self.old self.new listener.old listener.new) }
-        ensures cursor { OnOk result (self.new.cursor ≡ self.old.cursor + length text.now * n) }
-        ensures kept { OnErr result (self.new ≡ self.old) }
-        ensures cause { IfErr result (λ r. or_no_memory L.refused listener.old (InsertStr self.old.cursor (repeat n text.now)) r listener.new) }
+        ensures { StepOutcome L.step L.refused room_by_step (yank_step self.old text.now n) self.old self.new listener.old listener.new result }
     {
         let at = self.pos();
         if n == 1 {
@@ -60,10 +57,7 @@ impl LineBuffer {
         n: RepeatCount,
         listener: &mut L,
     ) -> Result<(), Refusal>
-        ensures taken { OnOk result (Taken L.step ((insert_event self.old.cursor c n, self.old.cursor + length (encode_utf8 c) * n) ∷ []) self.old self.new listener.old listener.new) }
-        ensures cursor { OnOk result (self.new.cursor ≡ self.old.cursor + length (encode_utf8 c) * n) }
-        ensures kept { OnErr result (self.new ≡ self.old) }
-        ensures cause { IfErr result (λ r. or_no_memory L.refused listener.old (insert_event self.old.cursor c n) r listener.new) }
+        ensures { StepOutcome L.step L.refused room_by_step (insert_step self.old c n) self.old self.new listener.old listener.new result }
     {
         if n == 1 {
             let at = self.pos();
@@ -80,10 +74,7 @@ impl LineBuffer {
         n: RepeatCount,
         listener: &mut L,
     ) -> Result<(), Refusal>
-        ensures taken { OnOk result (Taken L.step ((InsertStr self.old.cursor (repeat n (encode_utf8 c)), self.old.cursor + length (encode_utf8 c) * n) ∷ []) self.old self.new listener.old listener.new) }
-        ensures cursor { OnOk result (self.new.cursor ≡ self.old.cursor + length (encode_utf8 c) * n) }
-        ensures kept { OnErr result (self.new ≡ self.old) }
-        ensures cause { IfErr result (λ r. or_no_memory L.refused listener.old (InsertStr self.old.cursor (repeat n (encode_utf8 c))) r listener.new) }
+        ensures { StepOutcome L.step L.refused room_by_step (yank_step self.old (encode_utf8 c) n) self.old self.new listener.old listener.new result }
     {
         let mut bytes = [0; 4];
         self.put_copies(c.encode_utf8(&mut bytes), n, listener)
@@ -98,8 +89,7 @@ impl LineBuffer {
         n: RepeatCount,
         listener: &mut L,
     ) -> Result<Option<bool>, Refusal>
-        ensures done { IfOk result (λ answer. Done L.step (insert_plan self.old c n) self.old self.new listener.old listener.new answer) }
-        ensures halted { IfErr result (λ r. Halted L.step (or_no_memory L.refused) (insert_plan self.old c n) self.old self.new listener.old listener.new r) }
+        ensures { Outcome L.step L.refused room_by_step (insert_plan self.old c n) self.old self.new listener.old listener.new result }
     {
         // Mostly an ASCII character is typed: here the compiler knows that it is one byte.
         if n == 1 && c.is_ascii() {
@@ -118,8 +108,7 @@ impl LineBuffer {
         n: RepeatCount,
         listener: &mut L,
     ) -> Result<Option<bool>, Refusal>
-        ensures done { IfOk result (λ answer. Done L.step (insert_plan self.old c n) self.old self.new listener.old listener.new answer) }
-        ensures halted { IfErr result (λ r. Halted L.step (or_no_memory L.refused) (insert_plan self.old c n) self.old self.new listener.old listener.new r) }
+        ensures { Outcome L.step L.refused room_by_step (insert_plan self.old c n) self.old self.new listener.old listener.new result }
     {
         self.insert_here(c, n, listener)
     }
@@ -131,8 +120,7 @@ impl LineBuffer {
         n: RepeatCount,
         listener: &mut L,
     ) -> Result<Option<bool>, Refusal>
-        ensures done { IfOk result (λ answer. Done L.step (insert_plan self.old c n) self.old self.new listener.old listener.new answer) }
-        ensures halted { IfErr result (λ r. Halted L.step (or_no_memory L.refused) (insert_plan self.old c n) self.old self.new listener.old listener.new r) }
+        ensures { Outcome L.step L.refused room_by_step (insert_plan self.old c n) self.old self.new listener.old listener.new result }
     {
         if self.is_too_long(c.len_utf8(), n) {
             return Ok(None);
@@ -151,8 +139,7 @@ impl LineBuffer {
         n: RepeatCount,
         listener: &mut L,
     ) -> Result<Option<bool>, Refusal>
-        ensures done { IfOk result (λ answer. Done L.step (yank_plan self.old text.now n) self.old self.new listener.old listener.new answer) }
-        ensures halted { IfErr result (λ r. Halted L.step (or_no_memory L.refused) (yank_plan self.old text.now n) self.old self.new listener.old listener.new r) }
+        ensures { Outcome L.step L.refused room_by_step (yank_plan self.old text.now n) self.old self.new listener.old listener.new result }
     {
         if text.is_empty() || self.is_too_long(text.len(), n) {
             return Ok(None);
@@ -191,8 +178,7 @@ impl LineBuffer {
     ) -> Result<Option<bool>, Refusal>
         requires size { yank_size ≤ self.old.cursor }
         requires place { IsCharBoundary self.old.text (self.old.cursor - yank_size) }
-        ensures done { IfOk result (λ answer. Done L.step (yank_pop_plan self.old yank_size text.now) self.old self.new listener.old listener.new answer) }
-        ensures halted { IfErr result (λ r. Halted L.step (or_no_memory L.refused) (yank_pop_plan self.old yank_size text.now) self.old self.new listener.old listener.new r) }
+        ensures { Outcome L.step L.refused room_by_step (yank_pop_plan self.old yank_size text.now) self.old self.new listener.old listener.new result }
     {
         let end = self.pos();
         self.take_out(end - yank_size..end, Direction::Forward, listener)?;
@@ -212,10 +198,8 @@ impl LineBuffer {
         requires range { IsRange self.old.text range.start range.end }
         requires between { IsCharBoundary (remove_range self.old.text range.start range.end) between }
         requires boundary { IsCharBoundary (replace_range self.old.text range.start range.end text.now) cursor }
-        ensures taken { OnOk result (Taken L.step (exchange_plan self.old range between text.now cursor).steps self.old self.new listener.old listener.new) }
+        ensures steps { Completion L.step L.refused a_copy (exchange_plan self.old range between text.now cursor) self.old self.new listener.old listener.new result }
         ensures text { OnOk result (self.new.text ≡ replace_range self.old.text range.start range.end text.now) }
-        ensures cursor { OnOk result (self.new.cursor ≡ cursor) }
-        ensures halted { IfErr result (λ r. Stopped L.step L.refused (exchange_plan self.old range between text.now cursor) self.old self.new listener.old listener.new r) }
     {
         let come = find_room_instead(
             &mut self.buf,
@@ -249,8 +233,7 @@ impl LineBuffer {
         listener: &mut L,
     ) -> Result<(), Refusal>
         requires { IsCharBoundary text.now pos }
-        ensures done { IfOk result (λ answer. Done L.step (update_plan self.old text.now pos) self.old self.new listener.old listener.new answer) }
-        ensures halted { IfErr result (λ r. Halted L.step (or_no_memory L.refused) (update_plan self.old text.now pos) self.old self.new listener.old listener.new r) }
+        ensures { Outcome L.step L.refused room_by_step (update_plan self.old text.now pos) self.old self.new listener.old listener.new result }
     {
         let cut = self.cut_to_limit(text);
         let all = 0..self.as_str().len();
@@ -289,8 +272,7 @@ impl LineBuffer {
         requires order { range.start ≤ range.end }
         requires start { IsCharBoundary self.old.text range.start }
         requires end { IsCharBoundary self.old.text range.end }
-        ensures done { IfOk result (λ answer. Done L.step (replace_plan self.old range.start range.end text.now) self.old self.new listener.old listener.new answer) }
-        ensures halted { IfErr result (λ r. Halted L.step (or_no_memory L.refused) (replace_plan self.old range.start range.end text.now) self.old self.new listener.old listener.new r) }
+        ensures { Outcome L.step L.refused room_by_step (replace_plan self.old range.start range.end text.now) self.old self.new listener.old listener.new result }
     {
         self.put_instead(range, text, listener)
     }
@@ -326,8 +308,7 @@ impl LineBuffer {
     ) -> Result<bool, Refusal>
         requires place { IsCharBoundary self.old.text idx }
         requires stays { IsCharBoundary (insert_slice self.old.text idx text.now) self.old.cursor }
-        ensures done { IfOk result (λ answer. Done L.step (insert_str_plan self.old idx text.now) self.old self.new listener.old listener.new answer) }
-        ensures halted { IfErr result (λ r. Halted L.step (or_no_memory L.refused) (insert_str_plan self.old idx text.now) self.old self.new listener.old listener.new r) }
+        ensures { Outcome L.step L.refused room_by_step (insert_str_plan self.old idx text.now) self.old self.new listener.old listener.new result }
     {
         let at_end = idx == self.len();
         self.put_str(idx, text, self.pos, listener)?;
@@ -344,8 +325,7 @@ impl LineBuffer {
         requires order { range.start ≤ range.end }
         requires start { IsCharBoundary self.old.text range.start }
         requires end { IsCharBoundary self.old.text range.end }
-        ensures done { IfOk result (λ answer. Done L.step (delete_range_plan self.old range.start range.end) self.old self.new listener.old listener.new answer) }
-        ensures halted { IfErr result (λ r. Halted L.step L.refused (delete_range_plan self.old range.start range.end) self.old self.new listener.old listener.new r) }
+        ensures { Outcome L.step L.refused nothing_more (delete_range_plan self.old range.start range.end) self.old self.new listener.old listener.new result }
     {
         self.take_out(range, Direction::Forward, listener)
     }

@@ -1,8 +1,8 @@
 //! Indenting and dedenting the lines of a range.
 ghost use Rattle.std.specs.Prelude.{◌≡◌, ◌+◌, ◌^◌, ◌<◌, true, false, not, IfErr, IfOk, OnOk};
 ghost use Rattle.std.specs.Str.{IsCharBoundary};
-ghost use Rattle.rl_line.specs.Indents.{indent_plan, line_plan, pulled, pushed};
-ghost use Rattle.rl_line.specs.Plan.{Completed, Done, Halted, or_no_memory};
+ghost use Rattle.rl_line.specs.Indents.{indent_plan, pulled, pushed, shift_plan};
+ghost use Rattle.rl_line.specs.Plan.{Completion, Outcome, room_by_step};
 ghost use Rattle.rl_line.specs.Ranges.{text_in};
 ghost use Rattle.rl_line.specs.LineRanges.{IsRange};
 
@@ -27,8 +27,7 @@ impl LineBuffer {
         dedent: bool,
         listener: &mut L,
     ) -> Result<bool, Refusal>
-        ensures done { IfOk result (λ answer. Done L.step (indent_plan self.old mvt.now amount dedent) self.old self.new listener.old listener.new answer) }
-        ensures halted { IfErr result (λ r. Halted L.step (or_no_memory L.refused) (indent_plan self.old mvt.now amount dedent) self.old self.new listener.old listener.new r) }
+        ensures { Outcome L.step L.refused room_by_step (indent_plan self.old mvt.now amount dedent) self.old self.new listener.old listener.new result }
     {
         let range = self.indented(mvt);
         let first = self.line_at(range.start);
@@ -49,8 +48,7 @@ impl LineBuffer {
         listener: &mut L,
     ) -> Result<(), Refusal>
         requires { IsRange self.old.text line.start line.end }
-        ensures done { OnOk result (Completed L.step (line_plan dedent amount (text_in self.old line) line.start self.old.cursor) self.old self.new listener.old listener.new) }
-        ensures halted { IfErr result (λ r. Halted L.step (or_no_memory L.refused) (line_plan dedent amount (text_in self.old line) line.start self.old.cursor) self.old self.new listener.old listener.new r) }
+        ensures { Completion L.step L.refused room_by_step (shift_plan self.old line dedent amount) self.old self.new listener.old listener.new result }
     {
         if dedent {
             return self.take_blanks(line, amount, listener);
@@ -66,8 +64,7 @@ impl LineBuffer {
         listener: &mut L,
     ) -> Result<(), Refusal>
         requires { IsCharBoundary self.old.text line.start }
-        ensures done { OnOk result (Completed L.step (line_plan false amount (text_in self.old line) line.start self.old.cursor) self.old self.new listener.old listener.new) }
-        ensures halted { IfErr result (λ r. Halted L.step (or_no_memory L.refused) (line_plan false amount (text_in self.old line) line.start self.old.cursor) self.old self.new listener.old listener.new r) }
+        ensures { Completion L.step L.refused room_by_step (shift_plan self.old line false amount) self.old self.new listener.old listener.new result }
     {
         let mut left = usize::from(amount);
         while left > 0 {
@@ -87,8 +84,7 @@ impl LineBuffer {
         listener: &mut L,
     ) -> Result<(), Refusal>
         requires { IsRange self.old.text line.start line.end }
-        ensures done { OnOk result (Completed L.step (line_plan true amount (text_in self.old line) line.start self.old.cursor) self.old self.new listener.old listener.new) }
-        ensures halted { IfErr result (λ r. Halted L.step (or_no_memory L.refused) (line_plan true amount (text_in self.old line) line.start self.old.cursor) self.old self.new listener.old listener.new r) }
+        ensures { Completion L.step L.refused room_by_step (shift_plan self.old line true amount) self.old self.new listener.old listener.new result }
     {
         let text = &self.as_str()[line.start..line.end];
         let blank = text.len() - text.trim_start().len();

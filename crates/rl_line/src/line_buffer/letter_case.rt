@@ -1,7 +1,7 @@
 //! Editing the letters of a word.
 ghost use Rattle.std.specs.Prelude.{◌≡◌, ◌<◌, ◌≤◌, min, length, string_bytes, IsAscii, IfSome, IfOk, IfErr, OnErr};
 ghost use Rattle.std.specs.Str.{IsCharBoundary};
-ghost use Rattle.rl_line.specs.Plan.{Done, Stopped};
+ghost use Rattle.rl_line.specs.Plan.{Outcome, a_copy};
 ghost use Rattle.rl_base.specs.declared.motion.WordAction.TheVariants.{Capitalize};
 ghost use Rattle.rl_line.specs.LetterCase.{edit_word_plan, mapped, recased, word_ahead};
 ghost use Rattle.rl_line.specs.Transpositions.{end_of_cluster};
@@ -24,8 +24,7 @@ impl LineBuffer {
         action: WordAction,
         listener: &mut L,
     ) -> Result<bool, Refusal>
-        ensures done { IfOk result (λ answer. Done L.step (edit_word_plan self.old action) self.old self.new listener.old listener.new answer) }
-        ensures halted { IfErr result (λ r. Stopped L.step L.refused (edit_word_plan self.old action) self.old self.new listener.old listener.new r) }
+        ensures { Outcome L.step L.refused a_copy (edit_word_plan self.old action) self.old self.new listener.old listener.new result }
     {
         let at = self.pos();
         let Some(word) = self.word_ahead() else {

@@ -1,7 +1,7 @@
 //! Exchanging two clusters, and two words.
 ghost use Rattle.std.specs.Prelude.{◌≡◌, ◌≤◌, true, option_and_then, IfSome, IfOk, IfErr, OnOk};
 ghost use Rattle.std.specs.Str.{IsCharBoundary};
-ghost use Rattle.rl_line.specs.Plan.{Done, Stopped};
+ghost use Rattle.rl_line.specs.Plan.{Outcome, a_copy};
 ghost use Rattle.rl_line.specs.Transpositions.{are_two, clusters_around, end_of_cluster, exchanged_text, first_word, meeting_place, pull_back_plan, SwapsClusters, second_word, swap_plan, transpose_chars_plan, transpose_words_plan, word_end, word_start};
 
 use crate::line_buffer::LineBuffer;
@@ -19,8 +19,7 @@ impl LineBuffer {
     /// it finds no memory, it leaves the line as it was. If its listener refuses, it leaves the line as it
     /// was or without the second cluster.
     pub fn transpose_chars<L: ChangeListener>(&mut self, listener: &mut L) -> Result<bool, Refusal>
-        ensures done { IfOk result (λ answer. Done L.step (transpose_chars_plan self.old) self.old self.new listener.old listener.new answer) }
-        ensures halted { IfErr result (λ r. Stopped L.step L.refused (transpose_chars_plan self.old) self.old self.new listener.old listener.new r) }
+        ensures outcome { Outcome L.step L.refused a_copy (transpose_chars_plan self.old) self.old self.new listener.old listener.new result }
         ensures swaps { IfOk result (λ answer. answer ≡ true → SwapsClusters self.old self.new) }
     {
         match self.meeting_clusters() {
@@ -44,8 +43,7 @@ impl LineBuffer {
         requires front { IsCharBoundary self.old.text front }
         requires start { IsCharBoundary self.old.text after.start }
         requires end { IsCharBoundary self.old.text after.end }
-        ensures done { IfOk result (λ answer. Done L.step (pull_back_plan self.old front after) self.old self.new listener.old listener.new answer) }
-        ensures halted { IfErr result (λ r. Stopped L.step L.refused (pull_back_plan self.old front after) self.old self.new listener.old listener.new r) }
+        ensures outcome { Outcome L.step L.refused a_copy (pull_back_plan self.old front after) self.old self.new listener.old listener.new result }
         ensures text { OnOk result (self.new.text ≡ exchanged_text self.old front after) }
     {
         let moved = self.text_of(&after)?;
@@ -110,8 +108,7 @@ impl LineBuffer {
         n: RepeatCount,
         listener: &mut L,
     ) -> Result<bool, Refusal>
-        ensures done { IfOk result (λ answer. Done L.step (transpose_words_plan self.old n) self.old self.new listener.old listener.new answer) }
-        ensures halted { IfErr result (λ r. Stopped L.step L.refused (transpose_words_plan self.old n) self.old self.new listener.old listener.new r) }
+        ensures { Outcome L.step L.refused a_copy (transpose_words_plan self.old n) self.old self.new listener.old listener.new result }
     {
         let second = self.second_word(n);
         let first = self.first_word(second.start, n);
@@ -138,8 +135,7 @@ impl LineBuffer {
         requires first_end { IsCharBoundary self.old.text first.end }
         requires second_start { IsCharBoundary self.old.text second.start }
         requires second_end { IsCharBoundary self.old.text second.end }
-        ensures done { IfOk result (λ answer. Done L.step (swap_plan self.old first second) self.old self.new listener.old listener.new answer) }
-        ensures halted { IfErr result (λ r. Stopped L.step L.refused (swap_plan self.old first second) self.old self.new listener.old listener.new r) }
+        ensures { Outcome L.step L.refused a_copy (swap_plan self.old first second) self.old self.new listener.old listener.new result }
     {
         // So the proof knows that this is UTF-8.
         let _text = self.as_str();

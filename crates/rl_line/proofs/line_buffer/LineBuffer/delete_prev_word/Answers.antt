@@ -1,7 +1,4 @@
 use Rattle.rl_line.proofs.line_buffer.LineBuffer.delete_prev_word.Goals as goal
 
-pub returns-clause-done : goal.returns-clause-done
-returns-clause-done g c = c.delete_by.ensures.done
-
-pub returns-clause-halted : goal.returns-clause-halted
-returns-clause-halted g c = c.delete_by.ensures.halted
+pub returns : goal.returns
+returns g c = c.delete_by.ensures

@@ -12,26 +12,26 @@ start_of_line-requires g c = omega (arith, c.loop-k.invariant.count, c.line_at-l
 pub end_of_line-requires : goal.end_of_line-requires
 end_of_line-requires g c = omega (arith, c.loop-k.invariant.count, c.line_at-last.ensures.within)
 
-pub returns-in_err-shift_line-clause-halted : goal.returns-in_err-shift_line-clause-halted
-returns-in_err-shift_line-clause-halted g c =
+pub returns-in_err-shift_line : goal.returns-in_err-shift_line
+returns-in_err-shift_line g c =
     let p = err_from_is_err_and c.from_residual.result c.from_residual.ensures.1 in
     let now = c.loop-k.self in
     let small : c.loop-k.k < length (lines now.text) = omega (arith, c.loop-k.invariant.count, c.line_at-last.ensures.within, count_of_lines now.text) in
     rw (p.1, p.2)
-    (LinesDone-halted _ _ _ _ _ now _ _ c.loop-k.k _ c.loop-k.invariant _ _ c.start_of_line.ensures.value c.end_of_line.ensures.value c.loop-k-test.true small _ _ _ _ c.in_err-shift_line.ensures.halted)
+    (LinesDone-halted _ _ _ _ _ now _ _ c.loop-k.k _ c.loop-k.invariant _ _ c.start_of_line.ensures.value c.end_of_line.ensures.value c.loop-k-test.true small _ _ _ _ c.in_err-shift_line.ensures)
 
 pub loop-k-preserved : goal.loop-k-preserved
 loop-k-preserved g c =
     let now = c.loop-k.self in
     let small : c.loop-k.k < length (lines now.text) = omega (arith, c.loop-k.invariant.count, c.line_at-last.ensures.within, count_of_lines now.text) in
-    LinesDone-more _ _ _ _ _ now _ _ c.loop-k.k _ c.loop-k.invariant _ _ c.start_of_line.ensures.value c.end_of_line.ensures.value c.loop-k-test.true small _ _ c.in_ok-shift_line.ensures.done
+    LinesDone-more _ _ _ _ _ now _ _ c.loop-k.k _ c.loop-k.invariant _ _ c.start_of_line.ensures.value c.end_of_line.ensures.value c.loop-k-test.true small _ _ c.in_ok-shift_line.ensures
 
-pub returns-clause-done : goal.returns-clause-done
-returns-clause-done g c = LinesDone-all _ _ _ _ _ c.loop-k.self _ _ c.loop-k.k _ c.loop-k.invariant (omega arith)
+pub returns : goal.returns
+returns g c = LinesDone-all _ _ _ _ _ c.loop-k.self _ _ c.loop-k.k _ c.loop-k.invariant (omega arith)
 
-pub returns-in_ok-shift_line-clause-done : goal.returns-in_ok-shift_line-clause-done
-returns-in_ok-shift_line-clause-done g c =
+pub returns-in_ok-shift_line : goal.returns-in_ok-shift_line
+returns-in_ok-shift_line g c =
     let now = c.loop-k.self in
     let small : c.loop-k.k < length (lines now.text) = omega (arith, c.loop-k.invariant.count, c.line_at-last.ensures.within, count_of_lines now.text) in
-    let more = LinesDone-more _ _ _ _ _ now _ _ c.loop-k.k _ c.loop-k.invariant _ _ c.start_of_line.ensures.value c.end_of_line.ensures.value c.loop-k-test.true small _ _ c.in_ok-shift_line.ensures.done in
+    let more = LinesDone-more _ _ _ _ _ now _ _ c.loop-k.k _ c.loop-k.invariant _ _ c.start_of_line.ensures.value c.end_of_line.ensures.value c.loop-k-test.true small _ _ c.in_ok-shift_line.ensures in
     LinesDone-all _ _ _ _ _ c.shift_line.new.self _ _ _ _ more (omega arith)

@@ -6,13 +6,13 @@ use Rattle.rl_line.proofs.Plans.StepLemmas.{line_of-kept, Done-from, Halted-from
 use Rattle.rl_line.proofs.Plans.TranspositionLemmas.{exchanged, pull_back_plan-is}
 use Rattle.rl_line.proofs.line_buffer.LineBuffer.pull_back.Goals as goal
 
-pub returns-in_err-moved-clause-halted : goal.returns-in_err-moved-clause-halted
-returns-in_err-moved-clause-halted g c =
+pub returns-in_err-moved-clause-outcome : goal.returns-in_err-moved-clause-outcome
+returns-in_err-moved-clause-outcome g c =
     let p = err_from_is_err_and c.from_residual.result c.from_residual.ensures.1 in
     rw (p.1, p.2) (inr (c.in_err-moved.ensures.err, refl, refl, omega (arith, c.in_err-moved.ensures.some)))
 
-pub returns-in_err-deletion_step-clause-halted : goal.returns-in_err-deletion_step-clause-halted
-returns-in_err-deletion_step-clause-halted g c =
+pub returns-in_err-deletion_step-clause-outcome : goal.returns-in_err-deletion_step-clause-outcome
+returns-in_err-deletion_step-clause-outcome g c =
     let p = err_from_is_err_and c.from_residual-in_err-deletion_step.result c.from_residual-in_err-deletion_step.ensures.1 in
     let e = c.in_err-deletion_step.ensures in
     let inside = c.self.inside in
@@ -44,8 +44,8 @@ insertion_step-requires-clause-table_room g c =
       c.self.inside.starts.places.ok.1,
     )
 
-pub returns-in_err-insertion_step-clause-halted : goal.returns-in_err-insertion_step-clause-halted
-returns-in_err-insertion_step-clause-halted g c =
+pub returns-in_err-insertion_step-clause-outcome : goal.returns-in_err-insertion_step-clause-outcome
+returns-in_err-insertion_step-clause-outcome g c =
     let p = err_from_is_err_and c.from_residual-in_err-insertion_step.result c.from_residual-in_err-insertion_step.ensures.1 in
     let d = c.in_ok-deletion_step.ensures in
     let e = c.in_err-insertion_step.ensures in
@@ -69,8 +69,8 @@ returns-in_err-insertion_step-clause-halted g c =
     (line_of-kept _ _ _ _ _ _ inside.can_growth e.kept.0 e.kept.1 e.kept.2) taken
     (ap (λ (q : Plan _). q.steps) (pull_back_plan-is old c.args.front c.args.after x stop moved refl)))))
 
-pub returns-clause-done : goal.returns-clause-done
-returns-clause-done g c =
+pub returns-clause-outcome : goal.returns-clause-outcome
+returns-clause-outcome g c =
     let d = c.in_ok-deletion_step.ensures in
     let e = c.in_ok-insertion_step.ensures in
     let inside = c.self.inside in

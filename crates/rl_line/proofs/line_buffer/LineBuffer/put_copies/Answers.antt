@@ -14,7 +14,7 @@ put_str-requires-2-clause-boundary g c =
     let copies = c.as_str.result.now in
     subst (λ n. IsCharBoundary (insert_slice text at copies) (at + n)) (search rules) (IsCharBoundary-past_replacement text at at copies c.pos-at.ensures.utf8 (omega arith) c.pos-at.ensures.boundary)
 
-pub returns-in_err-copies-clause-cause : goal.returns-in_err-copies-clause-cause
-returns-in_err-copies-clause-cause g c =
+pub returns-in_err-copies : goal.returns-in_err-copies
+returns-in_err-copies g c =
     let p = err_from_is_err_and c.from_residual.result c.from_residual.ensures.1 in
-    rw (p.1, p.2) (inl (refl, refl, some_copies c.args.n c.args.text.now c.requires (omega (arith, c.if-n-eq0.false))))
+    rw (p.1, p.2) (record { kept = refl; cause = inl (refl, refl, some_copies c.args.n c.args.text.now c.requires (omega (arith, c.if-n-eq0.false))) })

@@ -15,15 +15,15 @@ put_str-requires-clause-boundary g c =
     subst (IsCharBoundary (insert_slice text c.args.line.start part)) (sym c.pushed-cursor.ensures)
     (IsCharBoundary-pushed text c.args.line.start c.pos.result part c.pos.ensures.utf8 c.range-part.utf8 c.loop-left.invariant.start c.pos.ensures.boundary)
 
-pub returns-in_err-put_str-clause-halted : goal.returns-in_err-put_str-clause-halted
-returns-in_err-put_str-clause-halted g c =
+pub returns-in_err-put_str : goal.returns-in_err-put_str
+returns-in_err-put_str g c =
     let p = err_from_is_err_and c.from_residual.result c.from_residual.ensures.1 in
     let i = c.args.line.start in
     let part = c.range-part.result.now in
     let left = c.loop-left.left in
     let is : part ≡ spaces (min left 32) = c.range-part.ensures.value ∙ slice_range-front c.min.result (spaces 32) ∙ take-spaces c.min.result 32 (search rules) ∙ ap spaces (search rules) in
     let next = put_spaces-next left i c.loop-left.self.cursor c.pushed-cursor.result part (search rules) is (c.pushed-cursor.ensures ∙ ap (pushed i (length part)) c.pos.ensures.place) in
-    rw (p.1, p.2) (Halted-after _ _ _ _ _ _ _ _ _ _ _ _ _ c.in_err-put_str.ensures.cause c.in_err-put_str.ensures.kept c.loop-left.invariant.taken
+    rw (p.1, p.2) (Halted-after _ _ _ _ _ _ _ _ _ _ _ _ _ c.in_err-put_str.ensures.step.cause c.in_err-put_str.ensures.step.kept c.loop-left.invariant.taken
     (c.loop-left.invariant.steps ∙ ap (λ ss. c.loop-left.invariant.done ++ ss) next))
 
 pub loop-left-preserved : goal.loop-left-preserved
@@ -42,7 +42,7 @@ loop-left-preserved g c =
     let rest = put_spaces (parts (left - length part)) i c.pushed-cursor.result in
     record {
       done = inv.done ++ (InsertStr i part, c.pushed-cursor.result) ∷ [];
-      taken = Taken-append _ _ _ _ _ _ _ _ _ inv.taken c.in_ok-put_str.ensures.taken;
+      taken = Taken-append _ _ _ _ _ _ _ _ _ inv.taken c.in_ok-put_str.ensures.step.taken;
       steps = inv.steps ∙ ap (λ ss. inv.done ++ ss) next ∙ sym (append_assoc inv.done ((InsertStr i part, c.pushed-cursor.result) ∷ []) rest)
           ∙ ap (λ (k : ℕ). (inv.done ++ (InsertStr i part, c.pushed-cursor.result) ∷ []) ++ put_spaces (parts (left - length part)) i k) (sym at);
       cursor = ap (pushed i (left - length part)) (at ∙ c.pushed-cursor.ensures ∙ ap (pushed i (length part)) c.pos.ensures.place) ∙ pushed-pushed i (length part) (left - length part) c.loop-left.self.cursor
@@ -51,8 +51,8 @@ loop-left-preserved g c =
       within = omega (arith, inv.within);
     }
 
-pub returns-clause-done : goal.returns-clause-done
-returns-clause-done g c =
+pub returns : goal.returns
+returns g c =
     let inv = c.loop-left.invariant in
     let none : c.loop-left.left ≡ 0 = omega arith in
     let all : inv.done ++ put_spaces (parts c.loop-left.left) c.args.line.start c.loop-left.self.cursor ≡ inv.done =

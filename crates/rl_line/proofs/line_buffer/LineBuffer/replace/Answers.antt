@@ -1,6 +1,6 @@
-use Rattle.rl_line.proofs.Common.{rules}
-use Rattle.rl_line.proofs.Plans.PlanLemmas.{Halted-at_first}
+use Rattle.rl_line.proofs.Common.{refl, room_by_step}
+use Rattle.rl_line.proofs.Plans.PlanLemmas.{Outcome-single}
 use Rattle.rl_line.proofs.line_buffer.LineBuffer.replace.Goals as goal
 
-pub returns-clause-halted : goal.returns-clause-halted
-returns-clause-halted g c = search (rules, Halted-at_first)
+pub returns : goal.returns
+returns g c = Outcome-single _ g.L.DeleteListener.refused room_by_step _ _ _ _ _ _ _ refl c.put_instead.ensures.step

@@ -9,13 +9,13 @@ use Rattle.rl_line.proofs.line_buffer.LineBuffer.swap.Given.{Over}
 use Rattle.rl_line.proofs.line_buffer.LineBuffer.swap.Goals as goal
 use Rattle.rl_line.proofs.line_buffer.LineBuffer.swap.Goals.{After-as_str-3, After-find_room_instead}
 
-pub returns-in_err-first_text-clause-halted : goal.returns-in_err-first_text-clause-halted
-returns-in_err-first_text-clause-halted g c =
+pub returns-in_err-first_text : goal.returns-in_err-first_text
+returns-in_err-first_text g c =
     let p = err_from_is_err_and c.from_residual.result c.from_residual.ensures.1 in
     rw (p.1, p.2) (inr (c.in_err-first_text.ensures.err, refl, refl, omega (arith, c.in_err-first_text.ensures.some)))
 
-pub returns-in_err-second_text-clause-halted : goal.returns-in_err-second_text-clause-halted
-returns-in_err-second_text-clause-halted g c =
+pub returns-in_err-second_text : goal.returns-in_err-second_text
+returns-in_err-second_text g c =
     let p = err_from_is_err_and c.from_residual-in_err-second_text.result c.from_residual-in_err-second_text.ensures.1 in
     rw (p.1, p.2) (inr (c.in_err-second_text.ensures.err, refl, refl, omega (arith, c.in_err-second_text.ensures.some)))
 
@@ -25,12 +25,12 @@ kept : (g : Over) (c : After-find_room_instead g)
 kept g c =
     ap (λ (t : List ℕ). line_of t c.self.inside.pos c.self.inside.limit c.self.inside.can_growth) c.find_room_instead.ensures.text ∙ c.self.view_is
 
-pub returns-in_err-come-clause-halted : goal.returns-in_err-come-clause-halted
-returns-in_err-come-clause-halted g c =
+pub returns-in_err-come : goal.returns-in_err-come
+returns-in_err-come g c =
     let p = err_from_is_err_and c.from_residual-in_err-come.result c.from_residual-in_err-come.ensures.1 in
     let e = c.in_err-come.ensures.err in
     let x : c.as_str.result.now ≡ text_in c.args.self.now c.args.first = c.as_str.ensures.value ∙ c.in_ok-first_text.ensures.ok in
-    rw (p.1, p.2) (inr (e.0, kept g (goal.at.returns-in_err-come-clause-halted g c).After-find_room_instead, refl, omega (arith, ap length x, some_part _ c.as_str.result.now e.1)))
+    rw (p.1, p.2) (inr (e.0, kept g (goal.at.returns-in_err-come g c).After-find_room_instead, refl, omega (arith, ap length x, some_part _ c.as_str.result.now e.1)))
 
 pub exchange_steps-requires-clause-boundary : goal.exchange_steps-requires-clause-boundary
 exchange_steps-requires-clause-boundary g c =
@@ -41,14 +41,14 @@ exchange_steps-requires-clause-boundary g c =
     subst (λ (l : Line). IsCharBoundary (replace_range l.text second.start second.end x) stop) (sym (kept g (goal.at.exchange_steps-requires-clause-boundary g c).After-find_room_instead))
     (IsCharBoundary-before line.text second.start second.end stop x (subst IsUtf8 c.as_str-text.ensures c.as_str-text.utf8) c.as_str-2.utf8 c.requires.second_start c.requires.second_end c.requires.first_end c.requires.apart)
 
-pub returns-in_err-exchange_steps-clause-halted : goal.returns-in_err-exchange_steps-clause-halted
-returns-in_err-exchange_steps-clause-halted g c =
+pub returns-in_err-exchange_steps : goal.returns-in_err-exchange_steps
+returns-in_err-exchange_steps g c =
     let p = err_from_is_err_and c.from_residual-in_err-exchange_steps.result c.from_residual-in_err-exchange_steps.ensures.1 in
     let line = c.args.self.now in
     let first = c.args.first in
     let second = c.args.second in
     let x = c.as_str-2.result.now in
-    let same = kept g (goal.at.returns-in_err-exchange_steps-clause-halted g c).After-find_room_instead in
+    let same = kept g (goal.at.returns-in_err-exchange_steps g c).After-find_room_instead in
     rw (p.1, p.2) (inl (Halted-front _ _ (swap_plan line first second) (exchange_plan line second first.end x first.end) (last_steps line first second) _ _ _ _ _
     (Halted-from _ _ (λ (l : Line). exchange_plan l second first.end x first.end) _ _ _ _ _ _ same (c.in_err-exchange_steps.ensures.halted c.self.inside.can_growth))
     (swap-front line first second x (c.as_str-2.ensures.value ∙ c.in_ok-first_text.ensures.ok))))
@@ -116,16 +116,16 @@ taken g c =
     Taken-from _ (λ (l : Line). (exchange_plan l c.args.second c.args.first.end c.as_str-2.result.now c.args.first.end).steps) _ _ (middle g c) _ _
     (kept g (goal.at.After-as_str-3 g c).After-find_room_instead) (c.in_ok-exchange_steps.ensures.taken c.self.inside.can_growth)
 
-pub returns-in_err-exchange_steps-2-clause-halted : goal.returns-in_err-exchange_steps-2-clause-halted
-returns-in_err-exchange_steps-2-clause-halted g c =
+pub returns-in_err-exchange_steps-2 : goal.returns-in_err-exchange_steps-2
+returns-in_err-exchange_steps-2 g c =
     let p = err_from_is_err_and c.from_residual-in_err-exchange_steps-2.result c.from_residual-in_err-exchange_steps-2.ensures.1 in
-    let d = (goal.at.returns-in_err-exchange_steps-2-clause-halted g c).After-as_str-3 in
+    let d = (goal.at.returns-in_err-exchange_steps-2 g c).After-as_str-3 in
     rw (p.1, p.2) (inl (Halted-back _ _ (swap_plan c.args.self.now c.args.first c.args.second) _ _ _ (middle g d) _ _ _ _ _
     (taken g d) (c.in_err-exchange_steps-2.ensures.halted c.self.inside.can_growth) (swap-halves (half g d))))
 
-pub returns-clause-done : goal.returns-clause-done
-returns-clause-done g c =
-    let d = (goal.at.returns-clause-done g c).After-as_str-3 in
+pub returns : goal.returns
+returns g c =
+    let d = (goal.at.returns g c).After-as_str-3 in
     Done-steps _ (swap_plan c.args.self.now c.args.first c.args.second) _ _ _ _ _
     (Taken-append _ _ _ _ (middle g d) _ _ _ _ (taken g d) (c.in_ok-exchange_steps-2.ensures.taken c.self.inside.can_growth))
     (swap-halves (half g d)) c.in_ok-exchange_steps-2.ensures.cursor
