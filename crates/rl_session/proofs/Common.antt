@@ -36,10 +36,10 @@ pub use Rattle.rl_base.specs.declared.motion.Movement.TheVariants.{BackwardChar,
 pub use Rattle.rl_base.specs.declared.motion.Word.{Word}
 pub use Rattle.rl_base.specs.declared.motion.Word.TheVariants.{Emacs}
 pub use Rattle.rl_base.specs.declared.motion.WordAction.{WordAction}
-pub use Rattle.rl_line.specs.Deletions.{Between, CanDeleteBy, is_by_characters, kill_plan, kill_range_plan}
+pub use Rattle.rl_line.specs.Deletions.{Between, CanDeleteBy, ToldOutcome, is_by_characters, kill_plan, kill_range_plan, texts_of}
 pub use Rattle.rl_line.specs.Edits.{replace_plan}
 pub use Rattle.rl_line.specs.Motions.{Moved}
-pub use Rattle.rl_line.specs.Plan.{Grows, Takes, a_copy, nothing_more, or_no_memory, refusal_of, room_by_step}
+pub use Rattle.rl_line.specs.Plan.{Cut, Grows, Outcome, Takes, a_copy, nothing_more, or_no_memory, refusal_of, room_by_step}
 pub use Rattle.rl_line.specs.Transpositions.{word_end, word_start}
 pub use Rattle.rl_line.specs.declared.change.Freshness.{Freshness}
 pub use Rattle.rl_session.specs.Commands.{Asked, Became, Came, Course, CutShort, Does, Edited, Effect, KeepsRing, Telling, WatchHears, answers, asked, by_steps, course_of, deletion_of, edit, edit_course, edits, effect, goes, hands_out, inserts, is_done, is_vain_yank, lends, lent_plan, never, other, other_course, popped, popped_plan, pops, puts_again, puts_begin, puts_end, puts_ends, readied, settled, shortens, stays, takes_back, tells, told_as, when, with_changes}

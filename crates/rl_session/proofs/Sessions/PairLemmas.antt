@@ -66,9 +66,3 @@ pub Halted-pair : {A : Type 0} (takes : Takes) (plan : Plan A) (old new : Line) 
     → Halted pair_step (refusal_of pair_refused takes) plan old new p q why.NoMemory
 Halted-pair takes plan old new p q w h =
     Halted-caused pair_step (refusal_of pair_refused takes) (refusal_of pair_refused takes) plan old new p q w why.NoMemory h (cause-memory takes h.middle q h.next.0 w h.cause)
-
--- an edit was halted, or, where it copies what it moves, not begun
-abbrev pub Stopped : {A : Type 0} → Takes → Plan A → Line → Line → Pair → Pair → Refusal → Type 0
-Stopped nothing_more plan old new p q w = Halted pair_step (refusal_of pair_refused nothing_more) plan old new p q w
-Stopped room_by_step plan old new p q w = Halted pair_step (refusal_of pair_refused room_by_step) plan old new p q w
-Stopped a_copy plan old new p q w = Halted pair_step (refusal_of pair_refused a_copy) plan old new p q w ⊎ Uncopied plan old new p q w

@@ -1,10 +1,10 @@
 -- What a command did, by what is replied to the outcome of its call.
-use Rattle.rl_session.proofs.Common.{Bool, true, false, inr, ◌≡◌, ◌∙◌, ap, subst, sym, Result, Ok, Err, ℕ, Any, Option, IfOk, IfErr, OnOk, OnErr, Start, Refusal, Movement, Line, NeedsRoom, Plan, Done, Halted, Takes, nothing_more, room_by_step, refusal_of, Told, is_by_characters, kill_plan, Record, Undone, steps_back, texts_back, last_of, Watched, Does, Edited, lent_plan, CutShort, KeepsRing, WatchHears, pair_step, pair_refused, Pair, replied, State, Kill, Undo, Yank, Reply}
+use Rattle.rl_session.proofs.Common.{Outcome, ToldOutcome, Bool, true, false, inr, ◌≡◌, ◌∙◌, ap, subst, sym, Result, Ok, Err, ℕ, Any, Option, IfOk, IfErr, OnOk, OnErr, Start, Refusal, Movement, Line, NeedsRoom, Plan, Done, Halted, Takes, nothing_more, room_by_step, refusal_of, Told, is_by_characters, kill_plan, Record, Undone, steps_back, texts_back, last_of, Watched, Does, Edited, lent_plan, CutShort, KeepsRing, WatchHears, pair_step, pair_refused, Pair, replied, State, Kill, Undo, Yank, Reply}
 use Rattle.rl_base.specs.KillRing.{yank}
 use Rattle.rl_base.specs.declared.listeners.Refusal.TheVariants as why
 use Rattle.rl_session.specs.Commands.{lent}
 use Rattle.rl_session.specs.declared.session.Reply.TheVariants as says
-use Rattle.rl_session.proofs.Sessions.PairLemmas.{Stopped, Halted-pair}
+use Rattle.rl_session.proofs.Sessions.PairLemmas.{Halted-pair}
 
 CutShort-refused : {A : Type 0} (takes : Takes) (plan : Plan A) (old new : State) (w : Refusal) → new.options ≡ old.options
     → Halted pair_step (refusal_of pair_refused takes) plan old.line new.line old.pair new.pair w → CutShort takes plan old new
@@ -20,21 +20,19 @@ Told-each true P Q p q f t = f p q t
 Told-each false P Q p q f t = record { last = t.last; inside = f (pair_step p Start) t.last t.inside; ended = t.ended }
 
 pub Kill-replied : (m : Movement) {inside old : State} (new : State) (outcome : Result Bool Refusal) {reply : Reply} → inside ≡ old → reply ≡ replied says.Answer outcome → new.options ≡ inside.options
-    → IfOk outcome (λ a. Told pair_step (is_by_characters m) (λ before now. Done pair_step (kill_plan inside.line m) inside.line new.line before now a) inside.pair new.pair)
-    → IfErr outcome (λ w. Told pair_step (is_by_characters m) (λ before now. Halted pair_step pair_refused (kill_plan inside.line m) inside.line new.line before now w) inside.pair new.pair)
-    → Does old (Kill m) reply new
-Kill-replied m {inside} new (Ok a) v e options d h =
+    → ToldOutcome pair_step pair_refused (is_by_characters m) (kill_plan inside.line m) inside.line new.line inside.pair new.pair outcome → Does old (Kill m) reply new
+Kill-replied m {inside} new (Ok a) v e options d =
     carried (λ s r. Does s (Kill m) r new) v e (Told-each (is_by_characters m) _ _ inside.pair new.pair (λ before now i. record { done = i; options = options }) d)
-Kill-replied m {inside} new (Err w) v e options d h =
+Kill-replied m {inside} new (Err w) v e options h =
     carried (λ s r. Does s (Kill m) r new) v e (Told-each (is_by_characters m) _ _ inside.pair new.pair (λ before now i. inr (record { halted = Halted-pair nothing_more (kill_plan inside.line m) inside.line new.line before now w i; options = options })) h)
 
 -- a yank whose text goes in as the one that was lent
 pub Yank-replied : (n : ℕ) (plan : Plan (Option Bool)) (inside old new : State) (outcome : Result (Option Bool) Refusal) {reply : Reply} → lent old ≡ inside → plan ≡ lent_plan old.line (yank old.pair.ring) n
-    → reply ≡ replied says.Inserted outcome → new.options ≡ inside.options → IfOk outcome (λ a. Done pair_step plan inside.line new.line inside.pair new.pair a)
-    → IfErr outcome (λ w. Stopped room_by_step plan inside.line new.line inside.pair new.pair w) → Does old (Yank n) reply new
-Yank-replied n plan inside old new (Ok a) l p e options d h =
+    → reply ≡ replied says.Inserted outcome → new.options ≡ inside.options
+    → Outcome pair_step pair_refused room_by_step plan inside.line new.line inside.pair new.pair outcome → Does old (Yank n) reply new
+Yank-replied n plan inside old new (Ok a) l p e options d =
     subst (λ r. Does old (Yank n) r new) (sym e) (subst (λ s. Edited (lent_plan old.line (yank old.pair.ring) n) s new a) (sym l) (subst (λ q. Edited q inside new a) p (record { done = d; options = options })))
-Yank-replied n plan inside old new (Err w) l p e options d h =
+Yank-replied n plan inside old new (Err w) l p e options h =
     subst (λ r. Does old (Yank n) r new) (sym e)
     (inr (subst (λ s. CutShort room_by_step (lent_plan old.line (yank old.pair.ring) n) s new) (sym l) (subst (λ q. CutShort room_by_step q inside new) p (CutShort-refused room_by_step plan inside new w options h))))
 

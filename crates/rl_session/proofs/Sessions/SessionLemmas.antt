@@ -1,5 +1,5 @@
 -- What holds whatever a call answered.
-use Rattle.rl_session.proofs.Common.{Bool, false, true, inr, List, [], ◌∷◌, ◌*◌, ◌+◌, ◌<◌, ◌==◌, ◌||◌, cond, Result, Ok, Err, ◌≡◌, ◌∙◌, ap, ap₂, arith, refl, subst, sym, append-nil, inl, ◌≤◌, ℕ, length, take_all, nat_tests, IsCharBoundary-start, IsUtf8-nil, Option, None, max, IsSome, Some, IfOk, IfErr, IsUtf8, Event, InsertStr, Start, apply, Stop, HasText, Refusal, Movement, Line, stepped, Moved, Plan, single, Done, Halted, or_no_memory, Takes, nothing_more, a_copy, insert_str_plan, too_long, yank_plan, Told, is_by_characters, kill_plan, Record, agree, replays_to, unwind, Redone, Undone, adds_end, begun, with_closed, State, AtRest, Follows, Edited, lent_plan, popped, popped_plan, pair_step, pair_refused, Pair, IsCharBoundary, Walks, line_back, bytes_eq-Decides, same_Some}
+use Rattle.rl_session.proofs.Common.{ToldOutcome, Outcome, Cut, Bool, false, true, inr, List, [], ◌∷◌, ◌*◌, ◌+◌, ◌<◌, ◌==◌, ◌||◌, cond, Result, Ok, Err, ◌≡◌, ◌∙◌, ap, ap₂, arith, refl, subst, sym, append-nil, inl, ◌≤◌, ℕ, length, take_all, nat_tests, IsCharBoundary-start, IsUtf8-nil, Option, None, max, IsSome, Some, IfOk, IfErr, IsUtf8, Event, InsertStr, Start, apply, Stop, HasText, Refusal, Movement, Line, stepped, Moved, Plan, single, Done, Halted, or_no_memory, Takes, nothing_more, a_copy, insert_str_plan, too_long, yank_plan, Told, is_by_characters, kill_plan, Record, agree, replays_to, unwind, Redone, Undone, adds_end, begun, with_closed, State, AtRest, Follows, Edited, lent_plan, popped, popped_plan, pair_step, pair_refused, Pair, IsCharBoundary, Walks, line_back, bytes_eq-Decides, same_Some}
 use Rattle.rl_base.proofs.Texts.EventLemmas.{apply-InsertStr}
 use Rattle.rl_base.specs.declared.listeners.Refusal.TheVariants as why
 use Rattle.rl_line.specs.Plan.{nothing}
@@ -7,7 +7,7 @@ use Rattle.rl_line.proofs.Records.JoinLemmas.{record_step-Start, record_step-Sto
 use Rattle.rl_line.proofs.Plans.PlanLemmas.{first_step}
 use Rattle.rl_session.specs.Commands.{lent}
 use Rattle.rl_session.proofs.Sessions.IdleLemmas.{NoneStarts, NoneStarts-kill, idle-Done, idle-Halted, idle-Told}
-use Rattle.rl_session.proofs.Sessions.PairLemmas.{Halted-own, Stopped, Done-changes, Halted-changes, keeps_changes}
+use Rattle.rl_session.proofs.Sessions.PairLemmas.{Halted-own, Done-changes, Halted-changes, keeps_changes}
 use Rattle.rl_line.proofs.Records.RecordLemmas.{value_of}
 use Rattle.rl_line.proofs.Records.UndoLemmas.{line_back-unwind}
 use Rattle.rl_line.proofs.Records.WalkLemmas.{Walks-Done, Walks-Halted, Walks-Redone, Walks-Undone, Walks-ahead, Walks-back, Walks-begun, Walks-closed}
@@ -58,17 +58,16 @@ AtRest-refused plan p q old new w at none d h =
 AtRest-same : (p q : Pair) (old new : Line) → new ≡ old → q ≡ p → AtRest old p → AtRest new q
 AtRest-same p q old new e f h = subst (λ k. AtRest new k) (sym f) (subst (λ l. AtRest l p) (sym e) h)
 
-AtRest-stopped : {A : Type 0} (takes : Takes) (plan : Plan A) (p q : Pair) (old new : Line) (w : Refusal) → IsCharBoundary old.text old.cursor → NoneStarts plan.steps → Stopped takes plan old new p q w
+AtRest-stopped : {A : Type 0} (takes : Takes) (plan : Plan A) (p q : Pair) (old new : Line) (w : Refusal) → IsCharBoundary old.text old.cursor → NoneStarts plan.steps → Cut pair_step pair_refused takes plan old new p q w
     → AtRest old p → AtRest new q
 AtRest-stopped a_copy plan p q old new w at none (inr u) = AtRest-same p q old new u.1 u.2
 AtRest-stopped a_copy plan p q old new w at none (inl h) = AtRest-refused plan p q old new w at none (Halted-own a_copy plan old new p q w h)
 AtRest-stopped takes plan p q old new w at none h = AtRest-refused plan p q old new w at none (Halted-own takes plan old new p q w h)
 
-pub AtRest-edit : {A B : Type 0} (takes : Takes) (plan : Plan A) (shown : B → A) (p q : Pair) (old new : Line) (result : Result B Refusal) → IsCharBoundary old.text old.cursor → NoneStarts plan.steps
-    → IfOk result (λ b. Done pair_step plan old new p q (shown b)) → IfErr result (λ w. Stopped takes plan old new p q w)
-    → AtRest old p → AtRest new q
-AtRest-edit takes plan shown p q old new (Ok b) at none d h = AtRest-pair plan p q old new (shown b) at none d
-AtRest-edit takes plan shown p q old new (Err w) at none d h = AtRest-stopped takes plan p q old new w at none h
+pub AtRest-edit : {A : Type 0} (takes : Takes) (plan : Plan A) (p q : Pair) (old new : Line) (result : Result A Refusal) → IsCharBoundary old.text old.cursor → NoneStarts plan.steps
+    → Outcome pair_step pair_refused takes plan old new p q result → AtRest old p → AtRest new q
+AtRest-edit takes plan p q old new (Ok a) at none d = AtRest-pair plan p q old new a at none d
+AtRest-edit takes plan p q old new (Err w) at none h = AtRest-stopped takes plan p q old new w at none h
 
 -- the record hears nothing of the start and the end of a kill
 pub past_telling : (P : Record → Record → Type 0) (before last now : Pair) → now ≡ pair_step last Stop → P (pair_step before Start).changes last.changes → P before.changes now.changes
@@ -83,23 +82,15 @@ Walks-Told false P p q old new keeps t =
     past_telling (λ r now. Walks r old.text → Walks now new.text) p t.last q t.ended (keeps (pair_step p Start) t.last t.inside)
 
 pub AtRest-told : (b : Bool) (plan : Plan Bool) (p q : Pair) (old new : Line) (result : Result Bool Refusal) → IsCharBoundary old.text old.cursor → NoneStarts plan.steps
-    → IfOk result (λ a. Told pair_step b (λ before now. Done pair_step plan old new before now a) p q)
-    → IfErr result (λ w. Told pair_step b (λ before now. Halted pair_step pair_refused plan old new before now w) p q)
-    → AtRest old p → AtRest new q
-AtRest-told b plan p q old new (Ok a) at none d h r = record {
+    → ToldOutcome pair_step pair_refused b plan old new p q result → AtRest old p → AtRest new q
+AtRest-told b plan p q old new (Ok a) at none d r = record {
   walks = Walks-Told b _ p q old new (λ before now i. Walks-pair plan before now old new a at i) d r.walks;
   idle = idle-Told b _ p q (λ i. idle-Done plan old new p q a none i r.idle) d;
 }
-AtRest-told b plan p q old new (Err w) at none d h r = record {
+AtRest-told b plan p q old new (Err w) at none h r = record {
   walks = Walks-Told b _ p q old new (λ before now i. Walks-refused plan before now old new w at (Halted-own nothing_more plan old new before now w i)) h r.walks;
   idle = idle-Told b _ p q (λ i. idle-Halted plan old new p q w none (Halted-own nothing_more plan old new p q w i) r.idle) h;
 }
-
-pub AtRest-kill : (m : Movement) (p q : Pair) (old new : Line) (result : Result Bool Refusal) → IsCharBoundary old.text old.cursor
-    → IfOk result (λ a. Told pair_step (is_by_characters m) (λ before now. Done pair_step (kill_plan old m) old new before now a) p q)
-    → IfErr result (λ w. Told pair_step (is_by_characters m) (λ before now. Halted pair_step pair_refused (kill_plan old m) old new before now w) p q)
-    → AtRest old p → AtRest new q
-AtRest-kill m p q old new result at = AtRest-told (is_by_characters m) (kill_plan old m) p q old new result at (NoneStarts-kill old m)
 
 -- nothing was done, since memory is out
 Walks-same : (r now : Record) (old new : Line) → (now ≡ r) × (new ≡ old) → Walks r old.text → Walks now new.text

@@ -5,7 +5,7 @@ use Rattle.rl_session.proofs.session.Session.do_backspace.Goals as goal
 
 pub invariant_of-self : goal.invariant_of-self
 invariant_of-self c =
-    AtRest-edit nothing_more _ (λ a. a) c.self.inside.pair c.backspace.new.listener c.self.inside.line c.backspace.new.self c.backspace.result (rw (← c.self.view_is) at c.stands.ensures.cursor) (NoneStarts-kill c.self.inside.line (BackwardChar c.args.n)) c.backspace.ensures.done c.backspace.ensures.halted c.self.invariant
+    AtRest-edit nothing_more _ c.self.inside.pair c.backspace.new.listener c.self.inside.line c.backspace.new.self c.backspace.result (rw (← c.self.view_is) at c.stands.ensures.cursor) (NoneStarts-kill c.self.inside.line (BackwardChar c.args.n)) c.backspace.ensures c.self.invariant
 
 pub returns : goal.returns
 returns c = search rules

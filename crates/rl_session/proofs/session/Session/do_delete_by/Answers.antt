@@ -5,7 +5,7 @@ use Rattle.rl_session.proofs.session.Session.do_delete_by.Goals as goal
 
 pub invariant_of-self : goal.invariant_of-self
 invariant_of-self c =
-    AtRest-edit nothing_more _ (λ a. a) c.self.inside.pair c.delete_by.new.listener c.self.inside.line c.delete_by.new.self c.delete_by.result (rw (← c.self.view_is) at c.stands.ensures.cursor) (NoneStarts-kill c.self.inside.line c.args.movement.now) c.delete_by.ensures.done c.delete_by.ensures.halted c.self.invariant
+    AtRest-edit nothing_more _ c.self.inside.pair c.delete_by.new.listener c.self.inside.line c.delete_by.new.self c.delete_by.result (rw (← c.self.view_is) at c.stands.ensures.cursor) (NoneStarts-kill c.self.inside.line c.args.movement.now) c.delete_by.ensures c.self.invariant
 
 pub returns : goal.returns
 returns c = search rules

@@ -5,7 +5,7 @@ use Rattle.rl_session.proofs.session.Session.do_edit_word.Goals as goal
 
 pub invariant_of-self : goal.invariant_of-self
 invariant_of-self c =
-    AtRest-edit a_copy _ (λ a. a) c.self.inside.pair c.edit_word.new.listener c.self.inside.line c.edit_word.new.self c.edit_word.result (rw (← c.self.view_is) at c.stands.ensures.cursor) (NoneStarts-edit_word c.self.inside.line c.args.action) c.edit_word.ensures.done c.edit_word.ensures.halted c.self.invariant
+    AtRest-edit a_copy _ c.self.inside.pair c.edit_word.new.listener c.self.inside.line c.edit_word.new.self c.edit_word.result (rw (← c.self.view_is) at c.stands.ensures.cursor) (NoneStarts-edit_word c.self.inside.line c.args.action) c.edit_word.ensures c.self.invariant
 
 pub returns : goal.returns
 returns c = search rules

@@ -4,7 +4,7 @@ use Rattle.rl_session.proofs.session.Session.do_replace.Goals as goal
 
 pub invariant_of-self : goal.invariant_of-self
 invariant_of-self c =
-    AtRest-edit room_by_step _ (λ a. a) c.self.inside.pair c.replace.new.listener c.self.inside.line c.replace.new.self c.replace.result (rw (← c.self.view_is) at c.stands.ensures.cursor) (tt, tt) c.replace.ensures.done c.replace.ensures.halted c.self.invariant
+    AtRest-edit room_by_step _ c.self.inside.pair c.replace.new.listener c.self.inside.line c.replace.new.self c.replace.result (rw (← c.self.view_is) at c.stands.ensures.cursor) (tt, tt) c.replace.ensures c.self.invariant
 
 pub returns : goal.returns
 returns c = search rules

@@ -10,7 +10,7 @@ pub returns-in-Err : goal.returns-in-Err
 returns-in-Err c = rw (← c.self.view_is) (inl ((omega (arith, c.if-n-eq0.false), c.in-Err.ensures.lent), rw c.in-Err.ensures.ring refl))
 
 pub invariant_of-self-2 : goal.invariant_of-self-2
-invariant_of-self-2 c = AtRest-edit room_by_step _ (λ a. a) (record c.self.inside.pair { ring = c.yanked.new.ring }) c.yank.new.listener c.self.inside.line c.yank.new.self c.yank.result (rw (← c.self.view_is) at c.stands.ensures.cursor) (NoneStarts-yank c.self.inside.line _ c.args.n) c.yank.ensures.done c.yank.ensures.halted (record { walks = c.self.invariant.walks; idle = idle-yanked c.self.inside.pair.ring c.yanked.new.ring c.yanked.ensures.ring c.self.invariant.idle })
+invariant_of-self-2 c = AtRest-edit room_by_step _ (record c.self.inside.pair { ring = c.yanked.new.ring }) c.yank.new.listener c.self.inside.line c.yank.new.self c.yank.result (rw (← c.self.view_is) at c.stands.ensures.cursor) (NoneStarts-yank c.self.inside.line _ c.args.n) c.yank.ensures (record { walks = c.self.invariant.walks; idle = idle-yanked c.self.inside.pair.ring c.yanked.new.ring c.yanked.ensures.ring c.self.invariant.idle })
 
 pub returns : goal.returns
 returns c = search rules

@@ -10,7 +10,7 @@ pub returns-in-Err : goal.returns-in-Err
 returns-in-Err c = (c.stands_yanked.ensures.yes c.if-not-stands_yanked.false, rw (← c.self.view_is) (inl (c.in-Err.ensures.lent, rw c.in-Err.ensures.ring refl)))
 
 pub invariant_of-self-2 : goal.invariant_of-self-2
-invariant_of-self-2 c = AtRest-edit room_by_step _ (λ a. a) (record c.self.inside.pair { ring = c.popped.new.ring }) c.yank_pop.new.listener c.self.inside.line c.yank_pop.new.self c.yank_pop.result (rw (← c.self.view_is) at c.stands.ensures.cursor) (NoneStarts-yank_pop c.self.inside.line _ _) c.yank_pop.ensures.done c.yank_pop.ensures.halted (record { walks = c.self.invariant.walks; idle = idle-popped c.self.inside.pair.ring c.popped.new.ring c.popped.ensures.ring c.self.invariant.idle })
+invariant_of-self-2 c = AtRest-edit room_by_step _ (record c.self.inside.pair { ring = c.popped.new.ring }) c.yank_pop.new.listener c.self.inside.line c.yank_pop.new.self c.yank_pop.result (rw (← c.self.view_is) at c.stands.ensures.cursor) (NoneStarts-yank_pop c.self.inside.line _ _) c.yank_pop.ensures (record { walks = c.self.invariant.walks; idle = idle-popped c.self.inside.pair.ring c.popped.new.ring c.popped.ensures.ring c.self.invariant.idle })
 
 pub returns : goal.returns
 returns c = search rules

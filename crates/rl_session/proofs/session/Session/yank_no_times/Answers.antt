@@ -10,7 +10,7 @@ returns-then-not-yanks_some c =
 
 pub invariant_of-self-2 : goal.invariant_of-self-2
 invariant_of-self-2 c =
-    AtRest-edit room_by_step _ (λ a. a) (record c.self.inside.pair { ring = c.yanks_some.new.ring }) c.yank.new.listener c.self.inside.line c.yank.new.self c.yank.result (rw (← c.self.view_is) at c.stands.ensures.cursor) (NoneStarts-yank c.self.inside.line (45 ∷ []) 0) c.yank.ensures.done c.yank.ensures.halted
+    AtRest-edit room_by_step _ (record c.self.inside.pair { ring = c.yanks_some.new.ring }) c.yank.new.listener c.self.inside.line c.yank.new.self c.yank.result (rw (← c.self.view_is) at c.stands.ensures.cursor) (NoneStarts-yank c.self.inside.line (45 ∷ []) 0) c.yank.ensures
     (record { walks = c.self.invariant.walks; idle = idle-yanked c.self.inside.pair.ring c.yanks_some.new.ring c.yanks_some.ensures.ring c.self.invariant.idle })
 
 pub returns : goal.returns
@@ -18,4 +18,4 @@ returns c =
     let old : State = record { line = c.self.inside.line; pair = c.self.inside.pair; options = c.self.inside.options } in
     let inside : State = record { line = c.self.inside.line; pair = record c.self.inside.pair { ring = c.yanks_some.new.ring }; options = c.self.inside.options } in
     rw (← c.self.view_is) (Yank-replied 0 (yank_plan c.self.inside.line (45 ∷ []) 0) inside old _ c.yank.result (rw c.yanks_some.ensures.ring refl)
-    (lent-no_times c.self.inside.line (45 ∷ []) _ (omega arith) (c.yanks_some.ensures.some c.if-not-yanks_some.false)) c.inserted.ensures refl c.yank.ensures.done c.yank.ensures.halted)
+    (lent-no_times c.self.inside.line (45 ∷ []) _ (omega arith) (c.yanks_some.ensures.some c.if-not-yanks_some.false)) c.inserted.ensures refl c.yank.ensures)

@@ -9,9 +9,9 @@ insert_str-requires-clause-stays c =
 
 pub set_pos-requires : goal.set_pos-requires
 set_pos-requires c =
-    subst (λ (l : Line). IsCharBoundary l.text c.args.pos) (sym (put_first _ _ _ _ c.args.text.now _ _ _ c.utf8.text c.requires.empty c.in-Ok.ensures.done)) c.requires.place
+    subst (λ (l : Line). IsCharBoundary l.text c.args.pos) (sym (put_first _ _ _ _ c.args.text.now _ _ _ c.utf8.text c.requires.empty c.in-Ok.ensures)) c.requires.place
 
 pub returns-in-Ok-clause-ok : goal.returns-in-Ok-clause-ok
 returns-in-Ok-clause-ok c =
     c.set_pos.ensures ∙ ap (λ (l : Line). record l { cursor = c.args.pos })
-    (put_first _ _ _ _ c.args.text.now _ _ _ c.utf8.text c.requires.empty c.in-Ok.ensures.done)
+    (put_first _ _ _ _ c.args.text.now _ _ _ c.utf8.text c.requires.empty c.in-Ok.ensures)
