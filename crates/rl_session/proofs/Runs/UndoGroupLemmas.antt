@@ -12,7 +12,7 @@ use Rattle.rl_session.specs.declared.session.Command.TheVariants as asks
 use Rattle.rl_session.specs.declared.session.Reply.TheVariants as says
 use Rattle.rl_session.proofs.Runs.RowLemmas.{Leads-split}
 use Rattle.rl_session.proofs.Sessions.CourseLemmas.{Heard-Came}
-use Rattle.rl_session.proofs.Runs.HistoryLemmas.{Holds-Leads, Holds-row, does_as, row_at, undo-row}
+use Rattle.rl_session.proofs.Runs.HistoryLemmas.{Holds-Leads, Holds-row, done_as, row_at, undo-row}
 use Rattle.rl_session.proofs.Runs.PlaceLemmas.{kept-leads}
 
 -- ---- the end of a group
@@ -126,16 +126,11 @@ EndOne-done old left (says.Answer a) d w = ap (λ (s : State). s.pair.changes) d
 EndOne-done old left (says.Refused f) d w = absurd (w tt)
 EndOne-done old left _ d w = absurd d
 
--- so did a row of theirs
-mark-row : (row : Row) (command : Command) (made : Record → Record) → ((old left : State) (reply : Reply) → Does old command reply left → ¬ (WasRefused reply) → left.pair.changes ≡ made old.pair.changes)
-    → row.command ≡ command → ¬ (WasRefused row.reply) → row.after.pair.changes ≡ made row.before.pair.changes
-mark-row row command made done e w = let d = does_as row command e in d.3 ∙ done (readied command row.before) d.0 row.reply d.1 w
-
 -- the end of a group closes the groups that were not open before its begin
 closing-row : (row : Row) (command : Command) (below : ℕ) → row.command ≡ command → ClosesGroup below (level row.before.pair.changes.recorded) command → ¬ (WasRefused row.reply)
     → (n : ℕ) × (level row.before.pair.changes.recorded ≡ n + below) × (row.after.pair.changes ≡ with_closed n row.before.pair.changes)
-closing-row row asks.End below e c w = (level row.before.pair.changes.recorded, omega (arith, c), mark-row row asks.End ended End-done e w)
-closing-row row asks.EndOne below e c w = (min 1 (level row.before.pair.changes.recorded), omega (arith, c), mark-row row asks.EndOne ended_one EndOne-done e w)
+closing-row row asks.End below e c w = (level row.before.pair.changes.recorded, omega (arith, c), done_as row asks.End (λ r k _ _. k ≡ ended r) End-done e w)
+closing-row row asks.EndOne below e c w = (min 1 (level row.before.pair.changes.recorded), omega (arith, c), done_as row asks.EndOne (λ r k _ _. k ≡ ended_one r) EndOne-done e w)
 closing-row row _ below e c w = absurd c
 
 -- what an undo keeps right after that
@@ -152,7 +147,7 @@ group-inside : (inside : List Row) (b e : Row) (mid : State) → b.command ≡ a
 group-inside inside b e mid is_begin begins all l to_end =
     let front = b.before.pair.changes.recorded in
     let first : Inside front b.after.pair.changes =
-    subst (λ (r : Record). Inside front r) (sym (mark-row b asks.Begin begun Begin-done is_begin begins)) (record { inner = []; is = refl; matched = refl }) in
+    subst (λ (r : Record). Inside front r) (sym (done_as b asks.Begin (λ r k _ _. k ≡ begun r) Begin-done is_begin begins)) (record { inner = []; is = refl; matched = refl }) in
     subst (λ (s : State). Inside front s.pair.changes) (sym to_end) (Inside-Leads front inside b.after mid all l first)
 
 -- where an undo keeps what was recorded before rows, the text before them is the one after it

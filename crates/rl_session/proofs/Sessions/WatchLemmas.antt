@@ -1,5 +1,5 @@
 -- What a watch keeps of a text at each event, it keeps over a command.
-use Rattle.rl_session.proofs.Common.{◌≡◌, ◌∙◌, ℕ, ◌^◌, ◌<◌, arith, true, false, List, length, Option, Some, None, option_map, ◌≤◌, inl, inr, sym, ap, subst, map, option_and_then, reverse, unwrap_or, IsCharBoundary-end, IsCharBoundary, IsUtf8, Event, Replace, Start, Stop, Cursors, apply, HasTexts, IsChange, IsLineText, LacksTexts, Noted, Queue, Stand, TellsByTexts, after_numbers, after_texts, oldest, queue_step, Covers, spliced, Watched, ReportsLead, next_note, past_next, text_room, watch_step, Line, Taken, steps_ahead, steps_back, last_of, redo_of, inverse, Effect, by_steps, puts_begin, puts_ends, puts_end, shortens, takes_back, puts_again, Became, effect, readied, Course, never, when, stays, goes, edits, lends, pops, tells, Came, WatchHears, popped, pair_step, State, ChangedFrom, IsBounded, ReportedFrom, Stands, restarted, with_watch, Row, Run, Command, Reply, Pair}
+use Rattle.rl_session.proofs.Common.{◌≡◌, ◌∙◌, ℕ, ◌^◌, ◌<◌, arith, true, false, List, length, Option, Some, None, option_map, ◌≤◌, inl, inr, sym, ap, subst, map, option_and_then, reverse, unwrap_or, IsCharBoundary-end, IsCharBoundary, IsUtf8, Event, Replace, Start, Stop, Cursors, apply, HasTexts, IsChange, IsLineText, LacksTexts, Noted, Queue, Stand, TellsByTexts, after_numbers, after_texts, oldest, queue_step, Covers, spliced, Watched, ReportsLead, next_note, past_next, text_room, watch_step, Line, Taken, steps_ahead, steps_back, last_of, redo_of, inverse, Effect, by_steps, takes_back, puts_again, Became, effect, readied, Course, never, when, stays, goes, edits, lends, pops, tells, Came, WatchHears, popped, pair_step, State, ChangedFrom, IsBounded, ReportedFrom, Stands, restarted, with_watch, Row, Run, Command, Reply, Pair}
 use Rattle.rl_base.specs.Reports.{forgotten}
 use Rattle.rl_base.proofs.Queue.LeadLemmas.{marked, nothing, placed, whole, with_texts}
 use Rattle.rl_base.specs.declared.listeners.Refusal.TheVariants as why
@@ -73,10 +73,6 @@ module _ (Keeps : Watched → List ℕ → Type 0)
 
   pub Kept-Became : (effect : Effect) (old new : State) → Texts old.line new.line → EffectChanges effect → Became effect old new → Kept old → Kept new
   Kept-Became (by_steps course) old new t c d k = Kept-Came course old new t c d k
-  Kept-Became (puts_begin n) old new t c d k = subst Kept (sym d.1) k
-  Kept-Became (puts_ends a) old new t c d k = subst Kept (sym d.1) k
-  Kept-Became (puts_end a) old new t c d k = subst Kept (sym d.1) k
-  Kept-Became (shortens len) old new t c d k = subst Kept (sym d.1) k
   Kept-Became (keeps text) old new t c d k = subst Kept (sym d) k
   Kept-Became (takes_back n a) old new t c d k =
       let back = last_of n old.pair.changes.recorded in
@@ -86,6 +82,7 @@ module _ (Keeps : Watched → List ℕ → Type 0)
       let ahead = redo_of old.pair.changes.pending in
       let steps = after-steps_ahead ahead old.line new.line t.at t.within d.0.line_is in
       Kept-over (steps_ahead old.line.cursor ahead) old new t (NoneStarts-ahead ahead old.line.cursor) steps d.2 k
+  Kept-Became _ old new t c d k = subst Kept (sym d.1) k
 
   -- the ring's resets touch neither the watch nor the line
   pub Kept-Step : (old : State) (command : Command) (reply : Reply) (new : State) → Step old command reply new → Stands old → IsBounded old → Kept old → Kept new
