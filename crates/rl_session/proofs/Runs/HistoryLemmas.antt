@@ -1,5 +1,5 @@
 -- Rows of a session: what they make of its history, and what undos and redos among them do.
-use Rattle.rl_session.proofs.Common.{◌≡◌, ℕ, Bool, suc, List, [], ◌∷◌, ◌++◌, length, min, arith, take, refl, sym, ap, subst, ◌∙◌, append-nil, append_assoc, IsUtf8, Line, listener_after, Record, record_step, unwind, Undone, Redone, Redos, begun, ended, ended_one, level, last_of, last_units, opens, redo_of, truncated, undone, Effect, by_steps, puts_begin, puts_ends, puts_end, shortens, takes_back, puts_again, Became, effect, Does, readied, with_changes, AllRedone, History, Holds, WasHeld, WasRefused, Row, Leads, Run, held, held_by, held_of, steps_in, texts_of_steps, State, with_ring, reset, Append, Command, Undo, Redo, Reply}
+use Rattle.rl_session.proofs.Common.{◌≡◌, rules, ℕ, Bool, suc, List, [], ◌∷◌, ◌++◌, length, min, arith, take, refl, sym, ap, subst, ◌∙◌, append-nil, append_assoc, IsUtf8, Line, listener_after, Record, record_step, unwind, Undone, Redone, Redos, begun, ended, ended_one, level, last_of, last_units, opens, redo_of, truncated, undone, Effect, by_steps, puts_begin, puts_ends, puts_end, shortens, takes_back, puts_again, Became, effect, Does, readied, with_changes, AllRedone, History, Holds, WasHeld, WasRefused, Row, Leads, Run, held, held_by, held_of, steps_in, texts_of_steps, State, with_ring, reset, Append, Command, Undo, Redo, Reply}
 use Rattle.rl_line.specs.Plan.{Step as PlanStep}
 use Rattle.rl_line.proofs.Records.MarkLemmas.{agree-same}
 use Rattle.rl_line.proofs.Records.RecordLemmas.{replay-IsUtf8}
@@ -103,8 +103,7 @@ done_as row command Did done e w =
 -- an undo that was not refused
 Undo-done : (n : ℕ) (old left : State) (reply : Reply) → Does old (Undo n) reply left → ¬ (WasRefused reply) → (a : Bool) × Undone n old.pair.changes left.pair.changes old.line left.line a
 Undo-done n old left (says.Answer a) d w = (a, d.0)
-Undo-done n old left (says.Refused f) d w = absurd (w tt)
-Undo-done n old left _ d w = absurd d
+Undo-done n old left _ d w = absurd (search rules)
 
 pub undo-row : (row : Row) (n : ℕ) → row.command ≡ Undo n → ¬ (WasRefused row.reply)
     → (a : Bool) × Undone n row.before.pair.changes row.after.pair.changes row.before.line row.after.line a
@@ -130,8 +129,7 @@ undo-drops row n is_undo done =
 -- a redo that was not refused
 Redo-done : (old left : State) (reply : Reply) → Does old Redo reply left → ¬ (WasRefused reply) → (a : Bool) × Redone old.pair.changes left.pair.changes old.line left.line a
 Redo-done old left (says.Answer a) d w = (a, d.0)
-Redo-done old left (says.Refused f) d w = absurd (w tt)
-Redo-done old left _ d w = absurd d
+Redo-done old left _ d w = absurd (search rules)
 
 pub redo-row : (row : Row) → row.command ≡ Redo → ¬ (WasRefused row.reply) → (a : Bool) × Redone row.before.pair.changes row.after.pair.changes row.before.line row.after.line a
 redo-row row = done_as row Redo (λ r k l m. (a : Bool) × Redone r k l m a) Redo-done

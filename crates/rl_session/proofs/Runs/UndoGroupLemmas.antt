@@ -1,5 +1,5 @@
 -- A group that was closed is one unit, whatever happened inside, so that one undo takes it off.
-use Rattle.rl_session.proofs.Common.{◌≡◌, ◌<◌, ◌+◌, ℕ, inl, inr, zero, suc, true, List, [], ◌∷◌, ◌++◌, length, drop, Some, refl, sym, ap, subst, ◌∙◌, arith, or-false, min, listener_after, listener_after_step, Begin, End, Entry, Record, record_step, replay_entries, IsMatched, begun, end_one, end_times, ended, ended_one, has_change, kept_of, last_of, level, opens, with_closed, Effect, by_steps, puts_begin, puts_end, Became, effect, Does, readied, with_changes, AllStandInGroup, ClosesGroup, Holds, MayStandInGroup, WasRefused, Leads, Row, Run, held, held_of, steps_in, State, with_ring, reset, Append, Command, Reply, Cursors}
+use Rattle.rl_session.proofs.Common.{rules, ◌≡◌, ◌<◌, ◌+◌, ℕ, inl, inr, zero, suc, true, List, [], ◌∷◌, ◌++◌, length, drop, Some, refl, sym, ap, subst, ◌∙◌, arith, or-false, min, listener_after, listener_after_step, Begin, End, Entry, Record, record_step, replay_entries, IsMatched, begun, end_one, end_times, ended, ended_one, has_change, kept_of, last_of, level, opens, with_closed, Effect, by_steps, puts_begin, puts_end, Became, effect, Does, readied, with_changes, AllStandInGroup, ClosesGroup, Holds, MayStandInGroup, WasRefused, Leads, Row, Run, held, held_of, steps_in, State, with_ring, reset, Append, Command, Reply, Cursors}
 use Rattle.rl_line.specs.Plan.{Step}
 use Rattle.rl_line.proofs.Records.GroupLemmas.{has_change-append, Inside, InsideOf, Inside-event, Inside-begun, past_begin}
 use Rattle.rl_line.proofs.Records.LastLemmas.{end_one-begin, end_one-cases, end_one-past, end_times-keeps}
@@ -64,8 +64,7 @@ stays_open below now old asks.EndOne (says.Answer a) i = elim i [ inl refused �
 stays_open below now old (asks.Undo n) (says.Answer a) i = absurd i
 stays_open below now old asks.Redo (says.Answer a) i = absurd i
 stays_open below now old (asks.Truncate len) says.Done i = absurd i
-stays_open below now old asks.Begin (says.Mark n) i = tt
-stays_open below now old (asks.Keep t) says.Done i = tt
+stays_open below now old _ (says.Refused f) i = tt
 stays_open below now old _ _ i = tt
 
 -- the end of one group that leaves the group open closes one that was begun inside
@@ -113,18 +112,15 @@ Inside-Leads front (row ∷ rows) old new all l k =
 -- ---- a group in a run
 Begin-done : (old left : State) (reply : Reply) → Does old asks.Begin reply left → ¬ (WasRefused reply) → left.pair.changes ≡ begun old.pair.changes
 Begin-done old left (says.Mark n) d w = ap (λ (s : State). s.pair.changes) d.1
-Begin-done old left (says.Refused f) d w = absurd (w tt)
-Begin-done old left _ d w = absurd d
+Begin-done old left _ d w = absurd (search rules)
 
 End-done : (old left : State) (reply : Reply) → Does old asks.End reply left → ¬ (WasRefused reply) → left.pair.changes ≡ ended old.pair.changes
 End-done old left (says.Answer a) d w = ap (λ (s : State). s.pair.changes) d.1
-End-done old left (says.Refused f) d w = absurd (w tt)
-End-done old left _ d w = absurd d
+End-done old left _ d w = absurd (search rules)
 
 EndOne-done : (old left : State) (reply : Reply) → Does old asks.EndOne reply left → ¬ (WasRefused reply) → left.pair.changes ≡ ended_one old.pair.changes
 EndOne-done old left (says.Answer a) d w = ap (λ (s : State). s.pair.changes) d.1
-EndOne-done old left (says.Refused f) d w = absurd (w tt)
-EndOne-done old left _ d w = absurd d
+EndOne-done old left _ d w = absurd (search rules)
 
 -- the end of a group closes the groups that were not open before its begin
 closing-row : (row : Row) (command : Command) (below : ℕ) → row.command ≡ command → ClosesGroup below (level row.before.pair.changes.recorded) command → ¬ (WasRefused row.reply)

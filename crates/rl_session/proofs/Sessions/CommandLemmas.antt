@@ -67,26 +67,16 @@ popped-changes line None = tt
 popped-changes line (Some p) = NoneStarts-yank_pop line p.0 p.1
 
 other-changes : (old : State) (command : Command) (reply : Reply) → Changes (other_course old command reply)
-other-changes old (asks.SetPos q) (says.Refused BadPlace) = tt
-other-changes old (asks.Move m) (says.Answer a) = tt
-other-changes old (asks.Copy m) (says.Refused NoMemory) = tt
 other-changes old (asks.Kill m) (says.Answer a) = NoneStarts-kill old.line m
 other-changes old (asks.Kill m) (says.Refused NoMemory) = NoneStarts-kill old.line m
 other-changes old (asks.KillRange i j side) (says.Answer a) = NoneStarts-removal old.line (unless_empty i j) side
 other-changes old (asks.KillRange i j side) (says.Refused NoMemory) = NoneStarts-removal old.line (unless_empty i j) side
-other-changes old (asks.Keep t) (says.Refused NoMemory) = tt
 other-changes old (asks.Yank n) (says.Inserted a) = lent-changes old.line (yank old.pair.ring) n
 other-changes old (asks.Yank n) (says.Refused NoMemory) = lent-changes old.line (yank old.pair.ring) n
 other-changes old asks.YankPop (says.Inserted a) = popped-changes old.line (yank_pop old.pair.ring)
 other-changes old asks.YankPop (says.Refused NoMemory) = popped-changes old.line (yank_pop old.pair.ring)
-other-changes old asks.Begin (says.Refused NoMemory) = tt
-other-changes old asks.End (says.Refused NoMemory) = tt
-other-changes old asks.EndOne (says.Refused NoMemory) = tt
-other-changes old (asks.Undo n) (says.Refused NoMemory) = tt
-other-changes old asks.Redo (says.Refused NoMemory) = tt
-other-changes old (asks.Truncate len) (says.Refused NoMemory) = tt
-other-changes old asks.LinePlace (says.At k columns) = tt
-other-changes old command reply = tt
+other-changes old _ (says.Refused NoMemory) = tt
+other-changes old _ _ = tt
 
 course-changes : (what : Asked) (old : State) (command : Command) (reply : Reply) → AsksChanges what → Changes (course_of what old command reply)
 course-changes (edit takes condition plan telling) old command reply c = edit-changes takes condition plan telling reply c
