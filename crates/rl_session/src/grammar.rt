@@ -36,6 +36,7 @@ pub(crate) enum ScriptLine {
 }
 
 // The kind of word that is named.
+#[tactic(auto, using(crate::proofs::Scripts::MovementLemmas::kinds))]
 fn named_word(named: &str) -> Option<Word>
     ensures { MatchOption result ((w : Word) → NamesWord named.now w → ⊥) (λ w. NamesWord named.now w) }
 {
@@ -48,6 +49,7 @@ fn named_word(named: &str) -> Option<Word>
 }
 
 // The place at a word that is named.
+#[tactic(auto, using(crate::proofs::Scripts::MovementLemmas::kinds))]
 fn named_at(named: &str) -> Option<At>
     ensures { MatchOption result ((a : At) → NamesAt named.now a → ⊥) (λ a. NamesAt named.now a) }
 {
@@ -60,6 +62,7 @@ fn named_at(named: &str) -> Option<At>
 }
 
 // The search for a character whose kind is named.
+#[tactic(auto, using(crate::proofs::Scripts::MovementLemmas::kinds))]
 fn named_search(named: &str, c: char) -> Option<CharSearch>
     ensures { MatchOption result ((cs : CharSearch) → NamesSearch named.now c cs → ⊥) (λ cs. NamesSearch named.now c cs) }
 {
@@ -73,6 +76,7 @@ fn named_search(named: &str, c: char) -> Option<CharSearch>
 }
 
 // The direction of a kill that is named.
+#[tactic(auto, using(crate::proofs::Scripts::MovementLemmas::kinds))]
 fn named_direction(named: &str) -> Option<Direction>
     ensures { MatchOption result ((side : Direction) → NamesDirection named.now side → ⊥) (λ side. NamesDirection named.now side) }
 {
@@ -84,6 +88,7 @@ fn named_direction(named: &str) -> Option<Direction>
 }
 
 // The change of the letter case that is named.
+#[tactic(auto, using(crate::proofs::Scripts::MovementLemmas::kinds))]
 fn named_action(named: &str) -> Option<WordAction>
     ensures { MatchOption result ((action : WordAction) → NamesAction named.now action → ⊥) (λ action. NamesAction named.now action) }
 {
@@ -96,6 +101,7 @@ fn named_action(named: &str) -> Option<WordAction>
 }
 
 // The way to measure columns that is named.
+#[tactic(auto, using(crate::proofs::Scripts::MovementLemmas::kinds))]
 fn named_mode(named: &str) -> Option<GraphemeClusterMode>
     ensures { MatchOption result ((m : GraphemeClusterMode) → NamesMode named.now m → ⊥) (λ m. NamesMode named.now m) }
 {
@@ -136,6 +142,7 @@ fn count_and_search(given: &str) -> Option<(u16, CharSearch)>
 }
 
 // The movement of a word and of what stands after its space.
+#[tactic(auto, using(crate::proofs::Scripts::MovementLemmas::movements))]
 fn movement_with(word: &str, given: &str) -> Option<Movement>
     ensures { MatchOption result (NamesNothing word.now (Some given.now)) (λ movement. Names word.now (Some given.now) movement) }
 {
@@ -161,6 +168,7 @@ fn movement_with(word: &str, given: &str) -> Option<Movement>
 }
 
 // The movement of a word that no space follows.
+#[tactic(auto, using(crate::proofs::Scripts::MovementLemmas::movements))]
 fn lone_movement(word: &str) -> Option<Movement>
     ensures { MatchOption result (NamesNothing word.now None) (λ movement. Names word.now None movement) }
 {
@@ -188,6 +196,7 @@ fn movement(named: &str) -> Option<Movement>
 }
 
 // The insertion of a count and a character.
+#[tactic(auto, using(crate::proofs::Scripts::WordLemmas::commands))]
 fn insertion(given: &str) -> Option<Command>
     ensures { MatchOption result (SaysNoCommand (codes "ins") given.now)
         (λ command. Says (codes "ins") (Some given.now) (Do command)) }
@@ -197,6 +206,7 @@ fn insertion(given: &str) -> Option<Command>
 }
 
 // The deletion between two places.
+#[tactic(auto, using(crate::proofs::Scripts::WordLemmas::deletions))]
 fn range_deletion(given: &str) -> Option<Command>
     ensures { MatchOption result (SaysNoDeletion (codes "range") given.now)
         (λ command. Says (codes "range") (Some given.now) (Do command)) }
@@ -223,6 +233,7 @@ fn amount_and_movement(given: &str) -> Option<(u8, Movement)>
 }
 
 // The deletion, or the kill of a range, of a word and of what stands after its space.
+#[tactic(auto, using(crate::proofs::Scripts::WordLemmas::deletions))]
 fn deletion(word: &str, given: &str) -> Option<Command>
     ensures { MatchOption result (SaysNoDeletion word.now given.now)
         (λ command. Says word.now (Some given.now) (Do command)) }
@@ -252,6 +263,7 @@ fn deletion(word: &str, given: &str) -> Option<Command>
 }
 
 // The command of a word and of what stands after its space, for commands without a text.
+#[tactic(auto, using(crate::proofs::Scripts::WordLemmas::commands))]
 fn command(word: &str, given: &str) -> Option<Command>
     ensures { MatchOption result (SaysNoCommand word.now given.now)
         (λ command. Says word.now (Some given.now) (Do command)) }
@@ -296,6 +308,7 @@ fn replacement(alloc: Global, given: &str) -> Result<Option<Command>, AllocError
 }
 
 // The command of a word and a text.
+#[tactic(auto, using(crate::proofs::Scripts::WordLemmas::texts))]
 fn text_command(alloc: Global, word: &str, given: &str) -> Result<Option<Command>, AllocError>
     ensures ok { IfOk result (λ found. MatchOption found (SaysNoTextCommand word.now given.now)
         (λ command. Says word.now (Some given.now) (Do command))) }
@@ -324,6 +337,7 @@ fn text_command(alloc: Global, word: &str, given: &str) -> Result<Option<Command
 }
 
 // The setting of a word and of what stands after its space.
+#[tactic(auto, using(crate::proofs::Scripts::WordLemmas::settings))]
 fn setting(word: &str, given: &str) -> Option<Setting>
     ensures { MatchOption result (SaysNoSetting word.now given.now)
         (λ setting. Says word.now (Some given.now) (Set setting)) }
@@ -348,6 +362,7 @@ fn without_text(word: &str, given: &str) -> Option<ScriptLine>
 }
 
 // What a word says with what stands after its space.
+#[tactic(auto, using(crate::proofs::Scripts::WordLemmas::texts))]
 fn with_given(alloc: Global, word: &str, given: &str) -> Result<Option<ScriptLine>, AllocError>
     ensures ok { IfOk result (λ found. MatchOption found (SaysNothing word.now (Some given.now))
         (λ said. Says word.now (Some given.now) (meaning_of said))) }
@@ -366,6 +381,7 @@ fn with_given(alloc: Global, word: &str, given: &str) -> Result<Option<ScriptLin
 }
 
 // The command of a word that no space follows.
+#[tactic(auto, using(crate::proofs::Scripts::WordLemmas::lone_words))]
 fn lone_command(alloc: Global, word: &str) -> Option<Command>
     ensures { MatchOption result (SaysNoLoneCommand word.now) (λ command. Says word.now None (Do command)) }
 {
@@ -387,6 +403,7 @@ fn lone_command(alloc: Global, word: &str) -> Option<Command>
 }
 
 // What a word says if no space follows it.
+#[tactic(auto, using(crate::proofs::Scripts::WordLemmas::lone_words))]
 fn alone(alloc: Global, word: &str) -> Option<ScriptLine>
     ensures { MatchOption result (SaysNothing word.now None)
         (λ said. Says word.now None (meaning_of said)) }

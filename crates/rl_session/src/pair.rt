@@ -32,6 +32,7 @@ impl DeleteListener for Pair {
         self.watch.delete(idx, string, dir)
     }
 
+    #[tactic(auto, using(rl_line::proofs::Records::JoinLemmas::alone))]
     fn stop_killing(&mut self) {
         self.ring.stop_killing();
         self.watch.stop_killing();

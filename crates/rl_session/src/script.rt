@@ -82,10 +82,7 @@ impl Interpreter {
         ensures ok { OnOk result (out.new.items ≡ printed reply.now self.now.session) }
         ensures err { IfErr result (λ f. f ≡ ScriptFault.NoMemory) }
     {
-        match add_printed(out, reply, &self.session) {
-            Ok(()) => Ok(()),
-            Err(_) => Err(ScriptFault::NoMemory),
-        }
+        add_printed(out, reply, &self.session).map_err(|_| ScriptFault::NoMemory)
     }
 
     // Begins a new text with the present settings. If that is refused, the old session stays. The text is dropped
@@ -306,11 +303,13 @@ fn run_blocks<R: Read, W: Write>(
 }
 
 /// What is printed for a text, also for one that a reply hands out, is read as that text again.
+#[tactic(auto, using(crate::proofs::Scripts::PrintLemmas::escaped_read))]
 pub fn escapes_are_read()
     ensures { (spaces : Bool) (t : List ℕ) → IsUtf8 t → Spells (escaped spaces t) t }
 {}
 
 /// A line has at most one meaning. Texts that commands hold are compared by their bytes, not by their room in memory.
+#[tactic(auto, using(crate::proofs::Scripts::WordLemmas::means_one))]
 pub fn one_meaning()
     ensures { (line : List ℕ) (m n : Meaning) → Means line m → Means line n → Same m n }
 {}

@@ -443,6 +443,7 @@ pub fn runs_compose()
 
 /// After every command, a line can go back over its record and ahead (`follows`). Where it can, what is recorded can be
 /// taken back from the text, and what was undone can be redone on it.
+#[tactic(auto, using(crate::proofs::Sessions::SessionLemmas::follows_unwind, crate::proofs::Sessions::SessionLemmas::follows_replay))]
 pub fn what_was_undone_can_be_made_again()
     ensures recorded { (line : Line) (changes : Record) → Follows line changes → IsSome (unwind changes.recorded line.text) }
     ensures pending { (line : Line) (changes : Record) → Follows line changes → IsSome (replay_entries changes.pending line.text) }

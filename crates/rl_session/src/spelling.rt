@@ -33,10 +33,7 @@ pub(crate) fn number(digits: &str, greatest: usize) -> Option<usize>
 pub(crate) fn count(digits: &str) -> Option<u16>
     ensures { result ≡ number_of 65535 digits.now }
 {
-    match number(digits, 65535) {
-        Some(n) => Some(n as u16),
-        None => None,
-    }
+    Some(number(digits, 65535)? as u16)
 }
 
 // The value of a hexadecimal digit.

@@ -1,5 +1,5 @@
 -- Rows of a session: what they make of its history, and what undos and redos among them do.
-use Rattle.rl_session.proofs.Common.{◌≡◌, ℕ, Bool, suc, List, [], ◌∷◌, ◌++◌, length, min, arith, take, refl, sym, ap, subst, ◌∙◌, append-nil, append_assoc, IsUtf8, Line, listener_after, Record, record_step, unwind, Undone, Redone, Redos, begun, ended, ended_one, level, last_of, last_units, opens, redo_of, truncated, undone, Effect, by_steps, puts_begin, puts_ends, puts_end, shortens, takes_back, puts_again, Became, effect, Does, readied, with_changes, AllRedone, History, Holds, WasHeld, WasRefused, Row, Leads, Run, held, held_by, held_of, steps_in, texts_of_steps, State, with_ring, reset, Append, Command, Undo, Redo, Reply}
+use Rattle.rl_session.proofs.Common.{◌≡◌, rules, ℕ, Bool, suc, List, [], ◌∷◌, ◌++◌, length, min, arith, take, refl, sym, ap, subst, ◌∙◌, append-nil, append_assoc, IsUtf8, Line, listener_after, Record, record_step, unwind, Undone, Redone, Redos, begun, ended, ended_one, level, last_of, last_units, opens, redo_of, truncated, undone, Effect, by_steps, puts_begin, puts_ends, puts_end, shortens, takes_back, puts_again, Became, effect, Does, readied, with_changes, AllRedone, History, Holds, WasHeld, WasRefused, Row, Leads, Run, held, held_by, held_of, steps_in, texts_of_steps, State, with_ring, reset, Append, Command, Undo, Redo, Reply}
 use Rattle.rl_line.specs.Plan.{Step as PlanStep}
 use Rattle.rl_line.proofs.Records.MarkLemmas.{agree-same}
 use Rattle.rl_line.proofs.Records.RecordLemmas.{replay-IsUtf8}
@@ -92,27 +92,22 @@ row_at start held old new commands replies earlier later row h run e =
     let before = Holds-Leads start earlier held old p.0 h p.1 in
     record { holds = subst (λ s. Holds start (held ++ held_of earlier) s) (sym p.2.0) before; goes_on = p.2.1 }
 
--- what a row did, where its command is known
-pub does_as : (row : Row) (command : Command) → row.command ≡ command → (left : State) × Does (readied command row.before) command row.reply left × (row.after.line ≡ left.line) × (row.after.pair.changes ≡ left.pair.changes)
-does_as row command e =
+-- what a row did that was not refused, where its command is known
+pub done_as : (row : Row) (command : Command) (Did : Record → Record → Line → Line → Type 0)
+    → ((old left : State) (reply : Reply) → Does old command reply left → ¬ (WasRefused reply) → Did old.pair.changes left.pair.changes old.line left.line)
+    → row.command ≡ command → ¬ (WasRefused row.reply) → Did row.before.pair.changes row.after.pair.changes row.before.line row.after.line
+done_as row command Did done e w =
     let s = subst (λ c. Step row.before c row.reply row.after) e row.step in
-    (s.left, s.does, ap (λ (x : State). x.line) s.settles, ap (λ (x : State). x.pair.changes) s.settles)
+    subst (λ (x : State). Did row.before.pair.changes x.pair.changes row.before.line x.line) (sym s.settles) (done (readied command row.before) s.left row.reply s.does w)
 
 -- an undo that was not refused
 Undo-done : (n : ℕ) (old left : State) (reply : Reply) → Does old (Undo n) reply left → ¬ (WasRefused reply) → (a : Bool) × Undone n old.pair.changes left.pair.changes old.line left.line a
 Undo-done n old left (says.Answer a) d w = (a, d.0)
-Undo-done n old left (says.Refused f) d w = absurd (w tt)
-Undo-done n old left _ d w = absurd d
+Undo-done n old left _ d w = absurd (search rules)
 
 pub undo-row : (row : Row) (n : ℕ) → row.command ≡ Undo n → ¬ (WasRefused row.reply)
     → (a : Bool) × Undone n row.before.pair.changes row.after.pair.changes row.before.line row.after.line a
-undo-row row n e w =
-    let d = does_as row (Undo n) e in
-    let u = Undo-done n (readied (Undo n) row.before) d.0 row.reply d.1 w in (
-      u.0,
-      subst (λ l. Undone n row.before.pair.changes row.after.pair.changes row.before.line l u.0) (sym d.2)
-          (subst (λ (k : Record). Undone n row.before.pair.changes k row.before.line d.0.line u.0) (sym d.3) u.1),
-    )
+undo-row row n = done_as row (Undo n) (λ r k l m. (a : Bool) × Undone n r k l m a) (Undo-done n)
 
 pub undo-in_run : (start : List ℕ) (held : List (List ℕ)) (old new : State) (commands : List Command) (replies : List Reply)
     (earlier later : List Row) (row : Row) (n : ℕ) → Holds start held old → (run : Run old commands replies new)
@@ -134,17 +129,10 @@ undo-drops row n is_undo done =
 -- a redo that was not refused
 Redo-done : (old left : State) (reply : Reply) → Does old Redo reply left → ¬ (WasRefused reply) → (a : Bool) × Redone old.pair.changes left.pair.changes old.line left.line a
 Redo-done old left (says.Answer a) d w = (a, d.0)
-Redo-done old left (says.Refused f) d w = absurd (w tt)
-Redo-done old left _ d w = absurd d
+Redo-done old left _ d w = absurd (search rules)
 
 pub redo-row : (row : Row) → row.command ≡ Redo → ¬ (WasRefused row.reply) → (a : Bool) × Redone row.before.pair.changes row.after.pair.changes row.before.line row.after.line a
-redo-row row e w =
-    let d = does_as row Redo e in
-    let u = Redo-done (readied Redo row.before) d.0 row.reply d.1 w in (
-      u.0,
-      subst (λ l. Redone row.before.pair.changes row.after.pair.changes row.before.line l u.0) (sym d.2)
-          (subst (λ (k : Record). Redone row.before.pair.changes k row.before.line d.0.line u.0) (sym d.3) u.1),
-    )
+redo-row row = done_as row Redo (λ r k l m. (a : Bool) × Redone r k l m a) Redo-done
 
 redo-rows : (rows : List Row) (old new : State) → AllRedone rows → Leads old rows new → Redos (length rows) old.pair.changes new.pair.changes old.line new.line
 redo-rows [] old new all l = (ap (λ (s : State). s.pair.changes) l, ap (λ (s : State). s.line) l)

@@ -1,20 +1,22 @@
 -- Directed kills of a session take one part of its text, which the newest slot holds, so that a yank gives it back.
-use Rattle.rl_session.proofs.Common.{◌≡◌, ℕ, ◌+◌, ◌*◌, ◌<◌, ◌≤◌, ◌⊎◌, inl, inr, zero, suc, Bool, true, false, not, cond, List, [], ◌∷◌, ◌++◌, map, length, Option, Some, None, refl, sym, ap, subst, ◌∙◌, arith, rules, length-append, append-nil, and-false, cond_both, eqb-true, eqb-false, le-ltb, map-append, nil_from_length, length-between, same_Some, max, ◌==◌, slice_get, slice_set, slice_range, IfSome, repeat, IsCharBoundary, IsUtf8, Range, Event, InsertStr, Start, Stop, apply, Ring, IsRing, next_index, put_at, join_at, in_new_slot, killed_as, reset, yanked, yank_size, turned, popped_ring, side_mode, ring_step, Action, Append, Direction, Forward, Backward, Refusal, Movement, BackwardChar, ForwardChar, BeginningOfLine, EndOfLine, FirstNonBlank, BackwardWord, ForwardWord, ViCharSearch, BeginningOfBuffer, EndOfBuffer, Line, between, stepped, Plan, single, listener_after_step, Taken, Done, Halted, or_no_memory, too_long, yank_plan, Between, Told, removal, side_of, is_by_characters, text_in, unless_empty, pair_step, pair_refused, State, Stands, with_ring, Course, never, when, stays, goes, edits, lends, pops, tells, Came, Effect, by_steps, puts_ends, Became, effect, Edited, is_vain_yank, lent_plan, popped, readied, IsDirected, AllDirected, IsNoKill, AnyTook, NoneRefused, GivenBack, IsDirectedKill, AllKill, Row, Leads, Run, before_last, commands_of, replies_of, Pair, Command, Yank, Kill, KillRange, Reply}
+use Rattle.rl_session.proofs.Common.{insert_slice, take, drop, take-append-drop, IsUtf8-nil, ◌≡◌, ℕ, ◌+◌, ◌*◌, ◌<◌, ◌≤◌, ◌⊎◌, inl, inr, zero, suc, Bool, true, false, not, cond, List, [], ◌∷◌, ◌++◌, map, length, Option, Some, None, refl, sym, ap, subst, ◌∙◌, arith, rules, length-append, append-nil, and-false, cond_both, eqb-true, eqb-false, le-ltb, map-append, length-between, same_Some, max, ◌==◌, slice_get, slice_set, slice_range, IfSome, repeat, IsCharBoundary, IsUtf8, Range, InsertStr, Stop, apply, Ring, IsRing, next_index, put_at, join_at, in_new_slot, killed_as, reset, yanked, side_mode, ring_step, Action, Direction, Forward, Backward, Movement, BeginningOfLine, EndOfLine, FirstNonBlank, BackwardWord, ForwardWord, ViCharSearch, BeginningOfBuffer, EndOfBuffer, Line, between, stepped, Plan, single, Done, too_long, yank_plan, Between, Told, removal, side_of, is_by_characters, text_in, unless_empty, pair_step, State, Stands, with_ring, Edited, is_vain_yank, lent_plan, IsDirected, AllDirected, IsNoKill, AnyTook, NoneRefused, GivenBack, IsDirectedKill, AllKill, Row, Leads, Run, before_last, commands_of, replies_of, Pair, Command, Yank, Kill, KillRange, Reply}
+use Rattle.std.proofs.lemmas.List.{get_or-set_same}
+use Rattle.std.proofs.lemmas.Option.{slice_get-get_or}
+use Rattle.std.proofs.Math.ListN.{length-set}
 use Rattle.rl_base.specs.Event.{Delete}
 use Rattle.rl_base.specs.KillRing.{joined, killed, yank, lent}
 use Rattle.rl_base.specs.declared.kill_ring.Action.TheVariants as did
 use Rattle.rl_base.specs.declared.kill_ring.Mode.{Mode}
-use Rattle.rl_base.proofs.Ring.KillGroupLemmas.{lent-size, ring_step-size, killed_as-size}
 use Rattle.rl_base.proofs.Ring.RingLemmas.{next_index-is}
-use Rattle.rl_base.proofs.Texts.SwapLemmas.{Swaps, Swaps-back, Swaps-Delete, Swaps-after, Swaps-before, apply-InsertStr-Swaps}
-use Rattle.rl_line.specs.Plan.{Step as PlanStep, nothing, listener_after as heard_steps}
+use Rattle.rl_base.proofs.Texts.EventLemmas.{apply-InsertStr}
+use Rattle.rl_base.proofs.Texts.SwapLemmas.{Swaps, Swaps-back, Swaps-Delete, Swaps-InsertStr, Swaps-after, Swaps-before, Swaps-nothing, apply-InsertStr-Swaps}
+use Rattle.rl_line.specs.Plan.{nothing}
 use Rattle.rl_line.specs.Ranges.{killed as killed_range}
 use Rattle.rl_line.proofs.Plans.EditLemmas.{yank_plan-nothing, yank_plan-some}
 use Rattle.rl_line.proofs.Plans.SideLemmas.{LiesOn, BeginningOfLine-side, EndOfLine-side, FirstNonBlank-side, BackwardWord-side, ForwardWord-side, ViCharSearch-side, BeginningOfBuffer-side, EndOfBuffer-side}
-use Rattle.rl_session.specs.Commands.{stops, Step, lent as lent_state, keeps}
+use Rattle.rl_session.specs.Commands.{Step, lent as lent_state}
 use Rattle.rl_session.specs.declared.session.Reply.TheVariants as says
-use Rattle.rl_session.proofs.Sessions.PairLemmas.{Halted-own}
-use Rattle.rl_session.proofs.Runs.RowLemmas.{Leads-keeps}
+use Rattle.rl_session.proofs.Runs.RowLemmas.{Leads-keeps, Step-size}
 use Rattle.rl_line.proofs.Plans.PlanLemmas.{first_step}
 
 -- ---- the newest slot
@@ -23,9 +25,7 @@ get-after [] text = refl
 get-after (s ∷ ss) text = get-after ss text
 
 get-set : (slots : List (List ℕ)) (i : ℕ) (text : List ℕ) → i < length slots → slice_get (slice_set slots i text) i ≡ Some text
-get-set [] i text h = absurd (omega arith)
-get-set (s ∷ ss) zero text h = refl
-get-set (s ∷ ss) (suc i) text h = get-set ss i text (omega arith)
+get-set slots i text h = slice_get-get_or (slice_set slots i text) i [] (rw length-set h) ∙ ap Some (get_or-set_same slots i text [] h)
 
 get-put : (slots : List (List ℕ)) (i : ℕ) (text : List ℕ) → i ≤ length slots → slice_get (put_at i text slots) i ≡ Some text
 get-put slots i text h =
@@ -79,63 +79,13 @@ newest-more old taken side r some n =
     flag-newest _ false (joined (side_mode side) old taken)
     (more_as r.size r.last old taken (side_mode side) (record r { killing = true }) some n.last_is (flag-newest r true old n))
 
--- ---- the size of the ring
-steps-size : (cursor : ℕ) (steps : List PlanStep) (p : Pair) → (heard_steps pair_step cursor steps p).ring.size ≡ p.ring.size
-steps-size cursor [] p = refl
-steps-size cursor (s ∷ ss) p = steps-size s.1 ss (listener_after_step pair_step cursor s p) ∙ ring_step-size p.ring s.0
-
-popped-size : (o : Option ℕ) (r : Ring) → (popped_ring o r).size ≡ r.size
-popped-size None r = refl
-popped-size (Some n) r = lent-size (yank (turned r)) (turned r)
-
-module _ {A : Type 0} (plan : Plan A) (old new : Line) (p q : Pair) where
-  Taken-size : (steps : List PlanStep) (mid : Line) → Taken pair_step steps old mid p q → q.ring.size ≡ p.ring.size
-  Taken-size steps mid t = ap (λ (k : Pair). k.ring.size) t.listener ∙ steps-size old.cursor steps p
-
-  Done-size : (a : A) → Done pair_step plan old new p q a → q.ring.size ≡ p.ring.size
-  Done-size a d = Taken-size plan.steps d.last d.taken
-
-refused-size : (p q : Pair) (e : Event) (w : Refusal) → pair_refused p e w q → q.ring.size ≡ p.ring.size
-refused-size p q e w h = elim (h.3) [ inl same ↦ ap (λ (r : Ring). r.size) same.0 | inr step ↦ ap (λ (r : Ring). r.size) step.0 ∙ ring_step-size p.ring e ]
-
-cause-size : (p q : Pair) (e : Event) (w : Refusal) → or_no_memory pair_refused p e w q → q.ring.size ≡ p.ring.size
-cause-size p q e w h = elim h [ inl c ↦ ap (λ (k : Pair). k.ring.size) c.1 | inr c ↦ refused-size p q e w c ]
-
-Halted-size : {A : Type 0} (plan : Plan A) (old new : Line) (p q : Pair) (w : Refusal) → Halted pair_step (or_no_memory pair_refused) plan old new p q w → q.ring.size ≡ p.ring.size
-Halted-size plan old new p q w h = cause-size h.middle q h.next.0 w h.cause ∙ Taken-size plan old new p h.middle h.first new h.taken
-
-Came-size : (course : Course) (old new : State) → Came course old new → new.pair.ring.size ≡ old.pair.ring.size
-Came-size never old new d = absurd d
-Came-size (when condition course) old new d = Came-size course old new d.1
-Came-size stays old new d = ap (λ (s : State). s.pair.ring.size) d
-Came-size (goes place a) old new d = ap (λ (s : State). s.pair.ring.size) d.1
-Came-size (edits plan a) old new d = Done-size plan old.line new.line old.pair new.pair a d.done
-Came-size (stops unbegun takes plan) old new (inl e) = ap (λ (s : State). s.pair.ring.size) e.1
-Came-size (stops unbegun takes plan) old new (inr c) = Halted-size plan old.line new.line old.pair new.pair _ (Halted-own takes plan old.line new.line old.pair new.pair _ c.halted)
-Came-size (lends course) old new d = Came-size course (lent_state old) new d ∙ lent-size (yank old.pair.ring) old.pair.ring
-Came-size (pops course) old new d = Came-size course (popped old) new d ∙ popped-size (yank_size old.pair.ring) old.pair.ring
-Came-size (tells true course) old new d = Came-size course old new d
-Came-size (tells false course) old new d =
-    ap (λ (k : Pair). k.ring.size) d.ended ∙ Came-size course (record old { pair = pair_step old.pair Start }) (record new { pair = d.last }) d.inside
-
-Became-size : (effect : Effect) (old new : State) → Became effect old new → new.pair.ring.size ≡ old.pair.ring.size
-Became-size (by_steps course) old new d = Came-size course old new d
-Became-size (puts_ends a) old new d = ap (λ (s : State). s.pair.ring.size) d.1
-Became-size (keeps text) old new d = ap (λ (s : State). s.pair.ring.size) d ∙ killed_as-size old.pair.ring.size old.pair.ring.last text Append old.pair.ring
-Became-size _ old new d = ap (λ (s : State). s.pair.ring.size) d.1
-
-Step-size : (old : State) (command : Command) (reply : Reply) (new : State) → Step old command reply new → new.pair.ring.size ≡ old.pair.ring.size
-Step-size old command reply new s =
-    ap (λ (n : State). n.pair.ring.size) s.settles ∙ cond_both _ _ _ (λ (r : Ring). r.size ≡ s.left.pair.ring.size) (λ e. refl) (λ e. refl)
-    ∙ Became-size (effect (readied command old) command reply) (readied command old) s.left s.does ∙ cond_both _ _ _ (λ (r : Ring). r.size ≡ old.pair.ring.size) (λ e. refl) (λ e. refl)
-
 -- a state of a session whose ring has room
 record Roomy (s : State) : Type 0 where
   stands : Stands s
   some : 0 < s.pair.ring.size
 
 Roomy-Step : (old : State) (command : Command) (reply : Reply) (new : State) → 0 < old.pair.ring.size → Step old command reply new → Roomy new
-Roomy-Step old command reply new some s = record { stands = s.stands; some = omega (arith, Step-size old command reply new s) }
+Roomy-Step old command reply new some s = record { stands = s.stands; some = omega (arith, Step-size old new command reply s) }
 
 Roomy-Leads : (rows : List Row) (old new : State) → Leads old rows new → Roomy old → Roomy new
 Roomy-Leads rows old new l h = Leads-keeps Roomy (λ row r. Roomy-Step row.before row.command row.reply row.after r.some row.step) rows old new l h
@@ -232,30 +182,13 @@ Kill-outcome old new (KillRange i j side) a directed h s =
     (removed old s.left (unless_empty i j) side a h.cursor.0 (range-side old.line i j side s.does.0.0 directed) s.does.1)
 Kill-outcome old new _ a directed h s = absurd directed
 
--- ---- the rows of a run: before the first kill that takes a text nothing is missing of the start
-record Ready (start : List ℕ) (now : State) : Type 0 where
-  text_is : now.line.text ≡ start
-  within : length start ≤ now.line.limit
-  roomy : Roomy now
-  no_kill : IsNoKill now.pair.ring.last
-
--- then the newest slot is what is missing at the cursor
-record Missing (start : List ℕ) (now : State) : Type 0 where
+-- ---- the rows of a run: the newest slot is what is missing of the start at the cursor, or nothing is, and a text will be taken
+record Missing (start : List ℕ) (now : State) (replies : List Reply) : Type 0 where
   slot : List ℕ
-  newest : Newest now.pair.ring slot
+  held : Newest now.pair.ring slot ⊎ ((slot ≡ []) × IsNoKill now.pair.ring.last × AnyTook replies)
   swaps : Swaps start now.line.text now.line.cursor slot []
   within : length start ≤ now.line.limit
   roomy : Roomy now
-
-Ready-took : (start : List ℕ) (old new : State) → Roomy new → Ready start old → Took old new → Missing start new
-Ready-took start old new roomy r t = record {
-  slot = t.taken;
-  newest = subst (λ k. Newest k t.taken) (sym t.ring_is) (newest-first t.taken t.side old.pair.ring r.roomy.some r.roomy.stands.ring r.no_kill);
-  swaps = subst (λ k. Swaps k new.line.text new.line.cursor t.taken []) r.text_is
-      (Swaps-Delete old.line.text new.line.text new.line.cursor t.taken t.side r.roomy.stands.utf8 t.text_is);
-  within = omega (arith, r.within, t.limit_is);
-  roomy = roomy;
-}
 
 took-joins : (side : Direction) (start old new slot taken : List ℕ) (i j : ℕ) → Swaps start old i slot [] → Swaps old new j taken []
     → Touches side (length taken) i j → Swaps start new j (joined (side_mode side) slot taken) []
@@ -263,69 +196,48 @@ took-joins Forward start old new slot taken i j p q t =
     subst (λ k. Swaps start new k (slot ++ taken) []) (sym t) (Swaps-after start old new i j slot [] taken [] p q (omega arith))
 took-joins Backward start old new slot taken i j p q t = Swaps-before start old new i j slot [] taken p q t
 
-Missing-took : (start : List ℕ) (old new : State) → Roomy new → Missing start old → Took old new → Missing start new
-Missing-took start old new roomy m t = record {
+joined-first : (side : Direction) (taken : List ℕ) → joined (side_mode side) [] taken ≡ taken
+joined-first Forward taken = refl
+joined-first Backward taken = append-nil taken
+
+Missing-took : (start : List ℕ) (old new : State) (more : List Reply) → Roomy new → Took old new → Missing start old (says.Answer true ∷ more) → Missing start new more
+Missing-took start old new more roomy t m = record {
   slot = joined (side_mode t.side) m.slot t.taken;
-  newest = subst (λ k. Newest k (joined (side_mode t.side) m.slot t.taken)) (sym t.ring_is)
-      (newest-more m.slot t.taken t.side old.pair.ring m.roomy.some m.newest);
+  held = inl (subst (λ k. Newest k (joined (side_mode t.side) m.slot t.taken)) (sym t.ring_is) (newest m.held));
   swaps = took-joins t.side start old.line.text new.line.text m.slot t.taken old.line.cursor new.line.cursor m.swaps
       (Swaps-Delete old.line.text new.line.text new.line.cursor t.taken t.side m.roomy.stands.utf8 t.text_is) t.touches;
   within = omega (arith, m.within, t.limit_is);
   roomy = roomy;
 }
+  where
+    newest : Newest old.pair.ring m.slot ⊎ ((m.slot ≡ []) × IsNoKill old.pair.ring.last × Unit {0}) → Newest (after_kill t.taken t.side old.pair.ring) (joined (side_mode t.side) m.slot t.taken)
+    newest (inl n) = newest-more m.slot t.taken t.side old.pair.ring m.roomy.some n
+    newest (inr e) =
+        subst (Newest (after_kill t.taken t.side old.pair.ring)) (sym (ap (λ s. joined (side_mode t.side) s t.taken) e.0 ∙ joined-first t.side t.taken))
+        (newest-first t.taken t.side old.pair.ring m.roomy.some m.roomy.stands.ring e.1)
 
-Ready-nothing : (start : List ℕ) (old new : State) → Roomy new → Ready start old → TookNothing old new → Ready start new
-Ready-nothing start old new roomy r t = record {
-  text_is = ap (λ (l : Line). l.text) t.line_is ∙ r.text_is;
-  within = subst (λ (l : Line). length start ≤ l.limit) (sym t.line_is) r.within;
-  roomy = roomy;
-  no_kill = subst (λ (k : Ring). IsNoKill k.last) (sym t.ring_is) r.no_kill;
-}
-
-Missing-nothing : (start : List ℕ) (old new : State) → Roomy new → Missing start old → TookNothing old new → Missing start new
-Missing-nothing start old new roomy m t = record {
+Missing-nothing : (start : List ℕ) (old new : State) (more : List Reply) → Roomy new → TookNothing old new → Missing start old (says.Answer false ∷ more) → Missing start new more
+Missing-nothing start old new more roomy t m = record {
   slot = m.slot;
-  newest = subst (λ k. Newest k m.slot) (sym t.ring_is) (flag-newest old.pair.ring false m.slot m.newest);
+  held = subst (λ (k : Ring). Newest k m.slot ⊎ ((m.slot ≡ []) × IsNoKill k.last × AnyTook more)) (sym t.ring_is)
+      (elim m.held [ inl n ↦ inl (flag-newest old.pair.ring false m.slot n) | inr e ↦ inr e ]);
   swaps = subst (λ (l : Line). Swaps start l.text l.cursor m.slot []) (sym t.line_is) m.swaps;
   within = subst (λ (l : Line). length start ≤ l.limit) (sym t.line_is) m.within;
   roomy = roomy;
 }
 
--- a text is missing, or one will be taken
-abbrev Going : List ℕ → State → List Reply → Type 0
-Going start now replies = Missing start now ⊎ (Ready start now × AnyTook replies)
+Missing-directed : (start : List ℕ) (old new : State) (command : Command) (reply : Reply) (more : List Reply) → IsDirectedKill old.line command → Step old command reply new
+    → NoneRefused (reply ∷ more) → Missing start old (reply ∷ more) → Missing start new more × NoneRefused more
+Missing-directed start old new command (says.Answer true) more directed s none m =
+    (Missing-took start old new more (Roomy-Step old command _ new m.roomy.some s) (Kill-outcome old new command true directed m.roomy.stands s) m, none)
+Missing-directed start old new command (says.Answer false) more directed s none m =
+    (Missing-nothing start old new more (Roomy-Step old command _ new m.roomy.some s) (Kill-outcome old new command false directed m.roomy.stands s) m, none)
+Missing-directed start old new command (says.Refused f) more directed s none m = absurd none
+Missing-directed start old new (Kill _) _ more directed s none m = absurd s.does
+Missing-directed start old new (KillRange _ _ _) _ more directed s none m = absurd s.does
+Missing-directed start old new _ _ more directed s none m = absurd directed
 
-Going-took : (start : List ℕ) (old new : State) (more : List Reply) → Roomy new → Took old new → Going start old (says.Answer true ∷ more) → Going start new more
-Going-took start old new more roomy t g = elim g [ inl m ↦ inl (Missing-took start old new roomy m t) | inr r ↦ inl (Ready-took start old new roomy r.0 t) ]
-
-Going-nothing : (start : List ℕ) (old new : State) (more : List Reply) → Roomy new → TookNothing old new → Going start old (says.Answer false ∷ more) → Going start new more
-Going-nothing start old new more roomy t g =
-    elim g [ inl m ↦ inl (Missing-nothing start old new roomy m t) | inr r ↦ inr (Ready-nothing start old new roomy r.0 t, r.1) ]
-
-Roomy-Going : (start : List ℕ) (now : State) (replies : List Reply) → Going start now replies → Roomy now
-Roomy-Going start now replies g = elim g [ inl m ↦ m.roomy | inr r ↦ r.0.roomy ]
-
-Going-directed : (start : List ℕ) (old new : State) (command : Command) (reply : Reply) (more : List Reply) → IsDirectedKill old.line command → Step old command reply new
-    → NoneRefused (reply ∷ more) → Going start old (reply ∷ more) → Going start new more × NoneRefused more
-Going-directed start old new command (says.Answer true) more directed s none g =
-    let roomy = Roomy-Going start old (says.Answer true ∷ more) g in
-    (Going-took start old new more (Roomy-Step old command _ new roomy.some s) (Kill-outcome old new command true directed roomy.stands s) g, none)
-Going-directed start old new command (says.Answer false) more directed s none g =
-    let roomy = Roomy-Going start old (says.Answer false ∷ more) g in
-    (Going-nothing start old new more (Roomy-Step old command _ new roomy.some s) (Kill-outcome old new command false directed roomy.stands s) g, none)
-Going-directed start old new command (says.Refused f) more directed s none g = absurd none
-Going-directed start old new (Kill m) _ more directed s none g = absurd s.does
-Going-directed start old new (KillRange i j side) _ more directed s none g = absurd s.does
-Going-directed start old new _ _ more directed s none g = absurd directed
-
--- ---- the yank: with its slot the text is as long as at the start, so it is not too long
-Missing-length : (start : List ℕ) (now : State) (m : Missing start now) → length now.line.text + length m.slot ≡ length start
-Missing-length start now m =
-    let old : length start ≡ length m.swaps.front + (length m.slot + length m.swaps.rest) =
-    ap length m.swaps.text_is ∙ length-append m.swaps.front (m.slot ++ m.swaps.rest) ∙ ap (λ i. length m.swaps.front + i) (length-append m.slot m.swaps.rest) in
-    let new : length now.line.text ≡ length m.swaps.front + length m.swaps.rest = ap length m.swaps.after_is ∙ length-append m.swaps.front m.swaps.rest in
-    omega arith
-
+-- ---- the yank
 -- what a yank of a slot that has room made of the line and the ring
 record Yanked (slot : List ℕ) (old new : Line) (before now : Ring) : Type 0 where
   text_is : (length slot ≡ 0) × (new.text ≡ old.text) ⊎ (apply (InsertStr old.cursor slot) old.text ≡ Some new.text)
@@ -373,70 +285,92 @@ yank-lent : (o : Option (List ℕ)) (r : Ring) → yank (lent o r) ≡ yank r
 yank-lent None r = refl
 yank-lent (Some s) r = refl
 
-back-text : (start : List ℕ) (now : State) (m : Missing start now) (text : List ℕ)
-    → (length m.slot ≡ 0) × (text ≡ now.line.text) ⊎ (apply (InsertStr now.line.cursor m.slot) now.line.text ≡ Some text) → text ≡ start
-back-text start now m text (inl e) =
-    e.1 ∙ m.swaps.after_is ∙ ap (λ s. m.swaps.front ++ (s ++ m.swaps.rest)) (sym (nil_from_length m.slot e.0)) ∙ sym m.swaps.text_is
-back-text start now m text (inr e) =
-    same_Some _ _ (sym e ∙ apply-InsertStr-Swaps now.line.text start now.line.cursor m.slot (Swaps-back start now.line.text now.line.cursor m.slot [] m.swaps))
+back-text : (start : List ℕ) (line : Line) (slot text : List ℕ) → Swaps start line.text line.cursor slot []
+    → (length slot ≡ 0) × (text ≡ line.text) ⊎ (apply (InsertStr line.cursor slot) line.text ≡ Some text) → text ≡ start
+back-text start line slot text s (inl e) = e.1 ∙ Swaps-nothing start line.text line.cursor slot [] e.0 refl s
+back-text start line slot text s (inr e) =
+    same_Some _ _ (sym e ∙ apply-InsertStr-Swaps line.text start line.cursor slot (Swaps-back start line.text line.cursor slot [] s))
 
-GivenBack-yanked : (old now left new : State) (m : Missing old.line.text now) (reset_after : Bool) → new ≡ with_ring (cond reset_after (reset left.pair.ring) left.pair.ring) left
-    → Yanked m.slot now.line left.line (yanked now.pair.ring) left.pair.ring → GivenBack old now new
-GivenBack-yanked old now left new m reset_after settles y =
+GivenBack-yanked : (old now left new : State) (slot : List ℕ) (reset_after : Bool) → yank now.pair.ring ≡ Some slot → Swaps old.line.text now.line.text now.line.cursor slot []
+    → new ≡ with_ring (cond reset_after (reset left.pair.ring) left.pair.ring) left → Yanked slot now.line left.line (yanked now.pair.ring) left.pair.ring → GivenBack old now new
+GivenBack-yanked old now left new slot reset_after newest swaps settles y =
     let line : new.line ≡ left.line = ap (λ (s : State). s.line) settles in
-    let text : new.line.text ≡ old.line.text = ap (λ (l : Line). l.text) line ∙ back-text old.line.text now m left.line.text y.text_is in
+    let text : new.line.text ≡ old.line.text = ap (λ (l : Line). l.text) line ∙ back-text old.line.text now.line slot left.line.text swaps y.text_is in
     record {
       text_is = text;
-      yanked = m.slot;
+      yanked = slot;
       slot_is = ap (λ (s : State). yank s.pair.ring) settles ∙ cond_both reset_after _ _ (λ (r : Ring). yank r ≡ yank left.pair.ring) (λ e. refl) (λ e. refl) ∙ y.slot_is
-          ∙ yank-lent (yank now.pair.ring) now.pair.ring ∙ m.newest.slot_is;
-      front = m.swaps.front;
-      after = m.swaps.rest;
-      left = m.swaps.after_is;
-      place = sym m.swaps.place;
-      stands = text ∙ m.swaps.text_is;
-      cursor_is = omega (arith, ap (λ (l : Line). l.cursor) line, y.cursor_is, m.swaps.place);
+          ∙ yank-lent (yank now.pair.ring) now.pair.ring ∙ newest;
+      front = swaps.front;
+      after = swaps.rest;
+      left = swaps.after_is;
+      place = sym swaps.place;
+      stands = text ∙ swaps.text_is;
+      cursor_is = omega (arith, ap (λ (l : Line). l.cursor) line, y.cursor_is, swaps.place);
     }
 
-GivenBack-Yank : (old now new : State) (reply : Reply) (more : List Reply) → Missing old.line.text now → NoneRefused (reply ∷ more) → Step now (Yank 1) reply new → GivenBack old now new
-GivenBack-Yank old now new (says.Inserted a) more m none s =
-    let room : length now.line.text + length m.slot ≤ now.line.limit = omega (arith, Missing-length old.line.text now m, m.within) in
-    let done = subst (λ o. Done pair_step (lent_plan now.line o 1) now.line s.left.line (lent_state now).pair s.left.pair a) m.newest.slot_is s.does.done in
-    GivenBack-yanked old now s.left new m (is_vain_yank (Yank 1) (says.Inserted a)) s.settles (yank_plan-done m.slot now.line s.left.line (lent_state now).pair s.left.pair a room done)
-GivenBack-Yank old now new (says.Refused f) more m none s = absurd none
-GivenBack-Yank old now new _ more m none s = absurd s.does
-
-no_yank_took : (old new : State) (reply : Reply) → Step old (Yank 1) reply new → AnyTook (reply ∷ []) → ⊥
-no_yank_took old new (says.Answer a) s h = s.does
-no_yank_took old new _ s h = h
+-- with its slot the text is as long as at the start, so it is not too long
+GivenBack-Yank : (old now new : State) (reply : Reply) → Missing old.line.text now (reply ∷ []) → NoneRefused (reply ∷ []) → Step now (Yank 1) reply new → GivenBack old now new
+GivenBack-Yank old now new (says.Inserted a) m none s =
+    let newest : Newest now.pair.ring m.slot = elim m.held [ inl n ↦ n | inr e ↦ absurd e.2 ] in
+    let long = simp length-append at (ap length m.swaps.text_is) in
+    let short = simp length-append at (ap length m.swaps.after_is) in
+    let room : length now.line.text + length m.slot ≤ now.line.limit = omega (arith, long, short, m.within) in
+    let done = subst (λ o. Done pair_step (lent_plan now.line o 1) now.line s.left.line (lent_state now).pair s.left.pair a) newest.slot_is s.does.done in
+    GivenBack-yanked old now s.left new m.slot (is_vain_yank (Yank 1) (says.Inserted a)) newest.slot_is m.swaps s.settles
+    (yank_plan-done m.slot now.line s.left.line (lent_state now).pair s.left.pair a room done)
+GivenBack-Yank old now new (says.Refused f) m none s = absurd none
+GivenBack-Yank old now new _ m none s = absurd s.does
 
 -- ---- row after row
-step_of : (row : Row) (old : State) (command : Command) → row.before ≡ old → row.command ≡ command → Step old command row.reply row.after
-step_of row old command e f = subst (λ (c : Command). Step old c row.reply row.after) f (subst (λ (s : State). Step s row.command row.reply row.after) e row.step)
+Missing-row : (start : List ℕ) (now : State) (row : Row) (more : List Reply) → row.before ≡ now → IsDirectedKill row.before.line row.command
+    → NoneRefused (row.reply ∷ more) → Missing start now (row.reply ∷ more) → Missing start row.after more × NoneRefused more
+Missing-row start now row more e directed none m =
+    Missing-directed start row.before row.after row.command row.reply more directed row.step none (subst (λ s. Missing start s (row.reply ∷ more)) (sym e) m)
 
-GivenBack-last : (old now new : State) (row : Row) → Going old.line.text now (row.reply ∷ []) → NoneRefused (row.reply ∷ []) → row.before ≡ now → row.command ≡ Yank 1 → new ≡ row.after
-    → GivenBack old row.before new
-GivenBack-last old now new row g none e f l =
-    let step = step_of row now (Yank 1) e f in
-    let m : Missing old.line.text now = elim g [ inl m ↦ m | inr r ↦ absurd (no_yank_took now row.after row.reply step r.1) ] in
-    subst (GivenBack old row.before) (sym l) (subst (λ s. GivenBack old s row.after) (sym e) (GivenBack-Yank old now row.after row.reply [] m none step))
+GivenBack-last : (old now new : State) (row : Row) → Leads now (row ∷ []) new → row.command ≡ Yank 1 → NoneRefused (row.reply ∷ []) → Missing old.line.text now (row.reply ∷ []) → GivenBack old row.before new
+GivenBack-last old now new row l asked none m =
+    let step = subst (λ (c : Command). Step row.before c row.reply row.after) asked row.step in
+    subst (GivenBack old row.before) (sym l.1) (GivenBack-Yank old row.before row.after row.reply (subst (λ s. Missing old.line.text s (row.reply ∷ [])) (sym l.0) m) none step)
 
+GivenBack-rows : (kills : List Row) (back : Row) (old now new : State) → AllKill kills → Leads now (kills ++ (back ∷ [])) new → back.command ≡ Yank 1
+    → NoneRefused (replies_of (kills ++ (back ∷ []))) → Missing old.line.text now (replies_of (kills ++ (back ∷ []))) → GivenBack old back.before new
+GivenBack-rows [] back old now new all l asked none m = GivenBack-last old now new back l asked none m
+GivenBack-rows (row ∷ rows) back old now new all l asked none m =
+    let on = Missing-row old.line.text now row (replies_of (rows ++ (back ∷ []))) l.0 all.0 none m in
+    GivenBack-rows rows back old row.after new all.1 l.1 asked on.1 on.0
+
+-- the same of kills by movements
 no_row : (movements : List Movement) → [] ≡ map Kill movements ++ (Yank 1 ∷ []) → ⊥
 no_row [] e = cc
 no_row (m ∷ ms) e = cc
 
-GivenBack-rows : (movements : List Movement) (rows : List Row) (old now new s : State) → AllDirected movements → Leads now rows new → commands_of rows ≡ map Kill movements ++ (Yank 1 ∷ [])
-    → NoneRefused (replies_of rows) → Going old.line.text now (replies_of rows) → GivenBack old (before_last s rows) new
-GivenBack-rows [] [] old now new s directed l asked none g = cc
-GivenBack-rows [] (row ∷ []) old now new s directed l asked none g = GivenBack-last old now new row g none l.0 (cc asked) l.1
-GivenBack-rows [] (row ∷ (next ∷ rows)) old now new s directed l asked none g = cc
-GivenBack-rows (m ∷ ms) [] old now new s directed l asked none g = cc
-GivenBack-rows (m ∷ ms) (row ∷ []) old now new s directed l asked none g = let rest : [] ≡ map Kill ms ++ (Yank 1 ∷ []) = cc in absurd (no_row ms rest)
-GivenBack-rows (m ∷ ms) (row ∷ (next ∷ rows)) old now new s directed l asked none g =
+GivenBack-kills : (movements : List Movement) (rows : List Row) (old now new s : State) → AllDirected movements → Leads now rows new → commands_of rows ≡ map Kill movements ++ (Yank 1 ∷ [])
+    → NoneRefused (replies_of rows) → Missing old.line.text now (replies_of rows) → GivenBack old (before_last s rows) new
+GivenBack-kills [] [] old now new s directed l asked none k = cc
+GivenBack-kills [] (row ∷ []) old now new s directed l asked none k = GivenBack-last old now new row l (cc asked) none k
+GivenBack-kills [] (row ∷ (next ∷ rows)) old now new s directed l asked none k = cc
+GivenBack-kills (m ∷ ms) [] old now new s directed l asked none k = cc
+GivenBack-kills (m ∷ ms) (row ∷ []) old now new s directed l asked none k = let rest : [] ≡ map Kill ms ++ (Yank 1 ∷ []) = cc in absurd (no_row ms rest)
+GivenBack-kills (m ∷ ms) (row ∷ (next ∷ rows)) old now new s directed l asked none k =
     let command : row.command ≡ Kill m = cc in
     let rest : commands_of (next ∷ rows) ≡ map Kill ms ++ (Yank 1 ∷ []) = cc in
-    let on = Going-directed old.line.text now row.after (Kill m) row.reply (replies_of (next ∷ rows)) directed.0 (step_of row now (Kill m) l.0 command) none g in
-    GivenBack-rows ms (next ∷ rows) old row.after new s directed.1 l.1 rest on.1 on.0
+    let on = Missing-row old.line.text now row (replies_of (next ∷ rows)) l.0 (subst (IsDirectedKill row.before.line) (sym command) directed.0) none k in
+    GivenBack-kills ms (next ∷ rows) old row.after new s directed.1 l.1 rest on.1 on.0
+
+-- at first nothing is missing
+Missing-first : (now : State) (replies : List Reply) → Roomy now → IsNoKill now.pair.ring.last → AnyTook replies → Missing now.line.text now replies
+Missing-first now replies roomy no_kill took =
+    let h = roomy.stands in
+    let same : insert_slice now.line.text now.line.cursor [] ≡ now.line.text =
+    ap (λ x. x ++ drop now.line.cursor now.line.text) (append-nil (take now.line.cursor now.line.text)) ∙ take-append-drop now.line.cursor now.line.text in
+    record {
+      slot = [];
+      held = inr (refl, no_kill, took);
+      swaps = Swaps-InsertStr now.line.text now.line.text now.line.cursor [] h.utf8 (apply-InsertStr now.line.text now.line.cursor [] IsUtf8-nil h.cursor ∙ ap Some same);
+      within = h.within;
+      roomy = roomy;
+    }
 
 AnyTook-append : (xs ys : List Reply) → AnyTook xs → AnyTook (xs ++ ys)
 AnyTook-append [] ys h = absurd h
@@ -449,25 +383,14 @@ pub kills-yank : (first old new : State) (earlier : List Command) (said : List R
     → IsNoKill old.pair.ring.last → AllDirected movements → AnyTook replies → NoneRefused (replies ++ (last ∷ [])) → GivenBack old (before_last old run.rows) new
 kills-yank first old new earlier said movements replies last stands some before run no_kill directed took none =
     let roomy = Roomy-Leads before.rows first old before.leads (record { stands = stands; some = some }) in
-    let ready : Ready old.line.text old = record { text_is = refl; within = roomy.stands.within; roomy = roomy; no_kill = no_kill } in
-    GivenBack-rows movements run.rows old old new old directed run.leads run.asked (subst NoneRefused (sym run.answered) none)
-    (inr (ready, subst AnyTook (sym run.answered) (AnyTook-append replies (last ∷ []) took)))
-
--- the same of any kills at the cursor, row by row
-GivenBack-directed : (kills : List Row) (back : Row) (old now new : State) → AllKill kills → Leads now (kills ++ (back ∷ [])) new → back.command ≡ Yank 1
-    → NoneRefused (replies_of (kills ++ (back ∷ []))) → Going old.line.text now (replies_of (kills ++ (back ∷ []))) → GivenBack old back.before new
-GivenBack-directed [] back old now new all l asked none g = GivenBack-last old now new back g none l.0 asked l.1
-GivenBack-directed (row ∷ rows) back old now new all l asked none g =
-    let directed = subst (λ (s : State). IsDirectedKill s.line row.command) l.0 all.0 in
-    let on = Going-directed old.line.text now row.after row.command row.reply (replies_of (rows ++ (back ∷ []))) directed (step_of row now row.command l.0 refl) none g in
-    GivenBack-directed rows back old row.after new all.1 l.1 asked on.1 on.0
+    GivenBack-kills movements run.rows old old new old directed run.leads run.asked (subst NoneRefused (sym run.answered) none)
+    (Missing-first old _ roomy no_kill (subst AnyTook (sym run.answered) (AnyTook-append replies (last ∷ []) took)))
 
 pub directed-yank : (first old new : State) (earlier commands : List Command) (said replies : List Reply) (kills : List Row) (back : Row)
     → Stands first → 0 < first.pair.ring.size → Run first earlier said old → (run : Run old commands replies new) → run.rows ≡ kills ++ (back ∷ []) → back.command ≡ Yank 1
     → IsNoKill old.pair.ring.last → AllKill kills → AnyTook (replies_of kills) → NoneRefused replies → GivenBack old back.before new
 directed-yank first old new earlier commands said replies kills back stands some before run is asked no_kill all took none =
     let roomy = Roomy-Leads before.rows first old before.leads (record { stands = stands; some = some }) in
-    let ready : Ready old.line.text old = record { text_is = refl; within = roomy.stands.within; roomy = roomy; no_kill = no_kill } in
     let any = subst AnyTook (sym (map-append (λ (r : Row). r.reply) kills (back ∷ []))) (AnyTook-append (replies_of kills) (back.reply ∷ []) took) in
-    GivenBack-directed kills back old old new all (subst (λ rows. Leads old rows new) is run.leads) asked
-    (subst (λ rows. NoneRefused (replies_of rows)) is (subst NoneRefused (sym run.answered) none)) (inr (ready, any))
+    GivenBack-rows kills back old old new all (subst (λ rows. Leads old rows new) is run.leads) asked
+    (subst (λ rows. NoneRefused (replies_of rows)) is (subst NoneRefused (sym run.answered) none)) (Missing-first old _ roomy no_kill any)

@@ -314,8 +314,8 @@ goes_on start first (e ∷ es) held (before, text, s, leads, placed) =
     (b, begin, record { rest = t.rest ++ s.rest; is = is }, made, (front, text, record { rest = s.rest; is = within }, makes, subst (PlacedBack begin es) (sym last) on))
 
 -- the session forgets its first entries
-pub Holds-forgotten : (start : List ℕ) (held : List (List ℕ)) (s : State) → Holds start held s → HoldsOn start held s
-Holds-forgotten start held s h =
+pub holds_forgotten : (start : List ℕ) (held : List (List ℕ)) (s : State) → Holds start held s → HoldsOn start held s
+holds_forgotten start held s h =
     let r = s.pair.changes in
     let bound = s.options.bound in
     let kept = kept_within bound.entries bound.bytes r.recorded in

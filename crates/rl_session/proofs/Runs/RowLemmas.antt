@@ -1,5 +1,7 @@
 -- What each row of a session keeps, and how a run goes on.
-use Rattle.rl_session.proofs.Common.{List, [], ◌∷◌, ◌++◌, ◌≡◌, ◌∙◌, ap, true, false, inl, inr, refl, subst, sym, append_assoc, map-append, ℕ, IsSome, min, IsUtf8, unbounded, Entry, unwind, level, Command, Reply, State, Replays, origin, Start, Course, never, when, stays, goes, edits, lends, pops, tells, Came, popped, Effect, by_steps, puts_begin, puts_ends, puts_end, shortens, takes_back, puts_again, Became, effect, readied, within_bound, no_bound, pair_step, Bound, Row, held, held_of, Leads, Run, AfterEach, commands_of, replies_of, steps_in}
+use Rattle.rl_session.proofs.Common.{None, Some, Option, ap₂, cond_both, popped_ring, turned, yank_size, ring_step, Ring, Event, IsChange, Pair, Append, List, [], ◌∷◌, ◌++◌, ◌≡◌, ◌∙◌, ap, true, false, inl, inr, refl, subst, sym, append_assoc, map-append, ℕ, IsSome, min, IsUtf8, unbounded, Entry, unwind, level, Command, Reply, State, Replays, origin, Start, Course, never, when, stays, goes, edits, lends, pops, tells, Came, popped, Effect, by_steps, puts_begin, puts_ends, puts_end, shortens, takes_back, puts_again, Became, effect, readied, within_bound, no_bound, pair_step, Bound, Row, held, held_of, Leads, Run, AfterEach, commands_of, replies_of, steps_in}
+use Rattle.rl_base.proofs.Ring.KillGroupLemmas.{killed_as-size, lent-size, ring_step-size}
+use Rattle.rl_base.specs.KillRing.{yank}
 use Rattle.rl_line.specs.Plan.{Step as PlanStep}
 use Rattle.rl_line.specs.Forgetting.{forgotten}
 use Rattle.rl_line.proofs.Records.ForgettingLemmas.{fitting-stay}
@@ -7,7 +9,11 @@ use Rattle.rl_line.proofs.Records.MarkLemmas.{Kept-begun, Kept-closed, Kept-Redo
 use Rattle.rl_line.proofs.Records.OriginLemmas.{Kept, Kept-Taken, Kept-Undone}
 use Rattle.rl_line.proofs.Records.RecordLemmas.{unwind-replay, replay-unwind, replay-IsUtf8, value_of}
 use Rattle.rl_session.specs.Commands.{stops, lent, Step, keeps}
+use Rattle.rl_session.proofs.Sessions.CommandLemmas.{Changes, EffectChanges, effect-changes}
 use Rattle.rl_session.proofs.Sessions.CourseLemmas.{Heard, Heard-Came}
+use Rattle.rl_session.proofs.Sessions.IdleLemmas.{ring-Done, ring-Halted}
+use Rattle.rl_session.proofs.Sessions.PairLemmas.{Halted-own}
+use Rattle.rl_session.specs.declared.options.Options.{Options}
 
 -- the record leads back to the same text
 abbrev KeepsOrigin : State → State → Type 0
@@ -48,31 +54,58 @@ step_replays start old command reply new s h =
     let kept = Kept-Step old command reply new s u in
     record { is_text = h.is_text; leads = replay-unwind new.pair.changes.recorded new.line.text start kept.utf8 (kept.origin_is start came) }
 
--- ---- the options
-Came-options : (course : Course) (old new : State) → Came course old new → new.options ≡ old.options
-Came-options never old new d = absurd d
-Came-options (when condition course) old new d = Came-options course old new d.1
-Came-options stays old new d = ap (λ (s : State). s.options) d
-Came-options (goes place a) old new d = ap (λ (s : State). s.options) d.1
-Came-options (edits plan a) old new d = d.options
-Came-options (stops unbegun takes plan) old new (inl e) = ap (λ (s : State). s.options) e.1
-Came-options (stops unbegun takes plan) old new (inr c) = c.options
-Came-options (lends course) old new d = Came-options course (lent old) new d
-Came-options (pops course) old new d = Came-options course (popped old) new d
-Came-options (tells true course) old new d = Came-options course old new d
-Came-options (tells false course) old new d = Came-options course (record old { pair = pair_step old.pair Start }) (record new { pair = d.last }) d.inside
+-- ---- what no command changes: the options, and how many texts the ring has room for
+abbrev lasting : State → Options × ℕ
+lasting s = (s.options, s.pair.ring.size)
 
-Became-options : (effect : Effect) (old new : State) → Became effect old new → new.options ≡ old.options
-Became-options (by_steps course) old new d = Came-options course old new d
-Became-options (puts_ends a) old new d = ap (λ (s : State). s.options) d.1
-Became-options (keeps text) old new d = ap (λ (s : State). s.options) d
-Became-options _ old new d = ap (λ (s : State). s.options) d.1
+same-size : (size : ℕ) (event : Event) (r : Ring) → IsChange event → r.size ≡ size → (ring_step r event).size ≡ size
+same-size size event r c h = ring_step-size r event ∙ h
 
--- no command changes them, and with no bound among them nothing is forgotten
+popped-size : (o : Option ℕ) (r : Ring) → (popped_ring o r).size ≡ r.size
+popped-size None r = refl
+popped-size (Some n) r = lent-size (yank (turned r)) (turned r)
+
+Came-lasting : (course : Course) (old new : State) → Changes course → Came course old new → lasting new ≡ lasting old
+Came-lasting never old new c d = absurd d
+Came-lasting (when condition course) old new c d = Came-lasting course old new c d.1
+Came-lasting stays old new c d = ap lasting d
+Came-lasting (goes place a) old new c d = ap lasting d.1
+Came-lasting (edits plan a) old new c d =
+    let n = old.pair.ring.size in
+    ap₂ (λ (o : Options) (k : ℕ). (o, k)) d.options (ring-Done (λ r. r.size ≡ n) (same-size n) plan old.line new.line old.pair new.pair a c d.done refl)
+Came-lasting (stops unbegun takes plan) old new c (inl e) = ap lasting e.1
+Came-lasting (stops unbegun takes plan) old new c (inr cut) =
+    let n = old.pair.ring.size in
+    let halted = Halted-own takes plan old.line new.line old.pair new.pair _ cut.halted in
+    ap₂ (λ (o : Options) (k : ℕ). (o, k)) cut.options (ring-Halted (λ r. r.size ≡ n) (same-size n) plan old.line new.line old.pair new.pair _ c halted refl)
+Came-lasting (lends course) old new c d = Came-lasting course (lent old) new c d ∙ ap (λ n. (old.options, n)) (lent-size (yank old.pair.ring) old.pair.ring)
+Came-lasting (pops course) old new c d = Came-lasting course (popped old) new c d ∙ ap (λ n. (old.options, n)) (popped-size (yank_size old.pair.ring) old.pair.ring)
+Came-lasting (tells true course) old new c d = Came-lasting course old new c d
+Came-lasting (tells false course) old new c d =
+    ap (λ (k : Pair). (new.options, k.ring.size)) d.ended
+    ∙ Came-lasting course (record old { pair = pair_step old.pair Start }) (record new { pair = d.last }) c d.inside
+
+Became-lasting : (effect : Effect) (old new : State) → EffectChanges effect → Became effect old new → lasting new ≡ lasting old
+Became-lasting (by_steps course) old new c d = Came-lasting course old new c d
+Became-lasting (puts_ends a) old new c d = ap lasting d.1
+Became-lasting (keeps text) old new c d =
+    ap lasting d ∙ ap (λ n. (old.options, n)) (killed_as-size old.pair.ring.size old.pair.ring.last text Append old.pair.ring)
+Became-lasting _ old new c d = ap lasting d.1
+
+Step-lasting : (old new : State) (command : Command) (reply : Reply) → Step old command reply new → lasting new ≡ lasting old
+Step-lasting old new command reply s =
+    let begun = readied command old in
+    ap lasting s.settles ∙ cond_both _ _ _ (λ (r : Ring). (s.left.options, r.size) ≡ lasting s.left) (λ e. refl) (λ e. refl)
+    ∙ Became-lasting (effect begun command reply) begun s.left (effect-changes begun command reply) s.does
+    ∙ cond_both _ _ _ (λ (r : Ring). (old.options, r.size) ≡ lasting old) (λ e. refl) (λ e. refl)
+
 pub Step-options : (old new : State) (command : Command) (reply : Reply) → Step old command reply new → new.options ≡ old.options
-Step-options old new command reply s =
-    ap (λ (t : State). t.options) s.settles ∙ Became-options (effect (readied command old) command reply) (readied command old) s.left s.does
+Step-options old new command reply s = ap (λ (p : Options × ℕ). p.0) (Step-lasting old new command reply s)
 
+pub Step-size : (old new : State) (command : Command) (reply : Reply) → Step old command reply new → new.pair.ring.size ≡ old.pair.ring.size
+Step-size old new command reply s = ap (λ (p : Options × ℕ). p.1) (Step-lasting old new command reply s)
+
+-- with no bound among the options nothing is forgotten
 pub within_bound-none : (s : State) → s.options.bound ≡ no_bound → within_bound s ≡ s
 within_bound-none s none =
     let r = s.pair.changes in

@@ -1,5 +1,5 @@
 -- A group that was closed is one unit, whatever happened inside, so that one undo takes it off.
-use Rattle.rl_session.proofs.Common.{◌≡◌, ◌<◌, ◌+◌, ℕ, inl, inr, zero, suc, true, List, [], ◌∷◌, ◌++◌, length, drop, Some, refl, sym, ap, subst, ◌∙◌, arith, or-false, min, listener_after, listener_after_step, Begin, End, Entry, Record, record_step, replay_entries, IsMatched, begun, end_one, end_times, ended, ended_one, has_change, kept_of, last_of, level, opens, with_closed, Effect, by_steps, puts_begin, puts_end, Became, effect, Does, readied, with_changes, AllStandInGroup, ClosesGroup, Holds, MayStandInGroup, WasRefused, Leads, Row, Run, held, held_of, steps_in, State, with_ring, reset, Append, Command, Reply, Cursors}
+use Rattle.rl_session.proofs.Common.{rules, ◌≡◌, ◌<◌, ◌+◌, ℕ, inl, inr, zero, suc, true, List, [], ◌∷◌, ◌++◌, length, drop, Some, refl, sym, ap, subst, ◌∙◌, arith, or-false, min, listener_after, listener_after_step, Begin, End, Entry, Record, record_step, replay_entries, IsMatched, begun, end_one, end_times, ended, ended_one, has_change, kept_of, last_of, level, opens, with_closed, Effect, by_steps, puts_begin, puts_end, Became, effect, Does, readied, with_changes, AllStandInGroup, ClosesGroup, Holds, MayStandInGroup, WasRefused, Leads, Row, Run, held, held_of, steps_in, State, with_ring, reset, Append, Command, Reply, Cursors}
 use Rattle.rl_line.specs.Plan.{Step}
 use Rattle.rl_line.proofs.Records.GroupLemmas.{has_change-append, Inside, InsideOf, Inside-event, Inside-begun, past_begin}
 use Rattle.rl_line.proofs.Records.LastLemmas.{end_one-begin, end_one-cases, end_one-past, end_times-keeps}
@@ -12,7 +12,7 @@ use Rattle.rl_session.specs.declared.session.Command.TheVariants as asks
 use Rattle.rl_session.specs.declared.session.Reply.TheVariants as says
 use Rattle.rl_session.proofs.Runs.RowLemmas.{Leads-split}
 use Rattle.rl_session.proofs.Sessions.CourseLemmas.{Heard-Came}
-use Rattle.rl_session.proofs.Runs.HistoryLemmas.{Holds-Leads, Holds-row, does_as, row_at, undo-row}
+use Rattle.rl_session.proofs.Runs.HistoryLemmas.{Holds-Leads, Holds-row, done_as, row_at, undo-row}
 use Rattle.rl_session.proofs.Runs.PlaceLemmas.{kept-leads}
 
 -- ---- the end of a group
@@ -64,8 +64,7 @@ stays_open below now old asks.EndOne (says.Answer a) i = elim i [ inl refused �
 stays_open below now old (asks.Undo n) (says.Answer a) i = absurd i
 stays_open below now old asks.Redo (says.Answer a) i = absurd i
 stays_open below now old (asks.Truncate len) says.Done i = absurd i
-stays_open below now old asks.Begin (says.Mark n) i = tt
-stays_open below now old (asks.Keep t) says.Done i = tt
+stays_open below now old _ (says.Refused f) i = tt
 stays_open below now old _ _ i = tt
 
 -- the end of one group that leaves the group open closes one that was begun inside
@@ -113,29 +112,21 @@ Inside-Leads front (row ∷ rows) old new all l k =
 -- ---- a group in a run
 Begin-done : (old left : State) (reply : Reply) → Does old asks.Begin reply left → ¬ (WasRefused reply) → left.pair.changes ≡ begun old.pair.changes
 Begin-done old left (says.Mark n) d w = ap (λ (s : State). s.pair.changes) d.1
-Begin-done old left (says.Refused f) d w = absurd (w tt)
-Begin-done old left _ d w = absurd d
+Begin-done old left _ d w = absurd (search rules)
 
 End-done : (old left : State) (reply : Reply) → Does old asks.End reply left → ¬ (WasRefused reply) → left.pair.changes ≡ ended old.pair.changes
 End-done old left (says.Answer a) d w = ap (λ (s : State). s.pair.changes) d.1
-End-done old left (says.Refused f) d w = absurd (w tt)
-End-done old left _ d w = absurd d
+End-done old left _ d w = absurd (search rules)
 
 EndOne-done : (old left : State) (reply : Reply) → Does old asks.EndOne reply left → ¬ (WasRefused reply) → left.pair.changes ≡ ended_one old.pair.changes
 EndOne-done old left (says.Answer a) d w = ap (λ (s : State). s.pair.changes) d.1
-EndOne-done old left (says.Refused f) d w = absurd (w tt)
-EndOne-done old left _ d w = absurd d
-
--- so did a row of theirs
-mark-row : (row : Row) (command : Command) (made : Record → Record) → ((old left : State) (reply : Reply) → Does old command reply left → ¬ (WasRefused reply) → left.pair.changes ≡ made old.pair.changes)
-    → row.command ≡ command → ¬ (WasRefused row.reply) → row.after.pair.changes ≡ made row.before.pair.changes
-mark-row row command made done e w = let d = does_as row command e in d.3 ∙ done (readied command row.before) d.0 row.reply d.1 w
+EndOne-done old left _ d w = absurd (search rules)
 
 -- the end of a group closes the groups that were not open before its begin
 closing-row : (row : Row) (command : Command) (below : ℕ) → row.command ≡ command → ClosesGroup below (level row.before.pair.changes.recorded) command → ¬ (WasRefused row.reply)
     → (n : ℕ) × (level row.before.pair.changes.recorded ≡ n + below) × (row.after.pair.changes ≡ with_closed n row.before.pair.changes)
-closing-row row asks.End below e c w = (level row.before.pair.changes.recorded, omega (arith, c), mark-row row asks.End ended End-done e w)
-closing-row row asks.EndOne below e c w = (min 1 (level row.before.pair.changes.recorded), omega (arith, c), mark-row row asks.EndOne ended_one EndOne-done e w)
+closing-row row asks.End below e c w = (level row.before.pair.changes.recorded, omega (arith, c), done_as row asks.End (λ r k _ _. k ≡ ended r) End-done e w)
+closing-row row asks.EndOne below e c w = (min 1 (level row.before.pair.changes.recorded), omega (arith, c), done_as row asks.EndOne (λ r k _ _. k ≡ ended_one r) EndOne-done e w)
 closing-row row _ below e c w = absurd c
 
 -- what an undo keeps right after that
@@ -152,7 +143,7 @@ group-inside : (inside : List Row) (b e : Row) (mid : State) → b.command ≡ a
 group-inside inside b e mid is_begin begins all l to_end =
     let front = b.before.pair.changes.recorded in
     let first : Inside front b.after.pair.changes =
-    subst (λ (r : Record). Inside front r) (sym (mark-row b asks.Begin begun Begin-done is_begin begins)) (record { inner = []; is = refl; matched = refl }) in
+    subst (λ (r : Record). Inside front r) (sym (done_as b asks.Begin (λ r k _ _. k ≡ begun r) Begin-done is_begin begins)) (record { inner = []; is = refl; matched = refl }) in
     subst (λ (s : State). Inside front s.pair.changes) (sym to_end) (Inside-Leads front inside b.after mid all l first)
 
 -- where an undo keeps what was recorded before rows, the text before them is the one after it

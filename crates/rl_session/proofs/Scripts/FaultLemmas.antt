@@ -1,5 +1,6 @@
 -- What is left where a script stops at a fault.
 use Rattle.rl_session.proofs.Common.{arith, ◌≡◌, ◌≤◌, ◌<◌, ℕ, length, List, [], ◌∷◌, ◌++◌, Option, Some, None, Result, Ok, Err, refl, sym, ap, subst, ◌∙◌, append_assoc, append-nil, inl, inr, Bool, false, true, take_all, Appends-trans, Appends-nil, Consumes-trans, Consumes-nil, Consumes-kept, Appends, Consumes, Keeps, IsAtEnd, IfSome, IfErr, OnErr, ◌==◌, lines_of, whole_lines, onto_some, LineOut, IsCut, HasNext, Leaves, started, Outputs, CutOutputs, Stopped, StoppedBy, HasNoNewline, Cuts, Took, Halts, Runs, Interpreter, ScriptFault, Read, Write}
+use Rattle.std.proofs.lemmas.Option.{IfSome_then}
 use Rattle.rl_session.specs.Lines.{onto}
 use Rattle.rl_session.specs.declared.script.ScriptFault.TheVariants.{NoMemory}
 use Rattle.rl_session.proofs.Scripts.LineLemmas.{cut_on, lines_of-ended, lines_of-last, whole_lines-part, HasNoNewline-append, Outputs-append, Took-part}
@@ -247,10 +248,6 @@ read_front (Some script) None read lines r e = absurd r
 read_front (Some script) (Some more) read lines r e =
     let found = whole_lines-front read more in (found.0, ap lines_of r ∙ found.1 ∙ ap (λ l. l ++ found.0) (sym e))
 
-of_some : {A : Type 0} (P Q : A → Type 0) (o : Option A) → ((a : A) → P a → Q a) → IfSome o P → IfSome o Q
-of_some P Q None f h = tt
-of_some P Q (Some a) f h = f a h
-
 none_of : (left : Option (List ℕ)) (lines : List (List ℕ)) → lines ≡ []
     → IfSome left (λ script. (others : List (List ℕ)) × (lines_of script ≡ lines ++ others))
 none_of None lines e = tt
@@ -273,13 +270,13 @@ Stopped-by Read left leaves held holds h =
 Stopped-by Write left leaves held holds h = record {
   lines = h.lines ++ h.at_fault.0 ∷ [];
   out = h.out ++ h.cut;
-  front = of_some _ _ left (λ script next. (next.0, next.1 ∙ sym (append_assoc h.lines (h.at_fault.0 ∷ []) next.0))) h.at_fault.1;
+  front = IfSome_then left h.at_fault.1 (λ script next. (next.0, next.1 ∙ sym (append_assoc h.lines (h.at_fault.0 ∷ []) next.0)));
   written = h.written;
   outputs = Cut-last h.lines h.at_fault.0 started h.now h.out h.cut h.outputs h.at_fault.2;
 }
 Stopped-by NoMemory left leaves held holds h =
     stopped_whole NoMemory left leaves held holds h h.at_fault.1
-    (elim h.at_fault.0 [ inl next ↦ of_some _ _ left (λ script n. (next.0 ∷ n.0, n.1)) next.1 | inr none ↦ none_of left h.lines none.1 ])
+    (elim h.at_fault.0 [ inl next ↦ IfSome_then left next.1 (λ script n. (next.0 ∷ n.0, n.1)) | inr none ↦ none_of left h.lines none.1 ])
 
 pub Stopped-at : (left leaves held holds : Option (List ℕ)) (r : Result Unit ScriptFault) → IfErr r (λ fault. StoppedBy fault left leaves held holds)
     → OnErr r (Stopped left held holds)

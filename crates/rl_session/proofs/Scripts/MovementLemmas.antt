@@ -5,6 +5,7 @@ use Rattle.rl_session.proofs.Scripts.NumberLemmas.{some_same}
 use Rattle.rl_session.proofs.Scripts.SpellingLemmas.{SpellsChar-one}
 
 -- small words
+pub ruleset kinds = (big, emacs, vi, start, before, after, onto, till, back_onto, back_till, cap, low, upper, ahead, backward, unicode, wcwidth, nozwj)
 
 NamesWord-one : {bytes : List ℕ} {v w : Word} → NamesWord bytes v → NamesWord bytes w → v ≡ w
 NamesWord-one big big = refl
@@ -64,6 +65,8 @@ RangeDirection-one {l = l} {e = e} p q =
     let starts = Numbered-one p.starts q.starts in
     let ends = Numbered-one p.ends (subst (λ b. Numbered (2 ^ 64 - 1) b l q.letter) (sym starts.1) q.ends) in
     (starts.0, ends.0, NamesDirection-one p.named (subst (λ b. NamesDirection b e) (sym ends.1) q.named))
+
+pub ruleset movements = (whole, home, eol, bword, fword, find, first, nonblank, bchar, fchar, up, down, buf, bob, eob)
 
 -- one movement at most
 

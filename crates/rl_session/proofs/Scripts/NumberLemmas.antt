@@ -3,15 +3,6 @@ use Rattle.rl_session.proofs.Common.{arith, ◌≡◌, ◌≢◌, ℕ, ◌+◌, 
 use native.Mathlib.Nat.{pow-le-pow_right}
 use Rattle.rl_session.specs.Spelling.{number_of}
 
-above : (n g : ℕ) → g < n → nat_le n g ≡ false
-above n g h = grind (arith, nat_tests)
-
-within : (n g : ℕ) → n ≤ g → nat_le n g ≡ true
-within n g h = grind (arith, nat_tests)
-
-positive : (n : ℕ) → 0 < n → nat_lt 0 n ≡ true
-positive n h = grind (arith, nat_tests)
-
 grows : (n : ℕ) (ds : List ℕ) → n ≤ value_from n ds
 grows n [] = omega arith
 grows n (d ∷ ds) = let more : n * 10 + (d - 48) ≤ value_from (n * 10 + (d - 48)) ds = grows (n * 10 + (d - 48)) ds in omega arith
@@ -33,14 +24,14 @@ unfolding number_of
 number-great g i v bs h all great =
     let on : value_from v (drop i bs) ≡ value_from (v * 10 + (get_or bs i 0 - 48)) (drop (i + 1) bs) = at_drop_more (value_from v) bs i 0 h in
     let more : v * 10 + (get_or bs i 0 - 48) ≤ value_from (v * 10 + (get_or bs i 0 - 48)) (drop (i + 1) bs) = grows _ (drop (i + 1) bs) in
-    let past : g < value_from 0 bs = omega arith in
-    rw (above _ g past, and-false, and-false) refl
+    let past : nat_le (value_from 0 bs) g ≡ false = grind (arith, nat_tests) in
+    rw (past, and-false, and-false) refl
 
 pub number-whole : (g v : ℕ) (bs : List ℕ) → 0 < length bs → are_digits bs ≡ true → v ≡ value_from 0 bs → v ≤ g → Some v ≡ number_of g bs
 unfolding number_of
 number-whole g v bs some all is fits =
-    let fits' : nat_le (value_from 0 bs) g ≡ true = within _ g (omega arith) in
-    let some' : nat_lt 0 (length bs) ≡ true = positive _ some in
+    let fits' : nat_le (value_from 0 bs) g ≡ true = grind (arith, nat_tests) in
+    let some' : nat_lt 0 (length bs) ≡ true = grind (arith, nat_tests) in
     rw (some', all, fits') (ap (λ n. Some n) is)
 
 -- what a test of the length tells

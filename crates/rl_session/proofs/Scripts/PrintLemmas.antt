@@ -25,6 +25,6 @@ byte-read spaces b bytes text s =
       ]
     ]
 
-pub escaped-read : (spaces : Bool) (t : List ℕ) → Spells (escaped spaces t) t
-escaped-read spaces [] = nothing
-escaped-read spaces (b ∷ bs) = byte-read spaces b (escaped spaces bs) bs (escaped-read spaces bs)
+pub escaped_read : (spaces : Bool) (t : List ℕ) → Spells (escaped spaces t) t
+escaped_read spaces [] = nothing
+escaped_read spaces (b ∷ bs) = byte-read spaces b (escaped spaces bs) bs (escaped_read spaces bs)

@@ -1,5 +1,5 @@
 -- One text at most is spelled by given bytes, and by which parts.
-use Rattle.rl_session.proofs.Common.{and_parts, arith, ◌≡◌, ◌≢◌, ℕ, ◌+◌, ◌*◌, ◌<◌, true, List, [], ◌∷◌, ◌++◌, length, get_or, Option, Some, None, refl, sym, ap, subst, ◌∙◌, append_assoc, append-nil, length-append, inl, inr, encode_utf8, option_and_then, MatchOption, Bor, IsUtf8, IsScalar, eqb_tells, encode_same, encode_ascii, inside_one, length-encode, len_utf8_bounds, cons_from_encodes, append_cancel_left, hex_digit, hex_from, letter_of, Escapes, Spells, SpellsChar, letter, braced, plain, BeginsEscape, BeginsNoEscape, BeginsChar, SpellsNothing, SpellsNoChar}
+use Rattle.rl_session.proofs.Common.{nat_tests, and_parts, arith, ◌≡◌, ◌≢◌, ℕ, ◌+◌, ◌*◌, ◌<◌, true, List, [], ◌∷◌, ◌++◌, length, get_or, Option, Some, None, refl, sym, ap, subst, ◌∙◌, append_assoc, append-nil, length-append, encode_utf8, option_and_then, MatchOption, Bor, IsUtf8, IsScalar, encode_same, encode_ascii, inside_one, length-encode, len_utf8_bounds, cons_from_encodes, append_cancel_left, hex_digit, hex_from, letter_of, Escapes, Spells, SpellsChar, letter, braced, plain, BeginsEscape, BeginsNoEscape, BeginsChar, SpellsNothing, SpellsNoChar}
 use lib.Utf8.{scalar, scalars}
 use Rattle.rl_session.proofs.Scripts.PartLemmas.{Lacks, Lacks-by_index, same_parts}
 use Rattle.rl_session.specs.Spelling.{nothing, escape}
@@ -43,34 +43,11 @@ Spells-plain (x ∷ xs) h = plain h.0 (Spells-plain xs h.1)
 
 -- escapes
 
-from : (P : ℕ → ℕ → Type 0) (x y b c : ℕ) → P x y → b ≡ x → Some y ≡ Some c → P b c
-from P x y b c p e h = let same : c ≡ y = cc in rw (e, same) p
-
--- what holds of each letter and its character
-letter-cases : (P : ℕ → ℕ → Type 0) → P 92 92 → P 110 10 → P 114 13 → P 116 9 → P 115 32 → (b c : ℕ) → letter_of b ≡ Some c → P b c
-letter-cases P slash n r t s b c h =
-    elim (eqb_tells b 92) [
-      | inl p ↦ from P 92 92 b c slash p.1 (rw p.0 at h)
-      | inr p ↦ elim (eqb_tells b 110) [
-        | inl q ↦ from P 110 10 b c n q.1 (rw (p.0, q.0) at h)
-        | inr q ↦ elim (eqb_tells b 114) [
-          | inl u ↦ from P 114 13 b c r u.1 (rw (p.0, q.0, u.0) at h)
-          | inr u ↦ elim (eqb_tells b 116) [
-            | inl v ↦ from P 116 9 b c t v.1 (rw (p.0, q.0, u.0, v.0) at h)
-            | inr v ↦ elim (eqb_tells b 115) [
-              | inl w ↦ from P 115 32 b c s w.1 (rw (p.0, q.0, u.0, v.0, w.0) at h)
-              | inr w ↦ let none : None ≡ Some c = rw (p.0, q.0, u.0, v.0, w.0) at h in absurd cc
-            ]
-          ]
-        ]
-      ]
-    ]
-
 pub letter-ascii : (b c : ℕ) → letter_of b ≡ Some c → b < 128
-letter-ascii = letter-cases (λ b c. b < 128) (omega arith) (omega arith) (omega arith) (omega arith) (omega arith)
+letter-ascii b c h = grind (arith, nat_tests)
 
 letter-scalar : (b c : ℕ) → letter_of b ≡ Some c → IsScalar c
-letter-scalar = letter-cases (λ b c. IsScalar c) refl refl refl refl refl
+letter-scalar b c h = grind (arith, nat_tests)
 
 escape-scalar : {code : List ℕ} {c : ℕ} → Escapes code c → IsScalar c
 escape-scalar (letter {b = b} {c = c} h) = letter-scalar b c h

@@ -40,6 +40,17 @@ RangeText-one {t = t} {d = d} p q =
     let same = Numbered-one p.starts q.starts in
     let ends = NumberedText-one p.ends (subst (λ l. NumberedText (2 ^ 64 - 1) l d t) (sym same.1) q.ends) in (same.0, ends.0, ends.1)
 
+-- the words by the function that reads them
+pub ruleset lone_words = (no_text, yankpop, keep, killline, killbuf, discline, discbuf, tchars, begin, end, endone, redo, line_place)
+
+pub ruleset texts = (text, paste, update, str, rep, keep)
+
+pub ruleset deletions = (range, del, back, prevword, nextword, to, killrange)
+
+pub ruleset commands = (pos, move, ins, yank, twords, cased, kill, copy, indent, dedent, undo, trunc)
+
+pub ruleset settings = (limit, ring, mode)
+
 -- one meaning at most
 
 Says-one : {word : List ℕ} {given : Option (List ℕ)} {m n : Meaning} → Says word given m → Says word given n → Same m n
@@ -88,8 +99,8 @@ Says-one (limit p) (limit q) = same (ap (λ x. Set (Limit x)) (some_same _ p q))
 Says-one (ring p) (ring q) = same (ap (λ x. Set (RingSize x)) (some_same _ p q))
 Says-one (mode p) (mode q) = same (ap (λ x. Set (Mode x)) (NamesMode-one p q))
 
-pub Means-one : (line : List ℕ) (m n : Meaning) → Means line m → Means line n → Same m n
-Means-one line m n p q = Says-one p.1 q.1
+pub means_one : (line : List ℕ) (m n : Meaning) → Means line m → Means line n → Same m n
+means_one line m n p q = Says-one p.1 q.1
 
 -- no command is said
 

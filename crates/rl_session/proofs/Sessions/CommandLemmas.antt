@@ -1,5 +1,5 @@
 -- What is known of each command by itself: that its steps change the text, and what it did if it added one entry to the record.
-use Rattle.rl_session.proofs.Common.{ℕ, List, Option, Some, None, ◌≡◌, ◌+◌, ◌≤◌, Bool, true, false, [], ◌∷◌, ◌++◌, length, length-append, IfSome, refl, sym, ap, subst, ◌∙◌, arith, rules, string_bytes, yank_pop, Line, Plan, Takes, single, listener_after, listener_after_step, Done, unless_empty, text_in, Asked, edit, other, asked, Course, when, edits, lends, pops, tells, Effect, by_steps, Telling, answers, inserts, hands_out, is_done, course_of, edit_course, effect, lent_plan, popped_plan, other_course, told_as, Came, Does, Edited, popped, State, Command, BadPlace, Reply, eqb-true, option_map, ◌==◌, Range, IsCharBoundary, IsUtf8, Event, InsertChar, InsertStr, Replace, Start, Direction, Forward, Movement, WordAction, is_by_characters, kill_plan, kill_range_plan, removal, side_of, respell, respelled, word_ahead, Entry, Record, entries_after, entries_of, entries_told, IsEdit, WasRefused, pair_step}
+use Rattle.rl_session.proofs.Common.{Stop, Cursors, ℕ, List, Option, Some, None, ◌≡◌, ◌+◌, ◌≤◌, Bool, true, false, [], ◌∷◌, ◌++◌, length, length-append, IfSome, refl, sym, ap, subst, ◌∙◌, arith, rules, string_bytes, yank_pop, Line, Plan, Takes, single, listener_after, listener_after_step, Done, unless_empty, text_in, Asked, edit, other, asked, Course, when, edits, lends, pops, tells, Effect, by_steps, Telling, answers, inserts, hands_out, is_done, course_of, edit_course, effect, lent_plan, popped_plan, other_course, told_as, Came, Does, Edited, popped, State, Command, BadPlace, Reply, eqb-true, option_map, ◌==◌, Range, IsCharBoundary, IsUtf8, Event, InsertChar, InsertStr, Replace, Start, Direction, Forward, Movement, WordAction, is_by_characters, kill_plan, kill_range_plan, removal, side_of, respell, respelled, word_ahead, Entry, Record, entries_after, entries_of, entries_told, IsEdit, WasRefused, pair_step}
 use Rattle.rl_base.specs.KillRing.{yank}
 use Rattle.rl_line.specs.Plan.{Step as PlanStep}
 use Rattle.rl_line.specs.Ranges.{killed}
@@ -67,26 +67,16 @@ popped-changes line None = tt
 popped-changes line (Some p) = NoneStarts-yank_pop line p.0 p.1
 
 other-changes : (old : State) (command : Command) (reply : Reply) → Changes (other_course old command reply)
-other-changes old (asks.SetPos q) (says.Refused BadPlace) = tt
-other-changes old (asks.Move m) (says.Answer a) = tt
-other-changes old (asks.Copy m) (says.Refused NoMemory) = tt
 other-changes old (asks.Kill m) (says.Answer a) = NoneStarts-kill old.line m
 other-changes old (asks.Kill m) (says.Refused NoMemory) = NoneStarts-kill old.line m
 other-changes old (asks.KillRange i j side) (says.Answer a) = NoneStarts-removal old.line (unless_empty i j) side
 other-changes old (asks.KillRange i j side) (says.Refused NoMemory) = NoneStarts-removal old.line (unless_empty i j) side
-other-changes old (asks.Keep t) (says.Refused NoMemory) = tt
 other-changes old (asks.Yank n) (says.Inserted a) = lent-changes old.line (yank old.pair.ring) n
 other-changes old (asks.Yank n) (says.Refused NoMemory) = lent-changes old.line (yank old.pair.ring) n
 other-changes old asks.YankPop (says.Inserted a) = popped-changes old.line (yank_pop old.pair.ring)
 other-changes old asks.YankPop (says.Refused NoMemory) = popped-changes old.line (yank_pop old.pair.ring)
-other-changes old asks.Begin (says.Refused NoMemory) = tt
-other-changes old asks.End (says.Refused NoMemory) = tt
-other-changes old asks.EndOne (says.Refused NoMemory) = tt
-other-changes old (asks.Undo n) (says.Refused NoMemory) = tt
-other-changes old asks.Redo (says.Refused NoMemory) = tt
-other-changes old (asks.Truncate len) (says.Refused NoMemory) = tt
-other-changes old asks.LinePlace (says.At k columns) = tt
-other-changes old command reply = tt
+other-changes old _ (says.Refused NoMemory) = tt
+other-changes old _ _ = tt
 
 course-changes : (what : Asked) (old : State) (command : Command) (reply : Reply) → AsksChanges what → Changes (course_of what old command reply)
 course-changes (edit takes condition plan telling) old command reply c = edit-changes takes condition plan telling reply c
@@ -180,19 +170,15 @@ pub record Adds (e : Entry) (old new : Line) (now : Record) : Type 0 where
 
 dropped-step : (b : ℕ) (event : Event) (a : ℕ) (ss : List PlanStep) (r : Record) → IsLone event ss → (listener_after_step record_step b (event, a) r).pending ≡ []
 unfolding record_step
-dropped-step b (InsertChar i c) a ss r lone = refl
-dropped-step b (InsertStr i s) a ss r lone = refl
-dropped-step b (Delete i s side) a ss r lone = refl
-dropped-step b (Replace i s t) a ss r lone = refl
-dropped-step b _ a ss r lone = absurd lone
-
-dropped-steps : (cursor : ℕ) (steps : List PlanStep) (r : Record) → Quiet cursor steps → r.pending ≡ [] → (listener_after record_step cursor steps r).pending ≡ []
-dropped-steps cursor [] r q h = h
-dropped-steps cursor (s ∷ ss) r q h = dropped-steps s.1 ss (listener_after_step record_step cursor s r) q.2 (dropped-step cursor s.0 s.1 ss r q.1)
+dropped-step b Start a ss r lone = absurd lone
+dropped-step b Stop a ss r lone = absurd lone
+dropped-step b (Cursors _ _) a ss r lone = absurd lone
+dropped-step b _ a ss r lone = refl
 
 dropped-some : (cursor : ℕ) (steps : List PlanStep) (r : Record) → Quiet cursor steps → (steps ≡ [] → ⊥) → (listener_after record_step cursor steps r).pending ≡ []
 dropped-some cursor [] r q some = absurd (some refl)
-dropped-some cursor (s ∷ ss) r q some = dropped-steps s.1 ss (listener_after_step record_step cursor s r) q.2 (dropped-step cursor s.0 s.1 ss r q.1)
+dropped-some cursor (s ∷ []) r q some = dropped-step cursor s.0 s.1 [] r q.1
+dropped-some cursor (s ∷ (t ∷ ss)) r q some = dropped-some s.1 (t ∷ ss) (listener_after_step record_step cursor s r) q.2 (λ e. cc)
 
 done-adds : {A : Type 0} (plan : Plan A) (line new : Line) (r now : Record) (a : A) (e : Entry) → IsUtf8 line.text → (AddsOne line r e plan → Settles line plan)
     → Done record_step plan line new r now a → now.recorded ≡ r.recorded ++ e ∷ [] → Adds e line new now

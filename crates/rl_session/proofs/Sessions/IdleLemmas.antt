@@ -1,5 +1,5 @@
 -- No kill is on between the commands of a session: only a kill tells its start, and it tells its end too.
-use Rattle.rl_session.proofs.Common.{cond_both, ◌≡◌, ℕ, ◌+◌, ◌-◌, ◌*◌, ◌==◌, ◌||◌, Bool, true, false, List, [], ◌∷◌, ◌++◌, length, Option, Some, None, ap, subst, ◌∙◌, inl, inr, encode_utf8, remove_range, Range, Event, InsertChar, InsertStr, Replace, IsChange, Ring, after_deletion, popped_ring, ring_step, turned, yank_popped, yank_size, yanked, Direction, Refusal, Movement, insert_plan, too_long, yank_plan, yank_pop_plan, indent_plan, line_plan, lines_plan, parts, pushed, put_spaces, Told, kill_plan, removal, side_of, WordAction, edit_word_plan, respell, word_ahead, Line, stepped, Plan, listener_after, Done, Halted, or_no_memory, Entry, Begin, End, Changed, cursor_after, steps_ahead, are_two, first_word, pulled_back, second_word, transpose_chars_plan, transpose_words_plan, pair_step, pair_refused, Pair}
+use Rattle.rl_session.proofs.Common.{sym, cond_both, ◌≡◌, ℕ, ◌+◌, ◌-◌, ◌*◌, ◌==◌, ◌||◌, Bool, true, false, List, [], ◌∷◌, ◌++◌, length, Option, Some, None, ap, subst, ◌∙◌, inl, inr, encode_utf8, remove_range, Range, Event, InsertChar, InsertStr, Replace, IsChange, Ring, after_deletion, popped_ring, ring_step, turned, yank_popped, yank_size, yanked, Direction, Refusal, Movement, insert_plan, too_long, yank_plan, yank_pop_plan, indent_plan, line_plan, lines_plan, parts, pushed, put_spaces, Told, kill_plan, removal, side_of, WordAction, edit_word_plan, respell, word_ahead, Line, stepped, Plan, listener_after, Done, Halted, or_no_memory, Entry, Begin, End, Changed, cursor_after, steps_ahead, are_two, first_word, pulled_back, second_word, transpose_chars_plan, transpose_words_plan, pair_step, pair_refused, Pair}
 use Rattle.rl_base.specs.Event.{Delete}
 use Rattle.rl_base.specs.KillRing.{lent, yank}
 use Rattle.rl_line.specs.Plan.{Step}
@@ -11,45 +11,44 @@ use Rattle.rl_session.proofs.Sessions.PairLemmas.{listener_after-ring}
 abbrev pub NoneStarts : List Step → Type 0
 NoneStarts steps = AreChanges steps
 
+pub NoneStarts-first : (first : List Step) (next : Step) (others : List Step) → NoneStarts (first ++ next ∷ others) → NoneStarts first × IsChange next.0
+NoneStarts-first [] next others n = (tt, n.0)
+NoneStarts-first (s ∷ ss) next others n = let rest = NoneStarts-first ss next others n.1 in ((n.0, rest.0), rest.1)
+
+-- ---- what a ring keeps at each change, it keeps over an edit
+module _ (Keeps : Ring → Type 0) (heard : (event : Event) (r : Ring) → IsChange event → Keeps r → Keeps (ring_step r event)) where
+  ring-steps : (cursor : ℕ) (steps : List Step) (r : Ring) → NoneStarts steps → Keeps r → Keeps (listener_after ring_step cursor steps r)
+  ring-steps cursor [] r n h = h
+  ring-steps cursor (s ∷ ss) r n h = ring-steps s.1 ss (ring_step r s.0) n.1 (heard s.0 r n.0 h)
+
+  ring-taken : (cursor : ℕ) (steps : List Step) (p q : Pair) → q ≡ listener_after pair_step cursor steps p → NoneStarts steps → Keeps p.ring → Keeps q.ring
+  ring-taken cursor steps p q e n h =
+      subst Keeps (sym (ap (λ (k : Pair). k.ring) e ∙ listener_after-ring cursor steps p)) (ring-steps cursor steps p.ring n h)
+
+  pub ring-Done : {A : Type 0} (plan : Plan A) (old new : Line) (p q : Pair) (a : A) → NoneStarts plan.steps → Done pair_step plan old new p q a → Keeps p.ring → Keeps q.ring
+  ring-Done plan old new p q a n d h = ring-taken old.cursor plan.steps p q d.taken.listener n h
+
+  -- a refused event leaves the ring, or the ring heard it
+  ring-cause : (p q : Pair) (e : Event) (w : Refusal) → IsChange e → Keeps p.ring → or_no_memory pair_refused p e w q → Keeps q.ring
+  ring-cause p q e w n h (inl same) = subst (λ (k : Pair). Keeps k.ring) (sym same.1) h
+  ring-cause p q e w n h (inr c) = elim c.3 [ inl same ↦ subst Keeps (sym same.0) h | inr step ↦ subst Keeps (sym step.0) (heard e p.ring n h) ]
+
+  pub ring-Halted : {A : Type 0} (plan : Plan A) (old new : Line) (p q : Pair) (w : Refusal) → NoneStarts plan.steps
+      → Halted pair_step (or_no_memory pair_refused) plan old new p q w → Keeps p.ring → Keeps q.ring
+  ring-Halted plan old new p q w n d h =
+      let parts = NoneStarts-first d.first d.next d.others (subst NoneStarts d.split n) in
+      ring-cause d.middle q d.next.0 w parts.1 (ring-taken old.cursor d.first p d.middle d.taken.listener parts.0 h) d.cause
+
 -- ---- a ring that hears of no start
-idle-step : (event : Event) (r : Ring) → IsChange event → r.killing ≡ false → (ring_step r event).killing ≡ false
+abbrev pub IsIdle : Ring → Type 0
+IsIdle r = r.killing ≡ false
+
+pub idle-step : (event : Event) (r : Ring) → IsChange event → IsIdle r → IsIdle (ring_step r event)
 idle-step (InsertChar i c) r n h = h
 idle-step (InsertStr i s) r n h = h
 idle-step (Delete i s side) r n h = ap (λ b. (after_deletion b s side r).killing) h ∙ h
 idle-step (Replace i s t) r n h = h
 idle-step _ r n h = absurd n
-
-idle-steps : (cursor : ℕ) (steps : List Step) (r : Ring) → NoneStarts steps → r.killing ≡ false → (listener_after ring_step cursor steps r).killing ≡ false
-idle-steps cursor [] r n h = h
-idle-steps cursor (s ∷ ss) r n h = idle-steps s.1 ss (ring_step r s.0) n.1 (idle-step s.0 r n.0 h)
-
-idle-taken : (cursor : ℕ) (steps : List Step) (p q : Pair) → q ≡ listener_after pair_step cursor steps p → NoneStarts steps → p.ring.killing ≡ false → q.ring.killing ≡ false
-idle-taken cursor steps p q e n h =
-    ap (λ (k : Pair). k.ring.killing) e ∙ ap (λ (r : Ring). r.killing) (listener_after-ring cursor steps p) ∙ idle-steps cursor steps p.ring n h
-
-pub idle-Done : {A : Type 0} (plan : Plan A) (old new : Line) (p q : Pair) (a : A) → NoneStarts plan.steps → Done pair_step plan old new p q a
-    → p.ring.killing ≡ false → q.ring.killing ≡ false
-idle-Done plan old new p q a n d h = idle-taken old.cursor plan.steps p q d.taken.listener n h
-
-pub NoneStarts-first : (first : List Step) (next : Step) (others : List Step) → NoneStarts (first ++ next ∷ others) → NoneStarts first × IsChange next.0
-NoneStarts-first [] next others n = (tt, n.0)
-NoneStarts-first (s ∷ ss) next others n = let rest = NoneStarts-first ss next others n.1 in ((n.0, rest.0), rest.1)
-
--- a refused event leaves the ring, or the ring heard it
-idle-refused : (p q : Pair) (e : Event) (w : Refusal) → IsChange e → p.ring.killing ≡ false → pair_refused p e w q → q.ring.killing ≡ false
-idle-refused p q e w n h c = elim c.3 [
-  | inl same ↦ ap (λ (r : Ring). r.killing) same.0 ∙ h
-  | inr step ↦ ap (λ (r : Ring). r.killing) step.0 ∙ idle-step e p.ring n h
-]
-
-idle-cause : (p q : Pair) (e : Event) (w : Refusal) → IsChange e → p.ring.killing ≡ false → or_no_memory pair_refused p e w q → q.ring.killing ≡ false
-idle-cause p q e w n h c = elim c [ inl same ↦ ap (λ (k : Pair). k.ring.killing) same.1 ∙ h | inr d ↦ idle-refused p q e w n h d ]
-
-pub idle-Halted : {A : Type 0} (plan : Plan A) (old new : Line) (p q : Pair) (w : Refusal) → NoneStarts plan.steps
-    → Halted pair_step (or_no_memory pair_refused) plan old new p q w → p.ring.killing ≡ false → q.ring.killing ≡ false
-idle-Halted plan old new p q w n d h =
-    let parts = NoneStarts-first d.first d.next d.others (subst NoneStarts d.split n) in
-    idle-cause d.middle q d.next.0 w parts.1 (idle-taken old.cursor d.first p d.middle d.taken.listener parts.0 h) d.cause
 
 -- the end of a kill was told, whatever was heard in it
 pub idle-Told : (b : Bool) (P : Pair → Pair → Type 0) (p q : Pair) → (P p q → q.ring.killing ≡ false) → Told pair_step b P p q → q.ring.killing ≡ false

@@ -1,5 +1,5 @@
 -- What the plans of the edits do with the cursor: a step that adds no entry leaves it, and a plan ends where its last step leaves it.
-use Rattle.rl_session.proofs.Common.{◌≡◌, ℕ, ◌+◌, ◌-◌, ◌*◌, ◌==◌, ◌||◌, ◌≤◌, ◌<◌, Bool, true, false, zero, suc, List, [], ◌∷◌, ◌++◌, length, slice_range, take, drop, take_at, false-eqb, slice_get, take_all, reverse, length-append, eq-eqb, leb-true, ap₂, Option, Some, None, refl, sym, ap, subst, ◌∙◌, cond, eqb-true, arith, sum, length-between, nat_tests, sum_by-cons, encode_utf8, nat_lt, nat_le, not, ◌&&◌, option_and_then, unwrap_or, All, remove_range, repeat, Range, Event, InsertChar, InsertStr, Replace, Direction, Forward, Movement, ForwardChar, cut_to_limit, insert_event, insert_plan, insert_str_plan, replace_plan, too_long, update_plan, yank_plan, yank_pop_plan, blanks, indent_plan, line_plan, lines_plan, parts, pulled, pushed, put_spaces, spaces, word_ahead, delete_plan, kill_plan, removal, side_of, Line, between, stepped, Plan, answering, single, text_in, to_place, Entry, cond_both, length_push, reverse-append, reverse-reverse, length-take-le, length-drop, All-head, All-weaker, same_Some, IsUtf8-nil, IsUtf8-take, IsUtf8-drop, IsCharBoundary-end, IsCharBoundary-from_rest, IfSome, option_map, option_or, IsCharBoundary, IsUtf8, clusters, bytes_in, next_pos, prev_pos, PlacedCluster, first_member, next_stop, nth, placed_clusters, Emacs, are_two, clusters_around, first_word, meeting_place, only_move, pulled_back, second_word, swap_plan, transpose_chars_plan, transpose_words_plan, word_end, word_start}
+use Rattle.rl_session.proofs.Common.{IsCharBoundary-start, ◌≡◌, ℕ, ◌+◌, ◌-◌, ◌*◌, ◌==◌, ◌||◌, ◌≤◌, ◌<◌, Bool, true, false, zero, suc, List, [], ◌∷◌, ◌++◌, length, slice_range, take, drop, take_at, false-eqb, slice_get, take_all, reverse, length-append, eq-eqb, leb-true, ap₂, Option, Some, None, refl, sym, ap, subst, ◌∙◌, cond, eqb-true, arith, sum, length-between, nat_tests, sum_by-cons, encode_utf8, nat_lt, nat_le, not, ◌&&◌, option_and_then, unwrap_or, All, remove_range, repeat, Range, Event, InsertChar, InsertStr, Replace, Direction, Forward, Movement, ForwardChar, cut_to_limit, insert_event, insert_plan, insert_str_plan, replace_plan, too_long, update_plan, yank_plan, yank_pop_plan, blanks, indent_plan, line_plan, lines_plan, parts, pulled, pushed, put_spaces, spaces, word_ahead, delete_plan, kill_plan, removal, side_of, Line, between, stepped, Plan, answering, single, text_in, to_place, Entry, cond_both, length_push, reverse-append, reverse-reverse, length-take-le, length-drop, All-head, All-weaker, same_Some, IsUtf8-take, IsUtf8-drop, IsCharBoundary-end, IsCharBoundary-from_rest, IfSome, option_map, option_or, IsCharBoundary, IsUtf8, clusters, bytes_in, next_pos, prev_pos, PlacedCluster, first_member, next_stop, nth, placed_clusters, Emacs, are_two, clusters_around, first_word, meeting_place, pulled_back, second_word, swap_plan, transpose_chars_plan, transpose_words_plan, word_end, word_start}
 use Rattle.rl_line.proofs.Plans.IndentLemmas.{length-spaces, pushed-none, pushed-pushed, sum-parts}
 use Rattle.rl_base.specs.Event.{Delete}
 use Rattle.rl_line.proofs.Plans.EditLemmas.{length-repeat}
@@ -141,11 +141,8 @@ Open-put_spaces (n ∷ more) i cursor = (λ later. tt, Open-put_spaces more i (p
 pushed-still : (i n cursor : ℕ) → n ≡ 0 → pushed i n cursor ≡ cursor
 pushed-still i n cursor none = ap (λ k. pushed i k cursor) none ∙ pushed-none i cursor
 
-pulled-none : (i cursor : ℕ) → pulled i 0 cursor ≡ cursor
-pulled-none i cursor = grind (arith, nat_tests)
-
 pulled-still : (i n cursor : ℕ) → n ≡ 0 → pulled i n cursor ≡ cursor
-pulled-still i n cursor none = ap (λ k. pulled i k cursor) none ∙ pulled-none i cursor
+pulled-still i n cursor none = grind (arith, nat_tests)
 
 Quiet-put_spaces : (sizes : List ℕ) (i cursor : ℕ) → Quiet cursor (put_spaces sizes i cursor)
 Quiet-put_spaces [] i cursor = tt
@@ -312,33 +309,26 @@ next_stop-is text n u = from (nth n (stops stop_at.AfterEnd Emacs (placed_cluste
     from None e = IsCharBoundary-end text
     from (Some stop) e = IsCharBoundary-stop text stop_at.AfterEnd Emacs n stop u (sym e)
 
-IsCharBoundary-word_end : (text : List ℕ) (pos n : ℕ) → IsUtf8 text → IsCharBoundary text pos → IsCharBoundary text (word_end text pos n)
-IsCharBoundary-word_end text pos n u bound = from (pos == length text) (next_stop stop_at.AfterEnd Emacs n (drop pos text)) (next_stop-is (drop pos text) n (IsUtf8-drop text pos u bound))
+-- a word ends at a boundary of what follows the place
+ends_past : (text : List ℕ) (pos n : ℕ) → (k : ℕ) × (word_end text pos n ≡ pos + k) × (IsUtf8 (drop pos text) → IsCharBoundary (drop pos text) k)
+ends_past text pos n = from (pos == length text) (next_stop stop_at.AfterEnd Emacs n (drop pos text)) (next_stop-is (drop pos text) n)
   where
-    from : (b : Bool) (o : Option ℕ) → IfSome o (IsCharBoundary (drop pos text)) → IsCharBoundary text (unwrap_or (cond b None (option_map (λ stop. pos + stop) o)) pos)
-    from true o h = bound
-    from false None h = bound
-    from false (Some stop) h = IsCharBoundary-from_rest text pos stop bound.0 h
+    from : (b : Bool) (o : Option ℕ) → (IsUtf8 (drop pos text) → IfSome o (IsCharBoundary (drop pos text)))
+        → (k : ℕ) × (unwrap_or (cond b None (option_map (λ stop. pos + stop) o)) pos ≡ pos + k) × (IsUtf8 (drop pos text) → IsCharBoundary (drop pos text) k)
+    from false (Some stop) h = (stop, refl, h)
+    from true o h = (0, omega arith, λ u. IsCharBoundary-start (drop pos text) u)
+    from false None h = (0, omega arith, λ u. IsCharBoundary-start (drop pos text) u)
 
-end-after : (text : List ℕ) (pos n : ℕ) → pos ≤ word_end text pos n
-end-after text pos n = from (pos == length text) (next_stop stop_at.AfterEnd Emacs n (drop pos text))
-  where
-    from : (b : Bool) (o : Option ℕ) → pos ≤ unwrap_or (cond b None (option_map (λ stop. pos + stop) o)) pos
-    from true o = omega arith
-    from false None = omega arith
-    from false (Some stop) = omega arith
+IsCharBoundary-word_end : (text : List ℕ) (pos n : ℕ) → IsUtf8 text → IsCharBoundary text pos → IsCharBoundary text (word_end text pos n)
+IsCharBoundary-word_end text pos n u bound =
+    let (k, is, at) = ends_past text pos n in subst (IsCharBoundary text) (sym is) (IsCharBoundary-from_rest text pos k bound.0 (at (IsUtf8-drop text pos u bound)))
 
 -- from a place to the end of its word is text, and so is the word ahead
 IsUtf8-to_word_end : (text : List ℕ) (pos n : ℕ) → IsUtf8 text → IsCharBoundary text pos → IsUtf8 (slice_range text pos (word_end text pos n))
-IsUtf8-to_word_end text pos n u bound = from (pos == length text) (next_stop stop_at.AfterEnd Emacs n (drop pos text)) (next_stop-is (drop pos text) n (IsUtf8-drop text pos u bound))
-  where
-    past : (stop k : ℕ) → k ≡ stop - pos → IsUtf8 (take k (drop pos text)) → IsUtf8 (slice_range text pos stop)
-    past stop k e h = subst (λ m. IsUtf8 (take m (drop pos text))) e h
-
-    from : (b : Bool) (o : Option ℕ) → IfSome o (IsCharBoundary (drop pos text)) → IsUtf8 (slice_range text pos (unwrap_or (cond b None (option_map (λ stop. pos + stop) o)) pos))
-    from true o h = past pos 0 (omega arith) IsUtf8-nil
-    from false None h = past pos 0 (omega arith) IsUtf8-nil
-    from false (Some stop) h = past (pos + stop) stop (omega arith) (IsUtf8-take (drop pos text) stop (IsUtf8-drop text pos u bound) h)
+IsUtf8-to_word_end text pos n u bound =
+    let (k, is, at) = ends_past text pos n in
+    let v = IsUtf8-drop text pos u bound in
+    let long : k ≡ word_end text pos n - pos = omega (arith, is) in subst (λ m. IsUtf8 (take m (drop pos text))) long (IsUtf8-take (drop pos text) k v (at v))
 
 pub IsUtf8-word_ahead : (line : Line) → IsUtf8 line.text → IsCharBoundary line.text line.cursor → IfSome (word_ahead line) (λ word. IsUtf8 (text_in line word))
 IsUtf8-word_ahead line u at = from (first_member (placed_clusters rest)) (IsCharBoundary-member rest)
@@ -383,25 +373,21 @@ apart first second h = from (first.start == second.start) (nat_le first.end seco
     from false false e k two = cc
     from false true e k two = ((λ same. absurd (cc (e, eq-eqb first.start second.start same))), leb-true first.end second.start k)
 
-Settles-words : (line : Line) (n : ℕ) (b : Bool) → ((text : List ℕ) → IsUtf8 text → NoneAtEnd text) → IsUtf8 line.text → IsCharBoundary line.text line.cursor → are_two (first_word line n) (second_word line n) ≡ b
-    → Settles line (cond b (answering true (swap_plan line (first_word line n) (second_word line n))) (only_move (first_word line n).end))
-Settles-words line n false full u bound e = record { quiet = tt; ends = λ some. absurd (some refl) }
-Settles-words line n true full u bound e =
-    let text = line.text in
-    let first = first_word line n in
-    let second = second_word line n in
-    let stop = IsCharBoundary-word_end text line.cursor n u bound in
-    let two = apart first second e in
-    Settles-swap line first second (end-after text first.start 1) two.1 (wide second.end refl two.0) stop.0
-  where
-    wide : (stop : ℕ) → word_end line.text line.cursor n ≡ stop → ((first_word line n).start ≡ (second_word line n).start → ⊥) → (second_word line n).start < (second_word line n).end
-    wide zero is differ =
-        let none : word_start line.text (word_end line.text line.cursor n) 1 ≡ 0 = ap (λ k. word_start line.text k 1) is in
-        absurd (differ (ap (λ k. word_start line.text k n) none ∙ sym none))
-    wide (suc k) is differ =
-        let stop = IsCharBoundary-word_end line.text line.cursor n u bound in
-        let at = word_end line.text line.cursor n in
-        start-below line.text at 1 (full (take at line.text) (IsUtf8-take line.text at u stop)) u stop (omega (arith, is))
-
 pub Settles-transpose_words : (line : Line) (n : ℕ) → ((text : List ℕ) → IsUtf8 text → NoneAtEnd text) → IsUtf8 line.text → IsCharBoundary line.text line.cursor → Settles line (transpose_words_plan line n)
-Settles-transpose_words line n full u bound = Settles-words line n (are_two (first_word line n) (second_word line n)) full u bound refl
+Settles-transpose_words line n full u bound =
+    cond_both (are_two (first_word line n) (second_word line n)) _ _ (Settles line)
+    (λ e. let two = apart (first_word line n) (second_word line n) e in
+    Settles-swap line (first_word line n) (second_word line n) (omega (arith, (ends_past line.text (first_word line n).start 1).1)) two.1 (wide (second_word line n).end refl two.0) stop.0)
+    (λ e. record { quiet = tt; ends = λ some. absurd (some refl) })
+  where
+    at : ℕ
+    at = word_end line.text line.cursor n
+
+    stop : IsCharBoundary line.text at
+    stop = IsCharBoundary-word_end line.text line.cursor n u bound
+
+    wide : (end : ℕ) → at ≡ end → ((first_word line n).start ≡ (second_word line n).start → ⊥) → (second_word line n).start < (second_word line n).end
+    wide zero is differ =
+        let none : word_start line.text at 1 ≡ 0 = ap (λ k. word_start line.text k 1) is in
+        absurd (differ (ap (λ k. word_start line.text k n) none ∙ sym none))
+    wide (suc k) is differ = start-below line.text at 1 (full (take at line.text) (IsUtf8-take line.text at u stop)) u stop (omega (arith, is))

@@ -1,15 +1,15 @@
 -- What holds whatever a call answered.
-use Rattle.rl_session.proofs.Common.{ToldOutcome, Outcome, Cut, Bool, false, true, inr, List, [], ◌∷◌, ◌*◌, ◌+◌, ◌<◌, ◌==◌, ◌||◌, cond, Result, Ok, Err, ◌≡◌, ◌∙◌, ap, ap₂, arith, refl, subst, sym, append-nil, inl, ◌≤◌, ℕ, length, take_all, nat_tests, IsCharBoundary-start, IsUtf8-nil, Option, None, max, IsSome, Some, IfOk, IfErr, IsUtf8, Event, InsertStr, Start, apply, Stop, HasText, Refusal, Movement, Line, stepped, Moved, Plan, single, Done, Halted, or_no_memory, Takes, nothing_more, a_copy, insert_str_plan, too_long, yank_plan, Told, is_by_characters, kill_plan, Record, agree, replays_to, unwind, Redone, Undone, adds_end, begun, with_closed, State, AtRest, Follows, Edited, lent_plan, popped, popped_plan, pair_step, pair_refused, Pair, IsCharBoundary, Walks, line_back, bytes_eq-Decides, same_Some}
+use Rattle.rl_session.proofs.Common.{ToldOutcome, Outcome, Cut, line_ahead, replay_entries, Bool, false, true, inr, List, [], ◌∷◌, ◌*◌, ◌+◌, ◌<◌, ◌==◌, ◌||◌, cond, Result, Ok, Err, ◌≡◌, ◌∙◌, ap, ap₂, arith, refl, subst, sym, append-nil, inl, ◌≤◌, ℕ, length, take_all, nat_tests, IsCharBoundary-start, IsUtf8-nil, Option, None, max, IsSome, Some, IfOk, IfErr, IsUtf8, Event, InsertStr, Start, apply, Stop, HasText, Refusal, Movement, Line, stepped, Moved, Plan, single, Done, Halted, or_no_memory, Takes, nothing_more, a_copy, insert_str_plan, too_long, yank_plan, Told, is_by_characters, kill_plan, Record, agree, replays_to, unwind, Redone, Undone, adds_end, begun, with_closed, State, AtRest, Follows, Edited, lent_plan, popped, popped_plan, pair_step, pair_refused, Pair, IsCharBoundary, Walks, line_back, bytes_eq-Decides, same_Some}
 use Rattle.rl_base.proofs.Texts.EventLemmas.{apply-InsertStr}
 use Rattle.rl_base.specs.declared.listeners.Refusal.TheVariants as why
 use Rattle.rl_line.specs.Plan.{nothing}
 use Rattle.rl_line.proofs.Records.JoinLemmas.{record_step-Start, record_step-Stop}
 use Rattle.rl_line.proofs.Plans.PlanLemmas.{first_step}
 use Rattle.rl_session.specs.Commands.{lent}
-use Rattle.rl_session.proofs.Sessions.IdleLemmas.{NoneStarts, NoneStarts-kill, idle-Done, idle-Halted, idle-Told}
+use Rattle.rl_session.proofs.Sessions.IdleLemmas.{NoneStarts, NoneStarts-kill, IsIdle, idle-step, idle-Told, ring-Done, ring-Halted}
 use Rattle.rl_session.proofs.Sessions.PairLemmas.{Halted-own, Done-changes, Halted-changes, keeps_changes}
 use Rattle.rl_line.proofs.Records.RecordLemmas.{value_of}
-use Rattle.rl_line.proofs.Records.UndoLemmas.{line_back-unwind}
+use Rattle.rl_line.proofs.Records.UndoLemmas.{line_ahead-replay, line_back-unwind}
 use Rattle.rl_line.proofs.Records.WalkLemmas.{Walks-Done, Walks-Halted, Walks-Redone, Walks-Undone, Walks-ahead, Walks-back, Walks-begun, Walks-closed}
 
 -- a text that goes into an empty line
@@ -47,12 +47,12 @@ AtRest-Moved place p old new a m h = record { walks = Walks-Moved place p.change
 
 AtRest-pair : {A : Type 0} (plan : Plan A) (p q : Pair) (old new : Line) (a : A) → IsCharBoundary old.text old.cursor → NoneStarts plan.steps → Done pair_step plan old new p q a
     → AtRest old p → AtRest new q
-AtRest-pair plan p q old new a at none d h = record { walks = Walks-pair plan p q old new a at d h.walks; idle = idle-Done plan old new p q a none d h.idle }
+AtRest-pair plan p q old new a at none d h = record { walks = Walks-pair plan p q old new a at d h.walks; idle = ring-Done IsIdle idle-step plan old new p q a none d h.idle }
 
 AtRest-refused : {A : Type 0} (plan : Plan A) (p q : Pair) (old new : Line) (w : Refusal) → IsCharBoundary old.text old.cursor → NoneStarts plan.steps → Halted pair_step (or_no_memory pair_refused) plan old new p q w
     → AtRest old p → AtRest new q
 AtRest-refused plan p q old new w at none d h =
-    record { walks = Walks-refused plan p q old new w at d h.walks; idle = idle-Halted plan old new p q w none d h.idle }
+    record { walks = Walks-refused plan p q old new w at d h.walks; idle = ring-Halted IsIdle idle-step plan old new p q w none d h.idle }
 
 -- an edit, which may copy what it moves
 AtRest-same : (p q : Pair) (old new : Line) → new ≡ old → q ≡ p → AtRest old p → AtRest new q
@@ -85,11 +85,11 @@ pub AtRest-told : (b : Bool) (plan : Plan Bool) (p q : Pair) (old new : Line) (r
     → ToldOutcome pair_step pair_refused b plan old new p q result → AtRest old p → AtRest new q
 AtRest-told b plan p q old new (Ok a) at none d r = record {
   walks = Walks-Told b _ p q old new (λ before now i. Walks-pair plan before now old new a at i) d r.walks;
-  idle = idle-Told b _ p q (λ i. idle-Done plan old new p q a none i r.idle) d;
+  idle = idle-Told b _ p q (λ i. ring-Done IsIdle idle-step plan old new p q a none i r.idle) d;
 }
 AtRest-told b plan p q old new (Err w) at none h r = record {
   walks = Walks-Told b _ p q old new (λ before now i. Walks-refused plan before now old new w at (Halted-own nothing_more plan old new before now w i)) h r.walks;
-  idle = idle-Told b _ p q (λ i. idle-Halted plan old new p q w none (Halted-own nothing_more plan old new p q w i) r.idle) h;
+  idle = idle-Told b _ p q (λ i. ring-Halted IsIdle idle-step plan old new p q w none (Halted-own nothing_more plan old new p q w i) r.idle) h;
 }
 
 -- nothing was done, since memory is out
@@ -128,10 +128,16 @@ pub Follows-Walks : (r : Record) (line : Line) → IsCharBoundary line.text line
 Follows-Walks r line at w = record { back = Walks-back r line w at; ahead = Walks-ahead r line w at }
 
 -- so the recorded changes can be unwound
-pub Follows-unwind : (r : Record) (line : Line) → Follows line r → IsSome (unwind r.recorded line.text)
-Follows-unwind r line f =
+pub follows_unwind : (r : Record) (line : Line) → Follows line r → IsSome (unwind r.recorded line.text)
+follows_unwind r line f =
     let now = value_of (line_back r.recorded line) f.back in
     subst IsSome (sym (line_back-unwind r.recorded line now.0 now.1)) refl
+
+-- and what was undone can be redone
+pub follows_replay : (r : Record) (line : Line) → Follows line r → IsSome (replay_entries r.pending line.text)
+follows_replay r line f =
+    let now = value_of (line_ahead r.pending line) f.ahead in
+    subst IsSome (sym (line_ahead-replay r.pending line now.0 now.1)) refl
 
 Edited-nothing : {A : Type 0} (a : A) (s : State) → Edited (nothing s.line a) s s a
 Edited-nothing a s = record {

@@ -1,5 +1,5 @@
 -- What a watch keeps of a text at each event, it keeps over a command.
-use Rattle.rl_session.proofs.Common.{◌≡◌, ◌∙◌, ℕ, ◌^◌, ◌<◌, arith, true, false, List, length, Option, Some, None, option_map, ◌≤◌, inl, inr, sym, ap, subst, map, option_and_then, reverse, unwrap_or, IsCharBoundary-end, IsCharBoundary, IsUtf8, Event, Replace, Start, Stop, Cursors, apply, HasTexts, IsChange, IsLineText, LacksTexts, Noted, Queue, Stand, TellsByTexts, after_numbers, after_texts, oldest, queue_step, Covers, spliced, Watched, ReportsLead, next_note, past_next, text_room, watch_step, Line, Taken, steps_ahead, steps_back, last_of, redo_of, inverse, Effect, by_steps, puts_begin, puts_ends, puts_end, shortens, takes_back, puts_again, Became, effect, readied, Course, never, when, stays, goes, edits, lends, pops, tells, Came, WatchHears, popped, pair_step, State, ChangedFrom, IsBounded, ReportedFrom, Stands, restarted, with_watch, Row, Run, Command, Reply, Pair}
+use Rattle.rl_session.proofs.Common.{◌≡◌, ◌∙◌, ℕ, ◌^◌, ◌<◌, arith, true, false, List, length, Option, Some, None, option_map, ◌≤◌, inl, inr, sym, ap, subst, map, option_and_then, reverse, unwrap_or, IsCharBoundary-end, IsCharBoundary, IsUtf8, Event, Replace, Start, Stop, Cursors, apply, HasTexts, IsChange, IsLineText, LacksTexts, Noted, Queue, Stand, TellsByTexts, after_numbers, after_texts, oldest, queue_step, Covers, spliced, Watched, ReportsLead, next_note, past_next, text_room, watch_step, Line, Taken, steps_ahead, steps_back, last_of, redo_of, inverse, Effect, by_steps, takes_back, puts_again, Became, effect, readied, Course, never, when, stays, goes, edits, lends, pops, tells, Came, WatchHears, popped, pair_step, State, ChangedFrom, IsBounded, ReportedFrom, Stands, restarted, with_watch, Row, Run, Command, Reply, Pair}
 use Rattle.rl_base.specs.Reports.{forgotten}
 use Rattle.rl_base.proofs.Queue.LeadLemmas.{marked, nothing, placed, whole, with_texts}
 use Rattle.rl_base.specs.declared.listeners.Refusal.TheVariants as why
@@ -73,10 +73,6 @@ module _ (Keeps : Watched → List ℕ → Type 0)
 
   pub Kept-Became : (effect : Effect) (old new : State) → Texts old.line new.line → EffectChanges effect → Became effect old new → Kept old → Kept new
   Kept-Became (by_steps course) old new t c d k = Kept-Came course old new t c d k
-  Kept-Became (puts_begin n) old new t c d k = subst Kept (sym d.1) k
-  Kept-Became (puts_ends a) old new t c d k = subst Kept (sym d.1) k
-  Kept-Became (puts_end a) old new t c d k = subst Kept (sym d.1) k
-  Kept-Became (shortens len) old new t c d k = subst Kept (sym d.1) k
   Kept-Became (keeps text) old new t c d k = subst Kept (sym d) k
   Kept-Became (takes_back n a) old new t c d k =
       let back = last_of n old.pair.changes.recorded in
@@ -86,6 +82,7 @@ module _ (Keeps : Watched → List ℕ → Type 0)
       let ahead = redo_of old.pair.changes.pending in
       let steps = after-steps_ahead ahead old.line new.line t.at t.within d.0.line_is in
       Kept-over (steps_ahead old.line.cursor ahead) old new t (NoneStarts-ahead ahead old.line.cursor) steps d.2 k
+  Kept-Became _ old new t c d k = subst Kept (sym d.1) k
 
   -- the ring's resets touch neither the watch nor the line
   pub Kept-Step : (old : State) (command : Command) (reply : Reply) (new : State) → Step old command reply new → Stands old → IsBounded old → Kept old → Kept new
@@ -105,9 +102,12 @@ module _ (Keeps : Watched → List ℕ → Type 0)
       subst Kept (sym s.settles) (Kept-Became (effect begun command reply) begun s.left texts (effect-changes begun command reply) s.does k)
 
   -- a restart is told as one change of the whole text
-  pub Kept-restarted : (text : List ℕ) (pos : ℕ) (s : State) → Stands s → IsBounded s → IsUtf8 text → length text < 2 ^ 64 → Kept s → Kept (restarted text pos s)
-  Kept-restarted text pos s h b u fits k =
-      heard s.pair.watch (Replace 0 s.line.text text) s.line.cursor (length text) s.line.text text k h.utf8 (omega (arith, h.within, b)) fits tt h.cursor (apply-all s.line.text text h.utf8 u) (IsCharBoundary-end text)
+  pub Kept-restarted : (text : List ℕ) (pos : ℕ) (old new : State) → new ≡ restarted text pos old → Stands old → IsBounded old → Stands new → IsBounded new → Kept old → Kept new
+  Kept-restarted text pos old new e h b stands bounded k =
+      let utf8 : IsUtf8 text = subst (λ (s : State). IsUtf8 s.line.text) e stands.utf8 in
+      let is : length new.line.text ≡ length text = ap (λ (s : State). length s.line.text) e in
+      subst Kept (sym e) (heard old.pair.watch (Replace 0 old.line.text text) old.line.cursor (length text) old.line.text text k h.utf8 (omega (arith, h.within, b)) (omega (arith, is, stands.within, bounded))
+      tt h.cursor (apply-all old.line.text text h.utf8 utf8) (IsCharBoundary-end text))
 
 -- what covers all that changed covers it after one more change
 goes_on : (asked : List ℕ) (w : Watched) (event : Event) (before after : ℕ) (text new : List ℕ) → Covers w.changed asked text → IsUtf8 text → length text < 2 ^ 64 → length new < 2 ^ 64
@@ -148,17 +148,12 @@ reported_row read row k =
 -- and after a restart
 pub changed_restarted : (asked text : List ℕ) (pos : ℕ) (old new : State) → new ≡ restarted text pos old → Stands new → IsBounded new → ChangedFrom asked old → ChangedFrom asked new
 changed_restarted asked text pos old new e h b k =
-    let utf8 : IsUtf8 text = subst (λ (s : State). IsUtf8 s.line.text) e h.utf8 in
-    let is : new.line.text ≡ text = ap (λ (s : State). s.line.text) e in
-    let kept = Kept-restarted (λ w text. Covers w.changed asked text) (goes_on asked) (λ w text k u small. (k, k)) text pos old k.stands k.bounded utf8 (omega (arith, ap length is, h.within, b)) k.covers in
-    record { stands = h; bounded = b; covers = subst (λ (s : State). Covers s.pair.watch.changed asked s.line.text) (sym e) kept }
+    record { stands = h; bounded = b; covers = Kept-restarted (λ w text. Covers w.changed asked text) (goes_on asked) (λ w text k u small. (k, k)) text pos old new e k.stands k.bounded h b k.covers }
 
 pub reported_restarted : (read text : List ℕ) (pos : ℕ) (old new : State) → new ≡ restarted text pos old → Stands new → IsBounded new → ReportedFrom read old → ReportedFrom read new
 reported_restarted read text pos old new e h b k =
-    let utf8 : IsUtf8 text = subst (λ (s : State). IsUtf8 s.line.text) e h.utf8 in
-    let is : new.line.text ≡ text = ap (λ (s : State). s.line.text) e in
-    let kept = Kept-restarted (λ w text. IsLineText read × ReportsLead true w.reports read text) (lead_on read) (lead_over read) text pos old k.stands k.bounded utf8 (omega (arith, ap length is, h.within, b)) (k.text, k.leads) in
-    record { stands = h; bounded = b; text = kept.0; leads = subst (λ (s : State). ReportsLead true s.pair.watch.reports read s.line.text) (sym e) kept.1 }
+    let kept = Kept-restarted (λ w text. IsLineText read × ReportsLead true w.reports read text) (lead_on read) (lead_over read) text pos old new e k.stands k.bounded h b (k.text, k.leads) in
+    record { stands = h; bounded = b; text = kept.0; leads = kept.1 }
 
 pub changed_run : (asked : List ℕ) (old new : State) (commands : List Command) (replies : List Reply) → Run old commands replies new → ChangedFrom asked old → ChangedFrom asked new
 changed_run asked old new commands replies run k = Leads-keeps (ChangedFrom asked) (changed_row asked) run.rows old new run.leads k

@@ -46,6 +46,7 @@ impl Session {
 /// placed among those from there on. So the laws of its history (`history`) go on from that text, and each undo still leaves
 /// a text that was held. If nothing is forgotten, that is the text with which it began. What tells of changes has nothing
 /// to tell of it.
+#[tactic(auto, using(crate::proofs::Runs::PlaceLemmas::holds_forgotten))]
 pub fn what_is_left_replays()
     ensures replays { (start : List ℕ) (s : State) → Replays start s → ReplaysOn start s }
     ensures held { (start : List ℕ) (held : List (List ℕ)) (s : State) → Holds start held s → HoldsOn start held s }

@@ -1,4 +1,3 @@
-use Rattle.rl_session.proofs.Common.{sym, range}
 use Rattle.rl_session.proofs.Scripts.WordLemmas.{range-no_start, range-no_end}
 use Rattle.rl_session.proofs.grammar.range_deletion.Goals as goal
 
@@ -9,6 +8,3 @@ pub returns-in_err-number : goal.returns-in_err-number
 returns-in_err-number c =
     rw c.from_residual-in_err-number.ensures
     (range-no_end c.args.given.now c.in_ok-start.after.now c.in_ok-start.start c.in_ok-start.ensures.cases c.in_err-number.ensures.value)
-
-pub returns : goal.returns
-returns c = range c.in_ok-start.ensures.cases (sym c.in_ok-number.ensures.value)

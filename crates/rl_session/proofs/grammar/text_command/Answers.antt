@@ -1,14 +1,5 @@
-use Rattle.rl_session.proofs.Common.{paste, update, str, keep, err_from_is_err_and, pasted, updated, put_in, kept}
+use Rattle.rl_session.proofs.Common.{err_from_is_err_and, pasted, updated, put_in, kept}
 use Rattle.rl_session.proofs.grammar.text_command.Goals as goal
-
-pub returns-in-Some-clause-ok : goal.returns-in-Some-clause-ok
-returns-in-Some-clause-ok c = rw c.in-paste.is (paste (rw c.in-Some.is at c.in_ok-n-in-paste.ensures.cases))
-
-pub returns-in-Some-2-clause-ok : goal.returns-in-Some-2-clause-ok
-returns-in-Some-2-clause-ok c = rw c.in-update.is (update (rw c.in-Some-2.is at c.in_ok-pos-in-update.ensures.cases))
-
-pub returns-in-Some-3-clause-ok : goal.returns-in-Some-3-clause-ok
-returns-in-Some-3-clause-ok c = rw c.in-str.is (str (rw c.in-Some-3.is at c.in_ok-pos-in-str.ensures.cases))
 
 pub returns-in_err-n-in-paste-clause-err : goal.returns-in_err-n-in-paste-clause-err
 returns-in_err-n-in-paste-clause-err c =
@@ -27,9 +18,6 @@ returns-in_err-pos-in-str-clause-err c =
     let p = err_from_is_err_and c.from_residual-in_err-pos-in-str.result c.from_residual-in_err-pos-in-str.ensures.1 in
     let text = c.in_err-pos-in-str.ensures.err in
     rw (p.1, c.in-str.is) (text.1, put_in text.2, text.3)
-
-pub returns-in-Some-4-clause-ok : goal.returns-in-Some-4-clause-ok
-returns-in-Some-4-clause-ok c = rw c.in-keep.is (keep (rw c.in-Some-4.is at c.in_ok-text-in-keep.ensures.ok))
 
 pub returns-in_err-text-in-keep-clause-err : goal.returns-in_err-text-in-keep-clause-err
 returns-in_err-text-in-keep-clause-err c =

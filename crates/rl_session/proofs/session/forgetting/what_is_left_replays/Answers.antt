@@ -1,7 +1,6 @@
 use Rattle.rl_line.proofs.Records.ForgettingLemmas.{left-replays}
 use Rattle.rl_line.proofs.Records.RecordLemmas.{replay-IsUtf8}
 use Rattle.rl_session.proofs.Common.{gone, within_bound, State, Stands}
-use Rattle.rl_session.proofs.Runs.PlaceLemmas.{Holds-forgotten}
 use Rattle.rl_session.proofs.session.forgetting.what_is_left_replays.Goals as goal
 
 still : (s : State) → Stands s → Stands (within_bound s)
@@ -17,9 +16,6 @@ returns-clause-replays c = λ start s from.
       made = left.1;
       replays = record { is_text = replay-IsUtf8 (gone s) start left.0 from.is_text left.1; leads = left.2 };
     }
-
-pub returns-clause-held : goal.returns-clause-held
-returns-clause-held c = Holds-forgotten
 
 pub returns-clause-changed : goal.returns-clause-changed
 returns-clause-changed c = λ asked s from. record { stands = still s from.stands; bounded = from.bounded; covers = from.covers }
