@@ -49,7 +49,7 @@ pub use Rattle.rl_base.specs.declared.motion.WordAction.TheVariants.{Capitalize,
 pub use Rattle.rl_line.specs.Change.{TakesIn, entries_to_undo, entry_to_undo, greatest_back_over, order, place, size_back, size_back_over, size_of, text_after, text_back}
 pub use Rattle.rl_line.specs.Deletions.{Told, delete_plan, is_exact, removal, side_of, side_of_place, side_of_search}
 pub use Rattle.rl_line.specs.Edits.{cut_to_limit, exchange_plan, insert_event, insert_plan, insert_str_plan, too_long, update_plan, yank_plan, yank_pop_plan}
-pub use Rattle.rl_line.specs.Entries.{IsCutAt, JoinsLast, cut_at, deep}
+pub use Rattle.rl_line.specs.Entries.{Joins, added, cut_at, deep, settled}
 pub use Rattle.rl_line.specs.Foretelling.{HeardInPart}
 pub use Rattle.rl_line.specs.Forgetting.{FitsFrom, ForgetsFirst, bytes_held, fits, forgotten, gone_within, is_within, kept_within, unbounded, units_kept}
 pub use Rattle.rl_line.specs.Indents.{blanks, indent_plan, line_plan, lines_plan, parts, pulled, pushed, put_spaces, spaces}
@@ -62,12 +62,12 @@ pub use Rattle.rl_line.specs.Plan.{Completed, Done, Halted, Outcome, Plan, Step,
 pub use Rattle.rl_line.specs.Ranges.{covered, either_way, from_place, killed, newline_at, text_in, to_hit, to_place, unless_empty}
 pub use Rattle.rl_line.specs.Record.{Begin, Changed, Deletion, End, Entry, Insertion, IsOfKind, Kind, Record, Replacement, Swap, agree, bytes_ahead, bytes_back, cursors_of, entries_after, entries_of, entries_told, entry_of, event_of, events_ahead, followed, freshness_added, freshness_joined, freshness_of, inverse, joined, last_insert, last_told, new_text, old_text, opposite, past, pending_after, put_in_first, record_step, recorded_after, replay_entries, replays_to, swapped, untold, unwind, with_cursors}
 pub use Rattle.rl_line.specs.Transpositions.{are_two, clusters_around, end_of_cluster, exchanged_text, first_word, meeting_place, only_move, pull_back_plan, pulled_back, second_word, swap_plan, transpose_chars_plan, transpose_words_plan}
-pub use Rattle.rl_line.specs.Undo.{Redone, Redos, StandAfter, StandBefore, TriesAhead, TriesBack, Undone, cursor_after, cursor_stands, cursor_told, line_after, line_ahead, line_back, place_after, steps_ahead, steps_back, texts_after, texts_ahead, texts_back}
+pub use Rattle.rl_line.specs.Undo.{GoesOver, OutOfRoom, Reaches, Redone, Redos, StandsStill, Tries, StandAfter, StandBefore, TriesAhead, TriesBack, Undone, count_over, cursor_after, cursor_stands, cursor_told, line_after, line_ahead, line_back, line_over, moved, place_after, steps_ahead, steps_back, steps_over, texts_after, texts_ahead, texts_back, texts_over, unit_of}
 pub use Rattle.rl_line.specs.Units.{AtLevel, Begins, BothMatched, GroupAt, Hears, InGroup, IsMatched, Open, UndoUnit, Whole, add_entry, adds_end, after_in_group, begun, close, cut_more, end_one, end_times, ended, ended_one, ends_in_begin, entries, has_change, in_group, is_begin, is_change, kept_of, last_of, last_units, level, mark, marks, opens, redo_from, redo_of, redone, together, touched, truncated, undone, units, with_closed}
 pub use Rattle.rl_line.specs.Walk.{LeadsTo, Walk, Walks}
 pub use Rattle.rl_line.specs.declared.change.Change.{Change}
 pub use Rattle.rl_line.specs.declared.change.Freshness.{Freshness}
-pub use Rattle.rl_line.specs.declared.change.Freshness.TheVariants.{Stale}
+pub use Rattle.rl_line.specs.declared.change.Freshness.TheVariants.{Added, Joined, Stale}
 pub use Rattle.rl_line.specs.declared.change.Measure.{Measure}
 pub use Rattle.rl_line.specs.declared.change.Measure.TheVariants.{Bytes, Newlines}
 pub use Rattle.rl_line.specs.declared.change.Way.{Way}

@@ -1,5 +1,6 @@
 -- What the private functions of one entry say of it: joining, and going over it either way.
-use Rattle.std.specs.Prelude.{◌≡◌, ℕ, ◌+◌, ◌-◌, max, count_by, Bool, List, [], ◌∷◌, length, map, reverse, Option, Some, None, option_and_then, if◌then◌else◌}
+use Rattle.std.specs.Prelude.{◌≡◌, ◌⊎◌, ◌<◌, ℕ, ◌+◌, ◌-◌, max, count_by, Bool, List, [], ◌∷◌, length, map, reverse, Option, Some, None, option_and_then, if◌then◌else◌}
+use Rattle.std.specs.Str.{IsCharBoundary}
 use Rattle.rl_base.specs.Event.{Event, apply}
 use Rattle.rl_line.specs.declared.change.Change.{Change}
 use Rattle.rl_base.specs.Lines.{is_newline}
@@ -9,7 +10,7 @@ use Rattle.rl_line.specs.declared.change.Way.{Way}
 use Rattle.rl_line.specs.declared.change.Way.TheVariants.{Back, Ahead}
 use Rattle.rl_line.specs.Record.{Entry, Changed, cursors_of, entry_of, event_of, freshness_joined, inverse, joined, new_text, old_text}
 use Rattle.rl_line.specs.declared.change.Freshness.{Freshness}
-use Rattle.rl_line.specs.Undo.{cursor_stands}
+use Rattle.rl_line.specs.Undo.{cursor_after, cursor_stands}
 
 -- what an entry makes of an event: where they join, it takes the event in, and `fresh` says what it may be told of its cursors;
 -- else it stays as it is
@@ -45,6 +46,10 @@ order Ahead changes = reverse changes
 abbrev pub entries_to_undo : Way → List Change → List Entry
 entries_to_undo way changes = map (entry_to_undo way) (order way changes)
 
+-- the cursor stands between two characters of the text after an entry was taken back
+abbrev pub Stands : Entry → List ℕ → ℕ → Type 0
+Stands e text cursor = (now : List ℕ) → apply (event_of (inverse e)) text ≡ Some now → IsCharBoundary now (cursor_after cursor (inverse e))
+
 -- the size of a text by a measure
 abbrev pub size_of : Measure → List ℕ → ℕ
 size_of Bytes text = length text
@@ -63,3 +68,7 @@ size_back_over m (e ∷ es) n = size_back m e (size_back_over m es n)
 abbrev pub greatest_back_over : Measure → List Entry → ℕ → ℕ
 greatest_back_over m [] n = n
 greatest_back_over m (e ∷ es) n = max (greatest_back_over m es n) (size_back_over m (e ∷ es) n)
+
+-- on the way over entries a text of so many bytes gets longer, or its table of so many newlines does
+abbrev pub Outgrows : List Entry → ℕ → ℕ → Type 0
+Outgrows es bytes newlines = (bytes < greatest_back_over Bytes es bytes) ⊎ (newlines < greatest_back_over Newlines es newlines)

@@ -1,10 +1,14 @@
 -- How a line goes back over its record, and ahead again.
-use Rattle.std.specs.Prelude.{◌≡◌, ℕ, zero, suc, ◌+◌, ◌<◌, Bool, true, not, ◌||◌, List, [], ◌∷◌, ◌++◌, length, map, reverse, Option, Some, None, option_and_then, unwrap_or}
+use Rattle.std.specs.Prelude.{◌≡◌, ℕ, zero, suc, ◌+◌, ◌-◌, ◌^◌, ◌<◌, ◌≤◌, Any, Bool, true, not, ◌||◌, List, [], ◌∷◌, ◌++◌, length, map, reverse, Option, Some, None, option_and_then, unwrap_or}
 use Rattle.std.specs.Option.{option_map, option_map_or}
 use Rattle.std.specs.Str.{IsCharBoundary}
 use Rattle.rl_base.specs.Event.{Event, apply}
 use Rattle.rl_base.specs.Text.{is_boundary}
-use Rattle.rl_line.specs.Line.{Line, after_step}
+use Rattle.rl_base.specs.declared.listeners.Refusal.{Refusal}
+use Rattle.rl_base.specs.declared.listeners.Refusal.TheVariants.{NoMemory}
+use Rattle.rl_line.specs.declared.change.Way.{Way}
+use Rattle.rl_line.specs.declared.change.Way.TheVariants.{Back, Ahead}
+use Rattle.rl_line.specs.Line.{Line, NeedsRoom, after_step}
 use Rattle.rl_line.specs.Plan.{Step}
 use Rattle.rl_line.specs.Record.{Entry, Begin, End, Changed, Record, bytes_ahead, bytes_back, cursors_of, event_of, events_ahead, events_back, inverse, past, replay_entries, unwind}
 use Rattle.rl_line.specs.Units.{last_of, redo_of, has_change, undone, redone}
@@ -97,6 +101,54 @@ pub record Redone (old new : Record) (line line' : Line) (answer : Bool) : Type 
   pub line_is : line_ahead (redo_of old.pending) line ≡ Some line'
   pub record_is : new ≡ redone old
   pub answer_is : answer ≡ has_change (redo_of old.pending)
+
+-- what such a call leaves where there was no change, and what it leaves where memory is out
+abbrev pub StandsStill : Line → Line → Type 0
+StandsStill line line' = (line'.text ≡ line.text) × (line'.cursor ≡ line.cursor)
+
+-- of the texts on the way, one needs more room than the line's text has
+abbrev pub OutOfRoom : Record → Record → Line → Line → List (List ℕ) → Refusal → Type 0
+OutOfRoom old new line line' texts why = (why ≡ NoMemory) × (new ≡ old) × (line' ≡ line) × Any (NeedsRoom line.text) texts
+
+-- ---- both ways in one
+-- the entries that an undo of n takes back, or that a redo makes again
+abbrev pub unit_of : Way → ℕ → Record → List Entry
+unit_of Back n r = last_of n r.recorded
+unit_of Ahead n r = redo_of r.pending
+
+-- the record after it
+abbrev pub moved : Way → ℕ → Record → Record
+moved Back n r = undone n r
+moved Ahead n r = redone r
+
+abbrev pub line_over : Way → List Entry → Line → Option Line
+line_over Back es line = line_back es line
+line_over Ahead es line = line_ahead es line
+
+abbrev pub steps_over : Way → ℕ → List Entry → List Step
+steps_over Back cursor es = steps_back cursor es
+steps_over Ahead cursor es = steps_ahead cursor es
+
+abbrev pub texts_over : Way → List Entry → List ℕ → List (List ℕ)
+texts_over Back es text = texts_back es text
+texts_over Ahead es text = texts_ahead es text
+
+abbrev pub Tries : Way → List Entry → List ℕ → Type 0
+Tries Back es text = TriesBack es text
+Tries Ahead es text = TriesAhead es text
+
+abbrev pub GoesOver : Way → ℕ → Record → Record → Line → Line → Bool → Type 0
+GoesOver Back n old new line line' answer = Undone n old new line line' answer
+GoesOver Ahead n old new line line' answer = Redone old new line line' answer
+
+-- how many entries are recorded, or how many groups are open, once a line went over `count` of them, and that this is a number
+abbrev pub count_over : Way → ℕ → ℕ → ℕ
+count_over Back n count = n - count
+count_over Ahead n count = n + count
+
+abbrev pub Reaches : Way → ℕ → ℕ → Type 0
+Reaches Back n count = count ≤ n
+Reaches Ahead n count = n + count < 2 ^ 64
 
 -- redos, one after another
 abbrev pub Redos : ℕ → Record → Record → Line → Line → Type 0

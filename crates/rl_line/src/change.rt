@@ -8,9 +8,9 @@ ghost use Rattle.rl_base.specs.declared.listeners.Direction.TheVariants.{Forward
 ghost use Rattle.rl_base.specs.declared.listeners.Refusal.TheVariants.{NoMemory};
 ghost use Rattle.rl_line.specs.Plan.{NeverRefuses, listener_after};
 ghost use Rattle.rl_line.specs.Record.{bytes_back, cursors_of, entry_of, event_of, freshness_joined, inverse, new_text, old_text, with_cursors};
-ghost use Rattle.rl_line.specs.Undo.{cursor_after, cursor_told, cursor_stands, steps_ahead};
+ghost use Rattle.rl_line.specs.Undo.{Reaches, count_over, cursor_after, cursor_told, cursor_stands, steps_ahead};
 ghost use Rattle.rl_line.specs.Units.{is_begin, is_change};
-ghost use Rattle.rl_line.specs.Change.{TakesIn, text_after, text_back, place, entry_to_undo, greatest_back_over, order, size_back, size_of, entries_to_undo};
+ghost use Rattle.rl_line.specs.Change.{Outgrows, Stands, TakesIn, text_after, text_back, place, entry_to_undo, greatest_back_over, order, size_back, size_of, entries_to_undo};
 ghost use Rattle.rl_line.specs.declared.change.Measure.TheVariants.{Bytes, Newlines};
 ghost use Rattle.rl_line.specs.LineStarts.{IsTable};
 
@@ -72,6 +72,18 @@ impl Freshness {
 pub(crate) enum Way {
     Back,
     Ahead,
+}
+
+/// What a number comes to once a line went over `count` of what it counts.
+#[inline(always)]
+pub(crate) fn count_over(way: Way, number: usize, count: usize) -> usize
+    requires { Reaches way number count }
+    ensures { result ≡ count_over way number count }
+{
+    match way {
+        Way::Back => number - count,
+        Way::Ahead => number + count,
+    }
 }
 
 /// What a text can be measured by.
@@ -285,7 +297,7 @@ pub(crate) fn go_over(
     requires room { size_back Bytes (entry_to_undo way change.now) (string_len text.old) ≤ string_capacity text.old }
     requires table_room { size_back Newlines (entry_to_undo way change.now) (vec_len starts.old.places) ≤ vec_capacity starts.old.places }
     requires boundary { IsCharBoundary (string_bytes text.old) cursor }
-    requires stands { (now : List ℕ) → apply (event_of (inverse (entry_to_undo way change.now))) (string_bytes text.old) ≡ Some now → IsCharBoundary now (cursor_after cursor (inverse (entry_to_undo way change.now))) }
+    requires stands { Stands (entry_to_undo way change.now) (string_bytes text.old) cursor }
     ensures text { apply (event_of (inverse (entry_to_undo way change.now))) (string_bytes text.old) ≡ Some (string_bytes text.new) }
     ensures table { IsTable starts.new.places.items starts.new.border (string_bytes text.new) }
     ensures cursor { result ≡ cursor_after cursor (inverse (entry_to_undo way change.now)) }
@@ -374,7 +386,7 @@ pub(crate) fn find_room_over(
     ensures count { vec_len starts.new.places ≡ vec_len starts.old.places }
     ensures room { OnOk result (greatest_back_over Bytes (entries_to_undo way changes.now) (string_len text.old) ≤ string_capacity text.new) }
     ensures table { OnOk result (greatest_back_over Newlines (entries_to_undo way changes.now) (vec_len starts.old.places) ≤ vec_capacity starts.new.places) }
-    ensures err { IfErr result (λ r. (r ≡ NoMemory) × ((string_len text.old < greatest_back_over Bytes (entries_to_undo way changes.now) (string_len text.old)) ⊎ (vec_len starts.old.places < greatest_back_over Newlines (entries_to_undo way changes.now) (vec_len starts.old.places)))) }
+    ensures err { IfErr result (λ r. (r ≡ NoMemory) × Outgrows (entries_to_undo way changes.now) (string_len text.old) (vec_len starts.old.places)) }
 {
     let growth = growth_over(changes, way, text.len(), starts.places.len())?;
     find_room(text, starts, growth.bytes, growth.newlines)
@@ -391,7 +403,7 @@ fn growth_over(
 ) -> Result<Growth, Refusal>
     ensures bytes { IfOk result (λ growth. bytes + growth.bytes ≡ greatest_back_over Bytes (entries_to_undo way changes.now) bytes) }
     ensures newlines { IfOk result (λ growth. newlines + growth.newlines ≡ greatest_back_over Newlines (entries_to_undo way changes.now) newlines) }
-    ensures err { IfErr result (λ r. (r ≡ NoMemory) × ((bytes < greatest_back_over Bytes (entries_to_undo way changes.now) bytes) ⊎ (newlines < greatest_back_over Newlines (entries_to_undo way changes.now) newlines))) }
+    ensures err { IfErr result (λ r. (r ≡ NoMemory) × Outgrows (entries_to_undo way changes.now) bytes newlines) }
 {
     let (mut long, mut longest) = (bytes, bytes);
     let (mut high, mut highest) = (newlines, newlines);

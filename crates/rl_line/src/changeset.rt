@@ -1,5 +1,5 @@
 //! The record of the changes of a line, which undoes them, in groups where they were made in groups, and redoes them.
-ghost use Rattle.std.specs.Prelude.{◌≡◌, ◌<◌, ◌≤◌, ℕ, [], min, true, false, drop, is_some, length, All, Any, IsSome, Some, IfOk, IfErr, OnOk, OnErr};
+ghost use Rattle.std.specs.Prelude.{◌≡◌, ◌<◌, ◌≤◌, ℕ, [], ◌∷◌, map, min, true, false, is_some, length, All, Any, IsSome, Some, IfOk, IfErr, IfSome, OnOk, OnErr};
 ghost use Rattle.std.specs.Option.{option_map};
 ghost use Rattle.std.specs.String.{string_bytes};
 ghost use Rattle.rl_base.specs.Event.{InsertChar, InsertStr, Delete, Replace};
@@ -7,18 +7,20 @@ ghost use Rattle.rl_base.specs.Text.{HasText};
 ghost use Rattle.rl_base.specs.declared.listeners.Direction.TheVariants.{Forward};
 ghost use Rattle.rl_base.specs.declared.listeners.Refusal.TheVariants.{NoMemory};
 ghost use Rattle.rl_line.specs.declared.change.Freshness.TheVariants.{Stale};
-ghost use Rattle.rl_line.specs.Forgetting.{fits, forgotten};
+ghost use Rattle.rl_line.specs.Forgetting.{forgotten};
+ghost use Rattle.rl_line.specs.Change.{entries_to_undo};
 ghost use Rattle.rl_line.specs.Line.{NeedsRoom};
-ghost use Rattle.rl_line.specs.Plan.{NeverRefuses, after, listener_after};
-ghost use Rattle.rl_line.specs.Record.{Begin, IsOfKind, Record, last_insert, record_step, replays_to};
-ghost use Rattle.rl_line.specs.Undo.{CopiesBack, Redone, TriesAhead, TriesBack, Undone, line_ahead, line_back, steps_ahead, steps_back, texts_ahead, texts_back};
-ghost use Rattle.rl_line.specs.Units.{BothMatched, adds_end, begun, ended, ended_one, has_change, last_of, level, redo_of, truncated, with_closed};
+ghost use Rattle.rl_line.specs.Plan.{NeverRefuses, listener_after};
+ghost use Rattle.rl_line.specs.Record.{IsOfKind, Record, entry_of, last_insert, record_step, replays_to};
+ghost use Rattle.rl_line.specs.Undo.{CopiesBack, GoesOver, OutOfRoom, Redone, StandsStill, TriesAhead, TriesBack, Undone, line_ahead, line_back, line_over, steps_ahead, steps_back, steps_over, texts_ahead, texts_back, texts_over, unit_of};
+ghost use Rattle.rl_line.specs.Units.{BothMatched, IsMatched, adds_end, begun, ended, ended_one, has_change, is_change, last_of, level, redo_of, truncated, with_closed};
 
 mod foretelling;
 
-use crate::change::{Change, Freshness, Way, text_over};
+use crate::change::{Change, Freshness, Way, count_over, text_over};
+use crate::entries::{self, Entries};
+use crate::forgetting::oldest_len;
 use crate::line_buffer::LineBuffer;
-use crate::{entries, forgetting};
 use rl_base::{ChangeListener, DeleteListener, Direction, NoListener, Refusal, RepeatCount};
 use std::alloc::Global;
 use std::marker::Model;
@@ -33,26 +35,20 @@ use std::marker::Model;
 /// join, it keeps the first cursor before and the last one after.
 #[derive(Drop)]
 pub struct Changeset {
-    // What is recorded, and after it what was undone, the entry that is redone next first: an undo and a redo move no entry.
-    entries: Vec<Change>,
-    // How many of them are recorded.
-    recorded: usize,
-    // Whether the last recorded change may still be told its cursors.
-    fresh: Freshness,
+    entries: Entries,
     // How many groups are open, so that no call has to count them over the whole record.
     level: usize,
 }
 
 impl Model for Changeset {
-    ghost use Rattle.std.specs.Prelude.{map};
-    ghost use Rattle.rl_line.specs.Record.{Record, entry_of};
-    ghost use Rattle.rl_line.specs.Entries.{IsCutAt, cut_at};
+    ghost use Rattle.rl_line.specs.Record.{Record};
+    ghost use Rattle.rl_line.specs.Units.{AtLevel};
 
     ghost Value = { Record };
 
-    ghost view = { λ c. cut_at c.recorded (map entry_of c.entries.items) c.fresh };
+    ghost view = { λ c. c.entries };
 
-    ghost invariant = { λ c. IsCutAt c.recorded c.level (map entry_of c.entries.items) c.fresh };
+    ghost invariant = { λ c. AtLevel c.level c.entries };
 }
 
 impl Changeset {
@@ -61,9 +57,7 @@ impl Changeset {
         ensures { result ≡ record { recorded = []; pending = []; fresh = Stale } }
     {
         Changeset {
-            entries: Vec::new(alloc),
-            recorded: 0,
-            fresh: Freshness::Stale,
+            entries: Entries::new(alloc),
             level: 0,
         }
     }
@@ -72,7 +66,7 @@ impl Changeset {
     pub fn len(&self) -> usize
         ensures { result ≡ length self.now.recorded }
     {
-        self.recorded
+        self.entries.len()
     }
 
     /// How many groups are open. In the record every end of a group has its begin, in the same list, and every
@@ -82,6 +76,7 @@ impl Changeset {
         ensures matched { BothMatched self.now }
         ensures kinds { All IsOfKind self.now.recorded × All IsOfKind self.now.pending }
     {
+        self.entries.of_kind();
         self.level
     }
 
@@ -90,7 +85,7 @@ impl Changeset {
     pub fn has_undo(&self) -> bool
         ensures { result ≡ has_change (last_of 1 self.now.recorded) }
     {
-        entries::last_has_change(&self.entries[..self.recorded])
+        entries::last_has_change(self.recorded())
     }
 
     /// Whether a redo would find a change: one waits to be redone. It looks at the begins of groups that wait before
@@ -98,7 +93,7 @@ impl Changeset {
     pub fn has_redo(&self) -> bool
         ensures { result ≡ has_change (redo_of self.now.pending) }
     {
-        entries::has_change(&self.entries[self.recorded..])
+        entries::has_change(self.pending())
     }
 
     /// Opens a group, whose changes are undone and redone together once it is closed. Answers how many entries
@@ -107,10 +102,8 @@ impl Changeset {
         ensures done { IfOk result (λ answer. (answer ≡ length self.old.recorded) × (self.new ≡ begun self.old)) }
         ensures err { IfErr result (λ r. (r ≡ NoMemory) × (self.new ≡ self.old) × (self.old.pending ≡ [])) }
     {
-        let before = self.recorded;
-        entries::add(&mut self.entries, self.recorded, Change::Begin)?;
-        self.recorded += 1;
-        self.fresh = Freshness::Stale;
+        let before = self.entries.len();
+        self.entries.add(Change::Begin, Freshness::Stale)?;
         self.level += 1;
         Ok(before)
     }
@@ -141,12 +134,7 @@ impl Changeset {
         ensures done { IfOk result (λ answer. (answer ≡ adds_end count self.old.recorded) × (self.new ≡ with_closed count self.old)) }
         ensures err { IfErr result (λ r. (r ≡ NoMemory) × (self.new ≡ self.old) × (adds_end count self.old.recorded ≡ true)) }
     {
-        let added = entries::adds_end(&self.entries[..self.recorded], count);
-        entries::find_ends(&mut self.entries, added, count)?;
-        entries::keep(&mut self.entries, self.recorded);
-        entries::close_groups(&mut self.entries, count);
-        self.recorded = self.entries.len();
-        self.fresh = Freshness::Stale;
+        let added = self.entries.close(count)?;
         self.level -= count;
         Ok(added)
     }
@@ -158,8 +146,7 @@ impl Changeset {
         ensures done { OnOk result (self.new ≡ record_step self.old (InsertChar idx c)) }
         ensures err { IfErr result (λ r. (r ≡ NoMemory) × (self.new ≡ self.old)) }
     {
-        self.fresh = entries::insert_char(&mut self.entries, self.recorded, idx, c)?;
-        self.recorded = self.entries.len();
+        self.entries.insert_char(idx, c)?;
         Ok(())
     }
 
@@ -168,8 +155,7 @@ impl Changeset {
         ensures done { OnOk result (self.new ≡ record_step self.old (InsertStr idx string.now)) }
         ensures err { IfErr result (λ r. (r ≡ NoMemory) × (self.new ≡ self.old) × (0 < length string.now)) }
     {
-        self.fresh = entries::insert_str(&mut self.entries, self.recorded, idx, string)?;
-        self.recorded = self.entries.len();
+        self.entries.insert_str(idx, string)?;
         Ok(())
     }
 
@@ -180,8 +166,7 @@ impl Changeset {
         ensures done { OnOk result (self.new ≡ record_step self.old (Delete idx string.now Forward)) }
         ensures err { IfErr result (λ r. (r ≡ NoMemory) × (self.new ≡ self.old) × (0 < length string.now)) }
     {
-        self.fresh = entries::delete(&mut self.entries, self.recorded, idx, string)?;
-        self.recorded = self.entries.len();
+        self.entries.delete(idx, string)?;
         Ok(())
     }
 
@@ -191,8 +176,7 @@ impl Changeset {
         ensures done { OnOk result (self.new ≡ record_step self.old (Replace idx old.now new.now)) }
         ensures err { IfErr result (λ r. (r ≡ NoMemory) × (self.new ≡ self.old)) }
     {
-        self.fresh = entries::replace(&mut self.entries, self.recorded, idx, old, new)?;
-        self.recorded = self.entries.len();
+        self.entries.replace(idx, old, new)?;
         Ok(())
     }
 
@@ -205,8 +189,8 @@ impl Changeset {
     pub fn undo(&mut self, line: &mut LineBuffer, n: RepeatCount) -> Result<bool, Refusal>
         requires { IsSome (line_back (last_of n self.old.recorded) line.old) }
         ensures done { IfOk result (λ answer. Undone n self.old self.new line.old line.new answer) }
-        ensures unmoved { IfOk result (λ answer. answer ≡ false → (line.new.text ≡ line.old.text) × (line.new.cursor ≡ line.old.cursor)) }
-        ensures err { IfErr result (λ r. (r ≡ NoMemory) × (self.new ≡ self.old) × (line.new ≡ line.old) × Any (NeedsRoom line.old.text) (texts_back (last_of n self.old.recorded) line.old.text)) }
+        ensures unmoved { IfOk result (λ answer. answer ≡ false → StandsStill line.old line.new) }
+        ensures err { IfErr result (OutOfRoom self.old self.new line.old line.new (texts_back (last_of n self.old.recorded) line.old.text)) }
     {
         self.undo_telling(line, n, &mut NoListener)
     }
@@ -226,46 +210,12 @@ impl Changeset {
         requires follows { IsSome (line_back (last_of n self.old.recorded) line.old) }
         requires hears { NeverRefuses L.refused }
         ensures done { IfOk result (λ answer. Undone n self.old self.new line.old line.new answer) }
-        ensures unmoved { IfOk result (λ answer. answer ≡ false → (line.new.text ≡ line.old.text) × (line.new.cursor ≡ line.old.cursor)) }
+        ensures unmoved { IfOk result (λ answer. answer ≡ false → StandsStill line.old line.new) }
         ensures told { OnOk result (listener.new ≡ listener_after L.step line.old.cursor (steps_back line.old.cursor (last_of n self.old.recorded)) listener.old) }
-        ensures err { IfErr result (λ r. (r ≡ NoMemory) × (self.new ≡ self.old) × (line.new ≡ line.old) × Any (NeedsRoom line.old.text) (texts_back (last_of n self.old.recorded) line.old.text)) }
+        ensures err { IfErr result (OutOfRoom self.old self.new line.old line.new (texts_back (last_of n self.old.recorded) line.old.text)) }
         ensures kept { OnErr result (listener.new ≡ listener.old) }
     {
-        if let Some(change) = entries::last_alone(&self.entries[..self.recorded], n) {
-            line.go_over_one(change, Way::Back, listener)?;
-            self.recorded -= 1;
-            self.fresh = Freshness::Stale;
-            return Ok(true);
-        }
-        self.undo_units(line, n, listener)
-    }
-
-    // Undoes any units. It stands apart, since mostly one change alone is undone.
-    #[inline(never)]
-    fn undo_units<L: ChangeListener>(
-        &mut self,
-        line: &mut LineBuffer,
-        n: RepeatCount,
-        listener: &mut L,
-    ) -> Result<bool, Refusal>
-        requires follows { IsSome (line_back (last_of n self.old.recorded) line.old) }
-        requires hears { NeverRefuses L.refused }
-        ensures done { IfOk result (λ answer. Undone n self.old self.new line.old line.new answer) }
-        ensures unmoved { IfOk result (λ answer. answer ≡ false → (line.new.text ≡ line.old.text) × (line.new.cursor ≡ line.old.cursor)) }
-        ensures told { OnOk result (listener.new ≡ listener_after L.step line.old.cursor (steps_back line.old.cursor (last_of n self.old.recorded)) listener.old) }
-        ensures err { IfErr result (λ r. (r ≡ NoMemory) × (self.new ≡ self.old) × (line.new ≡ line.old) × Any (NeedsRoom line.old.text) (texts_back (last_of n self.old.recorded) line.old.text)) }
-        ensures kept { OnErr result (listener.new ≡ listener.old) }
-    {
-        let count = entries::last_len(&self.entries[..self.recorded], n);
-        let first = self.recorded - count;
-        let unit = &self.entries[first..self.recorded];
-        line.go_over_all(unit, Way::Back, listener)?;
-        let changed = entries::has_change(unit);
-        let opened = entries::level(unit);
-        self.level -= opened;
-        self.recorded = first;
-        self.fresh = Freshness::Stale;
-        Ok(changed)
+        self.go_over(line, Way::Back, n, listener)
     }
 
     /// Redoes what was undone: the next change, or the next group, or all that is left if its group was
@@ -276,8 +226,8 @@ impl Changeset {
     pub fn redo(&mut self, line: &mut LineBuffer) -> Result<bool, Refusal>
         requires { IsSome (line_ahead (redo_of self.old.pending) line.old) }
         ensures done { IfOk result (λ answer. Redone self.old self.new line.old line.new answer) }
-        ensures unmoved { IfOk result (λ answer. answer ≡ false → (line.new.text ≡ line.old.text) × (line.new.cursor ≡ line.old.cursor)) }
-        ensures err { IfErr result (λ r. (r ≡ NoMemory) × (self.new ≡ self.old) × (line.new ≡ line.old) × Any (NeedsRoom line.old.text) (texts_ahead (redo_of self.old.pending) line.old.text)) }
+        ensures unmoved { IfOk result (λ answer. answer ≡ false → StandsStill line.old line.new) }
+        ensures err { IfErr result (OutOfRoom self.old self.new line.old line.new (texts_ahead (redo_of self.old.pending) line.old.text)) }
     {
         self.redo_telling(line, &mut NoListener)
     }
@@ -295,45 +245,103 @@ impl Changeset {
         requires follows { IsSome (line_ahead (redo_of self.old.pending) line.old) }
         requires hears { NeverRefuses L.refused }
         ensures done { IfOk result (λ answer. Redone self.old self.new line.old line.new answer) }
-        ensures unmoved { IfOk result (λ answer. answer ≡ false → (line.new.text ≡ line.old.text) × (line.new.cursor ≡ line.old.cursor)) }
+        ensures unmoved { IfOk result (λ answer. answer ≡ false → StandsStill line.old line.new) }
         ensures told { OnOk result (listener.new ≡ listener_after L.step line.old.cursor (steps_ahead line.old.cursor (redo_of self.old.pending)) listener.old) }
-        ensures err { IfErr result (λ r. (r ≡ NoMemory) × (self.new ≡ self.old) × (line.new ≡ line.old) × Any (NeedsRoom line.old.text) (texts_ahead (redo_of self.old.pending) line.old.text)) }
+        ensures err { IfErr result (OutOfRoom self.old self.new line.old line.new (texts_ahead (redo_of self.old.pending) line.old.text)) }
         ensures kept { OnErr result (listener.new ≡ listener.old) }
     {
-        if let Some(change) = entries::next_alone(&self.entries[self.recorded..]) {
-            line.go_over_one(change, Way::Ahead, listener)?;
-            self.recorded += 1;
-            self.fresh = Freshness::Stale;
-            return Ok(true);
-        }
-        self.redo_unit(line, listener)
+        self.go_over(line, Way::Ahead, 1, listener)
     }
 
-    // Redoes any unit, apart as well.
-    #[inline(never)]
-    fn redo_unit<L: ChangeListener>(
+    // Undoes the last `n` units, or redoes the next one.
+    #[inline(always)]
+    fn go_over<L: ChangeListener>(
         &mut self,
         line: &mut LineBuffer,
+        way: Way,
+        n: RepeatCount,
         listener: &mut L,
     ) -> Result<bool, Refusal>
-        requires follows { IsSome (line_ahead (redo_of self.old.pending) line.old) }
+        requires follows { IsSome (line_over way (unit_of way n self.old) line.old) }
         requires hears { NeverRefuses L.refused }
-        ensures done { IfOk result (λ answer. Redone self.old self.new line.old line.new answer) }
-        ensures unmoved { IfOk result (λ answer. answer ≡ false → (line.new.text ≡ line.old.text) × (line.new.cursor ≡ line.old.cursor)) }
-        ensures told { OnOk result (listener.new ≡ listener_after L.step line.old.cursor (steps_ahead line.old.cursor (redo_of self.old.pending)) listener.old) }
-        ensures err { IfErr result (λ r. (r ≡ NoMemory) × (self.new ≡ self.old) × (line.new ≡ line.old) × Any (NeedsRoom line.old.text) (texts_ahead (redo_of self.old.pending) line.old.text)) }
+        ensures done { IfOk result (GoesOver way n self.old self.new line.old line.new) }
+        ensures unmoved { IfOk result (λ answer. answer ≡ false → StandsStill line.old line.new) }
+        ensures told { OnOk result (listener.new ≡ listener_after L.step line.old.cursor (steps_over way line.old.cursor (unit_of way n self.old)) listener.old) }
+        ensures err { IfErr result (OutOfRoom self.old self.new line.old line.new (texts_over way (unit_of way n self.old) line.old.text)) }
         ensures kept { OnErr result (listener.new ≡ listener.old) }
     {
-        let count = entries::next_len(&self.entries[self.recorded..]);
-        let end = self.recorded + count;
-        let unit = &self.entries[self.recorded..end];
-        line.go_over_all(unit, Way::Ahead, listener)?;
+        if let Some(change) = self.alone(way, n) {
+            line.go_over_one(change, way, listener)?;
+            let len = self.entries.len();
+            self.entries.cut(count_over(way, len, 1));
+            return Ok(true);
+        }
+        self.go_over_units(line, way, n, listener)
+    }
+
+    // The same of any units. It stands apart, since mostly one change alone is undone.
+    #[inline(never)]
+    fn go_over_units<L: ChangeListener>(
+        &mut self,
+        line: &mut LineBuffer,
+        way: Way,
+        n: RepeatCount,
+        listener: &mut L,
+    ) -> Result<bool, Refusal>
+        requires follows { IsSome (line_over way (unit_of way n self.old) line.old) }
+        requires hears { NeverRefuses L.refused }
+        ensures done { IfOk result (GoesOver way n self.old self.new line.old line.new) }
+        ensures unmoved { IfOk result (λ answer. answer ≡ false → StandsStill line.old line.new) }
+        ensures told { OnOk result (listener.new ≡ listener_after L.step line.old.cursor (steps_over way line.old.cursor (unit_of way n self.old)) listener.old) }
+        ensures err { IfErr result (OutOfRoom self.old self.new line.old line.new (texts_over way (unit_of way n self.old) line.old.text)) }
+        ensures kept { OnErr result (listener.new ≡ listener.old) }
+    {
+        let unit = self.unit(way, n);
+        go_over_all(line, unit, way, listener)?;
         let changed = entries::has_change(unit);
         let opened = entries::level(unit);
-        self.level += opened;
-        self.recorded = end;
-        self.fresh = Freshness::Stale;
+        let recorded = count_over(way, self.entries.len(), unit.len());
+        self.entries.cut(recorded);
+        self.level = count_over(way, self.level, opened);
         Ok(changed)
+    }
+
+    // What is recorded, and what waits to be redone.
+    fn recorded(&self) -> &[Change]
+        ensures entries { map entry_of result.now ≡ self.now.recorded }
+        ensures matched { IsMatched (map entry_of result.now) }
+    {
+        self.entries.recorded()
+    }
+
+    fn pending(&self) -> &[Change]
+        ensures entries { map entry_of result.now ≡ self.now.pending }
+        ensures matched { IsMatched (map entry_of result.now) }
+    {
+        self.entries.pending()
+    }
+
+    // The units that an undo of `n` goes over, or the one that a redo does.
+    #[inline(always)]
+    fn unit(&self, way: Way, n: RepeatCount) -> &[Change]
+        ensures entries { map entry_of result.now ≡ unit_of way n self.now }
+        ensures matched { IsMatched (map entry_of result.now) }
+    {
+        match way {
+            Way::Back => entries::last_units(self.recorded(), n),
+            Way::Ahead => entries::next_unit(self.pending()),
+        }
+    }
+
+    // These units, if they are one change alone.
+    #[inline(always)]
+    fn alone(&self, way: Way, n: RepeatCount) -> Option<&Change>
+        ensures { IfSome result (λ change. (is_change (entry_of change.now) ≡ true) × (unit_of way n self.now ≡ entry_of change.now ∷ [])) }
+    {
+        match way {
+            Way::Back => entries::last_alone(self.recorded(), n),
+            Way::Ahead => entries::next_alone(self.pending()),
+        }
     }
 
     /// Keeps the first `len` entries, all if there are fewer, and drops the others and what was undone. A
@@ -341,10 +349,8 @@ impl Changeset {
     pub fn truncate(&mut self, len: usize)
         ensures { self.new ≡ truncated len self.old }
     {
-        self.level = entries::level_at(&self.entries[..self.recorded], len, self.level);
-        entries::keep(&mut self.entries, len.min(self.recorded));
-        self.recorded = self.entries.len();
-        self.fresh = Freshness::Stale;
+        self.level = entries::level_at(self.entries.recorded(), len, self.level);
+        self.entries.truncate(len);
     }
 
     /// Forgets the oldest changes and closed groups, one after another, as long as more than `entries` entries are
@@ -357,7 +363,7 @@ impl Changeset {
     pub fn forget(&mut self, entries: usize, bytes: usize)
         ensures { self.new ≡ forgotten entries bytes self.old }
     {
-        if self.recorded > entries {
+        if self.entries.len() > entries {
             self.forget_oldest(entries, bytes);
             return;
         }
@@ -371,9 +377,8 @@ impl Changeset {
     fn forget_oldest(&mut self, entries: usize, bytes: usize)
         ensures { self.new ≡ forgotten entries bytes self.old }
     {
-        let count = forgetting::oldest_len(&self.entries[..self.recorded], entries, bytes);
-        forgetting::drop_first(&mut self.entries, count);
-        self.recorded -= count;
+        let count = oldest_len(self.recorded(), entries, bytes);
+        self.entries.drop_first(count);
     }
 
     /// A copy of what the last change put in, if it is an insertion or a replacement; ends of groups after
@@ -382,7 +387,7 @@ impl Changeset {
         ensures ok { IfOk result (λ text. option_map string_bytes text ≡ last_insert self.now.recorded) }
         ensures err { IfErr result (λ r. (r ≡ NoMemory) × HasText (last_insert self.now.recorded)) }
     {
-        entries::last_insert(&self.entries[..self.recorded], *self.entries.allocator())
+        entries::last_insert(self.recorded(), self.entries.allocator())
     }
 
     /// Whether all recorded changes can be taken back from the line's text, the last first, and each cursor that was
@@ -392,8 +397,7 @@ impl Changeset {
         ensures units { IfOk result (λ answer. answer ≡ true → (n : ℕ) → IsSome (line_back (last_of n self.now.recorded) line.now)) }
         ensures err { IfErr result (λ r. (r ≡ NoMemory) × TriesBack self.now.recorded line.now.text) }
     {
-        let alloc = *self.entries.allocator();
-        entries::lead(alloc, line, &self.entries[..self.recorded], Way::Back)
+        entries::lead(self.entries.allocator(), line, self.recorded(), Way::Back)
     }
 
     /// Whether an undo of `n` fits the line: whether its units can be taken back as `can_undo` asks it of all. It takes
@@ -403,10 +407,8 @@ impl Changeset {
         ensures ok { IfOk result (λ answer. answer ≡ is_some (line_back (last_of n self.now.recorded) line.now)) }
         ensures err { IfErr result (λ r. (r ≡ NoMemory) × TriesBack (last_of n self.now.recorded) line.now.text) }
     {
-        let taken = entries::last_len(&self.entries[..self.recorded], n);
-        let first = self.recorded - taken;
-        let alloc = *self.entries.allocator();
-        entries::lead(alloc, line, &self.entries[first..self.recorded], Way::Back)
+        let unit = self.unit(Way::Back, n);
+        entries::lead(self.entries.allocator(), line, unit, Way::Back)
     }
 
     /// Whether all undone changes can be made again on the line's text, the last undone first, and each cursor that
@@ -416,8 +418,7 @@ impl Changeset {
         ensures unit { IfOk result (λ answer. answer ≡ true → IsSome (line_ahead (redo_of self.now.pending) line.now)) }
         ensures err { IfErr result (λ r. (r ≡ NoMemory) × TriesAhead self.now.pending line.now.text) }
     {
-        let alloc = *self.entries.allocator();
-        entries::lead(alloc, line, &self.entries[self.recorded..], Way::Ahead)
+        entries::lead(self.entries.allocator(), line, self.pending(), Way::Ahead)
     }
 
     /// Whether a redo fits the line: whether what it makes again can be made as `can_redo` asks it of all. It takes time
@@ -426,10 +427,8 @@ impl Changeset {
         ensures ok { IfOk result (λ answer. answer ≡ is_some (line_ahead (redo_of self.now.pending) line.now)) }
         ensures err { IfErr result (λ r. (r ≡ NoMemory) × TriesAhead (redo_of self.now.pending) line.now.text) }
     {
-        let coming = entries::next_len(&self.entries[self.recorded..]);
-        let end = self.recorded + coming;
-        let alloc = *self.entries.allocator();
-        entries::lead(alloc, line, &self.entries[self.recorded..end], Way::Ahead)
+        let unit = self.unit(Way::Ahead, 1);
+        entries::lead(self.entries.allocator(), line, unit, Way::Ahead)
     }
 
     /// Whether the first `len` entries lead to the line's text by themselves, so that `truncate` may drop the
@@ -438,9 +437,9 @@ impl Changeset {
         ensures ok { IfOk result (λ answer. answer ≡ replays_to len self.now line.now.text) }
         ensures err { IfErr result (λ r. (r ≡ NoMemory) × CopiesBack self.now.recorded line.now.text) }
     {
-        let alloc = *self.entries.allocator();
+        let alloc = self.entries.allocator();
         let text = line.as_str();
-        let recorded = &self.entries[..self.recorded];
+        let recorded = self.recorded();
         if !entries::has_change(recorded) {
             return Ok(true);
         }
@@ -452,6 +451,26 @@ impl Changeset {
             Some(some) => Ok(all.as_str() == some.as_str()),
             None => Ok(false),
         }
+    }
+}
+
+// Goes over the changes in the line. Each way is a call of its own, in which it is known at compile time.
+fn go_over_all<L: ChangeListener>(
+    line: &mut LineBuffer,
+    changes: &[Change],
+    way: Way,
+    listener: &mut L,
+) -> Result<(), Refusal>
+    requires follows { IsSome (line_back (entries_to_undo way changes.now) line.old) }
+    requires hears { NeverRefuses L.refused }
+    ensures ok { OnOk result (line_back (entries_to_undo way changes.now) line.old ≡ Some line.new) }
+    ensures told { OnOk result (listener.new ≡ listener_after L.step line.old.cursor (steps_back line.old.cursor (entries_to_undo way changes.now)) listener.old) }
+    ensures err { IfErr result (λ r. (r ≡ NoMemory) × (line.new ≡ line.old) × Any (NeedsRoom line.old.text) (texts_back (entries_to_undo way changes.now) line.old.text)) }
+    ensures kept { OnErr result (listener.new ≡ listener.old) }
+{
+    match way {
+        Way::Back => line.go_over_all(changes, Way::Back, listener),
+        Way::Ahead => line.go_over_all(changes, Way::Ahead, listener),
     }
 }
 
@@ -473,8 +492,7 @@ impl DeleteListener for Changeset {
 
     #[inline(always)]
     fn cursors(&mut self, before: usize, after: usize) {
-        entries::tell(&mut self.entries, self.recorded, self.fresh, before, after);
-        self.fresh = Freshness::Stale;
+        self.entries.tell(before, after);
     }
 }
 

@@ -1,228 +1,307 @@
-//! A list of entries: the first are recorded, and those after them were undone. What an event makes of it, and which
-//! entries an undo or a redo goes over. A function that records drops what was undone; refused, it leaves every entry.
-ghost use Rattle.std.specs.Prelude.{◌≡◌, ◌+◌, ◌^◌, ◌≤◌, ◌<◌, [], ◌∷◌, ◌++◌, encode_utf8, is_some, length, map, take, drop, true, false, None, IfOk, IfErr, IfSome, OnOk, OnErr};
+//! The entries of a record: what an event makes of them, and which of them an undo or a redo goes over. A function that
+//! records drops what was undone; refused, it leaves every entry.
+ghost use Rattle.std.specs.Prelude.{◌≡◌, ◌+◌, ◌^◌, ◌≤◌, ◌<◌, [], ◌∷◌, ◌++◌, All, encode_utf8, is_some, length, map, take, drop, true, false, None, IfOk, IfErr, IfSome, OnOk, OnErr};
 ghost use Rattle.std.specs.Option.{option_map};
 ghost use Rattle.std.specs.String.{string_bytes};
 ghost use Rattle.std.specs.Vec.{vec_len, vec_capacity};
-ghost use Rattle.rl_base.specs.Event.{InsertChar, InsertStr, Delete, Replace};
+ghost use Rattle.rl_base.specs.Event.{InsertChar, InsertStr, Delete, Replace, Cursors};
 ghost use Rattle.rl_base.specs.Text.{HasText};
 ghost use Rattle.rl_base.specs.declared.listeners.Direction.TheVariants.{Forward};
 ghost use Rattle.rl_base.specs.declared.listeners.Refusal.TheVariants.{NoMemory};
-ghost use Rattle.rl_line.specs.Change.{entries_to_undo};
-ghost use Rattle.rl_line.specs.Record.{Changed, Insertion, bytes_back, untold, entries_told, entry_of, last_insert};
-ghost use Rattle.rl_line.specs.Undo.{line_back};
-ghost use Rattle.rl_line.specs.Units.{IsMatched, adds_end, end_one, end_times, ends_in_begin, has_change, is_change, last_of, level, redo_of};
-ghost use Rattle.rl_line.specs.Entries.{JoinsLast, deep, Records};
+ghost use Rattle.rl_line.specs.declared.change.Freshness.TheVariants.{Added, Stale};
+ghost use Rattle.rl_line.specs.Record.{Changed, Insertion, IsOfKind, untold, entry_of, last_insert, record_step};
+ghost use Rattle.rl_line.specs.Undo.{Tries, line_over};
+ghost use Rattle.rl_line.specs.Units.{IsMatched, adds_end, end_one, end_times, ends_in_begin, has_change, is_change, last_of, level, redo_of, truncated, with_closed};
+ghost use Rattle.rl_line.specs.Entries.{Joins, added, cut_at, deep, settled};
 
 use crate::change::{Change, Freshness, Texts, Way, copied, patch_over};
 use crate::line_buffer::LineBuffer;
 use rl_base::{Gathered, Refusal, RepeatCount};
 use std::alloc::Global;
+use std::marker::Model;
 
-/// Records that a character was put in.
-#[inline(always)]
-#[tactic(auto, using(crate::proofs::Records::JoinLemmas::alone_in_list), unfolding(crate::specs::Record::entries_of))]
-pub(crate) fn insert_char(
-    entries: &mut Vec<Change>,
+/// The entries of a record: those that are recorded, and after them those that were undone, the one that is redone next
+/// first. So an undo and a redo move no entry.
+#[derive(Drop)]
+pub(crate) struct Entries {
+    list: Vec<Change>,
+    // How many of them are recorded.
     recorded: usize,
-    idx: usize,
-    c: char,
-) -> Result<Freshness, Refusal>
-    requires { recorded ≤ length entries.old.items }
-    ensures ok { IfOk result (Records (InsertChar idx c) (take recorded (map entry_of entries.old.items)) (map entry_of entries.new.items)) }
-    ensures err { IfErr result (λ r. (r ≡ NoMemory) × (map entry_of entries.new.items ≡ map entry_of entries.old.items)) }
-{
-    if let Some(fresh) = join_char(entries, recorded, idx, c)? {
-        keep(entries, recorded);
-        return Ok(fresh);
-    }
-    add_char(entries, recorded, idx, c)?;
-    Ok(Freshness::Added)
-}
-
-// Adds an entry of a character to the recorded ones. Cold, since a letter mostly joins.
-#[cold]
-#[inline(never)]
-fn add_char(entries: &mut Vec<Change>, recorded: usize, idx: usize, c: char) -> Result<(), Refusal>
-    requires { recorded ≤ length entries.old.items }
-    ensures ok { OnOk result (map entry_of entries.new.items ≡ take recorded (map entry_of entries.old.items) ++ Changed Insertion (untold idx [] (encode_utf8 c)) ∷ []) }
-    ensures err { IfErr result (λ r. (r ≡ NoMemory) × (map entry_of entries.new.items ≡ map entry_of entries.old.items)) }
-{
-    let mut text = String::new(*entries.allocator());
-    text.push(c)?;
-    add(entries, recorded, Change::Insert(None, idx, text))
-}
-
-/// Records that a text was put in.
-#[tactic(auto, using(crate::proofs::Records::JoinLemmas::alone_in_list), unfolding(crate::specs::Record::entries_of))]
-pub(crate) fn insert_str(
-    entries: &mut Vec<Change>,
-    recorded: usize,
-    idx: usize,
-    string: &str,
-) -> Result<Freshness, Refusal>
-    requires { recorded ≤ length entries.old.items }
-    ensures ok { IfOk result (Records (InsertStr idx string.now) (take recorded (map entry_of entries.old.items)) (map entry_of entries.new.items)) }
-    ensures err { IfErr result (λ r. (r ≡ NoMemory) × (map entry_of entries.new.items ≡ map entry_of entries.old.items) × (0 < length string.now)) }
-{
-    if string.is_empty() {
-        keep(entries, recorded);
-        return Ok(Freshness::Stale);
-    }
-    let text = copied(*entries.allocator(), string)?;
-    add(entries, recorded, Change::Insert(None, idx, text))?;
-    Ok(Freshness::Added)
-}
-
-/// Records that a text was taken out, from whichever side of the cursor.
-#[tactic(auto, using(crate::proofs::Records::JoinLemmas::alone_in_list), unfolding(crate::specs::Record::entries_of))]
-pub(crate) fn delete(
-    entries: &mut Vec<Change>,
-    recorded: usize,
-    idx: usize,
-    string: &str,
-) -> Result<Freshness, Refusal>
-    requires { recorded ≤ length entries.old.items }
-    ensures ok { IfOk result (Records (Delete idx string.now Forward) (take recorded (map entry_of entries.old.items)) (map entry_of entries.new.items)) }
-    ensures err { IfErr result (λ r. (r ≡ NoMemory) × (map entry_of entries.new.items ≡ map entry_of entries.old.items) × (0 < length string.now)) }
-{
-    if string.is_empty() {
-        keep(entries, recorded);
-        return Ok(Freshness::Stale);
-    }
-    if let Some(fresh) = join_deletion(entries, recorded, idx, string)? {
-        keep(entries, recorded);
-        return Ok(fresh);
-    }
-    let text = Gathered::of(*entries.allocator(), string)?;
-    add(entries, recorded, Change::Delete(None, idx, text))?;
-    Ok(Freshness::Added)
-}
-
-/// Records that a text was replaced by another.
-#[tactic(auto, using(crate::proofs::Records::JoinLemmas::alone_in_list), unfolding(crate::specs::Record::entries_of))]
-pub(crate) fn replace(
-    entries: &mut Vec<Change>,
-    recorded: usize,
-    idx: usize,
-    old: &str,
-    new: &str,
-) -> Result<Freshness, Refusal>
-    requires { recorded ≤ length entries.old.items }
-    ensures ok { IfOk result (Records (Replace idx old.now new.now) (take recorded (map entry_of entries.old.items)) (map entry_of entries.new.items)) }
-    ensures err { IfErr result (λ r. (r ≡ NoMemory) × (map entry_of entries.new.items ≡ map entry_of entries.old.items)) }
-{
-    if let Some(fresh) = join_replacement(entries, recorded, idx, old, new)? {
-        keep(entries, recorded);
-        return Ok(fresh);
-    }
-    let alloc = *entries.allocator();
-    let before = copied(alloc, old)?;
-    let after = copied(alloc, new)?;
-    let texts = Box::new(alloc, Texts { before, after })?;
-    add(entries, recorded, Change::Replace(None, idx, texts))?;
-    Ok(Freshness::Added)
-}
-
-/// Tells the last recorded entry its cursors, if it may still be told them.
-#[inline(always)]
-pub(crate) fn tell(
-    entries: &mut Vec<Change>,
-    recorded: usize,
+    // Whether the last recorded change may still be told its cursors.
     fresh: Freshness,
-    before: usize,
-    after: usize,
-)
-    requires { recorded ≤ length entries.old.items }
-    ensures told { take recorded (map entry_of entries.new.items) ≡ entries_told fresh before after (take recorded (map entry_of entries.old.items)) }
-    ensures others { drop recorded (map entry_of entries.new.items) ≡ drop recorded (map entry_of entries.old.items) }
-    ensures len { length entries.new.items ≡ length entries.old.items }
-{
-    let first = match fresh {
-        Freshness::Stale => return,
-        Freshness::Added => before,
-        Freshness::Joined(first) => first,
-    };
-    if recorded > 0 {
-        entries[recorded - 1].tell((first, after));
-    }
 }
 
-// Joins an inserted character to the last recorded entry, if it does join. Answers that entry's freshness then.
-#[inline(always)]
-fn join_char(
-    entries: &mut Vec<Change>,
-    recorded: usize,
-    idx: usize,
-    c: char,
-) -> Result<Option<Freshness>, Refusal>
-    requires { recorded ≤ length entries.old.items }
-    ensures ok { IfOk result (λ fresh. JoinsLast (InsertChar idx c) recorded (map entry_of entries.old.items) (map entry_of entries.new.items) fresh) }
-    ensures err { IfErr result (λ r. (r ≡ NoMemory) × (map entry_of entries.new.items ≡ map entry_of entries.old.items)) }
-{
-    if recorded == 0 {
-        return Ok(None);
-    }
-    entries[recorded - 1].join_char(idx, c)
+impl Model for Entries {
+    ghost use Rattle.std.specs.Prelude.{◌≤◌, length, map};
+    ghost use Rattle.rl_line.specs.Record.{Record, entry_of};
+    ghost use Rattle.rl_line.specs.Entries.{cut_at};
+
+    ghost Value = { Record };
+
+    ghost view = { λ e. cut_at e.recorded (map entry_of e.list.items) e.fresh };
+
+    ghost invariant = { λ e. e.recorded ≤ length e.list.items };
 }
 
-// Joins a deletion to the last recorded entry, if it does join. Answers that entry's freshness then.
-fn join_deletion(
-    entries: &mut Vec<Change>,
-    recorded: usize,
-    idx: usize,
-    string: &str,
-) -> Result<Option<Freshness>, Refusal>
-    requires { recorded ≤ length entries.old.items }
-    ensures ok { IfOk result (λ fresh. JoinsLast (Delete idx string.now Forward) recorded (map entry_of entries.old.items) (map entry_of entries.new.items) fresh) }
-    ensures err { IfErr result (λ r. (r ≡ NoMemory) × (map entry_of entries.new.items ≡ map entry_of entries.old.items)) }
-{
-    if recorded == 0 {
-        return Ok(None);
-    }
-    entries[recorded - 1].join_deletion(idx, string)
-}
-
-// Joins a replacement to the last recorded entry, if it does join. Answers that entry's freshness then.
-fn join_replacement(
-    entries: &mut Vec<Change>,
-    recorded: usize,
-    idx: usize,
-    old: &str,
-    new: &str,
-) -> Result<Option<Freshness>, Refusal>
-    requires { recorded ≤ length entries.old.items }
-    ensures ok { IfOk result (λ fresh. JoinsLast (Replace idx old.now new.now) recorded (map entry_of entries.old.items) (map entry_of entries.new.items) fresh) }
-    ensures err { IfErr result (λ r. (r ≡ NoMemory) × (map entry_of entries.new.items ≡ map entry_of entries.old.items)) }
-{
-    if recorded == 0 {
-        return Ok(None);
-    }
-    entries[recorded - 1].join_replacement(idx, old, new)
-}
-
-/// Adds an entry to the recorded ones. If it replaces one that was undone, there is room for it. Inlined, so that
-/// the entry is built in place.
-#[inline(always)]
-pub(crate) fn add(entries: &mut Vec<Change>, recorded: usize, entry: Change) -> Result<(), Refusal>
-    requires { recorded ≤ length entries.old.items }
-    ensures ok { OnOk result (map entry_of entries.new.items ≡ take recorded (map entry_of entries.old.items) ++ entry_of entry ∷ []) }
-    ensures err { IfErr result (λ r. (r ≡ NoMemory) × (map entry_of entries.new.items ≡ map entry_of entries.old.items)) }
-    ensures full { OnErr result (length entries.old.items ≤ recorded) }
-{
-    if recorded < entries.len() {
-        entries.truncate(recorded);
-        match entries.push(entry) {
-            Ok(()) => return Ok(()),
-            Err(_) => unreachable!(),
+impl Entries {
+    pub(crate) fn new(alloc: Global) -> Self
+        ensures { result ≡ record { recorded = []; pending = []; fresh = Stale } }
+    {
+        Entries {
+            list: Vec::new(alloc),
+            recorded: 0,
+            fresh: Freshness::Stale,
         }
     }
-    entries.push(entry)?;
-    Ok(())
+
+    pub(crate) fn allocator(&self) -> Global {
+        *self.list.allocator()
+    }
+
+    /// How many are recorded.
+    pub(crate) fn len(&self) -> usize
+        ensures len { result ≡ length self.now.recorded }
+        ensures small { length self.now.recorded + length self.now.pending < 2 ^ 63 }
+    {
+        // So the proof knows how long the list can be.
+        let _all = self.list.len();
+        self.recorded
+    }
+
+    pub(crate) fn recorded(&self) -> &[Change]
+        ensures { map entry_of result.now ≡ self.now.recorded }
+    {
+        &self.list[..self.recorded]
+    }
+
+    pub(crate) fn pending(&self) -> &[Change]
+        ensures { map entry_of result.now ≡ self.now.pending }
+    {
+        &self.list[self.recorded..]
+    }
+
+    /// An insertion takes nothing out, and a deletion puts nothing in.
+    pub(crate) fn of_kind(&self)
+        ensures { All IsOfKind self.now.recorded × All IsOfKind self.now.pending }
+    {
+        let _list = &self.list;
+    }
+
+    /// Records that a character was put in.
+    #[inline(always)]
+    pub(crate) fn insert_char(&mut self, idx: usize, c: char) -> Result<(), Refusal>
+        ensures done { OnOk result (self.new ≡ record_step self.old (InsertChar idx c)) }
+        ensures err { IfErr result (λ r. (r ≡ NoMemory) × (self.new ≡ self.old)) }
+    {
+        if self.join_char(idx, c)? {
+            return Ok(());
+        }
+        self.add_char(idx, c)?;
+        Ok(())
+    }
+
+    // Adds an entry of a character. Cold, since a letter mostly joins.
+    #[cold]
+    #[inline(never)]
+    fn add_char(&mut self, idx: usize, c: char) -> Result<(), Refusal>
+        ensures done { OnOk result (self.new ≡ added (Changed Insertion (untold idx [] (encode_utf8 c))) Added self.old) }
+        ensures err { IfErr result (λ r. (r ≡ NoMemory) × (self.new ≡ self.old)) }
+    {
+        let mut text = String::new(self.allocator());
+        text.push(c)?;
+        self.add(Change::Insert(None, idx, text), Freshness::Added)?;
+        Ok(())
+    }
+
+    /// Records that a text was put in.
+    pub(crate) fn insert_str(&mut self, idx: usize, string: &str) -> Result<(), Refusal>
+        ensures done { OnOk result (self.new ≡ record_step self.old (InsertStr idx string.now)) }
+        ensures err { IfErr result (λ r. (r ≡ NoMemory) × (self.new ≡ self.old) × (0 < length string.now)) }
+    {
+        if string.is_empty() {
+            self.settle(Freshness::Stale);
+            return Ok(());
+        }
+        let text = copied(self.allocator(), string)?;
+        self.add(Change::Insert(None, idx, text), Freshness::Added)?;
+        Ok(())
+    }
+
+    /// Records that a text was taken out, from whichever side of the cursor.
+    pub(crate) fn delete(&mut self, idx: usize, string: &str) -> Result<(), Refusal>
+        ensures done { OnOk result (self.new ≡ record_step self.old (Delete idx string.now Forward)) }
+        ensures err { IfErr result (λ r. (r ≡ NoMemory) × (self.new ≡ self.old) × (0 < length string.now)) }
+    {
+        if string.is_empty() {
+            self.settle(Freshness::Stale);
+            return Ok(());
+        }
+        if self.join_deletion(idx, string)? {
+            return Ok(());
+        }
+        let text = Gathered::of(self.allocator(), string)?;
+        self.add(Change::Delete(None, idx, text), Freshness::Added)?;
+        Ok(())
+    }
+
+    /// Records that a text was replaced by another.
+    pub(crate) fn replace(&mut self, idx: usize, old: &str, new: &str) -> Result<(), Refusal>
+        ensures done { OnOk result (self.new ≡ record_step self.old (Replace idx old.now new.now)) }
+        ensures err { IfErr result (λ r. (r ≡ NoMemory) × (self.new ≡ self.old)) }
+    {
+        if self.join_replacement(idx, old, new)? {
+            return Ok(());
+        }
+        let alloc = self.allocator();
+        let before = copied(alloc, old)?;
+        let after = copied(alloc, new)?;
+        let texts = Box::new(alloc, Texts { before, after })?;
+        self.add(Change::Replace(None, idx, texts), Freshness::Added)?;
+        Ok(())
+    }
+
+    /// Tells the last recorded entry its cursors, if it may still be told them.
+    #[inline(always)]
+    pub(crate) fn tell(&mut self, before: usize, after: usize)
+        ensures { self.new ≡ record_step self.old (Cursors before after) }
+    {
+        let first = match self.fresh {
+            Freshness::Stale => return,
+            Freshness::Added => before,
+            Freshness::Joined(first) => first,
+        };
+        self.fresh = Freshness::Stale;
+        if self.recorded > 0 {
+            self.list[self.recorded - 1].tell((first, after));
+        }
+    }
+
+    // Joins an inserted character to the last recorded entry. Answers whether it does join.
+    #[inline(always)]
+    fn join_char(&mut self, idx: usize, c: char) -> Result<bool, Refusal>
+        ensures ok { IfOk result (Joins (InsertChar idx c) self.old self.new) }
+        ensures err { IfErr result (λ r. (r ≡ NoMemory) × (self.new ≡ self.old)) }
+    {
+        if self.recorded == 0 {
+            return Ok(false);
+        }
+        let Some(fresh) = self.list[self.recorded - 1].join_char(idx, c)? else {
+            return Ok(false);
+        };
+        self.settle(fresh);
+        Ok(true)
+    }
+
+    // The same of a deletion.
+    fn join_deletion(&mut self, idx: usize, string: &str) -> Result<bool, Refusal>
+        ensures ok { IfOk result (Joins (Delete idx string.now Forward) self.old self.new) }
+        ensures err { IfErr result (λ r. (r ≡ NoMemory) × (self.new ≡ self.old)) }
+    {
+        if self.recorded == 0 {
+            return Ok(false);
+        }
+        let Some(fresh) = self.list[self.recorded - 1].join_deletion(idx, string)? else {
+            return Ok(false);
+        };
+        self.settle(fresh);
+        Ok(true)
+    }
+
+    // The same of a replacement.
+    fn join_replacement(&mut self, idx: usize, old: &str, new: &str) -> Result<bool, Refusal>
+        ensures ok { IfOk result (Joins (Replace idx old.now new.now) self.old self.new) }
+        ensures err { IfErr result (λ r. (r ≡ NoMemory) × (self.new ≡ self.old)) }
+    {
+        if self.recorded == 0 {
+            return Ok(false);
+        }
+        let Some(fresh) = self.list[self.recorded - 1].join_replacement(idx, old, new)? else {
+            return Ok(false);
+        };
+        self.settle(fresh);
+        Ok(true)
+    }
+
+    /// Adds an entry to the recorded ones. If it replaces one that was undone, there is room for it. Inlined, so that
+    /// the entry is built in place.
+    #[inline(always)]
+    pub(crate) fn add(&mut self, entry: Change, fresh: Freshness) -> Result<(), Refusal>
+        ensures done { OnOk result (self.new ≡ added (entry_of entry) fresh self.old) }
+        ensures err { IfErr result (λ r. (r ≡ NoMemory) × (self.new ≡ self.old)) }
+        ensures full { OnErr result (self.old.pending ≡ []) }
+    {
+        if self.recorded < self.list.len() {
+            self.list.truncate(self.recorded);
+            match self.list.push(entry) {
+                Ok(()) => {}
+                Err(_) => unreachable!(),
+            }
+            self.recorded += 1;
+            self.fresh = fresh;
+            return Ok(());
+        }
+        self.list.push(entry)?;
+        self.recorded += 1;
+        self.fresh = fresh;
+        Ok(())
+    }
+
+    // Drops what was undone. Mostly nothing was, and then it costs no call.
+    #[inline(always)]
+    fn settle(&mut self, fresh: Freshness)
+        ensures { self.new ≡ settled fresh self.old }
+    {
+        keep(&mut self.list, self.recorded);
+        self.fresh = fresh;
+    }
+
+    /// Closes so many groups, the one that was opened last first. Answers whether an End is added.
+    pub(crate) fn close(&mut self, count: usize) -> Result<bool, Refusal>
+        ensures done { IfOk result (λ answer. (answer ≡ adds_end count self.old.recorded) × (self.new ≡ with_closed count self.old)) }
+        ensures err { IfErr result (λ r. (r ≡ NoMemory) × (self.new ≡ self.old) × (adds_end count self.old.recorded ≡ true)) }
+    {
+        let adds = adds_end(self.recorded(), count);
+        find_ends(&mut self.list, adds, count)?;
+        keep(&mut self.list, self.recorded);
+        close_groups(&mut self.list, count);
+        self.recorded = self.list.len();
+        self.fresh = Freshness::Stale;
+        Ok(adds)
+    }
+
+    /// Makes the first `recorded` entries those that are recorded. The others wait to be redone.
+    #[inline(always)]
+    pub(crate) fn cut(&mut self, recorded: usize)
+        requires { recorded ≤ length self.old.recorded + length self.old.pending }
+        ensures { self.new ≡ cut_at recorded (self.old.recorded ++ self.old.pending) Stale }
+    {
+        self.recorded = recorded;
+        self.fresh = Freshness::Stale;
+    }
+
+    /// Keeps the first `len` of the recorded entries alone.
+    pub(crate) fn truncate(&mut self, len: usize)
+        ensures { self.new ≡ truncated len self.old }
+    {
+        keep(&mut self.list, len.min(self.recorded));
+        self.recorded = self.list.len();
+        self.fresh = Freshness::Stale;
+    }
+
+    /// Drops the first `count` entries. The others move once.
+    pub(crate) fn drop_first(&mut self, count: usize)
+        requires { count ≤ length self.old.recorded }
+        ensures { self.new ≡ record self.old { recorded = drop count self.old.recorded } }
+    {
+        if count > 0 {
+            self.list.drain(..count);
+            self.recorded -= count;
+        }
+    }
 }
 
 /// Keeps the first `len` entries. Mostly these are all, and then it costs no call.
-pub(crate) fn keep(entries: &mut Vec<Change>, len: usize)
+fn keep(entries: &mut Vec<Change>, len: usize)
     ensures items { map entry_of entries.new.items ≡ take len (map entry_of entries.old.items) }
     ensures len { vec_len entries.new ≤ vec_len entries.old }
     ensures capacity { vec_capacity entries.new ≡ vec_capacity entries.old }
@@ -285,7 +364,7 @@ pub(crate) fn level_at(entries: &[Change], len: usize, last: usize) -> usize
 }
 
 /// Whether closing `count` groups adds an End: it does if one of them is not empty.
-pub(crate) fn adds_end(entries: &[Change], count: usize) -> bool
+fn adds_end(entries: &[Change], count: usize) -> bool
     ensures { result ≡ adds_end count (map entry_of entries.now) }
 {
     let mut left = count;
@@ -304,7 +383,7 @@ pub(crate) fn adds_end(entries: &[Change], count: usize) -> bool
 }
 
 /// Finds room for `count` Ends, if one is to be added.
-pub(crate) fn find_ends(entries: &mut Vec<Change>, adds: bool, count: usize) -> Result<(), Refusal>
+fn find_ends(entries: &mut Vec<Change>, adds: bool, count: usize) -> Result<(), Refusal>
     ensures items { entries.new.items ≡ entries.old.items }
     ensures room { OnOk result (adds ≡ true → vec_len entries.new + count ≤ vec_capacity entries.new) }
     ensures err { IfErr result (λ r. (r ≡ NoMemory) × (adds ≡ true)) }
@@ -317,7 +396,7 @@ pub(crate) fn find_ends(entries: &mut Vec<Change>, adds: bool, count: usize) -> 
 }
 
 /// Closes `count` groups in a list that has room for as many Ends, if one is added.
-pub(crate) fn close_groups(entries: &mut Vec<Change>, count: usize)
+fn close_groups(entries: &mut Vec<Change>, count: usize)
     requires { adds_end count (map entry_of entries.old.items) ≡ true → vec_len entries.old + count ≤ vec_capacity entries.old }
     ensures { map entry_of entries.new.items ≡ end_times count (map entry_of entries.old.items) }
 {
@@ -387,7 +466,7 @@ pub(crate) fn last_has_change(entries: &[Change]) -> bool
 }
 
 /// How many entries the last `n` units have, or the last one if `n` is 0.
-pub(crate) fn last_len(entries: &[Change], n: RepeatCount) -> usize
+fn last_len(entries: &[Change], n: RepeatCount) -> usize
     requires { IsMatched (map entry_of entries.now) }
     ensures { result ≡ length (last_of n (map entry_of entries.now)) }
 {
@@ -437,6 +516,24 @@ pub(crate) fn next_len(entries: &[Change]) -> usize
     at
 }
 
+/// The last `n` units, or the last one if `n` is 0.
+pub(crate) fn last_units(entries: &[Change], n: RepeatCount) -> &[Change]
+    requires { IsMatched (map entry_of entries.now) }
+    ensures { map entry_of result.now ≡ last_of n (map entry_of entries.now) }
+{
+    let len = last_len(entries, n);
+    &entries[entries.len() - len..]
+}
+
+/// The next unit to redo, of undone entries.
+pub(crate) fn next_unit(entries: &[Change]) -> &[Change]
+    requires { IsMatched (map entry_of entries.now) }
+    ensures { map entry_of result.now ≡ redo_of (map entry_of entries.now) }
+{
+    let len = next_len(entries);
+    &entries[..len]
+}
+
 /// Whether there is a change among the entries.
 pub(crate) fn has_change(entries: &[Change]) -> bool
     ensures { result ≡ has_change (map entry_of entries.now) }
@@ -457,8 +554,8 @@ pub(crate) fn lead(
     entries: &[Change],
     way: Way,
 ) -> Result<bool, Refusal>
-    ensures ok { IfOk result (λ answer. answer ≡ is_some (line_back (entries_to_undo way entries.now) line.now)) }
-    ensures err { IfErr result (λ r. (r ≡ NoMemory) × ((1 < length entries.now) × ((has_change (map entry_of entries.now) ≡ true) × (0 < length line.now.text + bytes_back (entries_to_undo way entries.now))))) }
+    ensures ok { IfOk result (λ answer. answer ≡ is_some (line_over way (map entry_of entries.now) line.now)) }
+    ensures err { IfErr result (λ r. (r ≡ NoMemory) × Tries way (map entry_of entries.now) line.now.text) }
 {
     // So the proof knows that the cursor stands between two characters.
     let _cursor = line.pos();

@@ -55,13 +55,3 @@ fn bytes_held(entry: &Change) -> usize
     let (new, old) = entry.texts(Way::Back);
     old.len() + new.len()
 }
-
-/// Drops the first `count` entries. The others move once.
-pub(crate) fn drop_first(entries: &mut Vec<Change>, count: usize)
-    requires { count ≤ length entries.old.items }
-    ensures { map entry_of entries.new.items ≡ drop count (map entry_of entries.old.items) }
-{
-    if count > 0 {
-        entries.drain(..count);
-    }
-}

@@ -11,8 +11,10 @@ ghost use Rattle.rl_line.specs.Units.{BothMatched, GroupAt, InGroup, IsMatched, 
 
 /// Where entries lead from one text to another, unwinding them leads back from that to the first, and conversely.
 pub fn unwinding_is_replaying()
-    ensures unwound { (es : List Entry) (before after : List ℕ) → IsUtf8 before → replay_entries es before ≡ Some after → unwind es after ≡ Some before }
-    ensures replayed { (es : List Entry) (before after : List ℕ) → IsUtf8 after → unwind es after ≡ Some before → replay_entries es before ≡ Some after }
+    ensures unwound { (es : List Entry) (before after : List ℕ) → IsUtf8 before
+        → replay_entries es before ≡ Some after → unwind es after ≡ Some before }
+    ensures replayed { (es : List Entry) (before after : List ℕ) → IsUtf8 after
+        → unwind es after ≡ Some before → replay_entries es before ≡ Some after }
 {}
 
 /// What an undo asks of a line, in terms of its text: that the changes can be taken back from it, the last first, and that each cursor

@@ -176,17 +176,3 @@ pub leads-told : (e : Entry) (text now : List ℕ) (cursor : ℕ) → apply (eve
 leads-told e text now cursor h told =
     ap (λ o. is_some (option_and_then (λ t. cond (cursor_stands true e t) (Some t) None) o)) h ∙ tested (cursor_stands true e now) now
     ∙ ap (λ o. option_map_or (is_boundary now) o true) told
-
-pub leads-untold : (e : Entry) (text : List ℕ) → cursor_told e ≡ None → is_some (text_after true e text) ≡ is_some (apply (event_of e) text)
-leads-untold e text told = from (apply (event_of e) text)
-  where
-    from : (o : Option (List ℕ)) → is_some (option_and_then (λ t. cond (cursor_stands true e t) (Some t) None) o) ≡ is_some o
-    from None = refl
-    from (Some t) = tested (cursor_stands true e t) t ∙ ap (λ p. option_map_or (is_boundary t) p true) told
-
-pub leads-not : (e : Entry) (text : List ℕ) → is_some (apply (event_of e) text) ≡ false → is_some (text_after true e text) ≡ false
-leads-not e text = from (apply (event_of e) text)
-  where
-    from : (o : Option (List ℕ)) → is_some o ≡ false → is_some (option_and_then (λ t. cond (cursor_stands true e t) (Some t) None) o) ≡ false
-    from None h = refl
-    from (Some t) h = cc

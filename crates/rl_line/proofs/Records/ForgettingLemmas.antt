@@ -1,5 +1,5 @@
 -- Forgetting the oldest units: where entries fit a bound, which units go, and what is left.
-use Rattle.rl_line.proofs.Common.{◌≡◌, ℕ, Some, zero, suc, ◌+◌, ◌-◌, ◌≤◌, ◌<◌, ◌⊎◌, inl, inr, leb, cond, arith, Bool, true, false, List, [], ◌∷◌, ◌++◌, length, length-append, take, drop, take_at, drop-cons, get_or, map, append-nil, append_assoc, reverse, refl, sym, ap, subst, ◌∙◌, and-false, or-true, le-leb, leb-false, leb-true, lt-leb, drop-drop, drop-map, drop-take, length-drop, length-map, length-take-le, reverse-append, reverse-reverse, take-map, nat_le, Change, Begin, Entry, Record, entry_of, new_text, old_text, replay_entries, Walk, Walks, AtLevel, IsMatched, Open, UndoUnit, Whole, level, opens, redo_from, redo_of, together, units, Freshness, cut_at, remove_range, FitsFrom, ForgetsFirst, bytes_held, fits, forgotten, gone_within, is_within, kept_within, unbounded, units_kept}
+use Rattle.rl_line.proofs.Common.{AtLevel, Begin, Bool, Change, Entry, FitsFrom, ForgetsFirst, Freshness, IsMatched, List, Open, Record, Some, UndoUnit, Walk, Walks, Whole, [], after, and-false, ap, append-nil, append_assoc, arith, bytes_held, cond, cut_at, drop, drop-cons, drop-drop, drop-map, drop-take, entry_of, false, fits, forgotten, get_or, gone_within, inl, inr, is_within, kept_within, le-leb, leb, leb-false, leb-true, length, length-append, length-drop, length-map, length-take-le, level, lt-leb, map, nat_le, new_text, old_text, opens, or-true, redo_from, redo_of, refl, remove_range, replay_entries, reverse, reverse-append, reverse-reverse, subst, suc, sym, take, take-map, take_at, together, true, unbounded, units, units_kept, zero, ℕ, ◌++◌, ◌+◌, ◌-◌, ◌<◌, ◌∙◌, ◌∷◌, ◌≡◌, ◌≤◌, ◌⊎◌}
 use Rattle.rl_line.proofs.Records.WalkLemmas.{Walk-IsUtf8, Walk-split}
 use Rattle.rl_line.proofs.Records.RecordLemmas.{replay-append, through}
 use Rattle.rl_line.proofs.Records.MatchLemmas.{Redoes-of}
@@ -293,22 +293,22 @@ AtLevel-forgotten most bytes n r a = record {
 pub removed-front : (n : ℕ) (xs ys : List Change) → ys ≡ remove_range xs 0 n → map entry_of ys ≡ drop n (map entry_of xs)
 removed-front n xs ys e = ap (map entry_of) e ∙ sym (drop-map entry_of n xs)
 
-abbrev lists : List Entry → List Entry → Freshness → Record
-lists recorded pending fresh = record { recorded = recorded; pending = pending; fresh = fresh }
-
--- where the record is cut once its list lost its first entries
-pub forgotten-view : (most bytes n count k : ℕ) (r : Record) (es now : List Entry) (fresh : Freshness) → n ≤ length es → cut_at n es fresh ≡ r → ForgetsFirst most bytes (take n es) count
-    → now ≡ drop count es → k ≡ n - count → (k ≤ length now) × (cut_at k now fresh ≡ forgotten most bytes r)
-forgotten-view most bytes n count k r es now fresh within v f e at =
-    let len : length (take n es) ≡ n = length-take-le n es within in
-    let less : count ≤ n = omega (arith, f.0, len) in
+-- where the record is cut then
+pub dropped-first : (n count : ℕ) (r : Record) (es now : List Entry) (fresh : Freshness) → n ≤ length es → cut_at n es fresh ≡ r → count ≤ length r.recorded → now ≡ drop count es
+    → (n - count ≤ length now) × (cut_at (n - count) now fresh ≡ record r { recorded = drop count r.recorded })
+dropped-first n count r es now fresh within v few e =
+    let less : count ≤ n = omega (arith, few, ap (λ (s : Record). length s.recorded) v, length-take-le n es within) in
     let sum : count + (n - count) ≡ n = omega (arith, less) in
-    let first : take k now ≡ kept_within most bytes (take n es) =
-    ap (take k) e ∙ ap (λ j. take j (drop count es)) at ∙ sym (drop-take count (n - count) es) ∙ ap (λ j. drop count (take j es)) sum ∙ f.1 in
-    let rest : drop k now ≡ drop n es = ap (drop k) e ∙ ap (λ j. drop j (drop count es)) at ∙ drop-drop (n - count) count es ∙ ap (λ j. drop j es) sum in (
-      omega (arith, ap length e, length-drop count es, at, within),
-      ap (λ x. lists x (drop k now) fresh) first ∙ ap (λ x. lists (kept_within most bytes (take n es)) x fresh) rest ∙ ap (forgotten most bytes) v,
+    let first : take (n - count) now ≡ drop count (take n es) = ap (take (n - count)) e ∙ sym (drop-take count (n - count) es) ∙ ap (λ j. drop count (take j es)) sum in
+    let rest : drop (n - count) now ≡ drop n es = ap (drop (n - count)) e ∙ drop-drop (n - count) count es ∙ ap (λ j. drop j es) sum in (
+      omega (arith, ap length e, length-drop count es, within, less),
+      ap (λ x. record { recorded = x; pending = drop (n - count) now; fresh = fresh }) first
+          ∙ ap (λ x. record { recorded = drop count (take n es); pending = x; fresh = fresh }) rest ∙ ap (λ (s : Record). record s { recorded = drop count s.recorded }) v,
     )
+
+pub forgotten-is : (most bytes count : ℕ) (r : Record) (es : List Entry) → es ≡ r.recorded → ForgetsFirst most bytes es count
+    → record r { recorded = drop count r.recorded } ≡ forgotten most bytes r
+forgotten-is most bytes count r es e f = ap (λ l. record r { recorded = l }) (subst (λ l. drop count l ≡ kept_within most bytes l) e f.1)
 
 -- within the bound nothing goes
 pub forgotten-same : (most bytes : ℕ) (r : Record) → length r.recorded ≤ most → unbounded ≤ bytes → forgotten most bytes r ≡ r

@@ -1,5 +1,5 @@
 -- The last recorded entry, where an event joins it and where it does not.
-use Rattle.rl_line.proofs.Common.{◌≡◌, ℕ, ◌+◌, ◌-◌, ◌<◌, ◌≤◌, List, [], ◌∷◌, ◌++◌, length, take, drop, get_or, set, map, Some, None, refl, sym, ap, subst, ◌∙◌, arith, take_at_read, append-nil, drop-map, drop-set-lt, map-append, nil_from_length, take-map, take_more_set, map-set_same, IfErr-weaker, IfOk-weaker, IfErr, IfOk, Option, Result, Event, InsertStr, Delete, Start, Stop, Cursors, Direction, Forward, Refusal, NoMemory, Change, Deletion, Entry, Changed, Record, entries_after, entry_of, freshness_added, freshness_of, joined, last_told, with_cursors, Freshness, Stale, TakesIn, JoinsLast}
+use Rattle.rl_line.proofs.Common.{Bool, if◌then◌else◌, eqb-true, true, ◌==◌, Added, Change, Changed, Cursors, Delete, Deletion, Direction, Entry, Event, Forward, Freshness, InsertChar, InsertStr, Insertion, Joined, Joins, List, None, Record, Replace, Replacement, Some, Stale, Start, Stop, TakesIn, [], added, after, ap, append-nil, arith, cut_at, drop, drop-map, drop-set-lt, drop_all, encode_utf8, entries_after, entries_told, entry_of, false, freshness_added, freshness_of, get_or, joined, last_told, length, length-append, length-map, length-take-le, map, map-append, map-set_same, nil_from_length, past, refl, set, settled, subst, sym, take, take-map, take_all, take_at_read, take_more_set, untold, with_cursors, ℕ, ◌++◌, ◌+◌, ◌-◌, ◌<◌, ◌∙◌, ◌∷◌, ◌≡◌, ◌≤◌}
 use Rattle.std.specs.Str.{chars}
 use Rattle.unicode_segmentation.specs.Segments.{cut, segments}
 use Rattle.rl_base.specs.Event.{apply}
@@ -38,32 +38,98 @@ told-others xs n y some =
 same-at : (xs : List Change) (k : ℕ) (x y : Change) → x ≡ get_or xs k x → entry_of y ≡ entry_of x → map entry_of (set xs k y) ≡ map entry_of xs
 same-at xs k x y is e = map-set_same entry_of xs k y x (e ∙ ap entry_of is)
 
--- the entries, of which the last recorded one took the event in or did not
-joins_last : (event : Event) (xs : List Change) (n k : ℕ) (x y : Change) (fresh : Option Freshness) → n ≤ length xs → 0 < n → k ≡ n - 1 → x ≡ get_or xs k x
-    → TakesIn event (entry_of x) (entry_of y) fresh → JoinsLast event n (map entry_of xs) (map entry_of (set xs k y)) fresh
-joins_last event xs n k x y (Some fresh) le some at is t =
-    let l = LastOf-at xs n k x y le some at is in
-    let ends = ends_in event (take n (map entry_of xs)) l.front (entry_of x) (Some (entry_of y)) l.was t.0 in
-    (l.now ∙ sym ends.0, t.1 ∙ sym ends.1)
-joins_last event xs n k x y None le some at is t =
-    let l = LastOf-at xs n k x y le some at is in
-    let apart = ends_in event (take n (map entry_of xs)) l.front (entry_of x) None l.was t.0 in
-    (same-at xs k x y is t.1, apart.0, apart.1)
+-- ---- a record after an event of a text
+abbrev heard : Event → Record → Record
+heard event r = record { recorded = entries_after event r.recorded; pending = []; fresh = freshness_of event r.recorded }
 
-pub joins_last-nothing : (event : Event) (xs : List Change) (n : ℕ) → n ≡ 0 → JoinsLast event n (map entry_of xs) (map entry_of xs) None
-joins_last-nothing event xs n none =
-    subst (λ k. JoinsLast event k (map entry_of xs) (map entry_of xs) None) (sym none) (refl, refl, refl)
+pub step-InsertChar : (r : Record) (i c : ℕ) → record_step r (InsertChar i c) ≡ heard (InsertChar i c) r
+unfolding record_step
+step-InsertChar r i c = refl
 
--- the same of what a call on that entry answers, and of a call that was refused
-pub joins_last-ok : (event : Event) (xs : List Change) (n : ℕ) (x y : Change) (result : Result (Option Freshness) Refusal) → n ≤ length xs → 0 < n → x ≡ get_or xs (n - 1) x
-    → IfOk result (λ fresh. TakesIn event (entry_of x) (entry_of y) fresh) → IfOk result (λ fresh. JoinsLast event n (map entry_of xs) (map entry_of (set xs (n - 1) y)) fresh)
-joins_last-ok event xs n x y result le some is =
-    IfOk-weaker result _ _ (λ fresh t. joins_last event xs n (n - 1) x y fresh le some refl is t)
+pub step-InsertStr : (r : Record) (i : ℕ) (s : List ℕ) → record_step r (InsertStr i s) ≡ heard (InsertStr i s) r
+unfolding record_step
+step-InsertStr r i s = refl
 
-pub joins_last-err : (xs : List Change) (n : ℕ) (x y : Change) (result : Result (Option Freshness) Refusal) → n ≤ length xs → 0 < n → x ≡ get_or xs (n - 1) x
-    → IfErr result (λ r. (r ≡ NoMemory) × (entry_of y ≡ entry_of x)) → IfErr result (λ r. (r ≡ NoMemory) × (map entry_of (set xs (n - 1) y) ≡ map entry_of xs))
-joins_last-err xs n x y result le some is =
-    IfErr-weaker result _ _ (λ r t. (t.0, same-at xs (n - 1) x y is t.1))
+pub step-Delete : (r : Record) (i : ℕ) (s : List ℕ) (side : Direction) → record_step r (Delete i s side) ≡ heard (Delete i s side) r
+unfolding record_step
+step-Delete r i s side = refl
+
+pub step-Replace : (r : Record) (i : ℕ) (s t : List ℕ) → record_step r (Replace i s t) ≡ heard (Replace i s t) r
+unfolding record_step
+step-Replace r i s t = refl
+
+heard-is : (event : Event) (r : Record) (es : List Entry) (fresh : Freshness) → record_step r event ≡ heard event r → entries_after event r.recorded ≡ es → freshness_of event r.recorded ≡ fresh
+    → record_step r event ≡ record { recorded = es; pending = []; fresh = fresh }
+heard-is event r es fresh step e f =
+    step ∙ ap (λ l. record { recorded = l; pending = []; fresh = freshness_of event r.recorded }) e ∙ ap (λ g. record { recorded = es; pending = []; fresh = g }) f
+
+pub joins : (event : Event) (r : Record) (xs : List Change) (n : ℕ) (fresh told : Freshness) (x y : Change) → record_step r event ≡ heard event r → n ≤ length xs → cut_at n (map entry_of xs) fresh ≡ r
+    → 0 < n → x ≡ get_or xs (n - 1) x → TakesIn event (entry_of x) (entry_of y) (Some told) → settled told (cut_at n (map entry_of (set xs (n - 1) y)) fresh) ≡ record_step r event
+joins event r xs n fresh told x y step le v some is t =
+    let l = LastOf-at xs n (n - 1) x y le some refl is in
+    let was : r.recorded ≡ l.front ++ entry_of x ∷ [] = ap (λ (s : Record). s.recorded) (sym v) ∙ l.was in
+    let ends = ends_in event r.recorded l.front (entry_of x) (Some (entry_of y)) was t.0 in
+    sym (heard-is event r (take n (map entry_of (set xs (n - 1) y))) told step (ends.0 ∙ sym l.now) (ends.1 ∙ sym t.1))
+
+pub joins-not : (event : Event) (r : Record) (xs : List Change) (n : ℕ) (fresh : Freshness) (x y : Change) → record_step r event ≡ heard event r → n ≤ length xs → cut_at n (map entry_of xs) fresh ≡ r
+    → 0 < n → x ≡ get_or xs (n - 1) x → TakesIn event (entry_of x) (entry_of y) None → Joins event r (cut_at n (map entry_of (set xs (n - 1) y)) fresh) false
+joins-not event r xs n fresh x y step le v some is t =
+    let l = LastOf-at xs n (n - 1) x y le some refl is in
+    let apart = ends_in event r.recorded l.front (entry_of x) None (ap (λ (s : Record). s.recorded) (sym v) ∙ l.was) t.0 in
+    (ap (λ es. cut_at n es fresh) (same-at xs (n - 1) x y is t.1) ∙ v, heard-is event r _ _ step apart.0 apart.1)
+
+pub joins-nothing : (event : Event) (r : Record) (es : List Entry) (n : ℕ) (fresh : Freshness) → record_step r event ≡ heard event r → cut_at n es fresh ≡ r → n ≡ 0 → Joins event r r false
+joins-nothing event r es n fresh step v none =
+    let empty : r.recorded ≡ [] = ap (λ (s : Record). s.recorded) (sym v) ∙ ap (λ k. take k es) none in
+    (refl, heard-is event r _ _ step (ap (entries_after event) empty ∙ ap (λ l. l ++ entries_of event) (sym empty)) (ap (freshness_of event) empty))
+
+pub stays-err : (xs : List Change) (n : ℕ) (fresh : Freshness) (r : Record) (x y : Change) → cut_at n (map entry_of xs) fresh ≡ r → x ≡ get_or xs (n - 1) x → entry_of y ≡ entry_of x
+    → cut_at n (map entry_of (set xs (n - 1) y)) fresh ≡ r
+stays-err xs n fresh r x y v is e = ap (λ es. cut_at n es fresh) (same-at xs (n - 1) x y is e) ∙ v
+
+-- cursors that are told
+pub step-Cursors : (r : Record) (before after : ℕ)
+    → record_step r (Cursors before after) ≡ record { recorded = entries_told r.fresh before after r.recorded; pending = r.pending; fresh = Stale }
+unfolding record_step
+step-Cursors r before after = refl
+
+pub told-stale : (r : Record) (before after : ℕ) → r.fresh ≡ Stale → r ≡ record_step r (Cursors before after)
+told-stale r before after e =
+    ap (λ f. record { recorded = r.recorded; pending = r.pending; fresh = f }) e
+    ∙ ap (λ f. record { recorded = entries_told f before after r.recorded; pending = r.pending; fresh = Stale }) (sym e) ∙ sym (step-Cursors r before after)
+
+pub told-nothing : (r : Record) (es : List Entry) (n before after : ℕ) (fresh : Freshness) → cut_at n es fresh ≡ r → n ≡ 0 → cut_at n es Stale ≡ record_step r (Cursors before after)
+told-nothing r es n before after fresh v none =
+    let empty : r.recorded ≡ [] = ap (λ (s : Record). s.recorded) (sym v) ∙ ap (λ k. take k es) none in
+    ap (λ (s : Record). record { recorded = s.recorded; pending = s.pending; fresh = Stale }) v
+    ∙ ap (λ l. record { recorded = l; pending = r.pending; fresh = Stale }) (nothing-told r.fresh empty) ∙ sym (step-Cursors r before after)
+  where
+    nothing-told : (fresh : Freshness) {es : List Entry} → es ≡ [] → es ≡ entries_told fresh before after es
+    nothing-told Stale e = refl
+    nothing-told Added e = e ∙ ap (last_told (before, after)) (sym e)
+    nothing-told (Joined first) e = e ∙ ap (last_told (first, after)) (sym e)
+
+pub told-last : (r : Record) (xs : List Change) (n before after first : ℕ) (fresh : Freshness) (x y : Change) → n ≤ length xs → cut_at n (map entry_of xs) fresh ≡ r → 0 < n
+    → x ≡ get_or xs (n - 1) x → entry_of y ≡ with_cursors (first, after) (entry_of x) → ((es : List Entry) → last_told (first, after) es ≡ entries_told fresh before after es)
+    → cut_at n (map entry_of (set xs (n - 1) y)) Stale ≡ record_step r (Cursors before after)
+told-last r xs n before after first fresh x y le v some is e told =
+    let es = map entry_of (set xs (n - 1) y) in
+    ap (λ l. record { recorded = l; pending = drop n es; fresh = Stale }) (told-last-of (first, after) xs n x y le some is e ∙ told (take n (map entry_of xs)))
+    ∙ ap (λ l. record { recorded = entries_told fresh before after (take n (map entry_of xs)); pending = l; fresh = Stale }) (told-others xs n y some)
+    ∙ ap (λ (s : Record). record { recorded = entries_told s.fresh before after s.recorded; pending = s.pending; fresh = Stale }) v ∙ sym (step-Cursors r before after)
+
+-- an entry that is added, and none
+pub added-entry : (xs now : List Change) (n k : ℕ) (e : Change) (fresh : Freshness) (told : Freshness) (r : Record) → n ≤ length xs → cut_at n (map entry_of xs) fresh ≡ r
+    → now ≡ take n xs ++ e ∷ [] → k ≡ n + 1 → (k ≤ length now) × (cut_at k (map entry_of now) told ≡ added (entry_of e) told r)
+added-entry xs now n k e fresh told r le v is at =
+    let es : map entry_of now ≡ take n (map entry_of xs) ++ entry_of e ∷ [] =
+    ap (map entry_of) is ∙ map-append entry_of (take n xs) (e ∷ []) ∙ ap (λ l. l ++ entry_of e ∷ []) (sym (take-map entry_of n xs)) in
+    let long : length now ≡ n + 1 = ap length is ∙ length-append (take n xs) (e ∷ []) ∙ ap (λ m. m + 1) (length-take-le n xs le) in
+    let past : length (map entry_of now) ≤ k = omega (arith, long, length-map now entry_of, at) in (
+      omega (arith, long, at),
+      ap (λ l. record { recorded = l; pending = drop k (map entry_of now); fresh = told }) (take_all k (map entry_of now) past ∙ es ∙ ap (λ (s : Record). s.recorded ++ entry_of e ∷ []) v)
+          ∙ ap (λ l. record { recorded = r.recorded ++ entry_of e ∷ []; pending = l; fresh = told }) (drop_all k (map entry_of now) past),
+    )
 
 -- ---- events that join nothing
 joins_nothing : (event : Event) → ((e : Entry) → joined event e ≡ None) → (es : List Entry) → IsApart event es
@@ -90,34 +156,54 @@ step-cases r P changes stays told Stop = subst (P Stop) (sym (record_step-Stop r
 step-cases r P changes stays told (Cursors b a) = told b a
 step-cases r P changes stays told event = changes event
 
-pub fresh-InsertStr : (es : List Entry) (i : ℕ) (s : List ℕ) → freshness_of (InsertStr i s) es ≡ freshness_added (entries_of (InsertStr i s))
-fresh-InsertStr es i s = (joins_nothing (InsertStr i s) (λ e. refl) es).1
-
-pub fresh-InsertStr-nothing : (es : List Entry) (i : ℕ) (s : List ℕ) → length s ≡ 0 → freshness_of (InsertStr i s) es ≡ Stale
+pub inserts-nothing : (r : Record) (i : ℕ) (s : List ℕ) → (length s == 0) ≡ true → settled Stale r ≡ record_step r (InsertStr i s)
 unfolding entries_of
-fresh-InsertStr-nothing es i s e = ap (λ (t : List ℕ). freshness_of (InsertStr i t) es) (nil_from_length s e) ∙ fresh-InsertStr es i []
+inserts-nothing r i s e =
+    let none = joins_nothing (InsertStr i []) (λ e. refl) r.recorded in
+    sym (heard-is (InsertStr i []) r r.recorded Stale (step-InsertStr r i []) (none.0 ∙ append-nil r.recorded) none.1) ∙ ap (λ t. record_step r (InsertStr i t)) (sym (nil_from_length s (eqb-true (length s) 0 e)))
+
+text-Entry : (s : List ℕ) (e : Entry) → (length s == 0) ≡ false → (if length s == 0 then [] else e ∷ []) ≡ e ∷ []
+text-Entry s e some = ap (λ (b : Bool). if b then [] else e ∷ []) some
+
+pub inserts : (r : Record) (i : ℕ) (s t : List ℕ) → (length s == 0) ≡ false → t ≡ s → added (Changed Insertion (untold i [] t)) Added r ≡ record_step r (InsertStr i s)
+unfolding entries_of
+inserts r i s t some e =
+    let none = joins_nothing (InsertStr i s) (λ e. refl) r.recorded in
+    let one = text-Entry s (Changed Insertion (untold i [] s)) some in
+    ap (λ u. added (Changed Insertion (untold i [] u)) Added r) e
+    ∙ sym (heard-is (InsertStr i s) r _ Added (step-InsertStr r i s) (none.0 ∙ ap (λ l. r.recorded ++ l) one) (none.1 ∙ ap freshness_added one))
 
 joined-nothing : (i : ℕ) (side : Direction) (e : Entry) → joined (Delete i [] side) e ≡ None
 unfolding segments cut chars
 joined-nothing i side (Changed Deletion c) = refl
 joined-nothing i side _ = refl
 
-pub fresh-Delete-nothing : (es : List Entry) (i : ℕ) (s : List ℕ) (side : Direction) → length s ≡ 0 → freshness_of (Delete i s side) es ≡ Stale
+pub deletes-nothing : (r : Record) (i : ℕ) (s : List ℕ) (side : Direction) → (length s == 0) ≡ true → settled Stale r ≡ record_step r (Delete i s side)
 unfolding entries_of
-fresh-Delete-nothing es i s side e =
-    ap (λ (t : List ℕ). freshness_of (Delete i t side) es) (nil_from_length s e) ∙ (joins_nothing (Delete i [] side) (joined-nothing i side) es).1
+deletes-nothing r i s side e =
+    let none = joins_nothing (Delete i [] side) (joined-nothing i side) r.recorded in
+    sym (heard-is (Delete i [] side) r r.recorded Stale (step-Delete r i [] side) (none.0 ∙ append-nil r.recorded) none.1)
+    ∙ ap (λ t. record_step r (Delete i t side)) (sym (nil_from_length s (eqb-true (length s) 0 e)))
 
-pub after-InsertStr : (es : List Entry) (i : ℕ) (s : List ℕ) → entries_after (InsertStr i s) es ≡ es ++ entries_of (InsertStr i s)
-after-InsertStr es i s = (joins_nothing (InsertStr i s) (λ e. refl) es).0
-
-pub after-InsertStr-nothing : (es : List Entry) (i : ℕ) (s : List ℕ) → length s ≡ 0 → entries_after (InsertStr i s) es ≡ es
+-- an event that did not join adds its entry
+pub adds-InsertChar : (r now : Record) (i c : ℕ) → Joins (InsertChar i c) r now false → added (Changed Insertion (untold i [] (encode_utf8 c))) Added now ≡ record_step r (InsertChar i c)
 unfolding entries_of
-after-InsertStr-nothing es i s e = ap (λ (t : List ℕ). entries_after (InsertStr i t) es) (nil_from_length s e) ∙ after-InsertStr es i [] ∙ append-nil es
+adds-InsertChar r now i c j = ap (added (Changed Insertion (untold i [] (encode_utf8 c))) Added) j.0 ∙ sym j.1
 
-pub after-Delete-nothing : (es : List Entry) (i : ℕ) (s : List ℕ) (side : Direction) → length s ≡ 0 → entries_after (Delete i s side) es ≡ es
+pub adds-Delete : (r now : Record) (i : ℕ) (s t : List ℕ) (side : Direction) → (length s == 0) ≡ false → t ≡ s → Joins (Delete i s side) r now false
+    → added (Changed Deletion (untold i t [])) Added now ≡ record_step r (Delete i s side)
 unfolding entries_of
-after-Delete-nothing es i s side e =
-    ap (λ (t : List ℕ). entries_after (Delete i t side) es) (nil_from_length s e) ∙ (joins_nothing (Delete i [] side) (joined-nothing i side) es).0 ∙ append-nil es
+adds-Delete r now i s t side some e j =
+    let one = text-Entry s (Changed Deletion (untold i s [])) some in
+    ap (λ u. added (Changed Deletion (untold i u [])) Added now) e ∙ ap (added (Changed Deletion (untold i s [])) Added) j.0
+    ∙ ap (λ l. record { recorded = r.recorded ++ l; pending = []; fresh = freshness_added l }) (sym one) ∙ sym j.1
+
+pub adds-Replace : (r now : Record) (i : ℕ) (s t a b : List ℕ) → a ≡ s → b ≡ t → Joins (Replace i s t) r now false
+    → added (Changed Replacement (untold i a b)) Added now ≡ record_step r (Replace i s t)
+unfolding entries_of
+adds-Replace r now i s t a b e f j =
+    ap (λ u. added (Changed Replacement (untold i u b)) Added now) e ∙ ap (λ u. added (Changed Replacement (untold i s u)) Added now) f
+    ∙ ap (added (Changed Replacement (untold i s t)) Added) j.0 ∙ sym j.1
 
 -- ---- the side from which a text is taken is not recorded
 same-side : (i : ℕ) (s : List ℕ) (side : Direction) (es : List Entry)
@@ -134,5 +220,3 @@ record_step-side i s side r =
     ∙ ap (λ f. record { recorded = entries_after (Delete i s side) r.recorded; pending = []; fresh = f }) (same-side i s side r.recorded).1
 
 pub ruleset alone = (record_step-Start, record_step-Stop)
-
-pub ruleset alone_in_list = (after-InsertStr, after-InsertStr-nothing, after-Delete-nothing, fresh-InsertStr, fresh-InsertStr-nothing, fresh-Delete-nothing)

@@ -1,7 +1,7 @@
 -- What a question about a record answers, once it was found on a copy of the text whether a line can go over the entries.
-use Rattle.rl_line.proofs.Common.{◌≡◌, ℕ, ◌+◌, ◌<◌, Bool, true, List, [], ◌∷◌, get_or, length, map, refl, sym, ap, subst, arith, ◌∙◌, length-map, IfErr, IfOk, IsSome, Result, Ok, Err, is_some, Refusal, NoMemory, Change, Way, Ahead, Back, entries_to_undo, entry_to_undo, Line, Entry, bytes_ahead, bytes_back, entry_of, TriesAhead, TriesBack, line_ahead, line_back, has_change, last_of, redo_of}
+use Rattle.rl_line.proofs.Common.{Ahead, Back, Bool, Change, Entry, Err, IfOk, IsSome, Line, List, Ok, Refusal, Result, Tries, Way, [], ap, arith, bytes_back, entries_to_undo, entry_of, entry_to_undo, get_or, has_change, is_some, last_of, length, length-map, line_ahead, line_back, map, redo_of, refl, sym, true, ℕ, ◌+◌, ◌<◌, ◌∙◌, ◌∷◌, ◌≡◌}
 use Rattle.rl_line.proofs.Records.ChangeLemmas.{ahead-inverse}
-use Rattle.rl_line.proofs.Records.MoveLemmas.{ahead-line, redo-fits, undo-fits}
+use Rattle.rl_line.proofs.Records.MoveLemmas.{redo-fits, undo-fits}
 use Rattle.rl_line.proofs.Records.RoomLemmas.{bytes_ahead-back}
 
 -- one change alone
@@ -11,29 +11,11 @@ lone Back (y ∷ []) x len e = ap (λ z. entry_to_undo Back z ∷ []) (sym e)
 lone Ahead (y ∷ []) x len e = ap (λ z. entry_to_undo Ahead z ∷ []) (sym e)
 lone way (y ∷ z ∷ zs) x len e = cc
 
-pub lead-back : (result : Result Bool Refusal) (xs : List Change) (es : List Entry) (line : Line) → map entry_of xs ≡ es
-    → IfOk result (λ a. a ≡ is_some (line_back (entries_to_undo Back xs) line)) → IfOk result (λ a. a ≡ is_some (line_back es line))
-lead-back result xs es line e h = subst (λ l. IfOk result (λ a. a ≡ is_some (line_back l line))) e h
-
-pub copies-back : (result : Result Bool Refusal) (xs : List Change) (es : List Entry) (text : List ℕ) → map entry_of xs ≡ es
-    → IfErr result (λ r. (r ≡ NoMemory) × ((1 < length xs) × ((has_change (map entry_of xs) ≡ true) × (0 < length text + bytes_back (entries_to_undo Back xs)))))
-    → IfErr result (λ r. (r ≡ NoMemory) × TriesBack es text)
-copies-back result xs es text e h =
-    subst (λ l. IfErr result (λ r. (r ≡ NoMemory) × TriesBack l text)) e
-    (subst (λ n. IfErr result (λ r. (r ≡ NoMemory) × ((1 < n) × ((has_change (map entry_of xs) ≡ true) × (0 < length text + bytes_back (map entry_of xs)))))) (sym (length-map xs entry_of)) h)
-
-pub lead-ahead : (result : Result Bool Refusal) (xs : List Change) (es : List Entry) (line : Line) → map entry_of xs ≡ es
-    → IfOk result (λ a. a ≡ is_some (line_back (entries_to_undo Ahead xs) line)) → IfOk result (λ a. a ≡ is_some (line_ahead es line))
-lead-ahead result xs es line e h = subst (λ o. IfOk result (λ a. a ≡ is_some o)) (ahead-line xs es line e) h
-
-pub copies-ahead : (result : Result Bool Refusal) (xs : List Change) (es : List Entry) (text : List ℕ) → map entry_of xs ≡ es
-    → IfErr result (λ r. (r ≡ NoMemory) × ((1 < length xs) × ((has_change (map entry_of xs) ≡ true) × (0 < length text + bytes_back (entries_to_undo Ahead xs)))))
-    → IfErr result (λ r. (r ≡ NoMemory) × TriesAhead es text)
-copies-ahead result xs es text e h =
-    let bytes : bytes_back (entries_to_undo Ahead xs) ≡ bytes_ahead es = ap bytes_back (ahead-inverse xs) ∙ bytes_ahead-back (map entry_of xs) ∙ ap bytes_ahead e in
-    subst (λ n. IfErr result (λ r. (r ≡ NoMemory) × ((1 < length es) × ((has_change es ≡ true) × (0 < length text + n))))) bytes
-    (subst (λ l. IfErr result (λ r. (r ≡ NoMemory) × ((1 < length l) × ((has_change l ≡ true) × (0 < length text + bytes_back (entries_to_undo Ahead xs)))))) e
-    (subst (λ n. IfErr result (λ r. (r ≡ NoMemory) × ((1 < n) × ((has_change (map entry_of xs) ≡ true) × (0 < length text + bytes_back (entries_to_undo Ahead xs)))))) (sym (length-map xs entry_of)) h))
+pub tries : (way : Way) (xs : List Change) (text : List ℕ) → 1 < length xs → has_change (map entry_of xs) ≡ true → 0 < length text + bytes_back (entries_to_undo way xs)
+    → Tries way (map entry_of xs) text
+tries Back xs text several some more = (omega (arith, several, length-map xs entry_of), (some, more))
+tries Ahead xs text several some more =
+    (omega (arith, several, length-map xs entry_of), (some, omega (arith, more, ap bytes_back (ahead-inverse xs) ∙ bytes_ahead-back (map entry_of xs))))
 
 -- entries with a change, which are not one, are several
 pub several : (xs : List Change) → has_change (map entry_of xs) ≡ true → ¬ (length xs ≡ 1) → 1 < length xs

@@ -1,10 +1,10 @@
 -- The level: how many groups are open after each call, counted over the entries that it moves or drops alone.
-use Rattle.rl_line.proofs.Common.{◌≡◌, ℕ, ◌+◌, ◌-◌, ◌<◌, ◌≤◌, suc, arith, Bool, true, false, List, [], ◌∷◌, ◌++◌, length, take, drop, get_or, map, Some, sym, ap, subst, ◌∙◌, inl, inr, length-take, length-map, map-append, take-append-drop, max, Event, Change, Entry, Begin, End, Changed, Record, entries_after, entries_of, entry_of, joined, recorded_after, AtLevel, IsMatched, begun, is_change, kept_of, last_of, level, mark, marks, opens, redo_of, redone, touched, truncated, undone, units, with_closed, deep}
+use Rattle.rl_line.proofs.Common.{Ahead, AtLevel, Back, Begin, Bool, BothMatched, Change, Changed, End, Entry, Event, IsMatched, List, Reaches, Record, Some, Way, [], ap, arith, begun, count_over, deep, drop, entries_after, entries_of, entry_of, false, get_or, inl, inr, is_change, joined, kept_of, last_of, length, length-map, length-take, level, map, map-append, mark, marks, max, moved, opens, recorded_after, redo_of, redone, refl, subst, suc, sym, take, take-append-drop, touched, true, truncated, undone, unit_of, units, with_closed, ℕ, ◌++◌, ◌+◌, ◌-◌, ◌<◌, ◌^◌, ◌∙◌, ◌∷◌, ◌≡◌, ◌≤◌}
 use Rattle.rl_line.specs.Record.{record_step}
 use Rattle.rl_line.proofs.Records.CountLemmas.{level-counted}
 use Rattle.rl_line.proofs.Records.EntryLemmas.{deep-append}
 use Rattle.rl_line.proofs.Records.LastLemmas.{after-cases, read-last}
-use Rattle.rl_line.proofs.Records.MoveLemmas.{first-view}
+use Rattle.rl_line.proofs.Records.MoveLemmas.{first-view, unit-within}
 use Rattle.rl_line.proofs.Records.MatchLemmas.{AllGood-take, BothMatched-begun, BothMatched-closed, BothMatched-redone, BothMatched-step, BothMatched-truncated, BothMatched-undone, Lower-end_times, Redoes-of, length-touched, level-is, marks-last}
 use Rattle.rl_line.proofs.Records.RecordLemmas.{joins, none_or_one, value_of}
 use Rattle.rl_line.proofs.Records.UnitLemmas.{IsMatched-front, IsMatched-together, cut_more-append, kept-last, opens-append, units-append, units-good}
@@ -31,6 +31,9 @@ AtLevel-step event n r a = record {
       let counted = recorded-cases (λ es. deep 0 es ≡ deep 0 r.recorded) event r (deep-after event r.recorded 0) (λ es p e. last_told-deep p es 0 ∙ e) in
       a.level ∙ level-counted r.recorded a.matched.recorded ∙ sym counted ∙ sym (level-counted (recorded_after event r) (BothMatched-step r event a.matched).recorded);
 }
+
+pub AtLevel-heard : (event : Event) (n : ℕ) (r now : Record) → now ≡ record_step r event → AtLevel n r → AtLevel n now
+AtLevel-heard event n r now e a = subst (AtLevel n) (sym e) (AtLevel-step event n r a)
 
 -- ---- marks at the end
 pub level-begin : (es : List Entry) → level (es ++ Begin ∷ []) ≡ suc (level es)
@@ -79,20 +82,32 @@ IsMatched-last k es h = IsMatched-together (take (max k 1) (units es)) (AllGood-
 level-last : (k : ℕ) (es : List Entry) → IsMatched es → level es ≡ level (last_of k es) + level (kept_of k es)
 level-last k es h = ap level (sym (kept-last k es)) ∙ level-append (kept_of k es) (last_of k es) (IsMatched-last k es h)
 
-pub AtLevel-undone : (k n opened : ℕ) (r : Record) → opened ≡ level (last_of k r.recorded) → AtLevel n r → AtLevel (n - opened) (undone k r)
-AtLevel-undone k n opened r e a = record {
-  matched = BothMatched-undone k r a.matched;
-  level = omega (arith, e, a.level, level-last k r.recorded a.matched.recorded);
+pub AtLevel-moved : (way : Way) (n l opened : ℕ) (r : Record) → opened ≡ level (unit_of way n r) → AtLevel l r → AtLevel (count_over way l opened) (moved way n r)
+AtLevel-moved Back n l opened r e a = record {
+  matched = BothMatched-undone n r a.matched;
+  level = omega (arith, e, a.level, level-last n r.recorded a.matched.recorded);
 }
-
-pub undone-within : (k n opened : ℕ) (r : Record) → opened ≡ level (last_of k r.recorded) → AtLevel n r → opened ≤ n
-undone-within k n opened r e a = omega (arith, e, a.level, level-last k r.recorded a.matched.recorded)
-
-pub AtLevel-redone : (n opened : ℕ) (r : Record) → opened ≡ level (redo_of r.pending) → AtLevel n r → AtLevel (n + opened) (redone r)
-AtLevel-redone n opened r e a = record {
+AtLevel-moved Ahead n l opened r e a = record {
   matched = BothMatched-redone r a.matched;
   level = omega (arith, e, a.level, level-append r.recorded (redo_of r.pending) (Redoes-of r.pending a.matched.pending).unit_matched);
 }
+
+pub IsMatched-unit : (way : Way) (n : ℕ) (r : Record) → BothMatched r → IsMatched (unit_of way n r)
+IsMatched-unit Back n r m = IsMatched-last n r.recorded m.recorded
+IsMatched-unit Ahead n r m = (Redoes-of r.pending m.pending).unit_matched
+
+pub level-reaches : (way : Way) (n l opened : ℕ) (r : Record) → length r.recorded + length r.pending < 2 ^ 63 → opened ≡ level (unit_of way n r) → AtLevel l r → Reaches way l opened
+level-reaches Back n l opened r small e a = omega (arith, e, a.level, level-last n r.recorded a.matched.recorded)
+level-reaches Ahead n l opened r small e a =
+    omega (
+      arith,
+      small,
+      e,
+      a.level,
+      level-within r.recorded a.matched.recorded,
+      level-within (redo_of r.pending) (IsMatched-unit Ahead 0 r a.matched),
+      unit-within Ahead 0 (length (redo_of r.pending)) r a.matched refl,
+    )
 
 -- ---- entries that are dropped
 pub AtLevel-truncated : (len m n : ℕ) (r : Record) → m ≡ level (take len r.recorded) → AtLevel n r → AtLevel m (truncated len r)
@@ -142,6 +157,15 @@ LevelAt-end xs len at n z x m lt e b l =
 pub level-change : (es : List Entry) (e : Entry) → is_change e ≡ true → level (es ++ e ∷ []) ≡ level es
 level-change es (Changed k c) h = ap opens (cut_more-append [] es (Changed k c ∷ []))
 level-change es other h = cc
+
+-- one change opens no group
+pub AtLevel-one : (way : Way) (n l : ℕ) (r : Record) (e : Entry) → is_change e ≡ true → unit_of way n r ≡ e ∷ [] → AtLevel l r → AtLevel l (moved way n r)
+AtLevel-one way n l r e is one a =
+    subst (λ k. AtLevel k (moved way n r)) (same way) (AtLevel-moved way n l 0 r (sym (ap level one ∙ level-change [] e is)) a)
+  where
+    same : (way : Way) → count_over way l 0 ≡ l
+    same Back = omega arith
+    same Ahead = omega arith
 
 pub LevelAt-change : (xs : List Change) (len at n : ℕ) (z x : Change) → len < at → get_or xs (at - 1) z ≡ x → is_change (entry_of x) ≡ true → LevelAt xs len at n
     → LevelAt xs len (at - 1) n

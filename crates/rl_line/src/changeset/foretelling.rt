@@ -4,12 +4,11 @@ ghost use Rattle.rl_line.specs.Change.{entries_to_undo, entry_to_undo};
 ghost use Rattle.rl_line.specs.Foretelling.{HeardInPart};
 ghost use Rattle.rl_line.specs.Plan.{listener_after};
 ghost use Rattle.rl_line.specs.Record.{inverse};
-ghost use Rattle.rl_line.specs.Undo.{cursor_after, steps_ahead, steps_back};
+ghost use Rattle.rl_line.specs.Undo.{cursor_after, steps_ahead, steps_back, steps_over, unit_of};
 ghost use Rattle.rl_line.specs.Units.{last_of, redo_of};
 
 use crate::change::{Change, Way, nth_on};
 use crate::changeset::Changeset;
-use crate::entries;
 use crate::line_buffer::LineBuffer;
 use rl_base::{ChangeListener, Refusal, RepeatCount};
 
@@ -26,10 +25,7 @@ impl Changeset {
         ensures done { OnOk result (listener.new ≡ listener_after L.step line.now.cursor (steps_back line.now.cursor (last_of n self.now.recorded)) listener.old) }
         ensures err { IfErr result (HeardInPart L.step L.refused line.now.cursor (steps_back line.now.cursor (last_of n self.now.recorded)) listener.old listener.new) }
     {
-        let taken = entries::last_len(&self.entries[..self.recorded], n);
-        let first = self.recorded - taken;
-        let unit = &self.entries[first..self.recorded];
-        foretell(unit, Way::Back, line.pos(), listener)
+        self.foretell_over(line, Way::Back, n, listener)
     }
 
     /// Tells a listener, which may refuse, what `redo_telling` would tell it, and redoes nothing. Refused, all is as after a
@@ -42,10 +38,21 @@ impl Changeset {
         ensures done { OnOk result (listener.new ≡ listener_after L.step line.now.cursor (steps_ahead line.now.cursor (redo_of self.now.pending)) listener.old) }
         ensures err { IfErr result (HeardInPart L.step L.refused line.now.cursor (steps_ahead line.now.cursor (redo_of self.now.pending)) listener.old listener.new) }
     {
-        let coming = entries::next_len(&self.entries[self.recorded..]);
-        let end = self.recorded + coming;
-        let unit = &self.entries[self.recorded..end];
-        foretell(unit, Way::Ahead, line.pos(), listener)
+        self.foretell_over(line, Way::Ahead, 1, listener)
+    }
+
+    // Tells of the units that an undo goes over, or of the one that a redo does.
+    fn foretell_over<L: ChangeListener>(
+        &self,
+        line: &LineBuffer,
+        way: Way,
+        n: RepeatCount,
+        listener: &mut L,
+    ) -> Result<(), Refusal>
+        ensures done { OnOk result (listener.new ≡ listener_after L.step line.now.cursor (steps_over way line.now.cursor (unit_of way n self.now)) listener.old) }
+        ensures err { IfErr result (HeardInPart L.step L.refused line.now.cursor (steps_over way line.now.cursor (unit_of way n self.now)) listener.old listener.new) }
+    {
+        foretell(self.unit(way, n), way, line.pos(), listener)
     }
 }
 
@@ -79,7 +86,8 @@ fn foretell_one<L: ChangeListener>(
 ) -> Result<usize, Refusal>
     ensures after { IfOk result (λ after. after ≡ cursor_after before (inverse (entry_to_undo way change.now))) }
     ensures told { OnOk result (listener.new ≡ listener_after L.step before (steps_ahead before (inverse (entry_to_undo way change.now) ∷ [])) listener.old) }
-    ensures err { IfErr result (HeardInPart L.step L.refused before (steps_ahead before (inverse (entry_to_undo way change.now) ∷ [])) listener.old listener.new) }
+    ensures err { IfErr result
+        (HeardInPart L.step L.refused before (steps_ahead before (inverse (entry_to_undo way change.now) ∷ [])) listener.old listener.new) }
 {
     let Some(at) = change.place() else {
         return Ok(before);

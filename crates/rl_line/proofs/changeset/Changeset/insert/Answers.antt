@@ -1,26 +1,6 @@
-use Rattle.rl_line.proofs.Common.{arith, length, map, ◌≡◌, subst, length-map, InsertChar, entry_of, record_step, cut_at, AtLevel}
-use Rattle.rl_line.proofs.Records.LevelLemmas.{AtLevel-step}
-use Rattle.rl_line.proofs.Records.MoveLemmas.{IsCutAt-of, hears, step-InsertChar, within-list}
+use Rattle.rl_line.proofs.Common.{InsertChar}
+use Rattle.rl_line.proofs.Records.LevelLemmas.{AtLevel-heard}
 use Rattle.rl_line.proofs.changeset.Changeset.insert.Goals as goal
-use Rattle.rl_line.proofs.changeset.Changeset.insert.Goals.{After-len-self-inside}
-
-pub insert_char-requires : goal.insert_char-requires
-insert_char-requires c = within-list c.self.inside.recorded c.self.inside.level c.self.inside.entries.items c.self.inside.fresh c.self.invariant
-
-all : (c : After-len-self-inside) → c.len-self-inside.result ≡ length (map entry_of c.insert_char.new.entries.items)
-all c = omega (arith, c.len-self-inside.ensures, c.insert_char.new.entries.ok.0, length-map c.insert_char.new.entries.items entry_of)
-
-heard : (c : After-len-self-inside) → cut_at c.len-self-inside.result (map entry_of c.insert_char.new.entries.items) c.in_ok-self-inside.field-0 ≡ record_step c.args.self.now (InsertChar c.args.idx c.args.c)
-heard c =
-    hears (InsertChar c.args.idx c.args.c) c.args.self.now c.self.inside.recorded c.len-self-inside.result (map entry_of c.self.inside.entries.items) _ c.self.inside.fresh _
-    (step-InsertChar c.args.self.now c.args.idx c.args.c) c.self.view_is c.in_ok-self-inside.ensures.ok (all c)
 
 pub invariant_of-self-2 : goal.invariant_of-self-2
-invariant_of-self-2 c =
-    let d = (goal.at.invariant_of-self-2 c).After-len-self-inside in
-    let h = subst (AtLevel c.self.inside.level) c.self.view_is c.self.invariant.at_level in
-    IsCutAt-of c.len-self-inside.result c.self.inside.level _ _ (record_step c.args.self.now (InsertChar c.args.idx c.args.c)) (omega (arith, all d)) (heard d)
-    (AtLevel-step (InsertChar c.args.idx c.args.c) c.self.inside.level c.args.self.now h)
-
-pub returns-clause-done : goal.returns-clause-done
-returns-clause-done c = heard (goal.at.returns-clause-done c).After-len-self-inside
+invariant_of-self-2 c = AtLevel-heard (InsertChar c.args.idx c.args.c) _ _ _ c.in_ok-insert_char.ensures.done c.self.invariant

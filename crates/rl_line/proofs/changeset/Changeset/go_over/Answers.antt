@@ -1,0 +1,22 @@
+use Rattle.rl_line.proofs.Common.{AtLevel, ap, length, subst, sym, has_change, moved, ◌||◌, false, ◌≡◌, ◌∙◌}
+use Rattle.rl_line.proofs.Records.LevelLemmas.{AtLevel-one}
+use Rattle.rl_line.proofs.Records.MoveLemmas.{GoesAs-one, GoesOver-of, moved-at}
+use Rattle.rl_line.proofs.changeset.Changeset.go_over.Goals as goal
+use Rattle.rl_line.proofs.changeset.Changeset.go_over.Goals.{After-cut}
+use Rattle.rl_line.proofs.changeset.Changeset.go_over.Given.{Over}
+
+now : (g : Over) (c : After-cut g) → c.cut.new.self ≡ moved c.args.way c.args.n c.args.self.now
+now g c =
+    moved-at c.args.way c.args.n c.len-len.result 1 c.count_over.result c.self.inside.entries c.args.self.now c.cut.new.self c.self.view_is c.self.invariant.matched c.len-len.ensures.len
+    (sym (ap length c.in-Some.ensures.1)) c.count_over.ensures c.cut.ensures
+
+pub invariant_of-self : goal.invariant_of-self
+invariant_of-self g c =
+    subst (AtLevel c.self.inside.level) (sym (now g (goal.at.invariant_of-self g c).After-cut))
+    (AtLevel-one c.args.way c.args.n c.self.inside.level c.args.self.now _ c.in-Some.ensures.0 c.in-Some.ensures.1 (subst (AtLevel c.self.inside.level) c.self.view_is c.self.invariant))
+
+pub returns-in-Some-clause-done : goal.returns-in-Some-clause-done
+returns-in-Some-clause-done g c =
+    GoesOver-of c.args.way c.args.n c.args.self.now _ c.args.line.now _ _
+    (sym ((GoesAs-one c.args.way c.in-Some.change.now _ c.in-Some.ensures.1).line c.args.line.now) ∙ c.in_ok-go_over_one.ensures.ok) (now g (goal.at.returns-in-Some-clause-done g c).After-cut)
+    (sym (ap has_change c.in-Some.ensures.1 ∙ ap (λ b. b || false) c.in-Some.ensures.0))

@@ -1,0 +1,74 @@
+use Rattle.rl_line.proofs.Common.{AtLevel, Any, IsSome, NeedsRoom, Record, ap, err_from_is_err_and, refl, length, length-map, listener_after, subst, sym, entry_of, entries_to_undo, has_change, level, unit_of, moved, count_over, ◌≡◌, ◌+◌, ◌<◌, ◌^◌, ◌∙◌}
+use Rattle.rl_line.proofs.Records.LevelLemmas.{AtLevel-moved, level-reaches}
+use Rattle.rl_line.proofs.Records.MoveLemmas.{GoesAs, GoesAs-all, GoesOver-of, marks-over, moved-at, unit-reaches, unit-within}
+use Rattle.rl_line.proofs.changeset.Changeset.go_over_units.Goals as goal
+use Rattle.rl_line.proofs.changeset.Changeset.go_over_units.Goals.{After-cut, After-len, After-level-opened, After-unit-unit}
+use Rattle.rl_line.proofs.changeset.Changeset.go_over_units.Given.{Over}
+
+part : (g : Over) (c : After-unit-unit g) → GoesAs c.args.way (entries_to_undo c.args.way c.unit-unit.result.now) (unit_of c.args.way c.args.n c.args.self.now)
+part g c = GoesAs-all c.args.way c.unit-unit.result.now _ c.unit-unit.ensures.entries
+
+counted : (g : Over) (c : After-unit-unit g) → length c.unit-unit.result.now ≡ length (unit_of c.args.way c.args.n c.args.self.now)
+counted g c = sym (length-map c.unit-unit.result.now entry_of) ∙ ap length c.unit-unit.ensures.entries
+
+stood : (g : Over) (c : After-len g) → AtLevel c.self.inside.level c.args.self.now
+stood g c = subst (AtLevel c.self.inside.level) c.self.view_is c.self.invariant
+
+small : (g : Over) (c : After-len g) → length c.args.self.now.recorded + length c.args.self.now.pending < 2 ^ 63
+small g c = subst (λ (r : Record). length r.recorded + length r.pending < 2 ^ 63) c.self.view_is c.len.ensures.small
+
+pub go_over_all-requires-clause-follows : goal.go_over_all-requires-clause-follows
+go_over_all-requires-clause-follows g c = subst IsSome (sym ((part g (goal.at.go_over_all-requires-clause-follows g c).After-unit-unit).line c.args.line.now)) c.requires.follows
+
+pub returns-in_err-go_over_all-clause-err : goal.returns-in_err-go_over_all-clause-err
+returns-in_err-go_over_all-clause-err g c =
+    let p = err_from_is_err_and c.from_residual.result c.from_residual.ensures.1 in
+    let e = c.in_err-go_over_all.ensures.err in
+    let text = c.args.line.now.text in
+    rw (p.1, p.2) (e.0, refl, e.1, subst (Any (NeedsRoom text)) ((part g (goal.at.returns-in_err-go_over_all-clause-err g c).After-unit-unit).texts text) e.2)
+
+pub count_over-recorded-requires : goal.count_over-recorded-requires
+count_over-recorded-requires g c =
+    let d = goal.at.count_over-recorded-requires g c in
+    rw (c.len.ensures.len, c.self.view_is) (unit-reaches c.args.way c.args.n _ c.args.self.now (stood g d.After-len).matched (small g d.After-len) (counted g d.After-unit-unit))
+
+pub cut-requires : goal.cut-requires
+cut-requires g c =
+    let d = goal.at.cut-requires g c in
+    rw (c.count_over-recorded.ensures, c.len.ensures.len, c.self.view_is) (unit-within c.args.way c.args.n _ c.args.self.now (stood g d.After-len).matched (counted g d.After-unit-unit))
+
+opened : (g : Over) (c : After-level-opened g) → c.level-opened.result ≡ level (unit_of c.args.way c.args.n c.args.self.now)
+opened g c = c.level-opened.ensures ∙ ap level c.unit-unit.ensures.entries
+
+pub count_over-self-inside-requires : goal.count_over-self-inside-requires
+count_over-self-inside-requires g c =
+    let d = goal.at.count_over-self-inside-requires g c in
+    level-reaches c.args.way c.args.n c.self.inside.level c.level-opened.result c.args.self.now (small g d.After-len) (opened g d.After-level-opened) (stood g d.After-len)
+
+now : (g : Over) (c : After-cut g) → c.cut.new.self ≡ moved c.args.way c.args.n c.args.self.now
+now g c =
+    moved-at c.args.way c.args.n c.len.result _ c.count_over-recorded.result c.self.inside.entries c.args.self.now c.cut.new.self c.self.view_is c.self.invariant.matched c.len.ensures.len
+    (counted g (goal.at.After-cut g c).After-unit-unit) c.count_over-recorded.ensures c.cut.ensures
+
+pub invariant_of-self : goal.invariant_of-self
+invariant_of-self g c =
+    let d = goal.at.invariant_of-self g c in
+    rw c.count_over-self-inside.ensures (subst (AtLevel (count_over c.args.way c.self.inside.level c.level-opened.result)) (sym (now g d.After-cut))
+    (AtLevel-moved c.args.way c.args.n c.self.inside.level c.level-opened.result c.args.self.now (opened g d.After-level-opened) (stood g d.After-len)))
+
+pub returns-clause-done : goal.returns-clause-done
+returns-clause-done g c =
+    let d = goal.at.returns-clause-done g c in
+    GoesOver-of c.args.way c.args.n c.args.self.now _ c.args.line.now _ _ (sym ((part g d.After-unit-unit).line c.args.line.now) ∙ c.in_ok-go_over_all.ensures.ok) (now g d.After-cut)
+    (c.has_change-changed.ensures ∙ ap has_change c.unit-unit.ensures.entries)
+
+pub returns-clause-unmoved : goal.returns-clause-unmoved
+returns-clause-unmoved g c = λ none.
+    let es = unit_of c.args.way c.args.n c.args.self.now in
+    marks-over c.args.way es c.args.line.now c.go_over_all.new.line (sym (c.has_change-changed.ensures ∙ ap has_change c.unit-unit.ensures.entries) ∙ none)
+    (sym ((part g (goal.at.returns-clause-unmoved g c).After-unit-unit).line c.args.line.now) ∙ c.in_ok-go_over_all.ensures.ok)
+
+pub returns-clause-told : goal.returns-clause-told
+returns-clause-told g c =
+    c.in_ok-go_over_all.ensures.told
+    ∙ ap (λ ss. listener_after g.L.DeleteListener.step c.args.line.now.cursor ss c.args.listener.now) ((part g (goal.at.returns-clause-told g c).After-unit-unit).steps c.args.line.now.cursor)
