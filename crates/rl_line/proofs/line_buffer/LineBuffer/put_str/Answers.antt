@@ -1,4 +1,5 @@
-use Rattle.rl_line.proofs.Common.{arith, refl, inl, count_by-le-length, err_from_is_err_and, is_newline}
+use Rattle.rl_line.proofs.Common.{arith, ap, length, count_by, Line, refl, inl, count_by-le-length, err_from_is_err_and, is_newline}
+use Rattle.rl_line.proofs.Lines.RoomyLemmas.{HasRoom-inserted}
 use Rattle.rl_line.proofs.line_buffer.LineBuffer.put_str.Goals as goal
 
 pub returns-in_err-find_room-clause-cause : goal.returns-in_err-find_room-clause-cause
@@ -6,3 +7,9 @@ returns-in_err-find_room-clause-cause g c =
     let p = err_from_is_err_and c.from_residual.result c.from_residual.ensures.1 in
     let e = c.in_err-find_room.ensures.err in
     rw (p.1, p.2) (inl (e.0, refl, omega (arith, e.1, c.newlines-come.ensures, count_by-le-length is_newline c.args.text.now)))
+
+pub insertion_step-requires-clause-room : goal.insertion_step-requires-clause-room
+insertion_step-requires-clause-room g c =
+    let e = c.in_ok-find_room.ensures in
+    HasRoom-inserted _ c.args.text.now c.args.idx _ (omega (arith, e.room, ap (λ (l : Line). length l.text) c.find_room.ensures.line))
+    (omega (arith, e.table, c.newlines-come.ensures, ap (λ (l : Line). count_by is_newline l.text) c.find_room.ensures.line))
