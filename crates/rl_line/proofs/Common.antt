@@ -59,6 +59,7 @@ pub use Rattle.rl_line.specs.LineMotions.{first_nonblank, home, line_end}
 pub use Rattle.rl_line.specs.LineRanges.{range_of_line}
 pub use Rattle.rl_line.specs.LineStarts.{IsTable, after_newlines, from_end, kept_starts, line_starts, starts_from_end}
 pub use Rattle.rl_line.specs.Plan.{Completed, Done, Halted, Outcome, Plan, Step, StepOutcome, Taken, Takes, Uncopied, a_copy, after, after_steps, answering, events_of, followed_by, listener_after, listener_after_step, nothing, nothing_more, or_no_memory, room_by_step, single}
+pub use Rattle.rl_line.specs.RoomyLine.{HasRoom, KeepsRoom, RoomyLine}
 pub use Rattle.rl_line.specs.Ranges.{covered, either_way, from_place, killed, newline_at, text_in, to_hit, to_place, unless_empty}
 pub use Rattle.rl_line.specs.Record.{Begin, Changed, Deletion, End, Entry, Insertion, IsOfKind, Kind, Record, Replacement, Swap, agree, bytes_ahead, bytes_back, cursors_of, entries_after, entries_of, entries_told, entry_of, event_of, events_ahead, followed, freshness_added, freshness_joined, freshness_of, inverse, joined, last_insert, last_told, new_text, old_text, opposite, past, pending_after, put_in_first, record_step, recorded_after, replay_entries, replays_to, swapped, untold, unwind, with_cursors}
 pub use Rattle.rl_line.specs.Transpositions.{are_two, clusters_around, end_of_cluster, exchanged_text, first_word, meeting_place, only_move, pull_back_plan, pulled_back, second_word, swap_plan, transpose_chars_plan, transpose_words_plan}

@@ -1,7 +1,6 @@
 -- The plans of the edits, and their steps.
 pub mod PlanLemmas
 pub mod HearingLemmas
-pub mod StepLemmas
 pub mod SideLemmas
 pub mod EditLemmas
 pub mod KillLemmas

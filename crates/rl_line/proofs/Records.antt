@@ -21,6 +21,7 @@ pub mod OriginLemmas
 pub mod ChangeLemmas
 pub mod RoomLemmas
 pub mod UndoLemmas
+pub mod GoingLemmas
 pub mod WayLemmas
 pub mod WalkLemmas
 pub mod ForgettingLemmas

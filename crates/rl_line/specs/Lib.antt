@@ -1,5 +1,6 @@
 pub mod LineStarts
 pub mod Line
+pub mod RoomyLine
 pub mod LineRanges
 pub mod Plan
 pub mod Motions

@@ -1,5 +1,5 @@
 //! An entry of a record, and how a text goes over it.
-ghost use Rattle.std.specs.Prelude.{◌⊎◌, ◌≡◌, ℕ, List, [], ◌∷◌, None, Some, true, false, OnErr, OnOk, IfOk, IfErr, ◌+◌, ◌-◌, ◌^◌, ◌<◌, ◌≤◌, IsSome, IfNone, IfSome, get_or, is_some, length, vec_len, vec_capacity};
+ghost use Rattle.std.specs.Prelude.{◌⊎◌, ◌≡◌, ℕ, List, [], ◌∷◌, None, Some, true, false, OnErr, OnOk, IfOk, IfErr, ◌+◌, ◌-◌, ◌^◌, ◌<◌, ◌≤◌, IsSome, IfNone, count_by, IfSome, get_or, is_some, length, vec_len, vec_capacity};
 ghost use Rattle.std.specs.Option.{option_map};
 ghost use Rattle.std.specs.String.{string_bytes, string_len, string_capacity};
 ghost use Rattle.std.specs.Str.{IsCharBoundary, IsUtf8};
@@ -8,15 +8,15 @@ ghost use Rattle.rl_base.specs.declared.listeners.Direction.TheVariants.{Forward
 ghost use Rattle.rl_base.specs.declared.listeners.Refusal.TheVariants.{NoMemory};
 ghost use Rattle.rl_line.specs.Plan.{NeverRefuses, listener_after};
 ghost use Rattle.rl_line.specs.Record.{bytes_back, cursors_of, entry_of, event_of, freshness_joined, inverse, new_text, old_text, with_cursors};
-ghost use Rattle.rl_line.specs.Undo.{Reaches, count_over, cursor_after, cursor_told, cursor_stands, steps_ahead};
+ghost use Rattle.rl_line.specs.Undo.{Reaches, count_over, cursor_after, cursor_told, cursor_stands, line_back, steps_ahead};
 ghost use Rattle.rl_line.specs.Units.{is_begin, is_change};
 ghost use Rattle.rl_line.specs.Change.{Outgrows, Stands, TakesIn, text_after, text_back, place, entry_to_undo, greatest_back_over, order, size_back, size_of, entries_to_undo};
 ghost use Rattle.rl_line.specs.declared.change.Measure.TheVariants.{Bytes, Newlines};
-ghost use Rattle.rl_line.specs.LineStarts.{IsTable};
+ghost use Rattle.rl_base.specs.Lines.{is_newline};
 
-use crate::line_starts::{LineStarts, newlines};
+use crate::line_starts::newlines;
 use crate::patched::{Patched, is_boundary_with, stands_at};
-use crate::swap::{find_room, swap_in};
+use crate::roomy_line::RoomyLine;
 use rl_base::places::{is_alphanumeric, is_word_cluster};
 use rl_base::{ChangeListener, Gathered, Refusal};
 use std::alloc::Global;
@@ -283,38 +283,23 @@ impl Change {
     }
 }
 
-/// Goes over a change in a line's text and its table, which have room for the result. Answers where the cursor goes
-/// from `cursor`.
-pub(crate) fn go_over(
-    text: &mut String,
-    starts: &mut LineStarts,
-    change: &Change,
-    way: Way,
-    cursor: usize,
-) -> usize
-    requires fits { IsSome (apply (event_of (inverse (entry_to_undo way change.now))) (string_bytes text.old)) }
-    requires table { IsTable starts.old.places.items starts.old.border (string_bytes text.old) }
-    requires room { size_back Bytes (entry_to_undo way change.now) (string_len text.old) ≤ string_capacity text.old }
-    requires table_room { size_back Newlines (entry_to_undo way change.now) (vec_len starts.old.places) ≤ vec_capacity starts.old.places }
-    requires boundary { IsCharBoundary (string_bytes text.old) cursor }
-    requires stands { Stands (entry_to_undo way change.now) (string_bytes text.old) cursor }
-    ensures text { apply (event_of (inverse (entry_to_undo way change.now))) (string_bytes text.old) ≡ Some (string_bytes text.new) }
-    ensures table { IsTable starts.new.places.items starts.new.border (string_bytes text.new) }
-    ensures cursor { result ≡ cursor_after cursor (inverse (entry_to_undo way change.now)) }
-    ensures boundary { IsCharBoundary (string_bytes text.new) result }
-    ensures capacity { string_capacity text.old ≤ string_capacity text.new }
-    ensures table_capacity { vec_capacity starts.old.places ≤ vec_capacity starts.new.places }
-    ensures len { string_len text.new ≡ size_back Bytes (entry_to_undo way change.now) (string_len text.old) }
-    ensures count { vec_len starts.new.places ≡ size_back Newlines (entry_to_undo way change.now) (vec_len starts.old.places) }
+/// Goes over a change in a line, which has room for the result.
+pub(crate) fn go_over(line: &mut RoomyLine, change: &Change, way: Way)
+    requires follows { IsSome (line_back (entry_to_undo way change.now ∷ []) line.old.line) }
+    requires room { size_back Bytes (entry_to_undo way change.now) (length line.old.line.text) ≤ line.old.bytes }
+    requires table { size_back Newlines (entry_to_undo way change.now) (count_by is_newline line.old.line.text) ≤ line.old.starts }
+    ensures line { line_back (entry_to_undo way change.now ∷ []) line.old.line ≡ Some line.new.line }
+    ensures bytes { line.old.bytes ≤ line.new.bytes }
+    ensures starts { line.old.starts ≤ line.new.starts }
 {
-    match change.place() {
-        Some(at) => {
-            let (going, coming) = change.texts(way);
-            let after = swap_in(text, starts, at, at + going.len(), coming, newlines(coming));
-            change.cursor_over(way).unwrap_or(after)
-        }
-        None => cursor,
-    }
+    // So the proof knows that this is UTF-8, and within the limit.
+    let _text = line.text.as_str();
+    let Some(place) = change.place() else {
+        return;
+    };
+    let (going, coming) = change.texts(way);
+    let after = change.cursor_over(way).unwrap_or(place + coming.len());
+    line.swap_in(place, place + going.len(), coming, newlines(coming), after);
 }
 
 /// Tells a listener that a text gave way to another, and that the cursor went from `before` to `after`. Inlined, since an
@@ -374,22 +359,18 @@ pub(crate) fn nth_on(way: Way, changes: &[Change], left: usize) -> &Change
 /// is, so that the way is known at compile time.
 #[inline(always)]
 pub(crate) fn find_room_over(
-    text: &mut String,
-    starts: &mut LineStarts,
+    line: &mut RoomyLine,
     changes: &[Change],
     way: Way,
 ) -> Result<(), Refusal>
-    ensures text { string_bytes text.new ≡ string_bytes text.old }
-    ensures len { string_len text.new ≡ string_len text.old }
-    ensures starts { starts.new.places.items ≡ starts.old.places.items }
-    ensures border { starts.new.border ≡ starts.old.border }
-    ensures count { vec_len starts.new.places ≡ vec_len starts.old.places }
-    ensures room { OnOk result (greatest_back_over Bytes (entries_to_undo way changes.now) (string_len text.old) ≤ string_capacity text.new) }
-    ensures table { OnOk result (greatest_back_over Newlines (entries_to_undo way changes.now) (vec_len starts.old.places) ≤ vec_capacity starts.new.places) }
-    ensures err { IfErr result (λ r. (r ≡ NoMemory) × Outgrows (entries_to_undo way changes.now) (string_len text.old) (vec_len starts.old.places)) }
+    ensures line { line.new.line ≡ line.old.line }
+    ensures room { OnOk result (greatest_back_over Bytes (entries_to_undo way changes.now) (length line.old.line.text) ≤ line.new.bytes) }
+    ensures table { OnOk result (greatest_back_over Newlines (entries_to_undo way changes.now) (count_by is_newline line.old.line.text) ≤ line.new.starts) }
+    ensures err { IfErr result (λ r. (r ≡ NoMemory) × Outgrows (entries_to_undo way changes.now) (length line.old.line.text) (count_by is_newline line.old.line.text)) }
 {
-    let growth = growth_over(changes, way, text.len(), starts.places.len())?;
-    find_room(text, starts, growth.bytes, growth.newlines)
+    let growth = growth_over(changes, way, line.len(), line.newlines())?;
+    line.find_room(growth.bytes, growth.newlines)?;
+    Ok(())
 }
 
 // The most by which a text of `bytes` bytes, and a table of `newlines` newlines, grow on the way over the changes.

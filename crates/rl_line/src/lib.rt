@@ -9,7 +9,7 @@ pub mod laws;
 pub mod line_buffer;
 mod line_starts;
 mod patched;
-mod steps;
+mod roomy_line;
 mod swap;
 mod tails;
 

@@ -26,8 +26,7 @@ mod transpositions;
 
 use crate::change::{Change, Way, find_room_over, go_over, nth_on, tell_over, tell_swap};
 use crate::line_starts::{LineStarts, newlines, newlines_of};
-use crate::steps::{deletion_step, insertion_step};
-use crate::swap::{find_room, find_room_instead, swap_in, swap_in_char};
+use crate::roomy_line::RoomyLine;
 pub use deletions::{can_delete_by, is_by_characters, kill_agrees_with_copy};
 use rl_base::{ChangeListener, DeleteListener, Direction, Refusal};
 use std::alloc::Global;
@@ -54,23 +53,15 @@ const _: () = prove!(MAX_LINE == 4096);
 /// may not grow, they do not make it longer than the limit. Whatever else makes it longer raises the limit.
 #[derive(Drop)]
 pub struct LineBuffer {
-    buf: String,
-    // Where the lines of the text begin, except the first.
-    starts: LineStarts,
-    pos: usize,
-    limit: usize,
-    can_growth: bool,
+    line: RoomyLine,
 }
 
 impl Model for LineBuffer {
-    ghost use Rattle.rl_line.specs.Line.{Line, IsLine};
-    ghost use Rattle.std.specs.String.{string_bytes};
+    ghost use Rattle.rl_line.specs.Line.{Line};
 
     ghost Value = { Line };
 
-    ghost view = { λ b. record { text = string_bytes b.buf; cursor = b.pos; limit = b.limit; grow = b.can_growth } };
-
-    ghost invariant = { λ b. IsLine (string_bytes b.buf) b.starts.places.items b.starts.border b.pos b.limit };
+    ghost view = { λ b. b.line.line };
 }
 
 impl fmt::Debug for LineBuffer {
@@ -87,13 +78,14 @@ impl LineBuffer {
         ensures ok { IfOk result (λ line. line ≡ record { text = []; cursor = 0; limit = capacity; grow = false }) }
         ensures err { IfErr result (λ r. (r ≡ NoMemory) × (0 < capacity)) }
     {
-        Ok(LineBuffer {
-            buf: String::with_capacity(alloc, capacity)?,
+        let line = RoomyLine {
+            text: String::with_capacity(alloc, capacity)?,
             starts: LineStarts::new(alloc),
             pos: 0,
             limit: capacity,
             can_growth: false,
-        })
+        };
+        Ok(LineBuffer { line })
     }
 
     /// An empty line with that limit, which has asked for no memory: it asks when it needs room. It may not grow.
@@ -101,43 +93,45 @@ impl LineBuffer {
     pub fn with_limit(alloc: Global, limit: usize) -> Self
         ensures { result ≡ record { text = []; cursor = 0; limit = limit; grow = false } }
     {
-        LineBuffer {
-            buf: String::new(alloc),
+        let line = RoomyLine {
+            text: String::new(alloc),
             starts: LineStarts::new(alloc),
             pos: 0,
             limit,
             can_growth: false,
-        }
+        };
+        LineBuffer { line }
     }
 
     /// The line, with or without leave to grow past its limit.
     pub fn can_growth(self, can_growth: bool) -> Self
         ensures { result ≡ record self { grow = can_growth } }
     {
-        let mut line = self;
+        let mut line = self.line;
         line.can_growth = can_growth;
-        line
+        LineBuffer { line }
     }
 
     /// The text.
     pub fn as_str(&self) -> &str
         ensures { result.now ≡ self.now.text }
     {
-        self.buf.as_str()
+        self.line.as_str()
     }
 
     /// The text, with the line used up.
     pub fn into_string(self) -> String
         ensures { string_bytes result ≡ self.text }
     {
-        let LineBuffer {
-            buf,
+        let line = self.line;
+        let RoomyLine {
+            text,
             starts: _,
             pos: _,
             limit: _,
             can_growth: _,
-        } = self;
-        buf
+        } = line;
+        text
     }
 
     /// The byte place of the cursor.
@@ -147,7 +141,8 @@ impl LineBuffer {
         ensures fits { result < 2 ^ 63 }
         ensures utf8 { IsUtf8 self.now.text }
     {
-        self.pos
+        let line = &self.line;
+        line.pos
     }
 
     /// The length of the text, in bytes.
@@ -155,7 +150,7 @@ impl LineBuffer {
         ensures len { result ≡ length self.now.text }
         ensures fits { result < 2 ^ 63 }
     {
-        self.buf.len()
+        self.line.len()
     }
 
     /// The limit on the text's length, in bytes.
@@ -163,7 +158,8 @@ impl LineBuffer {
         ensures limit { result ≡ self.now.limit }
         ensures within { length self.now.text ≤ result }
     {
-        self.limit
+        let line = &self.line;
+        line.limit
     }
 
     /// Sets the limit on the text's length, in bytes: to the text's length if that is greater. So a text that was
@@ -171,21 +167,22 @@ impl LineBuffer {
     pub fn set_limit(&mut self, limit: usize)
         ensures { self.new ≡ record self.old { limit = max limit (length self.old.text) } }
     {
-        self.limit = limit.max(self.buf.len());
+        let line = &mut self.line;
+        line.limit = limit.max(line.text.len());
     }
 
     /// Whether there is no text.
     pub fn is_empty(&self) -> bool
         ensures { IsTrue result ↔ (self.now.text ≡ []) }
     {
-        self.buf.is_empty()
+        self.as_str().is_empty()
     }
 
     /// Whether the cursor stands at the end of the text.
     pub fn is_cursor_at_end(&self) -> bool
         ensures { IsTrue result ↔ (self.now.cursor ≡ length self.now.text) }
     {
-        self.pos == self.buf.len()
+        self.pos() == self.len()
     }
 
     /// Moves the cursor to a byte place, which `as_str().is_char_boundary` tests.
@@ -193,7 +190,8 @@ impl LineBuffer {
         requires { IsCharBoundary self.old.text pos }
         ensures { self.new ≡ record self.old { cursor = pos } }
     {
-        self.pos = pos;
+        let line = &mut self.line;
+        line.pos = pos;
     }
 
     // One step: finds room, and then puts a text in.
@@ -211,18 +209,8 @@ impl LineBuffer {
         ensures line { OnOk result (self.new ≡ stepped self.old (insert_slice self.old.text idx text.now) cursor) }
     {
         let come = newlines(text);
-        find_room(&mut self.buf, &mut self.starts, text.len(), come)?;
-        insertion_step(
-            &mut self.buf,
-            &mut self.starts,
-            &mut self.pos,
-            &mut self.limit,
-            idx,
-            text,
-            come,
-            cursor,
-            listener,
-        )
+        self.line.find_room(text.len(), come)?;
+        self.line.insertion_step(idx, text, come, cursor, listener)
     }
 
     // The same step with one character: finds room, reports, and then puts it in, which can't fail any more. Inlined,
@@ -242,12 +230,10 @@ impl LineBuffer {
         ensures line { OnOk result (self.new ≡ stepped self.old (insert_slice self.old.text idx (encode_utf8 c)) cursor) }
     {
         let bytes = c.len_utf8();
-        find_room(&mut self.buf, &mut self.starts, bytes, newlines_of(c))?;
+        self.line.find_room(bytes, newlines_of(c))?;
         listener.insert_char(idx, c)?;
-        listener.cursors(self.pos, cursor);
-        swap_in_char(&mut self.buf, &mut self.starts, idx, c);
-        self.pos = cursor;
-        self.limit = self.limit.max(self.buf.len());
+        listener.cursors(self.line.pos(), cursor);
+        self.line.swap_in_char(idx, c, cursor);
         Ok(())
     }
 
@@ -264,11 +250,11 @@ impl LineBuffer {
         ensures line { OnOk result (self.new ≡ stepped self.old (replace_range self.old.text range.start range.end text.now) (range.start + length text.now)) }
     {
         let (from, to) = (range.start, range.end);
-        let come = find_room_instead(&mut self.buf, &mut self.starts, from, to, text)?;
-        listener.replace(from, &self.buf.as_str()[from..to], text)?;
-        listener.cursors(self.pos, from + text.len());
-        self.pos = swap_in(&mut self.buf, &mut self.starts, from, to, text, come);
-        self.limit = self.limit.max(self.buf.len());
+        let come = self.line.find_room_instead(from, to, text)?;
+        listener.replace(from, &self.line.as_str()[from..to], text)?;
+        let end = from + text.len();
+        listener.cursors(self.line.pos(), end);
+        self.line.swap_in(from, to, text, come, end);
         Ok(())
     }
 
@@ -289,7 +275,6 @@ impl LineBuffer {
 
     // The same step, which leaves the cursor at a place. Inlined as well.
     #[inline(always)]
-    #[tactic(auto, using(rl_base::proofs::Texts::EventLemmas::fitting))]
     fn take_out_before<L: DeleteListener>(
         &mut self,
         range: Range<usize>,
@@ -302,16 +287,7 @@ impl LineBuffer {
         ensures step { StepOutcome L.step L.refused nothing_more (delete_step self.old range dir cursor) self.old self.new listener.old listener.new result }
         ensures line { OnOk result (self.new ≡ stepped self.old (remove_range self.old.text range.start range.end) cursor) }
     {
-        deletion_step(
-            &mut self.buf,
-            &mut self.starts,
-            &mut self.pos,
-            range,
-            dir,
-            cursor,
-            listener,
-        )?;
-        Ok(())
+        self.line.deletion_step(range, dir, cursor, listener)
     }
 
     // Goes over one change alone, as `go_over_all` does over several. Inlined, so that undo and redo each know their
@@ -332,18 +308,17 @@ impl LineBuffer {
         ensures kept { OnErr result (listener.new ≡ listener.old) }
     {
         // So the proof knows that this is UTF-8.
-        let _text = self.buf.as_str();
+        let _text = self.line.as_str();
         let Some(at) = change.place() else {
             unreachable!();
         };
         let (going, coming) = change.texts(way);
         let to = at + going.len();
-        let come = find_room_instead(&mut self.buf, &mut self.starts, at, to, coming)?;
-        let after = swap_in(&mut self.buf, &mut self.starts, at, to, coming, come);
-        let before = self.pos;
-        self.pos = change.cursor_over(way).unwrap_or(after);
-        self.limit = self.limit.max(self.buf.len());
-        tell_swap(at, going, coming, before, self.pos, listener);
+        let come = self.line.find_room_instead(at, to, coming)?;
+        let before = self.line.pos();
+        let after = change.cursor_over(way).unwrap_or(at + coming.len());
+        self.line.swap_in(at, to, coming, come, after);
+        tell_swap(at, going, coming, before, after, listener);
         Ok(())
     }
 
@@ -365,16 +340,15 @@ impl LineBuffer {
         ensures kept { OnErr result (listener.new ≡ listener.old) }
     {
         // So the proof knows that this is UTF-8.
-        let _text = self.buf.as_str();
-        find_room_over(&mut self.buf, &mut self.starts, changes, way)?;
+        let _text = self.line.as_str();
+        find_room_over(&mut self.line, changes, way)?;
         let mut left = changes.len();
         while left > 0 {
             left -= 1;
             let change = nth_on(way, changes, left);
-            let before = self.pos;
-            self.pos = go_over(&mut self.buf, &mut self.starts, change, way, before);
-            self.limit = self.limit.max(self.buf.len());
-            tell_over(change, way, before, self.pos, listener);
+            let before = self.line.pos();
+            go_over(&mut self.line, change, way);
+            tell_over(change, way, before, self.line.pos(), listener);
         }
         Ok(())
     }

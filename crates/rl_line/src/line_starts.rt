@@ -1,6 +1,7 @@
 //! The table of a line's text: the places right after its newlines, in order, where its lines begin except the first.
 ghost use Rattle.std.specs.Prelude.{◌≡◌, ℕ, [], ◌+◌, ◌-◌, ◌^◌, ◌<◌, ◌≤◌, ◌++◌, ◌==◌, ◌&&◌, nat_le, All, map, take, drop, get_or, length, count_by, encode_utf8, slice_range, vec_len, vec_capacity};
-ghost use Rattle.std.specs.List.{replace_range};
+ghost use Rattle.std.specs.List.{insert_slice, replace_range};
+ghost use Rattle.std.specs.Str.{IsCharBoundary};
 ghost use Rattle.rl_base.specs.Lines.{is_newline, line_number};
 ghost use Rattle.rl_line.specs.LineStarts.{after_newlines, line_starts, from_end, IsTable, count_swapped};
 ghost use Rattle.rl_line.specs.LineRanges.{IsRange};
@@ -197,6 +198,37 @@ pub(crate) fn swap_starts(
         return;
     }
     exchange_starts(starts, text, from, to, part, come);
+}
+
+/// Updates it for a character that goes in.
+#[inline(always)]
+pub(crate) fn swap_starts_by_char(starts: &mut LineStarts, text: &str, at: usize, c: char)
+    requires place { IsCharBoundary text.now at }
+    requires table { IsTable starts.old.places.items starts.old.border text.now }
+    requires room { vec_len starts.old.places + count_by is_newline (encode_utf8 c) ≤ vec_capacity starts.old.places }
+    ensures table { IsTable starts.new.places.items starts.new.border (insert_slice text.now at (encode_utf8 c)) }
+    ensures capacity { vec_capacity starts.old.places ≤ vec_capacity starts.new.places }
+{
+    if starts.stays(text, at, at, newlines_of(c)) {
+        return;
+    }
+    exchange_encoded(starts, text, at, c);
+}
+
+// Updates the table for a character that goes in, by its bytes. Cold: mostly no newline is typed, and at the last change's
+// place.
+#[cold]
+#[inline(never)]
+fn exchange_encoded(starts: &mut LineStarts, text: &str, at: usize, c: char)
+    requires place { IsCharBoundary text.now at }
+    requires table { IsTable starts.old.places.items starts.old.border text.now }
+    requires room { vec_len starts.old.places + count_by is_newline (encode_utf8 c) ≤ vec_capacity starts.old.places }
+    ensures table { IsTable starts.new.places.items starts.new.border (insert_slice text.now at (encode_utf8 c)) }
+    ensures capacity { vec_capacity starts.old.places ≤ vec_capacity starts.new.places }
+{
+    let mut bytes = [0; 4];
+    let part = c.encode_utf8(&mut bytes);
+    exchange_starts(starts, text, at, at, part, newlines_of(c));
 }
 
 /// The same where the border is elsewhere, or newlines come or go. The starts after the range keep their distances from the end.

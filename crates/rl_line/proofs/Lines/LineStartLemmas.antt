@@ -333,9 +333,6 @@ pub IsTable-written : (first n border : ℕ) (old new more all text : List ℕ) 
     → IsTable (take n (put_mid first (length old - first) old new ++ more)) border text
 IsTable-written first n border old new more all text len le size is h = subst (λ l. IsTable l border text) (sym (written-after first n old new more len le size ∙ is)) h
 
-pub IsTable-same : (places more : List ℕ) (border next : ℕ) (text now : List ℕ) → more ≡ places → next ≡ border → now ≡ text → IsTable places border text → IsTable more next now
-IsTable-same places more border next text now p b t h = subst (IsTable more next) (sym t) (subst (λ n. IsTable more n text) (sym b) (subst (λ l. IsTable l border text) (sym p) h))
-
 -- ---- a start is read
 module _ (places text : List ℕ) (border k : ℕ) (h : IsTable places border text) (some : k < length places) where
   many : border ≤ length (line_starts text)

@@ -59,9 +59,6 @@ pub pushed-none : (i cursor : ℕ) → pushed i 0 cursor ≡ cursor
 pushed-none i cursor = grind (arith, nat_tests)
 
 -- ---- what stands after a change
-pub drop-after_removal : (text : List ℕ) (i j q k : ℕ) → i ≤ length text → j ≤ q → k ≡ i + (q - j) → drop k (remove_range text i j) ≡ drop q text
-drop-after_removal text i j q k within le e = ap (drop k) (removed-is_replaced text i j) ∙ drop-after text i j q k [] within le (omega (arith, e))
-
 pub IsCharBoundary-pushed : (text : List ℕ) (i cursor : ℕ) (s : List ℕ) → IsUtf8 text → IsUtf8 s → IsCharBoundary text i → IsCharBoundary text cursor
     → IsCharBoundary (insert_slice text i s) (pushed i (length s) cursor)
 IsCharBoundary-pushed text i cursor s u v start at = from (nat_lt cursor i) refl

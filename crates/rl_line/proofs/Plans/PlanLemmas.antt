@@ -205,6 +205,12 @@ module _ {L : Type 0} (step : L → Event → L) where
       cause = h.cause;
     }
 
+  -- a step for which there was room, as one that looks for it
+  pub StepOutcome-with_room : {B : Type 0} (refused : L → Event → Refusal → L → Type 0) (s : Step) (old new : Line) (b n : L) (result : Result B Refusal)
+      → StepOutcome step refused nothing_more s old new b n result → StepOutcome step refused room_by_step s old new b n result
+  StepOutcome-with_room refused s old new b n (Ok a) d = d
+  StepOutcome-with_room refused s old new b n (Err r) u = record { kept = u.kept; cause = inr u.cause }
+
   -- an edit of one step, with its answer
   pub Outcome-single : (refused : L → Event → Refusal → L → Type 0) (takes : Takes) (plan : Plan (Unit {0})) (s : Step) (old new : Line) (b n : L) (result : Result (Unit {0}) Refusal)
       → plan ≡ single s.0 s.1 tt → StepOutcome step refused takes s old new b n result → Outcome step refused takes plan old new b n result

@@ -24,12 +24,12 @@ size-nothing Bytes n = omega arith
 size-nothing Newlines n = omega arith
 
 -- the size of the text before an entry
-size_back-is : (k : Measure) (e : Entry) (text now : List ℕ) → IsUtf8 text → apply (event_of (inverse e)) text ≡ Some now → size_of k now ≡ size_back k e (size_of k text)
+pub size_back-is : (k : Measure) (e : Entry) (text now : List ℕ) → IsUtf8 text → apply (event_of (inverse e)) text ≡ Some now → size_of k now ≡ size_back k e (size_of k text)
 unfolding apply
 size_back-is k (Changed j c) text now u h = size-swapped k text now c.place c.new c.old (Swaps-Replace text now c.place c.new c.old u h)
 size_back-is k mark text now u h = let e : text ≡ now = cc in ap (size_of k) (sym e) ∙ size-nothing k (size_of k text)
 
-size_back_over-is : (k : Measure) (es : List Entry) (text now : List ℕ) → IsUtf8 text → unwind es text ≡ Some now → size_of k now ≡ size_back_over k es (size_of k text)
+pub size_back_over-is : (k : Measure) (es : List Entry) (text now : List ℕ) → IsUtf8 text → unwind es text ≡ Some now → size_of k now ≡ size_back_over k es (size_of k text)
 size_back_over-is k [] text now u h = let e : text ≡ now = cc in ap (size_of k) (sym e)
 size_back_over-is k (e ∷ es) text now u h =
     let p = through (apply (event_of (inverse e))) (unwind es text) now h in

@@ -107,11 +107,9 @@ pub IsBack-fits : (way : Way) (xs : List Change) (m : ℕ) (x : Change) (start n
 IsBack-fits way xs m x start now lt e b =
     IsSome-through (line_back (map (entry_to_undo way) (take m xs))) (back_one (entry_to_undo way x) now) (subst IsSome (rest_split way xs m x now lt e) b.rest)
 
-pub IsBack-next : (way : Way) (xs : List Change) (m : ℕ) (x : Change) (start now next : Line) (text : List ℕ) → m < length xs → x ≡ get_or xs m x → IsBack way xs (m + 1) start now
-    → apply (event_of (inverse (entry_to_undo way x))) now.text ≡ Some text → next ≡ stepped now text (cursor_after now.cursor (inverse (entry_to_undo way x)))
-    → IsCharBoundary text (cursor_after now.cursor (inverse (entry_to_undo way x))) → IsBack way xs m start next
-IsBack-next way xs m x start now next text lt e b fits is at =
-    let one = one-back (entry_to_undo way x) now next text fits is at in
+pub IsBack-next : (way : Way) (xs : List Change) (m : ℕ) (x : Change) (start now next : Line) → m < length xs → x ≡ get_or xs m x → IsBack way xs (m + 1) start now
+    → line_back (entry_to_undo way x ∷ []) now ≡ Some next → IsBack way xs m start next
+IsBack-next way xs m x start now next lt e b one =
     record {
       so_far = ap (λ es. line_back es start) (entries_from way xs m x lt e) ∙ ap (option_and_then (back_one (entry_to_undo way x))) b.so_far ∙ one;
       rest = subst IsSome (rest_split way xs m x now lt e ∙ ap (option_and_then (line_back (map (entry_to_undo way) (take m xs)))) one) b.rest;

@@ -38,7 +38,7 @@ impl LineBuffer {
         ensures some { OnErr result (0 < length (text_in self.now range.now)) }
     {
         let text = &self.as_str()[range.start..range.end];
-        copied(*self.buf.allocator(), text)
+        copied(self.line.allocator(), text)
     }
 
     /// Deletes the next `n` grapheme clusters (GNU readline: delete-char), and answers their text, or None

@@ -8,8 +8,6 @@ ghost use Rattle.rl_line.specs.Edits.{CanInsertStr, CanYankPop, too_long, insert
 ghost use Rattle.rl_line.specs.LineRanges.{IsRange};
 
 use crate::line_buffer::LineBuffer;
-use crate::steps::exchange_steps;
-use crate::swap::find_room_instead;
 use rl_base::{ChangeListener, DeleteListener, Direction, Refusal, RepeatCount};
 use std::ops::Range;
 
@@ -18,10 +16,11 @@ impl LineBuffer {
     fn is_too_long(&self, len: usize, n: RepeatCount) -> bool
         ensures { result ≡ too_long self.now (length self.now.text + len * n) }
     {
-        if self.can_growth {
+        let line = &self.line;
+        if line.can_growth {
             return false;
         }
-        let room = self.limit - self.buf.len();
+        let room = line.limit - line.text.len();
         match len.checked_mul(usize::from(n)) {
             Some(more) => room < more,
             None => true,
@@ -45,7 +44,7 @@ impl LineBuffer {
         if n == 0 {
             return self.put_str(at, "", at, listener);
         }
-        let copies = text.repeat(*self.buf.allocator(), usize::from(n))?;
+        let copies = text.repeat(self.line.allocator(), usize::from(n))?;
         self.put_str(at, copies.as_str(), at + copies.len(), listener)
     }
 
@@ -153,7 +152,8 @@ impl LineBuffer {
     pub fn has_room(&self, bytes: usize) -> bool
         ensures { result ≡ not (too_long self.now bytes) }
     {
-        self.can_growth || bytes <= self.limit
+        let line = &self.line;
+        line.can_growth || bytes <= line.limit
     }
 
     /// Whether `size` bytes can have been yanked last: as many stand before the cursor, and they begin between two
@@ -201,25 +201,9 @@ impl LineBuffer {
         ensures steps { Completion L.step L.refused a_copy (exchange_plan self.old range between text.now cursor) self.old self.new listener.old listener.new result }
         ensures text { OnOk result (self.new.text ≡ replace_range self.old.text range.start range.end text.now) }
     {
-        let come = find_room_instead(
-            &mut self.buf,
-            &mut self.starts,
-            range.start,
-            range.end,
-            text,
-        )?;
-        exchange_steps(
-            &mut self.buf,
-            &mut self.starts,
-            &mut self.pos,
-            &mut self.limit,
-            range,
-            between,
-            text,
-            come,
-            cursor,
-            listener,
-        )?;
+        let come = self.line.find_room_instead(range.start, range.end, text)?;
+        self.line
+            .exchange_steps(range, between, text, come, cursor, listener)?;
         Ok(())
     }
 
@@ -246,10 +230,11 @@ impl LineBuffer {
     fn cut_to_limit<'a>(&self, text: &'a str) -> &'a str
         ensures { result.now ≡ cut_to_limit self.now text.now }
     {
-        if self.can_growth || text.len() <= self.limit {
+        let line = &self.line;
+        if line.can_growth || text.len() <= line.limit {
             return text;
         }
-        &text[..text.floor_char_boundary(self.limit)]
+        &text[..text.floor_char_boundary(line.limit)]
     }
 
     /// Whether two byte places are in order, and each stands between two characters or at an end of the text. What takes
@@ -311,7 +296,7 @@ impl LineBuffer {
         ensures { Outcome L.step L.refused room_by_step (insert_str_plan self.old idx text.now) self.old self.new listener.old listener.new result }
     {
         let at_end = idx == self.len();
-        self.put_str(idx, text, self.pos, listener)?;
+        self.put_str(idx, text, self.pos(), listener)?;
         Ok(at_end)
     }
 

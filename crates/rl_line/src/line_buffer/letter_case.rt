@@ -31,7 +31,7 @@ impl LineBuffer {
             return Ok(false);
         };
         let text = &self.as_str()[word.start..word.end];
-        let made = recased(*self.buf.allocator(), text, action)?;
+        let made = recased(self.line.allocator(), text, action)?;
         let end = word.start + made.len();
         self.exchange(word, at, made.as_str(), end, listener)?;
         Ok(true)

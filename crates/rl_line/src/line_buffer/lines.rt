@@ -25,7 +25,7 @@ impl LineBuffer {
         ensures count { result ≡ length (lines self.now.text) }
         ensures some { 0 < result }
     {
-        self.starts.places.len() + 1
+        self.line.newlines() + 1
     }
 
     /// The byte range of the text of line `i`, counted from 0, without its newline. None if there is no such line.
@@ -47,7 +47,8 @@ impl LineBuffer {
         ensures start { result ≡ get_or (line_starts self.now.text) k 0 }
         ensures utf8 { IsUtf8 self.now.text }
     {
-        self.starts.start(self.buf.as_str(), k)
+        let line = &self.line;
+        line.starts.start(line.text.as_str(), k)
     }
 
     // The number of the line that a place lies in.
@@ -56,14 +57,15 @@ impl LineBuffer {
         ensures value { result ≡ line_number self.now.text pos }
         ensures within { result ≤ last_line self.now.text }
     {
-        self.starts.line_number(self.buf.as_str(), pos)
+        let line = &self.line;
+        line.starts.line_number(line.text.as_str(), pos)
     }
 
     // The number of the last line.
     pub(super) fn last_line(&self) -> usize
         ensures { result ≡ last_line self.now.text }
     {
-        self.starts.places.len()
+        self.line.newlines()
     }
 
     // The place where a line begins.

@@ -15,7 +15,7 @@ impl LineBuffer {
     pub fn is_end_of_input(&self) -> bool
         ensures { IsTrue result ↔ IsEndOfInput self.now }
     {
-        self.pos >= self.buf.as_str().trim_end().len()
+        self.pos() >= self.as_str().trim_end().len()
     }
 
     /// The byte place past the next `n` grapheme clusters (UAX #29), or past all of them where there are
@@ -34,7 +34,7 @@ impl LineBuffer {
     {
         match place {
             Some(place) => {
-                self.pos = place;
+                self.set_pos(place);
                 true
             }
             None => false,

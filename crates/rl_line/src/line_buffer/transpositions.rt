@@ -6,8 +6,6 @@ ghost use Rattle.rl_line.specs.Transpositions.{are_two, clusters_around, end_of_
 
 use crate::line_buffer::LineBuffer;
 use crate::line_starts::newlines;
-use crate::steps::{deletion_step, exchange_steps, insertion_step};
-use crate::swap::find_room_instead;
 use rl_base::places::{next_pos, next_word, prev_pos, prev_word};
 use rl_base::{At, ChangeListener, Direction, Refusal, RepeatCount, Word};
 use std::ops::Range;
@@ -48,21 +46,10 @@ impl LineBuffer {
     {
         let moved = self.text_of(&after)?;
         let start = after.start;
-        deletion_step(
-            &mut self.buf,
-            &mut self.starts,
-            &mut self.pos,
-            after,
-            Direction::Forward,
-            start,
-            listener,
-        )?;
-        let next = end_of_cluster(self.buf.as_str(), front);
-        insertion_step(
-            &mut self.buf,
-            &mut self.starts,
-            &mut self.pos,
-            &mut self.limit,
+        self.line
+            .deletion_step(after, Direction::Forward, start, listener)?;
+        let next = end_of_cluster(self.line.as_str(), front);
+        self.line.insertion_step(
             front,
             moved.as_str(),
             newlines(moved.as_str()),
@@ -142,18 +129,10 @@ impl LineBuffer {
         let first_text = self.text_of(&first)?;
         let second_text = self.text_of(&second)?;
         let (start, between, end) = (first.start, first.end, second.end);
-        let come = find_room_instead(
-            &mut self.buf,
-            &mut self.starts,
-            second.start,
-            second.end,
-            first_text.as_str(),
-        )?;
-        exchange_steps(
-            &mut self.buf,
-            &mut self.starts,
-            &mut self.pos,
-            &mut self.limit,
+        let come = self
+            .line
+            .find_room_instead(second.start, second.end, first_text.as_str())?;
+        self.line.exchange_steps(
             second,
             between,
             first_text.as_str(),
@@ -161,11 +140,7 @@ impl LineBuffer {
             between,
             listener,
         )?;
-        exchange_steps(
-            &mut self.buf,
-            &mut self.starts,
-            &mut self.pos,
-            &mut self.limit,
+        self.line.exchange_steps(
             first,
             start,
             second_text.as_str(),

@@ -1,50 +1,61 @@
-use Rattle.rl_line.proofs.Common.{◌≡◌, ◌+◌, ℕ, List, Some, arith, ◌∙◌, length, refl, subst, sym, ap, string_bytes, unwrap_or, IsCharBoundary, apply, event_of, inverse, cursor_after, cursor_told, place_after, entry_to_undo, place}
-use Rattle.rl_line.proofs.Records.ChangeLemmas.{StandsNew, StandsNew-from_IsSome, mark-leaves, place-entry_to_undo, place_after-is}
+use Rattle.rl_line.proofs.Common.{◌≡◌, ◌+◌, ◌≤◌, ◌∙◌, List, ℕ, ap, arith, length, subst, sym, unwrap_or, Bytes, Newlines, IsUtf8, inverse, cursor_after, entry_to_undo, RoomyLine}
+use Rattle.rl_line.proofs.Records.ChangeLemmas.{place-entry_to_undo}
+use Rattle.rl_line.proofs.Records.GoingLemmas.{GoesOver, goes_over, over-mark}
+use Rattle.rl_line.proofs.Records.RoomLemmas.{size_back-is}
 use Rattle.rl_line.proofs.change.go_over.Goals as goal
-use Rattle.rl_line.proofs.change.go_over.Goals.{After-unwrap_or, In-Some}
+use Rattle.rl_line.proofs.change.go_over.Goals.{After-texts, After-unwrap_or-after}
 
-stands : (c : In-Some) → StandsNew (entry_to_undo c.args.way c.args.change.now) (string_bytes c.args.text.now) c.in-Some.at
-stands c =
-    StandsNew-from_IsSome _ _ _ (place-entry_to_undo c.args.way c.args.change.now ∙ sym c.place.ensures ∙ c.in-Some.is) c.requires.fits
+pub returns-in_default-clause-line : goal.returns-in_default-clause-line
+returns-in_default-clause-line c =
+    over-mark _ _ (place-entry_to_undo c.args.way c.args.change.now ∙ sym c.in_default.ensures)
+    (subst (λ (r : RoomyLine). length r.line.text ≤ r.line.limit) c.line.view_is c.line.invariant.within) c.requires.follows
 
-pub overflow_add-at : goal.overflow_add-at
-overflow_add-at c =
-    omega (arith, (stands (goal.at.overflow_add-at c).In-Some).end.0, ap length c.texts.ensures.going, c.args.text.now.bytes.ok.0, c.args.text.now.bytes.ok.1, c.args.text.now.bytes.small)
+goes : (c : After-texts) → GoesOver (entry_to_undo c.args.way c.args.change.now) c.args.line.now.line c.in-Some.place
+goes c = goes_over _ _ _ (place-entry_to_undo c.args.way c.args.change.now ∙ sym c.place.ensures ∙ c.in-Some.is) c.requires.follows
 
-pub swap_in-after-requires-clause-range : goal.swap_in-after-requires-clause-range
-swap_in-after-requires-clause-range c = let d = stands (goal.at.swap_in-after-requires-clause-range c).In-Some in (omega arith, d.start, rw c.texts.ensures.going d.end)
+pub overflow_add-place : goal.overflow_add-place
+overflow_add-place c =
+    let text = c.line.inside.text in
+    omega (arith, (goes (goal.at.overflow_add-place c).After-texts).range.1.0, ap (λ (r : RoomyLine). length r.line.text) c.line.view_is, text.bytes.ok.0, text.bytes.ok.1, text.bytes.small)
 
-pub swap_in-after-requires-clause-table_room : goal.swap_in-after-requires-clause-table_room
-swap_in-after-requires-clause-table_room c =
-    rw (c.texts.ensures.going, c.texts.ensures.coming, (stands (goal.at.swap_in-after-requires-clause-table_room c).In-Some).bytes) c.requires.table_room
+pub overflow_add-place-2 : goal.overflow_add-place-2
+overflow_add-place-2 c =
+    let text = c.line.inside.text in
+    omega (
+      arith,
+      (goes (goal.at.overflow_add-place-2 c).After-texts).range.2.0,
+      ap length c.texts.ensures.going,
+      ap (λ (r : RoomyLine). length r.line.text) c.line.view_is,
+      text.bytes.ok.0,
+      text.bytes.ok.1,
+      text.bytes.small,
+    )
 
-pub returns-in-Some-clause-count : goal.returns-in-Some-clause-count
-returns-in-Some-clause-count c =
-    rw (c.swap_in-after.ensures.count, c.texts.ensures.going, c.texts.ensures.coming, (stands (goal.at.returns-in-Some-clause-count c).In-Some).bytes) refl
-
-pub returns-in-Some-clause-text : goal.returns-in-Some-clause-text
-returns-in-Some-clause-text c =
-    rw ((stands (goal.at.returns-in-Some-clause-text c).In-Some).makes, c.swap_in-after.ensures.text, c.texts.ensures.going, c.texts.ensures.coming) refl
-
-pub returns-in-None-clause-text : goal.returns-in-None-clause-text
-returns-in-None-clause-text c =
-    mark-leaves (entry_to_undo c.args.way c.args.change.now) (string_bytes c.args.text.now) (place-entry_to_undo c.args.way c.args.change.now ∙ sym c.place.ensures ∙ c.in-None.is)
-
--- the cursor that is answered, told or not
-went : (c : After-unwrap_or) → c.unwrap_or.result ≡ cursor_after c.args.cursor (inverse (entry_to_undo c.args.way c.args.change.now))
+went : (c : After-unwrap_or-after) → c.unwrap_or-after.result ≡ cursor_after c.args.line.now.line.cursor (inverse (entry_to_undo c.args.way c.args.change.now))
 went c =
+    c.unwrap_or-after.ensures ∙ ap (λ (t : List ℕ). unwrap_or c.cursor_over.result (c.in-Some.place + length t)) c.texts.ensures.coming
+    ∙ (goes (goal.at.After-unwrap_or-after c).After-texts).cursor _ c.cursor_over.ensures
+
+pub swap_in-requires-clause-range : goal.swap_in-requires-clause-range
+swap_in-requires-clause-range c = rw c.texts.ensures.going (goes (goal.at.swap_in-requires-clause-range c).After-texts).range
+
+pub swap_in-requires-clause-room : goal.swap_in-requires-clause-room
+swap_in-requires-clause-room c =
+    let d = goes (goal.at.swap_in-requires-clause-room c).After-texts in
     let e = entry_to_undo c.args.way c.args.change.now in
-    let at_place : place e ≡ Some c.in-Some.at = place-entry_to_undo c.args.way c.args.change.now ∙ sym c.place.ensures ∙ c.in-Some.is in
-    let after : c.swap_in-after.result ≡ place_after c.args.cursor (inverse e) =
-    c.swap_in-after.ensures.end ∙ ap (λ (t : List ℕ). c.in-Some.at + length t) c.texts.ensures.coming ∙ sym (place_after-is e c.in-Some.at c.args.cursor at_place) in
-    c.unwrap_or.ensures ∙ ap (λ o. unwrap_or o c.swap_in-after.result) c.cursor_over.ensures ∙ ap (unwrap_or (cursor_told (inverse e))) after
+    let text = c.args.line.now.line.text in
+    let utf8 = subst IsUtf8 (c.as_str-text.ensures.value ∙ ap (λ (r : RoomyLine). r.line.text) c.line.view_is) c.as_str-text.utf8 in
+    rw (c.texts.ensures.going, c.texts.ensures.coming) (record {
+      bytes = omega (arith, c.requires.room, size_back-is Bytes e text _ utf8 d.makes);
+      starts = omega (arith, c.requires.table, size_back-is Newlines e text _ utf8 d.makes);
+    })
 
-pub returns-in-Some-clause-cursor : goal.returns-in-Some-clause-cursor
-returns-in-Some-clause-cursor c = went (goal.at.returns-in-Some-clause-cursor c).After-unwrap_or
+pub swap_in-requires-clause-cursor : goal.swap_in-requires-clause-cursor
+swap_in-requires-clause-cursor c =
+    let d = (goal.at.swap_in-requires-clause-cursor c).After-unwrap_or-after in
+    rw (c.texts.ensures.going, c.texts.ensures.coming, went d) (goes (goal.at.After-unwrap_or-after d).After-texts).stands
 
--- it stands in the new text
-pub returns-in-Some-clause-boundary : goal.returns-in-Some-clause-boundary
-returns-in-Some-clause-boundary c =
-    let made : apply (event_of (inverse (entry_to_undo c.args.way c.args.change.now))) (string_bytes c.args.text.now) ≡ Some (string_bytes c.swap_in-after.new.text) =
-    rw ((stands (goal.at.returns-in-Some-clause-boundary c).In-Some).makes, c.swap_in-after.ensures.text, c.texts.ensures.going, c.texts.ensures.coming) refl in
-    subst (IsCharBoundary (string_bytes c.swap_in-after.new.text)) (sym (went (goal.at.returns-in-Some-clause-boundary c).After-unwrap_or)) (c.requires.stands (string_bytes c.swap_in-after.new.text) made)
+pub returns-clause-line : goal.returns-clause-line
+returns-clause-line c =
+    let d = (goal.at.returns-clause-line c).After-unwrap_or-after in
+    (goes (goal.at.After-unwrap_or-after d).After-texts).back _ (rw (c.texts.ensures.going, c.texts.ensures.coming, went d) at c.swap_in.ensures.line)

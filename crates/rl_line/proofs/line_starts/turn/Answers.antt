@@ -5,6 +5,3 @@ pub loop-place-preserved : goal.loop-place-preserved
 loop-place-preserved c =
     map_over_more (from_end c.args.len) c.args.places.now c.loop-place.places c.loop-place.place-index _ c.loop-place-test.true c.loop-place.invariant
     (get_or_default c.loop-place.places c.loop-place.place-index 0 _ (search rules))
-
-pub returns : goal.returns
-returns c = grind (arith, common_steps)

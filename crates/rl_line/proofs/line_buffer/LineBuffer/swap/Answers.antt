@@ -1,10 +1,8 @@
-use Rattle.rl_line.proofs.Common.{arith, ◌≡◌, List, ℕ, refl, inl, inr, ap, count_by, length, slice_range, subst, sym, ◌∙◌, err_from_is_err_and, replace_range, IsCharBoundary, IsUtf8, string_bytes, is_newline, exchange_plan, Line, line_of, Taken, text_in, swap_plan}
+use Rattle.rl_line.proofs.Common.{arith, ◌≡◌, refl, inl, inr, ap, length, subst, sym, ◌∙◌, err_from_is_err_and, replace_range, IsCharBoundary, IsUtf8, exchange_plan, Line, Taken, text_in, swap_plan, HasRoom}
 use Rattle.rl_base.proofs.Texts.TextLemmas.{IsCharBoundary-before}
 use Rattle.rl_line.proofs.Plans.EditLemmas.{some_part}
-use Rattle.rl_line.proofs.Lines.LineStartLemmas.{length-table, newlines-slice}
 use Rattle.rl_line.proofs.Plans.PlanLemmas.{Done-steps, Taken-append, Halted-front, Halted-back}
-use Rattle.rl_line.proofs.Plans.StepLemmas.{Halted-from, Taken-from}
-use Rattle.rl_line.proofs.Plans.TranspositionLemmas.{HalfSwapped, first_stays, last_steps, swap-front, swap-halves, places}
+use Rattle.rl_line.proofs.Plans.TranspositionLemmas.{HalfSwapped, HasRoom-swapped, last_steps, swap-front, swap-halves, places}
 use Rattle.rl_line.proofs.line_buffer.LineBuffer.swap.Given.{Over}
 use Rattle.rl_line.proofs.line_buffer.LineBuffer.swap.Goals as goal
 use Rattle.rl_line.proofs.line_buffer.LineBuffer.swap.Goals.{After-as_str-3, After-find_room_instead}
@@ -21,9 +19,8 @@ returns-in_err-second_text g c =
 
 -- finding room leaves the line as it is
 kept : (g : Over) (c : After-find_room_instead g)
-    → line_of (string_bytes c.find_room_instead.new.text) c.self.inside.pos c.self.inside.limit c.self.inside.can_growth ≡ c.args.self.now
-kept g c =
-    ap (λ (t : List ℕ). line_of t c.self.inside.pos c.self.inside.limit c.self.inside.can_growth) c.find_room_instead.ensures.text ∙ c.self.view_is
+    → c.find_room_instead.new.self.line ≡ c.args.self.now
+kept g c = c.find_room_instead.ensures.line ∙ c.self.view_is
 
 pub returns-in_err-come : goal.returns-in_err-come
 returns-in_err-come g c =
@@ -32,13 +29,13 @@ returns-in_err-come g c =
     let x : c.as_str.result.now ≡ text_in c.args.self.now c.args.first = c.as_str.ensures.value ∙ c.in_ok-first_text.ensures.ok in
     rw (p.1, p.2) (inr (e.0, kept g (goal.at.returns-in_err-come g c).After-find_room_instead, refl, omega (arith, ap length x, some_part _ c.as_str.result.now e.1)))
 
-pub exchange_steps-requires-clause-boundary : goal.exchange_steps-requires-clause-boundary
-exchange_steps-requires-clause-boundary g c =
+pub exchange_steps-requires-clause-cursor : goal.exchange_steps-requires-clause-cursor
+exchange_steps-requires-clause-cursor g c =
     let line = c.args.self.now in
     let second = c.args.second in
     let stop = c.args.first.end in
     let x = c.as_str-2.result.now in
-    subst (λ (l : Line). IsCharBoundary (replace_range l.text second.start second.end x) stop) (sym (kept g (goal.at.exchange_steps-requires-clause-boundary g c).After-find_room_instead))
+    subst (λ (l : Line). IsCharBoundary (replace_range l.text second.start second.end x) stop) (sym (kept g (goal.at.exchange_steps-requires-clause-cursor g c).After-find_room_instead))
     (IsCharBoundary-before line.text second.start second.end stop x (subst IsUtf8 c.as_str-text.ensures c.as_str-text.utf8) c.as_str-2.utf8 c.requires.second_start c.requires.second_end c.requires.first_end c.requires.apart)
 
 pub returns-in_err-exchange_steps : goal.returns-in_err-exchange_steps
@@ -50,12 +47,12 @@ returns-in_err-exchange_steps g c =
     let x = c.as_str-2.result.now in
     let same = kept g (goal.at.returns-in_err-exchange_steps g c).After-find_room_instead in
     rw (p.1, p.2) (inl (Halted-front _ _ (swap_plan line first second) (exchange_plan line second first.end x first.end) (last_steps line first second) _ _ _ _ _
-    (Halted-from _ _ (λ (l : Line). exchange_plan l second first.end x first.end) _ _ _ _ _ _ same (c.in_err-exchange_steps.ensures.halted c.self.inside.can_growth))
+    (rw same at c.in_err-exchange_steps.ensures.steps)
     (swap-front line first second x (c.as_str-2.ensures.value ∙ c.in_ok-first_text.ensures.ok))))
 
 -- the line after the first exchange
 abbrev middle : (g : Over) → After-as_str-3 g → Line
-middle g c = line_of (string_bytes c.exchange_steps.new.text) c.exchange_steps.new.pos c.exchange_steps.new.limit c.self.inside.can_growth
+middle g c = c.exchange_steps.new.self.line
 
 half : (g : Over) (c : After-as_str-3 g) → HalfSwapped c.args.self.now (middle g c) c.args.first c.args.second c.as_str-2.result.now c.as_str-3.result.now
 half g c =
@@ -83,49 +80,30 @@ exchange_steps-requires-2-clause-range g c =
 pub exchange_steps-requires-2-clause-between : goal.exchange_steps-requires-2-clause-between
 exchange_steps-requires-2-clause-between g c = (places (half g (goal.at.exchange_steps-requires-2-clause-between g c).After-as_str-3)).gap
 
-pub exchange_steps-requires-2-clause-boundary : goal.exchange_steps-requires-2-clause-boundary
-exchange_steps-requires-2-clause-boundary g c = (places (half g (goal.at.exchange_steps-requires-2-clause-boundary g c).After-as_str-3)).last
+pub exchange_steps-requires-2-clause-cursor : goal.exchange_steps-requires-2-clause-cursor
+exchange_steps-requires-2-clause-cursor g c = (places (half g (goal.at.exchange_steps-requires-2-clause-cursor g c).After-as_str-3)).last
 
--- the table is again as long as before the edit
-pub exchange_steps-requires-2-clause-table_room : goal.exchange_steps-requires-2-clause-table_room
-exchange_steps-requires-2-clause-table_room g c =
-    let d = goal.at.exchange_steps-requires-2-clause-table_room g c in
-    let h = half g d.After-as_str-3 in
-    let room = c.find_room_instead in
-    let text = string_bytes room.new.text in
-    let second = c.args.second in
-    let comes : slice_range text second.start second.end ≡ c.as_str-3.result.now = ap (λ (l : Line). text_in l second) (kept g d.After-find_room_instead) ∙ sym h.comes in
-    omega (
-      arith,
-      c.in_ok-exchange_steps.ensures.count,
-      c.in_ok-exchange_steps.ensures.table_capacity,
-      ap (count_by is_newline) (first_stays h),
-      ap (count_by is_newline) comes,
-      newlines-slice text second.start second.end,
-      ap length room.ensures.starts,
-      length-table _ _ _ c.self.invariant.table,
-      ap (count_by is_newline) room.ensures.text,
-      room.new.starts.places.ok.0,
-      room.new.starts.places.ok.1,
-    )
+-- the text is again as long as before the edit, and has as many newlines
+pub exchange_steps-requires-2-clause-room : goal.exchange_steps-requires-2-clause-room
+exchange_steps-requires-2-clause-room g c =
+    let d = goal.at.exchange_steps-requires-2-clause-room g c in
+    HasRoom-swapped (half g d.After-as_str-3) _ (subst (λ (l : Line). HasRoom l.text c.exchange_steps.new.self) (kept g d.After-find_room_instead) c.in_ok-exchange_steps.ensures.room.back)
 
 -- the steps of the first exchange
 taken : (g : Over) (c : After-as_str-3 g)
     → Taken g.L.DeleteListener.step (exchange_plan c.args.self.now c.args.second c.args.first.end c.as_str-2.result.now c.args.first.end).steps c.args.self.now (middle g c) c.args.listener.now c.exchange_steps.new.listener
-taken g c =
-    Taken-from _ (λ (l : Line). (exchange_plan l c.args.second c.args.first.end c.as_str-2.result.now c.args.first.end).steps) _ _ (middle g c) _ _
-    (kept g (goal.at.After-as_str-3 g c).After-find_room_instead) (c.in_ok-exchange_steps.ensures.taken c.self.inside.can_growth)
+taken g c = rw (kept g (goal.at.After-as_str-3 g c).After-find_room_instead) at c.in_ok-exchange_steps.ensures.steps.taken
 
 pub returns-in_err-exchange_steps-2 : goal.returns-in_err-exchange_steps-2
 returns-in_err-exchange_steps-2 g c =
     let p = err_from_is_err_and c.from_residual-in_err-exchange_steps-2.result c.from_residual-in_err-exchange_steps-2.ensures.1 in
     let d = (goal.at.returns-in_err-exchange_steps-2 g c).After-as_str-3 in
     rw (p.1, p.2) (inl (Halted-back _ _ (swap_plan c.args.self.now c.args.first c.args.second) _ _ _ (middle g d) _ _ _ _ _
-    (taken g d) (c.in_err-exchange_steps-2.ensures.halted c.self.inside.can_growth) (swap-halves (half g d))))
+    (taken g d) c.in_err-exchange_steps-2.ensures.steps (swap-halves (half g d))))
 
 pub returns : goal.returns
 returns g c =
     let d = (goal.at.returns g c).After-as_str-3 in
     Done-steps _ (swap_plan c.args.self.now c.args.first c.args.second) _ _ _ _ _
-    (Taken-append _ _ _ _ (middle g d) _ _ _ _ (taken g d) (c.in_ok-exchange_steps-2.ensures.taken c.self.inside.can_growth))
-    (swap-halves (half g d)) c.in_ok-exchange_steps-2.ensures.cursor
+    (Taken-append _ _ _ _ (middle g d) _ _ _ _ (taken g d) c.in_ok-exchange_steps-2.ensures.steps.taken)
+    (swap-halves (half g d)) c.in_ok-exchange_steps-2.ensures.steps.cursor

@@ -1,0 +1,15 @@
+use Rattle.rl_line.proofs.Common.{ap, rules, subst, IsUtf8, IsUtf8-string_bytes, RoomyLine}
+use Rattle.rl_base.proofs.Texts.EventLemmas.{apply-Delete}
+use Rattle.rl_line.proofs.Lines.RoomyLemmas.{HasRoom-own, HasRoom-removed}
+use Rattle.rl_line.proofs.Plans.PlanLemmas.{Taken-one}
+use Rattle.rl_line.proofs.roomy_line.RoomyLine.deletion_step.Goals as goal
+
+pub swap_in-requires-clause-room : goal.swap_in-requires-clause-room
+swap_in-requires-clause-room g c = HasRoom-removed _ _ _ _ c.requires.range.0 c.requires.range.2.0 (HasRoom-own c.self.inside _ c.self.invariant c.self.view_is)
+
+pub returns-clause-step : goal.returns-clause-step
+returns-clause-step g c =
+    let taken = Taken-one _ _ _ _ _ _ _ (apply-Delete c.args.self.now.line.text c.args.range.start c.args.range.end c.args.dir
+    (subst IsUtf8 (ap (λ (r : RoomyLine). r.line.text) c.self.view_is) (IsUtf8-string_bytes c.self.inside.text)) c.requires.range.0 c.requires.range.1 c.requires.range.2)
+    c.requires.cursor (search rules) (search rules) in
+    record { taken = taken; cursor = search rules }
