@@ -97,12 +97,9 @@ fn plain_len_of_few(text: &[u8], spaces: bool) -> usize
     ensures plain { ArePlain spaces text.now 0 result }
     ensures stops { result < length text.now → is_special spaces (slice_index text.now result) ≡ true }
 {
-    for (i, b) in text.iter().enumerate() {
-        if is_special(*b, spaces) {
-            return i;
-        }
-    }
-    text.len()
+    text.iter()
+        .position(|b| is_special(*b, spaces))
+        .unwrap_or(text.len())
 }
 
 // How many bytes from the front on are printed as they are. The last LANES bytes may overlap those before.

@@ -42,9 +42,6 @@ over-one e line now text cursor makes told h =
     (ap (λ (l : Line). l.text) f.is ∙ same_Some _ _ (sym f.makes ∙ makes), ap (λ (l : Line). l.cursor) f.is ∙ ap (λ o. unwrap_or o (place_after line.cursor e)) told)
 
 -- ---- in a run
-Sound : State → Type 0
-Sound s = IsUtf8 s.line.text × IsCharBoundary s.line.text s.line.cursor
-
 -- what a row left whose edit added one entry
 pub record AddedBy (row : Row) (e : Entry) (later : List Row) (new : State) : Type 0 where
   pub adds : Adds e row.before.line row.after.line row.after.pair.changes
@@ -55,11 +52,10 @@ added-by : (old new : State) (commands : List Command) (replies : List Reply)
     (earlier later : List Row) (row : Row) (e : Entry) → Stands old → (run : Run old commands replies new)
     → run.rows ≡ earlier ++ (row ∷ later) → IsEdit row.before.line row.command → ¬ (WasRefused row.reply)
     → row.after.pair.changes.recorded ≡ row.before.pair.changes.recorded ++ e ∷ [] → AddedBy row e later new
-unfolding Sound
 added-by old new commands replies earlier later row e b run is i w adds =
     let p = Leads-split earlier (row ∷ later) old new (subst (λ rows. Leads old rows new) is run.leads) in
-    let sound : Sound row.before = subst Sound (sym p.2.0) (Leads-keeps Sound (λ row h. (row.step.stands.utf8, row.step.stands.cursor)) earlier old p.0 p.1 (b.utf8, b.cursor)) in
-    record { adds = row-adds row e sound.0 sound.1 i w adds; utf8 = sound.0; goes_on = p.2.1 }
+    let sound : Stands row.before = subst Stands (sym p.2.0) (Leads-keeps Stands (λ row h. row.step.stands) earlier old p.0 p.1 b) in
+    record { adds = row-adds row e sound.utf8 sound.cursor i w adds; utf8 = sound.utf8; goes_on = p.2.1 }
 
 -- an undo right after it, and what waits to be redone then
 undone-row : (row back : Row) (e : Entry) (later : List Row) (new : State) → AddedBy row e (back ∷ later) new

@@ -1,5 +1,5 @@
 -- What a mask of some bytes says of each.
-use Rattle.rl_session.proofs.Common.{◌≡◌, ℕ, ◌+◌, ◌≤◌, ◌%◌, ◌^◌, Bool, true, false, cond, eqb, ◌||◌, ◌∷◌, ◌++◌, [], List, map, length, take, drop, zero, suc, slice_index, refl, ap, ap₂, ◌∙◌, arith, w8, Fits, inl, inr, subst, mask_l-mod, zip2_of_maps, length-map, agree_below, agree_below_at, cases_lt, ◌==◌, ◌&&◌, if◌then◌else◌, escaped, is_special, ArePlain}
+use Rattle.rl_session.proofs.Common.{nat_tests, ◌≡◌, ℕ, ◌≤◌, ◌%◌, ◌^◌, Bool, true, false, cond, eqb, ◌∷◌, ◌++◌, [], List, map, length, take, drop, zero, suc, refl, ap, ap₂, ◌∙◌, arith, w8, Fits, inl, inr, mask_l-mod, zip2_of_maps, length-map, agree_below, agree_below_at, cases_lt, escaped, is_special, ArePlain}
 use lib.Bits.{bit_or}
 use lib.Lanes.{zip2, mask_l, top, Each1}
 use Rattle.rl_session.specs.Print.{escape}
@@ -22,13 +22,8 @@ masked f p v z short fits e all =
     ap (λ l. mask_l l % 2 ^ 64) (ap (map (top 7)) e ∙ each_byte f p all v fits) ∙ mask_l-mod (map p v) 64 (omega (arith, length-map v p))
 
 -- a byte that is printed as it is
-lone_by : (p q r t u : Bool) (b : ℕ) → (p || (q || (r || (t || u)))) ≡ false
-    → (if p then 92 ∷ 92 ∷ [] else if q then 92 ∷ 110 ∷ [] else if r then 92 ∷ 114 ∷ [] else if t then 92 ∷ 116 ∷ [] else if u then 92 ∷ 115 ∷ [] else b ∷ []) ≡ b ∷ []
-lone_by false false false false false b h = refl
-lone_by _ _ _ _ _ b h = absurd cc
-
 lone : (spaces : Bool) (b : ℕ) → is_special spaces b ≡ false → escape spaces b ≡ b ∷ []
-lone spaces b h = lone_by (b == 92) (b == 10) (b == 13) (b == 9) (spaces && (b == 32)) b h
+lone spaces b h = grind (arith, nat_tests)
 
 -- what is printed as it is stands first in what is printed
 pub plain-front : (spaces : Bool) (text : List ℕ) (n : ℕ) → n ≤ length text → ArePlain spaces text 0 n
@@ -38,12 +33,6 @@ plain-front spaces [] (suc n) l h = absurd (omega arith)
 plain-front spaces (b ∷ bs) (suc n) l h =
     ap (λ front. front ++ escaped spaces bs) (lone spaces b (h 0 (omega arith) (omega arith)))
     ∙ ap (λ rest. b ∷ rest) (plain-front spaces bs n (omega arith) (λ k from to. h (suc k) (omega arith) (omega arith)))
-
-pub ArePlain-more : (spaces : Bool) (text : List ℕ) (i : ℕ) → ArePlain spaces text 0 i → is_special spaces (slice_index text i) ≡ false → ArePlain spaces text 0 (i + 1)
-ArePlain-more spaces text i h more k from to = elim (cases_lt k i) [
-  | inl before ↦ h k from before
-  | inr not_before ↦ (let at : i ≡ k = omega arith in subst (λ j. is_special spaces (slice_index text j) ≡ false) at more)
-]
 
 -- two parts, which may overlap
 pub ArePlain-both : (spaces : Bool) (text : List ℕ) (i from to : ℕ) → ArePlain spaces text 0 i → ArePlain spaces text from to → from ≤ i → ArePlain spaces text 0 to

@@ -1,5 +1,5 @@
 -- What is known of each command by itself: that its steps change the text, and what it did if it added one entry to the record.
-use Rattle.rl_session.proofs.Common.{Stop, Cursors, ℕ, List, Option, Some, None, ◌≡◌, ◌+◌, ◌≤◌, Bool, true, false, [], ◌∷◌, ◌++◌, length, length-append, IfSome, refl, sym, ap, subst, ◌∙◌, arith, rules, string_bytes, yank_pop, Line, Plan, Takes, single, listener_after, listener_after_step, Done, unless_empty, text_in, Asked, edit, other, asked, Course, when, edits, lends, pops, tells, Effect, by_steps, Telling, answers, inserts, hands_out, is_done, course_of, edit_course, effect, lent_plan, popped_plan, other_course, told_as, Came, Does, Edited, popped, State, Command, BadPlace, Reply, eqb-true, option_map, ◌==◌, Range, IsCharBoundary, IsUtf8, Event, InsertChar, InsertStr, Replace, Start, Direction, Forward, Movement, WordAction, is_by_characters, kill_plan, kill_range_plan, removal, side_of, respell, respelled, word_ahead, Entry, Record, entries_after, entries_of, entries_told, IsEdit, WasRefused, pair_step}
+use Rattle.rl_session.proofs.Common.{eqb-false, Stop, Cursors, ℕ, List, Option, Some, None, ◌≡◌, ◌+◌, ◌≤◌, Bool, true, false, [], ◌∷◌, ◌++◌, length, length-append, IfSome, refl, sym, ap, subst, ◌∙◌, arith, rules, string_bytes, yank_pop, Line, Plan, Takes, single, listener_after, listener_after_step, Done, unless_empty, text_in, Asked, edit, other, asked, Course, when, edits, lends, pops, tells, Effect, by_steps, Telling, answers, inserts, hands_out, is_done, course_of, edit_course, effect, lent_plan, popped_plan, other_course, told_as, Came, Does, Edited, popped, State, Command, BadPlace, Reply, eqb-true, option_map, ◌==◌, Range, IsCharBoundary, IsUtf8, Event, InsertChar, InsertStr, Replace, Start, Direction, Forward, Movement, WordAction, is_by_characters, kill_plan, kill_range_plan, removal, side_of, respell, respelled, word_ahead, Entry, Record, entries_after, entries_of, entries_told, IsEdit, WasRefused, pair_step}
 use Rattle.rl_base.specs.KillRing.{yank}
 use Rattle.rl_line.specs.Plan.{Step as PlanStep}
 use Rattle.rl_line.specs.Ranges.{killed}
@@ -156,12 +156,9 @@ respelled-quietly line r e action (Some word) u adds = from (length made == 0) r
         ∙ after-InsertStr-nothing mid.recorded word.start made empty in
         absurd (one_longer r.recorded _ e (second ∙ first) adds)
     from false h = record {
-      quiet = (λ none. refl, tt, (λ none. absurd (not_empty (empty-inserted word.start made none)), tt, tt));
+      quiet = (λ none. refl, tt, (λ none. absurd (eqb-false (length made) 0 h (empty-inserted word.start made none)), tt, tt));
       ends = λ some. refl;
     }
-      where
-        not_empty : length made ≡ 0 → ⊥
-        not_empty z = let k : (length made == 0) ≡ true = ap (λ n. n == 0) z in cc
 
 -- ---- what an edit did that added one entry
 pub record Adds (e : Entry) (old new : Line) (now : Record) : Type 0 where

@@ -1,5 +1,5 @@
 -- What the plans of the edits do with the cursor: a step that adds no entry leaves it, and a plan ends where its last step leaves it.
-use Rattle.rl_session.proofs.Common.{IsCharBoundary-start, ◌≡◌, ℕ, ◌+◌, ◌-◌, ◌*◌, ◌==◌, ◌||◌, ◌≤◌, ◌<◌, Bool, true, false, zero, suc, List, [], ◌∷◌, ◌++◌, length, slice_range, take, drop, take_at, false-eqb, slice_get, take_all, reverse, length-append, eq-eqb, leb-true, ap₂, Option, Some, None, refl, sym, ap, subst, ◌∙◌, cond, eqb-true, arith, sum, length-between, nat_tests, sum_by-cons, encode_utf8, nat_lt, nat_le, not, ◌&&◌, option_and_then, unwrap_or, All, remove_range, repeat, Range, Event, InsertChar, InsertStr, Replace, Direction, Forward, Movement, ForwardChar, cut_to_limit, insert_event, insert_plan, insert_str_plan, replace_plan, too_long, update_plan, yank_plan, yank_pop_plan, blanks, indent_plan, line_plan, lines_plan, parts, pulled, pushed, put_spaces, spaces, word_ahead, delete_plan, kill_plan, removal, side_of, Line, between, stepped, Plan, answering, single, text_in, to_place, Entry, cond_both, length_push, reverse-append, reverse-reverse, length-take-le, length-drop, All-head, All-weaker, same_Some, IsUtf8-take, IsUtf8-drop, IsCharBoundary-end, IsCharBoundary-from_rest, IfSome, option_map, option_or, IsCharBoundary, IsUtf8, clusters, bytes_in, next_pos, prev_pos, PlacedCluster, first_member, next_stop, nth, placed_clusters, Emacs, are_two, clusters_around, first_word, meeting_place, pulled_back, second_word, swap_plan, transpose_chars_plan, transpose_words_plan, word_end, word_start}
+use Rattle.rl_session.proofs.Common.{IsCharBoundary-start, ◌≡◌, ℕ, ◌+◌, ◌-◌, ◌*◌, ◌==◌, ◌||◌, ◌≤◌, ◌<◌, Bool, true, false, zero, suc, List, [], ◌∷◌, ◌++◌, length, slice_range, take, drop, take_at, false-eqb, slice_get, take_all, reverse, length-append, ap₂, Option, Some, None, refl, sym, ap, subst, ◌∙◌, cond, eqb-true, arith, sum, length-between, nat_tests, sum_by-cons, encode_utf8, nat_lt, option_and_then, unwrap_or, All, remove_range, repeat, Range, Event, InsertChar, InsertStr, Replace, Direction, Forward, Movement, ForwardChar, cut_to_limit, insert_event, insert_plan, insert_str_plan, replace_plan, too_long, update_plan, yank_plan, yank_pop_plan, blanks, indent_plan, line_plan, lines_plan, parts, pulled, pushed, put_spaces, spaces, word_ahead, delete_plan, kill_plan, removal, side_of, Line, between, stepped, Plan, answering, single, text_in, to_place, Entry, cond_both, length_push, reverse-append, reverse-reverse, length-take-le, length-drop, All-head, All-weaker, same_Some, IsUtf8-take, IsUtf8-drop, IsCharBoundary-end, IsCharBoundary-from_rest, IfSome, option_map, option_or, IsCharBoundary, IsUtf8, clusters, bytes_in, next_pos, prev_pos, PlacedCluster, first_member, next_stop, nth, placed_clusters, Emacs, are_two, clusters_around, first_word, meeting_place, pulled_back, second_word, swap_plan, transpose_chars_plan, transpose_words_plan, word_end, word_start}
 use Rattle.rl_line.proofs.Plans.IndentLemmas.{length-spaces, pushed-none, pushed-pushed, sum-parts}
 use Rattle.rl_base.specs.Event.{Delete}
 use Rattle.rl_line.proofs.Plans.EditLemmas.{length-repeat}
@@ -366,12 +366,7 @@ Settles-swap line first second order apart wide within =
     }
 
 apart : (first second : Range ℕ) → are_two first second ≡ true → (first.start ≡ second.start → ⊥) × (first.end ≤ second.start)
-apart first second h = from (first.start == second.start) (nat_le first.end second.start) refl refl h
-  where
-    from : (a b : Bool) → (first.start == second.start) ≡ a → nat_le first.end second.start ≡ b → (not a && b) ≡ true → (first.start ≡ second.start → ⊥) × (first.end ≤ second.start)
-    from true b e k two = cc
-    from false false e k two = cc
-    from false true e k two = ((λ same. absurd (cc (e, eq-eqb first.start second.start same))), leb-true first.end second.start k)
+apart first second h = grind (arith, nat_tests)
 
 pub Settles-transpose_words : (line : Line) (n : ℕ) → ((text : List ℕ) → IsUtf8 text → NoneAtEnd text) → IsUtf8 line.text → IsCharBoundary line.text line.cursor → Settles line (transpose_words_plan line n)
 Settles-transpose_words line n full u bound =

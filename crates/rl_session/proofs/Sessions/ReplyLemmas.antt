@@ -1,14 +1,10 @@
 -- What a command did, by what is replied to the outcome of its call.
-use Rattle.rl_session.proofs.Common.{Outcome, ToldOutcome, Bool, true, false, inr, ◌≡◌, ◌∙◌, ap, subst, sym, Result, Ok, Err, ℕ, Any, Option, IfOk, IfErr, OnOk, OnErr, Start, Refusal, Movement, Line, NeedsRoom, Plan, Done, Halted, Takes, nothing_more, room_by_step, refusal_of, Told, is_by_characters, kill_plan, Record, Undone, steps_back, texts_back, last_of, Watched, Does, Edited, lent_plan, CutShort, KeepsRing, WatchHears, pair_step, pair_refused, Pair, replied, State, Kill, Undo, Yank, Reply}
+use Rattle.rl_session.proofs.Common.{Outcome, ToldOutcome, Bool, true, false, inr, ◌≡◌, ◌∙◌, ap, subst, sym, Result, Ok, Err, ℕ, Any, Option, IfOk, IfErr, OnOk, OnErr, Start, Refusal, Movement, Line, NeedsRoom, Plan, Done, Halted, nothing_more, room_by_step, Told, is_by_characters, kill_plan, Record, Undone, steps_back, texts_back, last_of, Watched, Does, Edited, lent_plan, CutShort, KeepsRing, WatchHears, pair_step, pair_refused, Pair, replied, State, Kill, Undo, Yank, Reply}
 use Rattle.rl_base.specs.KillRing.{yank}
 use Rattle.rl_base.specs.declared.listeners.Refusal.TheVariants as why
 use Rattle.rl_session.specs.Commands.{lent}
 use Rattle.rl_session.specs.declared.session.Reply.TheVariants as says
 use Rattle.rl_session.proofs.Sessions.PairLemmas.{Halted-pair}
-
-CutShort-refused : {A : Type 0} (takes : Takes) (plan : Plan A) (old new : State) (w : Refusal) → new.options ≡ old.options
-    → Halted pair_step (refusal_of pair_refused takes) plan old.line new.line old.pair new.pair w → CutShort takes plan old new
-CutShort-refused takes plan old new w m h = record { halted = Halted-pair takes plan old.line new.line old.pair new.pair w h; options = m }
 
 -- what holds of a call's own state and reply holds of those that they are
 carried : (P : State → Reply → Type 0) {inside old : State} {given reply : Reply} → inside ≡ old → reply ≡ given → P inside given → P old reply
@@ -34,7 +30,7 @@ Yank-replied n plan inside old new (Ok a) l p e options d =
     subst (λ r. Does old (Yank n) r new) (sym e) (subst (λ s. Edited (lent_plan old.line (yank old.pair.ring) n) s new a) (sym l) (subst (λ q. Edited q inside new a) p (record { done = d; options = options })))
 Yank-replied n plan inside old new (Err w) l p e options h =
     subst (λ r. Does old (Yank n) r new) (sym e)
-    (inr (subst (λ s. CutShort room_by_step (lent_plan old.line (yank old.pair.ring) n) s new) (sym l) (subst (λ q. CutShort room_by_step q inside new) p (CutShort-refused room_by_step plan inside new w options h))))
+    (inr (subst (λ s. CutShort room_by_step (lent_plan old.line (yank old.pair.ring) n) s new) (sym l) (subst (λ q. CutShort room_by_step q inside new) p (record { halted = Halted-pair room_by_step plan inside.line new.line inside.pair new.pair w h; options = options }))))
 
 -- a refused undo changed nothing
 same_state : (old new : State) → KeepsRing old new → new.pair.changes ≡ old.pair.changes → new.line ≡ old.line → new.pair.watch ≡ old.pair.watch → new ≡ old
