@@ -1,4 +1,5 @@
 -- The text of a line, and the table of its line starts.
+pub mod Starting
 pub mod TailLemmas
 pub mod LineStartLemmas
 pub mod RoomyLemmas

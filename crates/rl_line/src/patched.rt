@@ -38,6 +38,7 @@ impl<'t> Model for Patched<'t> {
 
 impl<'t> Patched<'t> {
     /// A text as it is.
+    #[tactic(auto, using(crate::proofs::Lines::Starting::starting))]
     pub(crate) fn new(alloc: Global, text: &'t str) -> Self
         ensures { result ≡ text.now }
     {

@@ -78,6 +78,7 @@ fn capitalized(alloc: Global, word: &str) -> Result<String, AllocError>
 }
 
 // The length of the first cluster, which is one character of an ASCII word.
+#[tactic(auto, using(crate::proofs::Lines::Starting::starting))]
 fn first_len(word: &str) -> usize
     ensures ascii { IsAscii word.now → result ≡ min 1 (length word.now) }
     ensures others { ¬ (IsAscii word.now) → result ≡ end_of_cluster word.now 0 }

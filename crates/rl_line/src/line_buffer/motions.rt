@@ -65,6 +65,7 @@ impl LineBuffer {
     /// The byte place that a motion by the movement goes to. None if there is none, and if the cursor stands there
     /// already; `WholeLine`, `WholeBuffer` and `ViFirstPrint` lead nowhere. The layout counts columns, as for
     /// `move_to_line_up`.
+    #[tactic(auto, using(crate::proofs::Lines::Starting::starting))]
     pub fn destination(&self, mvt: &Movement, layout: &Layout) -> Option<usize>
         ensures value { result ≡ destination layout.now self.now mvt.now }
         ensures boundary { IfSome result (IsCharBoundary self.now.text) }
@@ -115,6 +116,7 @@ impl LineBuffer {
     }
 
     /// Moves to the start of the text. Answers whether the cursor was elsewhere.
+    #[tactic(auto, using(crate::proofs::Lines::Starting::starting))]
     pub fn move_buffer_start(&mut self) -> bool
         ensures { Moved (unless_there self.old 0) self.old self.new result }
     {

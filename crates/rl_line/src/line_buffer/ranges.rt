@@ -195,6 +195,7 @@ fn to_hit(text: &str, at: usize, cs: CharSearch, n: RepeatCount) -> Option<Range
     })
 }
 
+#[tactic(auto, using(crate::proofs::Lines::Starting::starting))]
 fn from_first_print(text: &str, at: usize) -> Option<Range<usize>>
     requires { IsCharBoundary text.now at }
     ensures value { result ≡ from_first_print text.now at }
