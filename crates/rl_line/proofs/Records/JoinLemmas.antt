@@ -1,5 +1,5 @@
 -- The last recorded entry, where an event joins it and where it does not.
-use Rattle.rl_line.proofs.Common.{Bool, if◌then◌else◌, eqb-true, true, ◌==◌, Added, Change, Changed, Cursors, Delete, Deletion, Direction, Entry, Event, Forward, Freshness, InsertChar, InsertStr, Insertion, Joined, Joins, List, None, Record, Replace, Replacement, Some, Stale, Start, Stop, TakesIn, [], added, after, ap, append-nil, arith, cut_at, drop, drop-map, drop-set-lt, drop_all, encode_utf8, entries_after, entries_told, entry_of, false, freshness_added, freshness_of, get_or, joined, last_told, length, length-append, length-map, length-take-le, map, map-append, map-set_same, nil_from_length, past, refl, set, settled, subst, sym, take, take-map, take_all, take_at_read, take_more_set, untold, with_cursors, ℕ, ◌++◌, ◌+◌, ◌-◌, ◌<◌, ◌∙◌, ◌∷◌, ◌≡◌, ◌≤◌}
+use Rattle.rl_line.proofs.Common.{Bool, if◌then◌else◌, eqb-true, true, ◌==◌, Added, Change, Changed, Cursors, Delete, Deletion, Direction, Entry, Event, Forward, Freshness, InsertChar, InsertStr, Insertion, Joined, Joins, List, None, Record, Replace, Replacement, Some, Stale, Start, Stop, TakesIn, [], added, after, ap, append-nil, arith, cut_at, drop, drop-map, drop-set-lt, drop_all, encode_utf8, entries_after, entries_told, entry_of, false, freshness_added, freshness_of, get_or, joined, last_told, length, length-append, length-map, length-take-le, map, map-append, map-set_same, nil_from_length, refl, set, settled, subst, sym, take, take-map, take_all, take_at_read, take_more_set, untold, with_cursors, ℕ, ◌++◌, ◌+◌, ◌-◌, ◌<◌, ◌∙◌, ◌∷◌, ◌≡◌, ◌≤◌}
 use Rattle.std.specs.Str.{chars}
 use Rattle.unicode_segmentation.specs.Segments.{cut, segments}
 use Rattle.rl_base.specs.Event.{apply}
@@ -156,11 +156,20 @@ step-cases r P changes stays told Stop = subst (P Stop) (sym (record_step-Stop r
 step-cases r P changes stays told (Cursors b a) = told b a
 step-cases r P changes stays told event = changes event
 
-pub inserts-nothing : (r : Record) (i : ℕ) (s : List ℕ) → (length s == 0) ≡ true → settled Stale r ≡ record_step r (InsertStr i s)
+pub after-InsertStr-nothing : (es : List Entry) (i : ℕ) (s : List ℕ) → length s ≡ 0 → entries_after (InsertStr i s) es ≡ es
 unfolding entries_of
+after-InsertStr-nothing es i s e =
+    ap (λ (t : List ℕ). entries_after (InsertStr i t) es) (nil_from_length s e) ∙ (joins_nothing (InsertStr i []) (λ e. refl) es).0 ∙ append-nil es
+
+pub fresh-InsertStr-nothing : (es : List Entry) (i : ℕ) (s : List ℕ) → length s ≡ 0 → freshness_of (InsertStr i s) es ≡ Stale
+unfolding entries_of
+fresh-InsertStr-nothing es i s e =
+    ap (λ (t : List ℕ). freshness_of (InsertStr i t) es) (nil_from_length s e) ∙ (joins_nothing (InsertStr i []) (λ e. refl) es).1
+
+pub inserts-nothing : (r : Record) (i : ℕ) (s : List ℕ) → (length s == 0) ≡ true → settled Stale r ≡ record_step r (InsertStr i s)
 inserts-nothing r i s e =
-    let none = joins_nothing (InsertStr i []) (λ e. refl) r.recorded in
-    sym (heard-is (InsertStr i []) r r.recorded Stale (step-InsertStr r i []) (none.0 ∙ append-nil r.recorded) none.1) ∙ ap (λ t. record_step r (InsertStr i t)) (sym (nil_from_length s (eqb-true (length s) 0 e)))
+    let none = eqb-true (length s) 0 e in
+    sym (heard-is (InsertStr i s) r r.recorded Stale (step-InsertStr r i s) (after-InsertStr-nothing r.recorded i s none) (fresh-InsertStr-nothing r.recorded i s none))
 
 text-Entry : (s : List ℕ) (e : Entry) → (length s == 0) ≡ false → (if length s == 0 then [] else e ∷ []) ≡ e ∷ []
 text-Entry s e some = ap (λ (b : Bool). if b then [] else e ∷ []) some
@@ -178,12 +187,20 @@ unfolding segments cut chars
 joined-nothing i side (Changed Deletion c) = refl
 joined-nothing i side _ = refl
 
-pub deletes-nothing : (r : Record) (i : ℕ) (s : List ℕ) (side : Direction) → (length s == 0) ≡ true → settled Stale r ≡ record_step r (Delete i s side)
+pub after-Delete-nothing : (es : List Entry) (i : ℕ) (s : List ℕ) (side : Direction) → length s ≡ 0 → entries_after (Delete i s side) es ≡ es
 unfolding entries_of
+after-Delete-nothing es i s side e =
+    ap (λ (t : List ℕ). entries_after (Delete i t side) es) (nil_from_length s e) ∙ (joins_nothing (Delete i [] side) (joined-nothing i side) es).0 ∙ append-nil es
+
+pub fresh-Delete-nothing : (es : List Entry) (i : ℕ) (s : List ℕ) (side : Direction) → length s ≡ 0 → freshness_of (Delete i s side) es ≡ Stale
+unfolding entries_of
+fresh-Delete-nothing es i s side e =
+    ap (λ (t : List ℕ). freshness_of (Delete i t side) es) (nil_from_length s e) ∙ (joins_nothing (Delete i [] side) (joined-nothing i side) es).1
+
+pub deletes-nothing : (r : Record) (i : ℕ) (s : List ℕ) (side : Direction) → (length s == 0) ≡ true → settled Stale r ≡ record_step r (Delete i s side)
 deletes-nothing r i s side e =
-    let none = joins_nothing (Delete i [] side) (joined-nothing i side) r.recorded in
-    sym (heard-is (Delete i [] side) r r.recorded Stale (step-Delete r i [] side) (none.0 ∙ append-nil r.recorded) none.1)
-    ∙ ap (λ t. record_step r (Delete i t side)) (sym (nil_from_length s (eqb-true (length s) 0 e)))
+    let none = eqb-true (length s) 0 e in
+    sym (heard-is (Delete i s side) r r.recorded Stale (step-Delete r i s side) (after-Delete-nothing r.recorded i s side none) (fresh-Delete-nothing r.recorded i s side none))
 
 -- an event that did not join adds its entry
 pub adds-InsertChar : (r now : Record) (i c : ℕ) → Joins (InsertChar i c) r now false → added (Changed Insertion (untold i [] (encode_utf8 c))) Added now ≡ record_step r (InsertChar i c)
