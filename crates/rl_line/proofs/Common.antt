@@ -47,7 +47,7 @@ pub use Rattle.rl_base.specs.declared.motion.Word.{Word}
 pub use Rattle.rl_base.specs.declared.motion.WordAction.{WordAction}
 pub use Rattle.rl_base.specs.declared.motion.WordAction.TheVariants.{Capitalize, Lowercase, Uppercase}
 pub use Rattle.rl_line.specs.Change.{TakesIn, entries_to_undo, entry_to_undo, greatest_back_over, order, place, size_back, size_back_over, size_of, text_after, text_back}
-pub use Rattle.rl_line.specs.Deletions.{Told, delete_plan, is_exact, removal, side_of, side_of_place, side_of_search}
+pub use Rattle.rl_line.specs.Deletions.{Told, delete_plan, is_exact, removal, side_of, side_of_place, side_of_search, ToldOutcome}
 pub use Rattle.rl_line.specs.Edits.{cut_to_limit, exchange_plan, insert_event, insert_plan, insert_str_plan, too_long, update_plan, yank_plan, yank_pop_plan}
 pub use Rattle.rl_line.specs.Entries.{Joins, added, cut_at, deep, settled}
 pub use Rattle.rl_line.specs.Foretelling.{HeardInPart}

@@ -1,5 +1,5 @@
 -- What copying, deleting and killing by a movement do.
-use Rattle.std.specs.Prelude.{◌≡◌, ℕ, nat_lt, Bool, true, false, List, Option, Some, None, Result, String, if◌then◌else◌}
+use Rattle.std.specs.Prelude.{◌≡◌, ℕ, nat_lt, Bool, true, false, List, Option, Some, None, Result, MatchResult, String, if◌then◌else◌}
 use Rattle.std.specs.Option.{option_map}
 use Rattle.std.specs.Result.{result_map_both}
 use Rattle.std.specs.String.{string_bytes}
@@ -15,7 +15,7 @@ use Rattle.rl_base.specs.declared.motion.Movement.{Movement}
 use Rattle.rl_base.specs.declared.motion.Movement.TheVariants.{WholeLine, BeginningOfLine, EndOfLine, BackwardWord, ForwardWord, ViCharSearch, ViFirstPrint, FirstNonBlank, BackwardChar, ForwardChar, BeginningOfBuffer, EndOfBuffer}
 use Rattle.rl_line.specs.Line.{Line}
 use Rattle.rl_line.specs.LineMotions.{first_nonblank}
-use Rattle.rl_line.specs.Plan.{Plan, nothing, nothing_more, single, answering, Outcome}
+use Rattle.rl_line.specs.Plan.{Plan, nothing, single, answering, Done, Halted}
 use Rattle.rl_line.specs.Ranges.{covered, killed, text_in, unless_empty}
 
 -- what a movement copies
@@ -96,8 +96,9 @@ Told step false P = Between step P
 
 -- what a kill comes to, of which the listener is told that way
 abbrev pub ToldOutcome : {L A : Type 0} → (L → Event → L) → (L → Event → Refusal → L → Type 0) → Bool → Plan A → Line → Line → L → L → Result A Refusal → Type 0
-ToldOutcome step refused by_characters plan old new before now result =
-    Told step by_characters (λ b n. Outcome step refused nothing_more plan old new b n result) before now
+ToldOutcome step refused by_characters plan old new before now result = MatchResult result
+    (λ answer. Told step by_characters (λ b n. Done step plan old new b n answer) before now)
+    (λ r. Told step by_characters (λ b n. Halted step refused plan old new b n r) before now)
 
 -- what a deletion that hands out its text answers, in bytes
 abbrev pub texts_of : Result (Option (String Global)) Refusal → Result (Option (List ℕ)) Refusal

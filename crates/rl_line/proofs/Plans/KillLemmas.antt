@@ -1,5 +1,5 @@
 -- The plans of killing and deleting by a movement, by their cases.
-use Rattle.rl_line.proofs.Common.{◌≡◌, ◌∷◌, [], ℕ, Bool, true, false, List, Some, None, refl, sym, ap, subst, ◌∙◌, same_Some, IfOk-weaker, IfErr-weaker, Option, Result, IfOk, IfErr, option_map, Range, Event, Delete, Start, Stop, Direction, Forward, Movement, WholeLine, BeginningOfLine, EndOfLine, BackwardWord, ForwardWord, ViCharSearch, ViFirstPrint, FirstNonBlank, BackwardChar, ForwardChar, LineUp, LineDown, WholeBuffer, BeginningOfBuffer, EndOfBuffer, Line, nothing, single, answering, covered, killed, text_in, Told, delete_plan, is_exact, removal}
+use Rattle.rl_line.proofs.Common.{ToldOutcome, Ok, Err, Refusal, Plan, Done, Halted, Outcome, nothing_more, ◌≡◌, ◌∷◌, [], ℕ, Bool, true, false, List, Some, None, refl, sym, ap, subst, ◌∙◌, same_Some, Option, Result, option_map, Range, Event, Delete, Start, Stop, Direction, Forward, Movement, WholeLine, BeginningOfLine, EndOfLine, BackwardWord, ForwardWord, ViCharSearch, ViFirstPrint, FirstNonBlank, BackwardChar, ForwardChar, LineUp, LineDown, WholeBuffer, BeginningOfBuffer, EndOfBuffer, Line, nothing, single, answering, covered, killed, text_in, Told, delete_plan, is_exact, removal}
 
 pub removal-nothing : (line : Line) (o : Option (Range ℕ)) (side : Direction) → None ≡ o → removal line o side ≡ nothing line false
 removal-nothing line o side e = rw (← e) refl
@@ -17,8 +17,13 @@ delete_plan-some line n r gone e f =
     ∙ ap (λ (t : List ℕ). single (Delete r.start (text_in line r) Forward) r.start (Some t)) (sym f)
 
 module _ {L : Type 0} (step : L → Event → L) (before first last now : L) (start : first ≡ step before Start) (stop : now ≡ step last Stop) where
-  pub Told-between : (by_characters : Bool) (P : L → L → Type 0) → by_characters ≡ false → P first last → Told step by_characters P before now
+  Told-between : (by_characters : Bool) (P : L → L → Type 0) → by_characters ≡ false → P first last → Told step by_characters P before now
   Told-between by_characters P e h = rw e record { last = last; inside = subst (λ (l : L). P l last) start h; ended = stop }
+
+  pub ToldOutcome-between : {A : Type 0} (refused : L → Event → Refusal → L → Type 0) (by_characters : Bool) (plan : Plan A) (old new : Line) (result : Result A Refusal) → by_characters ≡ false
+      → Outcome step refused nothing_more plan old new first last result → ToldOutcome step refused by_characters plan old new before now result
+  ToldOutcome-between refused by_characters plan old new (Ok a) e d = Told-between by_characters (λ b n. Done step plan old new b n a) e d
+  ToldOutcome-between refused by_characters plan old new (Err r) e h = Told-between by_characters (λ b n. Halted step refused plan old new b n r) e h
 
 -- what can't be inside can't be told
 pub Told-never : {L : Type 0} (step : L → Event → L) (by_characters : Bool) (P : L → L → Type 0) (before now : L) → ((b n : L) → P b n → ⊥) → Told step by_characters P before now → ⊥

@@ -1,5 +1,5 @@
 -- What a pair of a ring and a record hears, as each of the two hears it, and the watch beside them.
-use Rattle.rl_session.proofs.Common.{◌⊎◌, ◌≡◌, ℕ, ◌∷◌, [], List, refl, ap, inl, inr, ◌∙◌, Event, ring_step, watch_step, Refusal, Line, Plan, listener_after, listener_after_step, Taken, Done, Halted, or_no_memory, Uncopied, Takes, nothing_more, room_by_step, a_copy, refusal_of, Record, record_step, pair_step, pair_refused, Pair}
+use Rattle.rl_session.proofs.Common.{◌≡◌, ℕ, ◌∷◌, [], List, refl, ap, inl, inr, ◌∙◌, Event, ring_step, watch_step, Refusal, Line, Plan, listener_after, listener_after_step, Taken, Done, Halted, or_no_memory, Takes, room_by_step, refusal_of, Record, record_step, pair_step, pair_refused, Pair}
 use Rattle.rl_base.specs.declared.listeners.Refusal.TheVariants as why
 use Rattle.rl_line.specs.Plan.{Step}
 use Rattle.rl_line.proofs.Plans.PlanLemmas.{Halted-caused}

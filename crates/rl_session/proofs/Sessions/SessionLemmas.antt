@@ -1,12 +1,12 @@
 -- What holds whatever a call answered.
-use Rattle.rl_session.proofs.Common.{ToldOutcome, Outcome, Cut, line_ahead, replay_entries, Bool, false, true, inr, List, [], ◌∷◌, ◌*◌, ◌+◌, ◌<◌, ◌==◌, ◌||◌, cond, Result, Ok, Err, ◌≡◌, ◌∙◌, ap, ap₂, arith, refl, subst, sym, append-nil, inl, ◌≤◌, ℕ, length, take_all, nat_tests, IsCharBoundary-start, IsUtf8-nil, Option, None, max, IsSome, Some, IfOk, IfErr, IsUtf8, Event, InsertStr, Start, apply, Stop, HasText, Refusal, Movement, Line, stepped, Moved, Plan, single, Done, Halted, or_no_memory, Takes, nothing_more, a_copy, insert_str_plan, too_long, yank_plan, Told, is_by_characters, kill_plan, Record, agree, replays_to, unwind, Redone, Undone, adds_end, begun, with_closed, State, AtRest, Follows, Edited, lent_plan, popped, popped_plan, pair_step, pair_refused, Pair, IsCharBoundary, Walks, line_back, bytes_eq-Decides, same_Some}
+use Rattle.rl_session.proofs.Common.{ToldOutcome, Outcome, Cut, line_ahead, replay_entries, Bool, false, true, inr, List, [], ◌∷◌, ◌*◌, ◌+◌, ◌<◌, ◌==◌, ◌||◌, cond, Result, Ok, Err, ◌≡◌, ◌∙◌, ap, ap₂, arith, refl, subst, sym, append-nil, inl, ◌≤◌, ℕ, length, take_all, nat_tests, IsCharBoundary-start, IsUtf8-nil, Option, None, max, IsSome, Some, IfOk, IfErr, IsUtf8, Event, InsertStr, Start, apply, Stop, HasText, Refusal, Line, stepped, Moved, Plan, single, Done, Halted, or_no_memory, Takes, nothing_more, a_copy, insert_str_plan, too_long, yank_plan, Told, Record, agree, replays_to, unwind, Redone, Undone, adds_end, begun, with_closed, State, AtRest, Follows, Edited, lent_plan, popped, popped_plan, pair_step, pair_refused, Pair, IsCharBoundary, Walks, line_back, bytes_eq-Decides, same_Some}
 use Rattle.rl_base.proofs.Texts.EventLemmas.{apply-InsertStr}
 use Rattle.rl_base.specs.declared.listeners.Refusal.TheVariants as why
 use Rattle.rl_line.specs.Plan.{nothing}
 use Rattle.rl_line.proofs.Records.JoinLemmas.{record_step-Start, record_step-Stop}
 use Rattle.rl_line.proofs.Plans.PlanLemmas.{first_step}
 use Rattle.rl_session.specs.Commands.{lent}
-use Rattle.rl_session.proofs.Sessions.IdleLemmas.{NoneStarts, NoneStarts-kill, IsIdle, idle-step, idle-Told, ring-Done, ring-Halted}
+use Rattle.rl_session.proofs.Sessions.IdleLemmas.{NoneStarts, IsIdle, idle-step, idle-Told, ring-Done, ring-Halted}
 use Rattle.rl_session.proofs.Sessions.PairLemmas.{Halted-own, Done-changes, Halted-changes, keeps_changes}
 use Rattle.rl_line.proofs.Records.RecordLemmas.{value_of}
 use Rattle.rl_line.proofs.Records.UndoLemmas.{line_ahead-replay, line_back-unwind}

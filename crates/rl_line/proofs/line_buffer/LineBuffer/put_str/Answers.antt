@@ -1,4 +1,4 @@
-use Rattle.rl_line.proofs.Common.{arith, rules, ◌∙◌, ap, length, count_by, Line, refl, inl, count_by-le-length, err_from_is_err_and, is_newline}
+use Rattle.rl_line.proofs.Common.{arith, ◌∙◌, ap, length, count_by, Line, refl, inl, count_by-le-length, err_from_is_err_and, is_newline}
 use Rattle.rl_line.proofs.Lines.RoomyLemmas.{HasRoom-inserted}
 use Rattle.rl_line.proofs.Plans.PlanLemmas.{StepOutcome-with_room}
 use Rattle.rl_line.proofs.line_buffer.LineBuffer.put_str.Goals as goal

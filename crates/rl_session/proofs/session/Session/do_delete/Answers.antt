@@ -1,4 +1,4 @@
-use Rattle.rl_session.proofs.Common.{texts_of, option_map, string_bytes, rules, ForwardChar, a_copy}
+use Rattle.rl_session.proofs.Common.{texts_of, rules, ForwardChar, a_copy}
 use Rattle.rl_session.proofs.Sessions.IdleLemmas.{NoneStarts-kill}
 use Rattle.rl_session.proofs.Sessions.SessionLemmas.{AtRest-edit}
 use Rattle.rl_session.proofs.session.Session.do_delete.Goals as goal

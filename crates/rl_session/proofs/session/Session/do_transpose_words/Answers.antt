@@ -1,4 +1,4 @@
-use Rattle.rl_session.proofs.Common.{pair_refused, Outcome, ◌≡◌, Bool, Result, refl, rules, IfOk, IfErr, Refusal, Plan, Done, a_copy, transpose_words_plan, Came, answers, edit_course, pair_step, replied, State, Reply}
+use Rattle.rl_session.proofs.Common.{pair_refused, Outcome, ◌≡◌, Bool, Result, refl, rules, Refusal, Plan, a_copy, transpose_words_plan, Came, answers, edit_course, pair_step, replied, State, Reply}
 use Rattle.rl_session.specs.declared.session.Reply.TheVariants as says
 use Rattle.rl_session.proofs.Sessions.IdleLemmas.{NoneStarts-transpose_words}
 use Rattle.rl_session.proofs.Sessions.SessionLemmas.{AtRest-edit}
