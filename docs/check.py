@@ -177,7 +177,7 @@ def see_words(count, page):
 OWNER = re.compile(r"^(?:pub(?:\([a-z]+\))? )?(?:impl(?:<.*?>)? (?:.* for )?|trait |struct |enum )(\w+)")
 FUNCTION = re.compile(r'^ *(?:pub(?:\([a-z]+\))? )?(?:extern "C" )?fn (\w+)')
 CLAUSE = re.compile(r"\bensures\*? (\w+) \{")
-DEFINITION = re.compile(r"^(?:abbrev |unfoldable )*pub (?:record |data )?(\S+)", re.M)
+DEFINITION = re.compile(r"^ *(?:abbrev |unfoldable )*pub (?:record |data )?(\S+)", re.M)
 # Ghost members, which a contract of a listener has in place of clauses.
 MEMBERS = {"step", "refused"}
 
