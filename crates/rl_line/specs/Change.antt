@@ -1,6 +1,5 @@
 -- What the private functions of one entry say of it: joining, and going over it either way.
 use Rattle.std.specs.Prelude.{◌≡◌, ◌⊎◌, ◌<◌, ℕ, ◌+◌, ◌-◌, max, count_by, Bool, List, [], ◌∷◌, length, map, reverse, Option, Some, None, option_and_then, if◌then◌else◌}
-use Rattle.std.specs.Str.{IsCharBoundary}
 use Rattle.rl_base.specs.Event.{Event, apply}
 use Rattle.rl_line.specs.declared.change.Change.{Change}
 use Rattle.rl_base.specs.Lines.{is_newline}
@@ -10,7 +9,7 @@ use Rattle.rl_line.specs.declared.change.Way.{Way}
 use Rattle.rl_line.specs.declared.change.Way.TheVariants.{Back, Ahead}
 use Rattle.rl_line.specs.Record.{Entry, Changed, cursors_of, entry_of, event_of, freshness_joined, inverse, joined, new_text, old_text}
 use Rattle.rl_line.specs.declared.change.Freshness.{Freshness}
-use Rattle.rl_line.specs.Undo.{cursor_after, cursor_stands}
+use Rattle.rl_line.specs.Undo.{cursor_stands}
 
 -- what an entry makes of an event: where they join, it takes the event in, and `fresh` says what it may be told of its cursors;
 -- else it stays as it is
@@ -45,10 +44,6 @@ order Ahead changes = reverse changes
 -- the entries that are taken back where a line goes over the changes
 abbrev pub entries_to_undo : Way → List Change → List Entry
 entries_to_undo way changes = map (entry_to_undo way) (order way changes)
-
--- the cursor stands between two characters of the text after an entry was taken back
-abbrev pub Stands : Entry → List ℕ → ℕ → Type 0
-Stands e text cursor = (now : List ℕ) → apply (event_of (inverse e)) text ≡ Some now → IsCharBoundary now (cursor_after cursor (inverse e))
 
 -- the size of a text by a measure
 abbrev pub size_of : Measure → List ℕ → ℕ

@@ -9,7 +9,7 @@ use Rattle.rl_base.specs.declared.listeners.Direction.{Direction}
 use Rattle.rl_base.specs.declared.listeners.Direction.TheVariants.{Forward}
 use Rattle.rl_line.specs.Line.{Line, stepped, between}
 use Rattle.rl_line.specs.Ranges.{text_in}
-use Rattle.rl_line.specs.Plan.{Step, Plan, nothing, single, followed_by}
+use Rattle.rl_line.specs.Plan.{Step, Plan, nothing, of_step, single, followed_by}
 
 -- a length that the line may not have: it may not grow, and the length is past its limit
 abbrev pub too_long : Line → ℕ → Bool
@@ -30,10 +30,9 @@ yank_step line s n = (InsertStr line.cursor (repeat n s), line.cursor + length s
 -- c goes in n times at the cursor, which goes past it, unless that is too long. The answer: was the cursor at the end?
 abbrev pub insert_plan : Line → ℕ → ℕ → Plan (Option Bool)
 insert_plan line c n =
-    let more = length (encode_utf8 c) * n in
-    if too_long line (length line.text + more)
+    if too_long line (length line.text + length (encode_utf8 c) * n)
     then nothing line None
-    else single (insert_event line.cursor c n) (line.cursor + more) (Some (line.cursor == length line.text))
+    else of_step (insert_step line c n) (Some (line.cursor == length line.text))
 
 -- the step by which a range goes, with a cursor after it
 abbrev pub delete_step : Line → Range ℕ → Direction → ℕ → Step
@@ -58,10 +57,9 @@ delete_range_plan line i j = single (Delete i (slice_range line.text i j) Forwar
 -- s goes in n times at the cursor, which goes past it, unless s is empty or that is too long. The answer: was it at the end?
 abbrev pub yank_plan : Line → List ℕ → ℕ → Plan (Option Bool)
 yank_plan line s n =
-    let more = length s * n in
-    if (length s == 0) || too_long line (length line.text + more)
+    if (length s == 0) || too_long line (length line.text + length s * n)
     then nothing line None
-    else single (InsertStr line.cursor (repeat n s)) (line.cursor + more) (Some (line.cursor == length line.text))
+    else of_step (yank_step line s n) (Some (line.cursor == length line.text))
 
 -- z bytes can have been yanked last: as many stand before the cursor, and they begin between two characters
 abbrev pub CanYankPop : Line → ℕ → Type 0

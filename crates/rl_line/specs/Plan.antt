@@ -23,8 +23,11 @@ abbrev pub nothing : {A : Type 0} → Line → A → Plan A
 nothing line answer = record { steps = []; cursor = line.cursor; answer = answer }
 
 -- one step, which leaves the cursor at its place
+abbrev pub of_step : {A : Type 0} → Step → A → Plan A
+of_step s answer = record { steps = s ∷ []; cursor = s.1; answer = answer }
+
 abbrev pub single : {A : Type 0} → Event → ℕ → A → Plan A
-single event cursor answer = record { steps = (event, cursor) ∷ []; cursor = cursor; answer = answer }
+single event cursor answer = of_step (event, cursor) answer
 
 -- a step, and then a plan
 abbrev pub followed_by : {A : Type 0} → Event → ℕ → Plan A → Plan A
@@ -151,4 +154,4 @@ module _ {L : Type 0} (step : L → Event → L) where
   -- the same of one step
   abbrev pub StepOutcome : {B : Type 0} → (L → Event → Refusal → L → Type 0) → Takes → Step → Line → Line → L → L → Result B Refusal → Type 0
   StepOutcome refused takes s old new before now result =
-      MatchResult result (λ _. Completed (single s.0 s.1 (tt {0})) old new before now) (Untaken (refusal_of refused takes) s.0 old new before now)
+      MatchResult result (λ _. Completed (of_step s (tt {0})) old new before now) (Untaken (refusal_of refused takes) s.0 old new before now)

@@ -102,11 +102,11 @@ pub record Redone (old new : Record) (line line' : Line) (answer : Bool) : Type 
   pub record_is : new ≡ redone old
   pub answer_is : answer ≡ has_change (redo_of old.pending)
 
--- what such a call leaves where there was no change, and what it leaves where memory is out
+-- an undo or a redo that found no change leaves text and cursor
 abbrev pub StandsStill : Line → Line → Type 0
 StandsStill line line' = (line'.text ≡ line.text) × (line'.cursor ≡ line.cursor)
 
--- of the texts on the way, one needs more room than the line's text has
+-- memory is out for a text on the way, which needs more room than the line's text has, and nothing changed
 abbrev pub OutOfRoom : Record → Record → Line → Line → List (List ℕ) → Refusal → Type 0
 OutOfRoom old new line line' texts why = (why ≡ NoMemory) × (new ≡ old) × (line' ≡ line) × Any (NeedsRoom line.text) texts
 
