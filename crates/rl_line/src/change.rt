@@ -1,8 +1,8 @@
 //! An entry of a record, and how a text goes over it.
-ghost use Rattle.std.specs.Prelude.{◌⊎◌, ◌≡◌, ℕ, List, [], ◌∷◌, None, Some, true, false, OnErr, OnOk, IfOk, IfErr, ◌+◌, ◌-◌, ◌^◌, ◌<◌, ◌≤◌, IsSome, IfNone, count_by, IfSome, get_or, is_some, length, vec_len, vec_capacity};
+ghost use Rattle.std.specs.Prelude.{◌≡◌, [], ◌∷◌, None, Some, true, false, OnErr, OnOk, IfOk, IfErr, ◌+◌, ◌-◌, ◌^◌, ◌<◌, ◌≤◌, IsSome, IfNone, count_by, IfSome, get_or, is_some, length};
 ghost use Rattle.std.specs.Option.{option_map};
-ghost use Rattle.std.specs.String.{string_bytes, string_len, string_capacity};
-ghost use Rattle.std.specs.Str.{IsCharBoundary, IsUtf8};
+ghost use Rattle.std.specs.String.{string_bytes};
+ghost use Rattle.std.specs.Str.{IsUtf8};
 ghost use Rattle.rl_base.specs.Event.{InsertChar, Delete, Replace, apply};
 ghost use Rattle.rl_base.specs.declared.listeners.Direction.TheVariants.{Forward};
 ghost use Rattle.rl_base.specs.declared.listeners.Refusal.TheVariants.{NoMemory};
@@ -10,7 +10,7 @@ ghost use Rattle.rl_line.specs.Plan.{NeverRefuses, listener_after};
 ghost use Rattle.rl_line.specs.Record.{bytes_back, cursors_of, entry_of, event_of, freshness_joined, inverse, new_text, old_text, with_cursors};
 ghost use Rattle.rl_line.specs.Undo.{Reaches, count_over, cursor_after, cursor_told, cursor_stands, line_back, steps_ahead};
 ghost use Rattle.rl_line.specs.Units.{is_begin, is_change};
-ghost use Rattle.rl_line.specs.Change.{Outgrows, Stands, TakesIn, text_after, text_back, place, entry_to_undo, greatest_back_over, order, size_back, size_of, entries_to_undo};
+ghost use Rattle.rl_line.specs.Change.{Outgrows, TakesIn, text_after, text_back, place, entry_to_undo, greatest_back_over, order, size_back, size_of, entries_to_undo};
 ghost use Rattle.rl_line.specs.declared.change.Measure.TheVariants.{Bytes, Newlines};
 ghost use Rattle.rl_base.specs.Lines.{is_newline};
 

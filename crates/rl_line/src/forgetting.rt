@@ -1,5 +1,5 @@
 //! How many of the oldest entries of a record go, if it is to stay within a bound.
-ghost use Rattle.std.specs.Prelude.{◌≡◌, ◌+◌, ◌≤◌, length, drop, map};
+ghost use Rattle.std.specs.Prelude.{◌≡◌, ◌+◌, length, map};
 ghost use Rattle.rl_line.specs.Record.{entry_of, new_text, old_text};
 ghost use Rattle.rl_line.specs.Units.{IsMatched};
 ghost use Rattle.rl_line.specs.Forgetting.{FitsFrom, ForgetsFirst};

@@ -1,9 +1,9 @@
 //! The line: its text, its cursor, and the few steps through which every change of its text goes.
-ghost use Rattle.std.specs.Prelude.{◌≡◌, ℕ, List, [], ◌∷◌, ◌+◌, ◌^◌, ◌<◌, ◌≤◌, ◌↔◌, true, false, length, max, slice_range, encode_utf8, Any, IsTrue, IsSome, Some, IfOk, IfErr, OnOk, OnErr};
+ghost use Rattle.std.specs.Prelude.{◌≡◌, List, [], ◌∷◌, ◌+◌, ◌^◌, ◌<◌, ◌≤◌, ◌↔◌, true, false, length, max, encode_utf8, Any, IsTrue, IsSome, Some, IfOk, IfErr, OnOk, OnErr};
 ghost use Rattle.std.specs.Str.{IsCharBoundary, IsUtf8};
 ghost use Rattle.std.specs.String.{string_bytes};
 ghost use Rattle.std.specs.List.{insert_slice, remove_range, replace_range};
-ghost use Rattle.rl_base.specs.Event.{InsertChar, InsertStr, Delete, Replace, replay};
+ghost use Rattle.rl_base.specs.Event.{InsertChar, InsertStr, replay};
 ghost use Rattle.rl_base.specs.declared.listeners.Refusal.TheVariants.{NoMemory};
 ghost use Rattle.rl_line.specs.Line.{Line, NeedsRoom, stepped};
 ghost use Rattle.rl_line.specs.Plan.{NeverRefuses, Step, StepOutcome, Taken, after, events_of, listener_after, nothing_more, room_by_step};

@@ -1,5 +1,5 @@
 //! The table of a line's text: the places right after its newlines, in order, where its lines begin except the first.
-ghost use Rattle.std.specs.Prelude.{◌≡◌, ℕ, [], ◌+◌, ◌-◌, ◌^◌, ◌<◌, ◌≤◌, ◌++◌, ◌==◌, ◌&&◌, nat_le, All, map, take, drop, get_or, length, count_by, encode_utf8, slice_range, vec_len, vec_capacity};
+ghost use Rattle.std.specs.Prelude.{◌≡◌, [], ◌+◌, ◌-◌, ◌^◌, ◌<◌, ◌≤◌, ◌++◌, ◌==◌, ◌&&◌, nat_le, All, map, take, drop, get_or, length, count_by, encode_utf8, slice_range, vec_len, vec_capacity};
 ghost use Rattle.std.specs.List.{insert_slice, replace_range};
 ghost use Rattle.std.specs.Str.{IsCharBoundary};
 ghost use Rattle.rl_base.specs.Lines.{is_newline, line_number};

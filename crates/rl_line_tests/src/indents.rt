@@ -1,4 +1,4 @@
-//! Indents and dedents with answers that were worked out by hand.
+//! Dedents with answers that were worked out by hand.
 use crate::line_buffer::{holds, leaves, line_of};
 use crate::told::{AHEAD, is_told};
 use rl_base::Movement;

@@ -1,8 +1,7 @@
 //! The edits that put a text in, or take a given range out, each generic over the listener that it tells.
-ghost use Rattle.std.specs.Prelude.{◌≡◌, ◌+◌, ◌*◌, ◌-◌, ◌<◌, ◌≤◌, ◌∷◌, [], length, encode_utf8, not, true, false, IfOk, IfErr, OnOk, OnErr};
+ghost use Rattle.std.specs.Prelude.{◌≡◌, ◌+◌, ◌*◌, ◌-◌, ◌<◌, ◌≤◌, length, encode_utf8, not, true, false, OnOk};
 ghost use Rattle.std.specs.Str.{IsCharBoundary};
 ghost use Rattle.std.specs.List.{insert_slice, remove_range, replace_range, repeat};
-ghost use Rattle.rl_base.specs.Event.{InsertStr};
 ghost use Rattle.rl_line.specs.Plan.{Completion, Outcome, StepOutcome, nothing_more, room_by_step, a_copy};
 ghost use Rattle.rl_line.specs.Edits.{CanInsertStr, CanYankPop, too_long, insert_plan, insert_step, insert_str_plan, yank_plan, yank_step, yank_pop_plan, exchange_plan, cut_to_limit, update_plan, replace_plan, delete_range_plan};
 ghost use Rattle.rl_line.specs.LineRanges.{IsRange};

@@ -1,9 +1,8 @@
 //! Indenting and dedenting the lines of a range.
-ghost use Rattle.std.specs.Prelude.{◌≡◌, ◌+◌, ◌^◌, ◌<◌, true, false, not, IfErr, IfOk, OnOk};
+ghost use Rattle.std.specs.Prelude.{◌≡◌, ◌+◌, ◌^◌, ◌<◌, true, false};
 ghost use Rattle.std.specs.Str.{IsCharBoundary};
 ghost use Rattle.rl_line.specs.Indents.{indent_plan, pulled, pushed, shift_plan};
 ghost use Rattle.rl_line.specs.Plan.{Completion, Outcome, room_by_step};
-ghost use Rattle.rl_line.specs.Ranges.{text_in};
 ghost use Rattle.rl_line.specs.LineRanges.{IsRange};
 
 use crate::line_buffer::LineBuffer;

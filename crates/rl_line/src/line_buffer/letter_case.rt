@@ -1,5 +1,5 @@
 //! Editing the letters of a word.
-ghost use Rattle.std.specs.Prelude.{◌≡◌, ◌<◌, ◌≤◌, min, length, string_bytes, IsAscii, IfSome, IfOk, IfErr, OnErr};
+ghost use Rattle.std.specs.Prelude.{◌≡◌, ◌<◌, ◌≤◌, min, length, string_bytes, IsAscii, IfSome, IfOk, OnErr};
 ghost use Rattle.std.specs.Str.{IsCharBoundary};
 ghost use Rattle.rl_line.specs.Plan.{Outcome, a_copy};
 ghost use Rattle.rl_base.specs.declared.motion.WordAction.TheVariants.{Capitalize};
