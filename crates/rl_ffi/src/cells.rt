@@ -1,6 +1,5 @@
 //! Laying a text out on a screen.
 ghost use Rattle.std.specs.Prelude.{◌≡◌, ◌+◌, ◌≤◌, ◌<◌, ◌^◌, ℕ, List, Some, slice_get};
-ghost use Rattle.rl_base.specs.Clusters.{clusters};
 ghost use Rattle.rl_ffi.specs.declared.cells.Screen.{Screen};
 ghost use Rattle.rl_ffi.specs.Cells.{after, cell, cells_of, is_within, place_at, tabbed, wrapped};
 

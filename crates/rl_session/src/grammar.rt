@@ -9,7 +9,7 @@
 //! - the words of a movement, within a command: `lone_movement`, or `movement_with` if something follows.
 //!
 //! One function with all words is more than the prover goes through.
-ghost use Rattle.std.specs.Prelude.{◌≡◌, ℕ, Some, None, IfOk, OnErr, MatchOption, codes};
+ghost use Rattle.std.specs.Prelude.{Some, None, IfOk, OnErr, MatchOption, codes};
 ghost use Rattle.rl_session.specs.Grammar.{Set, Do, NamesWord, NamesAt, NamesSearch, NamesDirection, NamesAction, NamesMode, CountWord, CountAtWord, CountSearch, RangeDirection, Names, NamesMovement, AmountMovement, Says, Means, MeansNothing};
 ghost use Rattle.rl_session.specs.Parsing.{HoldsText, LineHoldsText, HasNoWord, HasNoAt, HasNoSearch, HasNoDirection, HasNoMovement, NamesNothing, NamesNoMovement, SaysNothing, SaysNoTextCommand, SaysNoDeletion, SaysNoCommand, SaysNoSetting, SaysNoneWithoutText, SaysNoLoneCommand, meaning_of};
 ghost use Rattle.rl_base.specs.declared.layout.GraphemeClusterMode.{GraphemeClusterMode};

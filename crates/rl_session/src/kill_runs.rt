@@ -1,5 +1,5 @@
 //! The law of consecutive kills in a session.
-ghost use Rattle.std.specs.Prelude.{◌≡◌, ◌++◌, ◌∷◌, [], ◌<◌, ℕ, List, map};
+ghost use Rattle.std.specs.Prelude.{◌≡◌, ◌++◌, ◌∷◌, [], ◌<◌, List, map};
 ghost use Rattle.rl_base.specs.declared.motion.Movement.{Movement};
 ghost use Rattle.rl_session.specs.KillRuns.{IsNoKill, AllDirected, AllKill, AnyTook, NoneRefused, GivenBack};
 ghost use Rattle.rl_session.specs.Run.{Row, Run, before_last, replies_of};

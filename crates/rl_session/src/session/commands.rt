@@ -1,5 +1,4 @@
 //! A call for each command. Each resets the ring first, but those whose commands go on from what the ring did last.
-ghost use Rattle.std.specs.Prelude.{◌≡◌};
 ghost use Rattle.rl_line.specs.Deletions.{CanDeleteBy};
 ghost use Rattle.rl_session.specs.Commands.{Step, StepWith, deletion_of};
 ghost use Rattle.rl_session.specs.declared.session.Command.{Command};
