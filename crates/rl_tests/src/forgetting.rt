@@ -43,35 +43,39 @@ fn undoes(
     );
 }
 
-#[test]
-fn a_session_forgets_when_it_is_told(rt: HostRuntime) -> Result<(), Fail> {
-    let bound = Bound {
+// Types, and forgets all but two entries when it is told.
+fn forgets(rt: &impl Abort, session: &mut Session) -> Result<(), Fail> {
+    let end = Reply::Inserted(Some(true));
+    does(rt, session, &Command::Insert('-', 1), &end, "-", 1);
+    does(rt, session, &Command::Insert('+', 1), &end, "-+", 2);
+    does(rt, session, &Command::Insert('*', 1), &end, "-+*", 3);
+    // at once
+    session.set_bound(Bound {
         entries: 2,
         bytes: usize::MAX,
-    };
-    let end = Reply::Inserted(Some(true));
-    let mut session = Session::open(rt.alloc(), "", 0, 64, 60, GraphemeClusterMode::Unicode)?;
-    does(&rt, &mut session, &Command::Insert('-', 1), &end, "-", 1);
-    does(&rt, &mut session, &Command::Insert('+', 1), &end, "-+", 2);
-    does(&rt, &mut session, &Command::Insert('*', 1), &end, "-+*", 3);
-    // at once
-    session.set_bound(bound);
-    is_so(&rt, session.record().len() == 2, "two entries are left");
+    });
+    is_so(rt, session.record().len() == 2, "two entries are left");
     // a command forgets nothing by itself
-    does(&rt, &mut session, &Command::Insert('/', 1), &end, "-+*/", 3);
+    does(rt, session, &Command::Insert('/', 1), &end, "-+*/", 3);
     session.forget();
-    is_so(&rt, session.record().len() == 2, "two are left again");
-    undoes(&rt, &mut session, 9, true, "-+", 0);
-    undoes(&rt, &mut session, 1, false, "-+", 0);
+    is_so(rt, session.record().len() == 2, "two are left again");
+    undoes(rt, session, 9, true, "-+", 0);
+    undoes(rt, session, 1, false, "-+", 0);
     session.forget();
     let again = Reply::Answer(true);
-    does(&rt, &mut session, &Command::Redo, &again, "-+*", 1);
+    does(rt, session, &Command::Redo, &again, "-+*", 1);
     // the bound stays after a restart
     session.restart("x", 1)?;
-    does(&rt, &mut session, &Command::Insert('-', 1), &end, "x-", 1);
-    does(&rt, &mut session, &Command::Insert('+', 1), &end, "x-+", 2);
-    does(&rt, &mut session, &Command::Insert('*', 1), &end, "x-+*", 3);
+    does(rt, session, &Command::Insert('-', 1), &end, "x-", 1);
+    does(rt, session, &Command::Insert('+', 1), &end, "x-+", 2);
+    does(rt, session, &Command::Insert('*', 1), &end, "x-+*", 3);
     session.forget();
-    undoes(&rt, &mut session, 9, true, "x-", 0);
+    undoes(rt, session, 9, true, "x-", 0);
     Ok(())
+}
+
+#[test]
+fn a_session_forgets_when_it_is_told(rt: HostRuntime) -> Result<(), Fail> {
+    let mut session = Session::open(rt.alloc(), "", 0, 64, 60, GraphemeClusterMode::Unicode)?;
+    forgets(&rt, &mut session)
 }

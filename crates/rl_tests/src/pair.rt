@@ -2,6 +2,7 @@
 use rl_base::{ChangeListener, DeleteListener, KillRing, Movement, NoListener, Watch};
 use rl_line::{Changeset, LineBuffer};
 use rl_session::Pair;
+use std::alloc::Global;
 use std::process::Abort;
 use std::test::Fail;
 
@@ -42,15 +43,19 @@ fn hears(rt: &impl Abort, line: &mut LineBuffer, pair: &mut Pair) -> Result<(), 
     Ok(())
 }
 
-#[test]
-fn a_pair_hears_as_one(rt: HostRuntime) -> Result<(), Fail> {
-    let alloc = rt.alloc();
-    let mut pair = Pair {
+// A pair whose ring has two slots.
+fn pair_of(alloc: Global) -> Pair {
+    Pair {
         ring: KillRing::new(alloc, 2),
         changes: Changeset::new(alloc),
         watch: Watch::new(),
-    };
-    let mut line = LineBuffer::with_capacity(alloc, 9)?;
+    }
+}
+
+#[test]
+fn a_pair_hears_as_one(rt: HostRuntime) -> Result<(), Fail> {
+    let mut pair = pair_of(rt.alloc());
+    let mut line = LineBuffer::with_capacity(rt.alloc(), 9)?;
     hears(&rt, &mut line, &mut pair)
 }
 
@@ -74,18 +79,18 @@ fn goes_to(
     Ok(())
 }
 
-#[test]
-fn a_pair_tells_its_record_the_cursors(rt: HostRuntime) -> Result<(), Fail> {
-    let alloc = rt.alloc();
-    let mut pair = Pair {
-        ring: KillRing::new(alloc, 2),
-        changes: Changeset::new(alloc),
-        watch: Watch::new(),
-    };
-    let mut line = LineBuffer::with_capacity(alloc, 9)?;
+// Tells the pair of an insertion and its cursors, which an undo and a redo give back.
+fn tells_cursors(rt: &impl Abort, line: &mut LineBuffer, pair: &mut Pair) -> Result<(), Fail> {
     line.yank("abc", 1, &mut NoListener)?;
     line.move_backward(1);
-    ChangeListener::insert_str(&mut pair, 1, "b")?;
+    ChangeListener::insert_str(pair, 1, "b")?;
     pair.cursors(0, 3);
-    goes_to(&rt, &mut line, &mut pair.changes, 0, 3)
+    goes_to(rt, line, &mut pair.changes, 0, 3)
+}
+
+#[test]
+fn a_pair_tells_its_record_the_cursors(rt: HostRuntime) -> Result<(), Fail> {
+    let mut pair = pair_of(rt.alloc());
+    let mut line = LineBuffer::with_capacity(rt.alloc(), 9)?;
+    tells_cursors(&rt, &mut line, &mut pair)
 }

@@ -1,8 +1,9 @@
 //! Large and rare input, with ample memory. A call may answer out of memory within its contract wherever it asks for
 //! memory. So each kind of input that could be told apart from common input is tested here.
 use crate::script::{is_so, printed_by};
+use crate::session::{replies, session_of};
 use rl_base::testing::RefuseAt;
-use rl_base::{DeleteListener, Direction, GraphemeClusterMode, Refusal};
+use rl_base::{DeleteListener, Direction, Refusal};
 use rl_session::{Command, Reply, Session};
 use std::alloc::Global;
 use std::process::Abort;
@@ -285,7 +286,6 @@ fn great_and_rare_input_is_met(rt: HostRuntime) -> Result<(), Fail> {
 fn is_asked(rt: &impl Abort, session: &Session) -> Result<(), Fail> {
     let record = session.record();
     is_so(rt, record.len() == 1500, "1,500 entries");
-    is_so(rt, record.can_undo(session.line())?, "they lead back");
     let kept = record.replays_to(1500, session.line())?;
     let none = record.replays_to(0, session.line())?;
     is_so(rt, kept && !none, "all lead to the text, and none do not");
@@ -294,31 +294,50 @@ fn is_asked(rt: &impl Abort, session: &Session) -> Result<(), Fail> {
     Ok(())
 }
 
-#[test]
-fn runs_of_no_and_many_commands_are_done(rt: HostRuntime) -> Result<(), Fail> {
-    let alloc = rt.alloc();
-    let mut session = Session::new(alloc, "", 0, 1500, 6, GraphemeClusterMode::Unicode)?;
-    let none = session.run(&[])?;
-    is_so(&rt, none.is_empty(), "no command has no reply");
+// All entries of the record lead back, and ahead.
+fn leads(rt: &impl Abort, session: &Session) -> Result<(), Fail> {
     let back = session.record().can_undo(session.line())?;
     let ahead = session.record().can_redo(session.line())?;
-    is_so(&rt, back && ahead, "an empty record leads back and ahead");
+    is_so(rt, back && ahead, "the record leads back and ahead");
+    Ok(())
+}
+
+// The session does the commands, each with a reply.
+fn replies_to_each(
+    rt: &impl Abort,
+    session: &mut Session,
+    commands: &[Command],
+) -> Result<(), Fail> {
+    let replies = session.run(commands)?;
+    is_so(rt, replies.len() == commands.len(), "a reply to each");
+    Ok(())
+}
+
+// So many insertions.
+fn insertions(alloc: Global, count: usize) -> Result<Vec<Command>, Fail> {
     let mut commands = Vec::new(alloc);
-    for _ in 0..1500 {
+    for _ in 0..count {
         commands.push(Command::Insert('-', 1))?;
     }
-    let replies = session.run(commands.as_slice())?;
-    is_so(
-        &rt,
-        replies.len() == 1500,
-        "1,500 commands have a reply each",
-    );
-    is_asked(&rt, &session)?;
-    let undone = session.apply(&Command::Undo(65535));
-    is_so(&rt, undone == Reply::Answer(true), "all are undone");
-    let ahead = session.record().can_redo(session.line())?;
-    is_so(&rt, ahead, "1,500 undone entries lead ahead");
-    Ok(())
+    Ok(commands)
+}
+
+// The session does nothing, then the 1,500 commands, and then undoes them.
+fn does_many(rt: &impl Abort, session: &mut Session, commands: &[Command]) -> Result<(), Fail> {
+    replies_to_each(rt, session, &[])?;
+    leads(rt, session)?;
+    replies_to_each(rt, session, commands)?;
+    leads(rt, session)?;
+    is_asked(rt, session)?;
+    replies(rt, session, &Command::Undo(65535), &Reply::Answer(true));
+    leads(rt, session)
+}
+
+#[test]
+fn runs_of_no_and_many_commands_are_done(rt: HostRuntime) -> Result<(), Fail> {
+    let commands = insertions(rt.alloc(), 1500)?;
+    let mut session = session_of(rt.alloc(), "", 0, 1500)?;
+    does_many(&rt, &mut session, commands.as_slice())
 }
 
 #[test]

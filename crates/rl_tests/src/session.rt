@@ -6,6 +6,28 @@ use std::alloc::Global;
 use std::process::Abort;
 use std::test::Fail;
 
+// A session of that text and cursor, with room for so many bytes.
+pub(crate) fn session_of(
+    alloc: Global,
+    text: &str,
+    pos: usize,
+    limit: usize,
+) -> Result<Session, Fail> {
+    let mode = GraphemeClusterMode::Unicode;
+    Ok(Session::new(alloc, text, pos, limit, 60, mode)?)
+}
+
+// The session has that text and cursor.
+pub(crate) fn shows(rt: &impl Abort, session: &Session, text: &str, pos: usize) {
+    is_so(rt, session.line().as_str() == text, "the text");
+    is_so(rt, session.line().pos() == pos, "the cursor");
+}
+
+// The session does a command with that reply.
+pub(crate) fn replies(rt: &impl Abort, session: &mut Session, command: &Command, wanted: &Reply) {
+    is_so(rt, session.apply(command) == *wanted, "the reply");
+}
+
 // The record has that many entries and open groups.
 fn records(rt: &impl Abort, session: &Session, entries: usize, groups: usize) {
     is_so(rt, session.record().len() == entries, "the entries");
@@ -28,32 +50,37 @@ fn runs(
 ) -> Result<(), Fail> {
     let replies = session.run(commands)?;
     assert_eq!(rt; replies.as_slice(), wanted, "one reply for each command");
-    is_so(rt, session.line().as_str() == text, "the text at the end");
-    is_so(rt, session.line().pos() == cursor, "the cursor at the end");
+    shows(rt, session, text, cursor);
+    Ok(())
+}
+
+// A session of that text, cursor and limit runs the commands with these replies, and then has that text, cursor and so many
+// entries.
+fn runs_from(
+    rt: &impl Abort,
+    alloc: Global,
+    (text, pos, limit): (&str, usize, usize),
+    commands: &[Command],
+    wanted: &[Reply],
+    (now, cursor, entries): (&str, usize, usize),
+) -> Result<(), Fail> {
+    let mut session = session_of(alloc, text, pos, limit)?;
+    runs(rt, &mut session, commands, wanted, now, cursor)?;
+    records(rt, &session, entries, 0);
     Ok(())
 }
 
 #[test]
 fn deletions_side_by_side_are_one_entry(rt: HostRuntime) -> Result<(), Fail> {
-    let commands = [
-        Command::Kill(Movement::BackwardChar(1)),
-        Command::Kill(Movement::BackwardChar(1)),
-    ];
+    let back = Command::Kill(Movement::BackwardChar(1));
+    let commands = [Command::Kill(Movement::BackwardChar(1)), back];
     let wanted = [Reply::Answer(true), Reply::Answer(true)];
-    let mut session = Session::new(rt.alloc(), "Hello", 4, 9, 60, GraphemeClusterMode::Unicode)?;
-    runs(&rt, &mut session, &commands, &wanted, "Heo", 2)?;
-    records(&rt, &session, 1, 0);
-    Ok(())
+    let from = ("Hello", 4, 9);
+    runs_from(&rt, rt.alloc(), from, &commands, &wanted, ("Heo", 2, 1))
 }
 
-// The session sets the cursor.
-fn moves(rt: &impl Abort, session: &mut Session, pos: usize) {
-    let replied = session.apply(&Command::SetPos(pos));
-    is_so(rt, replied == Reply::Done, "the reply to a place");
-}
-
-#[test]
-fn the_ring_knows_what_was_yanked(rt: HostRuntime) -> Result<(), Fail> {
+// Kills all, yanks it, and moves.
+fn yanks(rt: &impl Abort, session: &mut Session) -> Result<(), Fail> {
     let commands = [
         Command::Kill(Movement::BeginningOfLine),
         Command::Kill(Movement::EndOfLine),
@@ -64,12 +91,17 @@ fn the_ring_knows_what_was_yanked(rt: HostRuntime) -> Result<(), Fail> {
         Reply::Answer(true),
         Reply::Inserted(Some(true)),
     ];
-    let mut session = Session::new(rt.alloc(), "Heo", 2, 9, 60, GraphemeClusterMode::Unicode)?;
-    runs(&rt, &mut session, &commands, &wanted, "Heo", 3)?;
-    was_yanked(&rt, &session, Some(3), "right after the yank");
-    moves(&rt, &mut session, 1);
-    was_yanked(&rt, &session, None, "after another command");
+    runs(rt, session, &commands, &wanted, "Heo", 3)?;
+    was_yanked(rt, session, Some(3), "right after the yank");
+    replies(rt, session, &Command::SetPos(1), &Reply::Done);
+    was_yanked(rt, session, None, "after another command");
     Ok(())
+}
+
+#[test]
+fn the_ring_knows_what_was_yanked(rt: HostRuntime) -> Result<(), Fail> {
+    let mut session = session_of(rt.alloc(), "Heo", 2, 9)?;
+    yanks(&rt, &mut session)
 }
 
 // The session has that text and cursor, no more room than that, and no entry.
@@ -173,15 +205,11 @@ fn limits_are_set(rt: HostRuntime) -> Result<(), Fail> {
 fn the_greatest_limit_opens(rt: HostRuntime) -> Result<(), Fail> {
     let alloc = rt.alloc();
     let mode = GraphemeClusterMode::Unicode;
-    let refused = match Session::new(alloc, "ab", 1, usize::MAX, 60, mode) {
-        Ok(_) => None,
-        Err(fault) => Some(fault),
-    };
-    is_so(&rt, refused == Some(Fault::NoMemory), "room for all bytes");
+    let made = Session::new(alloc, "ab", 1, usize::MAX, 60, mode).err();
+    is_so(&rt, made == Some(Fault::NoMemory), "room for all bytes");
     let session = Session::open(alloc, "ab", 1, usize::MAX, 60, mode)?;
     is_so(&rt, session.line().limit() == usize::MAX, "the limit");
-    is_so(&rt, session.line().as_str() == "ab", "the text");
-    is_so(&rt, session.line().pos() == 1, "the cursor");
+    shows(&rt, &session, "ab", 1);
     Ok(())
 }
 
@@ -241,31 +269,36 @@ fn motions_over_lines_count_from_the_prompt(rt: HostRuntime) -> Result<(), Fail>
     Ok(())
 }
 
-// The prompt is no part of where the cursor stands, and setting it, the limit or the bound ends no run of kills. What is not set
-// stays after a restart.
-#[test]
-fn settings_part_no_kills(rt: HostRuntime) -> Result<(), Fail> {
-    let alloc = rt.alloc();
-    let mut session = Session::open(alloc, "ab cd", 2, 2, 60, GraphemeClusterMode::Unicode)?;
+// Kills the end of the line and then its beginning, with settings between the two, which make one text of the ring. What is
+// not set stays after a restart.
+fn kills_on(rt: &impl Abort, session: &mut Session) -> Result<(), Fail> {
+    let yank = Command::Yank(1);
     session.set_prompt(7);
-    let place = session.apply(&Command::LinePlace);
-    is_so(&rt, place == Reply::At(0, 2), "the columns of the line");
-    session.apply(&Command::Kill(Movement::EndOfLine));
+    // the prompt is no part of where the cursor stands
+    replies(rt, session, &Command::LinePlace, &Reply::At(0, 2));
+    let ahead = Command::Kill(Movement::EndOfLine);
+    replies(rt, session, &ahead, &Reply::Answer(true));
     session.set_prompt(1);
     session.set_limit(5);
     session.set_bound(Bound {
         entries: 0,
         bytes: 0,
     });
-    session.apply(&Command::Kill(Movement::BeginningOfLine));
+    let back = Command::Kill(Movement::BeginningOfLine);
+    replies(rt, session, &back, &Reply::Answer(true));
     session.restart("\nx", 2)?;
-    let yanked = session.apply(&Command::Yank(1));
-    is_so(&rt, yanked == Reply::Inserted(None), "the limit stays");
+    replies(rt, session, &yank, &Reply::Inserted(None));
     session.set_limit(7);
-    let yanked = session.apply(&Command::Yank(1));
-    is_so(&rt, yanked == Reply::Inserted(Some(true)), "there is room");
-    is_so(&rt, session.line().as_str() == "\nxab cd", "the two kills");
+    replies(rt, session, &yank, &Reply::Inserted(Some(true)));
+    shows(rt, session, "\nxab cd", 7);
     Ok(())
+}
+
+#[test]
+fn settings_part_no_kills(rt: HostRuntime) -> Result<(), Fail> {
+    let mode = GraphemeClusterMode::Unicode;
+    let mut session = Session::open(rt.alloc(), "ab cd", 2, 2, 60, mode)?;
+    kills_on(&rt, &mut session)
 }
 
 #[test]
@@ -289,8 +322,8 @@ fn a_run_goes_on_past_a_refusal(rt: HostRuntime) -> Result<(), Fail> {
         Reply::Answer(true),
         Reply::Answer(false),
     ];
-    let mut session = Session::new(rt.alloc(), "ab", 2, 4, 60, GraphemeClusterMode::Unicode)?;
-    runs(&rt, &mut session, &commands, &wanted, "ab", 2)
+    let from = ("ab", 2, 4);
+    runs_from(&rt, rt.alloc(), from, &commands, &wanted, ("ab", 2, 0))
 }
 
 #[test]
@@ -305,9 +338,8 @@ fn an_insertion_runs_and_is_undone(rt: HostRuntime) -> Result<(), Fail> {
         Reply::Inserted(Some(false)),
         Reply::Answer(true),
     ];
-    let alloc = rt.alloc();
-    let mut session = Session::new(alloc, "ab", 2, 64, 2, GraphemeClusterMode::Unicode)?;
-    runs(&rt, &mut session, &commands, &wanted, "ab", 1)
+    let from = ("ab", 2, 64);
+    runs_from(&rt, rt.alloc(), from, &commands, &wanted, ("ab", 1, 0))
 }
 
 #[test]
@@ -326,11 +358,8 @@ fn a_group_runs_and_is_undone_with_its_beginning(rt: HostRuntime) -> Result<(), 
         Reply::Answer(true),
         Reply::Answer(false),
     ];
-    let alloc = rt.alloc();
-    let mut session = Session::new(alloc, "", 0, 64, 2, GraphemeClusterMode::Unicode)?;
-    runs(&rt, &mut session, &commands, &wanted, "a", 1)?;
-    records(&rt, &session, 1, 0);
-    Ok(())
+    let from = ("", 0, 64);
+    runs_from(&rt, rt.alloc(), from, &commands, &wanted, ("a", 1, 1))
 }
 
 // What a session answers: whether an undo and a redo would find a change, how many groups are open, and where the cursor
@@ -353,18 +382,11 @@ fn is_read(rt: &impl Abort, session: &mut Session, rows: &[(Command, Reads)]) {
 
 #[test]
 fn reads_part_no_run_of_kills(rt: HostRuntime) -> Result<(), Fail> {
-    let alloc = rt.alloc();
-    let text = "ab\ncd ef gh";
-    let mut session = Session::new(alloc, text, 3, 64, 2, GraphemeClusterMode::Unicode)?;
+    const WORD: Movement = Movement::ForwardWord(1, At::AfterEnd, Word::Emacs);
+    const TEXT: &str = "ab\ncd ef gh";
     let rows = [
-        (
-            Command::Kill(Movement::ForwardWord(1, At::AfterEnd, Word::Emacs)),
-            (true, false, 0, (1, 0)),
-        ),
-        (
-            Command::Kill(Movement::ForwardWord(1, At::AfterEnd, Word::Emacs)),
-            (true, false, 0, (1, 0)),
-        ),
+        (Command::Kill(WORD), (true, false, 0, (1, 0))),
+        (Command::Kill(WORD), (true, false, 0, (1, 0))),
         // both come back, since they are one run
         (Command::Yank(1), (true, false, 0, (1, 5))),
         // an undo would take the open begin alone
@@ -374,12 +396,9 @@ fn reads_part_no_run_of_kills(rt: HostRuntime) -> Result<(), Fail> {
         (Command::SetPos(2), (true, true, 0, (0, 2))),
         (Command::Undo(2), (false, true, 0, (1, 0))),
     ];
+    let mut session = session_of(rt.alloc(), TEXT, 3, 64)?;
     is_read(&rt, &mut session, &rows);
-    is_so(
-        &rt,
-        session.line().as_str() == text,
-        "the text of the start",
-    );
+    shows(&rt, &session, TEXT, 3);
     Ok(())
 }
 
@@ -399,10 +418,9 @@ fn kills_run_and_come_back(rt: HostRuntime) -> Result<(), Fail> {
         Reply::Answer(true),
         Reply::Inserted(Some(true)),
     ];
-    let alloc = rt.alloc();
     let text = "one two three";
-    let mut session = Session::new(alloc, text, 13, 64, 2, GraphemeClusterMode::Unicode)?;
-    runs(&rt, &mut session, &commands, &wanted, text, 13)
+    let now = (text, 13, 4);
+    runs_from(&rt, rt.alloc(), (text, 13, 64), &commands, &wanted, now)
 }
 
 // What the movement covers, and where it leads.
@@ -421,44 +439,47 @@ fn leads(rt: &impl Abort, session: &Session, (movement, covered, place): Led) {
     );
 }
 
-#[test]
-fn movements_cover_and_lead(rt: HostRuntime) -> Result<(), Fail> {
-    let rows = [
-        (&Movement::FirstNonBlank, Some((1, 2)), Some(2)),
-        (&Movement::EndOfLine, Some((1, 4)), Some(4)),
-        (&Movement::BeginningOfLine, Some((0, 1)), Some(0)),
-        (&Movement::WholeLine, Some((0, 4)), None),
-        (&Movement::LineDown(1), Some((0, 7)), Some(6)),
-        (&Movement::LineUp(1), None, None),
-        (&Movement::BackwardChar(0), None, None),
-    ];
-    let session = Session::new(
-        rt.alloc(),
-        "  ab\ncd",
-        1,
-        9,
-        60,
-        GraphemeClusterMode::Unicode,
-    )?;
-    for row in rows {
-        leads(&rt, &session, row);
-    }
-    let session = Session::new(rt.alloc(), "ab\n", 2, 9, 60, GraphemeClusterMode::Unicode)?;
-    // a kill would take the newline
-    leads(&rt, &session, (&Movement::EndOfLine, None, None));
+// A session of that text and cursor says that of the movement.
+fn leads_in(rt: &impl Abort, alloc: Global, text: &str, pos: usize, led: Led) -> Result<(), Fail> {
+    let session = session_of(alloc, text, pos, 9)?;
+    leads(rt, &session, led);
     Ok(())
 }
 
 #[test]
-fn questions_part_no_run_of_kills(rt: HostRuntime) -> Result<(), Fail> {
-    let text = "  ab cd";
-    let mut session = Session::new(rt.alloc(), text, 5, 9, 60, GraphemeClusterMode::Unicode)?;
+fn movements_cover_and_lead(rt: HostRuntime) -> Result<(), Fail> {
+    const TEXT: &str = "  ab\ncd";
+    const ROWS: &[(&str, usize, Movement, Option<(usize, usize)>, Option<usize>)] = &[
+        (TEXT, 1, Movement::FirstNonBlank, Some((1, 2)), Some(2)),
+        (TEXT, 1, Movement::EndOfLine, Some((1, 4)), Some(4)),
+        (TEXT, 1, Movement::BeginningOfLine, Some((0, 1)), Some(0)),
+        (TEXT, 1, Movement::WholeLine, Some((0, 4)), None),
+        (TEXT, 1, Movement::LineDown(1), Some((0, 7)), Some(6)),
+        (TEXT, 1, Movement::LineUp(1), None, None),
+        (TEXT, 1, Movement::BackwardChar(0), None, None),
+        // a kill would take the newline
+        ("ab\n", 2, Movement::EndOfLine, None, None),
+    ];
+    for (text, pos, movement, covered, place) in ROWS {
+        leads_in(&rt, rt.alloc(), text, *pos, (movement, *covered, *place))?;
+    }
+    Ok(())
+}
+
+// Asks where a movement leads between two kills, which make one text of the ring.
+fn asks_between(rt: &impl Abort, session: &mut Session) -> Result<(), Fail> {
     let back = [Command::Kill(Movement::FirstNonBlank)];
-    runs(&rt, &mut session, &back, &[Reply::Answer(true)], "  cd", 2)?;
-    leads(&rt, &session, (&Movement::EndOfLine, Some((2, 4)), Some(4)));
+    runs(rt, session, &back, &[Reply::Answer(true)], "  cd", 2)?;
+    leads(rt, session, (&Movement::EndOfLine, Some((2, 4)), Some(4)));
     let on = [Command::Kill(Movement::EndOfLine), Command::Yank(1)];
     let wanted = [Reply::Answer(true), Reply::Inserted(Some(true))];
-    runs(&rt, &mut session, &on, &wanted, text, 7)
+    runs(rt, session, &on, &wanted, "  ab cd", 7)
+}
+
+#[test]
+fn questions_part_no_run_of_kills(rt: HostRuntime) -> Result<(), Fail> {
+    let mut session = session_of(rt.alloc(), "  ab cd", 5, 9)?;
+    asks_between(&rt, &mut session)
 }
 
 // What may be handed to another thread: whoever calls the library for C relies on it.
@@ -468,11 +489,7 @@ fn sent<S: Send>(it: S) -> S {
 
 #[test]
 fn a_session_may_be_sent(rt: HostRuntime) -> Result<(), Fail> {
-    let session = Session::new(rt.alloc(), "ab", 1, 9, 60, GraphemeClusterMode::Unicode)?;
-    is_so(
-        &rt,
-        sent(session).line().as_str() == "ab",
-        "the text of a session that was sent",
-    );
+    let session = session_of(rt.alloc(), "ab", 1, 9)?;
+    shows(&rt, &sent(session), "ab", 1);
     Ok(())
 }

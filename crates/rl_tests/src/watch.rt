@@ -1,5 +1,6 @@
 //! What a watch tells: splices, and reports of a queue, with answers that were worked out by hand.
 use crate::script::is_so;
+use crate::session::{replies, session_of, shows};
 use rl_base::{
     ChangeListener, DeleteListener, Direction, GraphemeClusterMode, Movement, Report, ReportKind,
     Reports, Splice, WatchFault, Word,
@@ -67,9 +68,8 @@ fn a_queue_tells_each_change(rt: HostRuntime) -> Result<(), Fail> {
     Ok(())
 }
 
-#[test]
-fn a_full_queue_folds(rt: HostRuntime) -> Result<(), Fail> {
-    let mut queue = Reports::new(rt.alloc(), 2, 10)?;
+// A queue for two reports folds the third change into what waits, and so does one whose texts have no room.
+fn folds(rt: &impl Abort, queue: &mut Reports) -> Result<(), Fail> {
     queue.replace(1, "b", "é!")?;
     queue.cursors(2, 4);
     queue.delete(0, "a", Direction::Backward)?;
@@ -78,17 +78,22 @@ fn a_full_queue_folds(rt: HostRuntime) -> Result<(), Fail> {
     queue.cursors(3, 4);
     queue.insert_char(0, 'y')?;
     queue.cursors(4, 1);
-    tells(
-        &rt,
-        &mut queue,
-        ReportKind::Folded,
-        (0, 2, 5),
-        Some((2, 1)),
-        "",
-    );
+    let cursors = Some((2, 1));
+    tells(rt, queue, ReportKind::Folded, (0, 2, 5), cursors, "");
     queue.insert_str(0, "12345678901")?;
-    tells(&rt, &mut queue, ReportKind::Folded, (0, 0, 11), None, "");
-    is_so(&rt, queue.oldest().is_none(), "nothing waits");
+    tells(rt, queue, ReportKind::Folded, (0, 0, 11), None, "");
+    is_so(rt, queue.oldest().is_none(), "nothing waits");
+    Ok(())
+}
+
+#[test]
+fn a_full_queue_folds(rt: HostRuntime) -> Result<(), Fail> {
+    let mut queue = Reports::new(rt.alloc(), 2, 10)?;
+    folds(&rt, &mut queue)
+}
+
+#[test]
+fn a_queue_without_texts_folds_all(rt: HostRuntime) -> Result<(), Fail> {
     let mut queue = Reports::new(rt.alloc(), 9, 0)?;
     queue.insert_char(0, 'a')?;
     queue.insert_str(0, "b")?;
@@ -111,24 +116,23 @@ fn splice(from: usize, old_end: usize, new_end: usize) -> Option<Splice> {
     })
 }
 
-#[test]
-fn a_session_tells_what_changed(rt: HostRuntime) -> Result<(), Fail> {
-    let mode = GraphemeClusterMode::Unicode;
-    let mut session = Session::new(rt.alloc(), "one two", 7, 64, 60, mode)?;
-    let s = &mut session;
-    changes(&rt, s, Command::LinePlace, None);
-    changes(&rt, s, Command::Insert('x', 1), splice(7, 7, 8));
-    changes(
-        &rt,
-        s,
-        Command::Kill(Movement::BackwardWord(1, Word::Emacs)),
-        splice(4, 8, 4),
-    );
-    changes(&rt, s, Command::Undo(1), splice(4, 4, 8));
-    changes(&rt, s, Command::Redo, splice(4, 8, 4));
+// Tells each change of a session by one splice, and several at once.
+fn tells_changes(rt: &impl Abort, s: &mut Session) {
+    let word = Command::Kill(Movement::BackwardWord(1, Word::Emacs));
+    changes(rt, s, Command::LinePlace, None);
+    changes(rt, s, Command::Insert('x', 1), splice(7, 7, 8));
+    changes(rt, s, word, splice(4, 8, 4));
+    changes(rt, s, Command::Undo(1), splice(4, 4, 8));
+    changes(rt, s, Command::Redo, splice(4, 8, 4));
     let _ = s.apply(&Command::Insert('é', 2));
     let _ = s.apply(&Command::SetPos(1));
-    changes(&rt, s, Command::Delete(2), splice(1, 4, 6));
+    changes(rt, s, Command::Delete(2), splice(1, 4, 6));
+}
+
+#[test]
+fn a_session_tells_what_changed(rt: HostRuntime) -> Result<(), Fail> {
+    let mut session = session_of(rt.alloc(), "one two", 7, 64)?;
+    tells_changes(&rt, &mut session);
     Ok(())
 }
 
@@ -181,31 +185,33 @@ fn many_reports_are_read(rt: HostRuntime) -> Result<(), Fail> {
     Ok(())
 }
 
+// A session has one queue at a time, and hands out what waits in it.
+fn hands_out(rt: &impl Abort, s: &mut Session) {
+    let none = s.watch(0, 9);
+    is_so(rt, none == Err(WatchFault::NoRoom), "a queue of none");
+    is_so(rt, s.watch(2, 9).is_ok(), "a queue");
+    let second = s.watch(2, 9);
+    is_so(rt, second == Err(WatchFault::IsWatched), "a second queue");
+    let _ = s.apply(&Command::Insert('é', 1));
+    reads(rt, s, 2, "é");
+    let _ = s.apply(&Command::Insert('c', 1));
+    reads(rt, s, 4, "c");
+    let _ = s.apply(&Command::Insert('d', 1));
+    is_so(rt, s.waiting_reports() == 1, "one waits");
+    s.unwatch();
+    is_so(rt, s.waiting_reports() == 0, "none waits");
+    is_so(rt, s.watch(1, 0).is_ok(), "a queue again");
+}
+
 #[test]
 fn a_session_keeps_reports(rt: HostRuntime) -> Result<(), Fail> {
-    let mode = GraphemeClusterMode::Unicode;
-    let mut session = Session::new(rt.alloc(), "ab", 2, 64, 60, mode)?;
-    let s = &mut session;
-    is_so(
-        &rt,
-        s.watch(0, 9) == Err(WatchFault::NoRoom),
-        "a queue of none",
-    );
-    is_so(&rt, s.watch(2, 9).is_ok(), "a queue");
-    is_so(
-        &rt,
-        s.watch(2, 9) == Err(WatchFault::IsWatched),
-        "a second queue",
-    );
-    let _ = s.apply(&Command::Insert('é', 1));
-    reads(&rt, s, 2, "é");
-    let _ = s.apply(&Command::Insert('c', 1));
-    reads(&rt, s, 4, "c");
-    let _ = s.apply(&Command::Insert('d', 1));
-    is_so(&rt, s.waiting_reports() == 1, "one waits");
-    s.unwatch();
-    is_so(&rt, s.waiting_reports() == 0, "none waits");
-    is_so(&rt, s.watch(1, 0).is_ok(), "a queue again");
+    let mut session = session_of(rt.alloc(), "ab", 2, 64)?;
+    hands_out(&rt, &mut session);
+    Ok(())
+}
+
+#[test]
+fn queues_of_each_room_are_kept(rt: HostRuntime) -> Result<(), Fail> {
     // numbers alone, one byte of texts, and much of both
     const ROOMS: &[(usize, usize)] = &[(1, 0), (1500, 0), (1, 1), (1, 2), (1500, 100_000)];
     for (room, text_room) in ROOMS {
@@ -214,37 +220,25 @@ fn a_session_keeps_reports(rt: HostRuntime) -> Result<(), Fail> {
     Ok(())
 }
 
-#[test]
-fn a_session_begins_anew(rt: HostRuntime) -> Result<(), Fail> {
-    let mode = GraphemeClusterMode::Unicode;
-    let mut session = Session::new(rt.alloc(), "one two", 7, 64, 60, mode)?;
-    let s = &mut session;
+// A session whose text was killed in part gets another text, and keeps its ring.
+fn begins_anew(rt: &impl Abort, s: &mut Session) {
+    let all = splice(0, 4, 3);
     let _ = s.apply(&Command::Kill(Movement::BackwardWord(1, Word::Emacs)));
     let _ = s.changed();
-    is_so(
-        &rt,
-        s.restart("é", 1) == Err(Fault::BadPlace),
-        "no boundary",
-    );
-    is_so(&rt, s.line().as_str() == "one ", "the text stays");
-    is_so(&rt, s.restart("né", 1).is_ok(), "another text");
-    is_so(
-        &rt,
-        s.line().as_str() == "né" && s.line().pos() == 1,
-        "it is there",
-    );
-    let all = Splice {
-        from: 0,
-        old_end: 4,
-        new_end: 3,
-    };
-    is_so(&rt, s.changed() == Some(all), "all changed");
-    is_so(
-        &rt,
-        s.apply(&Command::Undo(1)) == Reply::Answer(false),
-        "nothing to undo",
-    );
+    let inside = s.restart("é", 1);
+    is_so(rt, inside == Err(Fault::BadPlace), "no boundary");
+    shows(rt, s, "one ", 4);
+    is_so(rt, s.restart("né", 1).is_ok(), "another text");
+    shows(rt, s, "né", 1);
+    is_so(rt, s.changed() == all, "all changed");
+    replies(rt, s, &Command::Undo(1), &Reply::Answer(false));
     let _ = s.apply(&Command::Yank(1));
-    is_so(&rt, s.line().as_str() == "ntwoé", "what was killed comes");
+    shows(rt, s, "ntwoé", 4);
+}
+
+#[test]
+fn a_session_begins_anew(rt: HostRuntime) -> Result<(), Fail> {
+    let mut session = session_of(rt.alloc(), "one two", 7, 64)?;
+    begins_anew(&rt, &mut session);
     Ok(())
 }
