@@ -60,6 +60,21 @@ pub(crate) fn wrong_record(rt: &impl Print, alloc: Global, all: &mut Tally) -> R
     Ok(())
 }
 
+// Each command alone, and then an undo of all.
+fn do_each(
+    rt: &impl Print,
+    alloc: Global,
+    watched: &mut Watched,
+    commands: &[Command],
+) -> Result<(), Failed> {
+    for command in commands {
+        watched.apply(rt, command)?;
+    }
+    let recorded = watched.recorded();
+    watched.apply(rt, &Command::Truncate(recorded))?;
+    watched.undo_all(rt, alloc)
+}
+
 /// Commands of many kinds, one by one.
 pub(crate) fn one_by_one(rt: &impl Print, alloc: Global, all: &mut Tally) -> Result<(), Failed> {
     let _ = println!(rt; "One by one");
@@ -71,12 +86,7 @@ pub(crate) fn one_by_one(rt: &impl Print, alloc: Global, all: &mut Tally) -> Res
     let Some(mut watched) = Watched::open(rt, alloc, all, "ab cd", 5)? else {
         return Ok(());
     };
-    for command in &commands {
-        watched.apply(rt, command)?;
-    }
-    let recorded = watched.recorded();
-    watched.apply(rt, &Command::Truncate(recorded))?;
-    watched.undo_all(rt, alloc)?;
+    do_each(rt, alloc, &mut watched, &commands)?;
     all.add(watched.tally());
     Ok(())
 }
@@ -94,6 +104,19 @@ fn undo_between(rt: &impl Print, watched: &mut Watched) -> Result<(), Failed> {
     }
 }
 
+// Puts the word in capitals, and then undoes all.
+fn raise(rt: &impl Print, alloc: Global, watched: &mut Watched) -> Result<(), Failed> {
+    match watched.apply(rt, &Command::EditWord(WordAction::Uppercase))? {
+        Reply::Answer(answer) => {
+            watched.holds(answer, "the answer to a word")?;
+            watched.leaves("AB", 2, 2, "the word in capitals")?;
+        }
+        Reply::Refused(Fault::NoMemory) if watched.is_empty() => undo_between(rt, watched)?,
+        _ => watched.leaves("ab", 0, 0, "the word that was refused")?,
+    }
+    watched.undo_all(rt, alloc)
+}
+
 /// Two events put a word in capitals: it is deleted, and then inserted. Either may be refused.
 pub(crate) fn word_in_capitals(
     rt: &impl Print,
@@ -104,17 +127,24 @@ pub(crate) fn word_in_capitals(
     let Some(mut watched) = Watched::open(rt, alloc, all, "ab", 0)? else {
         return Ok(());
     };
-    match watched.apply(rt, &Command::EditWord(WordAction::Uppercase))? {
-        Reply::Answer(answer) => {
-            watched.holds(answer, "the answer to a word")?;
-            watched.leaves("AB", 2, 2, "the word in capitals")?;
-        }
-        Reply::Refused(Fault::NoMemory) if watched.is_empty() => undo_between(rt, &mut watched)?,
-        _ => watched.leaves("ab", 0, 0, "the word that was refused")?,
-    }
-    watched.undo_all(rt, alloc)?;
+    raise(rt, alloc, &mut watched)?;
     all.add(watched.tally());
     Ok(())
+}
+
+// The commands in one run, and then an undo of all.
+fn do_all(
+    rt: &impl Print,
+    alloc: Global,
+    watched: &mut Watched,
+    commands: &[Command],
+) -> Result<(), Failed> {
+    if !watched.run(rt, commands)? {
+        watched.leaves("ab cd", 5, 0, "a run that was refused")?;
+    } else if watched.tally().refused() == 0 {
+        watched.leaves("ab ", 3, 3, "a run of which nothing was refused")?;
+    }
+    watched.undo_all(rt, alloc)
 }
 
 /// Commands in one run. None is done if there is no room for their replies.
@@ -128,12 +158,7 @@ pub(crate) fn all_at_once(rt: &impl Print, alloc: Global, all: &mut Tally) -> Re
         Command::Backspace(1),
         Command::Kill(Movement::BackwardWord(1, Word::Emacs)),
     ];
-    if !watched.run(rt, &commands)? {
-        watched.leaves("ab cd", 5, 0, "a run that was refused")?;
-    } else if watched.tally().refused() == 0 {
-        watched.leaves("ab ", 3, 3, "a run of which nothing was refused")?;
-    }
-    watched.undo_all(rt, alloc)?;
+    do_all(rt, alloc, &mut watched, &commands)?;
     all.add(watched.tally());
     Ok(())
 }
