@@ -4,6 +4,7 @@ use crate::edits::replace;
 use crate::line_buffer::line_of;
 use rl_base::{ChangeListener, DeleteListener, Direction, Refusal, RepeatCount};
 use rl_line::{Changeset, LineBuffer};
+use std::alloc::Global;
 use std::marker::Model;
 use std::process::Abort;
 use std::test::Fail;
@@ -169,8 +170,43 @@ fn go_all(
     Ok(())
 }
 
-#[test]
-fn a_mirror_hears_of_undo_and_redo(rt: HostRuntime) -> Result<(), Fail> {
+// Changes a line, as a group of the record, and types after that.
+fn record_changes(
+    rt: &impl Abort,
+    line: &mut LineBuffer,
+    record: &mut Changeset,
+) -> Result<(), Fail> {
+    record.begin()?;
+    change(rt, line, record)?;
+    record.end()?;
+    line.insert('!', 2, record)?;
+    Ok(())
+}
+
+// An equal line tells the mirror of the same changes.
+fn mirror_changes(rt: &impl Abort, alloc: Global, mirror: &mut Mirror) -> Result<(), Fail> {
+    let mut equal = line_of(rt, alloc, "añ one", 3)?;
+    change(rt, &mut equal, mirror)?;
+    equal.insert('!', 2, mirror)?;
+    Ok(())
+}
+
+// An empty record foretells nothing.
+fn foretell_nothing(alloc: Global, line: &LineBuffer, mirror: &mut Mirror) -> Result<(), Fail> {
+    let empty = Changeset::new(alloc);
+    empty.foretell_undo(line, 1, mirror)?;
+    empty.foretell_redo(line, mirror)?;
+    Ok(())
+}
+
+// Makes the changes, and goes back and ahead over them.
+fn hears(
+    rt: &impl Abort,
+    alloc: Global,
+    line: &mut LineBuffer,
+    record: &mut Changeset,
+    mirror: &mut Mirror,
+) -> Result<(), Fail> {
     const STEPS: &[Step] = &[
         // the insertion after the group
         (Way::Back(1), "a zwei", 6),
@@ -180,27 +216,23 @@ fn a_mirror_hears_of_undo_and_redo(rt: HostRuntime) -> Result<(), Fail> {
         (Way::Back(2), "añ one", 3),
         (Way::Ahead, "a zwei", 6),
     ];
+    record_changes(rt, line, record)?;
+    mirror_changes(rt, alloc, mirror)?;
+    both_hold(rt, line, mirror, "a zwei!!", 8, 0);
+    foretell_nothing(alloc, line, mirror)?;
+    both_hold(rt, line, mirror, "a zwei!!", 8, 0);
+    go_all(rt, line, record, mirror, STEPS)?;
+    Ok(())
+}
+
+#[test]
+fn a_mirror_hears_of_undo_and_redo(rt: HostRuntime) -> Result<(), Fail> {
     let mut line = line_of(&rt, rt.alloc(), "añ one", 3)?;
     let mut record = Changeset::new(rt.alloc());
-    record.begin()?;
-    change(&rt, &mut line, &mut record)?;
-    record.end()?;
-    line.insert('!', 2, &mut record)?;
-    // an equal line tells the mirror of the same changes
-    let mut equal = line_of(&rt, rt.alloc(), "añ one", 3)?;
     let mut mirror = Mirror {
         text: String::from_str(rt.alloc(), "añ one")?,
         cursor: 3,
         lost: false,
     };
-    change(&rt, &mut equal, &mut mirror)?;
-    equal.insert('!', 2, &mut mirror)?;
-    both_hold(&rt, &line, &mirror, "a zwei!!", 8, 0);
-    // an empty record foretells nothing
-    let empty = Changeset::new(rt.alloc());
-    empty.foretell_undo(&line, 1, &mut mirror)?;
-    empty.foretell_redo(&line, &mut mirror)?;
-    both_hold(&rt, &line, &mirror, "a zwei!!", 8, 0);
-    go_all(&rt, &mut line, &mut record, &mut mirror, STEPS)?;
-    Ok(())
+    hears(&rt, rt.alloc(), &mut line, &mut record, &mut mirror)
 }
