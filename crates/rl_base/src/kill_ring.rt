@@ -4,7 +4,7 @@ ghost use Rattle.std.specs.String.{string_bytes};
 ghost use Rattle.std.specs.Borrow.{sem};
 ghost use Rattle.rl_base.specs.declared.listeners.Refusal.TheVariants.{NoMemory};
 ghost use Rattle.rl_base.specs.Gathered.{IsPackedAt, texts};
-ghost use Rattle.rl_base.specs.KillRing.{Enlarges, IsRing, Ring, back_from, index_before, join_at, joined, killed, new_ring, newest_first, next_index, put_at, reset, text_back, yank, yank_pop, yank_popped, yank_size, yanked};
+ghost use Rattle.rl_base.specs.KillRing.{Enlarges, IsRing, PutTakesMemory, Ring, back_from, index_before, join_at, joined, killed, new_ring, newest_first, next_index, put_at, reset, text_back, yank, yank_pop, yank_popped, yank_size, yanked};
 ghost use Rattle.rl_base.specs.RingLends.{EndsAs};
 ghost use Rattle.rl_base.specs.declared.kill_ring.Mode.{Mode};
 ghost use Rattle.rl_base.specs.KillGroups.{Doing, Kills, ring_done, group_done, no_groups, groups_of, AllKills, all_joined};
@@ -236,7 +236,7 @@ fn index_back(index: usize, back: usize, slots: &[Gathered]) -> Option<usize>
 fn put(slots: &mut Vec<Gathered>, index: usize, text: &str) -> Result<(), Refusal>
     requires { index ≤ length slots.old.items }
     ensures ok { OnOk result (texts slots.new.items ≡ put_at index text.now (texts slots.old.items)) }
-    ensures err { IfErr result (λ r. (r ≡ NoMemory) × (texts slots.new.items ≡ texts slots.old.items) × ((0 < length text.now) ⊎ (index ≡ length slots.old.items))) }
+    ensures err { IfErr result (λ r. (r ≡ NoMemory) × (texts slots.new.items ≡ texts slots.old.items) × PutTakesMemory index text.now slots.old.items) }
 {
     let slot = Gathered::of(*slots.allocator(), text)?;
     if index < slots.len() {

@@ -5,7 +5,7 @@ ghost use Rattle.std.specs.String.{string_bytes, string_capacity};
 ghost use Rattle.std.specs.VecDeque.{deque_len, deque_capacity};
 ghost use Rattle.rl_base.specs.declared.listeners.Refusal.TheVariants.{NoMemory};
 ghost use Rattle.rl_base.specs.declared.reports.ReportKind.TheVariants.{CharInserted};
-ghost use Rattle.rl_base.specs.Notes.{KeepsRoom, Lacks, bytes_kept};
+ghost use Rattle.rl_base.specs.Notes.{AppendTakesMemory, KeepsRoom, Lacks, NotKept, bytes_kept};
 ghost use Rattle.rl_base.specs.Reports.{Whole, joined, kept, noted, oldest, on_last, reports_of, text_bytes, texts_of, told_cursors, told_note};
 
 use crate::listeners::Refusal;
@@ -36,7 +36,12 @@ impl Model for Notes {
 
     ghost Value = { Notes };
 
-    ghost view = { λ n. record { text_room = n.text_room; waiting = notes n.text_room n.waiting.items (drop n.spent (string_bytes n.texts)); places = deque_capacity n.waiting; bytes = string_capacity n.texts } };
+    ghost view = { λ n. record {
+      text_room = n.text_room;
+      waiting = notes n.text_room n.waiting.items (drop n.spent (string_bytes n.texts));
+      places = deque_capacity n.waiting;
+      bytes = string_capacity n.texts;
+    } };
 
     ghost invariant = { λ n. (n.spent + n.spent ≤ length (string_bytes n.texts)) × Cuts n.text_room n.waiting.items (drop n.spent (string_bytes n.texts)) };
 }
@@ -210,7 +215,7 @@ impl Notes {
     ) -> Result<(), Refusal>
         requires { length self.old.waiting < self.old.places }
         ensures done { OnOk result (self.new.waiting ≡ self.old.waiting ++ noted self.old.text_room kind at gone.now come.now ∷ []) }
-        ensures err { IfErr result (λ r. (r ≡ NoMemory) × (self.new.waiting ≡ self.old.waiting) × Lacks (kept self.old.text_room (gone.now ++ come.now)) self.old) }
+        ensures err { IfErr result (λ r. (r ≡ NoMemory) × (self.new.waiting ≡ self.old.waiting) × Lacks (gone.now ++ come.now) self.old) }
         ensures room { KeepsRoom self.old self.new }
     {
         keep_texts(&mut self.texts, self.text_room, gone, come)?;
@@ -225,7 +230,7 @@ impl Notes {
         requires keeps { 0 < self.old.text_room }
         requires place { length self.old.waiting < self.old.places }
         ensures done { OnOk result (self.new.waiting ≡ self.old.waiting ++ noted self.old.text_room CharInserted at [] (encode_utf8 c) ∷ []) }
-        ensures err { IfErr result (λ r. (r ≡ NoMemory) × (self.new.waiting ≡ self.old.waiting) × Lacks (kept self.old.text_room (encode_utf8 c)) self.old) }
+        ensures err { IfErr result (λ r. (r ≡ NoMemory) × (self.new.waiting ≡ self.old.waiting) × Lacks (encode_utf8 c) self.old) }
         ensures room { KeepsRoom self.old self.new }
     {
         self.texts.push(c)?;
@@ -249,7 +254,7 @@ impl Notes {
     pub fn append(&mut self, later: Notes, more: usize) -> Result<(), Refusal>
         requires { later.text_room ≡ self.old.text_room }
         ensures done { OnOk result ((self.new.waiting ≡ self.old.waiting ++ later.waiting) × (length self.new.waiting + more ≤ self.new.places)) }
-        ensures err { IfErr result (λ r. (r ≡ NoMemory) × (self.new.waiting ≡ self.old.waiting) × ((0 < length later.waiting) ⊎ (self.old.places < length self.old.waiting + more))) }
+        ensures err { IfErr result (λ r. (r ≡ NoMemory) × (self.new.waiting ≡ self.old.waiting) × AppendTakesMemory later more self.old) }
         ensures room { KeepsRoom self.old self.new }
     {
         let mut reports = later.waiting;
@@ -307,7 +312,7 @@ fn drop_spent(texts: &mut String, spent: usize) -> usize
 // Puts what went and what came at the end, if texts are kept, or neither if memory is out.
 fn keep_texts(texts: &mut String, text_room: usize, gone: &str, come: &str) -> Result<(), Refusal>
     ensures done { OnOk result (string_bytes texts.new ≡ string_bytes texts.old ++ kept text_room (gone.now ++ come.now)) }
-    ensures err { IfErr result (λ r. (r ≡ NoMemory) × (string_bytes texts.new ≡ string_bytes texts.old) × (string_capacity texts.old < length (string_bytes texts.old) + length (kept text_room (gone.now ++ come.now)))) }
+    ensures err { IfErr result (NotKept text_room (gone.now ++ come.now) texts.old texts.new) }
     ensures capacity { string_capacity texts.old ≤ string_capacity texts.new }
 {
     if text_room == 0 {

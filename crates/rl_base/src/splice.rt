@@ -62,8 +62,8 @@ pub(crate) const UNTOUCHED: Splice = Splice {
 /// differs from that one, so what it tells then is a splice of the two. If it tells none, they are the same.
 pub fn all_that_changed_is_told()
     ensures asked { (text : List ℕ) → IsUtf8 text → length text < 2 ^ 64 → Covers untouched text text }
-    ensures heard { (changed : Splice) (event : Event) (old text new : List ℕ) → Covers changed old text → IsUtf8 text → length text < 2 ^ 64 → length new < 2 ^ 64
-        → apply event text ≡ Some new → Covers (spliced changed event) old new }
+    ensures heard { (changed : Splice) (event : Event) (old text new : List ℕ) → Covers changed old text → IsUtf8 text
+        → length text < 2 ^ 64 → length new < 2 ^ 64 → apply event text ≡ Some new → Covers (spliced changed event) old new }
     ensures tells { (changed : Splice) (old new : List ℕ) → Covers changed old new → MatchOption (told changed) (new ≡ old) (λ splice. Splices splice old new) }
 {}
 
