@@ -294,6 +294,7 @@ fn text_at(slots: &[Gathered], index: usize) -> Option<&String>
 /// Whatever is done with a new ring except `yank_pop`, and if no kill is refused, it holds the latest groups of
 /// consecutive kills, as many as it has room for, and a yank gives the newest. Consecutive kills are one group:
 /// their texts, joined.
+#[tactic(auto, using(crate::proofs::Ring::KillGroupLemmas::grouping))]
 pub fn ring_holds_groups()
     ensures last { (size : ℕ) (doings : List Doing) → 0 < size → newest_first (ring_done doings (new_ring size)) ≡ take size (groups_of doings) }
     ensures newest { (size : ℕ) (doings : List Doing) → 0 < size → yank (ring_done doings (new_ring size)) ≡ slice_get (groups_of doings) 0 }
@@ -304,6 +305,7 @@ pub fn ring_holds_groups()
 
 /// The texts of a ring are those that yanks give: the first is what a yank gives, and if there is another, each
 /// `yank_pop` goes one further back.
+#[tactic(auto, using(crate::proofs::Ring::BackLemmas::going_back))]
 pub fn texts_back_are_yanked()
     ensures yank { (r : Ring) → IsRing r → text_back 0 r ≡ yank r }
     ensures yank_pop { (r : Ring) (size back : ℕ) → IsRing r → yank_size r ≡ Some size → back + 1 < length r.slots

@@ -95,3 +95,6 @@ pub yank_pop-back : (r : Ring) (size back : ℕ) → IsRing r → yank_size r �
 yank_pop-back r size back h e below =
     ap (λ o. text_back back (popped_ring o r)) e ∙ lent-back (yank (turned r)) (turned r) back
     ∙ turned-back r.slots r.index back (let at = h.at_slot in omega arith) below
+
+-- what `texts_back_are_yanked` says
+pub ruleset going_back = (yank-back, yank_pop-back, back-none)

@@ -246,3 +246,6 @@ groups-are-runs ds ks text mode e h =
     ap (λ (g : Groups). g.groups) (done-append ds (Kills text mode ∷ ks) no_groups)
     ∙ ap (λ b. (group_done ks (record before { groups = grown b text mode before.groups; growing = true })).groups) e
     ∙ kills-group ks text before.groups before.killing h
+
+-- what `ring_holds_groups` says
+pub ruleset grouping = (ring-holds, ring-newest, ring-empty, groups-are-runs)

@@ -50,3 +50,6 @@ trim_start-blanks text = ap encode_utf8_all (skip-leading (chars text))
 pub trim_end-blanks : (text : List ℕ) → trim_end text ≡ without_trailing_blanks text
 unfolding trim_end
 trim_end-blanks text = ap encode_utf8_all (drop-trailing (chars text))
+
+-- what `blanks_are_white_space` says
+pub ruleset blanks = (is_white_space-std, trim_start-blanks, trim_end-blanks)

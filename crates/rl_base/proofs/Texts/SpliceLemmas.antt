@@ -173,3 +173,6 @@ Splices-old s old new p =
     ap (λ k. k ++ slice_range old s.from s.old_end ++ drop s.new_end new) (sym p.before) ∙ ap (λ k. take s.from old ++ slice_range old s.from s.old_end ++ k) (sym p.after)
     ∙ append_assoc (take s.from old) (slice_range old s.from s.old_end) (drop s.old_end old)
     ∙ ap (λ k. take s.from old ++ k) (sym (drop_split old s.from s.old_end p.old_order)) ∙ take-append-drop s.from old
+
+-- what the theorems on splices say
+pub ruleset splicing = (Covers-apply, told-means, Splices-new, Splices-old)
