@@ -305,7 +305,7 @@ pub fn ring_holds_groups()
 
 /// The texts of a ring are those that yanks give: the first is what a yank gives, and if there is another, each
 /// `yank_pop` goes one further back.
-#[tactic(auto, using(crate::proofs::Ring::BackLemmas::going_back))]
+#[tactic(auto, using(crate::proofs::Ring::SlotLemmas::going_back))]
 pub fn texts_back_are_yanked()
     ensures yank { (r : Ring) → IsRing r → text_back 0 r ≡ yank r }
     ensures yank_pop { (r : Ring) (size back : ℕ) → IsRing r → yank_size r ≡ Some size → back + 1 < length r.slots
