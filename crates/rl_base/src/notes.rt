@@ -81,6 +81,7 @@ impl Notes {
 
     /// How many reports wait.
     #[inline(always)]
+    #[tactic(auto, using(crate::proofs::Queue::QueueLemmas::counted))]
     pub fn len(&self) -> usize
         ensures { result ≡ length self.now.waiting }
     {
@@ -97,6 +98,7 @@ impl Notes {
 
     /// How many bytes of texts wait.
     #[inline(always)]
+    #[tactic(auto, using(crate::proofs::Queue::QueueLemmas::counted))]
     pub fn text_len(&self) -> usize
         ensures { result ≡ text_bytes self.now.waiting }
     {
@@ -195,6 +197,7 @@ impl Notes {
 
     /// Finds memory for so many more reports. Refused only if memory is out for it, and all that wait do so then too.
     #[inline(always)]
+    #[tactic(auto, using(crate::proofs::Queue::QueueLemmas::counted))]
     pub fn reserve(&mut self, more: usize) -> Result<(), Refusal>
         ensures waiting { self.new.waiting ≡ self.old.waiting }
         ensures room { KeepsRoom self.old self.new }
@@ -206,6 +209,7 @@ impl Notes {
 
     /// Puts a report at the end: at a place what went gave way to what came. There is memory for one more. Refused only where memory
     /// is out for its texts, and all that wait do so then too.
+    #[tactic(auto, using(crate::proofs::Queue::QueueLemmas::counted))]
     pub fn push(
         &mut self,
         kind: ReportKind,
@@ -226,6 +230,7 @@ impl Notes {
 
     /// Puts a report at the end: at a place a character came. Texts are kept. All else is as of `push`.
     #[inline(always)]
+    #[tactic(auto, using(crate::proofs::Queue::QueueLemmas::counted))]
     pub fn push_char(&mut self, at: usize, c: char) -> Result<(), Refusal>
         requires keeps { 0 < self.old.text_room }
         requires place { length self.old.waiting < self.old.places }
@@ -241,6 +246,7 @@ impl Notes {
 
     // Puts a report at the end, of which no texts are kept. There is memory for it.
     #[inline(always)]
+    #[tactic(auto, using(crate::proofs::Queue::QueueLemmas::counted))]
     pub(crate) fn push_numbers(&mut self, report: Report)
         requires none { self.old.text_room ≡ 0 }
         requires place { length self.old.waiting < self.old.places }

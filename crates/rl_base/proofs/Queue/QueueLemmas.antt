@@ -263,3 +263,6 @@ IsQueue-told room k m t before after ns q = record {
 pub from_ok : {A E : Type 0} (result : Result A E) (P : Type 0) → OnOk result P → is_err result ≡ false → P
 from_ok (Ok a) P h none = h
 from_ok (Err e) P h none = cc
+
+-- how many reports there are, and how many bytes of texts
+pub ruleset counted = (length-notes, text_bytes-notes, length-drop)

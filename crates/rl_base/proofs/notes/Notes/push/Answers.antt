@@ -2,11 +2,6 @@ use Rattle.rl_base.proofs.Common.{◌++◌, ◌∷◌, [], ◌∙◌, ap, arith,
 use Rattle.rl_base.proofs.Queue.QueueLemmas.{IsUtf8-kept, Longer, length-kept, length-notes, longer, text_bytes-notes}
 use Rattle.rl_base.proofs.notes.Notes.push.Goals as goal
 
-pub push_back_reserved-requires : goal.push_back_reserved-requires
-push_back_reserved-requires c =
-    let i = c.self.inside in
-    omega (arith, rw (← c.self.view_is) at c.requires, length-notes i.text_room i.waiting.items (drop i.spent (string_bytes i.texts)), i.waiting.ok.0)
-
 is_longer : (c : goal.After-push_back_reserved)
     → Longer c.self.inside.text_room c.self.inside.waiting.items c.push_back_reserved.new.self.items (noted c.self.inside.text_room c.args.kind c.args.at c.args.gone.now c.args.come.now) c.self.inside.spent (string_bytes c.self.inside.texts) (string_bytes c.keep_texts.new.texts)
 is_longer c =

@@ -2,11 +2,6 @@ use Rattle.rl_base.proofs.Common.{[], ap, append-nil, arith, drop, refl, sym, Is
 use Rattle.rl_base.proofs.Queue.QueueLemmas.{Longer, length-notes, longer}
 use Rattle.rl_base.proofs.notes.Notes.push_numbers.Goals as goal
 
-pub push_back_reserved-requires : goal.push_back_reserved-requires
-push_back_reserved-requires c =
-    let i = c.self.inside in
-    omega (arith, rw (← c.self.view_is) at c.requires.place, length-notes i.text_room i.waiting.items (drop i.spent (string_bytes i.texts)), i.waiting.ok.0)
-
 is_longer : (c : goal.After-push_back_reserved)
     → Longer c.self.inside.text_room c.self.inside.waiting.items c.push_back_reserved.new.self.items (record { report = c.args.report; texts = [] }) c.self.inside.spent (string_bytes c.self.inside.texts) (string_bytes c.self.inside.texts)
 is_longer c =

@@ -7,8 +7,3 @@ returns-in_err-reserve-clause-err c =
     let i = c.self.inside in
     let p = err_from_is_err_and c.from_residual.result c.from_residual.ensures.1 in
     rw (← c.self.view_is, p.1, p.2) (refl, omega (arith, c.in_err-reserve.ensures.full, i.waiting.ok.0, length-notes i.text_room i.waiting.items (drop i.spent (string_bytes i.texts))))
-
-pub returns-clause-done : goal.returns-clause-done
-returns-clause-done c =
-    let i = c.self.inside in
-    omega (arith, c.in_ok-reserve.ensures.ok, c.reserve.new.self.ok.0, length-notes i.text_room c.reserve.new.self.items (drop i.spent (string_bytes i.texts)))
