@@ -75,6 +75,7 @@ impl KillRing {
     /// to that kill's text, at the side that `dir` says. Else it goes right after the current text, replaces one that
     /// stands there, and becomes the current one. Refused only if memory is out, and then it changes nothing. Never
     /// refused if the ring would not grow: at size 0, which keeps no text, and an empty text that needs no new slot.
+    #[tactic(auto, using(crate::proofs::Ring::RingLemmas::written))]
     pub fn kill(&mut self, text: &str, dir: Mode) -> Result<(), Refusal>
         ensures done { OnOk result (self.new ≡ killed text.now dir self.old) }
         ensures err { IfErr result (λ r. (r ≡ NoMemory) × (self.new ≡ self.old) × Enlarges text.now dir self.old) }
@@ -233,6 +234,7 @@ fn index_back(index: usize, back: usize, slots: &[Gathered]) -> Option<usize>
 }
 
 // Puts a text over the slot at an index, or after all slots.
+#[tactic(auto, using(crate::proofs::Ring::RingLemmas::written))]
 fn put(slots: &mut Vec<Gathered>, index: usize, text: &str) -> Result<(), Refusal>
     requires { index ≤ length slots.old.items }
     ensures ok { OnOk result (texts slots.new.items ≡ put_at index text.now (texts slots.old.items)) }

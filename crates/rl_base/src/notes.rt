@@ -113,6 +113,7 @@ impl Notes {
     }
 
     /// Its texts: what went, and right after it what came. Empty if none are kept, and if none waits.
+    #[tactic(auto, using(crate::proofs::Queue::QueueLemmas::cutting))]
     pub fn oldest_texts(&self) -> &str
         ensures { result.now ≡ texts_of (oldest (Whole self.now.waiting)) }
     {
@@ -124,6 +125,7 @@ impl Notes {
     }
 
     // All that wait as one.
+    #[tactic(auto, using(crate::proofs::Queue::QueueLemmas::joining))]
     pub(crate) fn as_one(&self) -> Joined
         ensures { result ≡ joined (reports_of self.now.waiting) }
     {

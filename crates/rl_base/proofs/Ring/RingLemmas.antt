@@ -1,5 +1,5 @@
 -- What a kill makes of a ring.
-use Rattle.rl_base.proofs.Common.{◌≡◌, ℕ, ◌+◌, ◌<◌, ◌≤◌, zero, suc, Bool, true, false, cond, List, [], ◌∷◌, ◌++◌, length, set, get_or, Result, Ok, Err, OnOk, IfErr, Some, option_map, refl, ap, ◌∙◌, ◌⊎◌, inl, inr, arith, length-append, eqb-true, eqb-false, length-set, max, ◌==◌, slice_get, slice_set, Action, Kill, Yank, Other, Mode, Refusal, NoMemory, Gathering, IsPackedAt, texts, Ring, raised, next_index, put_at, join_at, in_new_slot, killed_as, killed, IsRing, map-set, sym, set-get_or, slice_get-get_or, get_or-map, get_or-set_same, length-map, set_past}
+use Rattle.rl_base.proofs.Common.{◌≡◌, ℕ, ◌+◌, ◌<◌, ◌≤◌, zero, suc, Bool, true, false, cond, List, [], ◌∷◌, ◌++◌, length, set, get_or, Result, Ok, Err, OnOk, IfErr, Some, option_map, refl, ap, ◌∙◌, ◌⊎◌, inl, inr, arith, length-append, eqb-true, eqb-false, length-set, max, ◌==◌, slice_get, slice_set, Action, Kill, Yank, Other, Mode, Refusal, NoMemory, Gathering, IsPackedAt, texts, Ring, raised, next_index, put_at, join_at, in_new_slot, killed_as, killed, IsRing, map-set, sym, set-get_or, slice_get-get_or, get_or-map, get_or-set_same, length-map, set_past, cond-false, ne_eqb}
 use Rattle.rl_base.specs.KillRing.{joined}
 
 -- joining writes the joined text over the slot; where there is none, it leaves all as they are
@@ -50,6 +50,10 @@ length-put slots i size text h k le = through (i == length slots) refl
         let n = eqb-false i (length slots) e in
         let l : length (slice_set slots i text) ≡ length slots = length-set slots i text in (omega arith, omega arith)
 
+-- where a slot is there, the text is put over it
+pub put-over : (slots : List (List ℕ)) (i : ℕ) (text : List ℕ) → i < length slots → put_at i text slots ≡ slice_set slots i text
+put-over slots i text h = cond-false (i == length slots) _ _ (ne_eqb i (length slots) (λ e. absurd (omega arith)))
+
 -- a ring stays one by a kill into a new slot
 pub IsRing-in_new_slot : (text : List ℕ) (r : Ring) → 0 < r.size → IsRing r → IsRing (in_new_slot text r)
 IsRing-in_new_slot text r some h =
@@ -70,6 +74,10 @@ join-set : (xs : List Gathering) (i : ℕ) (mode : Mode) (text : List ℕ) (x y 
     → y.text ≡ joined mode x.text text → texts (set xs i y) ≡ join_at i mode text (texts xs)
 join-set xs i mode text x y l is e =
     texts-set xs i y ∙ ap (slice_set (texts xs) i) (e ∙ ap (λ t. joined mode t text) (text-at xs i x l is)) ∙ sym (join-is (texts xs) i mode text)
+
+pub put-set : (xs : List Gathering) (i : ℕ) (y : Gathering) (text : List ℕ) → i < length xs → y.text ≡ text → texts (set xs i y) ≡ put_at i text (texts xs)
+put-set xs i y text l e =
+    texts-set xs i y ∙ ap (slice_set (texts xs) i) e ∙ sym (put-over (texts xs) i text (rw (length-map xs (λ (g : Gathering). g.text)) l))
 
 pub same-set : (xs : List Gathering) (i : ℕ) (x y : Gathering) → i < length xs → x ≡ get_or xs i x → y.text ≡ x.text → texts (set xs i y) ≡ texts xs
 same-set xs i x y l is e = texts-set xs i y ∙ ap (slice_set (texts xs) i) (e ∙ text-at xs i x l is) ∙ set-get_or (texts xs) i []
@@ -98,3 +106,5 @@ size-at xs i x l is =
 -- where there is no such slot
 pub join-past : (slots : List (List ℕ)) (i : ℕ) (mode : Mode) (text : List ℕ) → (i < length slots → ⊥) → slots ≡ join_at i mode text slots
 join-past slots i mode text h = sym (join-is slots i mode text ∙ set_past slots i _ (omega arith))
+
+pub ruleset written = (length-join, put-set)

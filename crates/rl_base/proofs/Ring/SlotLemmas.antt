@@ -1,7 +1,7 @@
 -- The slots from the current one back, round the ring.
-use Rattle.rl_base.proofs.Common.{◌≡◌, ℕ, ◌+◌, ◌-◌, ◌<◌, ◌≤◌, zero, suc, true, List, [], ◌∷◌, ◌++◌, length, take, drop, get_or, reverse, Option, None, Some, refl, ap, sym, ◌∙◌, ◌⊎◌, inl, inr, arith, cases_lt, append-nil, append_assoc, reverse-append, length-reverse, length-append, length-take, length-drop, length-set, take_at, take-take, take-set, take_all, drop_all, drop-set-lt, take_more, drop_more, get_or-set_same, get_or_append_left, slice_get-get_or, slice_get_past, cond-true, cond-false, eq-eqb, ne_eqb, max, ◌==◌, slice_get, slice_set, Mode, Ring, IsRing, raised, next_index, put_at, back_from, join_at, grown, lent, yank, yanked, yank_size, yank_popped, popped_ring, turned, index_before, text_back}
+use Rattle.rl_base.proofs.Common.{◌≡◌, ℕ, ◌+◌, ◌-◌, ◌<◌, ◌≤◌, zero, suc, true, List, [], ◌∷◌, ◌++◌, length, take, drop, get_or, reverse, Option, None, Some, refl, ap, sym, ◌∙◌, ◌⊎◌, inl, inr, arith, cases_lt, append-nil, append_assoc, reverse-append, length-reverse, length-append, length-take, length-drop, length-set, take_at, take-take, take-set, take_all, drop_all, drop-set-lt, take_more, drop_more, get_or-set_same, get_or_append_left, slice_get-get_or, slice_get_past, cond-true, cond-false, eq-eqb, ne_eqb, max, ◌==◌, slice_get, slice_set, Mode, Ring, IsRing, raised, next_index, put_at, back_from, join_at, grown, lent, yank, yanked, yank_size, yank_popped, popped_ring, turned, index_before, text_back, map-set}
 use Rattle.rl_base.specs.KillRing.{joined}
-use Rattle.rl_base.proofs.Ring.RingLemmas.{Next, join-is, next_index-is}
+use Rattle.rl_base.proofs.Ring.RingLemmas.{Next, join-is, next_index-is, put-over}
 
 -- all slots but the one at i, from the one before it back
 abbrev around : ℕ → List (List ℕ) → List (List ℕ)
@@ -91,9 +91,6 @@ back-join slots groups i (suc n) text mode at some h =
         let one : s ≡ g = cc in
         let two : rest ≡ take n gs = cc in
         ap (λ x. joined mode x text ∷ rest) one ∙ ap (λ l. joined mode g text ∷ l) two
-
-pub put-over : (slots : List (List ℕ)) (i : ℕ) (text : List ℕ) → i < length slots → put_at i text slots ≡ slice_set slots i text
-put-over slots i text h = cond-false (i == length slots) _ _ (ne_eqb i (length slots) (λ e. absurd (omega arith)))
 
 -- what a new slot makes of the slots
 pub record Puts (n index i : ℕ) (text : List ℕ) (slots : List (List ℕ)) : Type 0 where

@@ -1,5 +1,5 @@
 use Rattle.rl_base.proofs.Common.{◌≡◌, rules, chosen_hit}
-use Rattle.rl_base.proofs.Clusters.SearchLemmas.{IsFound, IsFound-chosen}
+use Rattle.rl_base.proofs.Clusters.SearchLemmas.{IsFound-chosen}
 use Rattle.rl_base.proofs.places.hits.search.Goals as goal
 
 pub returns-in-Forward : goal.returns-in-Forward

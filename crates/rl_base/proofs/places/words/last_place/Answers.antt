@@ -1,4 +1,4 @@
-use Rattle.rl_base.proofs.Common.{map, drop, ap, None, sym, subst, ◌∙◌, last_or, IfSome, IsCharBoundary, grapheme_indices_left, PlacedCluster}
+use Rattle.rl_base.proofs.Common.{map, drop, ap, None, sym, ◌∙◌, last_or, grapheme_indices_left, PlacedCluster}
 use Rattle.rl_base.proofs.Clusters.ClusterLemmas.{shown_past_first}
 use Rattle.rl_base.proofs.Clusters.WordLemmas.{last_or-push, IsCharBoundary-last_place}
 use Rattle.rl_base.proofs.places.words.last_place.Goals as goal
