@@ -1,9 +1,9 @@
 -- What reports lead to.
-use Rattle.rl_base.proofs.Common.{◌≡◌, ℕ, ◌+◌, ◌-◌, ◌^◌, ◌<◌, ◌≤◌, ◌⊎◌, inl, inr, Bool, true, false, min, List, [], ◌∷◌, ◌++◌, length, take, drop, fold, encode_utf8, slice_range, Option, Some, None, if◌then◌else◌, refl, sym, ap, subst, ◌∙◌, arith, length-append, take_at, drop_at, OnTrue_at, OnTrue_from, and_parts, nat_tests, length-take-le, length-drop, IsCharBoundary-start, OnFalse, OnTrue, replace_range, nat_lt, IsCharBoundary, IsUtf8, Joined, Report, ReportKind, Splice, Event, InsertChar, InsertStr, Delete, Replace, Stop, Cursors, AsOne, HasTexts, IsChange, IsLineText, LacksTexts, Leads, LeadsBy, Noted, Queue, ReadsTexts, ReadsWhole, Stand, Tells, WaitLeads, Waiting, Whole, after_texts, apart, as_one, forgotten, has_room_in, is_change, joined_cursors, kept, new_queue, noted, noting, nothing_joined, oldest, on_last, queue_step, reports_of, splice_of, taken_in, told_cursors, told_whole, with_cursors, with_note, Covers, Splices, folded, untouched}
+use Rattle.rl_base.proofs.Common.{◌≡◌, ℕ, ◌+◌, ◌-◌, ◌^◌, ◌<◌, ◌≤◌, ◌⊎◌, inl, inr, Bool, true, false, min, List, [], ◌∷◌, ◌++◌, length, take, drop, fold, encode_utf8, slice_range, Option, Some, None, if◌then◌else◌, refl, sym, ap, subst, ◌∙◌, arith, length-append, take_at, drop_at, OnTrue_at, OnTrue_from, and_parts, nat_tests, length-take-le, length-drop, IsCharBoundary-start, OnFalse, OnTrue, replace_range, nat_lt, IsCharBoundary, IsUtf8, Joined, Report, ReportKind, Splice, Event, InsertChar, InsertStr, Delete, Replace, Stop, Cursors, AsOne, HasTexts, IsChange, IsLineText, LacksTexts, Leads, LeadsBy, Noted, Queue, ReadsTexts, ReadsWhole, Stand, Tells, WaitLeads, Waiting, Whole, after_texts, apart, as_one, forgotten, has_room_in, is_change, joined_cursors, kept, new_queue, noted, noting, nothing_joined, oldest, on_last, queue_step, reports_of, splice_of, taken_in, told_cursors, told_whole, with_cursors, with_note, Covers, Splices, folded, untouched, told_note, cond_both}
 use Rattle.rl_base.specs.declared.listeners.Direction.TheVariants.{Forward, Backward}
 use Rattle.rl_base.specs.declared.reports.ReportKind.TheVariants as kind
 use Rattle.rl_base.specs.Event.{Start, apply}
-use Rattle.rl_base.proofs.Queue.QueueLemmas.{kept-all, length-on_last}
+use Rattle.rl_base.proofs.Queue.QueueLemmas.{has_room-means, kept-all, length-on_last}
 use Rattle.rl_base.proofs.Texts.SpliceLemmas.{Covers-more, Splices-Swaps, Splices-as, Splices-new, came, went}
 use Rattle.rl_base.proofs.Texts.SwapLemmas.{Swaps, Swaps-InsertChar, Swaps-InsertStr, Swaps-Delete, Swaps-Replace, apply-IsUtf8}
 
@@ -14,14 +14,15 @@ LeadsBy-push placed k n [] old text new l t u c = (new, subst (λ x. Tells k n x
 LeadsBy-push placed k n (m ∷ ms) old text new l t u c = (l.0, l.1, l.2, l.3, LeadsBy-push placed k n ms l.0 text new l.4 t u c)
 
 -- cursors leave what a note tells
-told-same : (b : Bool) (k before after : ℕ) (n : Noted) (old new : List ℕ) → Tells k n old new → Tells k (record { report = if b then record n.report { cursors = Some (before, after) } else n.report; texts = n.texts }) old new
-told-same true k before after n old new t = record { splices = t.splices; texts_are = t.texts_are; mark = t.mark; apart = t.apart }
-told-same false k before after n old new t = record { splices = t.splices; texts_are = t.texts_are; mark = t.mark; apart = t.apart }
+told-same : (k before after : ℕ) (n : Noted) (old new : List ℕ) → Tells k n old new → Tells k (told_note before after n) old new
+told-same k before after n old new t =
+    cond_both (is_change n.report.kind) (record n.report { cursors = Some (before, after) }) n.report (λ r. Tells k (record { report = r; texts = n.texts }) old new)
+    (λ _. record { splices = t.splices; texts_are = t.texts_are; mark = t.mark; apart = t.apart }) (λ _. t)
 
 pub LeadsBy-told : (k before after : ℕ) (ns : List Noted) (old new : List ℕ) → LeadsBy false k ns old new
     → LeadsBy false k (on_last (λ n. record { report = told_cursors before after n.report; texts = n.texts }) ns) old new
 LeadsBy-told k before after [] old new l = l
-LeadsBy-told k before after (n ∷ []) old new l = (l.0, told-same (is_change n.report.kind) k before after n old l.0 l.1, l.2, tt, l.4)
+LeadsBy-told k before after (n ∷ []) old new l = (l.0, told-same k before after n old l.0 l.1, l.2, tt, l.4)
 LeadsBy-told k before after (n ∷ (m ∷ ms)) old new l = (l.0, l.1, l.2, tt, LeadsBy-told k before after (m ∷ ms) l.0 new l.4)
 
 -- cursors of two changes as one
@@ -70,9 +71,7 @@ Leads-note placed q n old text new l t c u v w = record { leads = leads q.waitin
 
     within_by : (b : Bool) (ns : List Noted) → has_room_in q.room q.text_room (length n.texts) (Whole ns) ≡ b → apart (if b then Whole (ns ++ n ∷ []) else AsOne (taken_in (as_one (Whole ns)) n.report)) ≤ q.room
     within_by true ns h =
-        let left : nat_lt (length ns) q.room ≡ true = (and_parts (nat_lt (length ns) q.room) _ h).0 in
-        let few : length ns < q.room = grind (arith, nat_tests) in
-        omega (arith, few, length-append ns (n ∷ []))
+        let few = has_room-means q.room q.text_room (length n.texts) ns None h in omega (arith, few.place, length-append ns (n ∷ []))
     within_by false ns h = omega arith
 
     within : (waiting : Waiting) → apart waiting ≤ q.room → apart (with_note q.room q.text_room n waiting) ≤ q.room
