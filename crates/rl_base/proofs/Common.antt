@@ -9,7 +9,7 @@ pub use Rattle.std.proofs.lemmas.Bool.Decides.{nat_tests}
 pub use Rattle.std.proofs.lemmas.Cmp.{nat_list_eq_equiv}
 pub use Rattle.std.proofs.lemmas.List.{drop-append-le, drop-drop, drop-take, drop_all, get_or-append-add, get_or-drop, get_or-reverse, get_or-take, get_or_at, length-drop, length-map, length-replicate, length-reverse, length-set, length-take, length-take-le, length_push, map-append, map-set, nil_from_length, replicate-append-replicate, reverse-append, reverse-reverse, take-append-drop, take-append-le, take-take, take_all, set-get_or, take-set, drop-set-lt, take_more, drop_more, get_or-set_same, get_or_append_left, get_or-map, set_past}
 pub use Rattle.std.proofs.lemmas.List.Edits.{length-between}
-pub use Rattle.std.proofs.lemmas.List.Elements.{All-cons, All-drop, All-head, All-map, All-nil, All-tail, All-take, All-weaker, filter-append, filter_map-append, recursion_from_All}
+pub use Rattle.std.proofs.lemmas.List.Elements.{All-cons, All-drop, All-head, All-map, All-nil, All-tail, All-take, All-weaker, filter-append, filter_map-append, recursion_from_All, filter_passes, All-filter}
 pub use Rattle.std.proofs.lemmas.List.Folds.{concat-append, drop_split}
 pub use Rattle.std.proofs.lemmas.List.Splits.{length-slice_split, slice_split-cons_no, slice_split-cons_yes, slice_split_at, slice_split_none}
 pub use Rattle.std.proofs.lemmas.List.Sums.{fold-append, sum_by-append, sum_by-cons}

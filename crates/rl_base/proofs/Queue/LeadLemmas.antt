@@ -56,27 +56,31 @@ leads-as_one placed k (Whole ns) old new l u =
     joined-notes placed nothing_joined k ns old old new (record { utf8 = u.utf8; fits = u.fits; differ = inl (refl, refl) }, OnTrue_from placed _ (λ e. refl)) l u
 leads-as_one placed k (AsOne all) old new l u = l
 
--- one more note leads one text further
-pub Leads-note : (placed : Bool) (q : Queue) (n : Noted) (old text new : List ℕ) → Leads placed q old text → Tells q.text_room n text new → OnTrue placed (Stand n.report.cursors text new)
-    → IsLineText old → IsLineText text → IsLineText new → Leads placed (record q { waiting = with_note q.room q.text_room n q.waiting }) old new
-Leads-note placed q n old text new l t c u v w = record { leads = leads q.waiting l.leads; within = within q.waiting l.within; one = l.one }
+-- one more note leads one text further, also as what waits is later changed: a note that was put in, and all as one
+Leads-note : (placed : Bool) (later : Waiting → Waiting) (q : Queue) (n told : Noted) (old text new : List ℕ)
+    → ((ns : List Noted) → later (Whole (ns ++ n ∷ [])) ≡ Whole (ns ++ told ∷ [])) → ((all : Joined) → later (AsOne (taken_in all n.report)) ≡ AsOne (taken_in all told.report))
+    → Leads placed q old text → Tells q.text_room told text new → OnTrue placed (Stand told.report.cursors text new) → IsLineText old → IsLineText text → IsLineText new
+    → Leads placed (record q { waiting = later (with_note q.room q.text_room n q.waiting) }) old new
+Leads-note placed later q n told old text new put taken l t c u v w = from q.waiting l
   where
-    leads_by : (b : Bool) (ns : List Noted) → LeadsBy placed q.text_room ns old text → WaitLeads placed q.text_room (if b then Whole (ns ++ n ∷ []) else AsOne (taken_in (as_one (Whole ns)) n.report)) old new
-    leads_by true ns l = LeadsBy-push placed q.text_room n ns old text new l t w c
-    leads_by false ns l = joined-note placed (as_one (Whole ns)) q.text_room n old text new (leads-as_one placed q.text_room (Whole ns) old text l u) t c v w
+    folds : (waiting : Waiting) → Leads placed (record q { waiting = waiting }) old text
+        → Leads placed (record q { waiting = later (AsOne (taken_in (as_one waiting) n.report)) }) old new
+    folds waiting l = rw (taken (as_one waiting)) record {
+      leads = joined-note placed (as_one waiting) q.text_room told old text new (leads-as_one placed q.text_room waiting old text l.leads u) t c v w;
+      within = omega arith;
+      one = l.one;
+    }
 
-    leads : (waiting : Waiting) → WaitLeads placed q.text_room waiting old text → WaitLeads placed q.text_room (with_note q.room q.text_room n waiting) old new
-    leads (Whole ns) l = leads_by (has_room_in q.room q.text_room (length n.texts) (Whole ns)) ns l
-    leads (AsOne all) l = joined-note placed all q.text_room n old text new l t c v w
-
-    within_by : (b : Bool) (ns : List Noted) → has_room_in q.room q.text_room (length n.texts) (Whole ns) ≡ b → apart (if b then Whole (ns ++ n ∷ []) else AsOne (taken_in (as_one (Whole ns)) n.report)) ≤ q.room
-    within_by true ns h =
-        let few = has_room-means q.room q.text_room (length n.texts) ns None h in omega (arith, few.place, length-append ns (n ∷ []))
-    within_by false ns h = omega arith
-
-    within : (waiting : Waiting) → apart waiting ≤ q.room → apart (with_note q.room q.text_room n waiting) ≤ q.room
-    within (Whole ns) h = within_by (has_room_in q.room q.text_room (length n.texts) (Whole ns)) ns refl
-    within (AsOne all) h = omega arith
+    from : (waiting : Waiting) → Leads placed (record q { waiting = waiting }) old text → Leads placed (record q { waiting = later (with_note q.room q.text_room n waiting) }) old new
+    from (AsOne all) l = folds (AsOne all) l
+    from (Whole ns) l =
+        cond_both (has_room_in q.room q.text_room (length n.texts) (Whole ns)) (Whole (ns ++ n ∷ [])) _ (λ waiting. Leads placed (record q { waiting = later waiting }) old new)
+        (λ room. rw (put ns) record {
+          leads = LeadsBy-push placed q.text_room told ns old text new l.leads t w c;
+          within = omega (arith, (has_room-means q.room q.text_room (length n.texts) ns None room).place, length-append ns (told ∷ []));
+          one = l.one;
+        })
+        (λ _. folds (Whole ns) l)
 
 -- a swap is told by its report, and a mark by its own
 pub Tells-Swaps : (k : ℕ) (which : ReportKind) (i : ℕ) (gone come text new : List ℕ) → is_change which ≡ true → ¬ (which ≡ kind.Folded) → Swaps text new i gone come
@@ -118,10 +122,12 @@ heard_as P q (Cursors b a) text new v is h note = absurd is
 
 -- a kill's start and stop leave the text
 pub marked : (placed : Bool) (q : Queue) (old new : List ℕ) → Leads placed q old new → IsLineText old → IsLineText new → Leads placed (queue_step q Start) old new × Leads placed (queue_step q Stop) old new
-marked placed q old new l u v = (
-  Leads-note placed q (noted q.text_room kind.KillStarted 0 [] []) old new new l (Tells-mark q.text_room kind.KillStarted new v refl) (OnTrue_from placed _ (λ e. refl)) u v v,
-  Leads-note placed q (noted q.text_room kind.KillStopped 0 [] []) old new new l (Tells-mark q.text_room kind.KillStopped new v refl) (OnTrue_from placed _ (λ e. refl)) u v v,
-)
+marked placed q old new l u v = (mark kind.KillStarted refl, mark kind.KillStopped refl)
+  where
+    mark : (which : ReportKind) → is_change which ≡ false → Leads placed (noting which 0 [] [] q) old new
+    mark which b =
+        let n = noted q.text_room which 0 [] [] in
+        Leads-note placed (λ w. w) q n n old new new (λ _. refl) (λ _. refl) l (Tells-mark q.text_room which new v b) (OnTrue_from placed _ (λ e. refl)) u v v
 
 -- cursors that are told after a change are those of its note
 pub on_last-one : (f : Noted → Noted) (ns : List Noted) (n : Noted) → on_last f (ns ++ n ∷ []) ≡ ns ++ f n ∷ []
@@ -133,36 +139,16 @@ joined-none : (c : Option (ℕ × ℕ)) → joined_cursors c None ≡ c
 joined-none None = refl
 joined-none (Some c) = refl
 
-abbrev with_told : ℕ → ℕ → Noted → Noted
-with_told before after n = record { report = record n.report { cursors = Some (before, after) }; texts = n.texts }
-
-told-note : (room k before after : ℕ) (n : Noted) (w : Waiting) → is_change n.report.kind ≡ true → n.report.cursors ≡ None
-    → with_cursors before after (with_note room k n w) ≡ with_note room k (with_told before after n) w
-told-note room k before after n w b none = from w
-  where
-    more : (all : Joined) → with_cursors before after (AsOne (taken_in all n.report)) ≡ AsOne (taken_in all (with_told before after n).report)
-    more all = ap (λ c. AsOne (record { splice = (taken_in all n.report).splice; cursors = joined_cursors c (Some (before, after)) })) (ap (joined_cursors all.cursors) none ∙ joined-none all.cursors)
-
-    told : told_cursors before after n.report ≡ record n.report { cursors = Some (before, after) }
-    told = ap (λ c. if c then record n.report { cursors = Some (before, after) } else n.report) b
-
-    by : (c : Bool) (ns : List Noted) → with_cursors before after (if c then Whole (ns ++ n ∷ []) else AsOne (taken_in (as_one (Whole ns)) n.report))
-        ≡ (if c then Whole (ns ++ with_told before after n ∷ []) else AsOne (taken_in (as_one (Whole ns)) (with_told before after n).report))
-    by true ns = ap Whole (on_last-one _ ns n ∙ ap (λ r. ns ++ record { report = r; texts = n.texts } ∷ []) told)
-    by false ns = more (as_one (Whole ns))
-
-    from : (w : Waiting) → with_cursors before after (with_note room k n w) ≡ with_note room k (with_told before after n) w
-    from (Whole ns) = by (has_room_in room k (length n.texts) (Whole ns)) ns
-    from (AsOne all) = more all
-
 pub placed : (q : Queue) (event : Event) (before after : ℕ) (old text new : List ℕ) → Leads true q old text → IsLineText old → IsLineText text → length new < 2 ^ 64
     → IsChange event → IsCharBoundary text before → apply event text ≡ Some new → IsCharBoundary new after → Leads true (queue_step (queue_step q event) (Cursors before after)) old new
 placed q event before after old text new l u v fits is b h a =
     heard_as (λ now. Leads true (queue_step now (Cursors before after)) old new) q event text new v is h λ which i gone come change t.
     let n = noted q.text_room which i gone come in
-    let tells : Tells q.text_room (with_told before after n) text new = record { splices = t.splices; texts_are = t.texts_are; mark = t.mark; apart = t.apart } in
-    subst (λ w. Leads true (record q { waiting = w }) old new) (sym (told-note q.room q.text_room before after n q.waiting change refl))
-    (Leads-note true q (with_told before after n) old text new l tells (b, a) u v (record { utf8 = apply-IsUtf8 event text new v.utf8 h; fits = fits }))
+    let told : Noted = record { report = record n.report { cursors = Some (before, after) }; texts = n.texts } in
+    Leads-note true (with_cursors before after) q n told old text new
+    (λ ns. ap Whole (on_last-one _ ns n ∙ ap (λ c. ns ++ record { report = if c then told.report else n.report; texts = n.texts } ∷ []) change))
+    (λ all. ap (λ c. AsOne (record { splice = (taken_in all n.report).splice; cursors = joined_cursors c (Some (before, after)) })) (joined-none all.cursors))
+    l (record { splices = t.splices; texts_are = t.texts_are; mark = t.mark; apart = t.apart }) (b, a) u v (record { utf8 = apply-IsUtf8 event text new v.utf8 h; fits = fits })
 
 -- cursors that are told alone leave where a queue leads
 apart-told : (before after : ℕ) (w : Waiting) → apart (with_cursors before after w) ≡ apart w
@@ -182,7 +168,8 @@ heard q event old text new l u v fits h = from event h
     after = record { utf8 = apply-IsUtf8 event text new v.utf8 h; fits = fits }
 
     change : (e : Event) → IsChange e → apply e text ≡ Some new → Leads false (queue_step q e) old new
-    change e is h = heard_as (λ now. Leads false now old new) q e text new v is h λ which i gone come c t. Leads-note false q (noted q.text_room which i gone come) old text new l t tt u v after
+    change e is h = heard_as (λ now. Leads false now old new) q e text new v is h λ which i gone come c t.
+        let n = noted q.text_room which i gone come in Leads-note false (λ w. w) q n n old text new (λ _. refl) (λ _. refl) l t tt u v after
 
     from : (e : Event) → apply e text ≡ Some new → Leads false (queue_step q e) old new
     from (InsertChar i c) h = change (InsertChar i c) tt h
