@@ -5,7 +5,7 @@ use Rattle.unicode_segmentation.proofs.SegmentsLemmas.{AllPieces, IsPieceOf, All
 use Rattle.unicode_segmentation.proofs.TextLemmas.{chars-encode_utf8, IsUtf8-before, take_split}
 use Rattle.rl_base.specs.declared.motion.CharSearch.TheVariants.{Forward, Backward}
 use Rattle.rl_base.proofs.Clusters.ClusterLemmas.{bytes_in-clusters}
-use Rattle.rl_base.proofs.Texts.TextLemmas.{IsCharBoundary-in_front, slice_range-middle, stands_at-part}
+use Rattle.rl_base.proofs.Texts.TextLemmas.{IsCharBoundary-in_front, StandsAt-middle, stands_at-part}
 use Rattle.rl_base.proofs.Clusters.WordLemmas.{All-reverse, last_or-is, last_or-push}
 
 -- ---- one character is taken
@@ -98,14 +98,9 @@ char_places_stand text front (c ∷ cs) rest least most e u low high =
     let v = IsUtf8-past_char _ more c u split in
     let width : length (front ++ one) ≡ length front + len_utf8 c = omega (arith, length-append front one, length-encode c) in
     let whole : length (encode_utf8_all (c ∷ cs)) ≡ len_utf8 c + length (encode_utf8_all cs) = omega (arith, length-append one (encode_utf8_all cs), length-encode c) in
+    let at = StandsAt-middle text front one more (length front) here refl (IsUtf8-before _ one more u v split) v in
     All-cons (λ x. IsHit text least most x.1 x.0) (length front, c) _
-    (record {
-      start = IsCharBoundary-at_seam text front _ e u;
-      end = subst (IsCharBoundary text) width (IsCharBoundary-at_seam text (front ++ one) more next v);
-      bytes = slice_range-middle text front one more (length front) here refl;
-      from = low;
-      to = omega arith;
-    })
+    (record { start = at.start; end = subst (λ n. IsCharBoundary text (length front + n)) (length-encode c) at.end; bytes = at.bytes; from = low; to = omega arith })
     (subst (λ n. All (λ x. IsHit text least most x.1 x.0) (char_places n cs)) width
     (char_places_stand text (front ++ one) cs rest least most next v (omega arith) (omega arith)))
 

@@ -1,11 +1,11 @@
 -- What reports lead to.
-use Rattle.rl_base.proofs.Common.{◌≡◌, ℕ, ◌+◌, ◌-◌, ◌^◌, ◌<◌, ◌≤◌, ◌⊎◌, inl, inr, Bool, true, false, min, List, [], ◌∷◌, ◌++◌, length, take, drop, fold, encode_utf8, slice_range, Option, Some, None, if◌then◌else◌, refl, sym, ap, subst, ◌∙◌, arith, length-append, take_at, drop_at, OnTrue_at, OnTrue_from, and_parts, nat_tests, length-take-le, length-drop, IsCharBoundary-start, OnFalse, OnTrue, replace_range, nat_lt, IsCharBoundary, IsUtf8, Joined, Report, ReportKind, Splice, Event, InsertChar, InsertStr, Delete, Replace, Stop, Cursors, AsOne, HasTexts, IsChange, IsLineText, LacksTexts, Leads, LeadsBy, Noted, Queue, ReadsTexts, ReadsWhole, Stand, Tells, WaitLeads, Waiting, Whole, after_texts, apart, as_one, forgotten, has_room_in, is_change, joined_cursors, kept, new_queue, noted, noting, nothing_joined, oldest, on_last, queue_step, reports_of, splice_of, taken_in, told_cursors, told_whole, with_cursors, with_note, Covers, Splices, folded, untouched, told_note, cond_both}
+use Rattle.rl_base.proofs.Common.{◌≡◌, ℕ, ◌+◌, ◌-◌, ◌^◌, ◌<◌, ◌≤◌, ◌⊎◌, inl, inr, Bool, true, false, min, List, [], ◌∷◌, ◌++◌, length, take, drop, fold, encode_utf8, slice_range, Option, Some, None, if◌then◌else◌, refl, sym, ap, subst, ◌∙◌, arith, length-append, take_at, drop_at, OnTrue_at, OnTrue_from, and_parts, nat_tests, length-take-le, length-drop, IsCharBoundary-start, OnFalse, OnTrue, replace_range, nat_lt, IsCharBoundary, IsUtf8, Joined, Report, ReportKind, Splice, Event, InsertChar, InsertStr, Delete, Replace, Stop, Cursors, AsOne, HasTexts, IsChange, IsLineText, LacksTexts, Leads, LeadsBy, Noted, Queue, ReadsTexts, ReadsWhole, Stand, Tells, WaitLeads, Waiting, Whole, after_texts, apart, as_one, forgotten, has_room_in, is_change, joined_cursors, kept, new_queue, noted, noting, nothing_joined, oldest, on_last, queue_step, reports_of, splice_of, taken_in, told_cursors, told_whole, with_cursors, with_note, Covers, Splices, folded, untouched, told_note, cond_both, ap₂}
 use Rattle.rl_base.specs.declared.listeners.Direction.TheVariants.{Forward, Backward}
 use Rattle.rl_base.specs.declared.reports.ReportKind.TheVariants as kind
 use Rattle.rl_base.specs.Event.{Start, apply}
 use Rattle.rl_base.proofs.Queue.QueueLemmas.{has_room-means, kept-all, length-on_last}
-use Rattle.rl_base.proofs.Texts.SpliceLemmas.{Covers-more, Splices-Swaps, Splices-as, Splices-new, came, went}
-use Rattle.rl_base.proofs.Texts.SwapLemmas.{Swaps, Swaps-InsertChar, Swaps-InsertStr, Swaps-Delete, Swaps-Replace, apply-IsUtf8}
+use Rattle.rl_base.proofs.Texts.SpliceLemmas.{Covers-more, Splices-Swaps, Splices-as, Splices-new}
+use Rattle.rl_base.proofs.Texts.SwapLemmas.{Swaps, Swaps-back, Swaps-stands, Swaps-InsertChar, Swaps-InsertStr, Swaps-Delete, Swaps-Replace, apply-IsUtf8}
 
 -- a note that is put at the end leads one text further
 pub LeadsBy-push : (placed : Bool) (k : ℕ) (n : Noted) (ns : List Noted) (old text new : List ℕ) → LeadsBy placed k ns old text → Tells k n text new → IsLineText new
@@ -87,7 +87,7 @@ pub Tells-Swaps : (k : ℕ) (which : ReportKind) (i : ℕ) (gone come text new :
     → Tells k (noted k which i gone come) text new
 Tells-Swaps k which i gone come text new b f s = record {
   splices = Splices-Swaps text new i gone come s;
-  texts_are = ap (λ x. kept k (x ++ come)) (sym (went text new i gone come s)) ∙ ap (λ y. kept k (slice_range text i (i + length gone) ++ y)) (sym (came text new i gone come s));
+  texts_are = ap₂ (λ x y. kept k (x ++ y)) (sym (Swaps-stands text new i gone come s).bytes) (sym (Swaps-stands new text i come gone (Swaps-back text new i gone come s)).bytes);
   mark = rw b tt;
   apart = f;
 }

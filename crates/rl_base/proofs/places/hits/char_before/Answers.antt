@@ -1,5 +1,5 @@
-use Rattle.rl_base.proofs.Common.{◌∙◌, sym, subst, arith, rules, IsUtf8-encode, encode_utf8, IsUtf8}
-use Rattle.rl_base.proofs.Clusters.SearchLemmas.{last_place-is}
+use Rattle.rl_base.proofs.Common.{◌+◌, ◌∙◌, sym, subst, arith, rules, IsUtf8-encode, encode_utf8, IsUtf8}
+use Rattle.rl_base.proofs.Clusters.SearchLemmas.{IsLastPlace, last_place-is}
 use Rattle.rl_base.proofs.places.hits.char_before.Goals as goal
 
 pub returns-in-Some : goal.returns-in-Some
