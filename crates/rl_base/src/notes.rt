@@ -288,6 +288,7 @@ impl Notes {
 
 // Tells the last report where the cursor was before it and after it, if that is a change.
 #[inline(always)]
+#[tactic(auto, using(crate::proofs::Queue::QueueLemmas::telling))]
 fn tell_last(waiting: &mut VecDeque<Report>, before: usize, after: usize)
     ensures items { waiting.new.items ≡ on_last (told_cursors before after) waiting.old.items }
     ensures len { deque_len waiting.new ≡ deque_len waiting.old }

@@ -37,12 +37,24 @@ length-on_last f (x ∷ []) = refl
 length-on_last f (x ∷ (y ∷ ys)) = ap suc (length-on_last f (y ∷ ys))
 
 -- the last element, written in its place
-pub on_last-set : {A : Type 0} (f : A → A) (xs : List A) (n : ℕ) (x : A) → suc n ≡ length xs → x ≡ get_or xs n x → slice_set xs n (f x) ≡ on_last f xs
+on_last-set : {A : Type 0} (f : A → A) (xs : List A) (n : ℕ) (x : A) → suc n ≡ length xs → x ≡ get_or xs n x → slice_set xs n (f x) ≡ on_last f xs
 on_last-set f [] n x e h = absurd (omega arith)
 on_last-set f (a ∷ []) zero x e h = ap (λ y. f y ∷ []) h
 on_last-set f (a ∷ []) (suc n) x e h = absurd (omega arith)
 on_last-set f (a ∷ (b ∷ bs)) zero x e h = absurd (omega arith)
 on_last-set f (a ∷ (b ∷ bs)) (suc n) x e h = ap (λ l. a ∷ l) (on_last-set f (b ∷ bs) n x (omega arith) h)
+
+pub told-set : (before after : ℕ) (rs : List Report) (n : ℕ) (r : Report) → is_change r.kind ≡ true → suc n ≡ length rs → r ≡ get_or rs n r
+    → slice_set rs n (record r { cursors = Some (before, after) }) ≡ on_last (told_cursors before after) rs
+told-set before after rs n r b e h =
+    ap (λ c. slice_set rs n (if c then record r { cursors = Some (before, after) } else r)) (sym b) ∙ on_last-set (told_cursors before after) rs n r e h
+
+pub untold-set : (before after : ℕ) (rs : List Report) (n : ℕ) (r : Report) → is_change r.kind ≡ false → suc n ≡ length rs → r ≡ get_or rs n r
+    → slice_set rs n r ≡ on_last (told_cursors before after) rs
+untold-set before after rs n r b e h =
+    ap (λ c. slice_set rs n (if c then record r { cursors = Some (before, after) } else r)) (sym b) ∙ on_last-set (told_cursors before after) rs n r e h
+
+pub ruleset telling = (told-set, untold-set)
 
 -- what is made of texts is one
 Cuts-IsUtf8 : (k : ℕ) (rs : List Report) (bytes : List ℕ) → Cuts k rs bytes → IsUtf8 bytes
@@ -103,17 +115,19 @@ kept-all k texts some =
 
 -- one more report, whose texts stand at the end
 pub record Longer (k : ℕ) (rs now : List Report) (n : Noted) (spent : ℕ) (text new : List ℕ) : Type 0 where
+  pub spent_within : spent + spent ≤ length new
   pub cuts : Cuts k now (drop spent new)
   pub waits : notes k now (drop spent new) ≡ notes k rs (drop spent text) ++ n ∷ []
 
-pub longer : (k : ℕ) (rs now : List Report) (n : Noted) (spent : ℕ) (text new : List ℕ) → spent ≤ length text → Cuts k rs (drop spent text) → IsUtf8 n.texts → length n.texts ≡ bytes_kept k n.report
+pub longer : (k : ℕ) (rs now : List Report) (n : Noted) (spent : ℕ) (text new : List ℕ) → spent + spent ≤ length text → Cuts k rs (drop spent text) → IsUtf8 n.texts → length n.texts ≡ bytes_kept k n.report
     → now ≡ rs ++ n.report ∷ [] → new ≡ text ++ n.texts → Longer k rs now n spent text new
 longer k rs now n spent text new le c u len same more =
     let m = bytes_kept k n.report in
     let own : take m n.texts ≡ n.texts = take_all m n.texts (omega (arith, len)) in
     let none : drop m n.texts ≡ [] = drop_all m n.texts (omega (arith, len)) in
-    let all = joins k rs (n.report ∷ []) spent text n.texts le c (omega (arith, len), subst IsUtf8 (sym own) u, none) in
+    let all = joins k rs (n.report ∷ []) spent text n.texts (omega (arith, le)) c (omega (arith, len), subst IsUtf8 (sym own) u, none) in
     record {
+      spent_within = omega (arith, le, ap length more, length-append text n.texts);
       cuts = rw (same, more) all.cuts;
       waits = rw (same, more) (all.waits ∙ ap (λ t. notes k rs (drop spent text) ++ record { report = n.report; texts = t } ∷ []) own);
     }

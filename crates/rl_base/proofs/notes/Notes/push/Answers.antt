@@ -7,14 +7,11 @@ is_longer : (c : goal.After-push_back_reserved)
 is_longer c =
     let i = c.self.inside in
     let items = c.push_back_reserved.ensures.items ∙ ap (λ r. i.waiting.items ++ r ∷ []) c.report_of-report.ensures in
-    longer i.text_room i.waiting.items _ (noted i.text_room c.args.kind c.args.at c.args.gone.now c.args.come.now) i.spent (string_bytes i.texts) _ (omega (arith, c.self.invariant.0)) c.self.invariant.1
+    longer i.text_room i.waiting.items _ (noted i.text_room c.args.kind c.args.at c.args.gone.now c.args.come.now) i.spent (string_bytes i.texts) _ c.self.invariant.0 c.self.invariant.1
     (IsUtf8-kept i.text_room c.args.gone.now c.args.come.now c.utf8.gone c.utf8.come) (length-kept i.text_room c.args.kind c.args.at c.args.gone.now c.args.come.now) items c.in_ok-keep_texts.ensures.done
 
 pub invariant_of-self-2 : goal.invariant_of-self-2
-invariant_of-self-2 c =
-    let i = c.self.inside in
-    let len = ap length c.in_ok-keep_texts.ensures.done ∙ length-append (string_bytes i.texts) (kept i.text_room (c.args.gone.now ++ c.args.come.now)) in
-    (omega (arith, c.self.invariant.0, len), (is_longer c).cuts)
+invariant_of-self-2 c = ((is_longer c).spent_within, (is_longer c).cuts)
 
 pub returns-clause-done : goal.returns-clause-done
 returns-clause-done c = rw (← c.self.view_is) (is_longer c).waits

@@ -11,15 +11,12 @@ is_longer c =
     let some : 0 < i.text_room = rw (← c.self.view_is) at c.requires.keeps in
     let report = c.report_of-report.ensures ∙ ap (λ n. record { kind = kind.CharInserted; at = c.args.at; old_len = 0; new_len = n; cursors = None }) c.len_utf8.ensures.len in
     let items = c.push_back_reserved.ensures.items ∙ ap (λ r. i.waiting.items ++ r ∷ []) report in
-    longer i.text_room i.waiting.items _ (noted i.text_room kind.CharInserted c.args.at [] bytes) i.spent (string_bytes i.texts) _ (omega (arith, c.self.invariant.0)) c.self.invariant.1
+    longer i.text_room i.waiting.items _ (noted i.text_room kind.CharInserted c.args.at [] bytes) i.spent (string_bytes i.texts) _ c.self.invariant.0 c.self.invariant.1
     (IsUtf8-kept i.text_room [] bytes IsUtf8-nil (IsUtf8-encode c.args.c (search rules))) (length-kept i.text_room kind.CharInserted c.args.at [] bytes) items
     (c.in_ok-push.ensures.bytes ∙ ap (λ l. string_bytes i.texts ++ l) (sym (kept-all i.text_room bytes some)))
 
 pub invariant_of-self-2 : goal.invariant_of-self-2
-invariant_of-self-2 c =
-    let i = c.self.inside in
-    let len = ap length c.in_ok-push.ensures.bytes ∙ length-append (string_bytes i.texts) (encode_utf8 c.args.c) in
-    (omega (arith, c.self.invariant.0, len), (is_longer c).cuts)
+invariant_of-self-2 c = ((is_longer c).spent_within, (is_longer c).cuts)
 
 pub returns-clause-done : goal.returns-clause-done
 returns-clause-done c = rw (← c.self.view_is) (is_longer c).waits

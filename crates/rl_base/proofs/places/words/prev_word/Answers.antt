@@ -23,12 +23,6 @@ returns-then-wanted-eq1 c =
       boundary = rw found before.boundary;
     }
 
-pub returns-then-n-eq0-clause-boundary : goal.returns-then-n-eq0-clause-boundary
-returns-then-n-eq0-clause-boundary c = IsCharBoundary-start c.args.text.now c.utf8.text
-
-pub returns-clause-boundary : goal.returns-clause-boundary
-returns-clause-boundary c = IsCharBoundary-start c.args.text.now c.utf8.text
-
 pub loop-start-preserved-else-wanted-eq1 : goal.loop-start-preserved-else-wanted-eq1
 loop-start-preserved-else-wanted-eq1 c =
     let i = c.loop-start.invariant in
