@@ -259,6 +259,7 @@ impl Notes {
 
     /// Puts the reports of another, which keeps texts as this one does, after those that wait, and leaves memory for so many more. Refused
     /// only if memory is out for it, and all that wait do so then too.
+    #[tactic(auto, using(crate::proofs::Queue::QueueLemmas::cutting, crate::proofs::Queue::QueueLemmas::counted))]
     pub fn append(&mut self, later: Notes, more: usize) -> Result<(), Refusal>
         requires { later.text_room ≡ self.old.text_room }
         ensures done { OnOk result ((self.new.waiting ≡ self.old.waiting ++ later.waiting) × (length self.new.waiting + more ≤ self.new.places)) }

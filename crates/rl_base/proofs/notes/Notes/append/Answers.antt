@@ -2,11 +2,6 @@ use Rattle.rl_base.proofs.Common.{◌≡◌, ℕ, zero, suc, ◌+◌, ◌⊎◌,
 use Rattle.rl_base.proofs.Queue.QueueLemmas.{Cuts-some, Joins, at_spent, joins, length-notes}
 use Rattle.rl_base.proofs.notes.Notes.append.Goals as goal
 
-pub range_from-requires : goal.range_from-requires
-range_from-requires c =
-    let later = c.later.inside in
-    rw c.as_str.ensures.value (λ _. at_spent later.text_room later.spent (string_bytes later.texts) later.waiting.items (omega (arith, c.later.invariant.0)) c.later.invariant.1)
-
 same_kind : (c : goal.After-drop-later-inside-2) → c.later.inside.text_room ≡ c.self.inside.text_room
 same_kind c = rw (← c.self.view_is, ← c.later.view_is) at c.requires
 
@@ -50,12 +45,6 @@ returns-clause-done c =
       rw (← c.self.view_is, ← c.later.view_is, texts c, items c, same_kind c) (joined c).waits,
       omega (arith, length-notes i.text_room c.append.new.self.items bytes, count, c.in-Some.ensures, c.len.ensures, c.in_ok-reserve.ensures.ok, c.reserve.ensures.len, c.append.ensures.capacity, i.waiting.ok.0, later.waiting.ok.0),
     )
-
-pub returns-in_default-clause-err : goal.returns-in_default-clause-err
-returns-in_default-clause-err c =
-    let later = c.later.inside in
-    let some : 0 < length later.waiting.items = omega (arith, c.in_default.ensures, c.ranges.more.fits, c.len.ensures, later.waiting.ok.0) in
-    (refl, refl, inl (rw (← c.later.view_is) (omega (arith, some, length-notes later.text_room later.waiting.items (drop later.spent (string_bytes later.texts))))))
 
 lacks : (room n l more : ℕ) → room < n + (more + l) → (0 < l) ⊎ (room < n + more)
 lacks room n zero more h = inr (omega (arith, h))
