@@ -250,6 +250,7 @@ fn put(slots: &mut Vec<Gathered>, index: usize, text: &str) -> Result<(), Refusa
 }
 
 // Joins a text to the slot at an index.
+#[tactic(auto, using(crate::proofs::Ring::RingLemmas::written))]
 fn join(slots: &mut Vec<Gathered>, index: usize, text: &str, mode: Mode) -> Result<(), Refusal>
     ensures ok { OnOk result (texts slots.new.items ≡ join_at index mode text.now (texts slots.old.items)) }
     ensures err { IfErr result (λ r. (r ≡ NoMemory) × (texts slots.new.items ≡ texts slots.old.items) × (0 < length text.now)) }
@@ -272,6 +273,7 @@ fn join_to(slot: &mut Gathered, text: &str, mode: Mode) -> Result<(), Refusal>
 }
 
 // Packs the text of the slot at an index, and answers its length in bytes.
+#[tactic(auto, using(crate::proofs::Ring::RingLemmas::packing))]
 fn pack_at(slots: &mut Vec<Gathered>, index: usize) -> Option<usize>
     ensures texts { texts slots.new.items ≡ texts slots.old.items }
     ensures packed { IsPackedAt index slots.new.items }

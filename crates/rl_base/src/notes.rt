@@ -320,6 +320,7 @@ fn drop_spent(texts: &mut String, spent: usize) -> usize
 }
 
 // Puts what went and what came at the end, if texts are kept, or neither if memory is out.
+#[tactic(auto, using(crate::proofs::Texts::TextLemmas::seams))]
 fn keep_texts(texts: &mut String, text_room: usize, gone: &str, come: &str) -> Result<(), Refusal>
     ensures done { OnOk result (string_bytes texts.new ≡ string_bytes texts.old ++ kept text_room (gone.now ++ come.now)) }
     ensures err { IfErr result (NotKept text_room (gone.now ++ come.now) texts.old texts.new) }

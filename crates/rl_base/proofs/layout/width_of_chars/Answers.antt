@@ -11,6 +11,3 @@ loop-c-preserved c =
       small = omega (arith, c.saturating_add-total.ensures);
       columns = omega (arith, columns-char _ _ c.in-Some.c c.loop-c.total i.text step.0, c.saturating_add-total.ensures, c.char_columns.ensures.value, i.columns);
     }
-
-pub returns : goal.returns
-returns c = omega (arith, columns-none _ c.in-None.ensures.steps.0.0, c.loop-c.invariant.columns, c.loop-c.invariant.small)

@@ -15,8 +15,3 @@ loop-part-preserved c =
         i.1,
       ),
     )
-
-pub returns : goal.returns
-returns c =
-    let i = c.loop-part.invariant in
-    omega (arith, columns-part c.loop-part.rest.now c.loop-part.total i.0 c.in_default.ensures.cases, c.whole_width-2.ensures, c.saturating_add.ensures, i.1)

@@ -27,6 +27,3 @@ loop-place-preserved c =
       found = sym (search-miss c.args.wanted (c.args.start + c.in-Some.place) c.in-Some.c c.loop-place.hit _ _ _
           (char_places-first_at _ _ _ _ _ c.in-Some.c i.text step.1 (omega (arith, step.2)) (omega (arith, step.0))) c.if-c-wanted.false) ∙ i.found;
     }
-
-pub returns-in-None : goal.returns-in-None
-returns-in-None c = sym (nothing_left c.args.wanted c.loop-place.hit c.loop-place.left _ _ c.in-None.ensures.steps.0) ∙ c.loop-place.invariant.found
