@@ -175,6 +175,7 @@ impl Notes {
     }
 
     /// Forgets all but the first `count`.
+    #[tactic(auto, using(crate::proofs::Queue::QueueLemmas::shortened))]
     pub fn truncate(&mut self, count: usize)
         ensures waiting { self.new.waiting ≡ take count self.old.waiting }
         ensures room { KeepsRoom self.old self.new }
@@ -280,6 +281,7 @@ impl Notes {
 
     /// Tells the last report where the cursor was before it and after it, if that is a change.
     #[inline(always)]
+    #[tactic(auto, using(crate::proofs::Queue::QueueLemmas::notes_told))]
     pub fn tell_last(&mut self, before: usize, after: usize)
         ensures { self.new ≡ record self.old { waiting = on_last (told_note before after) self.old.waiting } }
     {

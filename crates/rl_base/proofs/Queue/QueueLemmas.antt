@@ -1,5 +1,5 @@
 -- Reports whose texts stand in one text, one after another, after those of reports that are forgotten.
-use Rattle.rl_base.proofs.Common.{◌≡◌, ℕ, zero, suc, ◌+◌, ◌-◌, ◌<◌, ◌≤◌, Bool, true, false, List, [], ◌∷◌, ◌++◌, length, take, drop, get_or, slice_set, ◌==◌, Option, Some, None, if◌then◌else◌, refl, sym, ap, subst, ◌∙◌, arith, append_assoc, length-append, drop-append_seam, take-append_seam, length-take-le, length-drop, take-append-drop, take-append-le, drop-append-le, take_all, drop_all, IsCharBoundary-at_seam, IsCharBoundary-from_drop, IsCharBoundary-from_take, IsUtf8-nil, IsUtf8-append, and_parts, cond_both, leb-true, ltb-true, nat_tests, Err, Ok, OnOk, Result, is_err, nat_le, nat_lt, IsCharBoundary, IsUtf8, Joined, Report, ReportKind, Cuts, KeepsRoom, Notes, bytes_kept, notes, IsQueue, Noted, has_room_in, waiting_of, is_change, kept, noted, on_last, reports_of, text_bytes, told_cursors, told_note, IsCharBoundary-from_rest, fold-append, length-map, take_at, drop_at, ap₂}
+use Rattle.rl_base.proofs.Common.{◌≡◌, ℕ, zero, suc, ◌+◌, ◌-◌, ◌<◌, ◌≤◌, Bool, true, false, List, [], ◌∷◌, ◌++◌, length, take, drop, get_or, slice_set, ◌==◌, Option, Some, None, if◌then◌else◌, refl, sym, ap, subst, ◌∙◌, arith, append_assoc, length-append, drop-append_seam, take-append_seam, length-take-le, length-drop, take-append-drop, take-append-le, drop-append-le, take_all, drop_all, IsCharBoundary-at_seam, IsCharBoundary-from_drop, IsCharBoundary-from_take, IsUtf8-nil, IsUtf8-append, and_parts, cond_both, leb-true, ltb-true, nat_tests, Err, Ok, OnOk, Result, is_err, nat_le, nat_lt, IsCharBoundary, IsUtf8, Joined, Report, ReportKind, Cuts, KeepsRoom, Notes, bytes_kept, notes, IsQueue, Noted, has_room_in, waiting_of, is_change, kept, noted, on_last, reports_of, text_bytes, told_cursors, told_note, IsCharBoundary-from_rest, fold-append, length-map, take_at, drop_at, ap₂, take-take}
 
 pub reports_of-notes : (k : ℕ) (rs : List Report) (bytes : List ℕ) → reports_of (notes k rs bytes) ≡ rs
 reports_of-notes k [] bytes = refl
@@ -253,10 +253,18 @@ from_ok (Ok a) P h none = h
 from_ok (Err e) P h none = cc
 
 -- how many reports there are, and how many bytes of texts
-pub ruleset counted = (length-notes, text_bytes-notes, length-drop)
+pub ruleset counted = (length-notes, text_bytes-notes, length-drop, kept-all, Cuts-some)
 
 -- where the texts of the oldest report begin and end
 pub ruleset cutting = (at_spent, ends)
 
 -- reports as one, in two parts
 pub ruleset joining = (reports_of-notes, fold-append)
+
+pub KeepsRoom-more : (old now new : Notes) → KeepsRoom old now → KeepsRoom now new → KeepsRoom old new
+KeepsRoom-more old now new h k = record { text_room = k.text_room ∙ h.text_room; places = omega (arith, h.places, k.places); bytes = omega (arith, h.bytes, k.bytes) }
+
+-- what fewer reports are
+pub ruleset shortened = (take_all, length-take-le, take-take, KeepsRoom-more)
+
+pub ruleset notes_told = (notes-told, Cuts-told)

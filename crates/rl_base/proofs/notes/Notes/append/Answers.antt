@@ -45,34 +45,3 @@ returns-clause-done c =
       rw (← c.self.view_is, ← c.later.view_is, texts c, items c, same_kind c) (joined c).waits,
       omega (arith, length-notes i.text_room c.append.new.self.items bytes, count, c.in-Some.ensures, c.len.ensures, c.in_ok-reserve.ensures.ok, c.reserve.ensures.len, c.append.ensures.capacity, i.waiting.ok.0, later.waiting.ok.0),
     )
-
-lacks : (room n l more : ℕ) → room < n + (more + l) → (0 < l) ⊎ (room < n + more)
-lacks room n zero more h = inr (omega (arith, h))
-lacks room n (suc l) more h = inl (omega arith)
-
-pub returns-in_err-reserve-clause-err : goal.returns-in_err-reserve-clause-err
-returns-in_err-reserve-clause-err c =
-    let i = c.self.inside in
-    let later = c.later.inside in
-    let bytes = drop i.spent (string_bytes i.texts) in
-    let p = err_from_is_err_and c.from_residual.result c.from_residual.ensures.1 in
-    rw (← c.self.view_is, ← c.later.view_is, p.1, p.2) (
-      refl,
-      ap (λ rs. notes i.text_room rs bytes) c.reserve.ensures.items,
-      lacks _ _ _ _
-          (omega (arith, c.in_err-reserve.ensures.full, c.in-Some.ensures, c.len.ensures, i.waiting.ok.0, later.waiting.ok.0, length-notes i.text_room i.waiting.items bytes, length-notes later.text_room later.waiting.items (drop later.spent (string_bytes later.texts)))),
-    )
-
-pub returns-in_err-push_str-clause-err : goal.returns-in_err-push_str-clause-err
-returns-in_err-push_str-clause-err c =
-    let i = c.self.inside in
-    let later = c.later.inside in
-    let texts = drop later.spent (string_bytes later.texts) in
-    let p = err_from_is_err_and c.from_residual-in_err-push_str.result c.from_residual-in_err-push_str.ensures.1 in
-    let part = ap length (c.range_from.ensures.value ∙ ap (drop later.spent) c.as_str.ensures.value) in
-    let some = Cuts-some later.text_room later.waiting.items texts c.later.invariant.1 (omega (arith, c.in_err-push_str.ensures.full, i.texts.bytes.ok.1, part)) in
-    rw (← c.self.view_is, ← c.later.view_is, p.1, p.2) (
-      refl,
-      ap₂ (λ rs bytes. notes i.text_room rs (drop i.spent bytes)) c.reserve.ensures.items c.in_err-push_str.ensures.bytes,
-      inl (omega (arith, some, length-notes later.text_room later.waiting.items texts)),
-    )

@@ -15,16 +15,3 @@ invariant_of-self-2 c = ((is_longer c).spent_within, (is_longer c).cuts)
 
 pub returns-clause-done : goal.returns-clause-done
 returns-clause-done c = rw (← c.self.view_is) (is_longer c).waits
-
-pub returns-in_err-keep_texts-clause-err : goal.returns-in_err-keep_texts-clause-err
-returns-in_err-keep_texts-clause-err c =
-    let i = c.self.inside in
-    let text = string_bytes i.texts in
-    let p = err_from_is_err_and c.from_residual.result c.from_residual.ensures.1 in
-    let full = c.in_err-keep_texts.ensures.err in
-    let wait = text_bytes-notes i.text_room i.waiting.items (drop i.spent text) c.self.invariant.1 in
-    rw (← c.self.view_is, p.1) (
-      p.2 ∙ full.0,
-      ap (λ bytes. notes i.text_room i.waiting.items (drop i.spent bytes)) full.1,
-      (omega (arith, full.2, i.texts.bytes.ok), omega (arith, full.2, wait, length-drop i.spent text, c.self.invariant.0)),
-    )

@@ -20,17 +20,3 @@ invariant_of-self-2 c = ((is_longer c).spent_within, (is_longer c).cuts)
 
 pub returns-clause-done : goal.returns-clause-done
 returns-clause-done c = rw (← c.self.view_is) (is_longer c).waits
-
-pub returns-in_err-push-clause-err : goal.returns-in_err-push-clause-err
-returns-in_err-push-clause-err c =
-    let i = c.self.inside in
-    let text = string_bytes i.texts in
-    let some : 0 < i.text_room = rw (← c.self.view_is) at c.requires.keeps in
-    let p = err_from_is_err_and c.from_residual.result c.from_residual.ensures.1 in
-    let full = c.in_err-push.ensures.full in
-    let wait = text_bytes-notes i.text_room i.waiting.items (drop i.spent text) c.self.invariant.1 in
-    rw (← c.self.view_is, p.1, p.2, kept-all i.text_room (encode_utf8 c.args.c) some) (
-      refl,
-      ap (λ bytes. notes i.text_room i.waiting.items (drop i.spent bytes)) c.in_err-push.ensures.bytes,
-      (omega (arith, full, i.texts.bytes.ok), omega (arith, full, wait, length-drop i.spent text, c.self.invariant.0)),
-    )

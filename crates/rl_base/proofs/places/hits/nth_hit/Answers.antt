@@ -2,9 +2,6 @@ use Rattle.rl_base.proofs.Common.{◌<◌, ◌+◌, sym, ◌∙◌, arith, IsUtf
 use Rattle.rl_base.proofs.Clusters.SearchLemmas.{left_within, char_places-first_at, search-hit, search-miss, nothing_left}
 use Rattle.rl_base.proofs.places.hits.nth_hit.Goals as goal
 
-pub overflow_add-hit : goal.overflow_add-hit
-overflow_add-hit c = omega (arith, c.loop-place.invariant.within, c.in-Some.ensures.steps.0)
-
 pub loop-place-preserved-then-c-wanted : goal.loop-place-preserved-then-c-wanted
 loop-place-preserved-then-c-wanted c =
     let i = c.loop-place.invariant in
