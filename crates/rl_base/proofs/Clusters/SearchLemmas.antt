@@ -1,5 +1,5 @@
 -- Hits of a character, as characters are taken from either end.
-use Rattle.rl_base.proofs.Common.{◌≡◌, ℕ, ◌+◌, ◌-◌, ◌<◌, ◌≤◌, suc, List, [], ◌∷◌, ◌++◌, map, filter, reverse, length, take, drop, slice_range, Option, Some, None, refl, sym, ap, ap₂, subst, ◌∙◌, arith, Bool, true, false, cond, eq-eqb, ne_eqb, eqb, append_assoc, length-append, take_at, eqb-true, take-nil, append-nil, length-drop, length-take-le, take-append-drop, reverse-append, map-append, nil_from_length, filter-append, All-nil, All-cons, All-head, All-tail, All-take, IfSome_then, chars-nil, chars-append, chars_past_char, length-encode, encodes-chars, IsUtf8-append, IsUtf8-drop, IsUtf8-take, IsUtf8-past_char, IsCharBoundary-at_seam, IsCharBoundary-from_rest, IsTrue, len_utf8, All, last_or, IfSome, option_and_then, encode_utf8, encode_utf8_all, unwrap_or, chars, IsUtf8, IsCharBoundary, is_grapheme_break, clusters, bytes_in, next_pos, PlacedCluster, char_places, places_of, hits, nth_or_last, hit_back, hit_ahead, chosen_hit, sought, HitLies, place_of_last, CharSearch, ForwardBefore, BackwardAfter, stands_at, All-map, IsUtf8-nil, get_or, filter_passes, All-filter, IsUtf8-encode}
+use Rattle.rl_base.proofs.Common.{◌≡◌, ℕ, ◌+◌, ◌-◌, ◌<◌, ◌≤◌, suc, List, [], ◌∷◌, ◌++◌, map, filter, reverse, length, take, drop, slice_range, Option, Some, None, refl, sym, ap, ap₂, subst, ◌∙◌, arith, Bool, true, false, cond, eq-eqb, ne_eqb, eqb, append_assoc, length-append, take_at, eqb-true, take-nil, append-nil, length-drop, length-take-le, take-append-drop, reverse-append, map-append, nil_from_length, filter-append, All-nil, All-cons, All-head, All-take, IfSome_then, chars-nil, chars-append, chars_past_char, length-encode, encodes-chars, IsUtf8-append, IsUtf8-drop, IsUtf8-take, IsUtf8-past_char, IsCharBoundary-from_rest, IsTrue, len_utf8, All, last_or, IfSome, option_and_then, encode_utf8, encode_utf8_all, unwrap_or, chars, IsUtf8, IsCharBoundary, is_grapheme_break, clusters, bytes_in, next_pos, PlacedCluster, char_places, places_of, hits, nth_or_last, hit_back, hit_ahead, chosen_hit, sought, HitLies, place_of_last, CharSearch, ForwardBefore, BackwardAfter, stands_at, All-map, IsUtf8-nil, get_or, filter_passes, All-filter}
 use Rattle.unicode_segmentation.specs.Segments.{with_offsets}
 use Rattle.unicode_segmentation.proofs.SegmentsLemmas.{AllPieces, IsPieceOf, All-IsPieceOf, segments_nonempty}
 use Rattle.unicode_segmentation.proofs.TextLemmas.{chars-encode_utf8, IsUtf8-before, take_split}

@@ -1,5 +1,5 @@
 -- Sums of widths that are cut at the largest `u16`.
-use Rattle.rl_base.proofs.Common.{◌≡◌, ℕ, ◌+◌, false, List, [], ◌∷◌, ◌++◌, length, drop, min, None, All, sum_by, refl, sym, ap, subst, ◌∙◌, arith, take-append-drop, nil_from_length, All-nil, All-cons, slice_split_none, slice_split_at, sum_by-cons, chars-nil, chars-append, chars_past_char, chars_from_encodes, slice_split, encode_utf8, chars, IsUtf8, NoCharPasses, NonePass, FindsChar, SplitsAroundMatch, str_width, char_columns, is_joiner, IsUtf8-past_char}
+use Rattle.rl_base.proofs.Common.{◌≡◌, ℕ, ◌+◌, false, List, [], ◌∷◌, ◌++◌, length, drop, min, None, All, sum_by, refl, sym, ap, subst, ◌∙◌, arith, take-append-drop, nil_from_length, All-nil, All-cons, slice_split_none, slice_split_at, sum_by-cons, chars-nil, chars-append, chars_past_char, chars_from_encodes, slice_split, encode_utf8, chars, IsUtf8, NoCharPasses, NonePass, FindsChar, SplitsAroundMatch, str_width, char_columns, is_joiner}
 use Rattle.unicode_segmentation.proofs.TextLemmas.{IsUtf8-after}
 
 pub columns-char : (text rest : List ℕ) (c total : ℕ) → IsUtf8 text → text ≡ encode_utf8 c ++ rest

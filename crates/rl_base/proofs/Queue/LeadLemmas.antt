@@ -1,5 +1,5 @@
 -- What reports lead to.
-use Rattle.rl_base.proofs.Common.{◌≡◌, ℕ, ◌+◌, ◌-◌, ◌^◌, ◌<◌, ◌≤◌, ◌⊎◌, inl, inr, Bool, true, false, min, List, [], ◌∷◌, ◌++◌, length, take, drop, fold, encode_utf8, slice_range, Option, Some, None, if◌then◌else◌, refl, sym, ap, subst, ◌∙◌, arith, length-append, take_at, drop_at, OnTrue_at, OnTrue_from, and_parts, nat_tests, length-take-le, length-drop, IsCharBoundary-start, OnFalse, OnTrue, replace_range, nat_lt, IsCharBoundary, IsUtf8, Joined, Report, ReportKind, Splice, Event, InsertChar, InsertStr, Delete, Replace, Stop, Cursors, AsOne, HasTexts, IsChange, IsLineText, LacksTexts, Leads, LeadsBy, Noted, Queue, ReadsTexts, ReadsWhole, Stand, Tells, WaitLeads, Waiting, Whole, after_texts, apart, as_one, forgotten, has_room_in, is_change, joined_cursors, kept, new_queue, noted, noting, nothing_joined, oldest, on_last, queue_step, reports_of, splice_of, taken_in, told_cursors, told_whole, with_cursors, with_note, Covers, Splices, folded, untouched, told_note, cond_both, ap₂}
+use Rattle.rl_base.proofs.Common.{◌≡◌, ℕ, ◌+◌, ◌-◌, ◌^◌, ◌<◌, ◌≤◌, ◌⊎◌, inl, inr, Bool, true, false, min, List, [], ◌∷◌, ◌++◌, length, take, drop, fold, encode_utf8, slice_range, Option, Some, None, if◌then◌else◌, refl, sym, ap, subst, ◌∙◌, arith, length-append, take_at, drop_at, OnTrue_at, OnTrue_from, length-take-le, length-drop, IsCharBoundary-start, OnFalse, OnTrue, replace_range, IsCharBoundary, IsUtf8, Joined, Report, ReportKind, Splice, Event, InsertChar, InsertStr, Delete, Replace, Stop, Cursors, AsOne, HasTexts, IsChange, IsLineText, LacksTexts, Leads, LeadsBy, Noted, Queue, ReadsTexts, ReadsWhole, Stand, Tells, WaitLeads, Waiting, Whole, after_texts, apart, as_one, forgotten, has_room_in, is_change, joined_cursors, kept, new_queue, noted, noting, nothing_joined, oldest, on_last, queue_step, reports_of, splice_of, taken_in, told_cursors, told_whole, with_cursors, with_note, Covers, Splices, folded, untouched, told_note, cond_both, ap₂}
 use Rattle.rl_base.specs.declared.listeners.Direction.TheVariants.{Forward, Backward}
 use Rattle.rl_base.specs.declared.reports.ReportKind.TheVariants as kind
 use Rattle.rl_base.specs.Event.{Start, apply}

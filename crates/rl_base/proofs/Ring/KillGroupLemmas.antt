@@ -1,5 +1,5 @@
 -- The ring's slots are the latest groups of kills.
-use Rattle.rl_base.proofs.Common.{◌≡◌, ℕ, ◌+◌, ◌<◌, ◌≤◌, zero, suc, Bool, true, false, List, [], ◌∷◌, ◌++◌, length, take, Option, Some, None, inl, inr, refl, sym, ap, subst, ◌∙◌, arith, false_from_ne_true, slice_get_cases, max, slice_get, Direction, Event, InsertChar, InsertStr, Delete, Replace, Stop, Cursors, Action, Kill, Yank, Other, Mode, Ring, in_new_slot, new_ring, side_mode, next_index, put_at, killed_as, killed, yank, lent, after_deletion, back_from, newest_first, ring_step, IsRing, Doing, Kills, Resets, Yanks, Hears, ring_do, ring_done, Groups, no_groups, grown, with_kill, with_deletion, group_step, group_do, group_done, groups_of, AllKills, all_joined, take-nil, slice_get_past}
+use Rattle.rl_base.proofs.Common.{◌≡◌, ℕ, ◌+◌, ◌<◌, zero, suc, Bool, true, false, List, [], ◌∷◌, ◌++◌, length, take, Option, Some, None, inl, inr, refl, sym, ap, subst, ◌∙◌, arith, false_from_ne_true, slice_get_cases, max, slice_get, Event, InsertChar, InsertStr, Delete, Replace, Stop, Cursors, Action, Kill, Yank, Other, Mode, Ring, in_new_slot, new_ring, side_mode, next_index, killed_as, killed, yank, lent, after_deletion, newest_first, ring_step, IsRing, Doing, Kills, Resets, Yanks, Hears, ring_done, Groups, no_groups, grown, with_kill, with_deletion, group_step, group_do, group_done, groups_of, AllKills, all_joined, take-nil, slice_get_past}
 use Rattle.rl_base.specs.Event.{Start}
 use Rattle.rl_base.specs.KillRing.{joined}
 use Rattle.rl_base.proofs.Ring.RingLemmas.{IsRing-in_new_slot, length-join}

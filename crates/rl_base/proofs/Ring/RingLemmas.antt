@@ -1,5 +1,5 @@
 -- What a kill makes of a ring.
-use Rattle.rl_base.proofs.Common.{◌≡◌, ℕ, ◌+◌, ◌<◌, ◌≤◌, zero, suc, Bool, true, false, cond, List, [], ◌∷◌, ◌++◌, length, set, get_or, Result, Ok, Err, OnOk, IfErr, Some, option_map, refl, ap, ◌∙◌, ◌⊎◌, inl, inr, arith, length-append, eqb-true, eqb-false, length-set, max, ◌==◌, slice_get, slice_set, Action, Kill, Yank, Other, Mode, Refusal, NoMemory, Gathering, IsPackedAt, texts, Ring, raised, next_index, put_at, join_at, in_new_slot, killed_as, killed, IsRing, map-set, sym, set-get_or, slice_get-get_or, get_or-map, get_or-set_same, length-map, set_past, cond-false, ne_eqb}
+use Rattle.rl_base.proofs.Common.{◌≡◌, ℕ, ◌+◌, ◌<◌, ◌≤◌, zero, suc, Bool, true, false, cond, List, [], ◌∷◌, ◌++◌, length, set, get_or, Result, Ok, Err, OnOk, IfErr, Some, option_map, refl, ap, ◌∙◌, ◌⊎◌, inl, inr, arith, length-append, eqb-true, eqb-false, length-set, max, ◌==◌, slice_get, slice_set, Mode, Refusal, NoMemory, Gathering, IsPackedAt, texts, Ring, raised, next_index, put_at, join_at, in_new_slot, IsRing, map-set, sym, set-get_or, slice_get-get_or, get_or-map, get_or-set_same, length-map, set_past, cond-false, ne_eqb}
 use Rattle.rl_base.specs.KillRing.{joined}
 
 -- joining writes the joined text over the slot; where there is none, it leaves all as they are

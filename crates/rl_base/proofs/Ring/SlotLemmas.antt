@@ -1,5 +1,5 @@
 -- The slots from the current one back, round the ring.
-use Rattle.rl_base.proofs.Common.{◌≡◌, ℕ, ◌+◌, ◌-◌, ◌<◌, ◌≤◌, zero, suc, true, List, [], ◌∷◌, ◌++◌, length, take, drop, get_or, reverse, Option, None, Some, refl, ap, sym, ◌∙◌, ◌⊎◌, inl, inr, arith, cases_lt, append-nil, append_assoc, reverse-append, length-reverse, length-append, length-take, length-drop, length-set, take_at, take-take, take-set, take_all, drop_all, drop-set-lt, take_more, drop_more, get_or-set_same, get_or_append_left, slice_get-get_or, slice_get_past, cond-true, cond-false, eq-eqb, ne_eqb, max, ◌==◌, slice_get, slice_set, Mode, Ring, IsRing, raised, next_index, put_at, back_from, join_at, grown, lent, yank, yanked, yank_size, yank_popped, popped_ring, turned, index_before, text_back, map-set}
+use Rattle.rl_base.proofs.Common.{◌≡◌, ℕ, ◌+◌, ◌-◌, ◌<◌, ◌≤◌, zero, suc, true, List, [], ◌∷◌, ◌++◌, length, take, drop, get_or, reverse, Option, None, Some, refl, ap, sym, ◌∙◌, ◌⊎◌, inl, inr, arith, cases_lt, append-nil, append_assoc, reverse-append, length-reverse, length-append, length-take, length-drop, length-set, take_at, take-take, take-set, take_all, drop_all, drop-set-lt, take_more, drop_more, get_or-set_same, get_or_append_left, slice_get-get_or, slice_get_past, cond-true, eq-eqb, max, ◌==◌, slice_get, slice_set, Mode, Ring, IsRing, raised, next_index, put_at, back_from, join_at, grown, lent, yank, yank_size, yank_popped, popped_ring, turned, index_before, text_back}
 use Rattle.rl_base.specs.KillRing.{joined}
 use Rattle.rl_base.proofs.Ring.RingLemmas.{Next, join-is, next_index-is, put-over}
 

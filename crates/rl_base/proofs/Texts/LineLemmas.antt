@@ -1,5 +1,5 @@
 -- The line that a place lies in, where a line begins and ends, and what stands after a place.
-use Rattle.rl_base.proofs.Common.{take-add, Some, None, slice_get, slice_range, ◌≡◌, ℕ, zero, suc, ◌+◌, ◌-◌, ◌<◌, ◌≤◌, Bool, true, false, cond, List, [], ◌∷◌, ◌++◌, length, get_or, take, drop, All, count_by, refl, sym, ap, ap₂, subst, ◌∙◌, arith, eqb, append-nil, length-append, drop-drop, take_at, get_or_at, length-take-le, take-append-drop, drop_at, take_all, slice_split-cons_yes, slice_split-cons_no, slice_split_none, length-slice_split, sum_by-cons, sum_by-append, All-nil, All-cons, recursion_from_All, same_Some, get_or_from_slice_get, slice_get_within, AllByRecursion, concat, onto_first, IsCharBoundary, IsUtf8, bytes_in, placed_clusters, is_newline, lines, bytes_of, start_of_line, text_of_line, end_of_line, last_line, line_number, length_push, nil_from_length, drop_more, append_assoc, take_more}
+use Rattle.rl_base.proofs.Common.{take-add, Some, None, slice_get, slice_range, ◌≡◌, ℕ, zero, suc, ◌+◌, ◌-◌, ◌<◌, ◌≤◌, Bool, true, false, cond, List, [], ◌∷◌, ◌++◌, length, get_or, take, drop, count_by, refl, sym, ap, ap₂, subst, ◌∙◌, arith, eqb, length-append, drop-drop, take_at, get_or_at, length-take-le, take-append-drop, drop_at, take_all, slice_split-cons_yes, slice_split-cons_no, length-slice_split, sum_by-cons, sum_by-append, same_Some, get_or_from_slice_get, slice_get_within, concat, onto_first, IsCharBoundary, IsUtf8, bytes_in, placed_clusters, is_newline, lines, bytes_of, start_of_line, text_of_line, end_of_line, last_line, line_number, length_push, nil_from_length, drop_more, append_assoc, take_more}
 use Rattle.unicode_segmentation.specs.Segments.{with_offsets}
 use Rattle.rl_base.proofs.Clusters.WordLemmas.{All-places}
 

@@ -1,5 +1,5 @@
 -- Splices of texts, one after another.
-use Rattle.rl_base.proofs.Common.{◌≡◌, ℕ, ◌+◌, ◌-◌, ◌^◌, ◌<◌, ◌≤◌, ◌⊎◌, inl, inr, min, max, Bool, true, false, cond, List, [], ◌++◌, length, take, drop, get_or, slice_range, Some, None, MatchOption, refl, sym, ap, subst, ◌∙◌, arith, append_assoc, length-append, take_at, drop_at, cases_lt, ltb-true, ltb-false, length-take, length-take-le, length-drop, take-take, drop-drop, get_or-take, get_or-drop, take-append-drop, drop_split, same_Some, IsUtf8-append, IsCharBoundary-at_seam, encode_utf8, nat_lt, IsCharBoundary, IsUtf8, Splice, Event, InsertChar, InsertStr, Delete, Replace, Stop, Cursors, Covers, Splices, capped, folded, spliced, told, untouched}
+use Rattle.rl_base.proofs.Common.{◌≡◌, ℕ, ◌+◌, ◌-◌, ◌^◌, ◌<◌, ◌≤◌, ◌⊎◌, inl, inr, min, max, Bool, true, false, cond, List, [], ◌++◌, length, take, drop, get_or, slice_range, Some, None, MatchOption, refl, sym, ap, subst, ◌∙◌, arith, append_assoc, cases_lt, ltb-true, ltb-false, length-take, length-take-le, length-drop, take-take, drop-drop, get_or-take, get_or-drop, take-append-drop, drop_split, same_Some, encode_utf8, nat_lt, IsCharBoundary, IsUtf8, Splice, Event, InsertChar, InsertStr, Delete, Replace, Stop, Cursors, Covers, Splices, capped, folded, spliced, told, untouched}
 use Rattle.rl_base.specs.Event.{Start, apply}
 use Rattle.rl_base.proofs.Texts.TextLemmas.{drop-middle, take-middle}
 use Rattle.rl_base.proofs.Texts.SwapLemmas.{Swaps, Swaps-Delete, Swaps-InsertChar, Swaps-InsertStr, Swaps-Replace, Swaps-back, Swaps-stands}

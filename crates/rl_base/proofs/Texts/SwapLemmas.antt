@@ -1,5 +1,5 @@
 -- Each change of a text replaces one part by another, so it can be taken back.
-use Rattle.rl_base.proofs.Common.{◌≡◌, ℕ, ◌+◌, ◌-◌, true, List, [], ◌++◌, length, take, drop, slice_range, Option, Some, None, refl, sym, ap, subst, ◌∙◌, arith, append_assoc, length-append, take_at, drop_at, length-take-le, take-append-drop, nil_from_length, drop_split, same_Some, IsUtf8-nil, IsUtf8-append, IsUtf8-take, IsUtf8-drop, IsCharBoundary-at_seam, is_utf8-from_IsUtf8, IsSome, encode_utf8, insert_slice, replace_range, IsCharBoundary, IsUtf8, Direction, Event, InsertChar, InsertStr, Delete, Replace, Stop, Cursors, stands_at, ap₂}
+use Rattle.rl_base.proofs.Common.{◌≡◌, ℕ, ◌+◌, List, [], ◌++◌, length, take, drop, slice_range, Option, Some, None, refl, sym, ap, subst, ◌∙◌, arith, append_assoc, length-append, take_at, drop_at, length-take-le, take-append-drop, nil_from_length, drop_split, same_Some, IsUtf8-nil, IsUtf8-append, IsUtf8-take, IsUtf8-drop, is_utf8-from_IsUtf8, IsSome, encode_utf8, insert_slice, replace_range, IsUtf8, Direction, Event, InsertChar, InsertStr, Delete, Replace, Stop, Cursors, ap₂}
 use Rattle.rl_base.specs.Event.{Start, apply}
 use Rattle.rl_base.proofs.Texts.EventLemmas.{Deletes-from_IsSome, Inserts-from_IsSome, Replaces-from_IsSome}
 use Rattle.rl_base.proofs.Texts.TextLemmas.{StandsAt, fits_at-true, removed-is_replaced, stands_at-true, StandsAt-middle, drop-middle, take-middle}

@@ -1,5 +1,5 @@
 use Rattle.rl_base.proofs.Common.{arith, IsUtf8-past_char}
-use Rattle.rl_base.proofs.Clusters.WidthLemmas.{columns-char, columns-none}
+use Rattle.rl_base.proofs.Clusters.WidthLemmas.{columns-char}
 use Rattle.rl_base.proofs.layout.width_of_chars.Goals as goal
 
 pub loop-c-preserved : goal.loop-c-preserved

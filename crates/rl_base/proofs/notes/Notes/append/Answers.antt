@@ -1,5 +1,5 @@
-use Rattle.rl_base.proofs.Common.{◌≡◌, ℕ, zero, suc, ◌+◌, ◌⊎◌, ◌<◌, ◌++◌, ◌∙◌, ap, ap₂, arith, drop, false, true, if◌then◌else◌, inl, inr, length, length-append, refl, subst, sym, err_from_is_err_and, Result, Ok, Err, is_err, is_ok, string_bytes, Cuts, notes}
-use Rattle.rl_base.proofs.Queue.QueueLemmas.{Cuts-some, Joins, at_spent, joins, length-notes}
+use Rattle.rl_base.proofs.Common.{◌≡◌, ◌++◌, ◌∙◌, ap, arith, drop, false, true, if◌then◌else◌, length, length-append, refl, subst, sym, Result, Ok, Err, is_err, is_ok, string_bytes, Cuts}
+use Rattle.rl_base.proofs.Queue.QueueLemmas.{Joins, joins, length-notes}
 use Rattle.rl_base.proofs.notes.Notes.append.Goals as goal
 
 same_kind : (c : goal.After-drop-later-inside-2) → c.later.inside.text_room ≡ c.self.inside.text_room

@@ -1,5 +1,5 @@
-use Rattle.rl_base.proofs.Common.{◌++◌, ◌∷◌, [], ◌∙◌, ap, arith, drop, length, length-append, length-drop, err_from_is_err_and, string_bytes, notes, kept, noted}
-use Rattle.rl_base.proofs.Queue.QueueLemmas.{IsUtf8-kept, Longer, length-kept, longer, text_bytes-notes}
+use Rattle.rl_base.proofs.Common.{◌++◌, ◌∷◌, [], ◌∙◌, ap, string_bytes, noted}
+use Rattle.rl_base.proofs.Queue.QueueLemmas.{IsUtf8-kept, Longer, length-kept, longer}
 use Rattle.rl_base.proofs.notes.Notes.push.Goals as goal
 
 is_longer : (c : goal.After-push_back_reserved)

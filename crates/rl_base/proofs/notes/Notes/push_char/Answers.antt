@@ -1,6 +1,6 @@
-use Rattle.rl_base.proofs.Common.{◌<◌, ◌++◌, ◌∷◌, [], ◌∙◌, None, ap, arith, drop, encode_utf8, length, length-append, refl, rules, sym, length-drop, err_from_is_err_and, IsUtf8-nil, IsUtf8-encode, string_bytes, notes, noted}
+use Rattle.rl_base.proofs.Common.{◌<◌, ◌++◌, ◌∷◌, [], ◌∙◌, None, ap, encode_utf8, rules, sym, IsUtf8-nil, IsUtf8-encode, string_bytes, noted}
 use Rattle.rl_base.specs.declared.reports.ReportKind.TheVariants as kind
-use Rattle.rl_base.proofs.Queue.QueueLemmas.{IsUtf8-kept, Longer, kept-all, length-kept, longer, text_bytes-notes}
+use Rattle.rl_base.proofs.Queue.QueueLemmas.{IsUtf8-kept, Longer, kept-all, length-kept, longer}
 use Rattle.rl_base.proofs.notes.Notes.push_char.Goals as goal
 
 is_longer : (c : goal.After-push_back_reserved)

@@ -1,4 +1,4 @@
-use Rattle.rl_base.proofs.Common.{[], ap, append-nil, arith, refl, sym, IsUtf8-nil, string_bytes, string_capacity, deque_capacity}
+use Rattle.rl_base.proofs.Common.{[], ap, append-nil, refl, sym, IsUtf8-nil, string_bytes, string_capacity, deque_capacity}
 use Rattle.rl_base.proofs.Queue.QueueLemmas.{Longer, longer}
 use Rattle.rl_base.proofs.notes.Notes.push_numbers.Goals as goal
 

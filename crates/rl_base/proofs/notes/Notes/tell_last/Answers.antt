@@ -1,5 +1,5 @@
-use Rattle.rl_base.proofs.Common.{ap, drop, string_bytes, string_capacity, deque_capacity}
-use Rattle.rl_base.proofs.Queue.QueueLemmas.{Cuts-told, notes-told}
+use Rattle.rl_base.proofs.Common.{drop, string_bytes}
+use Rattle.rl_base.proofs.Queue.QueueLemmas.{Cuts-told}
 use Rattle.rl_base.proofs.notes.Notes.tell_last.Goals as goal
 
 pub invariant_of-self : goal.invariant_of-self

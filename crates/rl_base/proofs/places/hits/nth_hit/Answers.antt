@@ -1,5 +1,5 @@
 use Rattle.rl_base.proofs.Common.{◌<◌, ◌+◌, sym, ◌∙◌, arith, IsUtf8-past_char}
-use Rattle.rl_base.proofs.Clusters.SearchLemmas.{left_within, char_places-first_at, search-hit, search-miss, nothing_left}
+use Rattle.rl_base.proofs.Clusters.SearchLemmas.{left_within, char_places-first_at, search-hit, search-miss}
 use Rattle.rl_base.proofs.places.hits.nth_hit.Goals as goal
 
 pub loop-place-preserved-then-c-wanted : goal.loop-place-preserved-then-c-wanted

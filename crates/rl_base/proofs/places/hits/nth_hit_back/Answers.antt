@@ -1,6 +1,6 @@
 use Rattle.rl_base.proofs.Common.{◌<◌, sym, ◌∙◌, arith, rules, IsUtf8-encode, encode_utf8, IsUtf8}
 use Rattle.unicode_segmentation.proofs.TextLemmas.{IsUtf8-before}
-use Rattle.rl_base.proofs.Clusters.SearchLemmas.{char_places-last_at, search_back-hit, search_back-miss, nothing_left_back}
+use Rattle.rl_base.proofs.Clusters.SearchLemmas.{char_places-last_at, search_back-hit, search_back-miss}
 use Rattle.rl_base.proofs.places.hits.nth_hit_back.Goals as goal
 
 pub loop-place-preserved-then-c-wanted : goal.loop-place-preserved-then-c-wanted

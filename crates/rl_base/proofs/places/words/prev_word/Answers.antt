@@ -1,4 +1,4 @@
-use Rattle.rl_base.proofs.Common.{◌<◌, Some, ap, sym, ◌∙◌, arith, IsCharBoundary-start, grapheme_indices_left}
+use Rattle.rl_base.proofs.Common.{◌<◌, Some, ap, sym, ◌∙◌, arith, grapheme_indices_left}
 use Rattle.rl_base.proofs.Clusters.ClusterLemmas.{slice_range-front}
 use Rattle.rl_base.proofs.Clusters.WordLemmas.{IsBefore-start_before, start_before-hit, start_before-more, start_before-miss, clusters_some, prev_word-some, prev_word-none}
 use Rattle.rl_base.proofs.places.words.prev_word.Goals as goal
