@@ -88,17 +88,20 @@ Cuts-append k (r ∷ rs) ss a b c d =
     let n = bytes_kept k r in
     rw (take-append-le n a b c.0, drop-append-le n a b c.0) (omega (arith, c.0, length-append a b), c.1, Cuts-append k rs ss (drop n a) b c.2 d)
 
--- one text with what is spent and what waits, and the texts of more reports after it
-pub record Joins (k : ℕ) (rs ss : List Report) (spent : ℕ) (text more : List ℕ) : Type 0 where
-  pub cuts : Cuts k (rs ++ ss) (drop spent (text ++ more))
-  pub waits : notes k (rs ++ ss) (drop spent (text ++ more)) ≡ notes k rs (drop spent text) ++ notes k ss more
+-- in one text with what is spent and what waits, more notes stand at the end
+pub record Joins (k : ℕ) (rs now : List Report) (ns : List Noted) (spent : ℕ) (text new : List ℕ) : Type 0 where
+  pub spent_within : spent + spent ≤ length new
+  pub cuts : Cuts k now (drop spent new)
+  pub waits : notes k now (drop spent new) ≡ notes k rs (drop spent text) ++ ns
 
-pub joins : (k : ℕ) (rs ss : List Report) (spent : ℕ) (text more : List ℕ) → spent ≤ length text → Cuts k rs (drop spent text) → Cuts k ss more → Joins k rs ss spent text more
-joins k rs ss spent text more le c d =
-    let seam = drop-append-le spent text more le in
+pub joins : (k : ℕ) (rs ss now : List Report) (spent : ℕ) (text more new : List ℕ) → spent + spent ≤ length text → Cuts k rs (drop spent text) → Cuts k ss more
+    → now ≡ rs ++ ss → new ≡ text ++ more → Joins k rs now (notes k ss more) spent text new
+joins k rs ss now spent text more new le c d same longer =
+    let seam : drop spent new ≡ drop spent text ++ more = ap (drop spent) longer ∙ drop-append-le spent text more (omega (arith, le)) in
     record {
-      cuts = subst (Cuts k (rs ++ ss)) (sym seam) (Cuts-append k rs ss (drop spent text) more c d);
-      waits = ap (notes k (rs ++ ss)) seam ∙ notes-append k rs ss (drop spent text) more c;
+      spent_within = omega (arith, le, ap length longer, length-append text more);
+      cuts = rw (same, seam) (Cuts-append k rs ss (drop spent text) more c d);
+      waits = rw (same, seam) (notes-append k rs ss (drop spent text) more c);
     }
 
 -- texts that are kept
@@ -114,23 +117,14 @@ kept-all k texts some =
     rw keeps refl
 
 -- one more report, whose texts stand at the end
-pub record Longer (k : ℕ) (rs now : List Report) (n : Noted) (spent : ℕ) (text new : List ℕ) : Type 0 where
-  pub spent_within : spent + spent ≤ length new
-  pub cuts : Cuts k now (drop spent new)
-  pub waits : notes k now (drop spent new) ≡ notes k rs (drop spent text) ++ n ∷ []
-
 pub longer : (k : ℕ) (rs now : List Report) (n : Noted) (spent : ℕ) (text new : List ℕ) → spent + spent ≤ length text → Cuts k rs (drop spent text) → IsUtf8 n.texts → length n.texts ≡ bytes_kept k n.report
-    → now ≡ rs ++ n.report ∷ [] → new ≡ text ++ n.texts → Longer k rs now n spent text new
+    → now ≡ rs ++ n.report ∷ [] → new ≡ text ++ n.texts → Joins k rs now (n ∷ []) spent text new
 longer k rs now n spent text new le c u len same more =
     let m = bytes_kept k n.report in
     let own : take m n.texts ≡ n.texts = take_all m n.texts (omega (arith, len)) in
     let none : drop m n.texts ≡ [] = drop_all m n.texts (omega (arith, len)) in
-    let all = joins k rs (n.report ∷ []) spent text n.texts (omega (arith, le)) c (omega (arith, len), subst IsUtf8 (sym own) u, none) in
-    record {
-      spent_within = omega (arith, le, ap length more, length-append text n.texts);
-      cuts = rw (same, more) all.cuts;
-      waits = rw (same, more) (all.waits ∙ ap (λ t. notes k rs (drop spent text) ++ record { report = n.report; texts = t } ∷ []) own);
-    }
+    subst (λ t. Joins k rs now (record { report = n.report; texts = t } ∷ []) spent text new) own
+    (joins k rs (n.report ∷ []) now spent text n.texts new le c (omega (arith, len), subst IsUtf8 (sym own) u, none) same more)
 
 -- the newest report, whose texts are the last
 record Newest (k : ℕ) (rs : List Report) (r : Report) (bytes : List ℕ) : Type 0 where

@@ -1,9 +1,9 @@
 use Rattle.rl_base.proofs.Common.{◌++◌, ◌∷◌, [], ◌∙◌, ap, string_bytes, noted}
-use Rattle.rl_base.proofs.Queue.QueueLemmas.{IsUtf8-kept, Longer, length-kept, longer}
+use Rattle.rl_base.proofs.Queue.QueueLemmas.{IsUtf8-kept, Joins, length-kept, longer}
 use Rattle.rl_base.proofs.notes.Notes.push.Goals as goal
 
 is_longer : (c : goal.After-push_back_reserved)
-    → Longer c.self.inside.text_room c.self.inside.waiting.items c.push_back_reserved.new.self.items (noted c.self.inside.text_room c.args.kind c.args.at c.args.gone.now c.args.come.now) c.self.inside.spent (string_bytes c.self.inside.texts) (string_bytes c.keep_texts.new.texts)
+    → Joins c.self.inside.text_room c.self.inside.waiting.items c.push_back_reserved.new.self.items (noted c.self.inside.text_room c.args.kind c.args.at c.args.gone.now c.args.come.now ∷ []) c.self.inside.spent (string_bytes c.self.inside.texts) (string_bytes c.keep_texts.new.texts)
 is_longer c =
     let i = c.self.inside in
     let items = c.push_back_reserved.ensures.items ∙ ap (λ r. i.waiting.items ++ r ∷ []) c.report_of-report.ensures in

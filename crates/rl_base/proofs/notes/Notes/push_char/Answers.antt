@@ -1,10 +1,10 @@
 use Rattle.rl_base.proofs.Common.{◌<◌, ◌++◌, ◌∷◌, [], ◌∙◌, None, ap, encode_utf8, rules, sym, IsUtf8-nil, IsUtf8-encode, string_bytes, noted}
 use Rattle.rl_base.specs.declared.reports.ReportKind.TheVariants as kind
-use Rattle.rl_base.proofs.Queue.QueueLemmas.{IsUtf8-kept, Longer, kept-all, length-kept, longer}
+use Rattle.rl_base.proofs.Queue.QueueLemmas.{IsUtf8-kept, Joins, kept-all, length-kept, longer}
 use Rattle.rl_base.proofs.notes.Notes.push_char.Goals as goal
 
 is_longer : (c : goal.After-push_back_reserved)
-    → Longer c.self.inside.text_room c.self.inside.waiting.items c.push_back_reserved.new.self.items (noted c.self.inside.text_room kind.CharInserted c.args.at [] (encode_utf8 c.args.c)) c.self.inside.spent (string_bytes c.self.inside.texts) (string_bytes c.push.new.self)
+    → Joins c.self.inside.text_room c.self.inside.waiting.items c.push_back_reserved.new.self.items (noted c.self.inside.text_room kind.CharInserted c.args.at [] (encode_utf8 c.args.c) ∷ []) c.self.inside.spent (string_bytes c.self.inside.texts) (string_bytes c.push.new.self)
 is_longer c =
     let i = c.self.inside in
     let bytes = encode_utf8 c.args.c in
