@@ -9,7 +9,8 @@ use Rattle.rl_base.proofs.Texts.TextLemmas.{IsCharBoundary-in_front, StandsAt-mi
 use Rattle.rl_base.proofs.Clusters.WordLemmas.{All-reverse, last_or-is, last_or-push}
 
 -- ---- one character is taken
-pub char_places-first_at : (text rest : List ℕ) (from after place c : ℕ) → IsUtf8 text → text ≡ encode_utf8 c ++ rest → after ≡ from + length (encode_utf8 c) → place ≡ from
+pub char_places-first_at : (text rest : List ℕ) (from after place c : ℕ) → IsUtf8 text → text ≡ encode_utf8 c ++ rest
+    → after ≡ from + length (encode_utf8 c) → place ≡ from
     → char_places from (chars text) ≡ (place, c) ∷ char_places after (chars rest)
 char_places-first_at text rest from after place c u e next at =
     ap (char_places from) (chars_past_char text rest c u e)
@@ -30,7 +31,8 @@ char_places_push from (d ∷ cs) c =
 pub char_places-last_at : (text rest : List ℕ) (from after place c : ℕ) → IsUtf8 rest → IsUtf8 (encode_utf8 c) → text ≡ rest ++ encode_utf8 c → after ≡ from → place ≡ from + length rest
     → char_places from (chars text) ≡ char_places after (chars rest) ++ (place, c) ∷ []
 char_places-last_at text rest from after place c u v e same at =
-    ap (char_places from) (ap chars e ∙ chars-append rest (encode_utf8 c) u ∙ ap (λ l. chars rest ++ l) (chars-encode_utf8 c v)) ∙ char_places_push from (chars rest) c
+    ap (char_places from) (ap chars e ∙ chars-append rest (encode_utf8 c) u ∙ ap (λ l. chars rest ++ l) (chars-encode_utf8 c v))
+    ∙ char_places_push from (chars rest) c
     ∙ ap₂ (λ n p. char_places n (chars rest) ++ (p, c) ∷ []) (sym same) (ap (λ t. from + length t) (encodes-chars rest u) ∙ sym at)
 
 none_among : (wanted from : ℕ) (text : List ℕ) → length text ≡ 0 → places_of wanted (char_places from (chars text)) ≡ []
@@ -100,7 +102,13 @@ char_places_stand text front (c ∷ cs) rest least most e u low high =
     let whole : length (encode_utf8_all (c ∷ cs)) ≡ len_utf8 c + length (encode_utf8_all cs) = omega (arith, length-append one (encode_utf8_all cs), length-encode c) in
     let at = StandsAt-middle text front one more (length front) here refl (IsUtf8-before _ one more u v split) v in
     All-cons (λ x. IsHit text least most x.1 x.0) (length front, c) _
-    (record { start = at.start; end = subst (λ n. IsCharBoundary text (length front + n)) (length-encode c) at.end; bytes = at.bytes; from = low; to = omega arith })
+    (record {
+      start = at.start;
+      end = subst (λ n. IsCharBoundary text (length front + n)) (length-encode c) at.end;
+      bytes = at.bytes;
+      from = low;
+      to = omega arith;
+    })
     (subst (λ n. All (λ x. IsHit text least most x.1 x.0) (char_places n cs)) width
     (char_places_stand text (front ++ one) cs rest least most next v (omega arith) (omega arith)))
 
@@ -108,7 +116,8 @@ All-places_of : (Q : ℕ → ℕ → Type 0) (wanted : ℕ) (xs : List (ℕ × �
 All-places_of Q wanted xs h =
     let is_wanted : ℕ × ℕ → Bool = λ x. eqb x.1 wanted in
     All-map (Q wanted) (λ x. x.0) (filter is_wanted xs)
-    (λ k d l. subst (λ c. Q c (get_or (filter is_wanted xs) k d).0) (eqb-true _ wanted (filter_passes is_wanted xs k d l)) (All-filter is_wanted (λ x. Q x.1 x.0) xs h k d l))
+    (λ k d l. subst (λ c. Q c (get_or (filter is_wanted xs) k d).0) (eqb-true _ wanted (filter_passes is_wanted xs k d l))
+    (All-filter is_wanted (λ x. Q x.1 x.0) xs h k d l))
 
 -- so do the hits in a part of the text
 hits-stand : (text front part rest : List ℕ) (start least most c : ℕ) → text ≡ front ++ (part ++ rest) → length front ≡ start → IsUtf8 part → IsUtf8 rest
@@ -126,14 +135,17 @@ nth_or_last-is P n xs h = last_or-is P None (take n xs) tt (All-take P n xs h)
 pub hit_back-is : (text : List ℕ) (pos c n : ℕ) → IsUtf8 text → IsCharBoundary text pos → IfSome (hit_back text pos c n) (IsHit text 0 pos c)
 hit_back-is text pos c n u bound =
     nth_or_last-is (IsHit text 0 pos c) n _ (All-reverse (IsHit text 0 pos c) _
-    (hits-stand text [] (take pos text) (drop pos text) 0 0 pos c (sym (take-append-drop pos text)) refl (IsUtf8-take text pos u bound) (IsUtf8-drop text pos u bound)
+    (hits-stand text [] (take pos text) (drop pos text) 0 0 pos c (sym (take-append-drop pos text)) refl (IsUtf8-take text pos u bound)
+    (IsUtf8-drop text pos u bound)
     (omega arith) (omega (arith, length-take-le pos text bound.0))))
 
 search_from-is : (text : List ℕ) (start c n : ℕ) → IsUtf8 text → IsCharBoundary text start → IfSome (nth_or_last n (hits c start (drop start text))) (IsHit text start (length text) c)
 search_from-is text start c n u bound =
-    let split : text ≡ take start text ++ (drop start text ++ []) = sym (ap (λ l. take start text ++ l) (append-nil (drop start text)) ∙ take-append-drop start text) in
+    let split : text ≡ take start text ++ (drop start text ++ []) =
+    sym (ap (λ l. take start text ++ l) (append-nil (drop start text)) ∙ take-append-drop start text) in
     nth_or_last-is (IsHit text start (length text) c) n _
-    (hits-stand text (take start text) (drop start text) [] start start (length text) c split (length-take-le start text bound.0) (IsUtf8-drop text start u bound) IsUtf8-nil
+    (hits-stand text (take start text) (drop start text) [] start start (length text) c split (length-take-le start text bound.0)
+    (IsUtf8-drop text start u bound) IsUtf8-nil
     (omega arith) (omega (arith, length-drop start text, bound.0)))
 
 -- past one cluster

@@ -16,7 +16,8 @@ LeadsBy-push placed k n (m ∷ ms) old text new l t u c = (l.0, l.1, l.2, l.3, L
 -- cursors leave what a note tells
 told-same : (k before after : ℕ) (n : Noted) (old new : List ℕ) → Tells k n old new → Tells k (told_note before after n) old new
 told-same k before after n old new t =
-    cond_both (is_change n.report.kind) (record n.report { cursors = Some (before, after) }) n.report (λ r. Tells k (record { report = r; texts = n.texts }) old new)
+    cond_both (is_change n.report.kind) (record n.report { cursors = Some (before, after) }) n.report
+    (λ r. Tells k (record { report = r; texts = n.texts }) old new)
     (λ _. record { splices = t.splices; texts_are = t.texts_are; mark = t.mark; apart = t.apart }) (λ _. t)
 
 pub LeadsBy-told : (k before after : ℕ) (ns : List Noted) (old new : List ℕ) → LeadsBy false k ns old new
@@ -58,8 +59,10 @@ leads-as_one placed k (AsOne all) old new l u = l
 
 -- one more note leads one text further, also as what waits is later changed: a note that was put in, and all as one
 Leads-note : (placed : Bool) (later : Waiting → Waiting) (q : Queue) (n told : Noted) (old text new : List ℕ)
-    → ((ns : List Noted) → later (Whole (ns ++ n ∷ [])) ≡ Whole (ns ++ told ∷ [])) → ((all : Joined) → later (AsOne (taken_in all n.report)) ≡ AsOne (taken_in all told.report))
-    → Leads placed q old text → Tells q.text_room told text new → OnTrue placed (Stand told.report.cursors text new) → IsLineText old → IsLineText text → IsLineText new
+    → ((ns : List Noted) → later (Whole (ns ++ n ∷ [])) ≡ Whole (ns ++ told ∷ []))
+    → ((all : Joined) → later (AsOne (taken_in all n.report)) ≡ AsOne (taken_in all told.report))
+    → Leads placed q old text → Tells q.text_room told text new → OnTrue placed (Stand told.report.cursors text new) → IsLineText old → IsLineText text
+    → IsLineText new
     → Leads placed (record q { waiting = later (with_note q.room q.text_room n q.waiting) }) old new
 Leads-note placed later q n told old text new put taken l t c u v w = from q.waiting l
   where
@@ -71,10 +74,12 @@ Leads-note placed later q n told old text new put taken l t c u v w = from q.wai
       one = l.one;
     }
 
-    from : (waiting : Waiting) → Leads placed (record q { waiting = waiting }) old text → Leads placed (record q { waiting = later (with_note q.room q.text_room n waiting) }) old new
+    from : (waiting : Waiting) → Leads placed (record q { waiting = waiting }) old text
+        → Leads placed (record q { waiting = later (with_note q.room q.text_room n waiting) }) old new
     from (AsOne all) l = folds (AsOne all) l
     from (Whole ns) l =
-        cond_both (has_room_in q.room q.text_room (length n.texts) (Whole ns)) (Whole (ns ++ n ∷ [])) _ (λ waiting. Leads placed (record q { waiting = later waiting }) old new)
+        cond_both (has_room_in q.room q.text_room (length n.texts) (Whole ns)) (Whole (ns ++ n ∷ [])) _
+        (λ waiting. Leads placed (record q { waiting = later waiting }) old new)
         (λ room. rw (put ns) record {
           leads = LeadsBy-push placed q.text_room told ns old text new l.leads t w c;
           within = omega (arith, (has_room-means q.room q.text_room (length n.texts) ns None room).place, length-append ns (told ∷ []));
@@ -87,7 +92,8 @@ pub Tells-Swaps : (k : ℕ) (which : ReportKind) (i : ℕ) (gone come text new :
     → Tells k (noted k which i gone come) text new
 Tells-Swaps k which i gone come text new b f s = record {
   splices = Splices-Swaps text new i gone come s;
-  texts_are = ap₂ (λ x y. kept k (x ++ y)) (sym (Swaps-stands text new i gone come s).bytes) (sym (Swaps-stands new text i come gone (Swaps-back text new i gone come s)).bytes);
+  texts_are = ap₂ (λ x y. kept k (x ++ y)) (sym (Swaps-stands text new i gone come s).bytes)
+      (sym (Swaps-stands new text i come gone (Swaps-back text new i gone come s)).bytes);
   mark = rw b tt;
   apart = f;
 }
@@ -148,7 +154,8 @@ placed q event before after old text new l u v fits is b h a =
     Leads-note true (with_cursors before after) q n told old text new
     (λ ns. ap Whole (on_last-one _ ns n ∙ ap (λ c. ns ++ record { report = if c then told.report else n.report; texts = n.texts } ∷ []) change))
     (λ all. ap (λ c. AsOne (record { splice = (taken_in all n.report).splice; cursors = joined_cursors c (Some (before, after)) })) (joined-none all.cursors))
-    l (record { splices = t.splices; texts_are = t.texts_are; mark = t.mark; apart = t.apart }) (b, a) u v (record { utf8 = apply-IsUtf8 event text new v.utf8 h; fits = fits })
+    l (record { splices = t.splices; texts_are = t.texts_are; mark = t.mark; apart = t.apart }) (b, a) u v
+    (record { utf8 = apply-IsUtf8 event text new v.utf8 h; fits = fits })
 
 -- cursors that are told alone leave where a queue leads
 apart-told : (before after : ℕ) (w : Waiting) → apart (with_cursors before after w) ≡ apart w

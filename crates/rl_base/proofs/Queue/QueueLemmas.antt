@@ -117,7 +117,8 @@ kept-all k texts some =
     rw keeps refl
 
 -- one more report, whose texts stand at the end
-pub longer : (k : ℕ) (rs now : List Report) (n : Noted) (spent : ℕ) (text new : List ℕ) → spent + spent ≤ length text → Cuts k rs (drop spent text) → IsUtf8 n.texts → length n.texts ≡ bytes_kept k n.report
+pub longer : (k : ℕ) (rs now : List Report) (n : Noted) (spent : ℕ) (text new : List ℕ) → spent + spent ≤ length text → Cuts k rs (drop spent text)
+    → IsUtf8 n.texts → length n.texts ≡ bytes_kept k n.report
     → now ≡ rs ++ n.report ∷ [] → new ≡ text ++ n.texts → Joins k rs now (n ∷ []) spent text new
 longer k rs now n spent text new le c u len same more =
     let m = bytes_kept k n.report in
@@ -256,7 +257,8 @@ pub ruleset cutting = (at_spent, ends)
 pub ruleset joining = (reports_of-notes, fold-append)
 
 pub KeepsRoom-more : (old now new : Notes) → KeepsRoom old now → KeepsRoom now new → KeepsRoom old new
-KeepsRoom-more old now new h k = record { text_room = k.text_room ∙ h.text_room; places = omega (arith, h.places, k.places); bytes = omega (arith, h.bytes, k.bytes) }
+KeepsRoom-more old now new h k =
+    record { text_room = k.text_room ∙ h.text_room; places = omega (arith, h.places, k.places); bytes = omega (arith, h.bytes, k.bytes) }
 
 -- what fewer reports are
 pub ruleset shortened = (take_all, length-take-le, take-take, KeepsRoom-more)

@@ -95,7 +95,8 @@ flag-holds n b r g h = same_slots-holds n r.last b g.growing r g h h.growing_is 
 lent-holds : (n : ℕ) (o : Option (List ℕ)) (r : Ring) (g : Groups) → yank r ≡ o → Holds n r g → Holds n (lent o r) (record g { growing = false })
 lent-holds n (Some text) r g e h = closed-holds n (Yank (length text)) r g (λ _. refl) h
 lent-holds n None r g e h =
-    let none : length r.slots ≡ 0 = elim (slice_get_cases r.slots r.index).1 [ inl some ↦ absurd (cc (e, some.2)) | inr past ↦ omega (arith, past.0, h.ring.at_slot) ] in
+    let none : length r.slots ≡ 0 =
+    elim (slice_get_cases r.slots r.index).1 [ inl some ↦ absurd (cc (e, some.2)) | inr past ↦ omega (arith, past.0, h.ring.at_slot) ] in
     closed-holds n r.last r g (λ some. h.growing_is some ∙ false_from_ne_true g.growing (λ k. let any = h.begun k some in omega arith)) h
 
 event-holds : (n : ℕ) (event : Event) (r : Ring) (g : Groups) → Holds n r g → Holds n (ring_step r event) (group_step g event)

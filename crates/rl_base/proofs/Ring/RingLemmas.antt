@@ -3,7 +3,8 @@ use Rattle.rl_base.proofs.Common.{◌≡◌, ℕ, ◌+◌, ◌<◌, ◌≤◌, z
 use Rattle.rl_base.specs.KillRing.{joined}
 
 -- joining writes the joined text over the slot; where there is none, it leaves all as they are
-pub join-is : (slots : List (List ℕ)) (i : ℕ) (mode : Mode) (text : List ℕ) → join_at i mode text slots ≡ slice_set slots i (joined mode (get_or slots i []) text)
+pub join-is : (slots : List (List ℕ)) (i : ℕ) (mode : Mode) (text : List ℕ)
+    → join_at i mode text slots ≡ slice_set slots i (joined mode (get_or slots i []) text)
 join-is [] i mode text = refl
 join-is (s ∷ ss) zero mode text = refl
 join-is (s ∷ ss) (suc i) mode text = ap (λ l. s ∷ l) (join-is ss i mode text)

@@ -115,7 +115,8 @@ puts-after n index i text slots room full at =
     whole (s ∷ ss) e = back-all (s ∷ ss) index (omega arith)
 
 -- over the slot after, where there is none
-puts-over : (n index i : ℕ) (text : List ℕ) (slots : List (List ℕ)) → length slots ≡ suc n → index ≡ index_before i slots → i < suc n → Puts n index i text slots
+puts-over : (n index i : ℕ) (text : List ℕ) (slots : List (List ℕ)) → length slots ≡ suc n → index ≡ index_before i slots → i < suc n
+    → Puts n index i text slots
 puts-over n index i text slots full before below =
     let at : i < length slots = omega arith in
     let put = put-over slots i text at in
@@ -142,7 +143,8 @@ puts n index text slots within at filling =
     after [] i room e next = let b = next.after in omega arith
     after (s ∷ ss) i room e next = elim (next.turns) [ inl t ↦ let u = t.0 in absurd (omega arith) | inr t ↦ let u = t.1 in omega arith ]
 
-    before : (ss : List (List ℕ)) (i : ℕ) → length ss ≡ suc n → ((index + 1 ≡ suc n) × (i ≡ 0)) ⊎ ((index + 1 < suc n) × (i ≡ raised index ss)) → index ≡ index_before i ss
+    before : (ss : List (List ℕ)) (i : ℕ) → length ss ≡ suc n → ((index + 1 ≡ suc n) × (i ≡ 0)) ⊎ ((index + 1 < suc n) × (i ≡ raised index ss))
+        → index ≡ index_before i ss
     before [] i full turns = absurd (omega arith)
     before (s ∷ ss) i full (inl t) = rw (t.1) (let last = t.0 in omega arith)
     before (s ∷ ss) i full (inr t) = let next : i ≡ suc index = (let one = t.1 in omega arith) in ap (λ k. index_before k (s ∷ ss)) (sym next)

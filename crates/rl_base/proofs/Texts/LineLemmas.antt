@@ -38,7 +38,8 @@ meets : (front back first : List ℕ) (more : List (List ℕ)) → lines back �
 meets [] back first more e = record { before = []; last = []; front_is = refl; both_is = e }
 meets (b ∷ bs) back first more e = let m = meets bs back first more e in from (eqb b 10) refl m.before m.last m.front_is m.both_is
   where
-    from : (is : Bool) → eqb b 10 ≡ is → (before : List (List ℕ)) (last : List ℕ) → lines bs ≡ before ++ last ∷ [] → lines (bs ++ back) ≡ before ++ (last ++ first) ∷ more
+    from : (is : Bool) → eqb b 10 ≡ is → (before : List (List ℕ)) (last : List ℕ) → lines bs ≡ before ++ last ∷ []
+        → lines (bs ++ back) ≡ before ++ (last ++ first) ∷ more
         → Meets (b ∷ bs) back first more
     from true is before last f g = record {
       before = [] ∷ before;
@@ -72,11 +73,14 @@ module _ (text : List ℕ) (pos : ℕ) (first : List ℕ) (more : List (List ℕ
 
   start-is : pos ≤ length text → start_of_line text (line_number text pos) + length meet.last ≡ pos
   start-is within =
-      let start = ap₂ (λ k l. bytes_of (take k l)) line_number-is lines-is ∙ ap bytes_of (take_at meet.before ((meet.last ++ first) ∷ more) (length meet.before) refl) in
-      omega (arith, start, bytes_of-lines (take pos text), ap bytes_of meet.front_is, bytes_of-append meet.before (meet.last ∷ []), length-take-le pos text within)
+      let start = ap₂ (λ k l. bytes_of (take k l)) line_number-is lines-is
+      ∙ ap bytes_of (take_at meet.before ((meet.last ++ first) ∷ more) (length meet.before) refl) in
+      let all = ap bytes_of meet.front_is ∙ bytes_of-append meet.before (meet.last ∷ []) in
+      omega (arith, start, bytes_of-lines (take pos text), all, length-take-le pos text within)
 
 -- it ends with the first line of what stands after the place
-pub end-from : (text : List ℕ) (pos : ℕ) (line : List ℕ) (more : List (List ℕ)) → pos ≤ length text → lines (drop pos text) ≡ line ∷ more → end_of_line text (line_number text pos) ≡ pos + length line
+pub end-from : (text : List ℕ) (pos : ℕ) (line : List ℕ) (more : List (List ℕ)) → pos ≤ length text → lines (drop pos text) ≡ line ∷ more
+    → end_of_line text (line_number text pos) ≡ pos + length line
 end-from text pos line more within e =
     let here = meet text pos line more e in
     let whole = ap₂ (λ k l. get_or l k []) (line_number-is text pos line more e) (lines-is text pos line more e)
@@ -96,7 +100,8 @@ lines-after text pos =
     let some = lines_some (drop pos text) in
     let here = meet text pos some.0 some.1 some.2 in
     ap₂ (λ j ls. drop (j + 1) ls) (line_number-is text pos some.0 some.1 some.2) (lines-is text pos some.0 some.1 some.2)
-    ∙ sym (drop-drop 1 (length here.before) _) ∙ ap (drop 1) (drop_at here.before ((here.last ++ some.0) ∷ some.1) (length here.before) refl) ∙ sym (ap (drop 1) some.2)
+    ∙ sym (drop-drop 1 (length here.before) _) ∙ ap (drop 1) (drop_at here.before ((here.last ++ some.0) ∷ some.1) (length here.before) refl)
+    ∙ sym (ap (drop 1) some.2)
 
 -- ---- a line stands in its text, after the lines before it
 record Stands (text : List ℕ) (before : List (List ℕ)) (line : List ℕ) : Type 0 where
@@ -159,7 +164,9 @@ stands (b ∷ bs) before line more e = let some = lines_some bs in
 
 -- line j of a text
 stands_at : (text : List ℕ) (j : ℕ) → j < length (lines text) → Stands text (take j (lines text)) (text_of_line text j)
-stands_at text j l = stands text _ _ (drop (j + 1) (lines text)) (sym (take-append-drop j (lines text)) ∙ ap (λ r. take j (lines text) ++ r) (drop_more (lines text) j [] l))
+stands_at text j l =
+    stands text _ _ (drop (j + 1) (lines text))
+    (sym (take-append-drop j (lines text)) ∙ ap (λ r. take j (lines text) ++ r) (drop_more (lines text) j [] l))
 
 -- no newline stands in it
 pub newlines-line : (text : List ℕ) (k : ℕ) → k < length (lines text) → last_line (text_of_line text k) ≡ 0

@@ -26,5 +26,6 @@ returns c =
     let passed = concat (take c.args.n (clusters (drop c.args.pos c.args.text.now))) in record {
       value = ap Some (omega (arith, widths c)) ∙ sym (next_pos-some _ _ _ c.if-n-eq0.false c.if-pos-text.false);
       ahead = omega (arith, widths c);
-      boundary = IsCharBoundary-before_rest c.args.text.now c.args.pos _ passed c.as_str.result.now c.requires.0 (split c) (omega (arith, widths c)) c.as_str.utf8;
+      boundary = IsCharBoundary-before_rest c.args.text.now c.args.pos _ passed c.as_str.result.now c.requires.0 (split c) (omega (arith, widths c))
+          c.as_str.utf8;
     }

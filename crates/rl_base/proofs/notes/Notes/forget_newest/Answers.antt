@@ -4,10 +4,12 @@ use Rattle.rl_base.proofs.notes.Notes.forget_newest.Goals as goal
 use Rattle.rl_base.proofs.notes.Notes.forget_newest.Goals.{After-truncate, In-Some}
 
 -- what is left without the newest
-rest_of : (c : In-Some) → Off c.self.inside.text_room c.self.inside.waiting.items c.pop_back.new.self.items c.in-Some.newest c.self.inside.spent (string_bytes c.self.inside.texts)
+rest_of : (c : In-Some) → Off c.self.inside.text_room c.self.inside.waiting.items c.pop_back.new.self.items c.in-Some.newest c.self.inside.spent
+    (string_bytes c.self.inside.texts)
 rest_of c =
     let i = c.self.inside in
-    off i.text_room i.waiting.items c.pop_back.new.self.items c.in-Some.newest i.spent (string_bytes i.texts) c.in-Some.ensures.items (omega (arith, c.self.invariant.0)) c.self.invariant.1
+    off i.text_room i.waiting.items c.pop_back.new.self.items c.in-Some.newest i.spent (string_bytes i.texts) c.in-Some.ensures.items
+    (omega (arith, c.self.invariant.0)) c.self.invariant.1
 
 pub bytes_kept-requires : goal.bytes_kept-requires
 bytes_kept-requires c =
@@ -19,10 +21,14 @@ overflow_sub-left c =
 
 pub truncate-requires : goal.truncate-requires
 truncate-requires c =
-    let rest = rest_of (goal.at.truncate-requires c).In-Some in rw (c.len.ensures, c.self.inside.texts.bytes.ok.0, c.bytes_kept.ensures) (λ _. (rest.at.0, λ _. rest.at.1))
+    let rest = rest_of (goal.at.truncate-requires c).In-Some in
+    rw (c.len.ensures, c.self.inside.texts.bytes.ok.0, c.bytes_kept.ensures) (λ _. (rest.at.0, λ _. rest.at.1))
 
-left : (c : After-truncate) → string_bytes c.truncate.new.self ≡ take (length (string_bytes c.self.inside.texts) - bytes_kept c.self.inside.text_room c.in-Some.newest) (string_bytes c.self.inside.texts)
-left c = c.truncate.ensures.bytes ∙ ap (λ n. take n (string_bytes c.self.inside.texts)) (omega (arith, c.bytes_kept.ensures, c.len.ensures, c.self.inside.texts.bytes.ok.0))
+left : (c : After-truncate) → string_bytes c.truncate.new.self
+    ≡ take (length (string_bytes c.self.inside.texts) - bytes_kept c.self.inside.text_room c.in-Some.newest) (string_bytes c.self.inside.texts)
+left c =
+    c.truncate.ensures.bytes
+    ∙ ap (λ n. take n (string_bytes c.self.inside.texts)) (omega (arith, c.bytes_kept.ensures, c.len.ensures, c.self.inside.texts.bytes.ok.0))
 
 pub drop_spent-self-inside-requires : goal.drop_spent-self-inside-requires
 drop_spent-self-inside-requires c =
