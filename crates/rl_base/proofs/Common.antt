@@ -7,7 +7,7 @@ pub use Rattle.std.proofs.Math.Seq.{drop-append-add, drop-append_seam, set-appen
 pub use Rattle.std.proofs.lemmas.Bool.{OnTrue_at, OnTrue_from, and_parts, cases_lt, cond-false, cond-true, cond_both, eqb-false, eqb-true, false_from_ne_true, leb-true, ltb-false}
 pub use Rattle.std.proofs.lemmas.Bool.Decides.{nat_tests}
 pub use Rattle.std.proofs.lemmas.Cmp.{nat_list_eq_equiv}
-pub use Rattle.std.proofs.lemmas.List.{drop-append-le, drop-drop, drop-take, drop_all, get_or-append-add, get_or-drop, get_or-reverse, get_or-take, get_or_at, length-drop, length-map, length-replicate, length-reverse, length-set, length-take, length-take-le, length_push, map-append, map-set, nil_from_length, replicate-append-replicate, reverse-append, reverse-reverse, take-append-drop, take-append-le, take-take, take_all, set-get_or, take-set, drop-set-lt, take_more, drop_more, get_or-set_same, get_or_append_left, get_or-map, set_past}
+pub use Rattle.std.proofs.lemmas.List.{drop-append-le, drop-drop, drop-take, drop_all, get_or-append-add, get_or-drop, get_or-reverse, get_or-take, get_or_at, length-drop, length-map, length-replicate, length-reverse, length-set, length-take, length-take-le, length_push, map-append, map-set, nil_from_length, replicate-append-replicate, reverse-append, reverse-reverse, take-append-drop, take-append-le, take-take, take_all, set-get_or, take-set, drop-set-lt, take_more, drop_more, get_or-set_same, get_or_append_left, get_or-map, set_past, take-replicate, get_or-replicate}
 pub use Rattle.std.proofs.lemmas.List.Edits.{length-between}
 pub use Rattle.std.proofs.lemmas.List.Elements.{All-cons, All-drop, All-head, All-map, All-nil, All-tail, All-take, All-weaker, filter-append, filter_map-append, recursion_from_All, filter_passes, All-filter}
 pub use Rattle.std.proofs.lemmas.List.Folds.{concat-append, drop_split}
