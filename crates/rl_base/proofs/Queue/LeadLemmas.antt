@@ -114,17 +114,23 @@ Tells-mark k which text u b = record {
 
 -- a change is heard as a note
 heard_as : (P : Queue → Type 0) (q : Queue) (event : Event) (text new : List ℕ) → IsLineText text → IsChange event → apply event text ≡ Some new
-    → ((which : ReportKind) (i : ℕ) (gone come : List ℕ) → is_change which ≡ true → Tells q.text_room (noted q.text_room which i gone come) text new → P (noting which i gone come q)) → P (queue_step q event)
-heard_as P q (InsertChar i c) text new v is h note = note kind.CharInserted i [] (encode_utf8 c) refl (Tells-Swaps q.text_room kind.CharInserted i [] (encode_utf8 c) text new refl (λ e. absurd cc) (Swaps-InsertChar text new i c v.utf8 h))
-heard_as P q (InsertStr i s) text new v is h note = note kind.TextInserted i [] s refl (Tells-Swaps q.text_room kind.TextInserted i [] s text new refl (λ e. absurd cc) (Swaps-InsertStr text new i s v.utf8 h))
-heard_as P q (Delete i s Forward) text new v is h note =
-    note kind.DeletedForward i s [] refl (Tells-Swaps q.text_room kind.DeletedForward i s [] text new refl (λ e. absurd cc) (Swaps-Delete text new i s Forward v.utf8 h))
-heard_as P q (Delete i s Backward) text new v is h note =
-    note kind.DeletedBackward i s [] refl (Tells-Swaps q.text_room kind.DeletedBackward i s [] text new refl (λ e. absurd cc) (Swaps-Delete text new i s Backward v.utf8 h))
-heard_as P q (Replace i s t) text new v is h note = note kind.Replaced i s t refl (Tells-Swaps q.text_room kind.Replaced i s t text new refl (λ e. absurd cc) (Swaps-Replace text new i s t v.utf8 h))
-heard_as P q Start text new v is h note = absurd is
-heard_as P q Stop text new v is h note = absurd is
-heard_as P q (Cursors b a) text new v is h note = absurd is
+    → ((which : ReportKind) (i : ℕ) (gone come : List ℕ) → is_change which ≡ true → Tells q.text_room (noted q.text_room which i gone come) text new
+    → P (noting which i gone come q)) → P (queue_step q event)
+heard_as P q event text new v is h note = from event is h
+  where
+    told : (which : ReportKind) (i : ℕ) (gone come : List ℕ) → is_change which ≡ true → ¬ (which ≡ kind.Folded) → Swaps text new i gone come
+        → P (noting which i gone come q)
+    told which i gone come b f s = note which i gone come b (Tells-Swaps q.text_room which i gone come text new b f s)
+
+    from : (e : Event) → IsChange e → apply e text ≡ Some new → P (queue_step q e)
+    from (InsertChar i c) is h = told kind.CharInserted i [] (encode_utf8 c) refl (λ e. absurd cc) (Swaps-InsertChar text new i c v.utf8 h)
+    from (InsertStr i s) is h = told kind.TextInserted i [] s refl (λ e. absurd cc) (Swaps-InsertStr text new i s v.utf8 h)
+    from (Delete i s Forward) is h = told kind.DeletedForward i s [] refl (λ e. absurd cc) (Swaps-Delete text new i s Forward v.utf8 h)
+    from (Delete i s Backward) is h = told kind.DeletedBackward i s [] refl (λ e. absurd cc) (Swaps-Delete text new i s Backward v.utf8 h)
+    from (Replace i s t) is h = told kind.Replaced i s t refl (λ e. absurd cc) (Swaps-Replace text new i s t v.utf8 h)
+    from Start is h = absurd is
+    from Stop is h = absurd is
+    from (Cursors b a) is h = absurd is
 
 -- a kill's start and stop leave the text
 pub marked : (placed : Bool) (q : Queue) (old new : List ℕ) → Leads placed q old new → IsLineText old → IsLineText new → Leads placed (queue_step q Start) old new × Leads placed (queue_step q Stop) old new

@@ -44,22 +44,6 @@ pub some_is : {A : Type 0} (o : Option A) (a : A) → o ≡ Some a → IsSome o
 some_is None a h = cc
 some_is (Some b) a h = refl
 
-pub Swaps-InsertStr : (text after : List ℕ) (i : ℕ) (s : List ℕ) → IsUtf8 text → apply (InsertStr i s) text ≡ Some after → Swaps text after i [] s
-Swaps-InsertStr text after i s u h =
-    let d = Inserts-from_IsSome text i s (some_is (apply (InsertStr i s) text) after h) in
-    let same : insert_slice text i s ≡ after = same_Some _ _ (sym d.makes ∙ h) in
-    record {
-      front = take i text;
-      rest = drop i text;
-      text_is = sym (take-append-drop i text);
-      after_is = sym same ∙ append_assoc (take i text) s (drop i text);
-      place = length-take-le i text d.fits.place.0;
-      front_utf8 = IsUtf8-take text i u d.fits.place;
-      rest_utf8 = IsUtf8-drop text i u d.fits.place;
-      old_utf8 = IsUtf8-nil;
-      new_utf8 = d.fits.utf8;
-    }
-
 split_at : (text : List ℕ) (i : ℕ) (s : List ℕ) → slice_range text i (i + length s) ≡ s → text ≡ take i text ++ (s ++ drop (i + length s) text)
 split_at text i s e =
     sym (take-append-drop i text) ∙ ap (λ x. take i text ++ x) (drop_split text i (i + length s) (omega arith) ∙ ap (λ x. x ++ drop (i + length s) text) e)
@@ -77,6 +61,15 @@ Swaps-at text after i s t u d v same = record {
   old_utf8 = d.utf8;
   new_utf8 = v;
 }
+
+pub Swaps-InsertStr : (text after : List ℕ) (i : ℕ) (s : List ℕ) → IsUtf8 text → apply (InsertStr i s) text ≡ Some after → Swaps text after i [] s
+Swaps-InsertStr text after i s u h =
+    let d = Inserts-from_IsSome text i s (some_is (apply (InsertStr i s) text) after h) in
+    let stands : StandsAt text i [] =
+    StandsAt-middle text (take i text) [] (drop i text) i (sym (take-append-drop i text)) (length-take-le i text d.fits.place.0)
+    IsUtf8-nil (IsUtf8-drop text i u d.fits.place) in
+    Swaps-at text after i [] s u stands d.fits.utf8
+    (ap (λ k. replace_range text i k s) {x = i + 0} {y = i} (omega arith) ∙ same_Some (insert_slice text i s) after (sym d.makes ∙ h))
 
 pub Swaps-Delete : (text after : List ℕ) (i : ℕ) (s : List ℕ) (side : Direction) → IsUtf8 text → apply (Delete i s side) text ≡ Some after → Swaps text after i s []
 Swaps-Delete text after i s side u h =
