@@ -115,6 +115,18 @@ record Stands (text : List ℕ) (before : List (List ℕ)) (line : List ℕ) : T
 count-next : (is : Bool) (b : ℕ) (bs : List ℕ) → eqb b 10 ≡ is → count_by is_newline (b ∷ bs) ≡ cond is 1 0 + count_by is_newline bs
 count-next is b bs e = sum_by-cons (λ c. cond (eqb c 10) 1 0) b bs ∙ ap (λ (v : Bool). cond v 1 0 + count_by is_newline bs) e
 
+-- with one byte more before it
+stands-after : (is : Bool) (b : ℕ) (bs : List ℕ) (before now : List (List ℕ)) (line : List ℕ) → eqb b 10 ≡ is → bytes_of now ≡ 1 + bytes_of before
+    → length now ≡ cond is 1 0 + length before → Stands bs before line → Stands (b ∷ bs) now line
+stands-after is b bs before now line e bytes count s = record {
+  front = b ∷ s.front;
+  back = s.back;
+  is = ap (λ t. b ∷ t) s.is;
+  place = omega (arith, s.place, bytes);
+  number = count-next is b s.front e ∙ ap (λ n. cond is 1 0 + n) s.number ∙ sym count;
+  none = s.none;
+}
+
 stands : (text : List ℕ) (before : List (List ℕ)) (line : List ℕ) (more : List (List ℕ)) → lines text ≡ before ++ line ∷ more → Stands text before line
 stands [] [] line more e = let none : line ≡ [] = cc in record { front = []; back = []; is = rw none refl; place = refl; number = refl; none = rw none refl }
 stands [] (l ∷ []) line more e = absurd cc
@@ -130,15 +142,8 @@ stands (b ∷ bs) before line more e = let some = lines_some bs in
         record { front = []; back = b ∷ bs; is = rw none refl; place = refl; number = refl; none = rw none refl }
     from true is x xs f (l ∷ before) e rest =
         let one : [] ≡ l = cc in
-        let s = rest before line more (let two : x ∷ xs ≡ before ++ line ∷ more = cc in f ∙ two) in
-        record {
-          front = b ∷ s.front;
-          back = s.back;
-          is = ap (λ t. b ∷ t) s.is;
-          place = omega (arith, s.place, ap length one);
-          number = omega (arith, count-next true b s.front is, s.number);
-          none = s.none;
-        }
+        let two : x ∷ xs ≡ before ++ line ∷ more = cc in
+        stands-after true b bs before (l ∷ before) line is (omega (arith, ap length one)) (omega arith) (rest before line more (f ∙ two))
     from false is x xs f [] e rest =
         let one : b ∷ x ≡ line = cc in
         let s = rest [] x xs f in
@@ -152,15 +157,8 @@ stands (b ∷ bs) before line more e = let some = lines_some bs in
         }
     from false is x xs f (l ∷ before) e rest =
         let one : b ∷ x ≡ l = cc in
-        let s = rest (x ∷ before) line more (let two : xs ≡ before ++ line ∷ more = cc in f ∙ ap (λ t. x ∷ t) two) in
-        record {
-          front = b ∷ s.front;
-          back = s.back;
-          is = ap (λ t. b ∷ t) s.is;
-          place = omega (arith, s.place, ap length one);
-          number = omega (arith, count-next false b s.front is, s.number);
-          none = s.none;
-        }
+        let two : xs ≡ before ++ line ∷ more = cc in
+        stands-after false b bs (x ∷ before) (l ∷ before) line is (omega (arith, ap length one)) (omega arith) (rest (x ∷ before) line more (f ∙ ap (λ t. x ∷ t) two))
 
 -- line j of a text
 stands_at : (text : List ℕ) (j : ℕ) → j < length (lines text) → Stands text (take j (lines text)) (text_of_line text j)
