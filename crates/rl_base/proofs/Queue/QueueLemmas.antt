@@ -54,6 +54,7 @@ pub untold-set : (before after : ℕ) (rs : List Report) (n : ℕ) (r : Report) 
 untold-set before after rs n r b e h =
     ap (λ c. slice_set rs n (if c then record r { cursors = Some (before, after) } else r)) (sym b) ∙ on_last-set (told_cursors before after) rs n r e h
 
+-- the last report once cursors were told
 pub ruleset telling = (told-set, untold-set)
 
 -- what is made of texts is one
@@ -256,6 +257,7 @@ pub ruleset cutting = (at_spent, ends)
 -- reports as one, in two parts
 pub ruleset joining = (reports_of-notes, fold-append)
 
+-- room that is kept, and kept again
 pub KeepsRoom-more : (old now new : Notes) → KeepsRoom old now → KeepsRoom now new → KeepsRoom old new
 KeepsRoom-more old now new h k =
     record { text_room = k.text_room ∙ h.text_room; places = omega (arith, h.places, k.places); bytes = omega (arith, h.bytes, k.bytes) }
@@ -263,4 +265,5 @@ KeepsRoom-more old now new h k =
 -- what fewer reports are
 pub ruleset shortened = (take_all, length-take-le, take-take, KeepsRoom-more)
 
+-- the notes once cursors were told to the last report
 pub ruleset notes_told = (notes-told, Cuts-told)

@@ -108,7 +108,8 @@ size-at xs i x l is =
 pub join-past : (slots : List (List ℕ)) (i : ℕ) (mode : Mode) (text : List ℕ) → (i < length slots → ⊥) → slots ≡ join_at i mode text slots
 join-past slots i mode text h = sym (join-is slots i mode text ∙ set_past slots i _ (omega arith))
 
--- what is written over a slot, joined to it, or made of it by packing it
+-- what is written over a slot, or joined to it
 pub ruleset written = (length-join, put-set, joins-ok)
 
+-- what packing a slot leaves
 pub ruleset packing = (same-set, packed-set, size-at)
