@@ -2,4 +2,3 @@
 pub mod SlotLemmas
 pub mod RingLemmas
 pub mod KillGroupLemmas
-pub mod BackLemmas

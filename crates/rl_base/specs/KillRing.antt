@@ -42,6 +42,10 @@ join_at (suc i) mode text (s ∷ ss) = s ∷ join_at i mode text ss
 abbrev pub put_at : ℕ → List ℕ → List (List ℕ) → List (List ℕ)
 put_at i text slots = if i == length slots then slots ++ text ∷ [] else slice_set slots i text
 
+-- to put a text over the slot at i, or after all slots, takes memory
+abbrev pub PutTakesMemory : {A : Type 0} → ℕ → List ℕ → List A → Type 0
+PutTakesMemory i text slots = (0 < length text) ⊎ (i ≡ length slots)
+
 -- the index one up, where there is a slot
 abbrev pub raised : ℕ → List (List ℕ) → ℕ
 raised index [] = index

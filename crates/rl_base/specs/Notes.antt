@@ -1,8 +1,11 @@
 -- Reports in order, with their texts one after another in one text.
-use Rattle.std.specs.Prelude.{◌≡◌, ℕ, ◌+◌, ◌<◌, ◌≤◌, ◌==◌, List, [], ◌∷◌, length, take, drop, if◌then◌else◌}
+use Rattle.std.specs.Prelude.{◌≡◌, ℕ, ◌+◌, ◌<◌, ◌≤◌, ◌==◌, ◌⊎◌, List, [], ◌∷◌, String, length, take, drop, if◌then◌else◌}
 use Rattle.std.specs.Str.{IsUtf8}
 use Rattle.rl_base.specs.declared.reports.Report.{Report}
-use Rattle.rl_base.specs.Reports.{Noted, text_bytes}
+use Rattle.std.specs.String.{string_bytes, string_capacity}
+use Rattle.rl_base.specs.declared.listeners.Refusal.{Refusal}
+use Rattle.rl_base.specs.declared.listeners.Refusal.TheVariants.{NoMemory}
+use Rattle.rl_base.specs.Reports.{Noted, kept, text_bytes}
 
 -- what waits, the oldest first; how many bytes of texts may wait, of which none are kept where that is 0; and for how many
 -- reports and bytes of texts there is memory
@@ -18,9 +21,19 @@ pub record KeepsRoom (old new : Notes) : Type 0 where
   pub places : old.places ≤ new.places
   pub bytes : old.bytes ≤ new.bytes
 
--- there is no memory for texts after those that wait and as many that are forgotten
+-- texts are kept, and there is no memory for them after those that wait and as many that are forgotten
 abbrev pub Lacks : List ℕ → Notes → Type 0
-Lacks texts n = (0 < length texts) × (n.bytes < text_bytes n.waiting + text_bytes n.waiting + length texts)
+Lacks texts n =
+    (0 < length (kept n.text_room texts)) × (n.bytes < text_bytes n.waiting + text_bytes n.waiting + length (kept n.text_room texts))
+
+-- to put other reports after those that wait, and leave room for so many more, takes memory
+abbrev pub AppendTakesMemory : Notes → ℕ → Notes → Type 0
+AppendTakesMemory later more n = (0 < length later.waiting) ⊎ (n.places < length n.waiting + more)
+
+-- texts were not kept after others: memory is out for them, and the others are as they were
+abbrev pub NotKept : {Z : Type 0} → ℕ → List ℕ → String Z → String Z → Refusal → Type 0
+NotKept text_room texts old new why =
+    (why ≡ NoMemory) × (string_bytes new ≡ string_bytes old) × (string_capacity old < length (string_bytes old) + length (kept text_room texts))
 
 -- how many bytes of texts are kept of a report
 abbrev pub bytes_kept : ℕ → Report → ℕ

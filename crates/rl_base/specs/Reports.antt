@@ -128,9 +128,12 @@ with_cursors before after (AsOne all) =
     AsOne (record { splice = all.splice; cursors = joined_cursors all.cursors (Some (before, after)) })
 
 -- the queue with one more note
+abbrev pub queue_with : Noted → Queue → Queue
+queue_with n q = record q { waiting = with_note q.room q.text_room n q.waiting }
+
+-- the queue once it was noted that at a place what went gave way to what came
 abbrev pub noting : ReportKind → ℕ → List ℕ → List ℕ → Queue → Queue
-noting kind place gone come q =
-    record q { waiting = with_note q.room q.text_room (noted q.text_room kind place gone come) q.waiting }
+noting kind place gone come q = queue_with (noted q.text_room kind place gone come) q
 
 -- the queue after an event
 abbrev pub queue_step : Queue → Event → Queue

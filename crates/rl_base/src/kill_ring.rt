@@ -4,7 +4,7 @@ ghost use Rattle.std.specs.String.{string_bytes};
 ghost use Rattle.std.specs.Borrow.{sem};
 ghost use Rattle.rl_base.specs.declared.listeners.Refusal.TheVariants.{NoMemory};
 ghost use Rattle.rl_base.specs.Gathered.{IsPackedAt, texts};
-ghost use Rattle.rl_base.specs.KillRing.{Enlarges, IsRing, Ring, back_from, index_before, join_at, joined, killed, new_ring, newest_first, next_index, put_at, reset, text_back, yank, yank_pop, yank_popped, yank_size, yanked};
+ghost use Rattle.rl_base.specs.KillRing.{Enlarges, IsRing, PutTakesMemory, Ring, back_from, index_before, join_at, joined, killed, new_ring, newest_first, next_index, put_at, reset, text_back, yank, yank_pop, yank_popped, yank_size, yanked};
 ghost use Rattle.rl_base.specs.RingLends.{EndsAs};
 ghost use Rattle.rl_base.specs.declared.kill_ring.Mode.{Mode};
 ghost use Rattle.rl_base.specs.KillGroups.{Doing, Kills, ring_done, group_done, no_groups, groups_of, AllKills, all_joined};
@@ -75,6 +75,7 @@ impl KillRing {
     /// to that kill's text, at the side that `dir` says. Else it goes right after the current text, replaces one that
     /// stands there, and becomes the current one. Refused only if memory is out, and then it changes nothing. Never
     /// refused if the ring would not grow: at size 0, which keeps no text, and an empty text that needs no new slot.
+    #[tactic(auto, using(crate::proofs::Ring::RingLemmas::written))]
     pub fn kill(&mut self, text: &str, dir: Mode) -> Result<(), Refusal>
         ensures done { OnOk result (self.new ≡ killed text.now dir self.old) }
         ensures err { IfErr result (λ r. (r ≡ NoMemory) × (self.new ≡ self.old) × Enlarges text.now dir self.old) }
@@ -233,10 +234,11 @@ fn index_back(index: usize, back: usize, slots: &[Gathered]) -> Option<usize>
 }
 
 // Puts a text over the slot at an index, or after all slots.
+#[tactic(auto, using(crate::proofs::Ring::RingLemmas::written))]
 fn put(slots: &mut Vec<Gathered>, index: usize, text: &str) -> Result<(), Refusal>
     requires { index ≤ length slots.old.items }
     ensures ok { OnOk result (texts slots.new.items ≡ put_at index text.now (texts slots.old.items)) }
-    ensures err { IfErr result (λ r. (r ≡ NoMemory) × (texts slots.new.items ≡ texts slots.old.items) × ((0 < length text.now) ⊎ (index ≡ length slots.old.items))) }
+    ensures err { IfErr result (λ r. (r ≡ NoMemory) × (texts slots.new.items ≡ texts slots.old.items) × PutTakesMemory index text.now slots.old.items) }
 {
     let slot = Gathered::of(*slots.allocator(), text)?;
     if index < slots.len() {
@@ -248,6 +250,7 @@ fn put(slots: &mut Vec<Gathered>, index: usize, text: &str) -> Result<(), Refusa
 }
 
 // Joins a text to the slot at an index.
+#[tactic(auto, using(crate::proofs::Ring::RingLemmas::written))]
 fn join(slots: &mut Vec<Gathered>, index: usize, text: &str, mode: Mode) -> Result<(), Refusal>
     ensures ok { OnOk result (texts slots.new.items ≡ join_at index mode text.now (texts slots.old.items)) }
     ensures err { IfErr result (λ r. (r ≡ NoMemory) × (texts slots.new.items ≡ texts slots.old.items) × (0 < length text.now)) }
@@ -270,6 +273,7 @@ fn join_to(slot: &mut Gathered, text: &str, mode: Mode) -> Result<(), Refusal>
 }
 
 // Packs the text of the slot at an index, and answers its length in bytes.
+#[tactic(auto, using(crate::proofs::Ring::RingLemmas::packing))]
 fn pack_at(slots: &mut Vec<Gathered>, index: usize) -> Option<usize>
     ensures texts { texts slots.new.items ≡ texts slots.old.items }
     ensures packed { IsPackedAt index slots.new.items }
@@ -294,6 +298,7 @@ fn text_at(slots: &[Gathered], index: usize) -> Option<&String>
 /// Whatever is done with a new ring except `yank_pop`, and if no kill is refused, it holds the latest groups of
 /// consecutive kills, as many as it has room for, and a yank gives the newest. Consecutive kills are one group:
 /// their texts, joined.
+#[tactic(auto, using(crate::proofs::Ring::KillGroupLemmas::grouping))]
 pub fn ring_holds_groups()
     ensures last { (size : ℕ) (doings : List Doing) → 0 < size → newest_first (ring_done doings (new_ring size)) ≡ take size (groups_of doings) }
     ensures newest { (size : ℕ) (doings : List Doing) → 0 < size → yank (ring_done doings (new_ring size)) ≡ slice_get (groups_of doings) 0 }
@@ -304,6 +309,7 @@ pub fn ring_holds_groups()
 
 /// The texts of a ring are those that yanks give: the first is what a yank gives, and if there is another, each
 /// `yank_pop` goes one further back.
+#[tactic(auto, using(crate::proofs::Ring::SlotLemmas::going_back))]
 pub fn texts_back_are_yanked()
     ensures yank { (r : Ring) → IsRing r → text_back 0 r ≡ yank r }
     ensures yank_pop { (r : Ring) (size back : ℕ) → IsRing r → yank_size r ≡ Some size → back + 1 < length r.slots

@@ -55,6 +55,7 @@ fn char_columns(c: char) -> Unit
     }
 }
 
+#[tactic(auto, using(crate::proofs::Clusters::WidthLemmas::columns))]
 fn width_of_chars(text: &str) -> Unit
     ensures { result ≡ width GraphemeClusterMode.WcWidth text.now }
 {
@@ -65,6 +66,7 @@ fn width_of_chars(text: &str) -> Unit
     total
 }
 
+#[tactic(auto, using(crate::proofs::Clusters::WidthLemmas::columns))]
 fn width_of_parts(text: &str) -> Unit
     ensures { result ≡ width GraphemeClusterMode.NoZwj text.now }
 {

@@ -5,7 +5,7 @@ ghost use Rattle.std.specs.String.{string_bytes, string_capacity};
 ghost use Rattle.std.specs.VecDeque.{deque_len, deque_capacity};
 ghost use Rattle.rl_base.specs.declared.listeners.Refusal.TheVariants.{NoMemory};
 ghost use Rattle.rl_base.specs.declared.reports.ReportKind.TheVariants.{CharInserted};
-ghost use Rattle.rl_base.specs.Notes.{KeepsRoom, Lacks, bytes_kept};
+ghost use Rattle.rl_base.specs.Notes.{AppendTakesMemory, KeepsRoom, Lacks, NotKept, bytes_kept};
 ghost use Rattle.rl_base.specs.Reports.{Whole, joined, kept, noted, oldest, on_last, reports_of, text_bytes, texts_of, told_cursors, told_note};
 
 use crate::listeners::Refusal;
@@ -36,7 +36,12 @@ impl Model for Notes {
 
     ghost Value = { Notes };
 
-    ghost view = { λ n. record { text_room = n.text_room; waiting = notes n.text_room n.waiting.items (drop n.spent (string_bytes n.texts)); places = deque_capacity n.waiting; bytes = string_capacity n.texts } };
+    ghost view = { λ n. record {
+      text_room = n.text_room;
+      waiting = notes n.text_room n.waiting.items (drop n.spent (string_bytes n.texts));
+      places = deque_capacity n.waiting;
+      bytes = string_capacity n.texts;
+    } };
 
     ghost invariant = { λ n. (n.spent + n.spent ≤ length (string_bytes n.texts)) × Cuts n.text_room n.waiting.items (drop n.spent (string_bytes n.texts)) };
 }
@@ -76,6 +81,7 @@ impl Notes {
 
     /// How many reports wait.
     #[inline(always)]
+    #[tactic(auto, using(crate::proofs::Queue::QueueLemmas::counted))]
     pub fn len(&self) -> usize
         ensures { result ≡ length self.now.waiting }
     {
@@ -92,6 +98,7 @@ impl Notes {
 
     /// How many bytes of texts wait.
     #[inline(always)]
+    #[tactic(auto, using(crate::proofs::Queue::QueueLemmas::counted))]
     pub fn text_len(&self) -> usize
         ensures { result ≡ text_bytes self.now.waiting }
     {
@@ -106,6 +113,7 @@ impl Notes {
     }
 
     /// Its texts: what went, and right after it what came. Empty if none are kept, and if none waits.
+    #[tactic(auto, using(crate::proofs::Queue::QueueLemmas::cutting))]
     pub fn oldest_texts(&self) -> &str
         ensures { result.now ≡ texts_of (oldest (Whole self.now.waiting)) }
     {
@@ -117,6 +125,7 @@ impl Notes {
     }
 
     // All that wait as one.
+    #[tactic(auto, using(crate::proofs::Queue::QueueLemmas::joining))]
     pub(crate) fn as_one(&self) -> Joined
         ensures { result ≡ joined (reports_of self.now.waiting) }
     {
@@ -166,6 +175,7 @@ impl Notes {
     }
 
     /// Forgets all but the first `count`.
+    #[tactic(auto, using(crate::proofs::Queue::QueueLemmas::shortened))]
     pub fn truncate(&mut self, count: usize)
         ensures waiting { self.new.waiting ≡ take count self.old.waiting }
         ensures room { KeepsRoom self.old self.new }
@@ -190,6 +200,7 @@ impl Notes {
 
     /// Finds memory for so many more reports. Refused only if memory is out for it, and all that wait do so then too.
     #[inline(always)]
+    #[tactic(auto, using(crate::proofs::Queue::QueueLemmas::counted))]
     pub fn reserve(&mut self, more: usize) -> Result<(), Refusal>
         ensures waiting { self.new.waiting ≡ self.old.waiting }
         ensures room { KeepsRoom self.old self.new }
@@ -201,6 +212,7 @@ impl Notes {
 
     /// Puts a report at the end: at a place what went gave way to what came. There is memory for one more. Refused only where memory
     /// is out for its texts, and all that wait do so then too.
+    #[tactic(auto, using(crate::proofs::Queue::QueueLemmas::counted))]
     pub fn push(
         &mut self,
         kind: ReportKind,
@@ -210,7 +222,7 @@ impl Notes {
     ) -> Result<(), Refusal>
         requires { length self.old.waiting < self.old.places }
         ensures done { OnOk result (self.new.waiting ≡ self.old.waiting ++ noted self.old.text_room kind at gone.now come.now ∷ []) }
-        ensures err { IfErr result (λ r. (r ≡ NoMemory) × (self.new.waiting ≡ self.old.waiting) × Lacks (kept self.old.text_room (gone.now ++ come.now)) self.old) }
+        ensures err { IfErr result (λ r. (r ≡ NoMemory) × (self.new.waiting ≡ self.old.waiting) × Lacks (gone.now ++ come.now) self.old) }
         ensures room { KeepsRoom self.old self.new }
     {
         keep_texts(&mut self.texts, self.text_room, gone, come)?;
@@ -221,11 +233,12 @@ impl Notes {
 
     /// Puts a report at the end: at a place a character came. Texts are kept. All else is as of `push`.
     #[inline(always)]
+    #[tactic(auto, using(crate::proofs::Queue::QueueLemmas::counted))]
     pub fn push_char(&mut self, at: usize, c: char) -> Result<(), Refusal>
         requires keeps { 0 < self.old.text_room }
         requires place { length self.old.waiting < self.old.places }
         ensures done { OnOk result (self.new.waiting ≡ self.old.waiting ++ noted self.old.text_room CharInserted at [] (encode_utf8 c) ∷ []) }
-        ensures err { IfErr result (λ r. (r ≡ NoMemory) × (self.new.waiting ≡ self.old.waiting) × Lacks (kept self.old.text_room (encode_utf8 c)) self.old) }
+        ensures err { IfErr result (λ r. (r ≡ NoMemory) × (self.new.waiting ≡ self.old.waiting) × Lacks (encode_utf8 c) self.old) }
         ensures room { KeepsRoom self.old self.new }
     {
         self.texts.push(c)?;
@@ -236,6 +249,7 @@ impl Notes {
 
     // Puts a report at the end, of which no texts are kept. There is memory for it.
     #[inline(always)]
+    #[tactic(auto, using(crate::proofs::Queue::QueueLemmas::counted))]
     pub(crate) fn push_numbers(&mut self, report: Report)
         requires none { self.old.text_room ≡ 0 }
         requires place { length self.old.waiting < self.old.places }
@@ -246,10 +260,11 @@ impl Notes {
 
     /// Puts the reports of another, which keeps texts as this one does, after those that wait, and leaves memory for so many more. Refused
     /// only if memory is out for it, and all that wait do so then too.
+    #[tactic(auto, using(crate::proofs::Queue::QueueLemmas::cutting, crate::proofs::Queue::QueueLemmas::counted))]
     pub fn append(&mut self, later: Notes, more: usize) -> Result<(), Refusal>
         requires { later.text_room ≡ self.old.text_room }
         ensures done { OnOk result ((self.new.waiting ≡ self.old.waiting ++ later.waiting) × (length self.new.waiting + more ≤ self.new.places)) }
-        ensures err { IfErr result (λ r. (r ≡ NoMemory) × (self.new.waiting ≡ self.old.waiting) × ((0 < length later.waiting) ⊎ (self.old.places < length self.old.waiting + more))) }
+        ensures err { IfErr result (λ r. (r ≡ NoMemory) × (self.new.waiting ≡ self.old.waiting) × AppendTakesMemory later more self.old) }
         ensures room { KeepsRoom self.old self.new }
     {
         let mut reports = later.waiting;
@@ -266,6 +281,7 @@ impl Notes {
 
     /// Tells the last report where the cursor was before it and after it, if that is a change.
     #[inline(always)]
+    #[tactic(auto, using(crate::proofs::Queue::QueueLemmas::notes_told))]
     pub fn tell_last(&mut self, before: usize, after: usize)
         ensures { self.new ≡ record self.old { waiting = on_last (told_note before after) self.old.waiting } }
     {
@@ -275,6 +291,7 @@ impl Notes {
 
 // Tells the last report where the cursor was before it and after it, if that is a change.
 #[inline(always)]
+#[tactic(auto, using(crate::proofs::Queue::QueueLemmas::telling))]
 fn tell_last(waiting: &mut VecDeque<Report>, before: usize, after: usize)
     ensures items { waiting.new.items ≡ on_last (told_cursors before after) waiting.old.items }
     ensures len { deque_len waiting.new ≡ deque_len waiting.old }
@@ -305,9 +322,10 @@ fn drop_spent(texts: &mut String, spent: usize) -> usize
 }
 
 // Puts what went and what came at the end, if texts are kept, or neither if memory is out.
+#[tactic(auto, using(crate::proofs::Texts::TextLemmas::seams))]
 fn keep_texts(texts: &mut String, text_room: usize, gone: &str, come: &str) -> Result<(), Refusal>
     ensures done { OnOk result (string_bytes texts.new ≡ string_bytes texts.old ++ kept text_room (gone.now ++ come.now)) }
-    ensures err { IfErr result (λ r. (r ≡ NoMemory) × (string_bytes texts.new ≡ string_bytes texts.old) × (string_capacity texts.old < length (string_bytes texts.old) + length (kept text_room (gone.now ++ come.now)))) }
+    ensures err { IfErr result (NotKept text_room (gone.now ++ come.now) texts.old texts.new) }
     ensures capacity { string_capacity texts.old ≤ string_capacity texts.new }
 {
     if text_room == 0 {

@@ -51,6 +51,7 @@ pub fn prev_pos(text: &str, pos: usize, n: RepeatCount) -> Option<usize>
 
 /// Blanks are White_Space everywhere: where a cluster holds one, and where the standard library cuts leading and
 /// trailing ones off a text.
+#[tactic(auto, using(crate::proofs::Texts::BlankLemmas::blanks))]
 pub fn blanks_are_white_space()
     ensures same { (c : ℕ) → is_whitespace c ≡ is_white_space c }
     ensures leading { (text : List ℕ) → trim_start text ≡ without_leading_blanks text }

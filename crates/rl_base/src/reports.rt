@@ -4,7 +4,7 @@ ghost use Rattle.std.specs.Str.{IsCharBoundary};
 ghost use Rattle.rl_base.specs.declared.listeners.Refusal.TheVariants.{NoMemory};
 ghost use Rattle.rl_base.specs.declared.reports.ReportKind.TheVariants.{CharInserted};
 ghost use Rattle.rl_base.specs.Event.{Event, Cursors, Start, Stop, apply};
-ghost use Rattle.rl_base.specs.Reports.{AsOne, HasTexts, IsChange, IsLineText, LacksTexts, Leads, Noted, Queue, ReadsTexts, ReadsWhole, as_one, count_of, forgotten, has_room_in, is_change, joined_cursors, new_queue, noting, oldest, queue_step, taken_in, texts_of, told_whole, with_note};
+ghost use Rattle.rl_base.specs.Reports.{AsOne, HasTexts, IsChange, IsLineText, LacksTexts, Leads, Noted, Queue, ReadsTexts, ReadsWhole, as_one, count_of, forgotten, has_room_in, is_change, joined_cursors, new_queue, noting, oldest, queue_step, queue_with, taken_in, texts_of, told_whole};
 
 use crate::listeners::{ChangeListener, DeleteListener, Direction, Refusal};
 use crate::notes::{Notes, bytes_kept, report_of};
@@ -286,7 +286,7 @@ impl Reports {
     #[inline(always)]
     fn note_numbers(&mut self, report: Report)
         requires { self.old.text_room ≡ 0 }
-        ensures { self.new ≡ record self.old { waiting = with_note self.old.room self.old.text_room (record { report = report; texts = [] }) self.old.waiting } }
+        ensures { self.new ≡ queue_with (record { report = report; texts = [] }) self.old }
     {
         if !self.has_room(0) {
             self.fold_in(report);
@@ -381,8 +381,8 @@ pub fn no_step_is_lost()
     ensures new { (placed : Bool) (room text_room : ℕ) (text : List ℕ) → Leads placed (new_queue room text_room) text text }
     ensures heard { (q : Queue) (event : Event) (old text new : List ℕ) → Leads false q old text → IsLineText old → IsLineText text → length new < 2 ^ 64
         → apply event text ≡ Some new → Leads false (queue_step q event) old new }
-    ensures placed { (q : Queue) (event : Event) (before after : ℕ) (old text new : List ℕ) → Leads true q old text → IsLineText old → IsLineText text → length new < 2 ^ 64
-        → IsChange event → IsCharBoundary text before → apply event text ≡ Some new → IsCharBoundary new after
+    ensures placed { (q : Queue) (event : Event) (before after : ℕ) (old text new : List ℕ) → Leads true q old text → IsLineText old
+        → IsLineText text → length new < 2 ^ 64 → IsChange event → IsCharBoundary text before → apply event text ≡ Some new → IsCharBoundary new after
         → Leads true (queue_step (queue_step q event) (Cursors before after)) old new }
     ensures marked { (placed : Bool) (q : Queue) (old new : List ℕ) → Leads placed q old new → IsLineText old → IsLineText new
         → Leads placed (queue_step q Start) old new × Leads placed (queue_step q Stop) old new }

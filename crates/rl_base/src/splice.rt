@@ -60,14 +60,16 @@ pub(crate) const UNTOUCHED: Splice = Splice {
 
 /// A watch that was asked about a text, and then heard of each change of it, takes in all in which the present text
 /// differs from that one, so what it tells then is a splice of the two. If it tells none, they are the same.
+#[tactic(auto, using(crate::proofs::Texts::SpliceLemmas::splicing))]
 pub fn all_that_changed_is_told()
     ensures asked { (text : List ℕ) → IsUtf8 text → length text < 2 ^ 64 → Covers untouched text text }
-    ensures heard { (changed : Splice) (event : Event) (old text new : List ℕ) → Covers changed old text → IsUtf8 text → length text < 2 ^ 64 → length new < 2 ^ 64
-        → apply event text ≡ Some new → Covers (spliced changed event) old new }
+    ensures heard { (changed : Splice) (event : Event) (old text new : List ℕ) → Covers changed old text → IsUtf8 text
+        → length text < 2 ^ 64 → length new < 2 ^ 64 → apply event text ≡ Some new → Covers (spliced changed event) old new }
     ensures tells { (changed : Splice) (old new : List ℕ) → Covers changed old new → MatchOption (told changed) (new ≡ old) (λ splice. Splices splice old new) }
 {}
 
 /// A splice makes each of its two texts of the other.
+#[tactic(auto, using(crate::proofs::Texts::SpliceLemmas::splicing))]
 pub fn a_splice_makes_each_text_of_the_other()
     ensures new { (splice : Splice) (old new : List ℕ) → Splices splice old new
         → take splice.from old ++ slice_range new splice.from splice.new_end ++ drop splice.old_end old ≡ new }

@@ -25,3 +25,6 @@ has_blank-lone cluster one below = sym (ap (list_any is_white_space) (chars-lone
 pub all_alphanumeric-lone : (cluster : List ℕ) → length cluster ≡ 1 → get_or cluster 0 0 < 128 → is_ascii_alphanumeric (get_or cluster 0 0) ≡ all_alphanumeric cluster
 all_alphanumeric-lone cluster one below =
     is_alphanumeric-ascii _ below ∙ sym (ap (list_all is_alphanumeric) (chars-lone cluster one below) ∙ and-true _)
+
+-- what an ASCII character tells
+pub ruleset by_ascii = (is_alphanumeric-ascii, has_blank-lone, all_alphanumeric-lone)

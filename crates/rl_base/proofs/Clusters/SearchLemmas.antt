@@ -1,19 +1,20 @@
 -- Hits of a character, as characters are taken from either end.
-use Rattle.rl_base.proofs.Common.{◌≡◌, ℕ, ◌+◌, ◌-◌, ◌<◌, ◌≤◌, suc, List, [], ◌∷◌, ◌++◌, map, filter, reverse, length, take, drop, slice_range, Option, Some, None, refl, sym, ap, ap₂, subst, ◌∙◌, arith, Bool, true, false, cond, eq-eqb, ne_eqb, eqb, append_assoc, length-append, take_at, eqb-true, take-nil, append-nil, length-drop, length-take-le, take-append-drop, reverse-append, map-append, nil_from_length, filter-append, All-nil, All-cons, All-head, All-tail, All-take, IfSome_then, chars-nil, chars-append, chars_past_char, length-encode, encodes-chars, IsUtf8-append, IsUtf8-drop, IsUtf8-take, IsUtf8-past_char, IsCharBoundary-at_seam, IsCharBoundary-from_rest, IsTrue, len_utf8, All, last_or, IfSome, option_and_then, encode_utf8, encode_utf8_all, unwrap_or, chars, IsUtf8, IsCharBoundary, is_grapheme_break, clusters, bytes_in, next_pos, PlacedCluster, char_places, places_of, hits, nth_or_last, hit_back, hit_ahead, chosen_hit, sought, HitLies, place_of_last, CharSearch, ForwardBefore, BackwardAfter, stands_at}
+use Rattle.rl_base.proofs.Common.{◌≡◌, ℕ, ◌+◌, ◌-◌, ◌<◌, ◌≤◌, suc, List, [], ◌∷◌, ◌++◌, map, filter, reverse, length, take, drop, slice_range, Option, Some, None, refl, sym, ap, ap₂, subst, ◌∙◌, arith, Bool, true, false, cond, eq-eqb, ne_eqb, eqb, append_assoc, length-append, take_at, eqb-true, take-nil, append-nil, length-drop, length-take-le, take-append-drop, reverse-append, map-append, nil_from_length, filter-append, All-nil, All-cons, All-head, All-take, IfSome_then, chars-nil, chars-append, chars_past_char, length-encode, encodes-chars, IsUtf8-append, IsUtf8-drop, IsUtf8-take, IsUtf8-past_char, IsCharBoundary-from_rest, IsTrue, len_utf8, All, last_or, IfSome, option_and_then, encode_utf8, encode_utf8_all, unwrap_or, chars, IsUtf8, IsCharBoundary, is_grapheme_break, clusters, bytes_in, next_pos, PlacedCluster, char_places, places_of, hits, nth_or_last, hit_back, hit_ahead, chosen_hit, sought, HitLies, place_of_last, CharSearch, ForwardBefore, BackwardAfter, stands_at, All-map, IsUtf8-nil, get_or, filter_passes, All-filter}
 use Rattle.unicode_segmentation.specs.Segments.{with_offsets}
 use Rattle.unicode_segmentation.proofs.SegmentsLemmas.{AllPieces, IsPieceOf, All-IsPieceOf, segments_nonempty}
 use Rattle.unicode_segmentation.proofs.TextLemmas.{chars-encode_utf8, IsUtf8-before, take_split}
 use Rattle.rl_base.specs.declared.motion.CharSearch.TheVariants.{Forward, Backward}
 use Rattle.rl_base.proofs.Clusters.ClusterLemmas.{bytes_in-clusters}
-use Rattle.rl_base.proofs.Texts.TextLemmas.{IsCharBoundary-in_front, slice_range-middle, stands_at-part}
+use Rattle.rl_base.proofs.Texts.TextLemmas.{IsCharBoundary-in_front, StandsAt-middle, stands_at-part}
 use Rattle.rl_base.proofs.Clusters.WordLemmas.{All-reverse, last_or-is, last_or-push}
 
 -- ---- one character is taken
-pub char_places-first : (text rest : List ℕ) (from after c : ℕ) → IsUtf8 text → text ≡ encode_utf8 c ++ rest → after ≡ from + length (encode_utf8 c)
-    → char_places from (chars text) ≡ (from, c) ∷ char_places after (chars rest)
-char_places-first text rest from after c u e next =
-    let same : from + len_utf8 c ≡ after = omega (arith, length-encode c) in
-    ap (char_places from) (chars_past_char text rest c u e) ∙ ap (λ n. (from, c) ∷ char_places n (chars rest)) same
+pub char_places-first_at : (text rest : List ℕ) (from after place c : ℕ) → IsUtf8 text → text ≡ encode_utf8 c ++ rest
+    → after ≡ from + length (encode_utf8 c) → place ≡ from
+    → char_places from (chars text) ≡ (place, c) ∷ char_places after (chars rest)
+char_places-first_at text rest from after place c u e next at =
+    ap (char_places from) (chars_past_char text rest c u e)
+    ∙ ap₂ (λ p n. (p, c) ∷ char_places n (chars rest)) (sym at) (omega (arith, length-encode c, next))
 
 -- what is taken is no longer left
 pub left_within : (start at next total : ℕ) (text rest : List ℕ) (c : ℕ) → start + (at + length text) ≡ total → text ≡ encode_utf8 c ++ rest → next ≡ at + length (encode_utf8 c)
@@ -27,21 +28,12 @@ char_places_push from (d ∷ cs) c =
     omega (arith, length-encode d, length-append (encode_utf8 d) (encode_utf8_all cs)) in
     ap (λ l. (from, d) ∷ l) (char_places_push (from + len_utf8 d) cs c ∙ ap (λ n. char_places (from + len_utf8 d) cs ++ (n, c) ∷ []) same)
 
-pub char_places-last : (text rest : List ℕ) (from c : ℕ) → IsUtf8 rest → IsUtf8 (encode_utf8 c) → text ≡ rest ++ encode_utf8 c
-    → char_places from (chars text) ≡ char_places from (chars rest) ++ (from + length rest, c) ∷ []
-char_places-last text rest from c u v e =
-    ap (char_places from) (ap chars e ∙ chars-append rest (encode_utf8 c) u ∙ ap (λ l. chars rest ++ l) (chars-encode_utf8 c v))
-    ∙ char_places_push from (chars rest) c ∙ ap (λ t. char_places from (chars rest) ++ (from + length t, c) ∷ []) (encodes-chars rest u)
-
-pub char_places-first_at : (text rest : List ℕ) (from after place c : ℕ) → IsUtf8 text → text ≡ encode_utf8 c ++ rest → after ≡ from + length (encode_utf8 c) → place ≡ from
-    → char_places from (chars text) ≡ (place, c) ∷ char_places after (chars rest)
-char_places-first_at text rest from after place c u e next at =
-    char_places-first text rest from after c u e next ∙ ap (λ p. (p, c) ∷ char_places after (chars rest)) (sym at)
-
 pub char_places-last_at : (text rest : List ℕ) (from after place c : ℕ) → IsUtf8 rest → IsUtf8 (encode_utf8 c) → text ≡ rest ++ encode_utf8 c → after ≡ from → place ≡ from + length rest
     → char_places from (chars text) ≡ char_places after (chars rest) ++ (place, c) ∷ []
 char_places-last_at text rest from after place c u v e same at =
-    char_places-last text rest from c u v e ∙ ap₂ (λ n p. char_places n (chars rest) ++ (p, c) ∷ []) (sym same) (sym at)
+    ap (char_places from) (ap chars e ∙ chars-append rest (encode_utf8 c) u ∙ ap (λ l. chars rest ++ l) (chars-encode_utf8 c v))
+    ∙ char_places_push from (chars rest) c
+    ∙ ap₂ (λ n p. char_places n (chars rest) ++ (p, c) ∷ []) (sym same) (ap (λ t. from + length t) (encodes-chars rest u) ∙ sym at)
 
 none_among : (wanted from : ℕ) (text : List ℕ) → length text ≡ 0 → places_of wanted (char_places from (chars text)) ≡ []
 none_among wanted from text e = ap (λ cs. places_of wanted (char_places from cs)) (ap chars (nil_from_length text e) ∙ chars-nil)
@@ -108,11 +100,12 @@ char_places_stand text front (c ∷ cs) rest least most e u low high =
     let v = IsUtf8-past_char _ more c u split in
     let width : length (front ++ one) ≡ length front + len_utf8 c = omega (arith, length-append front one, length-encode c) in
     let whole : length (encode_utf8_all (c ∷ cs)) ≡ len_utf8 c + length (encode_utf8_all cs) = omega (arith, length-append one (encode_utf8_all cs), length-encode c) in
+    let at = StandsAt-middle text front one more (length front) here refl (IsUtf8-before _ one more u v split) v in
     All-cons (λ x. IsHit text least most x.1 x.0) (length front, c) _
     (record {
-      start = IsCharBoundary-at_seam text front _ e u;
-      end = subst (IsCharBoundary text) width (IsCharBoundary-at_seam text (front ++ one) more next v);
-      bytes = slice_range-middle text front one more (length front) here refl;
+      start = at.start;
+      end = subst (λ n. IsCharBoundary text (length front + n)) (length-encode c) at.end;
+      bytes = at.bytes;
       from = low;
       to = omega arith;
     })
@@ -120,39 +113,40 @@ char_places_stand text front (c ∷ cs) rest least most e u low high =
     (char_places_stand text (front ++ one) cs rest least most next v (omega arith) (omega arith)))
 
 All-places_of : (Q : ℕ → ℕ → Type 0) (wanted : ℕ) (xs : List (ℕ × ℕ)) → All (λ x. Q x.1 x.0) xs → All (Q wanted) (places_of wanted xs)
-All-places_of Q wanted [] h = All-nil _
-All-places_of Q wanted (x ∷ xs) h = by_test (eqb x.1 wanted) refl (All-places_of Q wanted xs (All-tail (λ y. Q y.1 y.0) x xs h))
-  where
-    by_test : (b : Bool) → eqb x.1 wanted ≡ b → All (Q wanted) (places_of wanted xs)
-        → All (Q wanted) (map (λ y. y.0) (cond b (x ∷ filter (λ y. eqb y.1 wanted) xs) (filter (λ y. eqb y.1 wanted) xs)))
-    by_test true e rest = All-cons (Q wanted) x.0 _ (subst (λ c. Q c x.0) (eqb-true x.1 wanted e) (All-head (λ y. Q y.1 y.0) x xs h)) rest
-    by_test false e rest = rest
+All-places_of Q wanted xs h =
+    let is_wanted : ℕ × ℕ → Bool = λ x. eqb x.1 wanted in
+    All-map (Q wanted) (λ x. x.0) (filter is_wanted xs)
+    (λ k d l. subst (λ c. Q c (get_or (filter is_wanted xs) k d).0) (eqb-true _ wanted (filter_passes is_wanted xs k d l))
+    (All-filter is_wanted (λ x. Q x.1 x.0) xs h k d l))
+
+-- so do the hits in a part of the text
+hits-stand : (text front part rest : List ℕ) (start least most c : ℕ) → text ≡ front ++ (part ++ rest) → length front ≡ start → IsUtf8 part → IsUtf8 rest
+    → least ≤ start → start + length part ≤ most → All (IsHit text least most c) (hits c start part)
+hits-stand text front part rest start least most c e at u v low high =
+    let whole = encodes-chars part u in
+    let same = ap (λ p. p ++ rest) (sym whole) in
+    let placed = char_places_stand text front (chars part) rest least most (e ∙ ap (λ l. front ++ l) same) (subst IsUtf8 same (IsUtf8-append part rest u v))
+    (omega arith) (omega (arith, ap length whole)) in
+    All-places_of (IsHit text least most) c _ (subst (λ p. All (λ x. IsHit text least most x.1 x.0) (char_places p (chars part))) at placed)
 
 nth_or_last-is : (P : ℕ → Type 0) (n : ℕ) (xs : List ℕ) → All P xs → IfSome (nth_or_last n xs) P
 nth_or_last-is P n xs h = last_or-is P None (take n xs) tt (All-take P n xs h)
 
 pub hit_back-is : (text : List ℕ) (pos c n : ℕ) → IsUtf8 text → IsCharBoundary text pos → IfSome (hit_back text pos c n) (IsHit text 0 pos c)
 hit_back-is text pos c n u bound =
-    let front = take pos text in
-    let whole = encodes-chars front (IsUtf8-take text pos u bound) in
-    let split : text ≡ encode_utf8_all (chars front) ++ drop pos text = sym (ap (λ l. l ++ drop pos text) whole ∙ take-append-drop pos text) in
-    let placed = char_places_stand text [] (chars front) (drop pos text) 0 pos split (subst IsUtf8 split u) (omega arith)
-    (omega (arith, ap length whole, length-take-le pos text bound.0)) in
-    nth_or_last-is (IsHit text 0 pos c) n _ (All-reverse (IsHit text 0 pos c) _ (All-places_of (IsHit text 0 pos) c _ placed))
+    nth_or_last-is (IsHit text 0 pos c) n _ (All-reverse (IsHit text 0 pos c) _
+    (hits-stand text [] (take pos text) (drop pos text) 0 0 pos c (sym (take-append-drop pos text)) refl (IsUtf8-take text pos u bound)
+    (IsUtf8-drop text pos u bound)
+    (omega arith) (omega (arith, length-take-le pos text bound.0))))
 
 search_from-is : (text : List ℕ) (start c n : ℕ) → IsUtf8 text → IsCharBoundary text start → IfSome (nth_or_last n (hits c start (drop start text))) (IsHit text start (length text) c)
 search_from-is text start c n u bound =
-    let front = take start text in
-    let rest = drop start text in
-    let v = IsUtf8-drop text start u bound in
-    let whole = encodes-chars rest v in
-    let at = length-take-le start text bound.0 in
-    let tail = append-nil (encode_utf8_all (chars rest)) ∙ whole in
-    let split : text ≡ front ++ (encode_utf8_all (chars rest) ++ []) = sym (ap (λ l. front ++ l) tail ∙ take-append-drop start text) in
-    let placed = char_places_stand text front (chars rest) [] start (length text) split (subst IsUtf8 (sym tail) v) (omega arith)
-    (omega (arith, ap length whole, length-drop start text)) in
+    let split : text ≡ take start text ++ (drop start text ++ []) =
+    sym (ap (λ l. take start text ++ l) (append-nil (drop start text)) ∙ take-append-drop start text) in
     nth_or_last-is (IsHit text start (length text) c) n _
-    (All-places_of (IsHit text start (length text)) c _ (subst (λ p. All (λ x. IsHit text start (length text) x.1 x.0) (char_places p (chars rest))) at placed))
+    (hits-stand text (take start text) (drop start text) [] start start (length text) c split (length-take-le start text bound.0)
+    (IsUtf8-drop text start u bound) IsUtf8-nil
+    (omega arith) (omega (arith, length-drop start text, bound.0)))
 
 -- past one cluster
 record IsPast (text : List ℕ) (pos place : ℕ) : Type 0 where
@@ -242,7 +236,7 @@ last_place-is text rest start end place c u low high le v one e at =
     let width : length front ≡ place = omega (arith, length-append (take start text) rest, length-take-le start text low.0) in
     let within : place ≤ end = omega (arith, ap length split, length-append front (encode_utf8 c), length-take-le end text high.0) in
     let last : place_of_last (take end text) ≡ 0 + length front =
-    ap (λ l. unwrap_or (last_or None (map (λ x. x.0) l)) 0) (char_places-last (take end text) front 0 c w one split)
+    ap (λ l. unwrap_or (last_or None (map (λ x. x.0) l)) 0) (char_places-last_at (take end text) front 0 0 (0 + length front) c w one split refl refl)
     ∙ ap (λ o. unwrap_or o 0) (last_or-push (λ x. x.0) None (char_places 0 (chars front)) (0 + length front, c)) in
     record {
       value = omega arith;

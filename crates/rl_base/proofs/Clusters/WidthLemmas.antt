@@ -41,3 +41,6 @@ columns-first_part text part more total u v h =
     let sum = ap (sum_by (str_width false)) (ap (slice_split is_joiner) cut ∙ slice_split_at is_joiner (chars part) 0x200D (chars more) none refl)
     ∙ sum_by-cons (str_width false) (chars part) (slice_split is_joiner (chars more)) in
     omega (arith, sum)
+
+-- the columns of what is left
+pub ruleset columns = (columns-char, columns-none, columns-part, columns-first_part)

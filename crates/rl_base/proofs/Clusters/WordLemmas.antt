@@ -158,3 +158,6 @@ member-is P (x ∷ xs) h = from (is_word Emacs x.1) (member-is P xs (All-tail (�
 
 pub IsCharBoundary-member : (text : List ℕ) (place : ℕ) → IsUtf8 text → Some place ≡ first_member (placed_clusters text) → IsCharBoundary text place
 IsCharBoundary-member text place u e = subst (λ o. IfSome o (IsCharBoundary text)) (sym e) (member-is (IsCharBoundary text) (placed_clusters text) (All-places text u))
+
+-- that 0 is a boundary of a text
+pub ruleset starting = (IsCharBoundary-start)

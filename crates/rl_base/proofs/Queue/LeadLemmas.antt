@@ -1,11 +1,11 @@
 -- What reports lead to.
-use Rattle.rl_base.proofs.Common.{◌≡◌, ℕ, ◌+◌, ◌-◌, ◌^◌, ◌<◌, ◌≤◌, ◌⊎◌, inl, inr, Bool, true, false, min, List, [], ◌∷◌, ◌++◌, length, take, drop, fold, encode_utf8, slice_range, Option, Some, None, if◌then◌else◌, refl, sym, ap, subst, ◌∙◌, arith, length-append, take_at, drop_at, OnTrue_at, OnTrue_from, and_parts, nat_tests, length-take-le, length-drop, IsCharBoundary-start, OnFalse, OnTrue, replace_range, nat_lt, IsCharBoundary, IsUtf8, Joined, Report, ReportKind, Splice, Event, InsertChar, InsertStr, Delete, Replace, Stop, Cursors, AsOne, HasTexts, IsChange, IsLineText, LacksTexts, Leads, LeadsBy, Noted, Queue, ReadsTexts, ReadsWhole, Stand, Tells, WaitLeads, Waiting, Whole, after_texts, apart, as_one, forgotten, has_room_in, is_change, joined_cursors, kept, new_queue, noted, noting, nothing_joined, oldest, on_last, queue_step, reports_of, splice_of, taken_in, told_cursors, told_whole, with_cursors, with_note, Covers, Splices, folded, untouched}
+use Rattle.rl_base.proofs.Common.{◌≡◌, ℕ, ◌+◌, ◌-◌, ◌^◌, ◌<◌, ◌≤◌, ◌⊎◌, inl, inr, Bool, true, false, min, List, [], ◌∷◌, ◌++◌, length, take, drop, fold, encode_utf8, slice_range, Option, Some, None, if◌then◌else◌, refl, sym, ap, subst, ◌∙◌, arith, length-append, take_at, drop_at, OnTrue_at, OnTrue_from, length-take-le, length-drop, IsCharBoundary-start, OnFalse, OnTrue, replace_range, IsCharBoundary, IsUtf8, Joined, Report, ReportKind, Splice, Event, InsertChar, InsertStr, Delete, Replace, Stop, Cursors, AsOne, HasTexts, IsChange, IsLineText, LacksTexts, Leads, LeadsBy, Noted, Queue, ReadsTexts, ReadsWhole, Stand, Tells, WaitLeads, Waiting, Whole, after_texts, apart, as_one, forgotten, has_room_in, is_change, joined_cursors, kept, new_queue, noted, noting, nothing_joined, oldest, on_last, queue_step, reports_of, splice_of, taken_in, told_cursors, told_whole, with_cursors, with_note, Covers, Splices, folded, untouched, told_note, cond_both, ap₂}
 use Rattle.rl_base.specs.declared.listeners.Direction.TheVariants.{Forward, Backward}
 use Rattle.rl_base.specs.declared.reports.ReportKind.TheVariants as kind
 use Rattle.rl_base.specs.Event.{Start, apply}
-use Rattle.rl_base.proofs.Queue.QueueLemmas.{kept-all, length-on_last}
-use Rattle.rl_base.proofs.Texts.SpliceLemmas.{Covers-more, Splices-Swaps, Splices-as, Splices-new, came, went}
-use Rattle.rl_base.proofs.Texts.SwapLemmas.{Swaps, Swaps-InsertChar, Swaps-InsertStr, Swaps-Delete, Swaps-Replace, apply-IsUtf8}
+use Rattle.rl_base.proofs.Queue.QueueLemmas.{has_room-means, kept-all, length-on_last}
+use Rattle.rl_base.proofs.Texts.SpliceLemmas.{Covers-more, Splices-Swaps, Splices-as, Splices-new}
+use Rattle.rl_base.proofs.Texts.SwapLemmas.{Swaps, Swaps-back, Swaps-stands, Swaps-InsertChar, Swaps-InsertStr, Swaps-Delete, Swaps-Replace, apply-IsUtf8}
 
 -- a note that is put at the end leads one text further
 pub LeadsBy-push : (placed : Bool) (k : ℕ) (n : Noted) (ns : List Noted) (old text new : List ℕ) → LeadsBy placed k ns old text → Tells k n text new → IsLineText new
@@ -14,14 +14,16 @@ LeadsBy-push placed k n [] old text new l t u c = (new, subst (λ x. Tells k n x
 LeadsBy-push placed k n (m ∷ ms) old text new l t u c = (l.0, l.1, l.2, l.3, LeadsBy-push placed k n ms l.0 text new l.4 t u c)
 
 -- cursors leave what a note tells
-told-same : (b : Bool) (k before after : ℕ) (n : Noted) (old new : List ℕ) → Tells k n old new → Tells k (record { report = if b then record n.report { cursors = Some (before, after) } else n.report; texts = n.texts }) old new
-told-same true k before after n old new t = record { splices = t.splices; texts_are = t.texts_are; mark = t.mark; apart = t.apart }
-told-same false k before after n old new t = record { splices = t.splices; texts_are = t.texts_are; mark = t.mark; apart = t.apart }
+told-same : (k before after : ℕ) (n : Noted) (old new : List ℕ) → Tells k n old new → Tells k (told_note before after n) old new
+told-same k before after n old new t =
+    cond_both (is_change n.report.kind) (record n.report { cursors = Some (before, after) }) n.report
+    (λ r. Tells k (record { report = r; texts = n.texts }) old new)
+    (λ _. record { splices = t.splices; texts_are = t.texts_are; mark = t.mark; apart = t.apart }) (λ _. t)
 
 pub LeadsBy-told : (k before after : ℕ) (ns : List Noted) (old new : List ℕ) → LeadsBy false k ns old new
     → LeadsBy false k (on_last (λ n. record { report = told_cursors before after n.report; texts = n.texts }) ns) old new
 LeadsBy-told k before after [] old new l = l
-LeadsBy-told k before after (n ∷ []) old new l = (l.0, told-same (is_change n.report.kind) k before after n old l.0 l.1, l.2, tt, l.4)
+LeadsBy-told k before after (n ∷ []) old new l = (l.0, told-same k before after n old l.0 l.1, l.2, tt, l.4)
 LeadsBy-told k before after (n ∷ (m ∷ ms)) old new l = (l.0, l.1, l.2, tt, LeadsBy-told k before after (m ∷ ms) l.0 new l.4)
 
 -- cursors of two changes as one
@@ -55,36 +57,43 @@ leads-as_one placed k (Whole ns) old new l u =
     joined-notes placed nothing_joined k ns old old new (record { utf8 = u.utf8; fits = u.fits; differ = inl (refl, refl) }, OnTrue_from placed _ (λ e. refl)) l u
 leads-as_one placed k (AsOne all) old new l u = l
 
--- one more note leads one text further
-pub Leads-note : (placed : Bool) (q : Queue) (n : Noted) (old text new : List ℕ) → Leads placed q old text → Tells q.text_room n text new → OnTrue placed (Stand n.report.cursors text new)
-    → IsLineText old → IsLineText text → IsLineText new → Leads placed (record q { waiting = with_note q.room q.text_room n q.waiting }) old new
-Leads-note placed q n old text new l t c u v w = record { leads = leads q.waiting l.leads; within = within q.waiting l.within; one = l.one }
+-- one more note leads one text further, also as what waits is later changed: a note that was put in, and all as one
+Leads-note : (placed : Bool) (later : Waiting → Waiting) (q : Queue) (n told : Noted) (old text new : List ℕ)
+    → ((ns : List Noted) → later (Whole (ns ++ n ∷ [])) ≡ Whole (ns ++ told ∷ []))
+    → ((all : Joined) → later (AsOne (taken_in all n.report)) ≡ AsOne (taken_in all told.report))
+    → Leads placed q old text → Tells q.text_room told text new → OnTrue placed (Stand told.report.cursors text new) → IsLineText old → IsLineText text
+    → IsLineText new
+    → Leads placed (record q { waiting = later (with_note q.room q.text_room n q.waiting) }) old new
+Leads-note placed later q n told old text new put taken l t c u v w = from q.waiting l
   where
-    leads_by : (b : Bool) (ns : List Noted) → LeadsBy placed q.text_room ns old text → WaitLeads placed q.text_room (if b then Whole (ns ++ n ∷ []) else AsOne (taken_in (as_one (Whole ns)) n.report)) old new
-    leads_by true ns l = LeadsBy-push placed q.text_room n ns old text new l t w c
-    leads_by false ns l = joined-note placed (as_one (Whole ns)) q.text_room n old text new (leads-as_one placed q.text_room (Whole ns) old text l u) t c v w
+    folds : (waiting : Waiting) → Leads placed (record q { waiting = waiting }) old text
+        → Leads placed (record q { waiting = later (AsOne (taken_in (as_one waiting) n.report)) }) old new
+    folds waiting l = rw (taken (as_one waiting)) record {
+      leads = joined-note placed (as_one waiting) q.text_room told old text new (leads-as_one placed q.text_room waiting old text l.leads u) t c v w;
+      within = omega arith;
+      one = l.one;
+    }
 
-    leads : (waiting : Waiting) → WaitLeads placed q.text_room waiting old text → WaitLeads placed q.text_room (with_note q.room q.text_room n waiting) old new
-    leads (Whole ns) l = leads_by (has_room_in q.room q.text_room (length n.texts) (Whole ns)) ns l
-    leads (AsOne all) l = joined-note placed all q.text_room n old text new l t c v w
-
-    within_by : (b : Bool) (ns : List Noted) → has_room_in q.room q.text_room (length n.texts) (Whole ns) ≡ b → apart (if b then Whole (ns ++ n ∷ []) else AsOne (taken_in (as_one (Whole ns)) n.report)) ≤ q.room
-    within_by true ns h =
-        let left : nat_lt (length ns) q.room ≡ true = (and_parts (nat_lt (length ns) q.room) _ h).0 in
-        let few : length ns < q.room = grind (arith, nat_tests) in
-        omega (arith, few, length-append ns (n ∷ []))
-    within_by false ns h = omega arith
-
-    within : (waiting : Waiting) → apart waiting ≤ q.room → apart (with_note q.room q.text_room n waiting) ≤ q.room
-    within (Whole ns) h = within_by (has_room_in q.room q.text_room (length n.texts) (Whole ns)) ns refl
-    within (AsOne all) h = omega arith
+    from : (waiting : Waiting) → Leads placed (record q { waiting = waiting }) old text
+        → Leads placed (record q { waiting = later (with_note q.room q.text_room n waiting) }) old new
+    from (AsOne all) l = folds (AsOne all) l
+    from (Whole ns) l =
+        cond_both (has_room_in q.room q.text_room (length n.texts) (Whole ns)) (Whole (ns ++ n ∷ [])) _
+        (λ waiting. Leads placed (record q { waiting = later waiting }) old new)
+        (λ room. rw (put ns) record {
+          leads = LeadsBy-push placed q.text_room told ns old text new l.leads t w c;
+          within = omega (arith, (has_room-means q.room q.text_room (length n.texts) ns None room).place, length-append ns (told ∷ []));
+          one = l.one;
+        })
+        (λ _. folds (Whole ns) l)
 
 -- a swap is told by its report, and a mark by its own
 pub Tells-Swaps : (k : ℕ) (which : ReportKind) (i : ℕ) (gone come text new : List ℕ) → is_change which ≡ true → ¬ (which ≡ kind.Folded) → Swaps text new i gone come
     → Tells k (noted k which i gone come) text new
 Tells-Swaps k which i gone come text new b f s = record {
   splices = Splices-Swaps text new i gone come s;
-  texts_are = ap (λ x. kept k (x ++ come)) (sym (went text new i gone come s)) ∙ ap (λ y. kept k (slice_range text i (i + length gone) ++ y)) (sym (came text new i gone come s));
+  texts_are = ap₂ (λ x y. kept k (x ++ y)) (sym (Swaps-stands text new i gone come s).bytes)
+      (sym (Swaps-stands new text i come gone (Swaps-back text new i gone come s)).bytes);
   mark = rw b tt;
   apart = f;
 }
@@ -105,24 +114,32 @@ Tells-mark k which text u b = record {
 
 -- a change is heard as a note
 heard_as : (P : Queue → Type 0) (q : Queue) (event : Event) (text new : List ℕ) → IsLineText text → IsChange event → apply event text ≡ Some new
-    → ((which : ReportKind) (i : ℕ) (gone come : List ℕ) → is_change which ≡ true → Tells q.text_room (noted q.text_room which i gone come) text new → P (noting which i gone come q)) → P (queue_step q event)
-heard_as P q (InsertChar i c) text new v is h note = note kind.CharInserted i [] (encode_utf8 c) refl (Tells-Swaps q.text_room kind.CharInserted i [] (encode_utf8 c) text new refl (λ e. absurd cc) (Swaps-InsertChar text new i c v.utf8 h))
-heard_as P q (InsertStr i s) text new v is h note = note kind.TextInserted i [] s refl (Tells-Swaps q.text_room kind.TextInserted i [] s text new refl (λ e. absurd cc) (Swaps-InsertStr text new i s v.utf8 h))
-heard_as P q (Delete i s Forward) text new v is h note =
-    note kind.DeletedForward i s [] refl (Tells-Swaps q.text_room kind.DeletedForward i s [] text new refl (λ e. absurd cc) (Swaps-Delete text new i s Forward v.utf8 h))
-heard_as P q (Delete i s Backward) text new v is h note =
-    note kind.DeletedBackward i s [] refl (Tells-Swaps q.text_room kind.DeletedBackward i s [] text new refl (λ e. absurd cc) (Swaps-Delete text new i s Backward v.utf8 h))
-heard_as P q (Replace i s t) text new v is h note = note kind.Replaced i s t refl (Tells-Swaps q.text_room kind.Replaced i s t text new refl (λ e. absurd cc) (Swaps-Replace text new i s t v.utf8 h))
-heard_as P q Start text new v is h note = absurd is
-heard_as P q Stop text new v is h note = absurd is
-heard_as P q (Cursors b a) text new v is h note = absurd is
+    → ((which : ReportKind) (i : ℕ) (gone come : List ℕ) → is_change which ≡ true → Tells q.text_room (noted q.text_room which i gone come) text new
+    → P (noting which i gone come q)) → P (queue_step q event)
+heard_as P q event text new v is h note = from event is h
+  where
+    told : (which : ReportKind) (i : ℕ) (gone come : List ℕ) → is_change which ≡ true → ¬ (which ≡ kind.Folded) → Swaps text new i gone come
+        → P (noting which i gone come q)
+    told which i gone come b f s = note which i gone come b (Tells-Swaps q.text_room which i gone come text new b f s)
+
+    from : (e : Event) → IsChange e → apply e text ≡ Some new → P (queue_step q e)
+    from (InsertChar i c) is h = told kind.CharInserted i [] (encode_utf8 c) refl (λ e. absurd cc) (Swaps-InsertChar text new i c v.utf8 h)
+    from (InsertStr i s) is h = told kind.TextInserted i [] s refl (λ e. absurd cc) (Swaps-InsertStr text new i s v.utf8 h)
+    from (Delete i s Forward) is h = told kind.DeletedForward i s [] refl (λ e. absurd cc) (Swaps-Delete text new i s Forward v.utf8 h)
+    from (Delete i s Backward) is h = told kind.DeletedBackward i s [] refl (λ e. absurd cc) (Swaps-Delete text new i s Backward v.utf8 h)
+    from (Replace i s t) is h = told kind.Replaced i s t refl (λ e. absurd cc) (Swaps-Replace text new i s t v.utf8 h)
+    from Start is h = absurd is
+    from Stop is h = absurd is
+    from (Cursors b a) is h = absurd is
 
 -- a kill's start and stop leave the text
 pub marked : (placed : Bool) (q : Queue) (old new : List ℕ) → Leads placed q old new → IsLineText old → IsLineText new → Leads placed (queue_step q Start) old new × Leads placed (queue_step q Stop) old new
-marked placed q old new l u v = (
-  Leads-note placed q (noted q.text_room kind.KillStarted 0 [] []) old new new l (Tells-mark q.text_room kind.KillStarted new v refl) (OnTrue_from placed _ (λ e. refl)) u v v,
-  Leads-note placed q (noted q.text_room kind.KillStopped 0 [] []) old new new l (Tells-mark q.text_room kind.KillStopped new v refl) (OnTrue_from placed _ (λ e. refl)) u v v,
-)
+marked placed q old new l u v = (mark kind.KillStarted refl, mark kind.KillStopped refl)
+  where
+    mark : (which : ReportKind) → is_change which ≡ false → Leads placed (noting which 0 [] [] q) old new
+    mark which b =
+        let n = noted q.text_room which 0 [] [] in
+        Leads-note placed (λ w. w) q n n old new new (λ _. refl) (λ _. refl) l (Tells-mark q.text_room which new v b) (OnTrue_from placed _ (λ e. refl)) u v v
 
 -- cursors that are told after a change are those of its note
 pub on_last-one : (f : Noted → Noted) (ns : List Noted) (n : Noted) → on_last f (ns ++ n ∷ []) ≡ ns ++ f n ∷ []
@@ -134,36 +151,17 @@ joined-none : (c : Option (ℕ × ℕ)) → joined_cursors c None ≡ c
 joined-none None = refl
 joined-none (Some c) = refl
 
-abbrev with_told : ℕ → ℕ → Noted → Noted
-with_told before after n = record { report = record n.report { cursors = Some (before, after) }; texts = n.texts }
-
-told-note : (room k before after : ℕ) (n : Noted) (w : Waiting) → is_change n.report.kind ≡ true → n.report.cursors ≡ None
-    → with_cursors before after (with_note room k n w) ≡ with_note room k (with_told before after n) w
-told-note room k before after n w b none = from w
-  where
-    more : (all : Joined) → with_cursors before after (AsOne (taken_in all n.report)) ≡ AsOne (taken_in all (with_told before after n).report)
-    more all = ap (λ c. AsOne (record { splice = (taken_in all n.report).splice; cursors = joined_cursors c (Some (before, after)) })) (ap (joined_cursors all.cursors) none ∙ joined-none all.cursors)
-
-    told : told_cursors before after n.report ≡ record n.report { cursors = Some (before, after) }
-    told = ap (λ c. if c then record n.report { cursors = Some (before, after) } else n.report) b
-
-    by : (c : Bool) (ns : List Noted) → with_cursors before after (if c then Whole (ns ++ n ∷ []) else AsOne (taken_in (as_one (Whole ns)) n.report))
-        ≡ (if c then Whole (ns ++ with_told before after n ∷ []) else AsOne (taken_in (as_one (Whole ns)) (with_told before after n).report))
-    by true ns = ap Whole (on_last-one _ ns n ∙ ap (λ r. ns ++ record { report = r; texts = n.texts } ∷ []) told)
-    by false ns = more (as_one (Whole ns))
-
-    from : (w : Waiting) → with_cursors before after (with_note room k n w) ≡ with_note room k (with_told before after n) w
-    from (Whole ns) = by (has_room_in room k (length n.texts) (Whole ns)) ns
-    from (AsOne all) = more all
-
 pub placed : (q : Queue) (event : Event) (before after : ℕ) (old text new : List ℕ) → Leads true q old text → IsLineText old → IsLineText text → length new < 2 ^ 64
     → IsChange event → IsCharBoundary text before → apply event text ≡ Some new → IsCharBoundary new after → Leads true (queue_step (queue_step q event) (Cursors before after)) old new
 placed q event before after old text new l u v fits is b h a =
     heard_as (λ now. Leads true (queue_step now (Cursors before after)) old new) q event text new v is h λ which i gone come change t.
     let n = noted q.text_room which i gone come in
-    let tells : Tells q.text_room (with_told before after n) text new = record { splices = t.splices; texts_are = t.texts_are; mark = t.mark; apart = t.apart } in
-    subst (λ w. Leads true (record q { waiting = w }) old new) (sym (told-note q.room q.text_room before after n q.waiting change refl))
-    (Leads-note true q (with_told before after n) old text new l tells (b, a) u v (record { utf8 = apply-IsUtf8 event text new v.utf8 h; fits = fits }))
+    let told : Noted = record { report = record n.report { cursors = Some (before, after) }; texts = n.texts } in
+    Leads-note true (with_cursors before after) q n told old text new
+    (λ ns. ap Whole (on_last-one _ ns n ∙ ap (λ c. ns ++ record { report = if c then told.report else n.report; texts = n.texts } ∷ []) change))
+    (λ all. ap (λ c. AsOne (record { splice = (taken_in all n.report).splice; cursors = joined_cursors c (Some (before, after)) })) (joined-none all.cursors))
+    l (record { splices = t.splices; texts_are = t.texts_are; mark = t.mark; apart = t.apart }) (b, a) u v
+    (record { utf8 = apply-IsUtf8 event text new v.utf8 h; fits = fits })
 
 -- cursors that are told alone leave where a queue leads
 apart-told : (before after : ℕ) (w : Waiting) → apart (with_cursors before after w) ≡ apart w
@@ -183,7 +181,8 @@ heard q event old text new l u v fits h = from event h
     after = record { utf8 = apply-IsUtf8 event text new v.utf8 h; fits = fits }
 
     change : (e : Event) → IsChange e → apply e text ≡ Some new → Leads false (queue_step q e) old new
-    change e is h = heard_as (λ now. Leads false now old new) q e text new v is h λ which i gone come c t. Leads-note false q (noted q.text_room which i gone come) old text new l t tt u v after
+    change e is h = heard_as (λ now. Leads false now old new) q e text new v is h λ which i gone come c t.
+        let n = noted q.text_room which i gone come in Leads-note false (λ w. w) q n n old text new (λ _. refl) (λ _. refl) l t tt u v after
 
     from : (e : Event) → apply e text ≡ Some new → Leads false (queue_step q e) old new
     from (InsertChar i c) h = change (InsertChar i c) tt h

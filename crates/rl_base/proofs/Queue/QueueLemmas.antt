@@ -1,13 +1,12 @@
 -- Reports whose texts stand in one text, one after another, after those of reports that are forgotten.
-use Rattle.rl_base.proofs.Common.{◌≡◌, ℕ, zero, suc, ◌+◌, ◌-◌, ◌<◌, ◌≤◌, Bool, true, false, List, [], ◌∷◌, ◌++◌, length, take, drop, get_or, slice_set, ◌==◌, Option, Some, None, if◌then◌else◌, refl, sym, ap, subst, ◌∙◌, arith, append_assoc, length-append, drop-append_seam, take-append_seam, length-take-le, length-drop, take-append-drop, take-append-le, drop-append-le, take_all, drop_all, IsCharBoundary-at_seam, IsCharBoundary-from_drop, IsCharBoundary-from_take, IsUtf8-nil, IsUtf8-append, and_parts, cond_both, leb-true, ltb-true, nat_tests, Err, Ok, OnOk, Result, is_err, nat_le, nat_lt, IsCharBoundary, IsUtf8, Joined, Report, ReportKind, Cuts, KeepsRoom, Notes, bytes_kept, notes, IsQueue, Noted, has_room_in, waiting_of, is_change, kept, noted, on_last, reports_of, text_bytes, told_cursors, told_note}
+use Rattle.rl_base.proofs.Common.{◌≡◌, ℕ, zero, suc, ◌+◌, ◌-◌, ◌<◌, ◌≤◌, Bool, true, false, List, [], ◌∷◌, ◌++◌, length, take, drop, get_or, slice_set, ◌==◌, Option, Some, None, if◌then◌else◌, refl, sym, ap, subst, ◌∙◌, arith, append_assoc, length-append, drop-append_seam, take-append_seam, length-take-le, length-drop, take-append-drop, take-append-le, drop-append-le, take_all, drop_all, IsCharBoundary-at_seam, IsCharBoundary-from_drop, IsCharBoundary-from_take, IsUtf8-nil, IsUtf8-append, and_parts, cond_both, leb-true, ltb-true, nat_tests, Err, Ok, OnOk, Result, is_err, nat_le, nat_lt, IsCharBoundary, IsUtf8, Joined, Report, ReportKind, Cuts, KeepsRoom, Notes, bytes_kept, notes, IsQueue, Noted, has_room_in, waiting_of, is_change, kept, noted, on_last, reports_of, text_bytes, told_cursors, told_note, IsCharBoundary-from_rest, fold-append, length-map, take_at, drop_at, ap₂, take-take}
 
 pub reports_of-notes : (k : ℕ) (rs : List Report) (bytes : List ℕ) → reports_of (notes k rs bytes) ≡ rs
 reports_of-notes k [] bytes = refl
 reports_of-notes k (r ∷ rs) bytes = ap (λ l. r ∷ l) (reports_of-notes k rs (drop (bytes_kept k r) bytes))
 
 pub length-notes : (k : ℕ) (rs : List Report) (bytes : List ℕ) → length (notes k rs bytes) ≡ length rs
-length-notes k [] bytes = refl
-length-notes k (r ∷ rs) bytes = ap suc (length-notes k rs (drop (bytes_kept k r) bytes))
+length-notes k rs bytes = sym (length-map (notes k rs bytes) (λ (n : Noted). n.report)) ∙ ap length (reports_of-notes k rs bytes)
 
 pub text_bytes-notes : (k : ℕ) (rs : List Report) (bytes : List ℕ) → Cuts k rs bytes → text_bytes (notes k rs bytes) ≡ length bytes
 text_bytes-notes k [] bytes c = sym (ap length c)
@@ -15,12 +14,9 @@ text_bytes-notes k (r ∷ rs) bytes c =
     omega (arith, c.0, length-take-le (bytes_kept k r) bytes c.0, length-drop (bytes_kept k r) bytes, text_bytes-notes k rs (drop (bytes_kept k r) bytes) c.2)
 
 -- cursors leave the lengths
-bytes_kept-if : (b : Bool) (k before after : ℕ) (r : Report) → bytes_kept k (if b then record r { cursors = Some (before, after) } else r) ≡ bytes_kept k r
-bytes_kept-if true k before after r = refl
-bytes_kept-if false k before after r = refl
-
 bytes_kept-told : (k before after : ℕ) (r : Report) → bytes_kept k (told_cursors before after r) ≡ bytes_kept k r
-bytes_kept-told k before after r = bytes_kept-if (is_change r.kind) k before after r
+bytes_kept-told k before after r =
+    cond_both (is_change r.kind) _ r (λ (s : Report). bytes_kept k s ≡ bytes_kept k r) (λ _. refl) (λ _. refl)
 
 pub notes-told : (k before after : ℕ) (rs : List Report) (bytes : List ℕ) → notes k (on_last (told_cursors before after) rs) bytes
     ≡ on_last (told_note before after) (notes k rs bytes)
@@ -41,12 +37,25 @@ length-on_last f (x ∷ []) = refl
 length-on_last f (x ∷ (y ∷ ys)) = ap suc (length-on_last f (y ∷ ys))
 
 -- the last element, written in its place
-pub on_last-set : {A : Type 0} (f : A → A) (xs : List A) (n : ℕ) (x : A) → suc n ≡ length xs → x ≡ get_or xs n x → slice_set xs n (f x) ≡ on_last f xs
+on_last-set : {A : Type 0} (f : A → A) (xs : List A) (n : ℕ) (x : A) → suc n ≡ length xs → x ≡ get_or xs n x → slice_set xs n (f x) ≡ on_last f xs
 on_last-set f [] n x e h = absurd (omega arith)
 on_last-set f (a ∷ []) zero x e h = ap (λ y. f y ∷ []) h
 on_last-set f (a ∷ []) (suc n) x e h = absurd (omega arith)
 on_last-set f (a ∷ (b ∷ bs)) zero x e h = absurd (omega arith)
 on_last-set f (a ∷ (b ∷ bs)) (suc n) x e h = ap (λ l. a ∷ l) (on_last-set f (b ∷ bs) n x (omega arith) h)
+
+pub told-set : (before after : ℕ) (rs : List Report) (n : ℕ) (r : Report) → is_change r.kind ≡ true → suc n ≡ length rs → r ≡ get_or rs n r
+    → slice_set rs n (record r { cursors = Some (before, after) }) ≡ on_last (told_cursors before after) rs
+told-set before after rs n r b e h =
+    ap (λ c. slice_set rs n (if c then record r { cursors = Some (before, after) } else r)) (sym b) ∙ on_last-set (told_cursors before after) rs n r e h
+
+pub untold-set : (before after : ℕ) (rs : List Report) (n : ℕ) (r : Report) → is_change r.kind ≡ false → suc n ≡ length rs → r ≡ get_or rs n r
+    → slice_set rs n r ≡ on_last (told_cursors before after) rs
+untold-set before after rs n r b e h =
+    ap (λ c. slice_set rs n (if c then record r { cursors = Some (before, after) } else r)) (sym b) ∙ on_last-set (told_cursors before after) rs n r e h
+
+-- the last report once cursors were told
+pub ruleset telling = (told-set, untold-set)
 
 -- what is made of texts is one
 Cuts-IsUtf8 : (k : ℕ) (rs : List Report) (bytes : List ℕ) → Cuts k rs bytes → IsUtf8 bytes
@@ -71,41 +80,34 @@ notes-append : (k : ℕ) (rs ss : List Report) (a b : List ℕ) → Cuts k rs a 
 notes-append k [] ss a b c = ap (λ t. notes k ss (t ++ b)) c
 notes-append k (r ∷ rs) ss a b c =
     let n = bytes_kept k r in
-    ap (λ t. record { report = r; texts = t } ∷ notes k (rs ++ ss) (drop n (a ++ b))) (take-append-le n a b c.0)
-    ∙ ap (λ t. record { report = r; texts = take n a } ∷ notes k (rs ++ ss) t) (drop-append-le n a b c.0)
-    ∙ ap (λ l. record { report = r; texts = take n a } ∷ l) (notes-append k rs ss (drop n a) b c.2)
+    rw (take-append-le n a b c.0, drop-append-le n a b c.0)
+    (ap (λ l. record { report = r; texts = take n a } ∷ l) (notes-append k rs ss (drop n a) b c.2))
 
 Cuts-append : (k : ℕ) (rs ss : List Report) (a b : List ℕ) → Cuts k rs a → Cuts k ss b → Cuts k (rs ++ ss) (a ++ b)
 Cuts-append k [] ss a b c d = subst (λ t. Cuts k ss (t ++ b)) (sym c) d
 Cuts-append k (r ∷ rs) ss a b c d =
-    let n = bytes_kept k r in (
-      omega (arith, c.0, length-append a b),
-      subst IsUtf8 (sym (take-append-le n a b c.0)) c.1,
-      subst (λ t. Cuts k (rs ++ ss) t) (sym (drop-append-le n a b c.0)) (Cuts-append k rs ss (drop n a) b c.2 d),
-    )
+    let n = bytes_kept k r in
+    rw (take-append-le n a b c.0, drop-append-le n a b c.0) (omega (arith, c.0, length-append a b), c.1, Cuts-append k rs ss (drop n a) b c.2 d)
 
--- one text with what is spent and what waits, and the texts of more reports after it
-pub record Joins (k : ℕ) (rs ss : List Report) (spent : ℕ) (text more : List ℕ) : Type 0 where
-  pub order : spent ≤ length (text ++ more)
-  pub cuts : Cuts k (rs ++ ss) (drop spent (text ++ more))
-  pub waits : notes k (rs ++ ss) (drop spent (text ++ more)) ≡ notes k rs (drop spent text) ++ notes k ss more
+-- in one text with what is spent and what waits, more notes stand at the end
+pub record Joins (k : ℕ) (rs now : List Report) (ns : List Noted) (spent : ℕ) (text new : List ℕ) : Type 0 where
+  pub spent_within : spent + spent ≤ length new
+  pub cuts : Cuts k now (drop spent new)
+  pub waits : notes k now (drop spent new) ≡ notes k rs (drop spent text) ++ ns
 
-pub joins : (k : ℕ) (rs ss : List Report) (spent : ℕ) (text more : List ℕ) → spent ≤ length text → Cuts k rs (drop spent text) → Cuts k ss more → Joins k rs ss spent text more
-joins k rs ss spent text more le c d =
-    let seam = drop-append-le spent text more le in
+pub joins : (k : ℕ) (rs ss now : List Report) (spent : ℕ) (text more new : List ℕ) → spent + spent ≤ length text → Cuts k rs (drop spent text) → Cuts k ss more
+    → now ≡ rs ++ ss → new ≡ text ++ more → Joins k rs now (notes k ss more) spent text new
+joins k rs ss now spent text more new le c d same longer =
+    let seam : drop spent new ≡ drop spent text ++ more = ap (drop spent) longer ∙ drop-append-le spent text more (omega (arith, le)) in
     record {
-      order = omega (arith, le, length-append text more);
-      cuts = subst (Cuts k (rs ++ ss)) (sym seam) (Cuts-append k rs ss (drop spent text) more c d);
-      waits = ap (notes k (rs ++ ss)) seam ∙ notes-append k rs ss (drop spent text) more c;
+      spent_within = omega (arith, le, ap length longer, length-append text more);
+      cuts = rw (same, seam) (Cuts-append k rs ss (drop spent text) more c d);
+      waits = rw (same, seam) (notes-append k rs ss (drop spent text) more c);
     }
 
 -- texts that are kept
-length-kept-if : (b : Bool) (gone come : List ℕ) → length (if b then [] else (gone ++ come)) ≡ (if b then 0 else (length gone + length come))
-length-kept-if true gone come = refl
-length-kept-if false gone come = length-append gone come
-
 pub length-kept : (k : ℕ) (kind : ReportKind) (place : ℕ) (gone come : List ℕ) → length (kept k (gone ++ come)) ≡ bytes_kept k (noted k kind place gone come).report
-length-kept k kind place gone come = length-kept-if (k == 0) gone come
+length-kept k kind place gone come = grind (arith, length-append)
 
 pub IsUtf8-kept : (k : ℕ) (gone come : List ℕ) → IsUtf8 gone → IsUtf8 come → IsUtf8 (kept k (gone ++ come))
 IsUtf8-kept k gone come u v = cond_both (k == 0) [] (gone ++ come) IsUtf8 (λ _. IsUtf8-nil) (λ _. IsUtf8-append gone come u v)
@@ -116,21 +118,15 @@ kept-all k texts some =
     rw keeps refl
 
 -- one more report, whose texts stand at the end
-pub record Longer (k : ℕ) (rs now : List Report) (n : Noted) (spent : ℕ) (text new : List ℕ) : Type 0 where
-  pub cuts : Cuts k now (drop spent new)
-  pub waits : notes k now (drop spent new) ≡ notes k rs (drop spent text) ++ n ∷ []
-
-pub longer : (k : ℕ) (rs now : List Report) (n : Noted) (spent : ℕ) (text new : List ℕ) → spent ≤ length text → Cuts k rs (drop spent text) → IsUtf8 n.texts → length n.texts ≡ bytes_kept k n.report
-    → now ≡ rs ++ n.report ∷ [] → new ≡ text ++ n.texts → Longer k rs now n spent text new
+pub longer : (k : ℕ) (rs now : List Report) (n : Noted) (spent : ℕ) (text new : List ℕ) → spent + spent ≤ length text → Cuts k rs (drop spent text)
+    → IsUtf8 n.texts → length n.texts ≡ bytes_kept k n.report
+    → now ≡ rs ++ n.report ∷ [] → new ≡ text ++ n.texts → Joins k rs now (n ∷ []) spent text new
 longer k rs now n spent text new le c u len same more =
     let m = bytes_kept k n.report in
     let own : take m n.texts ≡ n.texts = take_all m n.texts (omega (arith, len)) in
     let none : drop m n.texts ≡ [] = drop_all m n.texts (omega (arith, len)) in
-    let all = joins k rs (n.report ∷ []) spent text n.texts le c (omega (arith, len), subst IsUtf8 (sym own) u, none) in
-    record {
-      cuts = rw (same, more) all.cuts;
-      waits = rw (same, more) (all.waits ∙ ap (λ t. notes k rs (drop spent text) ++ record { report = n.report; texts = t } ∷ []) own);
-    }
+    subst (λ t. Joins k rs now (record { report = n.report; texts = t } ∷ []) spent text new) own
+    (joins k rs (n.report ∷ []) now spent text n.texts new le c (omega (arith, len), subst IsUtf8 (sym own) u, none) same more)
 
 -- the newest report, whose texts are the last
 record Newest (k : ℕ) (rs : List Report) (r : Report) (bytes : List ℕ) : Type 0 where
@@ -152,17 +148,15 @@ newest k [] r bytes c = record {
 }
 newest k (x ∷ xs) r bytes c =
     let n = bytes_kept k x in
-    let rest = newest k xs r (drop n bytes) c.2 in
     let head = take n bytes in
-    let len : length head ≡ n = length-take-le n bytes c.0 in
-    let first : take n (head ++ rest.front) ≡ head = ap (λ m. take m (head ++ rest.front)) (sym len) ∙ take-append_seam head rest.front in
-    let last : drop n (head ++ rest.front) ≡ rest.front = ap (λ m. drop m (head ++ rest.front)) (sym len) ∙ drop-append_seam head rest.front in
+    let len = length-take-le n bytes c.0 in
+    let rest = newest k xs r (drop n bytes) c.2 in
     record {
       front = head ++ rest.front;
       own = rest.own;
       both = sym (take-append-drop n bytes) ∙ ap (λ t. head ++ t) rest.both ∙ sym (append_assoc head rest.front rest.own);
       len = rest.len;
-      cuts = (omega (arith, len, length-append head rest.front), subst IsUtf8 (sym first) c.1, subst (Cuts k xs) (sym last) rest.cuts);
+      cuts = rw (take_at head rest.front n len, drop_at head rest.front n len) (omega (arith, len, length-append head rest.front), c.1, rest.cuts);
       utf8 = rest.utf8;
     }
 
@@ -172,40 +166,30 @@ pub record Off (k : ℕ) (all rs : List Report) (r : Report) (spent : ℕ) (text
   pub at : IsCharBoundary text (length text - bytes_kept k r)
   pub order : spent ≤ length (take (length text - bytes_kept k r) text)
   pub cuts : Cuts k rs (drop spent (take (length text - bytes_kept k r) text))
-  pub fewer : length all ≡ length rs + 1
   pub waits : notes k rs (drop spent (take (length text - bytes_kept k r) text)) ≡ take (length (notes k all (drop spent text)) - 1) (notes k all (drop spent text))
 
 pub off : (k : ℕ) (all rs : List Report) (r : Report) (spent : ℕ) (text : List ℕ) → all ≡ rs ++ r ∷ [] → spent ≤ length text → Cuts k all (drop spent text) → Off k all rs r spent text
 off k all rs r spent text same le c =
     let last = newest k rs r (drop spent text) (subst (λ l. Cuts k l (drop spent text)) same c) in
-    let front = last.front in
     let head = take spent text in
     let left = length text - bytes_kept k r in
     let len : length head ≡ spent = length-take-le spent text le in
-    let whole : text ≡ (head ++ front) ++ last.own = sym (take-append-drop spent text) ∙ ap (λ t. head ++ t) last.both ∙ sym (append_assoc head front last.own) in
-    let total : length text ≡ length (head ++ front) + bytes_kept k r =
-    ap length whole ∙ length-append (head ++ front) last.own ∙ ap (λ n. length (head ++ front) + n) last.len in
-    let end : left ≡ length (head ++ front) = omega (arith, total) in
-    let kept : take left text ≡ head ++ front =
-    ap (λ n. take n text) end ∙ ap (take (length (head ++ front))) whole ∙ take-append_seam (head ++ front) last.own in
-    let rest : drop spent (take left text) ≡ front =
-    ap (drop spent) kept ∙ ap (λ n. drop n (head ++ front)) (sym len) ∙ drop-append_seam head front in
-    let fewer : length all ≡ length rs + 1 = ap length same ∙ length-append rs (r ∷ []) in
-    let count : length (notes k rs front) ≡ length (notes k all (drop spent text)) - 1 =
-    omega (arith, fewer, length-notes k rs front, length-notes k all (drop spent text)) in
-    let more : notes k all (drop spent text) ≡ notes k rs front ++ notes k (r ∷ []) last.own =
-    ap (λ l. notes k l (drop spent text)) same ∙ ap (notes k (rs ++ r ∷ [])) last.both ∙ notes-append k rs (r ∷ []) front last.own last.cuts in
+    let whole : text ≡ (head ++ last.front) ++ last.own =
+    sym (take-append-drop spent text) ∙ ap (λ t. head ++ t) last.both ∙ sym (append_assoc head last.front last.own) in
+    let total : length text ≡ length (head ++ last.front) + bytes_kept k r =
+    ap length whole ∙ length-append (head ++ last.front) last.own ∙ ap (λ n. length (head ++ last.front) + n) last.len in
+    let kept : take left text ≡ head ++ last.front = ap (take left) whole ∙ take_at (head ++ last.front) last.own left (omega (arith, total)) in
+    let rest : drop spent (take left text) ≡ last.front = ap (drop spent) kept ∙ drop_at head last.front spent len in
+    let older = notes k rs last.front in
+    let more : notes k all (drop spent text) ≡ older ++ notes k (r ∷ []) last.own =
+    ap₂ (notes k) same last.both ∙ notes-append k rs (r ∷ []) last.front last.own last.cuts in
     record {
       fits = omega (arith, total);
-      at = subst (IsCharBoundary text) (sym end) (IsCharBoundary-at_seam text (head ++ front) last.own whole last.utf8);
-      order = omega (arith, len, ap length kept, length-append head front);
-      cuts = subst (Cuts k rs) (sym rest) last.cuts;
-      fewer = fewer;
-      waits =
-          ap (notes k rs) rest
-          ∙ sym (take-append_seam (notes k rs front) (notes k (r ∷ []) last.own))
-          ∙ ap (λ n. take n (notes k rs front ++ notes k (r ∷ []) last.own)) count
-          ∙ ap (take (length (notes k all (drop spent text)) - 1)) (sym more);
+      at = subst (IsCharBoundary text) (omega (arith, total)) (IsCharBoundary-at_seam text (head ++ last.front) last.own whole last.utf8);
+      order = omega (arith, len, ap length kept, length-append head last.front);
+      cuts = rw rest last.cuts;
+      waits = ap (notes k rs) rest ∙ sym (ap (λ l. take (length l - 1) l) more
+          ∙ take_at older (notes k (r ∷ []) last.own) _ (omega (arith, length-append older (notes k (r ∷ []) last.own))));
     }
 
 -- where texts wait, a report does
@@ -220,7 +204,7 @@ pub record Fits (room k n : ℕ) (ns : List Noted) (whole : Option Joined) : Typ
   pub text_place : text_bytes ns + n ≤ k
 
 -- what room means
-has_room-means : (room k n : ℕ) (ns : List Noted) (whole : Option Joined) → has_room_in room k n (waiting_of whole ns) ≡ true → Fits room k n ns whole
+pub has_room-means : (room k n : ℕ) (ns : List Noted) (whole : Option Joined) → has_room_in room k n (waiting_of whole ns) ≡ true → Fits room k n ns whole
 has_room-means room k n ns None h =
     let both = and_parts (nat_lt (length ns) room) (nat_le (text_bytes ns + n) k) h in
     record { apart = refl; place = ltb-true _ _ both.0; text_place = leb-true _ _ both.1 }
@@ -263,3 +247,23 @@ IsQueue-told room k m t before after ns q = record {
 pub from_ok : {A E : Type 0} (result : Result A E) (P : Type 0) → OnOk result P → is_err result ≡ false → P
 from_ok (Ok a) P h none = h
 from_ok (Err e) P h none = cc
+
+-- how many reports there are, and how many bytes of texts
+pub ruleset counted = (length-notes, text_bytes-notes, length-drop, kept-all, Cuts-some)
+
+-- where the texts of the oldest report begin and end
+pub ruleset cutting = (at_spent, ends)
+
+-- reports as one, in two parts
+pub ruleset joining = (reports_of-notes, fold-append)
+
+-- room that is kept, and kept again
+pub KeepsRoom-more : (old now new : Notes) → KeepsRoom old now → KeepsRoom now new → KeepsRoom old new
+KeepsRoom-more old now new h k =
+    record { text_room = k.text_room ∙ h.text_room; places = omega (arith, h.places, k.places); bytes = omega (arith, h.bytes, k.bytes) }
+
+-- what fewer reports are
+pub ruleset shortened = (take_all, length-take-le, take-take, KeepsRoom-more)
+
+-- the notes once cursors were told to the last report
+pub ruleset notes_told = (notes-told, Cuts-told)

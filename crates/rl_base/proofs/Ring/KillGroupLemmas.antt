@@ -1,143 +1,154 @@
 -- The ring's slots are the latest groups of kills.
-use Rattle.rl_base.proofs.Common.{◌≡◌, ℕ, ◌+◌, ◌<◌, ◌≤◌, zero, suc, Bool, true, false, List, [], ◌∷◌, ◌++◌, length, take, Option, Some, None, inl, inr, refl, sym, ap, subst, ◌∙◌, arith, false_from_ne_true, slice_get_cases, max, slice_get, Direction, Event, InsertChar, InsertStr, Delete, Replace, Stop, Cursors, Action, Kill, Yank, Other, Mode, Ring, in_new_slot, new_ring, side_mode, next_index, put_at, killed_as, killed, yank, lent, after_deletion, back_from, newest_first, ring_step, IsRing, Doing, Kills, Resets, Yanks, Hears, ring_do, ring_done, Groups, no_groups, grown, with_kill, with_deletion, group_step, group_do, group_done, groups_of, AllKills, all_joined}
+use Rattle.rl_base.proofs.Common.{◌≡◌, ℕ, ◌+◌, ◌<◌, zero, suc, Bool, true, false, List, [], ◌∷◌, ◌++◌, length, take, Option, Some, None, inl, inr, refl, sym, ap, subst, ◌∙◌, arith, false_from_ne_true, slice_get_cases, max, slice_get, Event, InsertChar, InsertStr, Delete, Replace, Stop, Cursors, Action, Kill, Yank, Other, Mode, Ring, in_new_slot, new_ring, side_mode, next_index, killed_as, killed, yank, lent, after_deletion, newest_first, ring_step, IsRing, Doing, Kills, Resets, Yanks, Hears, ring_done, Groups, no_groups, grown, with_kill, with_deletion, group_step, group_do, group_done, groups_of, AllKills, all_joined, take-nil, slice_get_past}
 use Rattle.rl_base.specs.Event.{Start}
 use Rattle.rl_base.specs.KillRing.{joined}
-use Rattle.rl_base.proofs.Ring.RingLemmas.{IsRing-killed, length-join}
-use Rattle.rl_base.proofs.Ring.SlotLemmas.{Puts, puts, take-grown, back-join, back-first}
+use Rattle.rl_base.proofs.Ring.RingLemmas.{IsRing-in_new_slot, length-join}
+use Rattle.rl_base.proofs.Ring.SlotLemmas.{Puts, puts, take-grown, back-join, yank-back}
 
 abbrev is_kill : Action → Bool
 is_kill Kill = true
 is_kill (Yank _) = false
 is_kill Other = false
 
-pub record Holds (r : Ring) (g : Groups) : Type 0 where
-  pub some : 0 < r.size
-  pub ring : IsRing r
-  pub lists : newest_first r ≡ take r.size g.groups
-  pub growing_is : is_kill r.last ≡ g.growing
-  pub killing_is : r.killing ≡ g.killing
-  pub filling : length r.slots < r.size → r.index + 1 ≡ max 1 (length r.slots)
-  pub begun : g.growing ≡ true → 0 < length r.slots
+-- a ring of a size has the latest groups
+record Holds (n : ℕ) (r : Ring) (g : Groups) : Type 0 where
+  size_is : r.size ≡ n
+  ring : IsRing r
+  lists : newest_first r ≡ take n g.groups
+  growing_is : 0 < n → is_kill r.last ≡ g.growing
+  killing_is : r.killing ≡ g.killing
+  filling : length r.slots < n → r.index + 1 ≡ max 1 (length r.slots)
+  begun : g.growing ≡ true → 0 < n → 0 < length r.slots
 
-put_holds : (n : ℕ) (text : List ℕ) (mode : Mode) (r : Ring) (g : Groups) → suc n ≡ r.size → Holds r g → is_kill r.last ≡ false
-    → IsRing (in_new_slot text r) → Holds (in_new_slot text r) (with_kill text mode g)
-put_holds n text mode r g e h other ring =
+put_holds : (n : ℕ) (text : List ℕ) (mode : Mode) (r : Ring) (g : Groups) → Holds (suc n) r g → is_kill r.last ≡ false
+    → Holds (suc n) (in_new_slot text r) (with_kill text mode g)
+put_holds n text mode r g h other =
     let p : Puts n r.index (next_index r.size r.index r.slots) text r.slots =
-    subst (λ k. Puts n r.index (next_index k r.index r.slots) text r.slots) e
-    (puts n r.index text r.slots (subst (λ k. length r.slots ≤ k) (sym e) h.ring.within) h.ring.at_slot
-    (subst (λ k. length r.slots < k → r.index + 1 ≡ max 1 (length r.slots)) (sym e) h.filling)) in
-    let closed : false ≡ g.growing = sym other ∙ h.growing_is in
-    let shown : back_from (next_index r.size r.index r.slots) (put_at (next_index r.size r.index r.slots) text r.slots) ≡ take (suc n) (text ∷ g.groups) =
-    p.back_is ∙ ap (λ l. text ∷ take n l) (h.lists ∙ ap (λ k. take k g.groups) (sym e)) ∙ take-grown g.groups n text in
+    rw h.size_is (puts n r.index text r.slots (omega (arith, h.ring.within, h.size_is)) h.ring.at_slot h.filling) in
+    let closed : false ≡ g.growing = sym other ∙ h.growing_is (omega arith) in
     record {
-      some = h.some;
-      ring = ring;
-      lists = shown ∙ ap (λ k. take k (text ∷ g.groups)) e ∙ ap (λ b. take r.size (grown b text mode g.groups)) closed;
-      growing_is = refl;
+      size_is = h.size_is;
+      ring = IsRing-in_new_slot text r (omega (arith, h.size_is)) h.ring;
+      lists = p.back_is ∙ ap (λ l. text ∷ take n l) h.lists ∙ take-grown g.groups n text ∙ ap (λ b. take (suc n) (grown b text mode g.groups)) closed;
+      growing_is = λ _. refl;
       killing_is = h.killing_is;
-      filling = subst (λ k. length (put_at (next_index r.size r.index r.slots) text r.slots) < k
-          → next_index r.size r.index r.slots + 1 ≡ max 1 (length (put_at (next_index r.size r.index r.slots) text r.slots))) e p.filling;
-      begun = λ _. p.any;
+      filling = p.filling;
+      begun = λ _ _. p.any;
     }
 
-holds_as : (size : ℕ) (last : Action) (text : List ℕ) (mode : Mode) (r : Ring) (g : Groups) → size ≡ r.size → last ≡ r.last → Holds r g
-    → IsRing (killed_as size last text mode r) → Holds (killed_as size last text mode r) (with_kill text mode g)
-holds_as zero last text mode r g e l h ring = let s = h.some in absurd (omega arith)
-holds_as (suc n) (Yank m) text mode r g e l h ring = put_holds n text mode r g e h (ap is_kill (sym l)) ring
-holds_as (suc n) Other text mode r g e l h ring = put_holds n text mode r g e h (ap is_kill (sym l)) ring
-holds_as (suc n) Kill text mode r g e l h ring =
-    let grows : true ≡ g.growing = ap is_kill l ∙ h.growing_is in
+killed-holds : (n : ℕ) (last : Action) (text : List ℕ) (mode : Mode) (r : Ring) (g : Groups) → last ≡ r.last → Holds n r g
+    → Holds n (killed_as n last text mode r) (with_kill text mode g)
+killed-holds zero last text mode r g l h = record {
+  size_is = h.size_is;
+  ring = record { within = h.ring.within; at_slot = h.ring.at_slot };
+  lists = h.lists;
+  growing_is = λ _. refl;
+  killing_is = h.killing_is;
+  filling = h.filling;
+  begun = λ _ some. absurd (omega arith);
+}
+killed-holds (suc n) (Yank m) text mode r g l h = put_holds n text mode r g h (ap is_kill (sym l))
+killed-holds (suc n) Other text mode r g l h = put_holds n text mode r g h (ap is_kill (sym l))
+killed-holds (suc n) Kill text mode r g l h =
+    let grows : true ≡ g.growing = ap is_kill l ∙ h.growing_is (omega arith) in
+    let any : 0 < length r.slots = h.begun (sym grows) (omega arith) in
     let len = length-join r.slots r.index mode text in
     record {
-      some = h.some;
-      ring = ring;
-      lists = back-join r.slots g.groups r.index r.size text mode h.ring.at_slot (h.begun (sym grows)) h.some h.lists
-          ∙ ap (λ b. take r.size (grown b text mode g.groups)) grows;
-      growing_is = refl;
+      size_is = h.size_is;
+      ring = record { within = rw len h.ring.within; at_slot = rw len h.ring.at_slot };
+      lists = back-join r.slots g.groups r.index (suc n) text mode (let at = h.ring.at_slot in omega arith) (omega arith) h.lists
+          ∙ ap (λ b. take (suc n) (grown b text mode g.groups)) grows;
+      growing_is = λ _. refl;
       killing_is = h.killing_is;
       filling = rw len h.filling;
-      begun = λ _. rw len (h.begun (sym grows));
+      begun = λ _ _. rw len any;
     }
 
-killed-holds : (text : List ℕ) (mode : Mode) (r : Ring) (g : Groups) → Holds r g → Holds (killed text mode r) (with_kill text mode g)
-killed-holds text mode r g h = holds_as r.size r.last text mode r g refl refl h (IsRing-killed text mode r h.ring)
+kill-holds : (n : ℕ) (text : List ℕ) (mode : Mode) (r : Ring) (g : Groups) → Holds n r g → Holds n (killed text mode r) (with_kill text mode g)
+kill-holds n text mode r g h =
+    subst (λ k. Holds n (killed_as k r.last text mode r) (with_kill text mode g)) (sym h.size_is) (killed-holds n r.last text mode r g refl h)
 
--- the ring with another last action or flag
-closed-holds : (last : Action) (r : Ring) (g : Groups) → is_kill last ≡ false → Holds r g → Holds (record r { last = last }) (record g { growing = false })
-closed-holds last r g e h = record {
-  some = h.some;
+-- with another last action or flag the ring has the same slots
+same_slots-holds : (n : ℕ) (last : Action) (kills grows : Bool) (r : Ring) (g : Groups) → Holds n r g → (0 < n → is_kill last ≡ grows)
+    → (grows ≡ true → 0 < n → 0 < length r.slots)
+    → Holds n (record r { last = last; killing = kills }) (record { groups = g.groups; growing = grows; killing = kills })
+same_slots-holds n last kills grows r g h e begun = record {
+  size_is = h.size_is;
   ring = record { within = h.ring.within; at_slot = h.ring.at_slot };
   lists = h.lists;
   growing_is = e;
-  killing_is = h.killing_is;
-  filling = h.filling;
-  begun = λ k. cc;
-}
-
-flag-holds : (b : Bool) (r : Ring) (g : Groups) → Holds r g → Holds (record r { killing = b }) (record g { killing = b })
-flag-holds b r g h = record {
-  some = h.some;
-  ring = record { within = h.ring.within; at_slot = h.ring.at_slot };
-  lists = h.lists;
-  growing_is = h.growing_is;
   killing_is = refl;
   filling = h.filling;
-  begun = h.begun;
+  begun = begun;
 }
 
+closed-holds : (n : ℕ) (last : Action) (r : Ring) (g : Groups) → (0 < n → is_kill last ≡ false) → Holds n r g
+    → Holds n (record r { last = last }) (record g { growing = false })
+closed-holds n last r g e h =
+    subst (λ b. Holds n (record r { last = last }) (record { groups = g.groups; growing = false; killing = b })) h.killing_is
+    (same_slots-holds n last r.killing false r g h e (λ k. cc))
+
+flag-holds : (n : ℕ) (b : Bool) (r : Ring) (g : Groups) → Holds n r g → Holds n (record r { killing = b }) (record g { killing = b })
+flag-holds n b r g h = same_slots-holds n r.last b g.growing r g h h.growing_is h.begun
+
 -- a yank that answers nothing finds no slot, and then no group grows
-get_none : (slots : List (List ℕ)) (i : ℕ) → i < max 1 (length slots) → slice_get slots i ≡ None → length slots ≡ 0
-get_none slots i h e = elim (slice_get_cases slots i).1 [ inl some ↦ absurd (cc (e, some.2)) | inr past ↦ omega (arith, past.0) ]
+lent-holds : (n : ℕ) (o : Option (List ℕ)) (r : Ring) (g : Groups) → yank r ≡ o → Holds n r g → Holds n (lent o r) (record g { growing = false })
+lent-holds n (Some text) r g e h = closed-holds n (Yank (length text)) r g (λ _. refl) h
+lent-holds n None r g e h =
+    let none : length r.slots ≡ 0 =
+    elim (slice_get_cases r.slots r.index).1 [ inl some ↦ absurd (cc (e, some.2)) | inr past ↦ omega (arith, past.0, h.ring.at_slot) ] in
+    closed-holds n r.last r g (λ some. h.growing_is some ∙ false_from_ne_true g.growing (λ k. let any = h.begun k some in omega arith)) h
 
-lent-holds : (o : Option (List ℕ)) (r : Ring) (g : Groups) → yank r ≡ o → Holds r g → Holds (lent o r) (record g { growing = false })
-lent-holds (Some text) r g e h = closed-holds (Yank (length text)) r g refl h
-lent-holds None r g e h =
-    let none = get_none r.slots r.index h.ring.at_slot e in
-    let still : g.growing ≡ false = false_from_ne_true g.growing (λ k. let any = h.begun k in omega arith) in
-    record {
-      some = h.some;
-      ring = h.ring;
-      lists = h.lists;
-      growing_is = h.growing_is ∙ still;
-      killing_is = h.killing_is;
-      filling = h.filling;
-      begun = λ k. cc;
-    }
+event-holds : (n : ℕ) (event : Event) (r : Ring) (g : Groups) → Holds n r g → Holds n (ring_step r event) (group_step g event)
+event-holds n (Delete i text side) r g h =
+    subst (λ b. Holds n (after_deletion r.killing text side r) (with_deletion b text side g)) h.killing_is (by r.killing)
+  where
+    by : (b : Bool) → Holds n (after_deletion b text side r) (with_deletion b text side g)
+    by false = h
+    by true = kill-holds n text (side_mode side) r g h
+event-holds n Start r g h = flag-holds n true r g h
+event-holds n Stop r g h = flag-holds n false r g h
+event-holds n (InsertChar i c) r g h = h
+event-holds n (InsertStr i s) r g h = h
+event-holds n (Replace i s t) r g h = h
+event-holds n (Cursors b a) r g h = h
 
-listener_after-holds : (b : Bool) (text : List ℕ) (side : Direction) (r : Ring) (g : Groups) → Holds r g → Holds (after_deletion b text side r) (with_deletion b text side g)
-listener_after-holds false text side r g h = h
-listener_after-holds true text side r g h = killed-holds text (side_mode side) r g h
+done-holds : (n : ℕ) (ds : List Doing) (r : Ring) (g : Groups) → Holds n r g → Holds n (ring_done ds r) (group_done ds g)
+done-holds n [] r g h = h
+done-holds n (Kills text mode ∷ ds) r g h = done-holds n ds _ _ (kill-holds n text mode r g h)
+done-holds n (Resets ∷ ds) r g h = done-holds n ds _ _ (closed-holds n Other r g (λ _. refl) h)
+done-holds n (Yanks ∷ ds) r g h = done-holds n ds _ _ (lent-holds n (yank r) r g refl h)
+done-holds n (Hears event ∷ ds) r g h = done-holds n ds _ _ (event-holds n event r g h)
 
-step-holds : (event : Event) (r : Ring) (g : Groups) → Holds r g → Holds (ring_step r event) (group_step g event)
-step-holds (Delete i text side) r g h = subst (λ b. Holds (after_deletion r.killing text side r) (with_deletion b text side g)) h.killing_is (listener_after-holds r.killing text side r g h)
-step-holds Start r g h = flag-holds true r g h
-step-holds Stop r g h = flag-holds false r g h
-step-holds (InsertChar i c) r g h = h
-step-holds (InsertStr i s) r g h = h
-step-holds (Replace i s t) r g h = h
-step-holds (Cursors b a) r g h = h
-
-do-holds : (d : Doing) (r : Ring) (g : Groups) → Holds r g → Holds (ring_do d r) (group_do d g)
-do-holds (Kills text mode) r g h = killed-holds text mode r g h
-do-holds Resets r g h = closed-holds Other r g refl h
-do-holds Yanks r g h = lent-holds (yank r) r g refl h
-do-holds (Hears event) r g h = step-holds event r g h
-
-done-holds : (ds : List Doing) (r : Ring) (g : Groups) → Holds r g → Holds (ring_done ds r) (group_done ds g)
-done-holds [] r g h = h
-done-holds (d ∷ ds) r g h = done-holds ds (ring_do d r) (group_do d g) (do-holds d r g h)
-
-new-holds : (size : ℕ) → 0 < size → Holds (new_ring size) no_groups
-new-holds zero h = absurd (omega arith)
-new-holds (suc n) h = record {
-  some = h;
+holds : (size : ℕ) (ds : List Doing) → Holds size (ring_done ds (new_ring size)) (group_done ds no_groups)
+holds size ds = done-holds size ds (new_ring size) no_groups (record {
+  size_is = refl;
   ring = record { within = omega arith; at_slot = omega arith };
-  lists = refl;
-  growing_is = refl;
+  lists = sym (take-nil size);
+  growing_is = λ _. refl;
   killing_is = refl;
   filling = λ _. refl;
   begun = λ k. cc;
-}
+})
+
+pub ring-holds : (size : ℕ) (ds : List Doing) → 0 < size → newest_first (ring_done ds (new_ring size)) ≡ take size (groups_of ds)
+ring-holds size ds h = (holds size ds).lists
+
+pub ring-newest : (size : ℕ) (ds : List Doing) → 0 < size → yank (ring_done ds (new_ring size)) ≡ slice_get (groups_of ds) 0
+ring-newest size ds h =
+    let held = holds size ds in
+    sym (yank-back (ring_done ds (new_ring size)) held.ring) ∙ ap (λ l. slice_get l 0) held.lists ∙ first size (groups_of ds) h
+  where
+    first : (n : ℕ) (gs : List (List ℕ)) → 0 < n → slice_get (take n gs) 0 ≡ slice_get gs 0
+    first zero gs h = absurd (omega arith)
+    first (suc n) [] h = refl
+    first (suc n) (g ∷ gs) h = refl
+
+-- a ring of size 0 holds nothing
+pub ring-empty : (ds : List Doing) → yank (ring_done ds (new_ring 0)) ≡ None
+ring-empty ds =
+    let held = holds 0 ds in
+    slice_get_past (ring_done ds (new_ring 0)).slots (ring_done ds (new_ring 0)).index (omega (arith, held.ring.within, held.size_is))
 
 -- a ring keeps its size
 pub killed_as-size : (size : ℕ) (last : Action) (text : List ℕ) (mode : Mode) (r : Ring) → (killed_as size last text mode r).size ≡ r.size
@@ -146,12 +157,12 @@ killed_as-size (suc n) Kill text mode r = refl
 killed_as-size (suc n) (Yank m) text mode r = refl
 killed_as-size (suc n) Other text mode r = refl
 
-listener_after-size : (b : Bool) (text : List ℕ) (side : Direction) (r : Ring) → (after_deletion b text side r).size ≡ r.size
-listener_after-size false text side r = refl
-listener_after-size true text side r = killed_as-size r.size r.last text (side_mode side) r
-
 pub ring_step-size : (r : Ring) (event : Event) → (ring_step r event).size ≡ r.size
-ring_step-size r (Delete i text side) = listener_after-size r.killing text side r
+ring_step-size r (Delete i text side) = by r.killing
+  where
+    by : (b : Bool) → (after_deletion b text side r).size ≡ r.size
+    by false = refl
+    by true = killed_as-size r.size r.last text (side_mode side) r
 ring_step-size r Start = refl
 ring_step-size r Stop = refl
 ring_step-size r (InsertChar i c) = refl
@@ -162,69 +173,6 @@ ring_step-size r (Cursors b a) = refl
 pub lent-size : (o : Option (List ℕ)) (r : Ring) → (lent o r).size ≡ r.size
 lent-size None r = refl
 lent-size (Some s) r = refl
-
-do-size : (d : Doing) (r : Ring) → (ring_do d r).size ≡ r.size
-do-size (Kills text mode) r = killed_as-size r.size r.last text mode r
-do-size Resets r = refl
-do-size Yanks r = lent-size (yank r) r
-do-size (Hears event) r = ring_step-size r event
-
-done-size : (ds : List Doing) (r : Ring) → (ring_done ds r).size ≡ r.size
-done-size [] r = refl
-done-size (d ∷ ds) r = done-size ds (ring_do d r) ∙ do-size d r
-
-pub ring-holds : (size : ℕ) (ds : List Doing) → 0 < size → newest_first (ring_done ds (new_ring size)) ≡ take size (groups_of ds)
-ring-holds size ds h =
-    (done-holds ds (new_ring size) no_groups (new-holds size h)).lists ∙ ap (λ k. take k (groups_of ds)) (done-size ds (new_ring size))
-
-first-of : (n : ℕ) (gs : List (List ℕ)) → 0 < n → slice_get (take n gs) 0 ≡ slice_get gs 0
-first-of zero gs h = absurd (omega arith)
-first-of (suc n) [] h = refl
-first-of (suc n) (g ∷ gs) h = refl
-
-pub ring-newest : (size : ℕ) (ds : List Doing) → 0 < size → yank (ring_done ds (new_ring size)) ≡ slice_get (groups_of ds) 0
-ring-newest size ds h =
-    let held = done-holds ds (new_ring size) no_groups (new-holds size h) in
-    sym (back-first (ring_done ds (new_ring size)).slots (ring_done ds (new_ring size)).index held.ring.at_slot)
-    ∙ ap (λ l. slice_get l 0) (ring-holds size ds h) ∙ first-of size (groups_of ds) h
-
--- a ring of size 0 holds nothing
-record Empty (r : Ring) : Type 0 where
-  size_is : r.size ≡ 0
-  slots_is : r.slots ≡ []
-
-Empty-killed_as : (size : ℕ) (last : Action) (text : List ℕ) (mode : Mode) (r : Ring) → size ≡ r.size → Empty r → Empty (killed_as size last text mode r)
-Empty-killed_as zero last text mode r e h = record { size_is = h.size_is; slots_is = h.slots_is }
-Empty-killed_as (suc n) last text mode r e h = let z = h.size_is in absurd (omega arith)
-
-Empty-do : (d : Doing) (r : Ring) → Empty r → Empty (ring_do d r)
-Empty-do (Kills text mode) r h = Empty-killed_as r.size r.last text mode r refl h
-Empty-do Resets r h = record { size_is = h.size_is; slots_is = h.slots_is }
-Empty-do Yanks r h = lends (yank r)
-  where
-    lends : (o : Option (List ℕ)) → Empty (lent o r)
-    lends None = h
-    lends (Some text) = record { size_is = h.size_is; slots_is = h.slots_is }
-Empty-do (Hears (Delete i text side)) r h = hears r.killing
-  where
-    hears : (b : Bool) → Empty (after_deletion b text side r)
-    hears false = h
-    hears true = Empty-killed_as r.size r.last text (side_mode side) r refl h
-Empty-do (Hears Start) r h = record { size_is = h.size_is; slots_is = h.slots_is }
-Empty-do (Hears Stop) r h = record { size_is = h.size_is; slots_is = h.slots_is }
-Empty-do (Hears (InsertChar i c)) r h = h
-Empty-do (Hears (InsertStr i s)) r h = h
-Empty-do (Hears (Replace i s t)) r h = h
-Empty-do (Hears (Cursors b a)) r h = h
-
-Empty-done : (ds : List Doing) (r : Ring) → Empty r → Empty (ring_done ds r)
-Empty-done [] r h = h
-Empty-done (d ∷ ds) r h = Empty-done ds (ring_do d r) (Empty-do d r h)
-
-pub ring-empty : (ds : List Doing) → yank (ring_done ds (new_ring 0)) ≡ None
-ring-empty ds =
-    let e = Empty-done ds (new_ring 0) (record { size_is = refl; slots_is = refl }) in
-    ap (λ l. slice_get l (ring_done ds (new_ring 0)).index) e.slots_is
 
 -- kills after no kill are one group
 pub kills-group : (ks : List Doing) (text : List ℕ) (gs : List (List ℕ)) (b : Bool) → AllKills ks
@@ -246,3 +194,6 @@ groups-are-runs ds ks text mode e h =
     ap (λ (g : Groups). g.groups) (done-append ds (Kills text mode ∷ ks) no_groups)
     ∙ ap (λ b. (group_done ks (record before { groups = grown b text mode before.groups; growing = true })).groups) e
     ∙ kills-group ks text before.groups before.killing h
+
+-- what `ring_holds_groups` says
+pub ruleset grouping = (ring-holds, ring-newest, ring-empty, groups-are-runs)

@@ -1,12 +1,17 @@
 -- What a kill makes of a ring.
-use Rattle.rl_base.proofs.Common.{◌≡◌, ℕ, ◌+◌, ◌<◌, ◌≤◌, zero, suc, Bool, true, false, cond, List, [], ◌∷◌, ◌++◌, length, set, get_or, Result, Ok, Err, OnOk, IfErr, Some, option_map, refl, ap, ◌∙◌, ◌⊎◌, inl, inr, arith, length-append, eqb-true, eqb-false, length-set, max, ◌==◌, slice_get, slice_set, Action, Kill, Yank, Other, Mode, Refusal, NoMemory, Gathering, IsPackedAt, texts, Ring, raised, next_index, put_at, join_at, in_new_slot, killed_as, killed, IsRing}
+use Rattle.rl_base.proofs.Common.{◌≡◌, ℕ, ◌+◌, ◌<◌, ◌≤◌, zero, suc, Bool, true, false, cond, List, [], ◌∷◌, ◌++◌, length, set, get_or, Result, Ok, Err, OnOk, IfErr, Some, option_map, refl, ap, ◌∙◌, ◌⊎◌, inl, inr, arith, length-append, eqb-true, eqb-false, length-set, max, ◌==◌, slice_get, slice_set, Mode, Refusal, NoMemory, Gathering, IsPackedAt, texts, Ring, raised, next_index, put_at, join_at, in_new_slot, IsRing, map-set, sym, set-get_or, slice_get-get_or, get_or-map, get_or-set_same, length-map, set_past, cond-false, ne_eqb}
 use Rattle.rl_base.specs.KillRing.{joined}
 
--- joining leaves as many slots
+-- joining writes the joined text over the slot; where there is none, it leaves all as they are
+pub join-is : (slots : List (List ℕ)) (i : ℕ) (mode : Mode) (text : List ℕ)
+    → join_at i mode text slots ≡ slice_set slots i (joined mode (get_or slots i []) text)
+join-is [] i mode text = refl
+join-is (s ∷ ss) zero mode text = refl
+join-is (s ∷ ss) (suc i) mode text = ap (λ l. s ∷ l) (join-is ss i mode text)
+
+-- and as many
 pub length-join : (slots : List (List ℕ)) (i : ℕ) (mode : Mode) (text : List ℕ) → length (join_at i mode text slots) ≡ length slots
-length-join [] i mode text = refl
-length-join (s ∷ ss) zero mode text = refl
-length-join (s ∷ ss) (suc i) mode text = ap suc (length-join ss i mode text)
+length-join slots i mode text = ap length (join-is slots i mode text) ∙ length-set slots i _
 
 -- where the next slot goes
 pub record Next (size index : ℕ) (slots : List (List ℕ)) (i : ℕ) : Type 0 where
@@ -46,35 +51,37 @@ length-put slots i size text h k le = through (i == length slots) refl
         let n = eqb-false i (length slots) e in
         let l : length (slice_set slots i text) ≡ length slots = length-set slots i text in (omega arith, omega arith)
 
--- a ring stays a ring by a kill
-IsRing-in_new_slot : (text : List ℕ) (r : Ring) → 0 < r.size → IsRing r → IsRing (in_new_slot text r)
+-- where a slot is there, the text is put over it
+pub put-over : (slots : List (List ℕ)) (i : ℕ) (text : List ℕ) → i < length slots → put_at i text slots ≡ slice_set slots i text
+put-over slots i text h = cond-false (i == length slots) _ _ (ne_eqb i (length slots) (λ e. absurd (omega arith)))
+
+-- a ring stays one by a kill into a new slot
+pub IsRing-in_new_slot : (text : List ℕ) (r : Ring) → 0 < r.size → IsRing r → IsRing (in_new_slot text r)
 IsRing-in_new_slot text r some h =
     let n = next_index-is r.size r.index r.slots some h.within h.at_slot in
     let l = length-put r.slots (next_index r.size r.index r.slots) r.size text n.after n.below h.within in
     record { within = l.0; at_slot = omega arith }
 
-IsRing-killed_as : (size : ℕ) (last : Action) (text : List ℕ) (mode : Mode) (r : Ring) → size ≡ r.size → IsRing r → IsRing (killed_as size last text mode r)
-IsRing-killed_as zero last text mode r e h = record { within = h.within; at_slot = h.at_slot }
-IsRing-killed_as (suc n) Kill text mode r e h =
-    let l = length-join r.slots r.index mode text in
-    record { within = rw l h.within; at_slot = rw l h.at_slot }
-IsRing-killed_as (suc n) (Yank m) text mode r e h = IsRing-in_new_slot text r (omega arith) h
-IsRing-killed_as (suc n) Other text mode r e h = IsRing-in_new_slot text r (omega arith) h
+-- ---- in the code's list
+-- another slot is written over one
+texts-set : (xs : List Gathering) (i : ℕ) (y : Gathering) → texts (set xs i y) ≡ slice_set (texts xs) i y.text
+texts-set xs i y = map-set (λ (g : Gathering). g.text) xs i y
 
-pub IsRing-killed : (text : List ℕ) (mode : Mode) (r : Ring) → IsRing r → IsRing (killed text mode r)
-IsRing-killed text mode r h = IsRing-killed_as r.size r.last text mode r refl h
+-- the text of a slot that was read
+text-at : (xs : List Gathering) (i : ℕ) (x : Gathering) → i < length xs → x ≡ get_or xs i x → x.text ≡ get_or (texts xs) i []
+text-at xs i x l is = ap (λ (g : Gathering). g.text) is ∙ sym (get_or-map (λ (g : Gathering). g.text) xs i x [] l)
 
--- ---- joining, in the code's list
 join-set : (xs : List Gathering) (i : ℕ) (mode : Mode) (text : List ℕ) (x y : Gathering) → i < length xs → x ≡ get_or xs i x
     → y.text ≡ joined mode x.text text → texts (set xs i y) ≡ join_at i mode text (texts xs)
-join-set [] i mode text x y l is e = absurd (omega arith)
-join-set (z ∷ xs) zero mode text x y l is e = ap (λ w. w ∷ texts xs) (e ∙ ap (λ (w : Gathering). joined mode w.text text) is)
-join-set (z ∷ xs) (suc i) mode text x y l is e = ap (λ ws. z.text ∷ ws) (join-set xs i mode text x y (omega arith) is e)
+join-set xs i mode text x y l is e =
+    texts-set xs i y ∙ ap (slice_set (texts xs) i) (e ∙ ap (λ t. joined mode t text) (text-at xs i x l is)) ∙ sym (join-is (texts xs) i mode text)
+
+pub put-set : (xs : List Gathering) (i : ℕ) (y : Gathering) (text : List ℕ) → i < length xs → y.text ≡ text → texts (set xs i y) ≡ put_at i text (texts xs)
+put-set xs i y text l e =
+    texts-set xs i y ∙ ap (slice_set (texts xs) i) e ∙ sym (put-over (texts xs) i text (rw (length-map xs (λ (g : Gathering). g.text)) l))
 
 pub same-set : (xs : List Gathering) (i : ℕ) (x y : Gathering) → i < length xs → x ≡ get_or xs i x → y.text ≡ x.text → texts (set xs i y) ≡ texts xs
-same-set [] i x y l is e = absurd (omega arith)
-same-set (z ∷ xs) zero x y l is e = ap (λ w. w ∷ texts xs) (e ∙ ap (λ (w : Gathering). w.text) is)
-same-set (z ∷ xs) (suc i) x y l is e = ap (λ ws. z.text ∷ ws) (same-set xs i x y (omega arith) is e)
+same-set xs i x y l is e = texts-set xs i y ∙ ap (slice_set (texts xs) i) (e ∙ text-at xs i x l is) ∙ set-get_or (texts xs) i []
 
 -- the same of what the call on the slot answers
 pub joins-ok : (xs : List Gathering) (i : ℕ) (mode : Mode) (text : List ℕ) (x y : Gathering) (result : Result (Unit {0}) Refusal) → i < length xs → x ≡ get_or xs i x
@@ -88,19 +95,21 @@ pub joins-err : (xs : List Gathering) (i : ℕ) (text : List ℕ) (x y : Gatheri
 joins-err xs i text x y (Ok a) l is e = tt
 joins-err xs i text x y (Err r) l is e = (e.0, same-set xs i x y l is e.1, e.2)
 
--- ---- a slot of the code's list, packed
 pub packed-set : (xs : List Gathering) (i : ℕ) (y : Gathering) → i < length xs → y.blanks ≡ 0 → IsPackedAt i (set xs i y)
-packed-set [] i y l e = absurd (omega arith)
-packed-set (z ∷ xs) zero y l e = e
-packed-set (z ∷ xs) (suc i) y l e = packed-set xs i y (omega arith) e
+packed-set xs i y l e =
+    rw (slice_get-get_or (set xs i y) i y (rw (length-set xs i y) l), get_or-set_same xs i y y l) e
 
 pub size-at : (xs : List Gathering) (i : ℕ) (x : Gathering) → i < length xs → x ≡ get_or xs i x → Some (length x.text) ≡ option_map length (slice_get (texts xs) i)
-size-at [] i x l is = absurd (omega arith)
-size-at (z ∷ xs) zero x l is = ap (λ (w : Gathering). Some (length w.text)) is
-size-at (z ∷ xs) (suc i) x l is = size-at xs i x (omega arith) is
+size-at xs i x l is =
+    ap (λ t. Some (length t)) (text-at xs i x l is)
+    ∙ sym (ap (option_map length) (slice_get-get_or (texts xs) i [] (rw (length-map xs (λ (g : Gathering). g.text)) l)))
 
 -- where there is no such slot
 pub join-past : (slots : List (List ℕ)) (i : ℕ) (mode : Mode) (text : List ℕ) → (i < length slots → ⊥) → slots ≡ join_at i mode text slots
-join-past [] i mode text h = refl
-join-past (s ∷ ss) zero mode text h = absurd (h (omega arith))
-join-past (s ∷ ss) (suc i) mode text h = ap (λ l. s ∷ l) (join-past ss i mode text (λ l. h (omega arith)))
+join-past slots i mode text h = sym (join-is slots i mode text ∙ set_past slots i _ (omega arith))
+
+-- what is written over a slot, or joined to it
+pub ruleset written = (length-join, put-set, joins-ok)
+
+-- what packing a slot leaves
+pub ruleset packing = (same-set, packed-set, size-at)

@@ -1,68 +1,89 @@
--- The slots from the newest back.
-use Rattle.rl_base.proofs.Common.{◌≡◌, ℕ, ◌+◌, ◌<◌, ◌≤◌, zero, suc, true, List, [], ◌∷◌, ◌++◌, length, take, drop, reverse, Some, refl, sym, ap, subst, ◌∙◌, ◌⊎◌, inl, inr, arith, length-append, append-nil, append_assoc, take_at, drop_at, eq-eqb, ne_eqb, cases_lt, cond-true, cond-false, length-set, take_all, take-take, reverse-append, length-reverse, set-append_seam, max, ◌==◌, slice_set, slice_get, Mode, back_from, raised, next_index, put_at, join_at, grown}
+-- The slots from the current one back, round the ring.
+use Rattle.rl_base.proofs.Common.{◌≡◌, ℕ, ◌+◌, ◌-◌, ◌<◌, ◌≤◌, zero, suc, true, List, [], ◌∷◌, ◌++◌, length, take, drop, get_or, reverse, Option, None, Some, refl, ap, sym, ◌∙◌, ◌⊎◌, inl, inr, arith, cases_lt, append-nil, append_assoc, reverse-append, length-reverse, length-append, length-take, length-drop, length-set, take_at, take-take, take-set, take_all, drop_all, drop-set-lt, take_more, drop_more, get_or-set_same, get_or_append_left, slice_get-get_or, slice_get_past, cond-true, eq-eqb, max, ◌==◌, slice_get, slice_set, Mode, Ring, IsRing, raised, next_index, put_at, back_from, join_at, grown, lent, yank, yank_size, yank_popped, popped_ring, turned, index_before, text_back}
 use Rattle.rl_base.specs.KillRing.{joined}
-use Rattle.rl_base.proofs.Ring.RingLemmas.{Next, next_index-is}
+use Rattle.rl_base.proofs.Ring.RingLemmas.{Next, join-is, next_index-is, put-over}
 
--- a list, cut at a slot
-record At (slots : List (List ℕ)) (i : ℕ) : Type 0 where
-  front : List (List ℕ)
-  slot : List ℕ
-  back : List (List ℕ)
-  is : slots ≡ front ++ slot ∷ back
-  place : length front ≡ i
+-- all slots but the one at i, from the one before it back
+abbrev around : ℕ → List (List ℕ) → List (List ℕ)
+around i slots = reverse (take i slots) ++ reverse (drop (i + 1) slots)
 
-cut-at : (slots : List (List ℕ)) (i : ℕ) → i < length slots → At slots i
-cut-at [] i h = absurd (omega arith)
-cut-at (s ∷ ss) zero h = record { front = []; slot = s; back = ss; is = refl; place = refl }
-cut-at (s ∷ ss) (suc i) h =
-    let a = cut-at ss i (omega arith) in
-    record { front = s ∷ a.front; slot = a.slot; back = a.back; is = ap (λ l. s ∷ l) a.is; place = ap suc a.place }
+length-around : (slots : List (List ℕ)) (i : ℕ) → i < length slots → length (around i slots) + 1 ≡ length slots
+length-around slots i at = simp (length-append, length-reverse, length-take, length-drop) (omega arith)
 
-reverse-cons : (x : List ℕ) (xs : List (List ℕ)) → reverse (x ∷ xs) ≡ reverse xs ++ x ∷ []
-reverse-cons x xs = reverse-append (x ∷ []) xs
+-- from i back, the slot at i is the first
+back-at : (slots : List (List ℕ)) (i : ℕ) → i < length slots → back_from i slots ≡ get_or slots i [] ∷ around i slots
+back-at slots i at =
+    ap (λ l. reverse l ++ reverse (drop (i + 1) slots)) (take_more slots i [] at)
+    ∙ ap (λ l. l ++ reverse (drop (i + 1) slots)) (reverse-append (take i slots) (get_or slots i [] ∷ []))
 
--- cut between two slots
-back-between : (front back : List (List ℕ)) (i : ℕ) → length front ≡ i + 1 → back_from i (front ++ back) ≡ reverse front ++ reverse back
-back-between front back i h = ap (λ l. reverse l ++ reverse (drop (i + 1) (front ++ back))) (take_at front back (i + 1) h) ∙ ap (λ l. reverse front ++ reverse l) (drop_at front back (i + 1) h)
+-- also where another text is put over it
+back-set : (slots : List (List ℕ)) (i : ℕ) (text : List ℕ) → i < length slots → back_from i (slice_set slots i text) ≡ text ∷ around i slots
+back-set slots i text at =
+    back-at (slice_set slots i text) i (rw (length-set slots i text) at)
+    ∙ rw (get_or-set_same slots i text [] at, take-set slots i text, drop-set-lt (i + 1) slots i text (omega arith)) refl
 
--- cut at a slot
-back-at : (front back : List (List ℕ)) (slot : List ℕ) (i : ℕ) → length front ≡ i → back_from i (front ++ slot ∷ back) ≡ slot ∷ (reverse front ++ reverse back)
-back-at front back slot i h =
-    let n : length (front ++ slot ∷ []) ≡ i + 1 = length-append front (slot ∷ []) ∙ ap (λ k. k + 1) h in
-    ap (back_from i) (sym (append_assoc front (slot ∷ []) back)) ∙ back-between (front ++ slot ∷ []) back i n
-    ∙ ap (λ l. l ++ reverse back) (reverse-append front (slot ∷ []))
-
+-- from the last slot back, it is all of them
 back-all : (slots : List (List ℕ)) (i : ℕ) → length slots ≡ i + 1 → back_from i slots ≡ reverse slots
-back-all slots i h = ap (back_from i) (sym (append-nil slots)) ∙ back-between slots [] i h ∙ append-nil (reverse slots)
+back-all slots i full = rw (take_all (i + 1) slots (omega arith), drop_all (i + 1) slots (omega arith)) (append-nil (reverse slots))
 
-get-seam : (front back : List (List ℕ)) (slot : List ℕ) → slice_get (front ++ slot ∷ back) (length front) ≡ Some slot
-get-seam [] back slot = refl
-get-seam (x ∷ xs) back slot = get-seam xs back slot
+-- from the slot before i back, the slot at i is the last
+before-at : (slots : List (List ℕ)) (i : ℕ) → i < length slots → back_from (index_before i slots) slots ≡ around i slots ++ get_or slots i [] ∷ []
+before-at slots i at = before i at ∙ ap (λ l. reverse (take i slots) ++ reverse l) (drop_more slots i [] at)
+    ∙ ap (λ l. reverse (take i slots) ++ l) (reverse-append (get_or slots i [] ∷ []) (drop (i + 1) slots))
+    ∙ sym (append_assoc (reverse (take i slots)) (reverse (drop (i + 1) slots)) (get_or slots i [] ∷ []))
+  where
+    before : (i : ℕ) → i < length slots → back_from (index_before i slots) slots ≡ reverse (take i slots) ++ reverse (drop i slots)
+    before zero at = back-all slots (length slots - 1) (omega arith)
+    before (suc i) at = let next : i + 1 ≡ suc i = omega arith in ap (λ k. reverse (take k slots) ++ reverse (drop k slots)) next
 
-join-seam : (front back : List (List ℕ)) (slot text : List ℕ) (mode : Mode) → join_at (length front) mode text (front ++ slot ∷ back) ≡ front ++ joined mode slot text ∷ back
-join-seam [] back slot text mode = refl
-join-seam (x ∷ xs) back slot text mode = ap (λ l. x ∷ l) (join-seam xs back slot text mode)
-
-first-at : (slots : List (List ℕ)) (i : ℕ) → At slots i → slice_get (back_from i slots) 0 ≡ slice_get slots i
-first-at slots i a =
-    ap (λ l. slice_get (back_from i l) 0) a.is ∙ ap (λ l. slice_get l 0) (back-at a.front a.back a.slot i a.place)
-    ∙ sym (get-seam a.front a.back a.slot) ∙ ap (slice_get (a.front ++ a.slot ∷ a.back)) a.place ∙ ap (λ l. slice_get l i) (sym a.is)
-
--- the slot at the index is the first
+-- ---- what is read
 pub back-first : (slots : List (List ℕ)) (i : ℕ) → i < max 1 (length slots) → slice_get (back_from i slots) 0 ≡ slice_get slots i
 back-first [] i h = let e : i ≡ 0 = omega arith in ap (λ k. slice_get (back_from k []) 0) e
-back-first (s ∷ ss) i h = first-at (s ∷ ss) i (cut-at (s ∷ ss) i (omega arith))
+back-first (s ∷ ss) i h =
+    let at : i < length (s ∷ ss) = omega arith in
+    ap (λ l. slice_get l 0) (back-at (s ∷ ss) i at) ∙ sym (slice_get-get_or (s ∷ ss) i [] at)
 
+pub yank-back : (r : Ring) → IsRing r → text_back 0 r ≡ yank r
+yank-back r h = back-first r.slots r.index h.at_slot
+
+-- with the slot before as the current one, each is one less far back
+turned-back : (slots : List (List ℕ)) (i back : ℕ) → i < length slots → back + 1 < length slots
+    → slice_get (back_from (index_before i slots) slots) back ≡ slice_get (back_from i slots) (back + 1)
+turned-back slots i back at below =
+    let within : back < length (around i slots) = omega (arith, length-around slots i at) in
+    let next : back + 1 ≡ suc back = omega arith in
+    ap (λ l. slice_get l back) (before-at slots i at)
+    ∙ slice_get-get_or (around i slots ++ get_or slots i [] ∷ []) back [] (omega (arith, length-append (around i slots) (get_or slots i [] ∷ [])))
+    ∙ ap (λ (t : List ℕ). Some t) (get_or_append_left (around i slots) (get_or slots i [] ∷ []) [] back within)
+    ∙ sym (ap (λ l. slice_get l (back + 1)) (back-at slots i at) ∙ ap (slice_get (get_or slots i [] ∷ around i slots)) next
+    ∙ slice_get-get_or (around i slots) back [] within)
+
+lent-back : (o : Option (List ℕ)) (r : Ring) (back : ℕ) → text_back back (lent o r) ≡ text_back back r
+lent-back None r back = refl
+lent-back (Some text) r back = refl
+
+-- each yank_pop goes one further back
+pub yank_pop-back : (r : Ring) (size back : ℕ) → IsRing r → yank_size r ≡ Some size → back + 1 < length r.slots
+    → text_back back (yank_popped r) ≡ text_back (back + 1) r
+yank_pop-back r size back h e below =
+    ap (λ o. text_back back (popped_ring o r)) e ∙ lent-back (yank (turned r)) (turned r) back
+    ∙ turned-back r.slots r.index back (let at = h.at_slot in omega arith) below
+
+-- there is none from their number on
+pub back-none : (slots : List (List ℕ)) (i back : ℕ) → length slots ≤ back → slice_get (back_from i slots) back ≡ None
+back-none slots i back past = slice_get_past (back_from i slots) back (simp (length-append, length-reverse, length-take, length-drop) (omega arith))
+
+-- what `texts_back_are_yanked` says
+pub ruleset going_back = (yank-back, yank_pop-back, back-none)
+
+-- ---- what a kill makes of them
 -- joining grows the newest group
-pub back-join : (slots groups : List (List ℕ)) (i size : ℕ) (text : List ℕ) (mode : Mode) → i < max 1 (length slots) → 0 < length slots → 0 < size
+pub back-join : (slots groups : List (List ℕ)) (i size : ℕ) (text : List ℕ) (mode : Mode) → i < length slots → 0 < size
     → back_from i slots ≡ take size groups → back_from i (join_at i mode text slots) ≡ take size (grown true text mode groups)
-back-join slots groups i zero text mode at any some h = absurd (omega arith)
-back-join slots groups i (suc n) text mode at any some h =
-    let a = cut-at slots i (omega arith) in
-    let old : a.slot ∷ (reverse a.front ++ reverse a.back) ≡ take (suc n) groups = sym (back-at a.front a.back a.slot i a.place) ∙ ap (back_from i) (sym a.is) ∙ h in
-    let new : join_at i mode text slots ≡ a.front ++ joined mode a.slot text ∷ a.back =
-    ap (λ k. join_at k mode text slots) (sym a.place) ∙ ap (join_at (length a.front) mode text) a.is ∙ join-seam a.front a.back a.slot text mode in
-    ap (back_from i) new ∙ back-at a.front a.back (joined mode a.slot text) i a.place ∙ grows groups a.slot (reverse a.front ++ reverse a.back) old
+back-join slots groups i zero text mode at some h = absurd (omega arith)
+back-join slots groups i (suc n) text mode at some h =
+    ap (back_from i) (join-is slots i mode text) ∙ back-set slots i (joined mode (get_or slots i []) text) at
+    ∙ grows groups (get_or slots i []) (around i slots) (sym (back-at slots i at) ∙ h)
   where
     grows : (gs : List (List ℕ)) (s : List ℕ) (rest : List (List ℕ)) → s ∷ rest ≡ take (suc n) gs → joined mode s text ∷ rest ≡ take (suc n) (grown true text mode gs)
     grows [] s rest e = cc
@@ -70,12 +91,6 @@ back-join slots groups i (suc n) text mode at any some h =
         let one : s ≡ g = cc in
         let two : rest ≡ take n gs = cc in
         ap (λ x. joined mode x text ∷ rest) one ∙ ap (λ l. joined mode g text ∷ l) two
-
-put-after : (slots : List (List ℕ)) (i : ℕ) (text : List ℕ) → i ≡ length slots → put_at i text slots ≡ slots ++ text ∷ []
-put-after slots i text h = cond-true (i == length slots) _ _ (eq-eqb i (length slots) h)
-
-pub put-over : (slots : List (List ℕ)) (i : ℕ) (text : List ℕ) → i < length slots → put_at i text slots ≡ slice_set slots i text
-put-over slots i text h = cond-false (i == length slots) _ _ (ne_eqb i (length slots) (λ e. absurd (omega arith)))
 
 -- what a new slot makes of the slots
 pub record Puts (n index i : ℕ) (text : List ℕ) (slots : List (List ℕ)) : Type 0 where
@@ -86,12 +101,11 @@ pub record Puts (n index i : ℕ) (text : List ℕ) (slots : List (List ℕ)) : 
 -- while there is room
 puts-after : (n index i : ℕ) (text : List ℕ) (slots : List (List ℕ)) → length slots ≤ n → index + 1 ≡ max 1 (length slots) → i ≡ length slots → Puts n index i text slots
 puts-after n index i text slots room full at =
-    let put = put-after slots i text at in
+    let put : put_at i text slots ≡ slots ++ text ∷ [] = cond-true (i == length slots) _ _ (eq-eqb i (length slots) at) in
     let len : length (put_at i text slots) ≡ length slots + 1 = ap length put ∙ length-append slots (text ∷ []) in
-    let short : length (reverse slots) ≤ n = rw (length-reverse slots) room in
     record {
-      back_is = ap (back_from i) put ∙ back-at slots [] text i (sym at) ∙ ap (λ l. text ∷ l) (append-nil (reverse slots))
-          ∙ ap (λ l. text ∷ l) (sym (take_all n (reverse slots) short)) ∙ ap (λ l. text ∷ take n l) (sym (whole slots full));
+      back_is = ap (back_from i) put ∙ back-all (slots ++ text ∷ []) i (omega (arith, ap length put)) ∙ reverse-append slots (text ∷ [])
+          ∙ ap (λ l. text ∷ l) (sym (ap (take n) (whole slots full) ∙ take_all n (reverse slots) (rw (length-reverse slots) room)));
       filling = λ _. omega arith;
       any = omega arith;
     }
@@ -100,36 +114,17 @@ puts-after n index i text slots room full at =
     whole [] e = let z : index ≡ 0 = omega arith in ap (λ k. back_from k []) z
     whole (s ∷ ss) e = back-all (s ∷ ss) index (omega arith)
 
--- over the first slot
-puts-first : (n index : ℕ) (text : List ℕ) (slots : List (List ℕ)) → length slots ≡ suc n → index + 1 ≡ suc n → Puts n index 0 text slots
-puts-first n index text [] full last = absurd (omega arith)
-puts-first n index text (s ∷ ss) full last =
-    let put : put_at 0 text (s ∷ ss) ≡ text ∷ ss = put-over (s ∷ ss) 0 text (omega arith) in
-    let len : length (put_at 0 text (s ∷ ss)) ≡ suc (length ss) = ap length put in
-    let m : length (reverse ss) ≡ n = length-reverse ss ∙ (omega arith) in
+-- over the slot after, where there is none
+puts-over : (n index i : ℕ) (text : List ℕ) (slots : List (List ℕ)) → length slots ≡ suc n → index ≡ index_before i slots → i < suc n
+    → Puts n index i text slots
+puts-over n index i text slots full before below =
+    let at : i < length slots = omega arith in
+    let put = put-over slots i text at in
+    let len : length (put_at i text slots) ≡ suc n = ap length put ∙ length-set slots i text ∙ full in
     record {
-      back_is = ap (back_from 0) put ∙ back-at [] ss text 0 refl ∙ ap (λ l. text ∷ l) (sym (take_at (reverse ss) (s ∷ []) n m))
-          ∙ ap (λ l. text ∷ take n l) (sym (reverse-cons s ss)) ∙ ap (λ l. text ∷ take n l) (sym (back-all (s ∷ ss) index (omega arith)));
-      filling = λ k. absurd (omega arith);
-      any = omega arith;
-    }
-
--- over the slot after
-puts-next : (n index i : ℕ) (text : List ℕ) (slots : List (List ℕ)) → length slots ≡ suc n → i ≡ index + 1 → i < suc n → Puts n index i text slots
-puts-next n index i text slots full next below =
-    let a = cut-at slots i (omega arith) in
-    let put : put_at i text slots ≡ a.front ++ text ∷ a.back =
-    put-over slots i text (omega arith) ∙ ap (λ k. slice_set slots k text) (sym a.place) ∙ ap (λ l. slice_set l (length a.front) text) a.is ∙ set-append_seam a.front a.slot a.back text in
-    let len : length (put_at i text slots) ≡ length slots = ap length (put-over slots i text (omega arith)) ∙ length-set slots i text in
-    let sum : length slots ≡ length a.front + suc (length a.back) = ap length a.is ∙ length-append a.front (a.slot ∷ a.back) in
-    let m : length (reverse a.front ++ reverse a.back) ≡ n = length-append (reverse a.front) (reverse a.back) ∙ ap (λ k. k + length (reverse a.back)) (length-reverse a.front)
-    ∙ ap (λ k. length a.front + k) (length-reverse a.back) ∙ (omega arith) in
-    let old : back_from index slots ≡ (reverse a.front ++ reverse a.back) ++ a.slot ∷ [] =
-    ap (back_from index) a.is ∙ back-between a.front (a.slot ∷ a.back) index (a.place ∙ next) ∙ ap (λ l. reverse a.front ++ l) (reverse-cons a.slot a.back)
-    ∙ sym (append_assoc (reverse a.front) (reverse a.back) (a.slot ∷ [])) in
-    record {
-      back_is = ap (back_from i) put ∙ back-at a.front a.back text i a.place ∙ ap (λ l. text ∷ l) (sym (take_at (reverse a.front ++ reverse a.back) (a.slot ∷ []) n m))
-          ∙ ap (λ l. text ∷ take n l) (sym old);
+      back_is = ap (back_from i) put ∙ back-set slots i text at
+          ∙ ap (λ l. text ∷ l) (sym (ap (λ k. take n (back_from k slots)) before ∙ ap (take n) (before-at slots i at)
+          ∙ take_at (around i slots) (get_or slots i [] ∷ []) n (omega (arith, length-around slots i at))));
       filling = λ k. absurd (omega arith);
       any = omega arith;
     }
@@ -138,22 +133,21 @@ pub puts : (n index : ℕ) (text : List ℕ) (slots : List (List ℕ)) → lengt
     → (length slots < suc n → index + 1 ≡ max 1 (length slots)) → Puts n index (next_index (suc n) index slots) text slots
 puts n index text slots within at filling =
     let next = next_index-is (suc n) index slots (omega arith) within at in
+    let i = next_index (suc n) index slots in
     elim (cases_lt n (length slots)) [
-      | inr room ↦ puts-after n index (next_index (suc n) index slots) text slots room (filling (omega arith)) (after slots (next_index (suc n) index slots) room (filling (omega arith)) next)
-      | inl over ↦ full (next_index (suc n) index slots) next.turns (omega arith)
+      | inr room ↦ puts-after n index i text slots room (filling (omega arith)) (after slots i room (filling (omega arith)) next)
+      | inl over ↦ puts-over n index i text slots (omega arith) (before slots i (omega arith) next.turns) next.below
     ]
   where
     after : (ss : List (List ℕ)) (i : ℕ) → length ss ≤ n → index + 1 ≡ max 1 (length ss) → Next (suc n) index ss i → i ≡ length ss
     after [] i room e next = let b = next.after in omega arith
     after (s ∷ ss) i room e next = elim (next.turns) [ inl t ↦ let u = t.0 in absurd (omega arith) | inr t ↦ let u = t.1 in omega arith ]
 
-    full : (i : ℕ) → ((index + 1 ≡ suc n) × (i ≡ 0)) ⊎ ((index + 1 < suc n) × (i ≡ raised index slots)) → length slots ≡ suc n → Puts n index i text slots
-    full i (inl t) e = subst (λ k. Puts n index k text slots) (sym t.1) (puts-first n index text slots e t.0)
-    full i (inr t) e = let j = t.1 ∙ rises slots (omega arith) in let k = t.0 in puts-next n index i text slots e j (omega arith)
-      where
-        rises : (ss : List (List ℕ)) → 0 < length ss → raised index ss ≡ index + 1
-        rises [] h = absurd (omega arith)
-        rises (s ∷ ss) h = refl
+    before : (ss : List (List ℕ)) (i : ℕ) → length ss ≡ suc n → ((index + 1 ≡ suc n) × (i ≡ 0)) ⊎ ((index + 1 < suc n) × (i ≡ raised index ss))
+        → index ≡ index_before i ss
+    before [] i full turns = absurd (omega arith)
+    before (s ∷ ss) i full (inl t) = rw (t.1) (let last = t.0 in omega arith)
+    before (s ∷ ss) i full (inr t) = let next : i ≡ suc index = (let one = t.1 in omega arith) in ap (λ k. index_before k (s ∷ ss)) (sym next)
 
 pub take-grown : (groups : List (List ℕ)) (n : ℕ) (text : List ℕ) → text ∷ take n (take (suc n) groups) ≡ take (suc n) (text ∷ groups)
 take-grown groups n text = ap (λ l. text ∷ l) (take-take n (suc n) groups (omega arith))

@@ -28,12 +28,8 @@ turned-push : (b : Bool) (c : ℕ) (rest : List ℕ)
     → reverse (cond (length rest == 0) (cond b [] (c ∷ [])) (rest ++ c ∷ [])) ≡ cond (b && (length (reverse rest) == 0)) [] (c ∷ reverse rest)
 turned-push true c [] = refl
 turned-push false c [] = refl
-turned-push true c (x ∷ xs) =
-    let some = ap (λ (n : ℕ). n == 0) (length-reverse (x ∷ xs)) ∙ not_empty x xs in
-    ap (λ (b : Bool). reverse (cond b [] ((x ∷ xs) ++ c ∷ []))) (not_empty x xs)
-    ∙ reverse-append (x ∷ xs) (c ∷ []) ∙ sym (ap (λ (b : Bool). cond b [] (c ∷ reverse (x ∷ xs))) some)
-turned-push false c (x ∷ xs) =
-    ap (λ (b : Bool). reverse (cond b (c ∷ []) ((x ∷ xs) ++ c ∷ []))) (not_empty x xs) ∙ reverse-append (x ∷ xs) (c ∷ [])
+turned-push true c (x ∷ xs) = grind (arith, not_empty x xs, length-reverse (x ∷ xs), reverse-append (x ∷ xs) (c ∷ []))
+turned-push false c (x ∷ xs) = grind (arith, not_empty x xs, length-reverse (x ∷ xs), reverse-append (x ∷ xs) (c ∷ []))
 
 drop-trailing : (cs : List ℕ) → drop_trailing_whitespace cs ≡ reverse (past_blanks (reverse cs))
 drop-trailing [] = refl
@@ -50,3 +46,6 @@ trim_start-blanks text = ap encode_utf8_all (skip-leading (chars text))
 pub trim_end-blanks : (text : List ℕ) → trim_end text ≡ without_trailing_blanks text
 unfolding trim_end
 trim_end-blanks text = ap encode_utf8_all (drop-trailing (chars text))
+
+-- what `blanks_are_white_space` says
+pub ruleset blanks = (is_white_space-std, trim_start-blanks, trim_end-blanks)

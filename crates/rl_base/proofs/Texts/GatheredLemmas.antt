@@ -1,14 +1,11 @@
 -- Blanks before a text.
-use Rattle.rl_base.proofs.Common.{◌≡◌, ℕ, ◌+◌, ◌<◌, ◌≤◌, zero, suc, List, [], ◌∷◌, ◌++◌, length, take, drop, replicate, get_or, IsUtf8, IsCharBoundary, String, Global, string_bytes, refl, sym, ap, subst, ◌∙◌, arith, append_assoc, take_at, drop_at, length-replicate, replicate-append-replicate, IsCharBoundary-start, IsCharBoundary-after_ascii, IsUtf8-string_bytes, take-append-add, drop-append-add, repeat, replace_range, insert_slice, BeginsBlank}
+use Rattle.rl_base.proofs.Common.{◌≡◌, ℕ, ◌+◌, ◌<◌, ◌≤◌, zero, suc, List, [], ◌∷◌, ◌++◌, length, take, drop, replicate, get_or, IsUtf8, IsCharBoundary, String, Global, string_bytes, refl, sym, ap, subst, ◌∙◌, arith, append_assoc, take_at, drop_at, length-replicate, replicate-append-replicate, IsCharBoundary-start, IsCharBoundary-after_ascii, IsUtf8-string_bytes, take-append-add, drop-append-add, repeat, replace_range, insert_slice, BeginsBlank, length-take, take-take, get_or-take, take-replicate, get_or-replicate}
 
 -- each of the first n bytes is a blank
 blank-at : (text : List ℕ) (n i : ℕ) → BeginsBlank n text → i < n → (i < length text) × (get_or text i 0 ≡ 32)
-blank-at text zero i b l = absurd (omega arith)
-blank-at [] (suc n) i b l = absurd cc
-blank-at (x ∷ xs) (suc n) zero b l = (omega arith, cc)
-blank-at (x ∷ xs) (suc n) (suc i) b l =
-    let tails : take n xs ≡ replicate n 32 = cc in
-    let rest = blank-at xs n i tails (omega arith) in (omega (arith, rest.0), rest.1)
+blank-at text n i b l =
+    let len : length (take n text) ≡ n = ap length b ∙ length-replicate n 32 in
+    (omega (arith, len, length-take n text), sym (get_or-take n text i 0 l) ∙ ap (λ t. get_or t i 0) b ∙ get_or-replicate n i 32 0 l)
 
 -- the text may be cut up to the last of them
 boundary : (text : List ℕ) (n i : ℕ) → IsUtf8 text → BeginsBlank n text → i ≤ n → IsCharBoundary text i
@@ -23,13 +20,7 @@ may_cut text n i b l = boundary (string_bytes text) n i (IsUtf8-string_bytes tex
 
 -- fewer blanks
 fewer : (text : List ℕ) (n i : ℕ) → BeginsBlank n text → i ≤ n → BeginsBlank i text
-fewer text n zero b l = refl
-fewer text zero (suc i) b l = absurd (omega arith)
-fewer [] (suc n) (suc i) b l = absurd cc
-fewer (x ∷ xs) (suc n) (suc i) b l =
-    let tails : take n xs ≡ replicate n 32 = cc in
-    let head : x ≡ 32 = cc in
-    ap (λ t. x ∷ t) (fewer xs n i tails (omega arith)) ∙ ap (λ y. y ∷ replicate i 32) head
+fewer text n i b l = sym (take-take i n text l) ∙ ap (take i) b ∙ take-replicate i n 32 l
 
 -- the last blanks give way to a part
 pub record Fronted (text part : List ℕ) (n i : ℕ) : Type 0 where

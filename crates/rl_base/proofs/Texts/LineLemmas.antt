@@ -1,19 +1,19 @@
 -- The line that a place lies in, where a line begins and ends, and what stands after a place.
-use Rattle.rl_base.proofs.Common.{take-add, Some, None, slice_get, slice_range, ◌≡◌, ℕ, zero, suc, ◌+◌, ◌-◌, ◌<◌, ◌≤◌, Bool, true, false, cond, List, [], ◌∷◌, ◌++◌, length, get_or, take, drop, All, count_by, refl, sym, ap, ap₂, subst, ◌∙◌, arith, eqb, append-nil, length-append, drop-drop, take_at, get_or_at, length-take-le, take-append-drop, drop_at, take_all, slice_split-cons_yes, slice_split-cons_no, slice_split_none, length-slice_split, sum_by-cons, sum_by-append, All-nil, All-cons, recursion_from_All, same_Some, get_or_from_slice_get, slice_get_within, AllByRecursion, concat, onto_first, IsCharBoundary, IsUtf8, bytes_in, placed_clusters, is_newline, lines, bytes_of, start_of_line, text_of_line, end_of_line, last_line, line_number}
+use Rattle.rl_base.proofs.Common.{take-add, Some, None, slice_get, slice_range, ◌≡◌, ℕ, zero, suc, ◌+◌, ◌-◌, ◌<◌, ◌≤◌, Bool, true, false, cond, List, [], ◌∷◌, ◌++◌, length, get_or, take, drop, count_by, refl, sym, ap, ap₂, subst, ◌∙◌, arith, eqb, length-append, drop-drop, take_at, get_or_at, length-take-le, take-append-drop, drop_at, take_all, slice_split-cons_yes, slice_split-cons_no, length-slice_split, sum_by-cons, sum_by-append, same_Some, get_or_from_slice_get, slice_get_within, concat, onto_first, IsCharBoundary, IsUtf8, bytes_in, placed_clusters, is_newline, lines, bytes_of, start_of_line, text_of_line, end_of_line, last_line, line_number, length_push, nil_from_length, drop_more, append_assoc, take_more}
 use Rattle.unicode_segmentation.specs.Segments.{with_offsets}
 use Rattle.rl_base.proofs.Clusters.WordLemmas.{All-places}
 
 -- ---- a text cut at a newline
 pub lines_some : (text : List ℕ) → (line : List ℕ) × (more : List (List ℕ)) × (lines text ≡ line ∷ more)
-lines_some [] = ([], [], refl)
-lines_some (b ∷ bs) =
-    let rest = lines_some bs in
-    first (eqb b 10) rest.0 rest.1 rest.2
+lines_some text = from (lines text) refl (length-slice_split is_newline text)
   where
-    first : (is : Bool) (line : List ℕ) (more : List (List ℕ)) → lines bs ≡ line ∷ more
-        → (l : List ℕ) × (m : List (List ℕ)) × (cond is ([] ∷ lines bs) (onto_first b (lines bs)) ≡ l ∷ m)
-    first true line more e = ([], lines bs, refl)
-    first false line more e = (b ∷ line, more, ap (onto_first b) e)
+    from : (ls : List (List ℕ)) → lines text ≡ ls → length ls ≡ last_line text + 1 → (line : List ℕ) × (more : List (List ℕ)) × (lines text ≡ line ∷ more)
+    from [] e n = absurd (omega arith)
+    from (line ∷ more) e n = (line, more, e)
+
+bytes_of-append : (ls more : List (List ℕ)) → bytes_of (ls ++ more) ≡ bytes_of ls + bytes_of more
+bytes_of-append [] more = omega arith
+bytes_of-append (line ∷ ls) more = omega (arith, bytes_of-append ls more)
 
 bytes_of-onto : (is : Bool) (b : ℕ) (line : List ℕ) (more : List (List ℕ)) → bytes_of (cond is ([] ∷ (line ∷ more)) (onto_first b (line ∷ more))) ≡ 1 + bytes_of (line ∷ more)
 bytes_of-onto true b line more = omega arith
@@ -27,71 +27,150 @@ bytes_of-lines (b ∷ bs) =
     ap (λ l. bytes_of (cond (eqb b 10) ([] ∷ l) (onto_first b l))) some.2 ∙ bytes_of-onto (eqb b 10) b some.0 some.1
     ∙ (omega (arith, bytes_of-lines bs, ap bytes_of some.2))
 
--- ---- the line that a place lies in: `before` are the lines before it, and `part` is what it has before the place
-abbrev HasNoNewline : List ℕ → Type 0
-HasNoNewline text = All (λ b. is_newline b ≡ false) text
+-- ---- the line that two parts of a text share: it begins with the last of the one, and ends with the first of the other
+record Meets (front back first : List ℕ) (more : List (List ℕ)) : Type 0 where
+  before : List (List ℕ)
+  last : List ℕ
+  front_is : lines front ≡ before ++ last ∷ []
+  both_is : lines (front ++ back) ≡ before ++ (last ++ first) ∷ more
 
-record IsInLine (front : List ℕ) (before : List (List ℕ)) (part : List ℕ) : Type 0 where
-  pub none : HasNoNewline part
-  pub place : bytes_of before + length part ≡ length front
-  pub cut : (back : List ℕ) → lines (front ++ back) ≡ before ++ lines (part ++ back)
-
-IsInLine-first : (front : List ℕ) → HasNoNewline front → IsInLine front [] front
-IsInLine-first front none = record { none = none; place = omega arith; cut = λ back. refl }
-
-module _ (front back : List ℕ) (before : List (List ℕ)) (part : List ℕ) (h : IsInLine front before part) where
-  line_number-is : count_by is_newline front ≡ length before
-  line_number-is =
-      let all = ap lines (sym (append-nil front)) ∙ h.cut [] ∙ ap (λ t. before ++ lines t) (append-nil part) ∙ ap (λ l. before ++ l) (slice_split_none is_newline part h.none) in
-      omega (arith, length-slice_split is_newline front, ap length all, length-append before (part ∷ []))
-
-  start_of_line-is : start_of_line (front ++ back) (count_by is_newline front) ≡ bytes_of before
-  start_of_line-is = ap₂ (λ k l. bytes_of (take k l)) line_number-is (h.cut back) ∙ ap bytes_of (take_at before (lines (part ++ back)) (length before) refl)
-
-  -- where the line goes on by `more`, up to a newline or the end of the text
-  end_of_line-is : (more : List ℕ) (lines_after : List (List ℕ)) → lines (part ++ back) ≡ (part ++ more) ∷ lines_after
-      → end_of_line (front ++ back) (count_by is_newline front) ≡ length front + length more
-  end_of_line-is more lines_after e =
-      let line : text_of_line (front ++ back) (count_by is_newline front) ≡ part ++ more =
-      ap₂ (λ k l. get_or l k []) line_number-is (h.cut back ∙ ap (λ l. before ++ l) e) ∙ get_or_at before (part ++ more) lines_after [] (length before) refl in
-      omega (arith, start_of_line-is, ap length line, h.place, length-append part more)
-
--- every place is in a line
-in_line : (front : List ℕ) → (before : List (List ℕ)) × (part : List ℕ) × IsInLine front before part
-in_line [] = ([], [], IsInLine-first [] (All-nil _))
-in_line (b ∷ bs) = let rest = in_line bs in from_rest (eqb b 10) refl rest.0 rest.1 rest.2
+meets : (front back first : List ℕ) (more : List (List ℕ)) → lines back ≡ first ∷ more → Meets front back first more
+meets [] back first more e = record { before = []; last = []; front_is = refl; both_is = e }
+meets (b ∷ bs) back first more e = let m = meets bs back first more e in from (eqb b 10) refl m.before m.last m.front_is m.both_is
   where
-    from_rest : (is : Bool) → eqb b 10 ≡ is → (before : List (List ℕ)) (part : List ℕ) → IsInLine bs before part
-        → (l : List (List ℕ)) × (p : List ℕ) × IsInLine (b ∷ bs) l p
-    from_rest true e before part h =
-        ([] ∷ before, part, record { none = h.none; place = omega (arith, h.place); cut = λ back. slice_split-cons_yes is_newline b (bs ++ back) e ∙ ap (λ l. [] ∷ l) (h.cut back) })
-    from_rest false e [] part h = (
-      [],
-      b ∷ part,
-      record {
-        none = All-cons (λ x. is_newline x ≡ false) b part e h.none;
-        place = omega (arith, h.place);
-        cut = λ back. slice_split-cons_no is_newline b (bs ++ back) e ∙ ap (onto_first b) (h.cut back) ∙ sym (slice_split-cons_no is_newline b (part ++ back) e);
-      },
-    )
-    from_rest false e (line ∷ before) part h = (
-      (b ∷ line) ∷ before,
-      part,
-      record {
-        none = h.none;
-        place = omega (arith, h.place);
-        cut = λ back. slice_split-cons_no is_newline b (bs ++ back) e ∙ ap (onto_first b) (h.cut back);
-      },
-    )
+    from : (is : Bool) → eqb b 10 ≡ is → (before : List (List ℕ)) (last : List ℕ) → lines bs ≡ before ++ last ∷ []
+        → lines (bs ++ back) ≡ before ++ (last ++ first) ∷ more
+        → Meets (b ∷ bs) back first more
+    from true is before last f g = record {
+      before = [] ∷ before;
+      last = last;
+      front_is = slice_split-cons_yes is_newline b bs is ∙ ap (λ l. [] ∷ l) f;
+      both_is = slice_split-cons_yes is_newline b (bs ++ back) is ∙ ap (λ l. [] ∷ l) g;
+    }
+    from false is [] last f g = record {
+      before = [];
+      last = b ∷ last;
+      front_is = slice_split-cons_no is_newline b bs is ∙ ap (onto_first b) f;
+      both_is = slice_split-cons_no is_newline b (bs ++ back) is ∙ ap (onto_first b) g;
+    }
+    from false is (line ∷ before) last f g = record {
+      before = (b ∷ line) ∷ before;
+      last = last;
+      front_is = slice_split-cons_no is_newline b bs is ∙ ap (onto_first b) f;
+      both_is = slice_split-cons_no is_newline b (bs ++ back) is ∙ ap (onto_first b) g;
+    }
+
+-- the line that a place lies in
+module _ (text : List ℕ) (pos : ℕ) (first : List ℕ) (more : List (List ℕ)) (e : lines (drop pos text) ≡ first ∷ more) where
+  meet : Meets (take pos text) (drop pos text) first more
+  meet = meets (take pos text) (drop pos text) first more e
+
+  lines-is : lines text ≡ meet.before ++ (meet.last ++ first) ∷ more
+  lines-is = ap lines (sym (take-append-drop pos text)) ∙ meet.both_is
+
+  line_number-is : line_number text pos ≡ length meet.before
+  line_number-is = omega (arith, length-slice_split is_newline (take pos text), ap length meet.front_is, length_push meet.before meet.last)
+
+  start-is : pos ≤ length text → start_of_line text (line_number text pos) + length meet.last ≡ pos
+  start-is within =
+      let start = ap₂ (λ k l. bytes_of (take k l)) line_number-is lines-is
+      ∙ ap bytes_of (take_at meet.before ((meet.last ++ first) ∷ more) (length meet.before) refl) in
+      let all = ap bytes_of meet.front_is ∙ bytes_of-append meet.before (meet.last ∷ []) in
+      omega (arith, start, bytes_of-lines (take pos text), all, length-take-le pos text within)
+
+-- it ends with the first line of what stands after the place
+pub end-from : (text : List ℕ) (pos : ℕ) (line : List ℕ) (more : List (List ℕ)) → pos ≤ length text → lines (drop pos text) ≡ line ∷ more
+    → end_of_line text (line_number text pos) ≡ pos + length line
+end-from text pos line more within e =
+    let here = meet text pos line more e in
+    let whole = ap₂ (λ k l. get_or l k []) (line_number-is text pos line more e) (lines-is text pos line more e)
+    ∙ get_or_at here.before (here.last ++ line) more [] (length here.before) refl in
+    omega (arith, start-is text pos line more e within, ap length whole, length-append here.last line)
 
 -- its line begins there or before
 pub start-before : (text : List ℕ) (pos : ℕ) → pos ≤ length text → start_of_line text (line_number text pos) ≤ pos
-start-before text pos within =
-    let here = in_line (take pos text) in
-    let start = ap (λ t. start_of_line t (line_number text pos)) (sym (take-append-drop pos text)) ∙ start_of_line-is (take pos text) (drop pos text) here.0 here.1 here.2 in
-    omega (arith, start, here.2.place, length-take-le pos text within)
+start-before text pos within = let some = lines_some (drop pos text) in omega (arith, start-is text pos some.0 some.1 some.2 within)
 
--- ---- line j of a text, from `start` to `stop`
+pub end-after : (text : List ℕ) (pos : ℕ) → pos ≤ length text → pos ≤ end_of_line text (line_number text pos)
+end-after text pos within = let some = lines_some (drop pos text) in omega (arith, end-from text pos some.0 some.1 within some.2)
+
+-- the lines after that of a place are those of what stands after the place, but for its first
+pub lines-after : (text : List ℕ) (pos : ℕ) → drop (line_number text pos + 1) (lines text) ≡ drop 1 (lines (drop pos text))
+lines-after text pos =
+    let some = lines_some (drop pos text) in
+    let here = meet text pos some.0 some.1 some.2 in
+    ap₂ (λ j ls. drop (j + 1) ls) (line_number-is text pos some.0 some.1 some.2) (lines-is text pos some.0 some.1 some.2)
+    ∙ sym (drop-drop 1 (length here.before) _) ∙ ap (drop 1) (drop_at here.before ((here.last ++ some.0) ∷ some.1) (length here.before) refl)
+    ∙ sym (ap (drop 1) some.2)
+
+-- ---- a line stands in its text, after the lines before it
+record Stands (text : List ℕ) (before : List (List ℕ)) (line : List ℕ) : Type 0 where
+  front : List ℕ
+  back : List ℕ
+  is : text ≡ front ++ (line ++ back)
+  place : length front ≡ bytes_of before
+  number : count_by is_newline front ≡ length before
+  none : count_by is_newline line ≡ 0
+
+count-next : (is : Bool) (b : ℕ) (bs : List ℕ) → eqb b 10 ≡ is → count_by is_newline (b ∷ bs) ≡ cond is 1 0 + count_by is_newline bs
+count-next is b bs e = sum_by-cons (λ c. cond (eqb c 10) 1 0) b bs ∙ ap (λ (v : Bool). cond v 1 0 + count_by is_newline bs) e
+
+-- with one byte more before it
+stands-after : (is : Bool) (b : ℕ) (bs : List ℕ) (before now : List (List ℕ)) (line : List ℕ) → eqb b 10 ≡ is → bytes_of now ≡ 1 + bytes_of before
+    → length now ≡ cond is 1 0 + length before → Stands bs before line → Stands (b ∷ bs) now line
+stands-after is b bs before now line e bytes count s = record {
+  front = b ∷ s.front;
+  back = s.back;
+  is = ap (λ t. b ∷ t) s.is;
+  place = omega (arith, s.place, bytes);
+  number = count-next is b s.front e ∙ ap (λ n. cond is 1 0 + n) s.number ∙ sym count;
+  none = s.none;
+}
+
+stands : (text : List ℕ) (before : List (List ℕ)) (line : List ℕ) (more : List (List ℕ)) → lines text ≡ before ++ line ∷ more → Stands text before line
+stands [] [] line more e = let none : line ≡ [] = cc in record { front = []; back = []; is = rw none refl; place = refl; number = refl; none = rw none refl }
+stands [] (l ∷ []) line more e = absurd cc
+stands [] (l ∷ (k ∷ before)) line more e = absurd cc
+stands (b ∷ bs) before line more e = let some = lines_some bs in
+    from (eqb b 10) refl some.0 some.1 some.2 before (sym (ap (λ l. cond (eqb b 10) ([] ∷ l) (onto_first b l)) some.2) ∙ e) (stands bs)
+  where
+    from : (is : Bool) → eqb b 10 ≡ is → (x : List ℕ) (xs : List (List ℕ)) → lines bs ≡ x ∷ xs → (before : List (List ℕ))
+        → cond is ([] ∷ (x ∷ xs)) ((b ∷ x) ∷ xs) ≡ before ++ line ∷ more
+        → ((before : List (List ℕ)) (line : List ℕ) (more : List (List ℕ)) → lines bs ≡ before ++ line ∷ more → Stands bs before line)
+        → Stands (b ∷ bs) before line
+    from true is x xs f [] e rest = let none : line ≡ [] = cc in
+        record { front = []; back = b ∷ bs; is = rw none refl; place = refl; number = refl; none = rw none refl }
+    from true is x xs f (l ∷ before) e rest =
+        let one : [] ≡ l = cc in
+        let two : x ∷ xs ≡ before ++ line ∷ more = cc in
+        stands-after true b bs before (l ∷ before) line is (omega (arith, ap length one)) (omega arith) (rest before line more (f ∙ two))
+    from false is x xs f [] e rest =
+        let one : b ∷ x ≡ line = cc in
+        let s = rest [] x xs f in
+        record {
+          front = [];
+          back = s.back;
+          is = ap (λ t. b ∷ t) (s.is ∙ ap (λ t. t ++ (x ++ s.back)) (nil_from_length s.front s.place)) ∙ ap (λ t. t ++ s.back) one;
+          place = refl;
+          number = refl;
+          none = omega (arith, ap (count_by is_newline) one, count-next false b x is, s.none);
+        }
+    from false is x xs f (l ∷ before) e rest =
+        let one : b ∷ x ≡ l = cc in
+        let two : xs ≡ before ++ line ∷ more = cc in
+        stands-after false b bs (x ∷ before) (l ∷ before) line is (omega (arith, ap length one)) (omega arith) (rest (x ∷ before) line more (f ∙ ap (λ t. x ∷ t) two))
+
+-- line j of a text
+stands_at : (text : List ℕ) (j : ℕ) → j < length (lines text) → Stands text (take j (lines text)) (text_of_line text j)
+stands_at text j l =
+    stands text _ _ (drop (j + 1) (lines text))
+    (sym (take-append-drop j (lines text)) ∙ ap (λ r. take j (lines text) ++ r) (drop_more (lines text) j [] l))
+
+-- no newline stands in it
+pub newlines-line : (text : List ℕ) (k : ℕ) → k < length (lines text) → last_line (text_of_line text k) ≡ 0
+newlines-line text k l = (stands_at text k l).none
+
+-- it lies from `start` to `stop`
 pub record Lies (text : List ℕ) (j start stop : ℕ) (line : List ℕ) : Type 0 where
   pub len : start + length line ≡ stop
   pub number_start : count_by is_newline (take start text) ≡ j
@@ -99,65 +178,23 @@ pub record Lies (text : List ℕ) (j start stop : ℕ) (line : List ℕ) : Type 
   pub is : take (length line) (drop start text) ≡ line
   pub within : stop ≤ length text
 
-at_places : (text : List ℕ) (j s t s' t' : ℕ) (line : List ℕ) → s ≡ s' → t ≡ t' → Lies text j s t line → Lies text j s' t' line
-at_places text j s t s' t' line e f h = subst (λ (n : ℕ). Lies text j s' n line) f (subst (λ (n : ℕ). Lies text j n t line) e h)
-
-count-next : (is : Bool) (b : ℕ) (bs : List ℕ) → eqb b 10 ≡ is → count_by is_newline (b ∷ bs) ≡ cond is 1 0 + count_by is_newline bs
-count-next is b bs e = sum_by-cons (λ c. cond (eqb c 10) 1 0) b bs ∙ ap (λ (v : Bool). cond v 1 0 + count_by is_newline bs) e
-
--- with one byte more before it, it has the next number where that is a newline
-lies-after : (is : Bool) (b : ℕ) (bs : List ℕ) (j k s t : ℕ) (line : List ℕ) → eqb b 10 ≡ is → cond is 1 0 + j ≡ k → Lies bs j s t line → Lies (b ∷ bs) k (suc s) (suc t) line
-lies-after is b bs j k s t line e next h =
-    record {
-      len = omega (arith, h.len);
-      number_start = count-next is b (take s bs) e ∙ ap (λ n. cond is 1 0 + n) h.number_start ∙ next;
-      number_stop = count-next is b (take t bs) e ∙ ap (λ n. cond is 1 0 + n) h.number_stop ∙ next;
-      is = h.is;
-      within = omega (arith, h.within);
-    }
-
-lies-longer : (b : ℕ) (bs : List ℕ) (t : ℕ) (line : List ℕ) → eqb b 10 ≡ false → Lies bs 0 0 t line → Lies (b ∷ bs) 0 0 (suc t) (b ∷ line)
-lies-longer b bs t line e h =
-    record {
-      len = omega (arith, h.len);
-      number_start = refl;
-      number_stop = count-next false b (take t bs) e ∙ ap (λ n. 0 + n) h.number_stop;
-      is = ap (λ l. b ∷ l) h.is;
-      within = omega (arith, h.within);
-    }
-
-lies-empty : (text : List ℕ) → Lies text 0 0 0 []
-lies-empty text = record { len = refl; number_start = refl; number_stop = refl; is = refl; within = omega arith }
-
-lies-in : (text : List ℕ) (j : ℕ) (ls : List (List ℕ)) → lines text ≡ ls → j < length ls
-    → Lies text j (bytes_of (take j ls)) (bytes_of (take j ls) + length (get_or ls j [])) (get_or ls j [])
-lies-in [] j ls same l =
-    subst (λ (ls : List (List ℕ)). j < length ls → Lies [] j (bytes_of (take j ls)) (bytes_of (take j ls) + length (get_or ls j [])) (get_or ls j [])) same (only j) l
-  where
-    only : (j : ℕ) → j < length {A = List ℕ} ([] ∷ []) → Lies [] j (bytes_of (take j ([] ∷ []))) (bytes_of (take j ([] ∷ [])) + length {A = ℕ} (get_or ([] ∷ []) j [])) (get_or ([] ∷ []) j [])
-    only zero l = lies-empty []
-    only (suc j) l = absurd (omega arith)
-lies-in (b ∷ bs) j ls same l =
-    let some = lines_some bs in
-    subst (λ (ls : List (List ℕ)). j < length ls → Lies (b ∷ bs) j (bytes_of (take j ls)) (bytes_of (take j ls) + length (get_or ls j [])) (get_or ls j []))
-    (sym (ap (λ l. cond (eqb b 10) ([] ∷ l) (onto_first b l)) some.2) ∙ same) (from (lies-in bs) (eqb b 10) refl j some.0 some.1 some.2) l
-  where
-    from : ((i : ℕ) (ls : List (List ℕ)) → lines bs ≡ ls → i < length ls → Lies bs i (bytes_of (take i ls)) (bytes_of (take i ls) + length (get_or ls i [])) (get_or ls i []))
-        → (is : Bool) → eqb b 10 ≡ is → (j : ℕ) (line : List ℕ) (more : List (List ℕ)) → lines bs ≡ line ∷ more
-        → j < length (cond is ([] ∷ (line ∷ more)) (onto_first b (line ∷ more)))
-        → Lies (b ∷ bs) j (bytes_of (take j (cond is ([] ∷ (line ∷ more)) (onto_first b (line ∷ more)))))
-        (bytes_of (take j (cond is ([] ∷ (line ∷ more)) (onto_first b (line ∷ more)))) + length (get_or (cond is ([] ∷ (line ∷ more)) (onto_first b (line ∷ more))) j []))
-        (get_or (cond is ([] ∷ (line ∷ more)) (onto_first b (line ∷ more))) j [])
-    from rest true e zero line more f l = lies-empty (b ∷ bs)
-    from rest true e (suc j) line more f l =
-        at_places (b ∷ bs) (suc j) _ _ _ _ (get_or (line ∷ more) j []) (omega arith) (omega arith) (lies-after true b bs j (suc j) _ _ _ e (omega arith) (rest j (line ∷ more) f (omega arith)))
-    from rest false e zero line more f l =
-        at_places (b ∷ bs) 0 _ _ _ _ (b ∷ line) refl (omega arith) (lies-longer b bs _ line e (rest 0 (line ∷ more) f (omega arith)))
-    from rest false e (suc j) line more f l =
-        at_places (b ∷ bs) (suc j) _ _ _ _ (get_or more j []) (omega arith) (omega arith) (lies-after false b bs (suc j) (suc j) _ _ _ e (omega arith) (rest (suc j) (line ∷ more) f l))
-
 pub lies : (text : List ℕ) (j : ℕ) → j < length (lines text) → Lies text j (start_of_line text j) (end_of_line text j) (text_of_line text j)
-lies text j l = lies-in text j (lines text) refl l
+lies text j l =
+    let s = stands_at text j l in
+    let line = text_of_line text j in
+    let number : length (take j (lines text)) ≡ j = length-take-le j (lines text) (omega arith) in
+    let whole : text ≡ (s.front ++ line) ++ s.back = s.is ∙ sym (append_assoc s.front line s.back) in
+    let stop : length (s.front ++ line) ≡ end_of_line text j = length-append s.front line ∙ ap (λ n. n + length line) s.place in
+    record {
+      len = refl;
+      number_start = ap (λ t. count_by is_newline (take (start_of_line text j) t)) s.is
+          ∙ ap (count_by is_newline) (take_at s.front (line ++ s.back) _ s.place) ∙ s.number ∙ number;
+      number_stop = ap (λ t. count_by is_newline (take (end_of_line text j) t)) whole ∙ ap (count_by is_newline) (take_at (s.front ++ line) s.back _ stop)
+          ∙ sum_by-append (λ c. cond (eqb c 10) 1 0) s.front line ∙ (omega (arith, s.number, number, s.none));
+      is = ap (λ t. take (length line) (drop (start_of_line text j) t)) s.is
+          ∙ ap (take (length line)) (drop_at s.front (line ++ s.back) _ s.place) ∙ take_at line s.back (length line) refl;
+      within = omega (arith, ap length whole, length-append (s.front ++ line) s.back, stop);
+    }
 
 -- ---- from line to line
 pub count_of_lines : (text : List ℕ) → length (lines text) ≡ last_line text + 1
@@ -167,13 +204,8 @@ pub count-parts : (text : List ℕ) (pos : ℕ) → line_number text pos + count
 count-parts text pos =
     sym (sum_by-append (λ c. cond (eqb c 10) 1 0) (take pos text) (drop pos text)) ∙ ap (count_by is_newline) (take-append-drop pos text)
 
-bytes_of-more : (ls : List (List ℕ)) (j : ℕ) → j < length ls → bytes_of (take (suc j) ls) ≡ bytes_of (take j ls) + length (get_or ls j []) + 1
-bytes_of-more [] j l = absurd (omega arith)
-bytes_of-more (line ∷ ls) zero l = omega arith
-bytes_of-more (line ∷ ls) (suc j) l = omega (arith, bytes_of-more ls j (omega arith))
-
 pub start-next : (text : List ℕ) (j : ℕ) → j < length (lines text) → start_of_line text (j + 1) ≡ end_of_line text j + 1
-start-next text j l = let one : j + 1 ≡ suc j = omega arith in ap (start_of_line text) one ∙ bytes_of-more (lines text) j l
+start-next text j l = ap bytes_of (take_more (lines text) j [] l) ∙ bytes_of-append (take j (lines text)) (text_of_line text j ∷ []) ∙ (omega arith)
 
 pub end-last : (text : List ℕ) → end_of_line text (last_line text) ≡ length text
 end-last text =
@@ -187,59 +219,7 @@ text-between text j start stop l e f =
     let len : stop - start ≡ length (text_of_line text j) = omega (arith, h.len) in
     ap₂ (λ n m. take n (drop m text)) len e ∙ h.is
 
--- no newline stands in the text of a line
-pub newlines-line : (text : List ℕ) (k : ℕ) → k < length (lines text) → last_line (text_of_line text k) ≡ 0
-newlines-line text k l =
-    let at = lies text k l in
-    let back = drop (start_of_line text k) text in
-    let len = length (text_of_line text k) in
-    let after : drop len back ≡ drop (end_of_line text k) text = drop-drop len (start_of_line text k) text in
-    omega (
-      arith,
-      count-parts text (start_of_line text k),
-      count-parts text (end_of_line text k),
-      at.number_start,
-      at.number_stop,
-      count-parts back len,
-      ap last_line at.is,
-      ap last_line after,
-    )
-
--- ---- the lines of what stands after a place
-lines-onto : (part back line : List ℕ) (more : List (List ℕ)) → AllByRecursion (λ b. is_newline b ≡ false) part → lines back ≡ line ∷ more → lines (part ++ back) ≡ (part ++ line) ∷ more
-lines-onto [] back line more none e = e
-lines-onto (b ∷ part) back line more none e = slice_split-cons_no is_newline b (part ++ back) none.0 ∙ ap (onto_first b) (lines-onto part back line more none.1 e)
-
--- the line of a place ends with the first line of what stands after it
-pub end-from : (text : List ℕ) (pos : ℕ) (line : List ℕ) (more : List (List ℕ)) → pos ≤ length text → lines (drop pos text) ≡ line ∷ more → end_of_line text (line_number text pos) ≡ pos + length line
-end-from text pos line more within e =
-    let front = take pos text in
-    let back = drop pos text in
-    let here = in_line front in
-    let onto = lines-onto here.1 back line more (recursion_from_All (λ b. is_newline b ≡ false) here.1 here.2.none) e in
-    ap (λ t. end_of_line t (line_number text pos)) (sym (take-append-drop pos text)) ∙ end_of_line-is front back here.0 here.1 here.2 line more onto
-    ∙ (omega (arith, length-take-le pos text within))
-
-pub end-after : (text : List ℕ) (pos : ℕ) → pos ≤ length text → pos ≤ end_of_line text (line_number text pos)
-end-after text pos within = let some = lines_some (drop pos text) in omega (arith, end-from text pos some.0 some.1 within some.2)
-
--- the lines after that of a place are those of what stands after the place, but for its first
-pub lines-after : (text : List ℕ) (pos : ℕ) → drop (line_number text pos + 1) (lines text) ≡ drop 1 (lines (drop pos text))
-lines-after text pos =
-    let front = take pos text in
-    let back = drop pos text in
-    let here = in_line front in
-    let some = lines_some back in
-    let onto = lines-onto here.1 back some.0 some.1 (recursion_from_All (λ b. is_newline b ≡ false) here.1 here.2.none) some.2 in
-    let cut : lines text ≡ here.0 ++ ((here.1 ++ some.0) ∷ some.1) = ap lines (sym (take-append-drop pos text)) ∙ here.2.cut back ∙ ap (λ ls. here.0 ++ ls) onto in
-    ap₂ (λ j ls. drop (j + 1) ls) (line_number-is front back here.0 here.1 here.2) cut
-    ∙ sym (drop-drop 1 (length here.0) _) ∙ ap (drop 1) (drop_at here.0 ((here.1 ++ some.0) ∷ some.1) (length here.0) refl) ∙ sym (ap (drop 1) some.2)
-
 -- ---- the lines stand in the order of their numbers
-bytes_of-append : (ls more : List (List ℕ)) → bytes_of (ls ++ more) ≡ bytes_of ls + bytes_of more
-bytes_of-append [] more = omega arith
-bytes_of-append (line ∷ ls) more = omega (arith, bytes_of-append ls more)
-
 pub start-mono : (text : List ℕ) (j k : ℕ) → j ≤ k → start_of_line text j ≤ start_of_line text k
 start-mono text j k le =
     let split : take k (lines text) ≡ take j (lines text) ++ take (k - j) (drop j (lines text)) = ap (λ n. take n (lines text)) (omega arith) ∙ take-add j (k - j) (lines text) in

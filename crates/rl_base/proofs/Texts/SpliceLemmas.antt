@@ -1,8 +1,8 @@
 -- Splices of texts, one after another.
-use Rattle.rl_base.proofs.Common.{◌≡◌, ℕ, ◌+◌, ◌-◌, ◌^◌, ◌<◌, ◌≤◌, ◌⊎◌, inl, inr, min, max, Bool, true, false, cond, List, [], ◌++◌, length, take, drop, get_or, slice_range, Some, None, MatchOption, refl, sym, ap, subst, ◌∙◌, arith, append_assoc, length-append, take_at, drop_at, cases_lt, ltb-true, ltb-false, length-take, length-take-le, length-drop, take-take, drop-drop, get_or-take, get_or-drop, take-append-drop, drop_split, same_Some, IsUtf8-append, IsCharBoundary-at_seam, encode_utf8, nat_lt, IsCharBoundary, IsUtf8, Splice, Event, InsertChar, InsertStr, Delete, Replace, Stop, Cursors, Covers, Splices, capped, folded, spliced, told, untouched}
+use Rattle.rl_base.proofs.Common.{◌≡◌, ℕ, ◌+◌, ◌-◌, ◌^◌, ◌<◌, ◌≤◌, ◌⊎◌, inl, inr, min, max, Bool, true, false, cond, List, [], ◌++◌, length, take, drop, get_or, slice_range, Some, None, MatchOption, refl, sym, ap, subst, ◌∙◌, arith, append_assoc, cases_lt, ltb-true, ltb-false, length-take, length-take-le, length-drop, take-take, drop-drop, get_or-take, get_or-drop, take-append-drop, drop_split, same_Some, encode_utf8, nat_lt, IsCharBoundary, IsUtf8, Splice, Event, InsertChar, InsertStr, Delete, Replace, Stop, Cursors, Covers, Splices, capped, folded, spliced, told, untouched}
 use Rattle.rl_base.specs.Event.{Start, apply}
-use Rattle.rl_base.proofs.Texts.TextLemmas.{slice_range-middle}
-use Rattle.rl_base.proofs.Texts.SwapLemmas.{Swaps, Swaps-Delete, Swaps-InsertChar, Swaps-InsertStr, Swaps-Replace}
+use Rattle.rl_base.proofs.Texts.TextLemmas.{drop-middle, take-middle}
+use Rattle.rl_base.proofs.Texts.SwapLemmas.{Swaps, Swaps-Delete, Swaps-InsertChar, Swaps-InsertStr, Swaps-Replace, Swaps-back, Swaps-stands}
 
 -- texts with the same front have the same boundaries in it
 same_front : (x y : List ℕ) (j k : ℕ) → take j x ≡ take j y → k < j → j ≤ length y → IsCharBoundary x k → IsCharBoundary y k
@@ -102,32 +102,19 @@ Covers-more s i gone come old text new c t in_text in_new = record { utf8 = c.ut
 -- a change of a text is a splice
 pub Splices-Swaps : (text after : List ℕ) (i : ℕ) (old new : List ℕ) → Swaps text after i old new
     → Splices (record { from = i; old_end = i + length old; new_end = i + length new }) text after
-Splices-Swaps text after i old new s = record {
-  old_order = omega arith;
-  new_order = omega arith;
-  old_from = subst (IsCharBoundary text) s.place (IsCharBoundary-at_seam text s.front (old ++ s.rest) s.text_is (IsUtf8-append old s.rest s.old_utf8 s.rest_utf8));
-  new_from = subst (IsCharBoundary after) s.place (IsCharBoundary-at_seam after s.front (new ++ s.rest) s.after_is (IsUtf8-append new s.rest s.new_utf8 s.rest_utf8));
-  old_to = ends text old s.text_is;
-  new_to = ends after new s.after_is;
-  before = ap (take i) s.text_is ∙ take_at s.front (old ++ s.rest) i s.place ∙ sym (ap (take i) s.after_is ∙ take_at s.front (new ++ s.rest) i s.place);
-  after = left text old s.text_is ∙ sym (left after new s.after_is);
-}
-  where
-    width : (part : List ℕ) → length (s.front ++ part) ≡ i + length part
-    width part = length-append s.front part ∙ ap (λ k. k + length part) s.place
-
-    ends : (x part : List ℕ) → x ≡ s.front ++ (part ++ s.rest) → IsCharBoundary x (i + length part)
-    ends x part e = subst (IsCharBoundary x) (width part) (IsCharBoundary-at_seam x (s.front ++ part) s.rest (e ∙ sym (append_assoc s.front part s.rest)) s.rest_utf8)
-
-    left : (x part : List ℕ) → x ≡ s.front ++ (part ++ s.rest) → drop (i + length part) x ≡ s.rest
-    left x part e = ap (drop (i + length part)) (e ∙ sym (append_assoc s.front part s.rest)) ∙ drop_at (s.front ++ part) s.rest (i + length part) (width part)
-
--- what stands at the place of a swap
-pub went : (text after : List ℕ) (i : ℕ) (old new : List ℕ) → Swaps text after i old new → slice_range text i (i + length old) ≡ old
-went text after i old new s = slice_range-middle text s.front old s.rest i s.text_is s.place
-
-pub came : (text after : List ℕ) (i : ℕ) (old new : List ℕ) → Swaps text after i old new → slice_range after i (i + length new) ≡ new
-came text after i old new s = slice_range-middle after s.front new s.rest i s.after_is s.place
+Splices-Swaps text after i old new s =
+    let went = Swaps-stands text after i old new s in
+    let came = Swaps-stands after text i new old (Swaps-back text after i old new s) in
+    record {
+      old_order = omega arith;
+      new_order = omega arith;
+      old_from = went.start;
+      new_from = came.start;
+      old_to = went.end;
+      new_to = came.end;
+      before = take-middle text s.front old s.rest i s.text_is s.place ∙ sym (take-middle after s.front new s.rest i s.after_is s.place);
+      after = drop-middle text s.front old s.rest i s.text_is s.place ∙ sym (drop-middle after s.front new s.rest i s.after_is s.place);
+    }
 
 -- what covers all that changed covers it with one more change
 Covers-Swaps : (s : Splice) (old text new : List ℕ) (i : ℕ) (gone come : List ℕ) → Covers s old text → length text < 2 ^ 64 → length new < 2 ^ 64 → Swaps text new i gone come
@@ -173,3 +160,6 @@ Splices-old s old new p =
     ap (λ k. k ++ slice_range old s.from s.old_end ++ drop s.new_end new) (sym p.before) ∙ ap (λ k. take s.from old ++ slice_range old s.from s.old_end ++ k) (sym p.after)
     ∙ append_assoc (take s.from old) (slice_range old s.from s.old_end) (drop s.old_end old)
     ∙ ap (λ k. take s.from old ++ k) (sym (drop_split old s.from s.old_end p.old_order)) ∙ take-append-drop s.from old
+
+-- what the theorems on splices say
+pub ruleset splicing = (Covers-apply, told-means, Splices-new, Splices-old)

@@ -1,8 +1,8 @@
 -- Each change of a text replaces one part by another, so it can be taken back.
-use Rattle.rl_base.proofs.Common.{◌≡◌, ℕ, ◌+◌, ◌-◌, true, List, [], ◌++◌, length, take, drop, slice_range, Option, Some, None, refl, sym, ap, subst, ◌∙◌, arith, append_assoc, length-append, take_at, drop_at, length-take-le, take-append-drop, nil_from_length, drop_split, same_Some, IsUtf8-nil, IsUtf8-append, IsUtf8-take, IsUtf8-drop, IsCharBoundary-at_seam, is_utf8-from_IsUtf8, IsSome, encode_utf8, insert_slice, replace_range, IsCharBoundary, IsUtf8, Direction, Event, InsertChar, InsertStr, Delete, Replace, Stop, Cursors, stands_at}
+use Rattle.rl_base.proofs.Common.{◌≡◌, ℕ, ◌+◌, List, [], ◌++◌, length, take, drop, slice_range, Option, Some, None, refl, sym, ap, subst, ◌∙◌, arith, append_assoc, length-append, take_at, drop_at, length-take-le, take-append-drop, nil_from_length, drop_split, same_Some, IsUtf8-nil, IsUtf8-append, IsUtf8-take, IsUtf8-drop, is_utf8-from_IsUtf8, IsSome, encode_utf8, insert_slice, replace_range, IsUtf8, Direction, Event, InsertChar, InsertStr, Delete, Replace, Stop, Cursors, ap₂}
 use Rattle.rl_base.specs.Event.{Start, apply}
 use Rattle.rl_base.proofs.Texts.EventLemmas.{Deletes-from_IsSome, Inserts-from_IsSome, Replaces-from_IsSome}
-use Rattle.rl_base.proofs.Texts.TextLemmas.{StandsAt, fits_at-true, removed-is_replaced, stands_at-true}
+use Rattle.rl_base.proofs.Texts.TextLemmas.{StandsAt, fits_at-true, removed-is_replaced, stands_at-true, StandsAt-middle, drop-middle, take-middle}
 
 -- at i, old gives way to new
 pub record Swaps (text after : List ℕ) (i : ℕ) (old new : List ℕ) : Type 0 where
@@ -30,59 +30,19 @@ Swaps-back text after i old new s = record {
   new_utf8 = s.old_utf8;
 }
 
-boundary : (front rest : List ℕ) → IsUtf8 rest → IsCharBoundary (front ++ rest) (length front)
-boundary front rest u = IsCharBoundary-at_seam (front ++ rest) front rest refl u
+-- old stands in the text, and with new in its place it is the text after
+pub Swaps-stands : (text after : List ℕ) (i : ℕ) (old new : List ℕ) → Swaps text after i old new → StandsAt text i old
+Swaps-stands text after i old new s = StandsAt-middle text s.front old s.rest i s.text_is s.place s.old_utf8 s.rest_utf8
 
-boundary_past : (front old rest : List ℕ) → IsUtf8 rest → IsCharBoundary (front ++ (old ++ rest)) (length front + length old)
-boundary_past front old rest u =
-    subst (λ k. IsCharBoundary (front ++ (old ++ rest)) k) (length-append front old)
-    (IsCharBoundary-at_seam (front ++ (old ++ rest)) (front ++ old) rest (sym (append_assoc front old rest)) u)
-
-stands : (front old rest : List ℕ) → IsUtf8 old → IsUtf8 rest → stands_at (front ++ (old ++ rest)) (length front) old ≡ true
-stands front old rest u v =
-    let n : (length front + length old) - length front ≡ length old = omega arith in
-    stands_at-true (front ++ (old ++ rest)) (length front) old u (boundary front (old ++ rest) (IsUtf8-append old rest u v)) (boundary_past front old rest v)
-    (ap (λ k. take k (drop (length front) (front ++ (old ++ rest)))) n ∙ ap (take (length old)) (drop_at front (old ++ rest) (length front) refl) ∙ take_at old rest (length old) refl)
-
-past : (front old rest : List ℕ) → drop (length front + length old) (front ++ (old ++ rest)) ≡ rest
-past front old rest =
-    ap (drop (length front + length old)) (sym (append_assoc front old rest)) ∙ drop_at (front ++ old) rest (length front + length old) (length-append front old)
-
-pub replaced : (front old new rest : List ℕ) → IsUtf8 old → IsUtf8 new → IsUtf8 rest
-    → apply (Replace (length front) old new) (front ++ (old ++ rest)) ≡ Some (front ++ (new ++ rest))
-unfolding apply
-replaced front old new rest u v w =
-    rw (stands front old rest u w, is_utf8-from_IsUtf8 new v)
-    (ap Some (ap (λ x. (x ++ new) ++ drop (length front + length old) (front ++ (old ++ rest))) (take_at front (old ++ rest) (length front) refl)
-    ∙ ap (λ x. (front ++ new) ++ x) (past front old rest) ∙ append_assoc front new rest))
-
-pub inserted : (front new rest : List ℕ) → IsUtf8 new → IsUtf8 rest → apply (InsertStr (length front) new) (front ++ rest) ≡ Some (front ++ (new ++ rest))
-unfolding apply
-inserted front new rest v w =
-    rw (fits_at-true (front ++ rest) (length front) new v (boundary front rest w))
-    (ap Some (ap (λ x. (x ++ new) ++ drop (length front) (front ++ rest)) (take_at front rest (length front) refl)
-    ∙ ap (λ x. (front ++ new) ++ x) (drop_at front rest (length front) refl) ∙ append_assoc front new rest))
+replaced : (text after : List ℕ) (i : ℕ) (old new : List ℕ) → Swaps text after i old new → replace_range text i (i + length old) new ≡ after
+replaced text after i old new s =
+    ap₂ (λ x y. (x ++ new) ++ y) (take-middle text s.front old s.rest i s.text_is s.place) (drop-middle text s.front old s.rest i s.text_is s.place)
+    ∙ append_assoc s.front new s.rest ∙ sym s.after_is
 
 -- an event that was applied swaps
 pub some_is : {A : Type 0} (o : Option A) (a : A) → o ≡ Some a → IsSome o
 some_is None a h = cc
 some_is (Some b) a h = refl
-
-pub Swaps-InsertStr : (text after : List ℕ) (i : ℕ) (s : List ℕ) → IsUtf8 text → apply (InsertStr i s) text ≡ Some after → Swaps text after i [] s
-Swaps-InsertStr text after i s u h =
-    let d = Inserts-from_IsSome text i s (some_is (apply (InsertStr i s) text) after h) in
-    let same : insert_slice text i s ≡ after = same_Some _ _ (sym d.makes ∙ h) in
-    record {
-      front = take i text;
-      rest = drop i text;
-      text_is = sym (take-append-drop i text);
-      after_is = sym same ∙ append_assoc (take i text) s (drop i text);
-      place = length-take-le i text d.fits.place.0;
-      front_utf8 = IsUtf8-take text i u d.fits.place;
-      rest_utf8 = IsUtf8-drop text i u d.fits.place;
-      old_utf8 = IsUtf8-nil;
-      new_utf8 = d.fits.utf8;
-    }
 
 split_at : (text : List ℕ) (i : ℕ) (s : List ℕ) → slice_range text i (i + length s) ≡ s → text ≡ take i text ++ (s ++ drop (i + length s) text)
 split_at text i s e =
@@ -102,6 +62,15 @@ Swaps-at text after i s t u d v same = record {
   new_utf8 = v;
 }
 
+pub Swaps-InsertStr : (text after : List ℕ) (i : ℕ) (s : List ℕ) → IsUtf8 text → apply (InsertStr i s) text ≡ Some after → Swaps text after i [] s
+Swaps-InsertStr text after i s u h =
+    let d = Inserts-from_IsSome text i s (some_is (apply (InsertStr i s) text) after h) in
+    let stands : StandsAt text i [] =
+    StandsAt-middle text (take i text) [] (drop i text) i (sym (take-append-drop i text)) (length-take-le i text d.fits.place.0)
+    IsUtf8-nil (IsUtf8-drop text i u d.fits.place) in
+    Swaps-at text after i [] s u stands d.fits.utf8
+    (ap (λ k. replace_range text i k s) {x = i + 0} {y = i} (omega arith) ∙ same_Some (insert_slice text i s) after (sym d.makes ∙ h))
+
 pub Swaps-Delete : (text after : List ℕ) (i : ℕ) (s : List ℕ) (side : Direction) → IsUtf8 text → apply (Delete i s side) text ≡ Some after → Swaps text after i s []
 Swaps-Delete text after i s side u h =
     let d = Deletes-from_IsSome text i s side (some_is (apply (Delete i s side) text) after h) in
@@ -118,14 +87,16 @@ Swaps-InsertChar text after i c u h = Swaps-InsertStr text after i (encode_utf8 
 
 -- what swaps can be done
 pub apply-InsertStr-Swaps : (text after : List ℕ) (i : ℕ) (s : List ℕ) → Swaps text after i [] s → apply (InsertStr i s) text ≡ Some after
+unfolding apply
 apply-InsertStr-Swaps text after i s p =
-    ap (λ k. apply (InsertStr k s) text) (sym p.place) ∙ ap (apply (InsertStr (length p.front) s)) p.text_is
-    ∙ inserted p.front s p.rest p.new_utf8 p.rest_utf8 ∙ ap Some (sym p.after_is)
+    rw (fits_at-true text i s p.new_utf8 (Swaps-stands text after i [] s p).start)
+    (ap Some (ap (λ k. replace_range text i k s) {x = i} {y = i + 0} (omega arith) ∙ replaced text after i [] s p))
 
 pub apply-Replace-Swaps : (text after : List ℕ) (i : ℕ) (s t : List ℕ) → Swaps text after i s t → apply (Replace i s t) text ≡ Some after
+unfolding apply
 apply-Replace-Swaps text after i s t p =
-    ap (λ k. apply (Replace k s t) text) (sym p.place) ∙ ap (apply (Replace (length p.front) s t)) p.text_is
-    ∙ replaced p.front s t p.rest p.old_utf8 p.new_utf8 p.rest_utf8 ∙ ap Some (sym p.after_is)
+    let d = Swaps-stands text after i s t p in
+    rw (stands_at-true text i s d.utf8 d.start d.end d.bytes, is_utf8-from_IsUtf8 t p.new_utf8) (ap Some (replaced text after i s t p))
 
 -- a text stays a text
 pub Swaps-IsUtf8 : (text after : List ℕ) (i : ℕ) (old new : List ℕ) → Swaps text after i old new → IsUtf8 after

@@ -24,6 +24,7 @@ pub enum Class {
 /// Whether the character is Alphabetic or a number (general category Nd, Nl or No). Inlined, so that an ASCII character, which
 /// is most often asked for, costs no call.
 #[inline(always)]
+#[tactic(auto, using(crate::proofs::Clusters::ClassLemmas::by_ascii))]
 pub fn is_alphanumeric(c: char) -> bool
     ensures { result ≡ is_alphanumeric c }
 {
@@ -48,6 +49,7 @@ fn is_in_tables(c: char) -> bool
 }
 
 // The standard library has the same property without a search in a table.
+#[tactic(auto, using(crate::proofs::Texts::BlankLemmas::blanks))]
 fn is_blank(c: char) -> bool
     ensures { result ≡ is_white_space c }
 {
@@ -56,6 +58,7 @@ fn is_blank(c: char) -> bool
 
 // Most clusters are one ASCII character, which tells this at once.
 #[inline]
+#[tactic(auto, using(crate::proofs::Clusters::ClassLemmas::by_ascii))]
 fn has_blank(cluster: &str) -> bool
     ensures { result ≡ has_blank cluster.now }
 {
@@ -75,6 +78,7 @@ fn any_blank(cluster: &str) -> bool
 
 // Quick if `has_blank` is.
 #[inline]
+#[tactic(auto, using(crate::proofs::Clusters::ClassLemmas::by_ascii))]
 fn all_alphanumeric(cluster: &str) -> bool
     ensures { result ≡ all_alphanumeric cluster.now }
 {

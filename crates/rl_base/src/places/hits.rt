@@ -49,6 +49,7 @@ fn search_ahead(text: &str, pos: usize, c: char, n: RepeatCount) -> Option<usize
 }
 
 /// The place of the `n`-th hit from `start` on, or of the last if there are fewer.
+#[tactic(auto, using(crate::proofs::Clusters::SearchLemmas::nothing_left))]
 fn nth_hit(text: &str, start: usize, wanted: char, n: RepeatCount) -> Option<usize>
     requires { IsCharBoundary text.now start }
     ensures { result ≡ nth_or_last n (hits wanted start (drop start text.now)) }
@@ -68,6 +69,7 @@ fn nth_hit(text: &str, start: usize, wanted: char, n: RepeatCount) -> Option<usi
 }
 
 /// The same for the hits before `end`, counted from there back.
+#[tactic(auto, using(crate::proofs::Clusters::SearchLemmas::nothing_left_back))]
 fn nth_hit_back(text: &str, end: usize, wanted: char, n: RepeatCount) -> Option<usize>
     requires { IsCharBoundary text.now end }
     ensures { result ≡ nth_or_last n (reverse (hits wanted 0 (take end text.now))) }

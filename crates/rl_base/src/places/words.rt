@@ -11,6 +11,7 @@ use unicode_segmentation::{GraphemeIndices, UnicodeSegmentation};
 
 /// The place of the `n`-th start of a word before `pos`, counted from `pos` back, or the text's start
 /// if there are fewer and for `n` = 0. None at the start.
+#[tactic(auto, using(crate::proofs::Clusters::WordLemmas::starting))]
 pub fn prev_word(text: &str, pos: usize, word: Word, n: RepeatCount) -> Option<usize>
     requires { IsCharBoundary text.now pos }
     ensures value { result ≡ prev_word text.now pos word n }

@@ -1,12 +1,6 @@
 use Rattle.rl_base.proofs.Common.{◌<◌, length, refl, arith, length-map, Gathering, texts}
-use Rattle.rl_base.proofs.Ring.RingLemmas.{join-past, joins-err, joins-ok}
+use Rattle.rl_base.proofs.Ring.RingLemmas.{join-past, joins-err}
 use Rattle.rl_base.proofs.kill_ring.join.Goals as goal
-
-pub returns-in-Some-clause-ok : goal.returns-in-Some-clause-ok
-returns-in-Some-clause-ok c =
-    let slots = c.args.slots.now in
-    let below : c.args.index < length slots.items = omega (arith, slots.ok.0, c.in-Some.ensures.variant.0 refl) in
-    joins-ok slots.items c.args.index c.args.mode c.args.text.now c.in-Some.slot.now c.join_to.new.slot c.join_to.result below c.in-Some.ensures.value c.join_to.ensures.ok
 
 pub returns-in-Some-clause-err : goal.returns-in-Some-clause-err
 returns-in-Some-clause-err c =

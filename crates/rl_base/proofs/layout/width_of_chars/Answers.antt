@@ -1,5 +1,5 @@
 use Rattle.rl_base.proofs.Common.{arith, IsUtf8-past_char}
-use Rattle.rl_base.proofs.Clusters.WidthLemmas.{columns-char, columns-none}
+use Rattle.rl_base.proofs.Clusters.WidthLemmas.{columns-char}
 use Rattle.rl_base.proofs.layout.width_of_chars.Goals as goal
 
 pub loop-c-preserved : goal.loop-c-preserved
@@ -11,6 +11,3 @@ loop-c-preserved c =
       small = omega (arith, c.saturating_add-total.ensures);
       columns = omega (arith, columns-char _ _ c.in-Some.c c.loop-c.total i.text step.0, c.saturating_add-total.ensures, c.char_columns.ensures.value, i.columns);
     }
-
-pub returns : goal.returns
-returns c = omega (arith, columns-none _ c.in-None.ensures.steps.0.0, c.loop-c.invariant.columns, c.loop-c.invariant.small)

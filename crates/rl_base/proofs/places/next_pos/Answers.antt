@@ -21,13 +21,11 @@ widths c =
 pub overflow_sub-result : goal.overflow_sub-result
 overflow_sub-result c = omega (arith, widths c)
 
-pub returns-clause-value : goal.returns-clause-value
-returns-clause-value c = ap Some (omega (arith, widths c)) ∙ sym (next_pos-some _ _ _ c.if-n-eq0.false c.if-pos-text.false)
-
-pub returns-clause-ahead : goal.returns-clause-ahead
-returns-clause-ahead c = omega (arith, widths c)
-
-pub returns-clause-boundary : goal.returns-clause-boundary
-returns-clause-boundary c =
-    IsCharBoundary-before_rest c.args.text.now c.args.pos _ (concat (take c.args.n (clusters (drop c.args.pos c.args.text.now)))) c.as_str.result.now c.requires.0
-    (split c) (omega (arith, widths c)) c.as_str.utf8
+pub returns : goal.returns
+returns c =
+    let passed = concat (take c.args.n (clusters (drop c.args.pos c.args.text.now))) in record {
+      value = ap Some (omega (arith, widths c)) ∙ sym (next_pos-some _ _ _ c.if-n-eq0.false c.if-pos-text.false);
+      ahead = omega (arith, widths c);
+      boundary = IsCharBoundary-before_rest c.args.text.now c.args.pos _ passed c.as_str.result.now c.requires.0 (split c) (omega (arith, widths c))
+          c.as_str.utf8;
+    }

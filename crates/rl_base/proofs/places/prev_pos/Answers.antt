@@ -29,13 +29,10 @@ widths c =
       length-take-le c.args.pos c.args.text.now c.requires.0,
     )
 
-pub returns-clause-value : goal.returns-clause-value
-returns-clause-value c = ap Some (omega (arith, widths c)) ∙ sym (prev_pos-some _ _ _ c.if-n-eq0.false c.if-pos-eq0.false)
-
-pub returns-clause-before : goal.returns-clause-before
-returns-clause-before c = omega (arith, widths c)
-
-pub returns-clause-boundary : goal.returns-clause-boundary
-returns-clause-boundary c =
-    IsCharBoundary-in_front c.args.text.now c.args.pos _ c.utf8.text c.requires.0 (omega (arith, widths c))
-    (subst IsUtf8 (sym (ap (take (length c.as_str.result.now)) (split c) ∙ take_at c.as_str.result.now _ _ refl)) c.as_str.utf8)
+pub returns : goal.returns
+returns c = record {
+  value = ap Some (omega (arith, widths c)) ∙ sym (prev_pos-some _ _ _ c.if-n-eq0.false c.if-pos-eq0.false);
+  before = omega (arith, widths c);
+  boundary = IsCharBoundary-in_front c.args.text.now c.args.pos _ c.utf8.text c.requires.0 (omega (arith, widths c))
+      (subst IsUtf8 (sym (ap (take (length c.as_str.result.now)) (split c) ∙ take_at c.as_str.result.now _ _ refl)) c.as_str.utf8);
+}

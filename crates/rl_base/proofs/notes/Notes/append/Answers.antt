@@ -1,29 +1,9 @@
-use Rattle.rl_base.proofs.Common.{◌≡◌, ℕ, zero, suc, ◌+◌, ◌⊎◌, ◌<◌, ◌++◌, ◌∙◌, ap, ap₂, arith, drop, false, true, if◌then◌else◌, inl, inr, length, length-append, refl, subst, sym, err_from_is_err_and, Result, Ok, Err, is_err, is_ok, string_bytes, Cuts, notes}
-use Rattle.rl_base.proofs.Queue.QueueLemmas.{Cuts-some, Joins, at_spent, joins, length-notes}
+use Rattle.rl_base.proofs.Common.{◌≡◌, ◌++◌, ◌∙◌, ap, arith, drop, false, true, if◌then◌else◌, length, length-append, refl, subst, sym, Result, Ok, Err, is_err, is_ok, string_bytes, Cuts, notes}
+use Rattle.rl_base.proofs.Queue.QueueLemmas.{Joins, joins, length-notes}
 use Rattle.rl_base.proofs.notes.Notes.append.Goals as goal
-
-pub range_from-requires : goal.range_from-requires
-range_from-requires c =
-    let later = c.later.inside in
-    rw c.as_str.ensures.value (λ _. at_spent later.text_room later.spent (string_bytes later.texts) later.waiting.items (omega (arith, c.later.invariant.0)) c.later.invariant.1)
 
 same_kind : (c : goal.After-drop-later-inside-2) → c.later.inside.text_room ≡ c.self.inside.text_room
 same_kind c = rw (← c.self.view_is, ← c.later.view_is) at c.requires
-
-joined : (c : goal.After-drop-later-inside-2)
-    → Joins c.self.inside.text_room c.self.inside.waiting.items c.later.inside.waiting.items c.self.inside.spent (string_bytes c.self.inside.texts) (drop c.later.inside.spent (string_bytes c.later.inside.texts))
-joined c =
-    let i = c.self.inside in
-    let later = c.later.inside in
-    let texts = drop later.spent (string_bytes later.texts) in
-    joins i.text_room i.waiting.items later.waiting.items i.spent (string_bytes i.texts) texts (omega (arith, c.self.invariant.0)) c.self.invariant.1
-    (subst (λ k. Cuts k later.waiting.items texts) (same_kind c) c.later.invariant.1)
-
-texts : (c : goal.After-drop-later-inside-2)
-    → string_bytes c.push_str.new.self ≡ string_bytes c.self.inside.texts ++ drop c.later.inside.spent (string_bytes c.later.inside.texts)
-texts c =
-    c.in_ok-push_str.ensures.bytes
-    ∙ ap (λ l. string_bytes c.self.inside.texts ++ l) (c.range_from.ensures.value ∙ ap (drop c.later.inside.spent) c.as_str.ensures.value)
 
 is_ok-of : {A E : Type 0} (result : Result A E) → is_err result ≡ false → is_ok result ≡ true
 is_ok-of (Ok a) h = refl
@@ -35,11 +15,20 @@ items c =
     ∙ ap (λ b. if b then c.reserve.new.self.items ++ c.later.inside.waiting.items else c.reserve.new.self.items) (is_ok-of c.append.result (sym c.if-is_err.ensures.value))
     ∙ ap (λ l. l ++ c.later.inside.waiting.items) c.reserve.ensures.items
 
-pub invariant_of-self-2 : goal.invariant_of-self-2
-invariant_of-self-2 c =
+joined : (c : goal.After-drop-later-inside-2)
+    → Joins c.self.inside.text_room c.self.inside.waiting.items c.append.new.self.items
+    (notes c.self.inside.text_room c.later.inside.waiting.items (drop c.later.inside.spent (string_bytes c.later.inside.texts)))
+    c.self.inside.spent (string_bytes c.self.inside.texts) (string_bytes c.push_str.new.self)
+joined c =
     let i = c.self.inside in
-    let len = ap length (texts c) ∙ length-append (string_bytes i.texts) (drop c.later.inside.spent (string_bytes c.later.inside.texts)) in
-    (omega (arith, c.self.invariant.0, len), rw (texts c, items c) (joined c).cuts)
+    let later = c.later.inside in
+    let texts = drop later.spent (string_bytes later.texts) in
+    joins i.text_room i.waiting.items later.waiting.items _ i.spent (string_bytes i.texts) texts _ c.self.invariant.0 c.self.invariant.1
+    (subst (λ k. Cuts k later.waiting.items texts) (same_kind c) c.later.invariant.1) (items c)
+    (c.in_ok-push_str.ensures.bytes ∙ ap (λ l. string_bytes i.texts ++ l) (c.range_from.ensures.value ∙ ap (drop later.spent) c.as_str.ensures.value))
+
+pub invariant_of-self-2 : goal.invariant_of-self-2
+invariant_of-self-2 c = ((joined c).spent_within, (joined c).cuts)
 
 pub returns-clause-done : goal.returns-clause-done
 returns-clause-done c =
@@ -47,43 +36,6 @@ returns-clause-done c =
     let later = c.later.inside in
     let count = ap length (items c) ∙ length-append i.waiting.items later.waiting.items in
     let bytes = drop i.spent (string_bytes c.push_str.new.self) in (
-      rw (← c.self.view_is, ← c.later.view_is, texts c, items c, same_kind c) (joined c).waits,
+      rw (← c.self.view_is, ← c.later.view_is, same_kind c) (joined c).waits,
       omega (arith, length-notes i.text_room c.append.new.self.items bytes, count, c.in-Some.ensures, c.len.ensures, c.in_ok-reserve.ensures.ok, c.reserve.ensures.len, c.append.ensures.capacity, i.waiting.ok.0, later.waiting.ok.0),
-    )
-
-pub returns-in_default-clause-err : goal.returns-in_default-clause-err
-returns-in_default-clause-err c =
-    let later = c.later.inside in
-    let some : 0 < length later.waiting.items = omega (arith, c.in_default.ensures, c.ranges.more.fits, c.len.ensures, later.waiting.ok.0) in
-    (refl, refl, inl (rw (← c.later.view_is) (omega (arith, some, length-notes later.text_room later.waiting.items (drop later.spent (string_bytes later.texts))))))
-
-lacks : (room n l more : ℕ) → room < n + (more + l) → (0 < l) ⊎ (room < n + more)
-lacks room n zero more h = inr (omega (arith, h))
-lacks room n (suc l) more h = inl (omega arith)
-
-pub returns-in_err-reserve-clause-err : goal.returns-in_err-reserve-clause-err
-returns-in_err-reserve-clause-err c =
-    let i = c.self.inside in
-    let later = c.later.inside in
-    let bytes = drop i.spent (string_bytes i.texts) in
-    let p = err_from_is_err_and c.from_residual.result c.from_residual.ensures.1 in
-    rw (← c.self.view_is, ← c.later.view_is, p.1, p.2) (
-      refl,
-      ap (λ rs. notes i.text_room rs bytes) c.reserve.ensures.items,
-      lacks _ _ _ _
-          (omega (arith, c.in_err-reserve.ensures.full, c.in-Some.ensures, c.len.ensures, i.waiting.ok.0, later.waiting.ok.0, length-notes i.text_room i.waiting.items bytes, length-notes later.text_room later.waiting.items (drop later.spent (string_bytes later.texts)))),
-    )
-
-pub returns-in_err-push_str-clause-err : goal.returns-in_err-push_str-clause-err
-returns-in_err-push_str-clause-err c =
-    let i = c.self.inside in
-    let later = c.later.inside in
-    let texts = drop later.spent (string_bytes later.texts) in
-    let p = err_from_is_err_and c.from_residual-in_err-push_str.result c.from_residual-in_err-push_str.ensures.1 in
-    let part = ap length (c.range_from.ensures.value ∙ ap (drop later.spent) c.as_str.ensures.value) in
-    let some = Cuts-some later.text_room later.waiting.items texts c.later.invariant.1 (omega (arith, c.in_err-push_str.ensures.full, i.texts.bytes.ok.1, part)) in
-    rw (← c.self.view_is, ← c.later.view_is, p.1, p.2) (
-      refl,
-      ap₂ (λ rs bytes. notes i.text_room rs (drop i.spent bytes)) c.reserve.ensures.items c.in_err-push_str.ensures.bytes,
-      inl (omega (arith, some, length-notes later.text_room later.waiting.items texts)),
     )

@@ -1,38 +1,20 @@
-use Rattle.rl_base.proofs.Common.{◌++◌, ◌∷◌, [], ◌∙◌, ap, arith, drop, length, length-append, length-drop, err_from_is_err_and, string_bytes, notes, kept, noted}
-use Rattle.rl_base.proofs.Queue.QueueLemmas.{IsUtf8-kept, Longer, length-kept, length-notes, longer, text_bytes-notes}
+use Rattle.rl_base.proofs.Common.{◌++◌, ◌∷◌, [], ◌∙◌, ap, string_bytes, noted}
+use Rattle.rl_base.proofs.Queue.QueueLemmas.{IsUtf8-kept, Joins, length-kept, longer}
 use Rattle.rl_base.proofs.notes.Notes.push.Goals as goal
 
-pub push_back_reserved-requires : goal.push_back_reserved-requires
-push_back_reserved-requires c =
-    let i = c.self.inside in
-    omega (arith, rw (← c.self.view_is) at c.requires, length-notes i.text_room i.waiting.items (drop i.spent (string_bytes i.texts)), i.waiting.ok.0)
-
 is_longer : (c : goal.After-push_back_reserved)
-    → Longer c.self.inside.text_room c.self.inside.waiting.items c.push_back_reserved.new.self.items (noted c.self.inside.text_room c.args.kind c.args.at c.args.gone.now c.args.come.now) c.self.inside.spent (string_bytes c.self.inside.texts) (string_bytes c.keep_texts.new.texts)
+    → Joins c.self.inside.text_room c.self.inside.waiting.items c.push_back_reserved.new.self.items
+    (noted c.self.inside.text_room c.args.kind c.args.at c.args.gone.now c.args.come.now ∷ []) c.self.inside.spent (string_bytes c.self.inside.texts)
+    (string_bytes c.keep_texts.new.texts)
 is_longer c =
     let i = c.self.inside in
     let items = c.push_back_reserved.ensures.items ∙ ap (λ r. i.waiting.items ++ r ∷ []) c.report_of-report.ensures in
-    longer i.text_room i.waiting.items _ (noted i.text_room c.args.kind c.args.at c.args.gone.now c.args.come.now) i.spent (string_bytes i.texts) _ (omega (arith, c.self.invariant.0)) c.self.invariant.1
+    longer i.text_room i.waiting.items _ (noted i.text_room c.args.kind c.args.at c.args.gone.now c.args.come.now) i.spent (string_bytes i.texts) _
+    c.self.invariant.0 c.self.invariant.1
     (IsUtf8-kept i.text_room c.args.gone.now c.args.come.now c.utf8.gone c.utf8.come) (length-kept i.text_room c.args.kind c.args.at c.args.gone.now c.args.come.now) items c.in_ok-keep_texts.ensures.done
 
 pub invariant_of-self-2 : goal.invariant_of-self-2
-invariant_of-self-2 c =
-    let i = c.self.inside in
-    let len = ap length c.in_ok-keep_texts.ensures.done ∙ length-append (string_bytes i.texts) (kept i.text_room (c.args.gone.now ++ c.args.come.now)) in
-    (omega (arith, c.self.invariant.0, len), (is_longer c).cuts)
+invariant_of-self-2 c = ((is_longer c).spent_within, (is_longer c).cuts)
 
 pub returns-clause-done : goal.returns-clause-done
 returns-clause-done c = rw (← c.self.view_is) (is_longer c).waits
-
-pub returns-in_err-keep_texts-clause-err : goal.returns-in_err-keep_texts-clause-err
-returns-in_err-keep_texts-clause-err c =
-    let i = c.self.inside in
-    let text = string_bytes i.texts in
-    let p = err_from_is_err_and c.from_residual.result c.from_residual.ensures.1 in
-    let full = c.in_err-keep_texts.ensures.err in
-    let wait = text_bytes-notes i.text_room i.waiting.items (drop i.spent text) c.self.invariant.1 in
-    rw (← c.self.view_is, p.1) (
-      p.2 ∙ full.0,
-      ap (λ bytes. notes i.text_room i.waiting.items (drop i.spent bytes)) full.1,
-      (omega (arith, full.2, i.texts.bytes.ok), omega (arith, full.2, wait, length-drop i.spent text, c.self.invariant.0)),
-    )

@@ -1,44 +1,25 @@
-use Rattle.rl_base.proofs.Common.{◌<◌, ◌++◌, ◌∷◌, [], ◌∙◌, None, ap, arith, drop, encode_utf8, length, length-append, refl, rules, sym, length-drop, err_from_is_err_and, IsUtf8-nil, IsUtf8-encode, string_bytes, notes, noted}
+use Rattle.rl_base.proofs.Common.{◌<◌, ◌++◌, ◌∷◌, [], ◌∙◌, None, ap, encode_utf8, rules, sym, IsUtf8-nil, IsUtf8-encode, string_bytes, noted}
 use Rattle.rl_base.specs.declared.reports.ReportKind.TheVariants as kind
-use Rattle.rl_base.proofs.Queue.QueueLemmas.{IsUtf8-kept, Longer, kept-all, length-kept, length-notes, longer, text_bytes-notes}
+use Rattle.rl_base.proofs.Queue.QueueLemmas.{IsUtf8-kept, Joins, kept-all, length-kept, longer}
 use Rattle.rl_base.proofs.notes.Notes.push_char.Goals as goal
 
-pub push_back_reserved-requires : goal.push_back_reserved-requires
-push_back_reserved-requires c =
-    let i = c.self.inside in
-    omega (arith, rw (← c.self.view_is) at c.requires.place, length-notes i.text_room i.waiting.items (drop i.spent (string_bytes i.texts)), i.waiting.ok.0)
-
 is_longer : (c : goal.After-push_back_reserved)
-    → Longer c.self.inside.text_room c.self.inside.waiting.items c.push_back_reserved.new.self.items (noted c.self.inside.text_room kind.CharInserted c.args.at [] (encode_utf8 c.args.c)) c.self.inside.spent (string_bytes c.self.inside.texts) (string_bytes c.push.new.self)
+    → Joins c.self.inside.text_room c.self.inside.waiting.items c.push_back_reserved.new.self.items
+    (noted c.self.inside.text_room kind.CharInserted c.args.at [] (encode_utf8 c.args.c) ∷ []) c.self.inside.spent (string_bytes c.self.inside.texts)
+    (string_bytes c.push.new.self)
 is_longer c =
     let i = c.self.inside in
     let bytes = encode_utf8 c.args.c in
     let some : 0 < i.text_room = rw (← c.self.view_is) at c.requires.keeps in
     let report = c.report_of-report.ensures ∙ ap (λ n. record { kind = kind.CharInserted; at = c.args.at; old_len = 0; new_len = n; cursors = None }) c.len_utf8.ensures.len in
     let items = c.push_back_reserved.ensures.items ∙ ap (λ r. i.waiting.items ++ r ∷ []) report in
-    longer i.text_room i.waiting.items _ (noted i.text_room kind.CharInserted c.args.at [] bytes) i.spent (string_bytes i.texts) _ (omega (arith, c.self.invariant.0)) c.self.invariant.1
+    longer i.text_room i.waiting.items _ (noted i.text_room kind.CharInserted c.args.at [] bytes) i.spent (string_bytes i.texts) _ c.self.invariant.0
+    c.self.invariant.1
     (IsUtf8-kept i.text_room [] bytes IsUtf8-nil (IsUtf8-encode c.args.c (search rules))) (length-kept i.text_room kind.CharInserted c.args.at [] bytes) items
     (c.in_ok-push.ensures.bytes ∙ ap (λ l. string_bytes i.texts ++ l) (sym (kept-all i.text_room bytes some)))
 
 pub invariant_of-self-2 : goal.invariant_of-self-2
-invariant_of-self-2 c =
-    let i = c.self.inside in
-    let len = ap length c.in_ok-push.ensures.bytes ∙ length-append (string_bytes i.texts) (encode_utf8 c.args.c) in
-    (omega (arith, c.self.invariant.0, len), (is_longer c).cuts)
+invariant_of-self-2 c = ((is_longer c).spent_within, (is_longer c).cuts)
 
 pub returns-clause-done : goal.returns-clause-done
 returns-clause-done c = rw (← c.self.view_is) (is_longer c).waits
-
-pub returns-in_err-push-clause-err : goal.returns-in_err-push-clause-err
-returns-in_err-push-clause-err c =
-    let i = c.self.inside in
-    let text = string_bytes i.texts in
-    let some : 0 < i.text_room = rw (← c.self.view_is) at c.requires.keeps in
-    let p = err_from_is_err_and c.from_residual.result c.from_residual.ensures.1 in
-    let full = c.in_err-push.ensures.full in
-    let wait = text_bytes-notes i.text_room i.waiting.items (drop i.spent text) c.self.invariant.1 in
-    rw (← c.self.view_is, p.1, p.2, kept-all i.text_room (encode_utf8 c.args.c) some) (
-      refl,
-      ap (λ bytes. notes i.text_room i.waiting.items (drop i.spent bytes)) c.in_err-push.ensures.bytes,
-      (omega (arith, full, i.texts.bytes.ok), omega (arith, full, wait, length-drop i.spent text, c.self.invariant.0)),
-    )

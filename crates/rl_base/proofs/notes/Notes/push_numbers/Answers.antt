@@ -1,17 +1,14 @@
-use Rattle.rl_base.proofs.Common.{[], ap, append-nil, arith, drop, refl, sym, IsUtf8-nil, string_bytes, string_capacity, deque_capacity}
-use Rattle.rl_base.proofs.Queue.QueueLemmas.{Longer, length-notes, longer}
+use Rattle.rl_base.proofs.Common.{◌∷◌, [], ap, append-nil, refl, sym, IsUtf8-nil, string_bytes, string_capacity, deque_capacity}
+use Rattle.rl_base.proofs.Queue.QueueLemmas.{Joins, longer}
 use Rattle.rl_base.proofs.notes.Notes.push_numbers.Goals as goal
 
-pub push_back_reserved-requires : goal.push_back_reserved-requires
-push_back_reserved-requires c =
-    let i = c.self.inside in
-    omega (arith, rw (← c.self.view_is) at c.requires.place, length-notes i.text_room i.waiting.items (drop i.spent (string_bytes i.texts)), i.waiting.ok.0)
-
 is_longer : (c : goal.After-push_back_reserved)
-    → Longer c.self.inside.text_room c.self.inside.waiting.items c.push_back_reserved.new.self.items (record { report = c.args.report; texts = [] }) c.self.inside.spent (string_bytes c.self.inside.texts) (string_bytes c.self.inside.texts)
+    → Joins c.self.inside.text_room c.self.inside.waiting.items c.push_back_reserved.new.self.items (record { report = c.args.report; texts = [] } ∷ [])
+    c.self.inside.spent (string_bytes c.self.inside.texts) (string_bytes c.self.inside.texts)
 is_longer c =
     let i = c.self.inside in
-    longer i.text_room i.waiting.items _ (record { report = c.args.report; texts = [] }) i.spent (string_bytes i.texts) (string_bytes i.texts) (omega (arith, c.self.invariant.0)) c.self.invariant.1 IsUtf8-nil
+    longer i.text_room i.waiting.items _ (record { report = c.args.report; texts = [] }) i.spent (string_bytes i.texts) (string_bytes i.texts)
+    c.self.invariant.0 c.self.invariant.1 IsUtf8-nil
     (rw (rw (← c.self.view_is) at c.requires.none) refl) c.push_back_reserved.ensures.items (sym (append-nil (string_bytes i.texts)))
 
 pub invariant_of-self : goal.invariant_of-self

@@ -1,9 +1,6 @@
 use Rattle.rl_base.proofs.Common.{◌<◌, ◌+◌, sym, ◌∙◌, arith, IsUtf8-past_char}
-use Rattle.rl_base.proofs.Clusters.SearchLemmas.{left_within, char_places-first_at, search-hit, search-miss, nothing_left}
+use Rattle.rl_base.proofs.Clusters.SearchLemmas.{left_within, char_places-first_at, search-hit, search-miss}
 use Rattle.rl_base.proofs.places.hits.nth_hit.Goals as goal
-
-pub overflow_add-hit : goal.overflow_add-hit
-overflow_add-hit c = omega (arith, c.loop-place.invariant.within, c.in-Some.ensures.steps.0)
 
 pub loop-place-preserved-then-c-wanted : goal.loop-place-preserved-then-c-wanted
 loop-place-preserved-then-c-wanted c =
@@ -27,6 +24,3 @@ loop-place-preserved c =
       found = sym (search-miss c.args.wanted (c.args.start + c.in-Some.place) c.in-Some.c c.loop-place.hit _ _ _
           (char_places-first_at _ _ _ _ _ c.in-Some.c i.text step.1 (omega (arith, step.2)) (omega (arith, step.0))) c.if-c-wanted.false) ∙ i.found;
     }
-
-pub returns-in-None : goal.returns-in-None
-returns-in-None c = sym (nothing_left c.args.wanted c.loop-place.hit c.loop-place.left _ _ c.in-None.ensures.steps.0) ∙ c.loop-place.invariant.found

@@ -1,6 +1,6 @@
 use Rattle.rl_base.proofs.Common.{◌<◌, sym, ◌∙◌, arith, rules, IsUtf8-encode, encode_utf8, IsUtf8}
 use Rattle.unicode_segmentation.proofs.TextLemmas.{IsUtf8-before}
-use Rattle.rl_base.proofs.Clusters.SearchLemmas.{char_places-last_at, search_back-hit, search_back-miss, nothing_left_back}
+use Rattle.rl_base.proofs.Clusters.SearchLemmas.{char_places-last_at, search_back-hit, search_back-miss}
 use Rattle.rl_base.proofs.places.hits.nth_hit_back.Goals as goal
 
 pub loop-place-preserved-then-c-wanted : goal.loop-place-preserved-then-c-wanted
@@ -27,6 +27,3 @@ loop-place-preserved c =
       found = sym (search_back-miss c.args.wanted c.in-Some.place c.in-Some.c c.loop-place.hit _ _ _
           (char_places-last_at _ _ _ _ _ c.in-Some.c rest one step.1.0 step.0 step.1.1) c.if-c-wanted.false) ∙ i.found;
     }
-
-pub returns-in-None : goal.returns-in-None
-returns-in-None c = sym (nothing_left_back c.args.wanted c.loop-place.hit c.loop-place.left _ _ c.in-None.ensures.steps.1.0) ∙ c.loop-place.invariant.found

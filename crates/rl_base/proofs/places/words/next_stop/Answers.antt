@@ -7,14 +7,14 @@ asked : (text : List ℕ) (at : At) (word : Word) (n : ℕ) (left : List PlacedC
     → stop ≡ nth n (stops at word (looked_at at (placed_clusters text)))
 asked text at word n left stop e f = f ∙ ap (λ l. nth n (stops at word l)) e
 
-found : (c : goal.In-Some) → Some c.in-Some.stop ≡ nth c.args.n (stops c.args.at c.args.word (looked_at c.args.at (placed_clusters c.args.text.now)))
-found c = asked c.args.text.now c.args.at c.args.word c.args.n _ _ c.looked_at.ensures (sym c.in-Some.is ∙ c.nth_stop.ensures)
-
-pub returns-in-Some-clause-value : goal.returns-in-Some-clause-value
-returns-in-Some-clause-value c = ap (λ o. option_or o (last_stop c.args.at c.args.word c.args.n c.args.text.now)) (found c)
-
-pub returns-in-Some-clause-boundary : goal.returns-in-Some-clause-boundary
-returns-in-Some-clause-boundary c = IsCharBoundary-stop c.args.text.now c.args.at c.args.word c.args.n c.in-Some.stop c.utf8.text (found c)
+pub returns-in-Some : goal.returns-in-Some
+returns-in-Some c =
+    let found : Some c.in-Some.stop ≡ nth c.args.n (stops c.args.at c.args.word (looked_at c.args.at (placed_clusters c.args.text.now))) =
+    asked c.args.text.now c.args.at c.args.word c.args.n _ _ c.looked_at.ensures (sym c.in-Some.is ∙ c.nth_stop.ensures) in
+    record {
+      value = ap (λ o. option_or o (last_stop c.args.at c.args.word c.args.n c.args.text.now)) found;
+      boundary = IsCharBoundary-stop c.args.text.now c.args.at c.args.word c.args.n c.in-Some.stop c.utf8.text found;
+    }
 
 pub returns-clause-value : goal.returns-clause-value
 returns-clause-value c =

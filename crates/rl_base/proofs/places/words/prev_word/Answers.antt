@@ -1,6 +1,6 @@
-use Rattle.rl_base.proofs.Common.{◌≡◌, ◌<◌, true, take, subst, Some, ap, sym, ◌∙◌, arith, IsCharBoundary-start, grapheme_indices_left, starts, placed_clusters}
+use Rattle.rl_base.proofs.Common.{◌<◌, Some, ap, sym, ◌∙◌, arith, grapheme_indices_left}
 use Rattle.rl_base.proofs.Clusters.ClusterLemmas.{slice_range-front}
-use Rattle.rl_base.proofs.Clusters.WordLemmas.{start_before, IsBefore, IsBefore-start_before, start_before-hit, start_before-more, start_before-miss, clusters_some, prev_word-some, prev_word-none}
+use Rattle.rl_base.proofs.Clusters.WordLemmas.{IsBefore-start_before, start_before-hit, start_before-more, start_before-miss, clusters_some, prev_word-some, prev_word-none}
 use Rattle.rl_base.proofs.places.words.prev_word.Goals as goal
 
 -- without a cluster the place is the start
@@ -9,40 +9,19 @@ returns-in_default-clause-value c =
     let none = sym (ap grapheme_indices_left c.rev-clusters.ensures.source ∙ c.grapheme_indices.ensures.left) ∙ c.in_default.ensures.steps.0 in
     sym (prev_word-none c.args.text.now c.args.pos c.args.word c.args.n c.range.result.now (c.range.ensures.value ∙ slice_range-front c.args.pos c.args.text.now) (omega (arith, c.range.ensures.len)) c.range.utf8 none)
 
--- a word starts after the cluster that was read
-begun : (c : goal.Then-wanted-eq1) → starts c.args.word c.in-Some-2.cluster.now c.loop-start.invariant.cluster ≡ true
-begun c = sym (c.starts.ensures c.args.word _ _ c.class_of-last.ensures c.loop-start.invariant.class) ∙ c.if-starts.true
-
--- the place that was found
-found : (c : goal.Then-wanted-eq1) → c.loop-start.at ≡ start_before c.args.word c.args.n (placed_clusters (take c.args.pos c.args.text.now))
-found c = sym (start_before-hit c.args.word _ _ _ _ c.in-Some-2.ensures.steps _ c.if-wanted-eq1.true (begun c)) ∙ c.loop-start.invariant.found
-
-pub returns-then-wanted-eq1-clause-value : goal.returns-then-wanted-eq1-clause-value
-returns-then-wanted-eq1-clause-value c =
-    let some : 0 < c.args.pos =
-    omega (
-      arith,
-      c.range.ensures.len,
-      clusters_some c.range.result.now _ _ c.range.utf8
-          (sym (ap grapheme_indices_left c.rev-clusters.ensures.source ∙ c.grapheme_indices.ensures.left) ∙ c.in-Some.ensures.steps),
-    ) in
-    ap Some (found c) ∙ sym (prev_word-some c.args.text.now c.args.pos c.args.word c.args.n some)
-
-before : (c : goal.Then-wanted-eq1) → IsBefore c.args.text.now c.args.pos c.loop-start.at
-before c =
-    subst (IsBefore c.args.text.now c.args.pos) (sym (found c)) (IsBefore-start_before c.args.text.now c.args.pos c.args.word c.args.n c.utf8.text c.requires)
-
-pub returns-then-wanted-eq1-clause-before : goal.returns-then-wanted-eq1-clause-before
-returns-then-wanted-eq1-clause-before c = (before c).before
-
-pub returns-then-wanted-eq1-clause-boundary : goal.returns-then-wanted-eq1-clause-boundary
-returns-then-wanted-eq1-clause-boundary c = (before c).boundary
-
-pub returns-then-n-eq0-clause-boundary : goal.returns-then-n-eq0-clause-boundary
-returns-then-n-eq0-clause-boundary c = IsCharBoundary-start c.args.text.now c.utf8.text
-
-pub returns-clause-boundary : goal.returns-clause-boundary
-returns-clause-boundary c = IsCharBoundary-start c.args.text.now c.utf8.text
+-- a word starts after the cluster that was read, at the place that was found
+pub returns-then-wanted-eq1 : goal.returns-then-wanted-eq1
+returns-then-wanted-eq1 c =
+    let left = ap grapheme_indices_left c.rev-clusters.ensures.source ∙ c.grapheme_indices.ensures.left in
+    let some = clusters_some c.range.result.now _ _ c.range.utf8 (sym left ∙ c.in-Some.ensures.steps) in
+    let begun = sym (c.starts.ensures c.args.word _ _ c.class_of-last.ensures c.loop-start.invariant.class) ∙ c.if-starts.true in
+    let found = sym (start_before-hit c.args.word _ _ _ _ c.in-Some-2.ensures.steps _ c.if-wanted-eq1.true begun) ∙ c.loop-start.invariant.found in
+    let before = IsBefore-start_before c.args.text.now c.args.pos c.args.word c.args.n c.utf8.text c.requires in
+    record {
+      value = ap Some found ∙ sym (prev_word-some c.args.text.now c.args.pos c.args.word c.args.n (omega (arith, c.range.ensures.len, some)));
+      before = rw found before.before;
+      boundary = rw found before.boundary;
+    }
 
 pub loop-start-preserved-else-wanted-eq1 : goal.loop-start-preserved-else-wanted-eq1
 loop-start-preserved-else-wanted-eq1 c =
