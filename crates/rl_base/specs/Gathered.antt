@@ -10,7 +10,7 @@ pub record Gathering : Type 0 where
 abbrev pub texts : List Gathering → List (List ℕ)
 texts gs = map (λ g. g.text) gs
 
--- the text at an index, where there is one, has no blanks before it
+-- the text at an index, if there is one, has no blanks before it
 abbrev pub IsPackedAt : ℕ → List Gathering → Type 0
 IsPackedAt i gs = IfSome (slice_get gs i) (λ g. g.blanks ≡ 0)
 

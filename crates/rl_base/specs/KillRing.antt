@@ -18,7 +18,7 @@ pub record Ring : Type 0 where
   pub last : Action
   pub killing : Bool
 
--- no more slots than the size, and the index is that of a slot, or 0 where there is none
+-- no more slots than the size, and the index is that of a slot, or 0 if there is none
 pub record IsRing (r : Ring) : Type 0 where
   pub within : length r.slots ≤ r.size
   pub at_slot : r.index < max 1 (length r.slots)
@@ -46,7 +46,7 @@ put_at i text slots = if i == length slots then slots ++ text ∷ [] else slice_
 abbrev pub PutTakesMemory : {A : Type 0} → ℕ → List ℕ → List A → Type 0
 PutTakesMemory i text slots = (0 < length text) ⊎ (i ≡ length slots)
 
--- the index one up, where there is a slot
+-- the index one up, if there is a slot
 abbrev pub raised : ℕ → List (List ℕ) → ℕ
 raised index [] = index
 raised index (s ∷ ss) = index + 1
@@ -96,7 +96,7 @@ lent (Some text) r = record r { last = Yank (length text) }
 abbrev pub yanked : Ring → Ring
 yanked r = lent (yank r) r
 
--- the length that was kept, where a yank was done last
+-- the length that was kept, if a yank was done last
 abbrev pub size_of : Action → Option ℕ
 size_of Kill = None
 size_of (Yank size) = Some size
@@ -150,7 +150,7 @@ abbrev pub side_mode : Direction → Mode
 side_mode Forward = Append
 side_mode Backward = Prepend
 
--- the ring after a deletion, which is a kill where a kill is on
+-- the ring after a deletion, which is a kill if a kill is on
 abbrev pub after_deletion : Bool → List ℕ → Direction → Ring → Ring
 after_deletion false text side r = r
 after_deletion true text side r = killed text (side_mode side) r
@@ -175,6 +175,6 @@ KeepsText r Start = ⊥
 KeepsText r Stop = ⊥
 KeepsText r (Cursors _ _) = ⊥
 
--- a refusal: where memory is out, of an event whose text needs room, and the ring is as before
+-- a refusal: memory is out, for an event whose text needs room, and the ring is as before
 abbrev pub ring_refused : Ring → Event → Refusal → Ring → Type 0
 ring_refused old event why now = (why ≡ NoMemory) × (now ≡ old) × KeepsText old event

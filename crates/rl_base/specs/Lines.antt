@@ -35,6 +35,6 @@ text_of_line text k = slice_index_or (lines text) k []
 abbrev pub end_of_line : List ℕ → ℕ → ℕ
 end_of_line text k = start_of_line text k + length (text_of_line text k)
 
--- the place before the cluster numbered `column` of a line's text, from 0, or its end where there are fewer
+-- the place before the cluster numbered `column` of a line's text, from 0, or its end if there are fewer
 abbrev pub place_of_column : List ℕ → ℕ → ℕ
 place_of_column line column = bytes_in (take column (clusters line))

@@ -7,7 +7,7 @@ use Rattle.rl_base.specs.declared.listeners.Refusal.{Refusal}
 use Rattle.rl_base.specs.declared.listeners.Refusal.TheVariants.{NoMemory}
 use Rattle.rl_base.specs.Reports.{Noted, kept, text_bytes}
 
--- what waits, the oldest first; how many bytes of texts may wait, of which none are kept where that is 0; and for how many
+-- what waits, the oldest first; how many bytes of texts may wait, of which none are kept if that is 0; and for how many
 -- reports and bytes of texts there is memory
 pub record Notes : Type 0 where
   pub text_room : ℕ

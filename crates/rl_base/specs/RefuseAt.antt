@@ -50,7 +50,7 @@ hearing_step h Start = record h { starts = counted h.starts }
 hearing_step h Stop = record h { stops = counted h.stops }
 hearing_step h (Cursors _ _) = h
 
--- why it refuses: by itself exactly where it will hear no more changes, and else since memory is out
+-- why it refuses: by itself exactly if it will hear no more changes, and else since memory is out
 abbrev pub Refuses : Option ℕ → Refusal → Type 0
 Refuses (Some left) why_of.Listener = left ≡ 0
 Refuses (Some left) why_of.NoMemory = 0 < left

@@ -12,7 +12,7 @@ use Rattle.rl_base.specs.Event.{Event, InsertChar, InsertStr, Delete, Replace, S
 use Rattle.rl_base.specs.declared.listeners.Direction.TheVariants.{Forward, Backward}
 use Rattle.rl_base.specs.Splice.{Covers, Splices, folded, untouched}
 
--- a report and its texts: what went, and then what came; empty where texts aren't kept
+-- a report and its texts: what went, and then what came; empty if texts aren't kept
 pub record Noted : Type 0 where
   pub report : Report
   pub texts : List ℕ
@@ -22,7 +22,7 @@ pub data Waiting : Type 0 where
   Whole : (notes : List Noted) → Waiting
   AsOne : (all : Joined) → Waiting
 
--- room for so many reports and for so many bytes of their texts, of which none are kept where that is 0; and what waits
+-- room for so many reports and for so many bytes of their texts, of which none are kept if that is 0; and what waits
 pub record Queue : Type 0 where
   pub room : ℕ
   pub text_room : ℕ
@@ -43,7 +43,7 @@ is_change kind.KillStarted = false
 is_change kind.KillStopped = false
 is_change kind.Folded = true
 
--- texts, where they are kept
+-- texts, if they are kept
 abbrev pub kept : ℕ → List ℕ → List ℕ
 kept text_room texts = if text_room == 0 then [] else texts
 
@@ -101,7 +101,7 @@ abbrev pub has_room_in : ℕ → ℕ → ℕ → Waiting → Bool
 has_room_in room text_room bytes (Whole ns) = nat_lt (length ns) room && nat_le (text_bytes ns + bytes) text_room
 has_room_in room text_room bytes (AsOne all) = false
 
--- what waits, with one more note: at its end where there is room, and else all as one
+-- what waits, with one more note: at its end if there is room, and else all as one
 abbrev pub with_note : ℕ → ℕ → Noted → Waiting → Waiting
 with_note room text_room n (Whole ns) =
     if has_room_in room text_room (length n.texts) (Whole ns) then Whole (ns ++ n ∷ []) else AsOne (taken_in (as_one (Whole ns)) n.report)
@@ -197,7 +197,7 @@ pub record IsLineText (text : List ℕ) : Type 0 where
 abbrev pub splice_of : Report → Splice
 splice_of r = record { from = r.at; old_end = r.at + r.old_len; new_end = r.at + r.new_len }
 
--- a report that waits apart tells how a text became another: by a splice, with what went and what came where texts are kept. A
+-- a report that waits apart tells how a text became another: by a splice, with what went and what came if texts are kept. A
 -- mark leaves the text, and none was folded
 pub record Tells (text_room : ℕ) (n : Noted) (old new : List ℕ) : Type 0 where
   pub splices : Splices (splice_of n.report) old new
@@ -205,7 +205,7 @@ pub record Tells (text_room : ℕ) (n : Noted) (old new : List ℕ) : Type 0 whe
   pub mark : OnFalse (is_change n.report.kind) (new ≡ old)
   pub apart : ¬ (n.report.kind ≡ kind.Folded)
 
--- cursors that were told stand between two characters, the first in the text before and the second in that after; where none
+-- cursors that were told stand between two characters, the first in the text before and the second in that after; if none
 -- were, the text is as it was
 abbrev pub Stand : Option (ℕ × ℕ) → List ℕ → List ℕ → Type 0
 Stand None old new = new ≡ old
@@ -270,7 +270,7 @@ pub record ReadsWhole (placed : Bool) (q : Queue) (n : Noted) (old new : List �
   pub cursors : OnTrue placed (Stand n.report.cursors old new)
   pub rest : Leads placed (forgotten q) new new
 
--- all as one where it was folded, and else the notes
+-- all as one if it was folded, and else the notes
 abbrev pub waiting_of : Option Joined → List Noted → Waiting
 waiting_of None ns = Whole ns
 waiting_of (Some all) ns = AsOne all

@@ -1,7 +1,7 @@
 -- Equality of all that a value holds, and clones that are the value.
 use Rattle.std.specs.Prelude.{◌≡◌, ◌↔◌, Bool, true}
 
--- an equality that is true of two values exactly where they are the same
+-- an equality that is true of two values exactly if they are the same
 abbrev pub IsSameness : {A : Type 0} → (A → A → Bool) → Type 0
 IsSameness {A} eq = (a b : A) → (eq a b ≡ true) ↔ (a ≡ b)
 

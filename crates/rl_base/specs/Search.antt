@@ -21,7 +21,7 @@ places_of c placed = map (λ x. x.0) (filter (λ x. x.1 == c) placed)
 abbrev pub hits : ℕ → ℕ → List ℕ → List ℕ
 hits c from text = places_of c (char_places from (chars text))
 
--- the n-th, counted from 1, or the last where there are fewer; none for n = 0 and for an empty list
+-- the n-th, counted from 1, or the last if there are fewer; none for n = 0 and for an empty list
 abbrev pub nth_or_last : ℕ → List ℕ → Option ℕ
 nth_or_last n places = last_or None (take n places)
 

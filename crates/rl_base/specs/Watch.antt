@@ -8,7 +8,7 @@ use Rattle.rl_base.specs.Event.{Event}
 use Rattle.rl_base.specs.Reports.{Leads, Noted, Queue, count_of, forgotten, oldest, queue_step}
 use Rattle.rl_base.specs.Splice.{spliced, untouched}
 
--- all that changed, as one splice, and a queue of reports, where one is kept
+-- all that changed, as one splice, and a queue of reports, if one is kept
 pub record Watched : Type 0 where
   pub changed : Splice
   pub reports : Option Queue
@@ -27,7 +27,7 @@ RefusesQueue NoRoom room w = room ≡ 0
 RefusesQueue IsWatched room w = (0 < room) × IsSome w.reports
 RefusesQueue NoMemory room w = (0 < room) × (w.reports ≡ None)
 
--- how many reports wait; none where none are kept
+-- how many reports wait; none if none are kept
 abbrev pub waiting_count : Watched → ℕ
 waiting_count w = unwrap_or (option_map (λ (q : Queue). count_of q.waiting) w.reports) 0
 
@@ -39,7 +39,7 @@ next_note w = option_and_then (λ (q : Queue). oldest q.waiting) w.reports
 abbrev pub past_next : Watched → Watched
 past_next w = record w { reports = option_map forgotten w.reports }
 
--- how many bytes of texts the queue keeps, where one is kept
+-- how many bytes of texts the queue keeps, if one is kept
 abbrev pub text_room : Watched → ℕ
 text_room w = unwrap_or (option_map (λ (q : Queue). q.text_room) w.reports) 0
 
