@@ -10,7 +10,7 @@ ghost use Rattle.rl_line.specs.Plan.{NeverRefuses, listener_after};
 ghost use Rattle.rl_line.specs.Record.{bytes_back, cursors_of, entry_of, event_of, freshness_joined, inverse, new_text, old_text, with_cursors};
 ghost use Rattle.rl_line.specs.Undo.{Reaches, count_over, cursor_after, cursor_told, cursor_stands, line_back, steps_ahead};
 ghost use Rattle.rl_line.specs.Units.{is_begin, is_change};
-ghost use Rattle.rl_line.specs.Change.{Outgrows, TakesIn, text_after, text_back, place, entry_to_undo, greatest_back_over, order, size_back, size_of, entries_to_undo};
+ghost use Rattle.rl_line.specs.Change.{Outgrows, TakesIn, TextOutgrows, text_after, text_back, place, entry_to_undo, greatest_back_over, order, size_back, size_of, entries_to_undo};
 ghost use Rattle.rl_line.specs.declared.change.Measure.TheVariants.{Bytes, Newlines};
 ghost use Rattle.rl_base.specs.Lines.{is_newline};
 
@@ -366,7 +366,7 @@ pub(crate) fn find_room_over(
     ensures line { line.new.line ≡ line.old.line }
     ensures room { OnOk result (greatest_back_over Bytes (entries_to_undo way changes.now) (length line.old.line.text) ≤ line.new.bytes) }
     ensures table { OnOk result (greatest_back_over Newlines (entries_to_undo way changes.now) (count_by is_newline line.old.line.text) ≤ line.new.starts) }
-    ensures err { IfErr result (λ r. (r ≡ NoMemory) × Outgrows (entries_to_undo way changes.now) (length line.old.line.text) (count_by is_newline line.old.line.text)) }
+    ensures err { IfErr result (λ r. (r ≡ NoMemory) × TextOutgrows (entries_to_undo way changes.now) line.old.line.text) }
 {
     let growth = growth_over(changes, way, line.len(), line.newlines())?;
     line.find_room(growth.bytes, growth.newlines)?;

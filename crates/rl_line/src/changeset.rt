@@ -1,5 +1,5 @@
 //! The record of the changes of a line, which undoes them, in groups where they were made in groups, and redoes them.
-ghost use Rattle.std.specs.Prelude.{◌≡◌, ◌<◌, ◌≤◌, ℕ, [], ◌∷◌, map, min, true, false, is_some, length, All, Any, IsSome, Some, IfOk, IfErr, IfSome, OnOk, OnErr};
+ghost use Rattle.std.specs.Prelude.{◌≡◌, ◌<◌, ◌≤◌, ℕ, [], ◌∷◌, map, min, true, false, is_some, length, All, IsSome, Some, IfOk, IfErr, IfSome, OnOk, OnErr};
 ghost use Rattle.std.specs.Option.{option_map};
 ghost use Rattle.std.specs.String.{string_bytes};
 ghost use Rattle.rl_base.specs.Event.{InsertChar, InsertStr, Delete, Replace};
@@ -9,10 +9,9 @@ ghost use Rattle.rl_base.specs.declared.listeners.Refusal.TheVariants.{NoMemory}
 ghost use Rattle.rl_line.specs.declared.change.Freshness.TheVariants.{Stale};
 ghost use Rattle.rl_line.specs.Forgetting.{forgotten};
 ghost use Rattle.rl_line.specs.Change.{entries_to_undo};
-ghost use Rattle.rl_line.specs.Line.{NeedsRoom};
-ghost use Rattle.rl_line.specs.Plan.{NeverRefuses, listener_after};
+ghost use Rattle.rl_line.specs.Plan.{NeverRefuses};
 ghost use Rattle.rl_line.specs.Record.{IsOfKind, Record, entry_of, last_insert, record_step, replays_to};
-ghost use Rattle.rl_line.specs.Undo.{CopiesBack, GoesOver, OutOfRoom, Redone, StandsStill, TriesAhead, TriesBack, Undone, line_ahead, line_back, line_over, steps_ahead, steps_back, steps_over, texts_ahead, texts_back, texts_over, unit_of};
+ghost use Rattle.rl_line.specs.Undo.{CopiesBack, GoesOver, LineOutOfRoom, OutOfRoom, Redone, StandsStill, TriesAhead, TriesBack, Undone, line_ahead, line_back, line_over, listener_ahead, listener_back, listener_over, texts_ahead, texts_back, texts_over, unit_of};
 ghost use Rattle.rl_line.specs.Units.{BothMatched, IsMatched, adds_end, begun, ended, ended_one, has_change, is_change, last_of, level, redo_of, truncated, with_closed};
 
 mod foretelling;
@@ -211,7 +210,7 @@ impl Changeset {
         requires hears { NeverRefuses L.refused }
         ensures done { IfOk result (λ answer. Undone n self.old self.new line.old line.new answer) }
         ensures unmoved { IfOk result (λ answer. answer ≡ false → StandsStill line.old line.new) }
-        ensures told { OnOk result (listener.new ≡ listener_after L.step line.old.cursor (steps_back line.old.cursor (last_of n self.old.recorded)) listener.old) }
+        ensures told { OnOk result (listener.new ≡ listener_back L.step line.old.cursor (last_of n self.old.recorded) listener.old) }
         ensures err { IfErr result (OutOfRoom self.old self.new line.old line.new (texts_back (last_of n self.old.recorded) line.old.text)) }
         ensures kept { OnErr result (listener.new ≡ listener.old) }
     {
@@ -246,7 +245,7 @@ impl Changeset {
         requires hears { NeverRefuses L.refused }
         ensures done { IfOk result (λ answer. Redone self.old self.new line.old line.new answer) }
         ensures unmoved { IfOk result (λ answer. answer ≡ false → StandsStill line.old line.new) }
-        ensures told { OnOk result (listener.new ≡ listener_after L.step line.old.cursor (steps_ahead line.old.cursor (redo_of self.old.pending)) listener.old) }
+        ensures told { OnOk result (listener.new ≡ listener_ahead L.step line.old.cursor (redo_of self.old.pending) listener.old) }
         ensures err { IfErr result (OutOfRoom self.old self.new line.old line.new (texts_ahead (redo_of self.old.pending) line.old.text)) }
         ensures kept { OnErr result (listener.new ≡ listener.old) }
     {
@@ -266,7 +265,7 @@ impl Changeset {
         requires hears { NeverRefuses L.refused }
         ensures done { IfOk result (GoesOver way n self.old self.new line.old line.new) }
         ensures unmoved { IfOk result (λ answer. answer ≡ false → StandsStill line.old line.new) }
-        ensures told { OnOk result (listener.new ≡ listener_after L.step line.old.cursor (steps_over way line.old.cursor (unit_of way n self.old)) listener.old) }
+        ensures told { OnOk result (listener.new ≡ listener_over L.step way line.old.cursor (unit_of way n self.old) listener.old) }
         ensures err { IfErr result (OutOfRoom self.old self.new line.old line.new (texts_over way (unit_of way n self.old) line.old.text)) }
         ensures kept { OnErr result (listener.new ≡ listener.old) }
     {
@@ -292,7 +291,7 @@ impl Changeset {
         requires hears { NeverRefuses L.refused }
         ensures done { IfOk result (GoesOver way n self.old self.new line.old line.new) }
         ensures unmoved { IfOk result (λ answer. answer ≡ false → StandsStill line.old line.new) }
-        ensures told { OnOk result (listener.new ≡ listener_after L.step line.old.cursor (steps_over way line.old.cursor (unit_of way n self.old)) listener.old) }
+        ensures told { OnOk result (listener.new ≡ listener_over L.step way line.old.cursor (unit_of way n self.old) listener.old) }
         ensures err { IfErr result (OutOfRoom self.old self.new line.old line.new (texts_over way (unit_of way n self.old) line.old.text)) }
         ensures kept { OnErr result (listener.new ≡ listener.old) }
     {
@@ -464,8 +463,8 @@ fn go_over_all<L: ChangeListener>(
     requires follows { IsSome (line_back (entries_to_undo way changes.now) line.old) }
     requires hears { NeverRefuses L.refused }
     ensures ok { OnOk result (line_back (entries_to_undo way changes.now) line.old ≡ Some line.new) }
-    ensures told { OnOk result (listener.new ≡ listener_after L.step line.old.cursor (steps_back line.old.cursor (entries_to_undo way changes.now)) listener.old) }
-    ensures err { IfErr result (λ r. (r ≡ NoMemory) × (line.new ≡ line.old) × Any (NeedsRoom line.old.text) (texts_back (entries_to_undo way changes.now) line.old.text)) }
+    ensures told { OnOk result (listener.new ≡ listener_back L.step line.old.cursor (entries_to_undo way changes.now) listener.old) }
+    ensures err { IfErr result (LineOutOfRoom line.old line.new (texts_back (entries_to_undo way changes.now) line.old.text)) }
     ensures kept { OnErr result (listener.new ≡ listener.old) }
 {
     match way {

@@ -7,10 +7,10 @@ ghost use Rattle.std.specs.Str.{IsCharBoundary};
 ghost use Rattle.rl_base.specs.Event.{InsertStr, Replace};
 ghost use Rattle.rl_base.specs.Lines.{is_newline};
 ghost use Rattle.rl_base.specs.declared.listeners.Refusal.TheVariants.{NoMemory};
-ghost use Rattle.rl_line.specs.Edits.{delete_step, exchange_plan};
+ghost use Rattle.rl_line.specs.Edits.{DeletesRange, Exchanges};
 ghost use Rattle.rl_line.specs.Line.{stepped};
 ghost use Rattle.rl_line.specs.LineRanges.{IsRange};
-ghost use Rattle.rl_line.specs.Plan.{Completion, Grows, StepOutcome, nothing_more};
+ghost use Rattle.rl_line.specs.Plan.{Grows, StepOutcome, nothing_more};
 ghost use Rattle.rl_line.specs.RoomyLine.{HasRoom, KeepsRoom};
 
 use crate::line_starts::{LineStarts, newlines, swap_starts, swap_starts_by_char};
@@ -35,11 +35,11 @@ impl Model for RoomyLine {
     ghost use Rattle.std.specs.Prelude.{vec_capacity};
     ghost use Rattle.std.specs.String.{string_bytes, string_capacity};
     ghost use Rattle.rl_line.specs.Line.{IsLine, line_of};
-    ghost use Rattle.rl_line.specs.RoomyLine.{RoomyLine};
+    ghost use Rattle.rl_line.specs.RoomyLine.{RoomyLine, roomy_of};
 
     ghost Value = { RoomyLine };
 
-    ghost view = { λ r. record { line = line_of (string_bytes r.text) r.pos r.limit r.can_growth; bytes = string_capacity r.text; starts = vec_capacity r.starts.places } };
+    ghost view = { λ r. roomy_of (line_of (string_bytes r.text) r.pos r.limit r.can_growth) (string_capacity r.text) (vec_capacity r.starts.places) };
 
     ghost invariant = { λ r. IsLine (string_bytes r.text) r.starts.places.items r.starts.border r.pos r.limit };
 }
@@ -183,7 +183,7 @@ impl RoomyLine {
     ) -> Result<(), Refusal>
         requires range { IsRange self.old.line.text range.start range.end }
         requires cursor { IsCharBoundary (remove_range self.old.line.text range.start range.end) cursor }
-        ensures step { StepOutcome L.step L.refused nothing_more (delete_step self.old.line range dir cursor) self.old.line self.new.line listener.old listener.new result }
+        ensures step { DeletesRange L.step L.refused range dir cursor self.old.line self.new.line listener.old listener.new result }
         ensures line { OnOk result (self.new.line ≡ stepped self.old.line (remove_range self.old.line.text range.start range.end) cursor) }
         ensures room { OnOk result (KeepsRoom self.old self.new) }
     {
@@ -210,7 +210,7 @@ impl RoomyLine {
         requires come { come ≡ count_by is_newline part.now }
         requires room { HasRoom (replace_range self.old.line.text range.start range.end part.now) self.old }
         requires cursor { IsCharBoundary (replace_range self.old.line.text range.start range.end part.now) cursor }
-        ensures steps { Completion L.step L.refused nothing_more (exchange_plan self.old.line range between part.now cursor) self.old.line self.new.line listener.old listener.new result }
+        ensures steps { Exchanges L.step L.refused nothing_more range between part.now cursor self.old.line self.new.line listener.old listener.new result }
         ensures text { OnOk result (self.new.line.text ≡ replace_range self.old.line.text range.start range.end part.now) }
         ensures room { OnOk result (KeepsRoom self.old self.new) }
     {

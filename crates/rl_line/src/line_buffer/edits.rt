@@ -2,8 +2,8 @@
 ghost use Rattle.std.specs.Prelude.{◌≡◌, ◌+◌, ◌*◌, ◌-◌, ◌<◌, ◌≤◌, length, encode_utf8, not, true, false, OnOk};
 ghost use Rattle.std.specs.Str.{IsCharBoundary};
 ghost use Rattle.std.specs.List.{insert_slice, remove_range, replace_range, repeat};
-ghost use Rattle.rl_line.specs.Plan.{Completion, Outcome, StepOutcome, nothing_more, room_by_step, a_copy};
-ghost use Rattle.rl_line.specs.Edits.{CanInsertStr, CanYankPop, too_long, insert_plan, insert_step, insert_str_plan, yank_plan, yank_step, yank_pop_plan, exchange_plan, cut_to_limit, update_plan, replace_plan, delete_range_plan};
+ghost use Rattle.rl_line.specs.Plan.{Outcome, StepOutcome, nothing_more, room_by_step, a_copy};
+ghost use Rattle.rl_line.specs.Edits.{CanInsertStr, CanYankPop, too_long, insert_plan, insert_step, insert_str_plan, yank_plan, yank_step, yank_pop_plan, Exchanges, cut_to_limit, update_plan, replacement_plan, delete_range_plan};
 ghost use Rattle.rl_line.specs.LineRanges.{IsRange};
 
 use crate::line_buffer::LineBuffer;
@@ -197,7 +197,7 @@ impl LineBuffer {
         requires range { IsRange self.old.text range.start range.end }
         requires between { IsCharBoundary (remove_range self.old.text range.start range.end) between }
         requires boundary { IsCharBoundary (replace_range self.old.text range.start range.end text.now) cursor }
-        ensures steps { Completion L.step L.refused a_copy (exchange_plan self.old range between text.now cursor) self.old self.new listener.old listener.new result }
+        ensures steps { Exchanges L.step L.refused a_copy range between text.now cursor self.old self.new listener.old listener.new result }
         ensures text { OnOk result (self.new.text ≡ replace_range self.old.text range.start range.end text.now) }
     {
         let come = self.line.find_room_instead(range.start, range.end, text)?;
@@ -256,7 +256,7 @@ impl LineBuffer {
         requires order { range.start ≤ range.end }
         requires start { IsCharBoundary self.old.text range.start }
         requires end { IsCharBoundary self.old.text range.end }
-        ensures { Outcome L.step L.refused room_by_step (replace_plan self.old range.start range.end text.now) self.old self.new listener.old listener.new result }
+        ensures { Outcome L.step L.refused room_by_step (replacement_plan self.old range text.now) self.old self.new listener.old listener.new result }
     {
         self.put_instead(range, text, listener)
     }
