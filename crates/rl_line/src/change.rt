@@ -226,6 +226,7 @@ impl Change {
     }
 
     // Whether the cursor stands between two characters of a text that went over the change, if that is asked and it was told.
+    #[tactic(auto, using(crate::proofs::Records::ChangeLemmas::over_one))]
     fn stands(&self, text: &Patched, way: Way, asks: bool) -> bool
         ensures { result ≡ cursor_stands asks (inverse (entry_to_undo way self.now)) text.now }
     {
@@ -239,6 +240,7 @@ impl Change {
     }
 
     // Goes over the change in a text, if it fits there. Answers whether it does.
+    #[tactic(auto, using(crate::proofs::Records::ChangeLemmas::over_one))]
     fn patch(&self, text: &mut Patched, way: Way) -> Result<bool, Refusal>
         ensures fits { IfOk result (λ fits. fits ≡ is_some (apply (event_of (inverse (entry_to_undo way self.now))) text.old)) }
         ensures done { IfOk result (λ fits. fits ≡ true → apply (event_of (inverse (entry_to_undo way self.now))) text.old ≡ Some text.new) }
@@ -272,6 +274,7 @@ impl Change {
     }
 
     // Whether a text can go over the change.
+    #[tactic(auto, using(crate::proofs::Records::ChangeLemmas::over_one))]
     fn fits(&self, text: &str, way: Way) -> bool
         requires { IsUtf8 (old_text (entry_to_undo way self.now)) }
         ensures { result ≡ is_some (apply (event_of (inverse (entry_to_undo way self.now))) text.now) }
@@ -411,6 +414,7 @@ fn growth_over(
 
 /// A text that went over the changes. None if one of them does not fit, or if `asks` is set and a cursor that was told
 /// would not stand between two characters.
+#[tactic(auto, using(crate::proofs::Records::RoomLemmas::over_all))]
 pub(crate) fn patch_over<'t>(
     alloc: Global,
     text: &'t str,

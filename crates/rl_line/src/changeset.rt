@@ -89,6 +89,7 @@ impl Changeset {
 
     /// Whether a redo would find a change: one waits to be redone. It looks at the begins of groups that wait before
     /// that change, and at no other entry.
+    #[tactic(auto, using(crate::proofs::Records::EndLemmas::holds))]
     pub fn has_redo(&self) -> bool
         ensures { result ≡ has_change (redo_of self.now.pending) }
     {
@@ -97,6 +98,7 @@ impl Changeset {
 
     /// Opens a group, whose changes are undone and redone together once it is closed. Answers how many entries
     /// stand before it, a mark that `truncate` takes.
+    #[tactic(auto, using(crate::proofs::Records::LevelLemmas::levels))]
     pub fn begin(&mut self) -> Result<usize, Refusal>
         ensures done { IfOk result (λ answer. (answer ≡ length self.old.recorded) × (self.new ≡ begun self.old)) }
         ensures err { IfErr result (λ r. (r ≡ NoMemory) × (self.new ≡ self.old) × (self.old.pending ≡ [])) }
@@ -280,6 +282,7 @@ impl Changeset {
 
     // The same of any units. It stands apart, since mostly one change alone is undone.
     #[inline(never)]
+    #[tactic(auto, using(crate::proofs::Records::LevelLemmas::moves_of_units))]
     fn go_over_units<L: ChangeListener>(
         &mut self,
         line: &mut LineBuffer,
@@ -345,6 +348,7 @@ impl Changeset {
 
     /// Keeps the first `len` entries, all if there are fewer, and drops the others and what was undone. A
     /// group that loses its end is open again.
+    #[tactic(auto, using(crate::proofs::Records::LevelLemmas::levels))]
     pub fn truncate(&mut self, len: usize)
         ensures { self.new ≡ truncated len self.old }
     {
@@ -359,6 +363,7 @@ impl Changeset {
     // Inlined, so that it is a comparison then. If nothing is left recorded, the next change joins nothing, and
     // cursors that are told go to none, whatever `fresh` says.
     #[inline(always)]
+    #[tactic(auto, using(crate::proofs::Records::ForgettingLemmas::none_forgotten))]
     pub fn forget(&mut self, entries: usize, bytes: usize)
         ensures { self.new ≡ forgotten entries bytes self.old }
     {
@@ -391,6 +396,7 @@ impl Changeset {
 
     /// Whether all recorded changes can be taken back from the line's text, the last first, and each cursor that was
     /// told stands between two characters then. So an undo of any number of units can.
+    #[tactic(auto, using(crate::proofs::Records::LeadLemmas::leads))]
     pub fn can_undo(&self, line: &LineBuffer) -> Result<bool, Refusal>
         ensures ok { IfOk result (λ answer. answer ≡ is_some (line_back self.now.recorded line.now)) }
         ensures units { IfOk result (λ answer. answer ≡ true → (n : ℕ) → IsSome (line_back (last_of n self.now.recorded) line.now)) }
@@ -412,6 +418,7 @@ impl Changeset {
 
     /// Whether all undone changes can be made again on the line's text, the last undone first, and each cursor that
     /// was told stands between two characters then. So a redo can.
+    #[tactic(auto, using(crate::proofs::Records::LeadLemmas::leads))]
     pub fn can_redo(&self, line: &LineBuffer) -> Result<bool, Refusal>
         ensures ok { IfOk result (λ answer. answer ≡ is_some (line_ahead self.now.pending line.now)) }
         ensures unit { IfOk result (λ answer. answer ≡ true → IsSome (line_ahead (redo_of self.now.pending) line.now)) }
@@ -432,6 +439,7 @@ impl Changeset {
 
     /// Whether the first `len` entries lead to the line's text by themselves, so that `truncate` may drop the
     /// others: both they and all entries can be taken back from it, to the same text.
+    #[tactic(auto, using(crate::proofs::Records::WayLemmas::led_back))]
     pub fn replays_to(&self, len: usize, line: &LineBuffer) -> Result<bool, Refusal>
         ensures ok { IfOk result (λ answer. answer ≡ replays_to len self.now line.now.text) }
         ensures err { IfErr result (λ r. (r ≡ NoMemory) × CopiesBack self.now.recorded line.now.text) }

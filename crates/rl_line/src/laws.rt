@@ -1,4 +1,6 @@
 //! The laws of the record: what undo, redo, groups and forgetting come to, over any entries.
+#![tactic(auto, using(crate::proofs::Records::Laws::laws))]
+
 ghost use Rattle.std.specs.Prelude.{◌≡◌, ◌≤◌, ◌↔◌, ℕ, List, Bool, [], ◌∷◌, ◌++◌, min, suc, true, false, drop, length, IsSome, Some};
 ghost use Rattle.std.specs.Str.{IsCharBoundary, IsUtf8};
 ghost use Rattle.rl_base.specs.Event.{Event};

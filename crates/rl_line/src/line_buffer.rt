@@ -36,6 +36,7 @@ use std::ops::Range;
 
 /// The steps that an edit took, replayed on the old text, give the new one: all steps of an edit that was done, and the first
 /// ones of one that was halted.
+#[tactic(auto, using(crate::proofs::Plans::PlanLemmas::steps_taken))]
 pub fn steps_are_a_replay<L: DeleteListener>()
     ensures steps { (steps : List Step) (old new : Line) → after steps old ≡ Some new → AreReplay steps old new }
     ensures taken { (steps : List Step) (old new : Line) (before now : L) → Taken L.step steps old new before now → AreReplay steps old new }
@@ -113,6 +114,7 @@ impl LineBuffer {
     }
 
     /// The text.
+    #[tactic(auto, using(crate::proofs::Lines::RoomyLemmas::views))]
     pub fn as_str(&self) -> &str
         ensures { result.now ≡ self.now.text }
     {
@@ -120,6 +122,7 @@ impl LineBuffer {
     }
 
     /// The text, with the line used up.
+    #[tactic(auto, using(crate::proofs::Lines::RoomyLemmas::views))]
     pub fn into_string(self) -> String
         ensures { string_bytes result ≡ self.text }
     {
@@ -135,6 +138,7 @@ impl LineBuffer {
     }
 
     /// The byte place of the cursor.
+    #[tactic(auto, using(crate::proofs::Lines::RoomyLemmas::views))]
     pub fn pos(&self) -> usize
         ensures place { result ≡ self.now.cursor }
         ensures boundary { IsCharBoundary self.now.text result }
@@ -146,6 +150,7 @@ impl LineBuffer {
     }
 
     /// The length of the text, in bytes.
+    #[tactic(auto, using(crate::proofs::Lines::RoomyLemmas::views))]
     pub fn len(&self) -> usize
         ensures len { result ≡ length self.now.text }
         ensures fits { result < 2 ^ 63 }
@@ -154,6 +159,7 @@ impl LineBuffer {
     }
 
     /// The limit on the text's length, in bytes.
+    #[tactic(auto, using(crate::proofs::Lines::RoomyLemmas::views))]
     pub fn limit(&self) -> usize
         ensures limit { result ≡ self.now.limit }
         ensures within { length self.now.text ≤ result }
@@ -186,6 +192,7 @@ impl LineBuffer {
     }
 
     /// Moves the cursor to a byte place, which `as_str().is_char_boundary` tests.
+    #[tactic(auto, using(crate::proofs::Lines::RoomyLemmas::views))]
     pub fn set_pos(&mut self, pos: usize)
         requires { IsCharBoundary self.old.text pos }
         ensures { self.new ≡ record self.old { cursor = pos } }
@@ -326,6 +333,7 @@ impl LineBuffer {
     // longest text and the longest table on the way before it changes anything. The listener is told of each change
     // once it is gone over. Inlined, so that undo and redo each know their way at compile time.
     #[inline(always)]
+    #[tactic(auto, using(crate::proofs::Records::RoomLemmas::back_so_far))]
     pub(crate) fn go_over_all<L: ChangeListener>(
         &mut self,
         changes: &[Change],

@@ -73,6 +73,7 @@ impl RoomyLine {
     }
 
     /// How many newlines the text has.
+    #[tactic(auto, using(crate::proofs::Lines::LineStartLemmas::tables))]
     pub(crate) fn newlines(&self) -> usize
         ensures newlines { result ≡ count_by is_newline self.now.line.text }
         ensures fits { result < 2 ^ 63 }
@@ -82,6 +83,7 @@ impl RoomyLine {
 
     /// Finds room for so many more bytes and newlines. Inlined: room there costs no call.
     #[inline(always)]
+    #[tactic(auto, using(crate::proofs::Lines::LineStartLemmas::tables))]
     pub(crate) fn find_room(&mut self, bytes: usize, newlines: usize) -> Result<(), Refusal>
         ensures line { self.new.line ≡ self.old.line }
         ensures room { OnOk result (length self.old.line.text + bytes ≤ self.new.bytes) }
@@ -96,6 +98,7 @@ impl RoomyLine {
     /// Finds room for a part that replaces a range. Answers how many newlines the part has. Inlined, since an undo and a
     /// redo ask for it, and mostly for next to nothing.
     #[inline(always)]
+    #[tactic(auto, using(crate::proofs::Lines::RoomyLemmas::rooms))]
     pub(crate) fn find_room_instead(
         &mut self,
         from: usize,
@@ -117,6 +120,7 @@ impl RoomyLine {
 
     /// Replaces a range by a part with `come` newlines, and puts the cursor at a place: an insertion if the range is empty,
     /// a deletion if the part is. The limit rises where it has to.
+    #[tactic(auto, using(crate::proofs::Lines::RoomyLemmas::rooms))]
     pub(crate) fn swap_in(&mut self, from: usize, to: usize, part: &str, come: usize, cursor: usize)
         requires range { IsRange self.old.line.text from to }
         requires come { come ≡ count_by is_newline part.now }
@@ -134,6 +138,7 @@ impl RoomyLine {
     /// Puts a character in at a place, as `swap_in` does. If the table's border is there, a character other than a
     /// newline is neither encoded nor counted, and at the end it costs no call.
     #[inline(always)]
+    #[tactic(auto, using(crate::proofs::Lines::RoomyLemmas::rooms))]
     pub(crate) fn swap_in_char(&mut self, at: usize, c: char, cursor: usize)
         requires place { IsCharBoundary self.old.line.text at }
         requires room { HasRoom (insert_slice self.old.line.text at (encode_utf8 c)) self.old }
@@ -196,6 +201,7 @@ impl RoomyLine {
 
     /// Two steps: takes a range out, which leaves the cursor at `between`, and puts a text with `come` newlines in at its
     /// place.
+    #[tactic(auto, using(crate::proofs::Plans::PlanLemmas::steps_taken))]
     pub(crate) fn exchange_steps<L: ChangeListener>(
         &mut self,
         range: Range<usize>,

@@ -1,7 +1,7 @@
 -- What the table of line starts says of the lines of its text.
 use Rattle.rl_line.proofs.Common.{◌≡◌, ℕ, zero, suc, ◌+◌, ◌-◌, ◌<◌, ◌≤◌, Bool, true, false, cond, List, [], ◌∷◌, length, get_or, take, drop, min, refl, sym, ap, subst, ◌∙◌, arith, count_by, eqb, ne_eqb, leb, ltb, le_refl, length-append, slice_range, ⊎_elim, Some, None, ap₂, both_ways, cases_lt, le-leb, lt-leb, le-ltb, lt-ltb, length-take-le, get_or_append_left, get_or-append_right, get_or-take, get_or_default, length-between, get_or-between, All-get_or, IsCharBoundary-before_ascii, IsCharBoundary-after_ascii, same_Some, slice_get_past, slice_get-get_or, onto_first, option_map, Range, IsPartitionedBy, IsPartitionPoint, IsCharBoundary, IsUtf8, is_newline, lines, last_line, line_number, start_of_line, end_of_line, between, range_of_line, after_newlines, line_starts, from_end, IsTable}
 use Rattle.rl_base.specs.Lines.{bytes_of}
-use Rattle.rl_base.proofs.Texts.LineLemmas.{count-parts, lines_some, count_of_lines, start-before, start-next, end-last}
+use Rattle.rl_base.proofs.Texts.LineLemmas.{count-parts, lines_some, count_of_lines, start-before, start-next, end-last, end-after, start-mono, text-between}
 use Rattle.rl_line.proofs.Lines.LineStartLemmas.{IsAfterNewline, after_newlines-cons, all_after_newlines, length-line_starts, length-table, newlines-take, parts, read-before, read-from, read-within}
 
 -- ---- the places where lines begin: the table, with the start of the text before it
@@ -212,3 +212,7 @@ range-before text pos k r within e some =
     let at = range-is text k _ _ (omega (arith, e, count-parts text pos)) refl refl ∙ some in
     let start : start_of_line text k ≡ r.start = ap (λ (x : Range ℕ). x.start) (same_Some _ _ at) in
     omega (arith, start, ap (start_of_line text) e, start-before text pos within)
+
+pub ruleset borders = (leb-started, ltb-not_started, le-leb, length-line_starts, length-table, newlines-take)
+
+pub ruleset lines_read = (none_below, some_below, range-is, range-past, count_of_lines, end-after, start-before, start-mono, text-between)

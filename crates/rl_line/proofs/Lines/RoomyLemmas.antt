@@ -1,5 +1,5 @@
 -- Texts for which a line has room: one where a part of it gives way, goes in, or moves.
-use Rattle.rl_line.proofs.Common.{◌∙◌, ◌≡◌, ℕ, ◌+◌, ◌-◌, ◌≤◌, ◌++◌, [], List, arith, ap, length, count_by, slice_range, take, drop, length-append, length-between, length-drop, length-take-le, take-append-drop, insert_slice, remove_range, replace_range, is_newline, string_bytes, string_capacity, subst, vec_capacity, HasRoom, IsLine, RoomyLine, line_of}
+use Rattle.rl_line.proofs.Common.{◌∙◌, ◌≡◌, ℕ, ◌+◌, ◌-◌, ◌≤◌, ◌++◌, [], List, arith, ap, length, count_by, slice_range, take, drop, length-append, length-between, length-drop, length-take-le, take-append-drop, insert_slice, remove_range, replace_range, is_newline, string_bytes, string_capacity, subst, vec_capacity, HasRoom, IsLine, Line, RoomyLine, line_of}
 use Rattle.rl_line.specs.declared.roomy_line.RoomyLine.TheInside.{Inside}
 use Rattle.rl_base.proofs.Texts.TextLemmas.{removed-is_replaced}
 use Rattle.rl_line.proofs.Lines.LineStartLemmas.{length-table, newlines-append, newlines-replaced, newlines-slice}
@@ -47,3 +47,23 @@ HasRoom-own a r is view = subst (λ (s : RoomyLine). HasRoom s.line.text s) view
   bytes = omega (arith, a.text.bytes.ok.0, a.text.bytes.ok.1);
   starts = omega (arith, a.starts.places.ok.0, a.starts.places.ok.1, length-table _ _ _ is.table);
 })
+
+-- ---- a part of a line, through the two values that a method opens
+pub same-line : (r s : RoomyLine) → r ≡ s → r.line ≡ s.line
+same-line r s e = ap (λ (x : RoomyLine). x.line) e
+
+pub same-text : (l m : Line) → l ≡ m → l.text ≡ m.text
+same-text l m e = ap (λ (x : Line). x.text) e
+
+pub same-cursor : (l m : Line) → l ≡ m → l.cursor ≡ m.cursor
+same-cursor l m e = ap (λ (x : Line). x.cursor) e
+
+pub same-limit : (l m : Line) → l ≡ m → l.limit ≡ m.limit
+same-limit l m e = ap (λ (x : Line). x.limit) e
+
+pub moved-cursor : (l m : Line) (place : ℕ) → l ≡ m → record l { cursor = place } ≡ record m { cursor = place }
+moved-cursor l m place e = ap (λ (x : Line). record x { cursor = place }) e
+
+pub ruleset rooms = (HasRoom-own, length-swapped, newlines-inserted, length-table, newlines-replaced, newlines-slice)
+
+pub ruleset views = (same-line, same-text, same-cursor, same-limit, moved-cursor)

@@ -81,3 +81,5 @@ module _ {X : Type 0} (all part written : List X) (a : ℕ) (same : written ≡ 
         ∙ ap (λ l. take a (take end all) ++ (l ++ drop k (drop a u))) same
         ∙ ap (λ l. take a (take end all) ++ (part ++ l)) (last ∙ tail)
         ∙ sym (append_assoc (take a (take end all)) part _)
+
+pub ruleset tails = (closed, opened)

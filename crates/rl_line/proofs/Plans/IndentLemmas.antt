@@ -7,6 +7,7 @@ use Rattle.rl_base.proofs.Texts.EventLemmas.{Deletes-from_IsSome, Inserts-from_I
 use Rattle.rl_line.proofs.Lines.LineStartLemmas.{newlines-append, newlines-replaced}
 use Rattle.rl_line.proofs.Plans.EditLemmas.{length-repeat}
 use Rattle.rl_line.proofs.Plans.PlanLemmas.{first_step, Halted-back, Halted-front, Taken-append, Taken-nil}
+use Rattle.rl_base.proofs.Texts.BlankLemmas.{trim_start-blanks}
 
 -- ---- parts of at most 32
 abbrev turns : ℕ → ℕ → List ℕ
@@ -307,3 +308,7 @@ module _ {L : Type 0} (step : L → Event → L) (dedent : Bool) (n : ℕ) where
             rest = ends.rest ∙ sym (drop-drop 1 k (lines now.text)) ∙ ap (drop 1) h.rest ∙ drop-drop 1 k (lines old.text);
             count = after.count ∙ h.count;
           }
+
+pub ruleset parts_of_lines = (IsCharBoundary-from_part, IsCharBoundary-pulled, IsCharBoundary-trimmed, count_of_lines, text-between, trim_start-blanks)
+
+pub ruleset shifts = (LinesDone-all, LinesDone-halted, LinesDone-more, LinesDone-none, count_of_lines)

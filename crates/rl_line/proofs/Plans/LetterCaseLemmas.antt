@@ -8,6 +8,8 @@ use Rattle.std.specs.StrCase.Upper.{str_to_uppercase}
 use Rattle.unicode_segmentation.proofs.SegmentsLemmas.{All-IsPieceOf, IsPieceOf}
 use Rattle.unicode_segmentation.specs.Segments.{with_offsets}
 use Rattle.rl_line.specs.Plan.{bytes_of}
+use Rattle.rl_base.proofs.Texts.TextLemmas.{IsCharBoundary-before_removal, IsCharBoundary-past_replacement}
+use Rattle.rl_line.proofs.Plans.PlanLemmas.{Done-as, Done-nothing, Done-steps, Stopped-as}
 
 pub edit_word_plan-nothing : (line : Line) (action : WordAction) → None ≡ word_ahead line → edit_word_plan line action ≡ nothing line false
 edit_word_plan-nothing line action e = ap (respell line action) (sym e)
@@ -140,3 +142,5 @@ respelled-none action word u = from (list_all is_ascii word)
     from : (b : Bool) → length (cond b (recased action word) (mapped action word)) ≡ 0 → length word ≡ 0
     from true e = recased-none action word e
     from false e = mapped-none action word u e
+
+pub ruleset words = (edit_word_plan-nothing, edit_word_plan-some, edit_word_plan-tells, IsCharBoundary-before_removal, IsCharBoundary-past_replacement, Done-as, Done-nothing, Done-steps, Stopped-as)

@@ -2,11 +2,11 @@
 use Rattle.rl_line.proofs.Common.{◌≡◌, ℕ, ◌+◌, ◌<◌, ◌≤◌, Bool, true, false, List, [], ◌∷◌, ◌++◌, length, take, get_or, map, reverse, slice_range, Option, Some, None, refl, sym, ap, subst, ◌∙◌, arith, length-reverse, is_utf8-from_IsUtf8, ◌&&◌, IfOk, IsSome, Result, Ok, Err, cond, is_some, option_and_then, replace_range, option_map_or, IsCharBoundary, IsUtf8, bytes_eq, is_utf8, is_boundary, Change, Way, Back, Ahead, Entry, Begin, End, Changed, entry_of, event_of, inverse, new_text, old_text, unwind, cursor_told, place_after, cursor_stands, Refusal, same_Some, entry_to_undo, order, place, text_after, text_back}
 use Rattle.rl_base.specs.Event.{apply}
 use Rattle.rl_base.specs.Text.{fits_at, stands_at}
-use Rattle.rl_base.proofs.Texts.TextLemmas.{is_boundary-true, stands_at-means}
+use Rattle.rl_base.proofs.Texts.TextLemmas.{is_boundary-means, is_boundary-true, stands_at-means}
 use Rattle.rl_base.proofs.Texts.EventLemmas.{Replaces-from_IsSome}
 use Rattle.rl_line.proofs.Records.LastLemmas.{map-reverse, read-last}
 use Rattle.rl_line.proofs.Records.RecordLemmas.{then_both, then_some}
-use Rattle.rl_line.proofs.Records.PatchLemmas.{length-replaced}
+use Rattle.rl_line.proofs.Records.PatchLemmas.{length-replaced, patched-stands, patched-swap}
 
 -- an entry's new text stands at its place, and the old one may take its place
 pub record StandsNew (e : Entry) (text : List ℕ) (at : ℕ) : Type 0 where
@@ -176,3 +176,9 @@ pub leads-told : (e : Entry) (text now : List ℕ) (cursor : ℕ) → apply (eve
 leads-told e text now cursor h told =
     ap (λ o. is_some (option_and_then (λ t. cond (cursor_stands true e t) (Some t) None) o)) h ∙ tested (cursor_stands true e now) now
     ∙ ap (λ o. option_map_or (is_boundary now) o true) told
+
+pub ruleset over_one = (cursor_stands-told, fits-is, mark-leaves, patch-makes, place-entry_to_undo)
+
+pub ruleset stood = (stands_at-is, stands_at-not)
+
+pub ruleset patches = (length-replaced, patched-stands, patched-swap, stands_at-not, is_boundary-means, is_boundary-true, stands_at-means)

@@ -180,3 +180,5 @@ next-holds es m = from (reverse (units es)) refl
         let good = subst AllGood k (AllGood-reverse (units es) (units-good es m)) in
         let some = Settles-change w good.0 in
         some ∙ sym (ap has_change (sym (on-units es (Whole w ∷ vs) k)) ∙ has_change-append w (on vs) ∙ ap (λ b. b || has_change (on vs)) some)
+
+pub ruleset holds = (last-entry-holds, next-holds, no-entry-holds)

@@ -1,5 +1,5 @@
 -- Entries in the list of the code: counting them, and closing groups.
-use Rattle.rl_line.proofs.Common.{◌≡◌, ℕ, ◌+◌, ◌-◌, ◌<◌, ◌≤◌, arith, suc, List, [], ◌∷◌, ◌++◌, length, take, drop, get_or, map, reverse, refl, sym, ap, ◌∙◌, ◌⊎◌, inl, inr, or-true, append-nil, map-append, reverse-append, drop_all, zero, max, slice_get, cond, IsSome, Bool, true, false, not, ◌||◌, Option, Some, None, option_to_list, Change, Entry, Begin, End, Changed, entry_of, last_of, redo_of, adds_end, end_one, end_times, ends_in_begin, is_begin, is_change, IsMatched, deep, same_Some}
+use Rattle.rl_line.proofs.Common.{◌≡◌, ℕ, ◌+◌, ◌-◌, ◌<◌, ◌≤◌, arith, suc, List, [], ◌∷◌, ◌++◌, length, take, drop, get_or, map, reverse, refl, sym, ap, ◌∙◌, ◌⊎◌, inl, inr, or-true, append-nil, map-append, reverse-append, drop_all, zero, max, slice_get, cond, IsSome, Bool, true, false, not, ◌||◌, Option, Some, None, option_to_list, Change, Entry, Begin, End, Changed, entry_of, last_of, redo_of, adds_end, end_one, end_times, ends_in_begin, is_begin, is_change, IsMatched, deep, same_Some, take-map}
 use Rattle.rl_line.proofs.Records.Counts.{ahead_len, back_len}
 use Rattle.rl_line.proofs.Records.CountLemmas.{last-counted, redo-counted}
 use Rattle.rl_line.proofs.Records.LastLemmas.{end_one-cases, end_one-past, ends-past, read-first, read-last}
@@ -223,3 +223,5 @@ next-alone [] x e is m = cc
 next-alone (y ∷ ys) x e is m =
     let same : x ≡ y = same_Some x y e in
     redo_of-change (entry_of y) (map entry_of ys) (ap (λ z. is_change (entry_of z)) (sym same) ∙ is) m ∙ ap (λ z. entry_of z ∷ []) (sym same)
+
+pub ruleset at_the_end = (Counted-all, Counted-end, Counted-next, adds-before, adds-here, adds-off, end_one-popped, end_one-pushed, ends-at, last-alone, next-alone, take-map)

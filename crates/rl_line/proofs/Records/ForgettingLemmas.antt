@@ -1,5 +1,5 @@
 -- Forgetting the oldest units: where entries fit a bound, which units go, and what is left.
-use Rattle.rl_line.proofs.Common.{AtLevel, Begin, Bool, Change, Entry, FitsFrom, ForgetsFirst, Freshness, IsMatched, List, Open, Record, Some, UndoUnit, Walk, Walks, Whole, [], after, and-false, ap, append-nil, append_assoc, arith, bytes_held, cond, cut_at, drop, drop-cons, drop-drop, drop-map, drop-take, entry_of, false, fits, forgotten, get_or, gone_within, inl, inr, is_within, kept_within, le-leb, leb, leb-false, leb-true, length, length-append, length-drop, length-map, length-take-le, level, lt-leb, map, nat_le, new_text, old_text, opens, or-true, redo_from, redo_of, refl, remove_range, replay_entries, reverse, reverse-append, reverse-reverse, subst, suc, sym, take, take-map, take_at, together, true, unbounded, units, units_kept, zero, ℕ, ◌++◌, ◌+◌, ◌-◌, ◌<◌, ◌∙◌, ◌∷◌, ◌≡◌, ◌≤◌, ◌⊎◌}
+use Rattle.rl_line.proofs.Common.{AtLevel, Begin, Bool, Change, Entry, FitsFrom, ForgetsFirst, Freshness, IsMatched, List, Open, Record, Some, UndoUnit, Walk, Walks, Whole, [], after, and-false, ap, append-nil, append_assoc, arith, bytes_held, cond, cut_at, drop, drop-cons, drop-drop, drop-map, drop-take, entry_of, false, fits, forgotten, get_or, gone_within, inl, inr, is_within, kept_within, le-leb, leb, leb-false, leb-true, length, length-append, length-drop, length-map, length-take-le, level, lt-leb, map, nat_le, new_text, old_text, opens, or-true, redo_from, redo_of, refl, remove_range, replay_entries, reverse, reverse-append, reverse-reverse, subst, suc, sym, take, take-map, take_at, together, true, unbounded, units, units_kept, zero, ℕ, ◌++◌, ◌+◌, ◌-◌, ◌<◌, ◌∙◌, ◌∷◌, ◌≡◌, ◌≤◌, ◌⊎◌, take_rest}
 use Rattle.rl_line.proofs.Records.WalkLemmas.{Walk-IsUtf8, Walk-split}
 use Rattle.rl_line.proofs.Records.RecordLemmas.{replay-append, through}
 use Rattle.rl_line.proofs.Records.MatchLemmas.{Redoes-of}
@@ -394,3 +394,7 @@ Walks-forgotten most bytes r text w =
     let kept = kept_within most bytes r.recorded in
     let (mid, first, after) = Walk-split gone kept w.start text (subst (λ es. Walk es w.start text) (sym (gone-kept most bytes r.recorded)) w.back) in
     record { start = mid; is_text = Walk-IsUtf8 gone w.start mid w.is_text first; back = after; end = w.end; ahead = w.ahead; stale = w.stale }
+
+pub ruleset none_forgotten = (forgotten-same)
+
+pub ruleset went_so_far = (Forgetting-fits, Forgetting-next, Forgetting-stops, open-stays, unit-is, unit-within, length-take-le, take_rest, Redoes-of)

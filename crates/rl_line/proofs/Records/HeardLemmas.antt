@@ -1,10 +1,11 @@
 -- What a listener hears of a line that goes over its record.
-use Rattle.rl_line.proofs.Common.{◌≡◌, ℕ, ◌^◌, ◌<◌, ◌≤◌, ◌⊎◌, inl, inr, zero, suc, true, max, List, [], ◌∷◌, ◌++◌, length, map, reverse, Some, refl, sym, ap, subst, append_assoc, ◌∙◌, arith, map-append, reverse-append, map-map, same_Some, Any, get_or, option_and_then, IsCharBoundary, Event, Replace, Refusal, NoMemory, HeardInPart, Line, NeedsRoom, stepped, Step, after, listener_after, listener_after_step, Entry, Changed, event_of, inverse, new_text, old_text, place, cursor_after, line_after, line_ahead, line_back, steps_ahead, steps_back, texts_after, texts_ahead, texts_back, has_change}
+use Rattle.rl_line.proofs.Common.{◌≡◌, ℕ, ◌^◌, ◌<◌, ◌≤◌, ◌⊎◌, inl, inr, zero, suc, true, max, List, [], ◌∷◌, ◌++◌, length, map, reverse, Some, refl, sym, ap, subst, append_assoc, ◌∙◌, arith, map-append, reverse-append, map-map, same_Some, Any, get_or, option_and_then, IsCharBoundary, Event, Replace, Refusal, NoMemory, HeardInPart, Line, NeedsRoom, stepped, Step, after, listener_after, listener_after_step, Entry, Changed, event_of, inverse, new_text, old_text, place, cursor_after, line_after, line_ahead, line_back, steps_ahead, steps_back, texts_after, texts_ahead, texts_back, has_change, drop_all, take-append-drop}
 use Rattle.rl_base.specs.Event.{apply}
 use Rattle.rl_line.proofs.Plans.PlanLemmas.{Fits-from, standing-is}
 use Rattle.rl_line.proofs.Records.RecordLemmas.{through}
 use Rattle.rl_line.proofs.Records.TurnLemmas.{has_change-turned, turned-cons, turned-turned}
-use Rattle.rl_line.proofs.Records.UndoLemmas.{line_ahead-back}
+use Rattle.rl_line.proofs.Records.UndoLemmas.{entries_from, line_ahead-back}
+use Rattle.rl_line.proofs.Records.ChangeLemmas.{place-entry_to_undo, place_after-is, length-order}
 
 -- going back is going ahead over the inverses, the last first
 pub line_back-ahead : (es : List Entry) (line : Line) → line_ahead (map inverse (reverse es)) line ≡ line_back es line
@@ -186,3 +187,7 @@ module _ {L : Type 0} (step : L → Event → L) where
   back-one_more e es line now l h =
       ap (λ ds. listener_after step line.cursor (steps_ahead line.cursor ds) l) (turned-cons e es)
       ∙ ahead-one_more (map inverse (reverse es)) (inverse e) line now l (line_back-ahead es line ∙ h)
+
+pub ruleset heard_one = (HeardInPart-one, place-entry_to_undo, place_after-is)
+
+pub ruleset heard_all = (HeardInPart-back, back-past, entries_from, cursor_past_back-one_more, drop_all, map-append, take-append-drop, length-order)

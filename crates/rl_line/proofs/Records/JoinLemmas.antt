@@ -236,4 +236,6 @@ record_step-side i s side r =
     ap (λ es. record { recorded = es; pending = []; fresh = freshness_of (Delete i s Forward) r.recorded }) (same-side i s side r.recorded).0
     ∙ ap (λ f. record { recorded = entries_after (Delete i s side) r.recorded; pending = []; fresh = f }) (same-side i s side r.recorded).1
 
-pub ruleset alone = (record_step-Start, record_step-Stop)
+pub ruleset alone = (record_step-Start, record_step-Stop, record_step-side)
+
+pub ruleset adds = (adds-Delete, adds-InsertChar, adds-Replace, deletes-nothing, inserts, inserts-nothing)

@@ -1,10 +1,10 @@
 -- The level: how many groups are open after each call, counted over the entries that it moves or drops alone.
-use Rattle.rl_line.proofs.Common.{Ahead, AtLevel, Back, Begin, Bool, BothMatched, Change, Changed, End, Entry, Event, IsMatched, List, Reaches, Record, Some, Way, [], ap, arith, begun, count_over, deep, drop, entries_after, entries_of, entry_of, false, get_or, inl, inr, is_change, joined, kept_of, last_of, length, length-map, length-take, level, map, map-append, mark, marks, max, moved, opens, recorded_after, redo_of, refl, subst, suc, sym, take, take-append-drop, touched, true, truncated, unit_of, units, with_closed, ℕ, ◌++◌, ◌+◌, ◌-◌, ◌<◌, ◌^◌, ◌∙◌, ◌∷◌, ◌≡◌, ◌≤◌}
+use Rattle.rl_line.proofs.Common.{Ahead, AtLevel, Back, Begin, Bool, BothMatched, Change, Changed, End, Entry, Event, IsMatched, List, Reaches, Record, Some, Way, [], ap, arith, begun, count_over, deep, drop, entries_after, entries_of, entry_of, false, get_or, inl, inr, is_change, joined, kept_of, last_of, length, length-map, length-take, level, map, map-append, mark, marks, max, moved, opens, recorded_after, redo_of, refl, subst, suc, sym, take, take-append-drop, touched, true, truncated, unit_of, units, with_closed, ℕ, ◌++◌, ◌+◌, ◌-◌, ◌<◌, ◌^◌, ◌∙◌, ◌∷◌, ◌≡◌, ◌≤◌, take_all}
 use Rattle.rl_line.specs.Record.{record_step}
 use Rattle.rl_line.proofs.Records.CountLemmas.{level-counted}
-use Rattle.rl_line.proofs.Records.EntryLemmas.{deep-append}
+use Rattle.rl_line.proofs.Records.EntryLemmas.{deep-append, deep-next}
 use Rattle.rl_line.proofs.Records.LastLemmas.{after-cases, read-last}
-use Rattle.rl_line.proofs.Records.MoveLemmas.{first-view, unit-within}
+use Rattle.rl_line.proofs.Records.MoveLemmas.{first-view, unit-within, GoesAs-all, GoesOver-of, marks-over, moved-at, unit-reaches}
 use Rattle.rl_line.proofs.Records.MatchLemmas.{AllGood-take, BothMatched-begun, BothMatched-closed, BothMatched-redone, BothMatched-step, BothMatched-truncated, BothMatched-undone, Lower-end_times, Redoes-of, length-touched, level-is, marks-last}
 use Rattle.rl_line.proofs.Records.RecordLemmas.{joins, none_or_one, value_of}
 use Rattle.rl_line.proofs.Records.UnitLemmas.{IsMatched-front, IsMatched-together, cut_more-append, kept-last, opens-append, units-append, units-good}
@@ -182,3 +182,11 @@ LevelAt-small xs len at n m l =
 
 pub LevelAt-done : (xs : List Change) (len at n : ℕ) → at ≤ len → LevelAt xs len at n → n ≡ level (take len (map entry_of xs))
 LevelAt-done xs len at n le l = l.level ∙ ap level (first-view len at xs (omega (arith, l.within, l.cut, le)))
+
+pub ruleset levels = (AtLevel-begun, AtLevel-truncated, level-within)
+
+pub ruleset levels_counted = (level-counted, deep-next, take_all)
+
+pub ruleset levels_at = (LevelAt-begin, LevelAt-change, LevelAt-done, LevelAt-end, LevelAt-small, opened-before)
+
+pub ruleset moves_of_units = (AtLevel-moved, level-reaches, length-map, GoesAs-all, GoesOver-of, marks-over, moved-at, unit-reaches, unit-within)

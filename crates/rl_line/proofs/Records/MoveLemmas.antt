@@ -142,3 +142,5 @@ marks-lead Ahead es line none at = marks-ahead es line none at
 pub first-view : (len n : ℕ) (xs : List Change) → n ≡ min len (length xs) → map entry_of (take n xs) ≡ take len (map entry_of xs)
 first-view len n xs e =
     sym (take-map entry_of n xs) ∙ ap (λ k. take k (map entry_of xs)) (e ∙ ap (min len) (sym (length-map xs entry_of))) ∙ take_min len (map entry_of xs)
+
+pub ruleset parts_of_lists = (first-view, pending-part, recorded-part)

@@ -137,3 +137,5 @@ widened-up text i j k s le =
 pub boundary-beyond : (text : List ℕ) (k : ℕ) → length text < k → is_boundary text k ≡ false
 unfolding is_boundary
 boundary-beyond text k lt = grind (arith, nat_tests)
+
+pub ruleset widened = (widened-down, widened-up)

@@ -57,6 +57,7 @@ impl Changeset {
 
 // Tells a listener what going over the changes would tell it of a line whose cursor is at that place. Refused, it stops
 // there.
+#[tactic(auto, using(crate::proofs::Records::HeardLemmas::heard_all))]
 fn foretell<L: ChangeListener>(
     changes: &[Change],
     way: Way,
@@ -77,6 +78,7 @@ fn foretell<L: ChangeListener>(
 }
 
 // Tells it of one change, and answers where the cursor would be after it.
+#[tactic(auto, using(crate::proofs::Records::HeardLemmas::heard_one))]
 fn foretell_one<L: ChangeListener>(
     change: &Change,
     way: Way,
