@@ -1,6 +1,6 @@
 -- The plans of killing and deleting by a movement, by their cases.
 use Rattle.rl_line.proofs.Common.{ToldOutcome, Ok, Err, Refusal, Plan, Done, Halted, Outcome, nothing_more, ◌≡◌, ◌∷◌, [], ℕ, Bool, true, false, List, Some, None, refl, sym, ap, subst, ◌∙◌, same_Some, Option, Result, option_map, Range, Event, Delete, Start, Stop, Direction, Forward, Movement, WholeLine, BeginningOfLine, EndOfLine, BackwardWord, ForwardWord, ViCharSearch, ViFirstPrint, FirstNonBlank, BackwardChar, ForwardChar, LineUp, LineDown, WholeBuffer, BeginningOfBuffer, EndOfBuffer, Line, nothing, single, answering, covered, killed, text_in, Told, delete_plan, is_exact, removal}
-use Rattle.rl_line.proofs.Plans.PlanLemmas.{Done-nothing, Done-single, Halted-single}
+use Rattle.rl_line.proofs.Plans.PlanLemmas.{Done-nothing, Done-single, Halted-at_first}
 
 pub removal-nothing : (line : Line) (o : Option (Range ℕ)) (side : Direction) → None ≡ o → removal line o side ≡ nothing line false
 removal-nothing line o side e = rw (← e) refl
@@ -56,4 +56,4 @@ removal-text line (Some r) side s e = (r.start, ap (λ t. (Delete r.start t side
 
 pub ruleset kills = (ToldOutcome-between, killed-exact, removal-text)
 
-pub ruleset deletions = (delete_plan-nothing, delete_plan-some, Done-nothing, Done-single, Halted-single)
+pub ruleset deletions = (delete_plan-nothing, delete_plan-some, Done-nothing, Done-single, Halted-at_first)
